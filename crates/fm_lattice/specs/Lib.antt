@@ -1,0 +1,6 @@
+pub mod Chains
+pub mod Joins
+pub mod PlainLaws
+pub mod Maps
+pub mod MapLaws
+pub mod Places
