@@ -82,9 +82,9 @@ first_row (x ∷ xs) r c s e h =
     (λ l g. none_some s (sym (lookup_below nat_cmp nat_cmp_total nat_same c xs (below_trans nat_cmp nat_cmp_total nat_same c x.0 xs l r.0)) ∙ g))
     (λ t g. let key : x.0 ≡ c = sym (nat_same c x.0 t) in let value : x.1 ≡ s = inside x.1 s g in λ i. Some (key i, value i))
     (λ l g.
-        let first : lookup nat_cmp x.0 (x ∷ xs) ≡ Some x.1 = rw (tied_itself nat_cmp_total x.0) refl in
-        let less : is_lt (nat_cmp x.0 c) ≡ true = ap is_lt (greater_less nat_cmp nat_cmp_total c x.0 l) in
-        absurd (true≢false (sym less ∙ h x.0 x.1 first)))
+    let first : lookup nat_cmp x.0 (x ∷ xs) ≡ Some x.1 = rw (tied_itself nat_cmp_total x.0) refl in
+    let less : is_lt (nat_cmp x.0 c) ≡ true = ap is_lt (greater_less nat_cmp nat_cmp_total c x.0 l) in
+    absurd (true≢false (sym less ∙ h x.0 x.1 first)))
     e
 
 -- who proposes names a spot, and a spot is named by who proposes it

@@ -191,8 +191,8 @@ module _ (S : List Op) (ranged : all_in_range S ≡ true) where
   machine_fine m (Some n) v is =
       subst (λ w. all_in_range (machine_ops (m, w)) ≡ true) (inside _ v is)
       (all_pass in_range (each (machine_op m n) (state_at S m n)) (each (report_op m n) (report_at S m n))
-        (each_passes (machine_op m n) (state_at S m n) (λ r e. told_fine (state_in m n) (machine_op m n) (state_spells m n) r (greatest_member machine_cmp total_machine (filter_map (state_in m n) S) r e)))
-        (each_passes (report_op m n) (report_at S m n) (λ r e. told_fine (report_in m n) (report_op m n) (report_spells m n) r (greatest_member report_cmp total_report (filter_map (report_in m n) S) r e))))
+      (each_passes (machine_op m n) (state_at S m n) (λ r e. told_fine (state_in m n) (machine_op m n) (state_spells m n) r (greatest_member machine_cmp total_machine (filter_map (state_in m n) S) r e)))
+      (each_passes (report_op m n) (report_at S m n) (λ r e. told_fine (report_in m n) (report_op m n) (report_spells m n) r (greatest_member report_cmp total_report (filter_map (report_in m n) S) r e))))
 
   entry_fine : (at : ℕ × ℕ) (c : ℕ) (s : Spot) → entry S at c ≡ Some s → in_range (propose_op at c s) ≡ true
   entry_fine at c s e = told_fine (spot_in at c) (propose_op at c) (spot_spells at c) s (least_member spot_cmp total_spot (filter_map (spot_in at c) S) s e)
@@ -213,7 +213,7 @@ module _ (S : List Op) (at : ℕ × ℕ) where
       subst (λ z. all_in_range (entry_ops (at, z)) ≡ true) (unless_is spots es e)
       (sym (ap (list_all in_range) (flat_map_single (λ (c : ℕ × Spot). propose_op at c.0 c.1) spots))
       ∙ rows_pass nat_cmp nat_cmp_total nat_same in_range (λ c. propose_op at c.0 c.1 ∷ []) spots spots_rise
-        (λ c s is. both_hold (in_range (propose_op at c s)) true (entry_fine S ranged at c s (sym (lookup_entry S at c) ∙ is)) refl))
+      (λ c s is. both_hold (in_range (propose_op at c s)) true (entry_fine S ranged at c s (sym (lookup_entry S at c) ∙ is)) refl))
 
   entries_full : (es : List (ℕ × Spot)) → entries S at ≡ Some es → IsFull es
   entries_full es e = let is = unless_is spots es e in subst IsFull is (record { rising = spots_rise; full = e ∙ ap Some (sym is) })

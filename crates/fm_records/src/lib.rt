@@ -1,6 +1,7 @@
 //! Ids, operations, records and refusals, and what a set of operations means.
 #![tactic(auto)]
 
+pub mod equal;
 pub mod ids;
 pub mod laws;
 pub mod ops;
