@@ -1,0 +1,6 @@
+use Rattle.std.proofs.Common.{sym}
+use Rattle.fm_records.specs.SpelledLaws.{know_ops}
+use Rattle.fm_records.proofs.laws.law_ops.Goals as goal
+
+pub returns : goal.returns
+returns c k is = sym (know_ops k is)

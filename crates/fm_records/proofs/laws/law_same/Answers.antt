@@ -1,0 +1,5 @@
+use Rattle.fm_records.specs.SameLaws.{know_same}
+use Rattle.fm_records.proofs.laws.law_same.Goals as goal
+
+pub returns : goal.returns
+returns c = know_same

@@ -1,0 +1,5 @@
+use Rattle.fm_records.specs.UnionLaws.{know_append}
+use Rattle.fm_records.proofs.laws.law_union.Goals as goal
+
+pub returns : goal.returns
+returns c = know_append

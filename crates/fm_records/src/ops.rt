@@ -1,0 +1,153 @@
+//! Operations, which are what a coordinator is told.
+
+ghost use Rattle.std.specs.Prelude.{◌≡◌, ◌↔◌, ◌&&◌, if◌then◌else◌, nat_le, IsOk, IfErr, option_map};
+ghost use Rattle.fm_records.specs.Ops.{op_fault};
+
+use crate::ids::{JobId, MachineId, TaskId};
+use crate::refusal::Refusal;
+use std::fmt;
+
+/// How far an attempt to run a task is.
+#[derive(Debug, Clone, Copy, PartialEq, Eq, PartialOrd, Ord, Drop)]
+pub enum Phase {
+    Pending,
+    Running,
+    Done,
+}
+
+/// One thing that a coordinator is told: a register of a job or a task, how far a task is, the state or a report of a
+/// machine at an incarnation, or where a coordinator would place an attempt.
+#[derive(Debug, Clone, Copy, PartialEq, Eq, Drop)]
+pub enum Op {
+    Job {
+        id: JobId,
+        version: u64,
+        writer: u8,
+        withdrawn: bool,
+        wait: u32,
+        preempt: u32,
+    },
+    Spec {
+        id: TaskId,
+        version: u64,
+        writer: u8,
+        withdrawn: bool,
+        job: JobId,
+        request: u32,
+    },
+    Progress {
+        id: TaskId,
+        attempt: u32,
+        phase: Phase,
+    },
+    Machine {
+        id: MachineId,
+        incarnation: u64,
+        version: u64,
+        writer: u8,
+        up: bool,
+        slots: u32,
+        nic: u32,
+    },
+    Report {
+        id: MachineId,
+        incarnation: u64,
+        number: u64,
+        used: u32,
+    },
+    Propose {
+        id: TaskId,
+        attempt: u32,
+        coordinator: u8,
+        machine: MachineId,
+        incarnation: u64,
+    },
+}
+
+/// A field of an operation that has a range of its own.
+#[derive(Debug, Clone, Copy, PartialEq, Eq, Drop)]
+pub enum Field {
+    Writer,
+    Wait,
+    Preempt,
+    Request,
+    Slots,
+    Nic,
+    Used,
+    Coordinator,
+}
+
+impl fmt::Display for Field {
+    fn fmt<W: fmt::Write>(&self, f: &mut fmt::Formatter<W>) -> fmt::Result {
+        match self {
+            Field::Writer => write!(f, "writer"),
+            Field::Wait => write!(f, "wait"),
+            Field::Preempt => write!(f, "preempt"),
+            Field::Request => write!(f, "request"),
+            Field::Slots => write!(f, "slots"),
+            Field::Nic => write!(f, "nic"),
+            Field::Used => write!(f, "used"),
+            Field::Coordinator => write!(f, "coordinator"),
+        }
+    }
+}
+
+impl Op {
+    /// Whether each field is in its range: a writer and a coordinator from 1 to 64, wait, preempt and used to
+    /// 1,000,000,000, request and nic to 1,000,000, slots from 1 to 1,000. A refusal names the first field, in the order
+    /// of the operation's fields, that is not.
+    pub fn check(&self) -> Result<(), Refusal>
+        ensures ok { IsOk result ↔ (op_fault self.now ≡ None) }
+        ensures err { IfErr result (λ e. option_map Refusal.BadOp (op_fault self.now) ≡ Some e) }
+    {
+        match *self {
+            Op::Job {
+                writer,
+                wait,
+                preempt,
+                ..
+            } => {
+                within(Field::Writer, 1, writer as u32, 64)?;
+                within(Field::Wait, 0, wait, 1_000_000_000)?;
+                within(Field::Preempt, 0, preempt, 1_000_000_000)
+            }
+            Op::Spec {
+                writer,
+                request,
+                ..
+            } => {
+                within(Field::Writer, 1, writer as u32, 64)?;
+                within(Field::Request, 0, request, 1_000_000)
+            }
+            Op::Progress { .. } => Ok(()),
+            Op::Machine {
+                writer,
+                slots,
+                nic,
+                ..
+            } => {
+                within(Field::Writer, 1, writer as u32, 64)?;
+                within(Field::Slots, 1, slots, 1_000)?;
+                within(Field::Nic, 0, nic, 1_000_000)
+            }
+            Op::Report { used, .. } => within(Field::Used, 0, used, 1_000_000_000),
+            Op::Propose { coordinator, .. } => within(
+                Field::Coordinator,
+                1,
+                coordinator as u32,
+                64,
+            ),
+        }
+    }
+}
+
+// Whether the field's value is from the least to the greatest.
+fn within(field: Field, least: u32, value: u32, greatest: u32) -> Result<(), Refusal>
+    ensures { result ≡ (if nat_le least value && nat_le value greatest then Ok tt else Err (Refusal.BadOp field)) }
+{
+    if least <= value && value <= greatest {
+        Ok(())
+    } else {
+        Err(Refusal::BadOp(field))
+    }
+}
