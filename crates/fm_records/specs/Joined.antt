@@ -3,6 +3,7 @@ use Rattle.std.specs.Prelude.{ℕ, Option, List}
 use Rattle.std.specs.Ordering.{nat_cmp}
 use Rattle.fm_lattice.specs.Joins.{max_join, min_join, option_join, pair_join, lex_join}
 use Rattle.fm_lattice.specs.Maps.{map_join}
+use Rattle.fm_records.specs.declared.records.JobReg.{JobReg}
 use Rattle.fm_records.specs.declared.records.MachineReg.{MachineReg}
 use Rattle.fm_records.specs.declared.records.Report.{Report}
 use Rattle.fm_records.specs.declared.records.Spot.{Spot}
@@ -25,11 +26,24 @@ machine_join = lex_join nat_cmp parts_join
 abbrev pub spots_join : List (ℕ × Spot) → List (ℕ × Spot) → List (ℕ × Spot)
 spots_join = map_join nat_cmp (min_join spot_cmp)
 
--- map by map, key by key
+-- key by key
+abbrev pub jobs_join : List (ℕ × JobReg) → List (ℕ × JobReg) → List (ℕ × JobReg)
+jobs_join = map_join nat_cmp (max_join job_cmp)
+
+abbrev pub tasks_join : List (ℕ × TaskValue) → List (ℕ × TaskValue) → List (ℕ × TaskValue)
+tasks_join = map_join nat_cmp task_join
+
+abbrev pub machines_join : List (ℕ × MachineValue) → List (ℕ × MachineValue) → List (ℕ × MachineValue)
+machines_join = map_join nat_cmp machine_join
+
+abbrev pub proposals_join : List ((ℕ × ℕ) × List (ℕ × Spot)) → List ((ℕ × ℕ) × List (ℕ × Spot)) → List ((ℕ × ℕ) × List (ℕ × Spot))
+proposals_join = map_join attempt_cmp spots_join
+
+-- map by map
 abbrev pub table_join : Table → Table → Table
 table_join k l = record {
-  jobs = map_join nat_cmp (max_join job_cmp) k.jobs l.jobs;
-  tasks = map_join nat_cmp task_join k.tasks l.tasks;
-  machines = map_join nat_cmp machine_join k.machines l.machines;
-  proposals = map_join attempt_cmp spots_join k.proposals l.proposals;
+  jobs = jobs_join k.jobs l.jobs;
+  tasks = tasks_join k.tasks l.tasks;
+  machines = machines_join k.machines l.machines;
+  proposals = proposals_join k.proposals l.proposals;
 }

@@ -21,3 +21,7 @@ pub mod KnowLaws
 pub mod SameLaws
 pub mod UnionLaws
 pub mod SpelledLaws
+pub mod RangeLaws
+pub mod FactLaws
+pub mod JoinedLaws
+pub mod IdLaws

@@ -44,7 +44,7 @@ module _ {R : Type 0} (join : R → R → R) (laws : JoinLaws Any join) where
   all_of_same xs ys same = sym (within ys xs same.1) ∙ comm (all_of join ys) (all_of join xs) ∙ within xs ys same.0
 
 -- a member of what a filter keeps comes from a member
-member_from : {X Y : Type 0} (f : X → Option Y) (xs : List X) (y : Y) → IsMember y (filter_map f xs) → (x : X) × IsMember x xs × (f x ≡ Some y)
+pub member_from : {X Y : Type 0} (f : X → Option Y) (xs : List X) (y : Y) → IsMember y (filter_map f xs) → (x : X) × IsMember x xs × (f x ≡ Some y)
 member_from f [] y h = absurd h
 member_from f (x ∷ xs) y h =
     elim (f x) as (λ o. f x ≡ o → IsMember y (cons_option o (filter_map f xs)) → (z : _) × IsMember z (x ∷ xs) × (f z ≡ Some y)) [

@@ -1,5 +1,5 @@
 -- The operations that spell a table out, and the form of the tables that operations come to.
-use Rattle.std.specs.Prelude.{◌≡◌, ℕ, List, [], ◌∷◌, ◌++◌, Option, Some, None, flat_map}
+use Rattle.std.specs.Prelude.{◌≡◌, ℕ, List, [], ◌∷◌, ◌++◌, Option, Some, None, flat_map, map}
 use Rattle.std.specs.Ordering.{nat_cmp}
 use Rattle.fm_records.specs.declared.ops.Op.{Op}
 use Rattle.fm_records.specs.declared.ops.Op.TheVariants as op
@@ -49,9 +49,8 @@ task_ops e = each (spec_op e.0) e.1.0 ++ progress_op e.0 e.1.1 ∷ []
 abbrev pub machine_ops : ℕ × MachineValue → List Op
 machine_ops e = each (machine_op e.0 e.1.0) e.1.1.0 ++ each (report_op e.0 e.1.0) e.1.1.1
 
-abbrev pub entry_ops : (ℕ × ℕ) → List (ℕ × Spot) → List Op
-entry_ops at [] = []
-entry_ops at (e ∷ es) = propose_op at e.0 e.1 ∷ entry_ops at es
+abbrev pub entry_ops : (ℕ × ℕ) × List (ℕ × Spot) → List Op
+entry_ops e = map (λ c. propose_op e.0 c.0 c.1) e.1
 
 -- the operations that spell the table out
 abbrev pub ops : Table → List Op
@@ -59,7 +58,7 @@ ops k =
     flat_map job_ops k.jobs
     ++ flat_map task_ops k.tasks
     ++ flat_map machine_ops k.machines
-    ++ flat_map (λ e. entry_ops e.0 e.1) k.proposals
+    ++ flat_map entry_ops k.proposals
 
 -- a machine occurs only by a state or a report
 abbrev pub has_part : MachineValue → Type 0

@@ -28,7 +28,7 @@ use Rattle.fm_records.specs.KnowLaws.{is_know}
 use Rattle.fm_records.specs.Orders.{job_cmp, spec_cmp, progress_cmp, machine_cmp, report_cmp, spot_cmp, attempt_cmp}
 use Rattle.fm_records.specs.Table.{Table, TaskValue, MachineValue}
 use Rattle.fm_records.specs.Know.{when, job_in, spec_in, progress_in, incarnation_in, state_in, report_in, spot_in, coordinator_named, entry, entries, job, task, task_value, machine, know}
-use Rattle.fm_records.specs.Spelled.{each, job_op, spec_op, progress_op, machine_op, report_op, propose_op, task_ops, machine_ops, entry_ops, ops, has_part, IsFull, IsTable}
+use Rattle.fm_records.specs.Spelled.{each, job_op, job_ops, spec_op, progress_op, machine_op, report_op, propose_op, task_ops, machine_ops, entry_ops, ops, has_part, IsFull, IsTable}
 
 equal_tests : (a b : ℕ) → (a == b) ≡ is_eq (nat_cmp b a)
 equal_tests a b = grind (arith, nat_tests)
@@ -62,19 +62,19 @@ module _ {K V R : Type 0} (g : K × V → List Op) (f : Op → Option R) (says :
   nothing [] = refl
   nothing (e ∷ es) = filter_map-append f (g e) (flat_map g es) ∙ ap (λ z. z ++ filter_map f (flat_map g es)) (says e) ∙ nothing es
 
-no_entry : {R : Type 0} (f : Op → Option R) → ((at : ℕ × ℕ) (c : ℕ) (s : Spot) → filter_map f (entry_ops at ((c, s) ∷ [])) ≡ []) → (at : ℕ × ℕ) (es : List (ℕ × Spot)) → filter_map f (entry_ops at es) ≡ []
+no_entry : {R : Type 0} (f : Op → Option R) → ((at : ℕ × ℕ) (c : ℕ) (s : Spot) → filter_map f (entry_ops (at, (c, s) ∷ [])) ≡ []) → (at : ℕ × ℕ) (es : List (ℕ × Spot)) → filter_map f (entry_ops (at, es)) ≡ []
 no_entry f none at [] = refl
-no_entry f none at (e ∷ es) = filter_map-append f (entry_ops at (e ∷ [])) (entry_ops at es) ∙ ap (λ z. z ++ filter_map f (entry_ops at es)) (none at e.0 e.1) ∙ no_entry f none at es
+no_entry f none at (e ∷ es) = filter_map-append f (entry_ops (at, e ∷ [])) (entry_ops (at, es)) ∙ ap (λ z. z ++ filter_map f (entry_ops (at, es))) (none at e.0 e.1) ∙ no_entry f none at es
 
 -- the four parts of what spells a table out
 parts : {R : Type 0} (f : Op → Option R) (k : Table) (a b c d : List R) →
-    filter_map f (flat_map (λ e. job_op e.0 e.1 ∷ []) k.jobs) ≡ a → filter_map f (flat_map task_ops k.tasks) ≡ b → filter_map f (flat_map machine_ops k.machines) ≡ c → filter_map f (flat_map (λ e. entry_ops e.0 e.1) k.proposals) ≡ d →
+    filter_map f (flat_map job_ops k.jobs) ≡ a → filter_map f (flat_map task_ops k.tasks) ≡ b → filter_map f (flat_map machine_ops k.machines) ≡ c → filter_map f (flat_map entry_ops k.proposals) ≡ d →
     filter_map f (ops k) ≡ ((a ++ b) ++ c) ++ d
 parts f k a b c d p q r s =
-    let jobs : List Op = flat_map (λ e. job_op e.0 e.1 ∷ []) k.jobs in
+    let jobs : List Op = flat_map job_ops k.jobs in
     let tasks : List Op = flat_map task_ops k.tasks in
     let machines : List Op = flat_map machine_ops k.machines in
-    let proposals : List Op = flat_map (λ e. entry_ops e.0 e.1) k.proposals in
+    let proposals : List Op = flat_map entry_ops k.proposals in
     let x = filter_map-append f jobs tasks in
     let y = filter_map-append f (jobs ++ tasks) machines in
     let z = filter_map-append f ((jobs ++ tasks) ++ machines) proposals in
@@ -87,8 +87,8 @@ abbrev listed : {A : Type 0} → Option A → List A
 listed None = []
 listed (Some a) = a ∷ []
 
-no_job : {R : Type 0} (f : Op → Option R) → ((j : ℕ) (r : JobReg) → f (job_op j r) ≡ None) → (es : List (ℕ × JobReg)) → filter_map f (flat_map (λ e. job_op e.0 e.1 ∷ []) es) ≡ []
-no_job f none = nothing (λ e. job_op e.0 e.1 ∷ []) f (λ e. ap (λ o. cons_option o []) (none e.0 e.1))
+no_job : {R : Type 0} (f : Op → Option R) → ((j : ℕ) (r : JobReg) → f (job_op j r) ≡ None) → (es : List (ℕ × JobReg)) → filter_map f (flat_map job_ops es) ≡ []
+no_job f none = nothing job_ops f (λ e. ap (λ o. cons_option o []) (none e.0 e.1))
 
 no_task : {R : Type 0} (f : Op → Option R) → ((t : ℕ) (r : SpecReg) → f (spec_op t r) ≡ None) → ((t : ℕ) (p : Progress) → f (progress_op t p) ≡ None) → (es : List (ℕ × TaskValue)) → filter_map f (flat_map task_ops es) ≡ []
 no_task f a b = nothing task_ops f (λ e. elim e.1.0 as (λ o. filter_map f (task_ops (e.0, (o, e.1.1))) ≡ []) [
@@ -102,8 +102,8 @@ no_machine f a b = nothing machine_ops f (λ e. elim e.1.1.0 as (λ o. filter_ma
   | Some s ↦ elim e.1.1.1 as (λ p. filter_map f (machine_ops (e.0, (e.1.0, (Some s, p)))) ≡ []) [ None ↦ λ i. cons_option (a e.0 e.1.0 s i) [] | Some r ↦ λ i. cons_option (a e.0 e.1.0 s i) (cons_option (b e.0 e.1.0 r i) []) ]
 ])
 
-no_proposal : {R : Type 0} (f : Op → Option R) → ((at : ℕ × ℕ) (c : ℕ) (s : Spot) → f (propose_op at c s) ≡ None) → (es : List ((ℕ × ℕ) × List (ℕ × Spot))) → filter_map f (flat_map (λ e. entry_ops e.0 e.1) es) ≡ []
-no_proposal f none = nothing (λ e. entry_ops e.0 e.1) f (λ e. no_entry f (λ at c s. ap (λ o. cons_option o []) (none at c s)) e.0 e.1)
+no_proposal : {R : Type 0} (f : Op → Option R) → ((at : ℕ × ℕ) (c : ℕ) (s : Spot) → f (propose_op at c s) ≡ None) → (es : List ((ℕ × ℕ) × List (ℕ × Spot))) → filter_map f (flat_map entry_ops es) ≡ []
+no_proposal f none = nothing entry_ops f (λ e. no_entry f (λ at c s. ap (λ o. cons_option o []) (none at c s)) e.0 e.1)
 
 empty_if : {R : Type 0} (b : Bool) → [] ≡ cond b (let l : List R = [] in l) []
 empty_if true = refl
@@ -155,7 +155,7 @@ module _ (k : Table) (is : IsTable k) where
   jobs_in : (j : ℕ) → filter_map (job_in j) (ops k) ≡ found_in only (lookup nat_cmp j k.jobs)
   jobs_in j =
       parts (job_in j) k (found_in only (lookup nat_cmp j k.jobs)) [] [] []
-      (picked nat_cmp (λ e. job_op e.0 e.1 ∷ []) (job_in j) j only Any (job_picks j) nat_cmp_total nat_same k.jobs is.jobs.rising is.jobs.values)
+      (picked nat_cmp job_ops (job_in j) j only Any (job_picks j) nat_cmp_total nat_same k.jobs is.jobs.rising is.jobs.values)
       (no_task (job_in j) (λ _ _. refl) (λ _ _. refl) k.tasks)
       (no_machine (job_in j) (λ _ _ _. refl) (λ _ _ _. refl) k.machines)
       (no_proposal (job_in j) (λ _ _ _. refl) k.proposals)
@@ -206,10 +206,10 @@ module _ (k : Table) (is : IsTable k) where
       sym ((λ i. option_map (λ n. (n, (all_of (max_join machine_cmp) (states n i), all_of (max_join report_cmp) (reports n i)))) (all_of (max_join nat_cmp) (told i)))
       ∙ of_lookup (lookup nat_cmp m k.machines) (lookup_value nat_cmp nat_cmp_total nat_same has_part m k.machines is.machines.values))
 
-  no_other : {R : Type 0} (f : Op → Option R) (pick : List (ℕ × Spot) → List R) (at : ℕ × ℕ) → ((e : (ℕ × ℕ) × List (ℕ × Spot)) → IsFull e.1 → filter_map f (entry_ops e.0 e.1) ≡ cond (is_eq (attempt_cmp at e.0)) (pick e.1) []) → ((j : ℕ) (r : JobReg) → f (job_op j r) ≡ None) → ((t : ℕ) (r : SpecReg) → f (spec_op t r) ≡ None) → ((t : ℕ) (p : Progress) → f (progress_op t p) ≡ None) → ((m n : ℕ) (r : MachineReg) → f (machine_op m n r) ≡ None) → ((m n : ℕ) (r : Report) → f (report_op m n r) ≡ None) → filter_map f (ops k) ≡ found_in pick (lookup attempt_cmp at k.proposals)
+  no_other : {R : Type 0} (f : Op → Option R) (pick : List (ℕ × Spot) → List R) (at : ℕ × ℕ) → ((e : (ℕ × ℕ) × List (ℕ × Spot)) → IsFull e.1 → filter_map f (entry_ops e) ≡ cond (is_eq (attempt_cmp at e.0)) (pick e.1) []) → ((j : ℕ) (r : JobReg) → f (job_op j r) ≡ None) → ((t : ℕ) (r : SpecReg) → f (spec_op t r) ≡ None) → ((t : ℕ) (p : Progress) → f (progress_op t p) ≡ None) → ((m n : ℕ) (r : MachineReg) → f (machine_op m n r) ≡ None) → ((m n : ℕ) (r : Report) → f (report_op m n r) ≡ None) → filter_map f (ops k) ≡ found_in pick (lookup attempt_cmp at k.proposals)
   no_other f pick at says a b c d g =
       parts f k [] [] [] (found_in pick (lookup attempt_cmp at k.proposals)) (no_job f a k.jobs) (no_task f b c k.tasks) (no_machine f d g k.machines)
-      (picked attempt_cmp (λ e. entry_ops e.0 e.1) f at pick IsFull says total_attempt same_attempt k.proposals is.proposals.rising is.proposals.values)
+      (picked attempt_cmp entry_ops f at pick IsFull says total_attempt same_attempt k.proposals is.proposals.rising is.proposals.values)
 
 both_equal_tests : (a b : Ordering) → is_eq a && is_eq b ≡ is_eq (ordering_then a b)
 both_equal_tests Less b = refl
@@ -238,11 +238,11 @@ spot_picks_by true c (e ∷ es) r =
     ap (λ z. e.1 ∷ z) (spot_picks_by true c es r.1 ∙ ap listed none))
     (λ _. spot_picks_by true c es r.1))
 
-spots_of : (at q : ℕ × ℕ) (c : ℕ) (es : List (ℕ × Spot)) → filter_map (spot_in at c) (entry_ops q es) ≡ all_when (q.0 == at.0 && q.1 == at.1) c es
+spots_of : (at q : ℕ × ℕ) (c : ℕ) (es : List (ℕ × Spot)) → filter_map (spot_in at c) (entry_ops (q, es)) ≡ all_when (q.0 == at.0 && q.1 == at.1) c es
 spots_of at q c [] = refl
 spots_of at q c (e ∷ es) = ap (cons_option (when (q.0 == at.0 && q.1 == at.1 && e.0 == c) e.1)) (spots_of at q c es)
 
-spot_picks : (at : ℕ × ℕ) (c : ℕ) (e : (ℕ × ℕ) × List (ℕ × Spot)) → IsFull e.1 → filter_map (spot_in at c) (entry_ops e.0 e.1) ≡ cond (is_eq (attempt_cmp at e.0)) (listed (lookup nat_cmp c e.1)) []
+spot_picks : (at : ℕ × ℕ) (c : ℕ) (e : (ℕ × ℕ) × List (ℕ × Spot)) → IsFull e.1 → filter_map (spot_in at c) (entry_ops e) ≡ cond (is_eq (attempt_cmp at e.0)) (listed (lookup nat_cmp c e.1)) []
 spot_picks at c e full = spots_of at e.0 c e.1 ∙ ap (λ b. all_when b c e.1) (attempt_tests at e.0) ∙ spot_picks_by (is_eq (attempt_cmp at e.0)) c e.1 full.rising
 
 module _ (k : Table) (is : IsTable k) where

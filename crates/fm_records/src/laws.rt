@@ -1,12 +1,60 @@
-//! The laws of what a set of operations means.
+//! The laws of what a set of operations means. Each function does nothing: its contract is the law.
 
-ghost use Rattle.std.specs.Prelude.{◌≡◌, ◌++◌, List};
+ghost use Rattle.std.specs.Prelude.{◌≡◌, ◌↔◌, ◌++◌, ℕ, List, IsTrue};
+ghost use Rattle.std.specs.Ordering.{nat_cmp};
+ghost use Rattle.fm_lattice.specs.Joins.{JoinLaws};
+ghost use Rattle.fm_lattice.specs.Maps.{lookup};
 ghost use Rattle.fm_records.specs.declared.ops.Op.{Op};
-ghost use Rattle.fm_records.specs.Sets.{HaveSameMembers};
-ghost use Rattle.fm_records.specs.Know.{know};
+ghost use Rattle.fm_records.specs.Ids.{read_id, id_text};
+ghost use Rattle.fm_records.specs.Sets.{HaveSameMembers, greatest, least};
+ghost use Rattle.fm_records.specs.Know.{know, job, spec, progress, incarnation, state, report, entry, winner};
 ghost use Rattle.fm_records.specs.Spelled.{ops, IsTable};
+ghost use Rattle.fm_records.specs.Ranges.{all_in_range, CanBe};
 ghost use Rattle.fm_records.specs.Table.{Table};
-ghost use Rattle.fm_records.specs.Joined.{table_join};
+ghost use Rattle.fm_records.specs.Joined.{machines_join, proposals_join, table_join};
+ghost use Rattle.fm_records.specs.Facts.{job_of, spec_of, progress_of, incarnation_of, state_of, report_of, entries_of, winner_of};
+ghost use Rattle.fm_records.specs.Characterized.{IsGreatestOf, IsLeastOf, IsKnow};
+
+use crate::ids::{CoordId, MachineId, TaskId};
+use crate::records::{MachineRec, Spot};
+use fm_lattice::chain::Chain;
+use fm_lattice::join::{law_assoc, law_comm, law_idem};
+use fm_lattice::map::JoinMap;
+use fm_lattice::plain::Min;
+
+/// Where coordinators would run an attempt of a task: by task and attempt, and then by coordinator.
+pub type Proposals = JoinMap<(TaskId, u32), JoinMap<CoordId, Min<Spot>>>;
+
+/// What is known of machines.
+pub type Machines = JoinMap<MachineId, MachineRec>;
+
+/// The text of an id reads back as the id, so no two ids have one text.
+pub fn law_text(number: u128)
+    ensures { read_id (id_text number) ≡ Some number }
+{}
+
+/// The greatest of a list is a member that none is greater than, and the least one that none is less than.
+pub fn law_greatest<K: Chain>()
+    ensures greatest { (xs : List K) → IsGreatestOf K.cmp xs (greatest K.cmp xs) }
+    ensures least { (xs : List K) → IsLeastOf K.cmp xs (least K.cmp xs) }
+{}
+
+/// The table of a set is the one whose keys rise and whose look-ups give what the set tells.
+pub fn law_known()
+    ensures { (S : List Op) (k : Table) → (IsKnow S k ↔ (k ≡ know S)) }
+{}
+
+/// What is read from the table of a set are the registers of the set, and the winner is that of the set.
+pub fn law_facts()
+    ensures job { (S : List Op) (j : ℕ) → job_of (know S) j ≡ job S j }
+    ensures spec { (S : List Op) (t : ℕ) → spec_of (know S) t ≡ spec S t }
+    ensures progress { (S : List Op) (t : ℕ) → progress_of (know S) t ≡ progress S t }
+    ensures incarnation { (S : List Op) (m : ℕ) → incarnation_of (know S) m ≡ incarnation S m }
+    ensures state { (S : List Op) (m : ℕ) → state_of (know S) m ≡ state S m }
+    ensures report { (S : List Op) (m : ℕ) → report_of (know S) m ≡ report S m }
+    ensures entry { (S : List Op) (at : ℕ × ℕ) (c : ℕ) → lookup nat_cmp c (entries_of (know S) at) ≡ entry S at c }
+    ensures winner { (S : List Op) (at : ℕ × ℕ) → winner_of (know S) at.0 at.1 ≡ winner S at }
+{}
 
 /// Sets with the same members have one table, whatever the order and the repeats.
 pub fn law_same()
@@ -22,3 +70,36 @@ pub fn law_union()
 pub fn law_ops()
     ensures { (k : Table) → IsTable k → know (ops k) ≡ k }
 {}
+
+/// Any set comes to a table's form, and a set in range to a table that can be.
+pub fn law_can_be()
+    ensures form { (S : List Op) → IsTable (know S) }
+    ensures ranges { (S : List Op) → IsTrue (all_in_range S) → CanBe (know S) }
+{}
+
+/// The join of tables that can be is one, and is associative, commutative and idempotent.
+pub fn law_tables()
+    ensures { JoinLaws CanBe table_join }
+{}
+
+/// The join of proposals is associative, commutative and idempotent.
+pub fn law_proposals(a: &Proposals, b: &Proposals, c: &Proposals)
+    ensures assoc { proposals_join (proposals_join a.now b.now) c.now ≡ proposals_join a.now (proposals_join b.now c.now) }
+    ensures comm { proposals_join a.now b.now ≡ proposals_join b.now a.now }
+    ensures idem { proposals_join a.now a.now ≡ a.now }
+{
+    law_assoc(a, b, c);
+    law_comm(a, b);
+    law_idem(a);
+}
+
+/// The join of what is known of machines is associative, commutative and idempotent.
+pub fn law_machines(a: &Machines, b: &Machines, c: &Machines)
+    ensures assoc { machines_join (machines_join a.now b.now) c.now ≡ machines_join a.now (machines_join b.now c.now) }
+    ensures comm { machines_join a.now b.now ≡ machines_join b.now a.now }
+    ensures idem { machines_join a.now a.now ≡ a.now }
+{
+    law_assoc(a, b, c);
+    law_comm(a, b);
+    law_idem(a);
+}

@@ -1,8 +1,12 @@
 //! Ids, operations, records and refusals, and what a set of operations means.
 #![tactic(auto)]
 
+pub mod equal;
 pub mod ids;
 pub mod laws;
 pub mod ops;
+pub mod order;
 pub mod records;
 pub mod refusal;
+#[cfg(test)]
+mod tests;

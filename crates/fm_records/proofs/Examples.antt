@@ -1,0 +1,269 @@
+-- The definitions computed on small examples. Each list of operations is also told in another order and with repeats.
+use Rattle.std.proofs.Common.{◌≡◌, ℕ, ◌+◌, Bool, true, false, List, [], ◌∷◌, ◌++◌, Option, Some, None, length, map, refl}
+use Rattle.fm_records.specs.declared.ops.Field.TheVariants as field
+use Rattle.fm_records.specs.declared.ops.Phase.TheVariants.{Pending, Running, Done}
+use Rattle.fm_records.specs.declared.ops.Op.{Op}
+use Rattle.fm_records.specs.declared.ops.Op.TheVariants as op
+use Rattle.fm_records.specs.Ops.{op_fault}
+use Rattle.fm_records.specs.Table.{Table}
+use Rattle.fm_records.specs.Know.{know, winner}
+use Rattle.fm_records.specs.Spelled.{ops}
+use Rattle.fm_records.specs.Ranges.{all_in_range}
+use Rattle.fm_records.specs.Joined.{table_join}
+use Rattle.fm_records.specs.Facts.{job_of, progress_of, attempt_of, used_of, is_live, is_open, winner_of, holder_of, held_tasks, load_of, spare_of, has_room}
+
+-- ids near the greatest that there are
+abbrev big : ℕ
+big = 340282366920938463463374607431768210000
+
+abbrev J : ℕ
+J = big + 1
+
+abbrev A : ℕ
+A = big + 10
+
+abbrev B : ℕ
+B = big + 11
+
+abbrev t1 : ℕ
+t1 = big + 17
+
+abbrev t2 : ℕ
+t2 = big + 18
+
+abbrev the_job : Op
+the_job = op.Job J 1 1 false 500 800
+
+abbrev machine_a : Op
+machine_a = op.Machine A 1 1 1 true 2 1000
+
+abbrev machine_b : Op
+machine_b = op.Machine B 1 1 1 true 2 1000
+
+abbrev task_of : ℕ → ℕ → Op
+task_of t request = op.Spec t 1 1 false J request
+
+-- A job, a machine and a task: the task waits, and all of the machine is spare.
+
+abbrev one_task : List Op
+one_task = the_job ∷ machine_a ∷ task_of t1 100 ∷ []
+
+abbrev one_task_known : Table
+one_task_known = record {
+  jobs = (J, record { version = 1; writer = 1; withdrawn = false; wait = 500; preempt = 800 }) ∷ [];
+  tasks = (t1, (Some (record { version = 1; writer = 1; withdrawn = false; job = J; request = 100 }), record { attempt = 0; phase = Pending })) ∷ [];
+  machines = (A, (1, (Some (record { version = 1; writer = 1; up = true; slots = 2; nic = 1000 }), None))) ∷ [];
+  proposals = [];
+}
+
+one_task-table : know one_task ≡ one_task_known
+one_task-table = refl
+
+one_task-other_order : know (machine_a ∷ task_of t1 100 ∷ the_job ∷ task_of t1 100 ∷ machine_a ∷ []) ≡ one_task_known
+one_task-other_order = refl
+
+one_task-spelled : know (ops one_task_known) ≡ one_task_known
+one_task-spelled = refl
+
+one_task-in_range : all_in_range (ops one_task_known) ≡ true
+one_task-in_range = refl
+
+one_task-live : is_live (know one_task) t1 ≡ true
+one_task-live = refl
+
+one_task-not_held : holder_of (know one_task) t1 ≡ None
+one_task-not_held = refl
+
+one_task-spare : spare_of (know one_task) A ≡ Some 1000
+one_task-spare = refl
+
+-- A task whose job is not known is not live, and the machine is open all the same.
+
+job_unknown-live : is_live (know (machine_a ∷ task_of t1 100 ∷ [])) t1 ≡ false
+job_unknown-live = refl
+
+job_unknown-open : is_open (know (machine_a ∷ task_of t1 100 ∷ [])) A ≡ true
+job_unknown-open = refl
+
+-- Of two registers of one version and one writer the greater wait counts, told in either order.
+
+abbrev dearer_job : Op
+dearer_job = op.Job J 1 1 false 600 800
+
+same_version-first : job_of (know (one_task ++ dearer_job ∷ [])) J ≡ Some (record { version = 1; writer = 1; withdrawn = false; wait = 600; preempt = 800 })
+same_version-first = refl
+
+same_version-last : know (dearer_job ∷ one_task) ≡ know (one_task ++ dearer_job ∷ one_task)
+same_version-last = refl
+
+-- Two coordinators propose: the least wins, told in either order.
+
+abbrev two_proposals : List Op
+two_proposals = one_task ++ machine_b ∷ op.Propose t1 0 2 B 1 ∷ op.Propose t1 0 1 A 1 ∷ []
+
+two_proposals-winner : winner_of (know two_proposals) t1 0 ≡ Some (1, record { machine = A; incarnation = 1 })
+two_proposals-winner = refl
+
+two_proposals-winner_of_set : winner two_proposals (t1, 0) ≡ Some (1, record { machine = A; incarnation = 1 })
+two_proposals-winner_of_set = refl
+
+two_proposals-other_order : know (op.Propose t1 0 1 A 1 ∷ machine_b ∷ op.Propose t1 0 2 B 1 ∷ one_task ++ one_task) ≡ know two_proposals
+two_proposals-other_order = refl
+
+two_proposals-holder : holder_of (know two_proposals) t1 ≡ Some A
+two_proposals-holder = refl
+
+two_proposals-load : load_of (know two_proposals) A ≡ 100
+two_proposals-load = refl
+
+-- The report of the greater number counts, also where another comes later.
+
+abbrev reported : List Op
+reported = one_task ++ op.Report A 1 3 950 ∷ op.Report A 1 2 0 ∷ []
+
+reported-used : used_of (know reported) A ≡ 950
+reported-used = refl
+
+reported-spare : spare_of (know reported) A ≡ Some 50
+reported-spare = refl
+
+reported-no_room : has_room (know reported) A 100 ≡ false
+reported-no_room = refl
+
+reported-other_order : know (op.Report A 1 2 0 ∷ op.Report A 1 3 950 ∷ one_task ++ op.Report A 1 2 0 ∷ []) ≡ know reported
+reported-other_order = refl
+
+-- A proposal of the present attempt makes the machine hold the task, until a later incarnation is told.
+
+abbrev held : List Op
+held = one_task ++ op.Propose t1 0 1 A 1 ∷ []
+
+held-holder : holder_of (know held) t1 ≡ Some A
+held-holder = refl
+
+held-spare : spare_of (know held) A ≡ Some 900
+held-spare = refl
+
+abbrev restarted : List Op
+restarted = held ++ op.Report A 2 1 0 ∷ []
+
+restarted-closed : is_open (know restarted) A ≡ false
+restarted-closed = refl
+
+restarted-holder : holder_of (know restarted) t1 ≡ None
+restarted-holder = refl
+
+restarted-live : is_live (know restarted) t1 ≡ true
+restarted-live = refl
+
+restarted-no_room : has_room (know restarted) A 0 ≡ false
+restarted-no_room = refl
+
+restarted-spelled : know (ops (know restarted)) ≡ know restarted
+restarted-spelled = refl
+
+restarted-other_order : know (op.Report A 2 1 0 ∷ held ++ op.Report A 2 1 0 ∷ held) ≡ know restarted
+restarted-other_order = refl
+
+-- A request of 0 has room while the use is no more than the nic, and none beyond.
+
+abbrev used_by : ℕ → List Op
+used_by used = the_job ∷ machine_a ∷ task_of t1 0 ∷ op.Report A 1 1 used ∷ []
+
+used_by-load : load_of (know (used_by 40)) A ≡ 40
+used_by-load = refl
+
+used_by-room : has_room (know (used_by 40)) A 0 ≡ true
+used_by-room = refl
+
+used_by-all : has_room (know (used_by 1000)) A 0 ≡ true
+used_by-all = refl
+
+used_by-more : spare_of (know (used_by 1001)) A ≡ None
+used_by-more = refl
+
+used_by-no_room : has_room (know (used_by 1001)) A 0 ≡ false
+used_by-no_room = refl
+
+-- The request of a held task takes room from the next.
+
+abbrev two_tasks : List Op
+two_tasks = op.Job J 1 1 false 700 800 ∷ machine_a ∷ task_of t1 600 ∷ task_of t2 500 ∷ []
+
+two_tasks-room : has_room (know two_tasks) A 600 ≡ true
+two_tasks-room = refl
+
+two_tasks-placed : spare_of (know (op.Propose t1 0 1 A 1 ∷ two_tasks)) A ≡ Some 400
+two_tasks-placed = refl
+
+two_tasks-no_room : has_room (know (op.Propose t1 0 1 A 1 ∷ two_tasks)) A 500 ≡ false
+two_tasks-no_room = refl
+
+-- A machine holds a task until the task's next attempt begins.
+
+abbrev one_slot : List Op
+one_slot = op.Job J 1 1 false 500 80 ∷ op.Machine A 1 1 1 true 1 1000 ∷ task_of t1 100 ∷ op.Propose t1 0 1 A 1 ∷ task_of t2 0 ∷ op.Report A 1 1 0 ∷ []
+
+one_slot-load : load_of (know one_slot) A ≡ 100
+one_slot-load = refl
+
+one_slot-held : map (λ e. e.0) (held_tasks (know one_slot) A) ≡ t1 ∷ []
+one_slot-held = refl
+
+one_slot-preempted : progress_of (know (op.Progress t1 1 Pending ∷ one_slot)) t1 ≡ record { attempt = 1; phase = Pending }
+one_slot-preempted = refl
+
+one_slot-free : holder_of (know (op.Progress t1 1 Pending ∷ one_slot)) t1 ≡ None
+one_slot-free = refl
+
+-- A winner that names a machine that is not known holds nothing.
+
+abbrev last_attempt : List Op
+last_attempt = one_task ++ op.Progress t1 4294967295 Running ∷ op.Propose t1 4294967295 1 B 1 ∷ []
+
+last_attempt-attempt : attempt_of (know last_attempt) t1 ≡ 4294967295
+last_attempt-attempt = refl
+
+last_attempt-winner : winner_of (know last_attempt) t1 4294967295 ≡ Some (1, record { machine = B; incarnation = 1 })
+last_attempt-winner = refl
+
+last_attempt-holder : holder_of (know last_attempt) t1 ≡ None
+last_attempt-holder = refl
+
+-- A later attempt beats one that is done, and a task that is done is not live.
+
+done-live : is_live (know (op.Progress t1 0 Done ∷ one_task)) t1 ≡ false
+done-live = refl
+
+done-again : is_live (know (op.Progress t1 1 Pending ∷ op.Progress t1 0 Done ∷ one_task)) t1 ≡ true
+done-again = refl
+
+-- A proposal alone makes a row of proposals and no task.
+
+proposed-table : know (op.Propose t1 0 3 B 2 ∷ op.Propose t1 0 3 A 7 ∷ []) ≡ record { jobs = []; tasks = []; machines = []; proposals = ((t1, 0), (3, record { machine = A; incarnation = 7 }) ∷ []) ∷ [] }
+proposed-table = refl
+
+-- Parts that are joined in any order, and more than once, are the whole.
+
+abbrev later_job : Op
+later_job = op.Job J 2 1 false 600 800
+
+joined-parts : table_join (know (later_job ∷ [])) (table_join (know (the_job ∷ [])) (know (later_job ∷ []))) ≡ know (the_job ∷ later_job ∷ [])
+joined-parts = refl
+
+joined-incarnations : table_join (know restarted) (know held) ≡ table_join (know held) (know restarted)
+joined-incarnations = refl
+
+-- The first field out of range, in the order of the fields.
+
+slots_first : op_fault (op.Machine A 1 1 1 true 0 1000001) ≡ Some field.Slots
+slots_first = refl
+
+greatest_wait : op_fault (op.Job J 1 1 false 1000000000 800) ≡ None
+greatest_wait = refl
+
+wait_beyond : op_fault (op.Job J 1 1 false 1000000001 800) ≡ Some field.Wait
+wait_beyond = refl
+
+writer_first : op_fault (op.Job J 1 65 false 1000000001 800) ≡ Some field.Writer
+writer_first = refl
