@@ -101,10 +101,9 @@ pub table_Decides : (k l : Table) → Decides (same_table k l) (k ≡ l)
 table_Decides k l =
     let front = and_Decides _ _ (k.jobs ≡ l.jobs) (k.tasks ≡ l.tasks) (jobs_Decides k.jobs l.jobs) (tasks_Decides k.tasks l.tasks) in
     let back = and_Decides _ _ (k.machines ≡ l.machines) (k.proposals ≡ l.proposals) (machines_Decides k.machines l.machines) (proposals_Decides k.proposals l.proposals) in
-    let all = and_Decides _ _ ((k.jobs ≡ l.jobs) × (k.tasks ≡ l.tasks)) ((k.machines ≡ l.machines) × (k.proposals ≡ l.proposals)) front back in
-    (
+    let all = and_Decides _ _ ((k.jobs ≡ l.jobs) × (k.tasks ≡ l.tasks)) ((k.machines ≡ l.machines) × (k.proposals ≡ l.proposals)) front back in (
       λ h. let p = all.0 h in λ i. record { jobs = p.0.0 i; tasks = p.0.1 i; machines = p.1.0 i; proposals = p.1.1 i },
-      λ q. all.1 ((ap (λ t. t.jobs) q, ap (λ t. t.tasks) q), (ap (λ t. t.machines) q, ap (λ t. t.proposals) q))
+      λ q. all.1 ((ap (λ t. t.jobs) q, ap (λ t. t.tasks) q), (ap (λ t. t.machines) q, ap (λ t. t.proposals) q)),
     )
 
 pub table_equivalence : IsPartialEquivalence same_table

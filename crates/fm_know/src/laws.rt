@@ -7,9 +7,8 @@ ghost use Rattle.fm_records.specs.Know.{know};
 ghost use Rattle.fm_records.specs.Spelled.{ops};
 ghost use Rattle.fm_records.specs.Ranges.{CanBe};
 
-use fm_lattice::join::Join;
-
 use crate::knowledge::Knowledge;
+use fm_lattice::join::Join;
 
 /// Its keys rise, nothing in it occurs without a record, and its fields are in range.
 pub fn law_can_be(knowledge: &Knowledge)

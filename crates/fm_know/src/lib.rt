@@ -4,4 +4,6 @@
 pub mod facts;
 pub mod knowledge;
 pub mod laws;
+#[cfg(test)]
+mod tests;
 pub mod told;
