@@ -8,99 +8,99 @@ use crate::records::{JobReg, MachineReg, Progress, Report, SpecReg, Spot};
 use crate::refusal::Refusal;
 
 /// Whether two ids of jobs are the same.
-pub fn job_ids(a: &JobId, b: &JobId) -> bool
-    ensures { IsTrue result ↔ (a.now ≡ b.now) }
+pub fn job_ids(job_id: &JobId, other: &JobId) -> bool
+    ensures { IsTrue result ↔ (job_id.now ≡ other.now) }
 {
-    a == b
+    job_id == other
 }
 
 /// Whether two ids of tasks are the same.
-pub fn task_ids(a: &TaskId, b: &TaskId) -> bool
-    ensures { IsTrue result ↔ (a.now ≡ b.now) }
+pub fn task_ids(task_id: &TaskId, other: &TaskId) -> bool
+    ensures { IsTrue result ↔ (task_id.now ≡ other.now) }
 {
-    a == b
+    task_id == other
 }
 
 /// Whether two ids of machines are the same.
-pub fn machine_ids(a: &MachineId, b: &MachineId) -> bool
-    ensures { IsTrue result ↔ (a.now ≡ b.now) }
+pub fn machine_ids(machine_id: &MachineId, other: &MachineId) -> bool
+    ensures { IsTrue result ↔ (machine_id.now ≡ other.now) }
 {
-    a == b
+    machine_id == other
 }
 
 /// Whether two numbers of coordinators are the same.
-pub fn coordinators(a: &CoordId, b: &CoordId) -> bool
-    ensures { IsTrue result ↔ (a.now ≡ b.now) }
+pub fn coordinators(coordinator: &CoordId, other: &CoordId) -> bool
+    ensures { IsTrue result ↔ (coordinator.now ≡ other.now) }
 {
-    a == b
+    coordinator == other
 }
 
 /// Whether two phases are the same.
-pub fn phases(a: &Phase, b: &Phase) -> bool
-    ensures { IsTrue result ↔ (a.now ≡ b.now) }
+pub fn phases(phase: &Phase, other: &Phase) -> bool
+    ensures { IsTrue result ↔ (phase.now ≡ other.now) }
 {
-    a == b
+    phase == other
 }
 
 /// Whether two fields are the same.
-pub fn fields(a: &Field, b: &Field) -> bool
-    ensures { IsTrue result ↔ (a.now ≡ b.now) }
+pub fn fields(field: &Field, other: &Field) -> bool
+    ensures { IsTrue result ↔ (field.now ≡ other.now) }
 {
-    a == b
+    field == other
 }
 
 /// Whether two operations are the same.
-pub fn ops(a: &Op, b: &Op) -> bool
-    ensures { IsTrue result ↔ (a.now ≡ b.now) }
+pub fn ops(op: &Op, other: &Op) -> bool
+    ensures { IsTrue result ↔ (op.now ≡ other.now) }
 {
-    a == b
+    op == other
 }
 
 /// Whether two refusals are the same.
-pub fn refusals(a: &Refusal, b: &Refusal) -> bool
-    ensures { IsTrue result ↔ (a.now ≡ b.now) }
+pub fn refusals(refusal: &Refusal, other: &Refusal) -> bool
+    ensures { IsTrue result ↔ (refusal.now ≡ other.now) }
 {
-    a == b
+    refusal == other
 }
 
 /// Whether two registers of jobs are the same.
-pub fn job_registers(a: &JobReg, b: &JobReg) -> bool
-    ensures { IsTrue result ↔ (a.now ≡ b.now) }
+pub fn job_registers(job: &JobReg, other: &JobReg) -> bool
+    ensures { IsTrue result ↔ (job.now ≡ other.now) }
 {
-    a == b
+    job == other
 }
 
 /// Whether two specs of tasks are the same.
-pub fn specs(a: &SpecReg, b: &SpecReg) -> bool
-    ensures { IsTrue result ↔ (a.now ≡ b.now) }
+pub fn specs(spec: &SpecReg, other: &SpecReg) -> bool
+    ensures { IsTrue result ↔ (spec.now ≡ other.now) }
 {
-    a == b
+    spec == other
 }
 
 /// Whether two progresses are the same.
-pub fn progresses(a: &Progress, b: &Progress) -> bool
-    ensures { IsTrue result ↔ (a.now ≡ b.now) }
+pub fn progresses(progress: &Progress, other: &Progress) -> bool
+    ensures { IsTrue result ↔ (progress.now ≡ other.now) }
 {
-    a == b
+    progress == other
 }
 
 /// Whether two states of machines are the same.
-pub fn machine_registers(a: &MachineReg, b: &MachineReg) -> bool
-    ensures { IsTrue result ↔ (a.now ≡ b.now) }
+pub fn machine_registers(state: &MachineReg, other: &MachineReg) -> bool
+    ensures { IsTrue result ↔ (state.now ≡ other.now) }
 {
-    a == b
+    state == other
 }
 
 /// Whether two reports are the same.
-pub fn reports(a: &Report, b: &Report) -> bool
-    ensures { IsTrue result ↔ (a.now ≡ b.now) }
+pub fn reports(report: &Report, other: &Report) -> bool
+    ensures { IsTrue result ↔ (report.now ≡ other.now) }
 {
-    a == b
+    report == other
 }
 
 /// Whether two spots are the same.
-pub fn spots(a: &Spot, b: &Spot) -> bool
-    ensures { IsTrue result ↔ (a.now ≡ b.now) }
+pub fn spots(spot: &Spot, other: &Spot) -> bool
+    ensures { IsTrue result ↔ (spot.now ≡ other.now) }
 {
-    a == b
+    spot == other
 }

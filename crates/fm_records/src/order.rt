@@ -10,78 +10,78 @@ use crate::records::{JobReg, MachineReg, Progress, Report, SpecReg, Spot};
 use std::cmp::Ordering;
 
 /// The order of two ids of jobs, as numbers.
-pub fn job_ids(a: &JobId, b: &JobId) -> Ordering
-    ensures { result ≡ nat_cmp a.now b.now }
+pub fn job_ids(job_id: &JobId, other: &JobId) -> Ordering
+    ensures { result ≡ nat_cmp job_id.now other.now }
 {
-    a.cmp(b)
+    job_id.cmp(other)
 }
 
 /// The order of two ids of tasks, as numbers.
-pub fn task_ids(a: &TaskId, b: &TaskId) -> Ordering
-    ensures { result ≡ nat_cmp a.now b.now }
+pub fn task_ids(task_id: &TaskId, other: &TaskId) -> Ordering
+    ensures { result ≡ nat_cmp task_id.now other.now }
 {
-    a.cmp(b)
+    task_id.cmp(other)
 }
 
 /// The order of two ids of machines, as numbers.
-pub fn machine_ids(a: &MachineId, b: &MachineId) -> Ordering
-    ensures { result ≡ nat_cmp a.now b.now }
+pub fn machine_ids(machine_id: &MachineId, other: &MachineId) -> Ordering
+    ensures { result ≡ nat_cmp machine_id.now other.now }
 {
-    a.cmp(b)
+    machine_id.cmp(other)
 }
 
 /// The order of two coordinators, by number.
-pub fn coordinators(a: &CoordId, b: &CoordId) -> Ordering
-    ensures { result ≡ nat_cmp a.now b.now }
+pub fn coordinators(coordinator: &CoordId, other: &CoordId) -> Ordering
+    ensures { result ≡ nat_cmp coordinator.now other.now }
 {
-    a.cmp(b)
+    coordinator.cmp(other)
 }
 
 /// The order of two phases: pending, running, done.
-pub fn phases(a: &Phase, b: &Phase) -> Ordering
-    ensures { result ≡ nat_cmp (phase_place a.now) (phase_place b.now) }
+pub fn phases(phase: &Phase, other: &Phase) -> Ordering
+    ensures { result ≡ nat_cmp (phase_place phase.now) (phase_place other.now) }
 {
-    a.cmp(b)
+    phase.cmp(other)
 }
 
 /// The order of two registers of jobs: by version, writer, and then the other fields, false before true.
-pub fn job_registers(a: &JobReg, b: &JobReg) -> Ordering
-    ensures { result ≡ job_cmp a.now b.now }
+pub fn job_registers(job: &JobReg, other: &JobReg) -> Ordering
+    ensures { result ≡ job_cmp job.now other.now }
 {
-    a.cmp(b)
+    job.cmp(other)
 }
 
 /// The order of two specs of tasks: by version, writer, and then the other fields, false before true.
-pub fn specs(a: &SpecReg, b: &SpecReg) -> Ordering
-    ensures { result ≡ spec_cmp a.now b.now }
+pub fn specs(spec: &SpecReg, other: &SpecReg) -> Ordering
+    ensures { result ≡ spec_cmp spec.now other.now }
 {
-    a.cmp(b)
+    spec.cmp(other)
 }
 
 /// The order of two progresses: by attempt and then phase.
-pub fn progresses(a: &Progress, b: &Progress) -> Ordering
-    ensures { result ≡ progress_cmp a.now b.now }
+pub fn progresses(progress: &Progress, other: &Progress) -> Ordering
+    ensures { result ≡ progress_cmp progress.now other.now }
 {
-    a.cmp(b)
+    progress.cmp(other)
 }
 
 /// The order of two states of machines: by version, writer, and then the other fields, false before true.
-pub fn machine_registers(a: &MachineReg, b: &MachineReg) -> Ordering
-    ensures { result ≡ machine_cmp a.now b.now }
+pub fn machine_registers(state: &MachineReg, other: &MachineReg) -> Ordering
+    ensures { result ≡ machine_cmp state.now other.now }
 {
-    a.cmp(b)
+    state.cmp(other)
 }
 
 /// The order of two reports: by number and then use.
-pub fn reports(a: &Report, b: &Report) -> Ordering
-    ensures { result ≡ report_cmp a.now b.now }
+pub fn reports(report: &Report, other: &Report) -> Ordering
+    ensures { result ≡ report_cmp report.now other.now }
 {
-    a.cmp(b)
+    report.cmp(other)
 }
 
 /// The order of two spots: by machine and then incarnation.
-pub fn spots(a: &Spot, b: &Spot) -> Ordering
-    ensures { result ≡ spot_cmp a.now b.now }
+pub fn spots(spot: &Spot, other: &Spot) -> Ordering
+    ensures { result ≡ spot_cmp spot.now other.now }
 {
-    a.cmp(b)
+    spot.cmp(other)
 }
