@@ -3,3 +3,5 @@
 
 pub mod dump;
 pub mod out;
+#[cfg(test)]
+mod tests;
