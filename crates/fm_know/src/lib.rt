@@ -4,4 +4,5 @@
 pub mod facts;
 pub mod knowledge;
 pub mod laws;
+pub mod mutators;
 pub mod told;
