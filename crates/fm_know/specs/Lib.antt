@@ -1,3 +1,4 @@
 pub mod Limits
 pub mod Winners
 pub mod Same
+pub mod Mutators

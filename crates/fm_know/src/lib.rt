@@ -4,6 +4,7 @@
 pub mod facts;
 pub mod knowledge;
 pub mod laws;
+pub mod mutators;
 #[cfg(test)]
 mod tests;
 pub mod told;

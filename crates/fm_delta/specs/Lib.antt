@@ -1,0 +1,3 @@
+pub mod Deltas
+pub mod DeltaLaws
+pub mod Packets
