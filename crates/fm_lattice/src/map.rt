@@ -1,6 +1,6 @@
 //! Maps whose values merge.
 
-ghost use Rattle.std.specs.Prelude.{◌≡◌, ◌↔◌, List, [], ◌∷◌, length, IsTrue, IfOk, OnOk, OnErr, option_copied};
+ghost use Rattle.std.specs.Prelude.{◌≡◌, ◌↔◌, ◌<◌, ◌^◌, List, [], ◌∷◌, length, IsTrue, IfOk, OnOk, OnErr, option_copied};
 ghost use Rattle.std.specs.Iterator.{YieldsFirstBy, item_count};
 ghost use Rattle.fm_lattice.specs.Maps.{IsMap, lookup, put, map_join, JoinsByKey};
 ghost use Rattle.fm_lattice.specs.MapLaws.{map_laws};
@@ -65,7 +65,8 @@ impl<K: Chain, V: Join> JoinMap<K, V> {
     /// The pairs, keys rising.
     pub fn iter(&self) -> Pairs<'_, K, V>
         ensures rest { result ≡ self.now }
-        ensures rising { IsMap K.cmp V.is_value self.now }
+        ensures map { IsMap K.cmp V.is_value self.now }
+        ensures fits { length self.now < 2 ^ 64 }
     {
         Pairs { rest: &self.pairs }
     }

@@ -1,0 +1,225 @@
+//! The facts that knowledge tells: what is live, open and held, and what a machine has left. None takes memory.
+
+ghost use Rattle.std.specs.Prelude.{◌≡◌, ◌<◌, ◌^◌, ◌*◌, ◌+◌, cond, option_map, sum_by, length, List};
+ghost use Rattle.fm_records.specs.Facts.{job_of, spec_of, progress_of, is_done, live_spec, is_live, job_stands, open_state, is_open, is_present, used_of, winner_of, won_spot, holder_of, held_tasks, holds, request_of, load_of, spare_of};
+ghost use Rattle.fm_know.specs.Winners.{as_winner};
+
+use crate::knowledge::Knowledge;
+use fm_records::ids::{CoordId, JobId, MachineId, TaskId};
+use fm_records::ops::Phase;
+use fm_records::records::{JobReg, MachineReg, Progress, SpecReg, Spot, TaskRec};
+
+/// The entry that wins an attempt of a task: who proposed it, and where it would run.
+#[derive(Debug, Clone, Copy, PartialEq, Eq, Drop)]
+pub struct Winner {
+    pub coordinator: CoordId,
+    pub machine: MachineId,
+    pub incarnation: u64,
+}
+
+impl Knowledge {
+    /// What is known of the job. O(log n), as every reader here that does not say otherwise.
+    pub fn job(&self, job: JobId) -> Option<JobReg>
+        ensures { result ≡ job_of self.now job }
+    {
+        match self.jobs.get(&job) {
+            Some(register) => Some(register.0),
+            None => None,
+        }
+    }
+
+    /// The greatest attempt and phase of the task that is known; attempt 0, pending, where none is.
+    pub fn attempt(&self, task: TaskId) -> Progress
+        ensures { result ≡ progress_of self.now task }
+    {
+        match self.tasks.get(&task) {
+            Some(record) => record.1.0,
+            None => Progress {
+                attempt: 0,
+                phase: Phase::Pending,
+            },
+        }
+    }
+
+    /// The spec of the task, live or not.
+    pub fn spec(&self, task: TaskId) -> Option<SpecReg>
+        ensures { result ≡ spec_of self.now task }
+    {
+        match self.tasks.get(&task) {
+            Some(record) => spec_in(record),
+            None => None,
+        }
+    }
+
+    /// The spec of the task, if it is live: known and not withdrawn, of a job that is known and not withdrawn, and not
+    /// done.
+    pub fn live_spec(&self, task: TaskId) -> Option<SpecReg>
+        ensures { result ≡ live_spec self.now task }
+    {
+        let spec = self.spec(task)?;
+        if spec.withdrawn || !self.job_stands(spec.job) || is_done(self.attempt(task).phase) {
+            return None;
+        }
+        Some(spec)
+    }
+
+    /// Whether the task is live.
+    pub fn is_live(&self, task: TaskId) -> bool
+        ensures { result ≡ is_live self.now task }
+    {
+        self.live_spec(task).is_some()
+    }
+
+    /// The state of the machine, if it is open: known at the present incarnation, and up.
+    pub fn open_state(&self, machine: MachineId) -> Option<MachineReg>
+        ensures { result ≡ open_state self.now machine }
+    {
+        let record = self.machines.get(&machine)?;
+        match &record.1.0.0 {
+            Some(state) if state.0.up => Some(state.0),
+            _ => None,
+        }
+    }
+
+    /// Whether the machine is open.
+    pub fn is_open(&self, machine: MachineId) -> bool
+        ensures { result ≡ is_open self.now machine }
+    {
+        self.open_state(machine).is_some()
+    }
+
+    /// The entry that wins the attempt of the task: that of the least coordinator that has one.
+    pub fn winner(&self, task: TaskId, attempt: u32) -> Option<Winner>
+        ensures { result ≡ option_map as_winner (winner_of self.now task attempt) }
+    {
+        let entries = self.proposals.get(&(task, attempt))?;
+        let (coordinator, spot) = entries.iter().next()?;
+        Some(Winner {
+            coordinator: *coordinator,
+            machine: spot.0.machine,
+            incarnation: spot.0.incarnation,
+        })
+    }
+
+    /// The machine that holds the task: the task is live, and the winner of its present attempt names an open machine at
+    /// its present incarnation.
+    pub fn holder(&self, task: TaskId) -> Option<MachineId>
+        ensures { result ≡ holder_of self.now task }
+    {
+        if !self.is_live(task) {
+            return None;
+        }
+        let progress = self.attempt(task);
+        let winner = self.winner(task, progress.attempt)?;
+        let spot = Spot {
+            machine: winner.machine,
+            incarnation: winner.incarnation,
+        };
+        if self.is_present(spot) {
+            Some(winner.machine)
+        } else {
+            None
+        }
+    }
+
+    /// The load of an open machine: the greater of the reported use and the sum of the requests of the tasks that it
+    /// holds. 0 of a machine that is not open. O(n log n) in the tasks that are known.
+    pub fn load(&self, machine: MachineId) -> u128
+        ensures { result ≡ cond (is_open self.now machine) (load_of self.now machine) 0 }
+    {
+        if !self.is_open(machine) {
+            return 0;
+        }
+        let used = u128::from(self.used(machine));
+        used.max(self.held_requests(machine))
+    }
+
+    /// What the load leaves of the bandwidth of an open machine; none where the load is greater, and none of a machine
+    /// that is not open. As costly as `load`.
+    pub fn spare(&self, machine: MachineId) -> Option<u32>
+        ensures { result ≡ spare_of self.now machine }
+    {
+        let state = self.open_state(machine)?;
+        let load = self.load(machine);
+        if load <= u128::from(state.nic) {
+            Some(state.nic - load as u32)
+        } else {
+            None
+        }
+    }
+
+    // Whether the machine at the spot is open and at its present incarnation.
+    fn is_present(&self, spot: Spot) -> bool
+        ensures { result ≡ is_present self.now spot }
+    {
+        match self.machines.get(&spot.machine) {
+            Some(record) => self.is_open(spot.machine) && record.0 == spot.incarnation,
+            None => false,
+        }
+    }
+
+    // Whether the job is known and not withdrawn.
+    fn job_stands(&self, job: JobId) -> bool
+        ensures { result ≡ job_stands self.now job }
+    {
+        match self.jobs.get(&job) {
+            Some(register) => !register.0.withdrawn,
+            None => false,
+        }
+    }
+
+    /// The use that the machine reported at its present incarnation; 0 where it reported none.
+    pub fn used(&self, machine: MachineId) -> u32
+        ensures { result ≡ used_of self.now machine }
+    {
+        match self.machines.get(&machine) {
+            Some(record) => match &record.1.1.0 {
+                Some(report) => report.0.used,
+                None => 0,
+            },
+            None => 0,
+        }
+    }
+
+    // The sum of the requests of the tasks that the machine holds.
+    fn held_requests(&self, machine: MachineId) -> u128
+        ensures { result ≡ sum_by (λ e. request_of e.1.0) (held_tasks self.now machine) }
+    {
+        let mut sum = 0u128;
+        for (task, record) in self.tasks.iter() {
+            if self.holder(*task) == Some(machine) {
+                sum += u128::from(request_in(record));
+            }
+        }
+        sum
+    }
+}
+
+// The spec in the record, if it is known.
+fn spec_in(record: &TaskRec) -> Option<SpecReg>
+    ensures { result ≡ record.now.0 }
+{
+    match &record.0.0 {
+        Some(spec) => Some(spec.0),
+        None => None,
+    }
+}
+
+// The bandwidth that the task requests; 0 where its spec is not known.
+fn request_in(record: &TaskRec) -> u32
+    ensures { result ≡ request_of record.now.0 }
+{
+    match spec_in(record) {
+        Some(spec) => spec.request,
+        None => 0,
+    }
+}
+
+fn is_done(phase: Phase) -> bool
+    ensures { result ≡ is_done phase }
+{
+    match phase {
+        Phase::Pending | Phase::Running => false,
+        Phase::Done => true,
+    }
+}

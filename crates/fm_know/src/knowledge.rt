@@ -1,0 +1,154 @@
+//! The replicated state and its joins.
+
+ghost use Rattle.std.specs.Prelude.{◌≡◌, ◌↔◌, [], ◌++◌, List, IsTrue, IfOk, OnOk, OnErr};
+ghost use Rattle.std.specs.Bool.{Decides};
+ghost use Rattle.fm_records.specs.declared.ops.Op.{Op};
+ghost use Rattle.fm_records.specs.Know.{know};
+ghost use Rattle.fm_records.specs.Joined.{table_join};
+ghost use Rattle.fm_records.specs.Ranges.{CanBe};
+ghost use Rattle.fm_records.specs.Spelled.{ops};
+
+use fm_lattice::join::{Join, OutOfMemory, copied};
+use fm_lattice::map::JoinMap;
+use fm_lattice::plain::{Max, Min};
+use fm_records::ids::{CoordId, JobId, MachineId, TaskId};
+use fm_records::records::{JobReg, MachineRec, Spot, TaskRec};
+use std::alloc::Global;
+use std::marker::Model;
+
+/// What operations come to: the records of jobs, tasks, machines and proposals. It grows by joins alone, so what it holds
+/// depends on which operations were taken in, and not on their order, their grouping, or how often each came.
+#[derive(Drop)]
+pub struct Knowledge {
+    pub(crate) jobs: JoinMap<JobId, Max<JobReg>>,
+    pub(crate) tasks: JoinMap<TaskId, TaskRec>,
+    pub(crate) machines: JoinMap<MachineId, MachineRec>,
+    pub(crate) proposals: JoinMap<(TaskId, u32), JoinMap<CoordId, Min<Spot>>>,
+}
+
+impl Model for Knowledge {
+    ghost use Rattle.fm_records.specs.Table.{Table};
+    ghost use Rattle.fm_records.specs.Ranges.{CanBe};
+
+    ghost Value = { Table };
+
+    ghost view = { λ k. record { jobs = k.jobs; tasks = k.tasks; machines = k.machines; proposals = k.proposals } };
+
+    ghost invariant = { λ k. CanBe (record { jobs = k.jobs; tasks = k.tasks; machines = k.machines; proposals = k.proposals }) };
+}
+
+impl Knowledge {
+    /// What no operation comes to. It takes no memory.
+    pub fn empty(alloc: Global) -> Knowledge
+        ensures { result ≡ know [] }
+    {
+        Knowledge {
+            jobs: JoinMap::new(alloc),
+            tasks: JoinMap::new(alloc),
+            machines: JoinMap::new(alloc),
+            proposals: JoinMap::new(alloc),
+        }
+    }
+
+    /// The registers of jobs, by id.
+    pub fn jobs(&self) -> &JoinMap<JobId, Max<JobReg>>
+        ensures { result.now ≡ self.now.jobs }
+    {
+        &self.jobs
+    }
+
+    /// The specs and progress of tasks, by id.
+    pub fn tasks(&self) -> &JoinMap<TaskId, TaskRec>
+        ensures { result.now ≡ self.now.tasks }
+    {
+        &self.tasks
+    }
+
+    /// The states and reports of machines at their greatest incarnations, by id.
+    pub fn machines(&self) -> &JoinMap<MachineId, MachineRec>
+        ensures { result.now ≡ self.now.machines }
+    {
+        &self.machines
+    }
+
+    /// The proposals for each attempt of a task, by coordinator.
+    pub fn proposals(&self) -> &JoinMap<(TaskId, u32), JoinMap<CoordId, Min<Spot>>>
+        ensures { result.now ≡ self.now.proposals }
+    {
+        &self.proposals
+    }
+
+    /// Joins the other in. Where the other has entries in one map alone, as what one operation comes to has, this is done
+    /// in place, at the cost of `JoinMap::join_into`; else it copies both, O(n + m).
+    /// After a refusal of memory nothing has changed.
+    pub fn join_into(&mut self, other: &Knowledge) -> Result<(), OutOfMemory>
+        ensures ok { OnOk result (self.new ≡ table_join self.old other.now) }
+        ensures union { (S T : List Op) → self.old ≡ know S → other.now ≡ know T → OnOk result (self.new ≡ know (S ++ T)) }
+        ensures err { OnErr result (self.new ≡ self.old) }
+    {
+        self.take_in(other)
+    }
+
+    // Joins the other in, in place where it has entries in one map alone.
+    fn take_in(&mut self, other: &Knowledge) -> Result<(), OutOfMemory>
+        ensures ok { OnOk result (self.new ≡ table_join self.old other.now) }
+        ensures err { OnErr result (self.new ≡ self.old) }
+    {
+        if other.tasks.is_empty() && other.machines.is_empty() && other.proposals.is_empty() {
+            return self.jobs.join_into(&other.jobs);
+        }
+        if other.jobs.is_empty() && other.machines.is_empty() && other.proposals.is_empty() {
+            return self.tasks.join_into(&other.tasks);
+        }
+        if other.jobs.is_empty() && other.tasks.is_empty() && other.proposals.is_empty() {
+            return self.machines.join_into(&other.machines);
+        }
+        if other.jobs.is_empty() && other.tasks.is_empty() && other.machines.is_empty() {
+            return self.proposals.join_into(&other.proposals);
+        }
+        let joined = self.joined(other)?;
+        *self = joined;
+        Ok(())
+    }
+
+    /// The knowledge again, in memory of its own. O(n).
+    pub fn copy(&self) -> Result<Knowledge, OutOfMemory>
+        ensures { IfOk result (λ k. k ≡ self.now) }
+    {
+        copied(self)
+    }
+}
+
+impl Join for Knowledge {
+    ghost use Rattle.fm_records.specs.Ranges.{CanBe};
+    ghost use Rattle.fm_records.specs.Joined.{table_join};
+    ghost use Rattle.fm_records.specs.JoinedLaws.{table_laws};
+
+    ghost is_value = { CanBe };
+
+    ghost join = { table_join };
+
+    fn known(&self) {
+        let _ = &self.jobs;
+    }
+
+    /// What the operations of both come to. O(n + m).
+    fn joined(&self, other: &Knowledge) -> Result<Knowledge, OutOfMemory> {
+        Ok(Knowledge {
+            jobs: self.jobs.joined(&other.jobs)?,
+            tasks: self.tasks.joined(&other.tasks)?,
+            machines: self.machines.joined(&other.machines)?,
+            proposals: self.proposals.joined(&other.proposals)?,
+        })
+    }
+
+    /// Whether the other knows all of this. O(n log m).
+    fn leq(&self, other: &Knowledge) -> bool {
+        self.jobs.leq(&other.jobs)
+            && self.tasks.leq(&other.tasks)
+            && self.machines.leq(&other.machines)
+            && self.proposals.leq(&other.proposals)
+    }
+
+    ghost laws = { table_laws };
+}

@@ -1,0 +1,7 @@
+//! What a coordinator knows: the replicated state, its joins, and the facts that it tells.
+#![tactic(auto)]
+
+pub mod facts;
+pub mod knowledge;
+pub mod laws;
+pub mod told;

@@ -1,0 +1,4 @@
+pub mod Equal
+pub mod Kept
+pub mod Said
+pub mod Touches

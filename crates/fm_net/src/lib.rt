@@ -1,0 +1,8 @@
+//! The network: nodes, and arcs that have a capacity and a cost.
+#![tactic(auto)]
+
+pub mod network;
+pub mod node;
+#[cfg(test)]
+mod tests;
+pub mod walks;

@@ -1,0 +1,200 @@
+//! Networks.
+
+ghost use Rattle.std.specs.Prelude.{◌≡◌, ◌≤◌, ◌<◌, ◌^◌, ◌↔◌, ◌⊎◌, not, length, Some, None, IsTrue, IfOk, OnOk, OnErr, if◌then◌else◌};
+ghost use Rattle.fm_net.specs.declared.node.Node.{Node as NodeName};
+ghost use Rattle.fm_net.specs.Nodes.{IsRequestInRange};
+ghost use Rattle.fm_net.specs.Net.{CanBeNet, IsArcKind, IsTouched, has_node, arc_at, sink_alone, with_node, without_node, with_arc, without_arc, are_ends};
+ghost use Rattle.std.specs.BTreeMap.{keys};
+ghost use Rattle.std.specs.List.{list_any};
+ghost use Rattle.fm_net.specs.Ends.{is_end};
+
+use crate::node::Node;
+use crate::walks::{Arcs, Nodes};
+use fm_lattice::join::OutOfMemory;
+use std::alloc::Global;
+use std::collections::{BTreeMap, BTreeSet};
+use std::marker::Model;
+
+/// A network: a set of nodes with the sink, and at most one arc from one of them to another, with a capacity and a cost.
+#[derive(Debug, Drop)]
+pub struct Network {
+    nodes: BTreeSet<Node>,
+    arcs: BTreeMap<(Node, Node), (u64, u32)>,
+}
+
+impl Model for Network {
+    ghost use Rattle.fm_net.specs.Net.{Net, CanBeNet};
+
+    ghost Value = { Net };
+
+    ghost view = { λ a. record { nodes = a.nodes.keys; arcs = a.arcs.entries } };
+
+    ghost invariant = { λ a. CanBeNet (record { nodes = a.nodes.keys; arcs = a.arcs.entries }) };
+}
+
+impl Network {
+    /// The network of the sink alone.
+    pub fn new(alloc: Global) -> Result<Self, OutOfMemory>
+        ensures { IfOk result (λ net. net ≡ sink_alone) }
+    {
+        let mut nodes = BTreeSet::new(alloc);
+        nodes.insert(Node::Sink)?;
+        Ok(Network {
+            nodes,
+            arcs: BTreeMap::new(alloc),
+        })
+    }
+
+    /// What is known of every network: the sink stands, both ends of each arc stand, and all is in range.
+    pub fn known(&self)
+        ensures { CanBeNet self.now }
+    {
+        let _ = &self.nodes;
+    }
+
+    /// Puts a node, and tells whether it is new. The caller owes a request of at most 1,000,000.
+    /// After a refusal of memory the network is as it was. O(log n).
+    pub fn put_node(&mut self, node: Node) -> Result<bool, OutOfMemory>
+        requires { IsRequestInRange node }
+        ensures ok { OnOk result (self.new ≡ with_node node self.old) }
+        ensures is_new { IfOk result (λ new. new ≡ not (has_node self.old node)) }
+        ensures has { OnOk result ((k : NodeName) → IsTrue (has_node self.new k) ↔ ((k ≡ node) ⊎ IsTrue (has_node self.old k))) }
+        ensures arc { OnOk result ((a b : NodeName) → arc_at self.new a b ≡ arc_at self.old a b) }
+        ensures err { OnErr result (self.new ≡ self.old) }
+    {
+        node.known();
+        Ok(self.nodes.insert(node)?)
+    }
+
+    /// Drops a node, and tells whether it was there. The caller owes that it is not the sink and that no arc touches it.
+    /// O(log n).
+    pub fn drop_node(&mut self, node: &Node) -> bool
+        requires not_sink { ¬ (node.now ≡ NodeName.Sink) }
+        requires not_touched { ¬ IsTouched self.old node.now }
+        ensures without { self.new ≡ without_node node.now self.old }
+        ensures was_there { result ≡ has_node self.old node.now }
+        ensures has { (k : NodeName) → IsTrue (has_node self.new k) ↔ (¬ (k ≡ node.now) × IsTrue (has_node self.old k)) }
+        ensures arc { (a b : NodeName) → arc_at self.new a b ≡ arc_at self.old a b }
+    {
+        self.nodes.remove(node)
+    }
+
+    /// Puts an arc in place of one that stood there, and answers what stood there: capacity and cost.
+    /// The caller owes that both nodes are there, an arc may join their kinds, the capacity is at least 1 and the cost at
+    /// most 1,000,000,000. After a refusal of memory the network is as it was. O(log n).
+    pub fn put_arc(
+        &mut self,
+        from: Node,
+        to: Node,
+        capacity: u64,
+        cost: u32,
+    ) -> Result<Option<(u64, u32)>, OutOfMemory>
+        requires from_stands { IsTrue (has_node self.old from) }
+        requires to_stands { IsTrue (has_node self.old to) }
+        requires kinds { IsArcKind from to }
+        requires capacity_above { 1 ≤ capacity }
+        requires cost_within { cost ≤ 1000000000 }
+        ensures ok { OnOk result (self.new ≡ with_arc from to (capacity, cost) self.old) }
+        ensures stood { IfOk result (λ old. old ≡ arc_at self.old from to) }
+        ensures has { OnOk result ((k : NodeName) → has_node self.new k ≡ has_node self.old k) }
+        ensures arc { OnOk result ((a b : NodeName) → arc_at self.new a b ≡ (if are_ends from to a b then Some (capacity, cost) else arc_at self.old a b)) }
+        ensures err { OnErr result (self.new ≡ self.old) }
+    {
+        Ok(self.arcs.insert((from, to), (capacity, cost))?)
+    }
+
+    /// Drops an arc, and answers its capacity and cost, if it was there. O(log n).
+    pub fn drop_arc(&mut self, from: Node, to: Node) -> Option<(u64, u32)>
+        ensures without { self.new ≡ without_arc from to self.old }
+        ensures stood { result ≡ arc_at self.old from to }
+        ensures has { (k : NodeName) → has_node self.new k ≡ has_node self.old k }
+        ensures arc { (a b : NodeName) → arc_at self.new a b ≡ (if are_ends from to a b then None else arc_at self.old a b) }
+    {
+        self.arcs.remove(&(from, to))
+    }
+
+    /// The capacity and cost of the arc from one node to another, if it is there. O(log n).
+    pub fn arc(&self, from: Node, to: Node) -> Option<(u64, u32)>
+        ensures { result ≡ arc_at self.now from to }
+    {
+        self.arcs.get(&(from, to)).copied()
+    }
+
+    /// Whether the node is there. O(log n).
+    pub fn has(&self, node: &Node) -> bool
+        ensures { result ≡ has_node self.now node.now }
+    {
+        self.nodes.contains(node)
+    }
+
+    /// Whether an arc leaves or enters the node. O(arcs).
+    pub fn touched(&self, node: &Node) -> bool
+        ensures { IsTrue result ↔ IsTouched self.now node.now }
+    {
+        touches(&self.arcs, node)
+    }
+
+    /// The nodes, in node order.
+    pub fn nodes(&self) -> Nodes<'_>
+        ensures all { result ≡ self.now.nodes }
+        ensures fits { length self.now.nodes < 2 ^ 63 }
+    {
+        Nodes::of(&self.nodes)
+    }
+
+    /// The arcs as (from, to, capacity, cost), by (from, to).
+    pub fn arcs(&self) -> Arcs<'_>
+        ensures all { result ≡ self.now.arcs }
+        ensures fits { length self.now.arcs < 2 ^ 63 }
+    {
+        Arcs::of(&self.arcs)
+    }
+
+    /// How many nodes there are.
+    pub fn nodes_len(&self) -> usize
+        ensures len { result ≡ length self.now.nodes }
+        ensures fits { result < 2 ^ 63 }
+    {
+        self.nodes.len()
+    }
+
+    /// How many arcs there are.
+    pub fn arcs_len(&self) -> usize
+        ensures len { result ≡ length self.now.arcs }
+        ensures fits { result < 2 ^ 63 }
+    {
+        self.arcs.len()
+    }
+
+    /// An equal network, in memory of its own.
+    pub fn copy(&self) -> Result<Self, OutOfMemory>
+        ensures { IfOk result (λ net. net ≡ self.now) }
+    {
+        let nodes = self.nodes.clone()?;
+        let arcs = self.arcs.clone()?;
+        Ok(Network { nodes, arcs })
+    }
+}
+
+impl PartialEq for Network {
+    ghost use Rattle.fm_net.specs.Same.{same_net, net_equivalence};
+
+    ghost eq = { same_net };
+
+    ghost laws = { net_equivalence };
+
+    /// Whether the nodes and the arcs are the same.
+    fn eq(&self, other: &Self) -> bool
+        ensures value { result ≡ same_net self.now other.now }
+        ensures exact { IsTrue result ↔ (self.now ≡ other.now) }
+    {
+        self.nodes == other.nodes && self.arcs == other.arcs
+    }
+}
+
+// Whether an arc leaves or enters the node.
+fn touches(arcs: &BTreeMap<(Node, Node), (u64, u32)>, node: &Node) -> bool
+    ensures { result ≡ list_any (is_end node.now) (keys arcs.now) }
+{
+    arcs.keys().any(|ends| ends.0 == *node || ends.1 == *node)
+}

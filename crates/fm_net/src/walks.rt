@@ -1,0 +1,84 @@
+//! The walks over a network's nodes and arcs.
+
+ghost use Rattle.std.specs.Prelude.{◌≡◌, length, ◌<◌, ◌^◌};
+ghost use Rattle.std.specs.Iterator.{YieldsFirst, YieldsFirstBy, item_count};
+ghost use Rattle.fm_net.specs.Walks.{arc_entry};
+
+use crate::node::Node;
+use std::collections::{BTreeMap, BTreeSet, btree_map, btree_set};
+use std::marker::Model;
+
+/// The nodes that are left of a walk, in node order.
+#[derive(Drop)]
+pub struct Nodes<'a> {
+    rest: btree_set::Iter<'a, Node>,
+}
+
+impl<'a> Model for Nodes<'a> {
+    ghost use Rattle.std.specs.Prelude.{List};
+    ghost use Rattle.fm_net.specs.declared.node.Node.{Node as NodeName};
+
+    ghost Value = { List NodeName };
+
+    ghost view = { λ s. s.rest };
+}
+
+impl<'a> Nodes<'a> {
+    pub(crate) fn of(nodes: &'a BTreeSet<Node>) -> Self
+        ensures all { result ≡ nodes.now.keys }
+        ensures fits { length nodes.now.keys < 2 ^ 63 }
+    {
+        Nodes { rest: nodes.iter() }
+    }
+}
+
+impl<'a> Iterator for Nodes<'a> {
+    type Item = Node;
+
+    ghost next_gives = { YieldsFirst (λ s. s) };
+
+    ghost remaining = { item_count (λ s. s) };
+
+    fn next(&mut self) -> Option<Node> {
+        self.rest.next().copied()
+    }
+}
+
+/// The arcs that are left of a walk, as (from, to, capacity, cost), by (from, to).
+#[derive(Drop)]
+pub struct Arcs<'a> {
+    rest: btree_map::Iter<'a, (Node, Node), (u64, u32)>,
+}
+
+impl<'a> Model for Arcs<'a> {
+    ghost use Rattle.std.specs.Prelude.{ℕ, List};
+    ghost use Rattle.fm_net.specs.declared.node.Node.{Node as NodeName};
+
+    ghost Value = { List ((NodeName × NodeName) × (ℕ × ℕ)) };
+
+    ghost view = { λ s. s.rest };
+}
+
+impl<'a> Arcs<'a> {
+    pub(crate) fn of(arcs: &'a BTreeMap<(Node, Node), (u64, u32)>) -> Self
+        ensures all { result ≡ arcs.now.entries }
+        ensures fits { length arcs.now.entries < 2 ^ 63 }
+    {
+        Arcs { rest: arcs.iter() }
+    }
+}
+
+impl<'a> Iterator for Arcs<'a> {
+    type Item = (Node, Node, u64, u32);
+
+    ghost next_gives = { YieldsFirstBy arc_entry (λ s. s) };
+
+    ghost remaining = { item_count (λ s. s) };
+
+    fn next(&mut self) -> Option<(Node, Node, u64, u32)> {
+        match self.rest.next() {
+            Some((&(from, to), &(capacity, cost))) => Some((from, to, capacity, cost)),
+            None => None,
+        }
+    }
+}
