@@ -267,3 +267,6 @@ fn items_in<'a>(value: &'a Value, name: &str) -> Option<&'a [Value]>
     let items = value.get(name)?.as_array()?;
     Some(items.as_slice())
 }
+
+#[cfg(test)]
+mod tests;
