@@ -24,3 +24,4 @@ pub mod SpelledLaws
 pub mod RangeLaws
 pub mod FactLaws
 pub mod JoinedLaws
+pub mod IdLaws

@@ -5,6 +5,7 @@ ghost use Rattle.std.specs.Ordering.{nat_cmp};
 ghost use Rattle.fm_lattice.specs.Joins.{JoinLaws};
 ghost use Rattle.fm_lattice.specs.Maps.{lookup};
 ghost use Rattle.fm_records.specs.declared.ops.Op.{Op};
+ghost use Rattle.fm_records.specs.Ids.{read_id, id_text};
 ghost use Rattle.fm_records.specs.Sets.{HaveSameMembers, greatest, least};
 ghost use Rattle.fm_records.specs.Know.{know, job, spec, progress, incarnation, state, report, entry, winner};
 ghost use Rattle.fm_records.specs.Spelled.{ops, IsTable};
@@ -26,6 +27,11 @@ pub type Proposals = JoinMap<(TaskId, u32), JoinMap<CoordId, Min<Spot>>>;
 
 /// What is known of machines.
 pub type Machines = JoinMap<MachineId, MachineRec>;
+
+/// The text of an id reads back as the id, so no two ids have one text.
+pub fn law_text(number: u128)
+    ensures { read_id (id_text number) ≡ Some number }
+{}
 
 /// The greatest of a list is a member that none is greater than, and the least one that none is less than.
 pub fn law_greatest<K: Chain>()

@@ -5,5 +5,8 @@ pub mod equal;
 pub mod ids;
 pub mod laws;
 pub mod ops;
+pub mod order;
 pub mod records;
 pub mod refusal;
+#[cfg(test)]
+mod tests;

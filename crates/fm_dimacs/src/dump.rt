@@ -1,0 +1,170 @@
+//! The text of a network.
+
+ghost use Rattle.std.specs.Prelude.{◌≡◌, ◌++◌, ◌∷◌, [], OnOk, OnErr, IfErr, IsOkUnless, count_by, length, string_bytes};
+ghost use Rattle.std.specs.List.{flat_map};
+ghost use Rattle.std.specs.Io.KnownBytes.{Appends};
+ghost use Rattle.fm_records.specs.TableLaws.{Rises};
+ghost use Rattle.fm_net.specs.Nodes.{node_cmp};
+ghost use Rattle.fm_net.specs.Walks.{arc_entry};
+ghost use Rattle.fm_dimacs.specs.Sending.{AppendsPrefix, StopsBy, IsSent};
+ghost use Rattle.fm_dimacs.specs.Text.{node_line, problem_line, is_task, demand_line, supply_line, arc_line, lines_from, id_in, dump_text};
+
+use crate::out::{Out, put_all};
+use fm_net::network::Network;
+use fm_net::node::Node;
+use fm_records::refusal::Refusal;
+use std::alloc::Global;
+
+/// Writes the network's text. After a refusal a prefix of it is written: refused by the writer, which then has failed, in
+/// this call unless it had before; or refused memory. O(arcs log nodes).
+pub fn dump<W: Out>(alloc: Global, network: &Network, out: &mut W) -> Result<(), Refusal>
+    ensures ok { OnOk result (Appends (W.written out.old) (W.written out.new) (dump_text network.now)) }
+    ensures ok_fails_not { OnOk result (W.has_failed out.new ≡ W.has_failed out.old) }
+    ensures err { OnErr result (AppendsPrefix (W.written out.old) (W.written out.new) (dump_text network.now)) }
+    ensures cause { IfErr result (λ refusal. StopsBy refusal (W.has_failed out.old) (W.has_failed out.new)) }
+{
+    network.known();
+    let nodes: Vec<Node> = network.nodes().collect(alloc)?;
+    put_text(alloc, network, &nodes, out)
+}
+
+// Writes the text of the network with these nodes and the network's arcs.
+fn put_text<W: Out>(alloc: Global, network: &Network, nodes: &[Node], out: &mut W) -> Result<(), Refusal>
+    requires { Rises node_cmp nodes.now }
+    ensures { IsSent result (W.written out.old) (W.written out.new) (W.has_failed out.old) (W.has_failed out.new) (dump_text (record { nodes = nodes.now; arcs = network.now.arcs })) }
+{
+    let mut line = String::new(alloc);
+    put_nodes(alloc, nodes, &mut line, out)?;
+    put_problem(network, nodes, &mut line, out)?;
+    put_demand(nodes, &mut line, out)?;
+    put_supplies(nodes, &mut line, out)?;
+    put_arcs(network, nodes, &mut line, out)
+}
+
+// Writes each node's comment.
+fn put_nodes<W: Out>(alloc: Global, nodes: &[Node], line: &mut String, out: &mut W) -> Result<(), Refusal>
+    ensures { IsSent result (W.written out.old) (W.written out.new) (W.has_failed out.old) (W.has_failed out.new) (lines_from node_line 1 nodes.now) }
+{
+    for (i, node) in nodes.iter().enumerate() {
+        put_node(alloc, i + 1, node, line, out)?;
+    }
+    Ok(())
+}
+
+// Writes a node's comment.
+fn put_node<W: Out>(alloc: Global, id: usize, node: &Node, line: &mut String, out: &mut W) -> Result<(), Refusal>
+    ensures { IsSent result (W.written out.old) (W.written out.new) (W.has_failed out.old) (W.has_failed out.new) (node_line id node.now) }
+{
+    line.clear();
+    write_node(alloc, line, id, node)?;
+    put_all(out, line.as_bytes())
+}
+
+// Appends a node's comment.
+fn write_node(alloc: Global, line: &mut String, id: usize, node: &Node) -> Result<(), Refusal>
+    ensures ok { OnOk result (string_bytes line.new ≡ string_bytes line.old ++ node_line id node.now) }
+    ensures err { IsOkUnless result Refusal.OutOfMemory }
+{
+    match *node {
+        Node::Sink => write!(line, "c {id} S\n")?,
+        Node::Unscheduled(job) => {
+            let name = job.text(alloc)?;
+            write!(line, "c {id} U {name}\n")?;
+        }
+        Node::Request(request) => write!(line, "c {id} R {request}\n")?,
+        Node::Machine(machine) => {
+            let name = machine.text(alloc)?;
+            write!(line, "c {id} M {name}\n")?;
+        }
+        Node::Task(task) => {
+            let name = task.text(alloc)?;
+            write!(line, "c {id} T {name}\n")?;
+        }
+    }
+    Ok(())
+}
+
+// Writes the problem line.
+fn put_problem<W: Out>(network: &Network, nodes: &[Node], line: &mut String, out: &mut W) -> Result<(), Refusal>
+    ensures { IsSent result (W.written out.old) (W.written out.new) (W.has_failed out.old) (W.has_failed out.new) (problem_line (length nodes.now) (length network.now.arcs)) }
+{
+    let node_count = nodes.len();
+    let arc_count = network.arcs_len();
+    line.clear();
+    write!(line, "p min {node_count} {arc_count}\n")?;
+    put_all(out, line.as_bytes())
+}
+
+fn is_task(node: &Node) -> bool
+    ensures { result ≡ is_task node.now }
+{
+    matches!(node, Node::Task(_))
+}
+
+// Writes the sink's demand, where there is a task.
+fn put_demand<W: Out>(nodes: &[Node], line: &mut String, out: &mut W) -> Result<(), Refusal>
+    ensures { IsSent result (W.written out.old) (W.written out.new) (W.has_failed out.old) (W.has_failed out.new) (demand_line (count_by is_task nodes.now)) }
+{
+    let tasks = nodes.iter().filter(|node| is_task(node)).count();
+    line.clear();
+    if tasks != 0 {
+        write!(line, "n 1 -{tasks}\n")?;
+    }
+    put_all(out, line.as_bytes())
+}
+
+// Writes each task's supply.
+fn put_supplies<W: Out>(nodes: &[Node], line: &mut String, out: &mut W) -> Result<(), Refusal>
+    ensures { IsSent result (W.written out.old) (W.written out.new) (W.has_failed out.old) (W.has_failed out.new) (lines_from supply_line 1 nodes.now) }
+{
+    for (i, node) in nodes.iter().enumerate() {
+        put_supply(i + 1, node, line, out)?;
+    }
+    Ok(())
+}
+
+// Writes the supply of a task, and nothing for another node.
+fn put_supply<W: Out>(id: usize, node: &Node, line: &mut String, out: &mut W) -> Result<(), Refusal>
+    ensures { IsSent result (W.written out.old) (W.written out.new) (W.has_failed out.old) (W.has_failed out.new) (supply_line id node.now) }
+{
+    line.clear();
+    if is_task(node) {
+        write!(line, "n {id} 1\n")?;
+    }
+    put_all(out, line.as_bytes())
+}
+
+// Writes the arcs.
+fn put_arcs<W: Out>(network: &Network, nodes: &[Node], line: &mut String, out: &mut W) -> Result<(), Refusal>
+    requires { Rises node_cmp nodes.now }
+    ensures { IsSent result (W.written out.old) (W.written out.new) (W.has_failed out.old) (W.has_failed out.new) (flat_map (arc_line nodes.now) network.now.arcs) }
+{
+    for arc in network.arcs() {
+        put_arc(nodes, arc, line, out)?;
+    }
+    Ok(())
+}
+
+// Writes an arc, given as (from, to, capacity, cost).
+fn put_arc<W: Out>(nodes: &[Node], arc: (Node, Node, u64, u32), line: &mut String, out: &mut W) -> Result<(), Refusal>
+    requires { Rises node_cmp nodes.now }
+    ensures { IsSent result (W.written out.old) (W.written out.new) (W.has_failed out.old) (W.has_failed out.new) (arc_line nodes.now (arc_entry arc)) }
+{
+    let (from, to, capacity, cost) = arc;
+    let source = id_of(nodes, &from);
+    let target = id_of(nodes, &to);
+    line.clear();
+    write!(line, "a {source} {target} 0 {capacity} {cost}\n")?;
+    put_all(out, line.as_bytes())
+}
+
+// The node's ID: its place, counted from 1. O(log n).
+fn id_of(nodes: &[Node], node: &Node) -> usize
+    requires { Rises node_cmp nodes.now }
+    ensures { result ≡ id_in nodes.now node.now }
+{
+    match nodes.binary_search(node) {
+        Ok(at) => at + 1,
+        Err(_) => 0,
+    }
+}

@@ -1,0 +1,5 @@
+//! Networks as text, in a canonical form of the DIMACS format.
+#![tactic(auto)]
+
+pub mod dump;
+pub mod out;
