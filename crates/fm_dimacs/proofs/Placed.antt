@@ -21,9 +21,9 @@ index_le_two Greater = omega arith
 steps_up : (x y n : Node) → node_cmp x y ≡ Less → ordering_index (node_cmp x n) ≤ ordering_index (node_cmp y n)
 steps_up x y n e =
     by_cases (node_cmp y n) (λ o. ordering_index (node_cmp x n) ≤ ordering_index o)
-      (λ t. rw (node_total.trans x y n e t) (omega arith))
-      (λ t. rw (sym (alike_right node_total y n x t) ∙ e) (omega arith))
-      (λ t. index_le_two (node_cmp x n))
+    (λ t. rw (node_total.trans x y n e t) (omega arith))
+    (λ t. rw (sym (alike_right node_total y n x t) ∙ e) (omega arith))
+    (λ t. index_le_two (node_cmp x n))
 
 below_at : (n : Node) (ns : List Node) (j : ℕ) (d : Node) → IsBelowAll node_cmp n ns → j < length ns → node_cmp n (get_or ns j d) ≡ Less
 below_at n [] j d b h = absurd (omega arith)
@@ -56,7 +56,7 @@ id_absent id [] n none = refl
 id_absent id (m ∷ ns) n none =
     let rest = id_absent (id + 1) ns n (λ j d h e. none (suc j) d (omega arith) e) in
     by_cases (node_cmp m n) (λ o. node_cmp m n ≡ o → id_from id (m ∷ ns) n ≡ 0)
-      (λ _ e. rw e rest) (λ _ e. absurd (none 0 m (omega arith) e)) (λ _ e. rw e rest) refl
+    (λ _ e. rw e rest) (λ _ e. absurd (none 0 m (omega arith) e)) (λ _ e. rw e rest) refl
 
 -- what a search finds gives the ID
 pub found : (ns : List Node) (n : Node) (i : ℕ) → Rises node_cmp ns → IsSearchInRange (Ok i) (length ns) → IsBinarySearchResult (λ m. node_cmp m n) ns (Ok i) → i + 1 ≡ id_from 1 ns n
@@ -67,8 +67,8 @@ pub not_found : (ns : List Node) (n : Node) (i : ℕ) → Rises node_cmp ns → 
 not_found ns n i r parted =
     let parts = parted (searchable ns n r) in
     sym (id_absent 1 ns n (λ j d h e.
-        elim (cases_order j i) [
-          | inl is ↦ let no : Equal ≡ Greater = sym e ∙ parts.1 j d (omega arith) h in cc
-          | inr (inl less) ↦ let no : Equal ≡ Less = sym e ∙ parts.0 j d (omega arith) less in cc
-          | inr (inr more) ↦ let no : Equal ≡ Greater = sym e ∙ parts.1 j d (omega arith) h in cc
-        ]))
+    elim (cases_order j i) [
+      | inl is ↦ let no : Equal ≡ Greater = sym e ∙ parts.1 j d (omega arith) h in cc
+      | inr (inl less) ↦ let no : Equal ≡ Less = sym e ∙ parts.0 j d (omega arith) less in cc
+      | inr (inr more) ↦ let no : Equal ≡ Greater = sym e ∙ parts.1 j d (omega arith) h in cc
+    ]))

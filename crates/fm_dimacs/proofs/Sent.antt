@@ -95,5 +95,5 @@ pub stopped_later : {T : Type 0} (r : Result T Refusal) (refusal : Refusal) (old
     → whole ≡ start ++ (piece ++ rest) → Appends old mid start → mid_failed ≡ had → AppendsPrefix mid new piece × StopsBy refusal mid_failed has → IsSent r old new had has whole
 stopped_later r refusal old mid new had mid_failed has whole start piece rest h is e f k =
     stopped r refusal old new had has whole h
-      (subst (AppendsPrefix old new) (sym is) (prefix_later old mid new start (piece ++ rest) e (prefix_start mid new piece rest k.0)))
-      (stops_since refusal had mid_failed has f k.1)
+    (subst (AppendsPrefix old new) (sym is) (prefix_later old mid new start (piece ++ rest) e (prefix_start mid new piece rest k.0)))
+    (stops_since refusal had mid_failed has f k.1)

@@ -29,7 +29,12 @@ pub fn dump<W: Out>(alloc: Global, network: &Network, out: &mut W) -> Result<(),
 }
 
 // Writes the text of the network with these nodes and the network's arcs.
-fn put_text<W: Out>(alloc: Global, network: &Network, nodes: &[Node], out: &mut W) -> Result<(), Refusal>
+fn put_text<W: Out>(
+    alloc: Global,
+    network: &Network,
+    nodes: &[Node],
+    out: &mut W,
+) -> Result<(), Refusal>
     requires { Rises node_cmp nodes.now }
     ensures { IsSent result (W.written out.old) (W.written out.new) (W.has_failed out.old) (W.has_failed out.new) (dump_text (record { nodes = nodes.now; arcs = network.now.arcs })) }
 {
@@ -42,7 +47,12 @@ fn put_text<W: Out>(alloc: Global, network: &Network, nodes: &[Node], out: &mut 
 }
 
 // Writes each node's comment.
-fn put_nodes<W: Out>(alloc: Global, nodes: &[Node], line: &mut String, out: &mut W) -> Result<(), Refusal>
+fn put_nodes<W: Out>(
+    alloc: Global,
+    nodes: &[Node],
+    line: &mut String,
+    out: &mut W,
+) -> Result<(), Refusal>
     ensures { IsSent result (W.written out.old) (W.written out.new) (W.has_failed out.old) (W.has_failed out.new) (lines_from node_line 1 nodes.now) }
 {
     for (i, node) in nodes.iter().enumerate() {
@@ -52,7 +62,13 @@ fn put_nodes<W: Out>(alloc: Global, nodes: &[Node], line: &mut String, out: &mut
 }
 
 // Writes a node's comment.
-fn put_node<W: Out>(alloc: Global, id: usize, node: &Node, line: &mut String, out: &mut W) -> Result<(), Refusal>
+fn put_node<W: Out>(
+    alloc: Global,
+    id: usize,
+    node: &Node,
+    line: &mut String,
+    out: &mut W,
+) -> Result<(), Refusal>
     ensures { IsSent result (W.written out.old) (W.written out.new) (W.has_failed out.old) (W.has_failed out.new) (node_line id node.now) }
 {
     line.clear();
@@ -85,7 +101,12 @@ fn write_node(alloc: Global, line: &mut String, id: usize, node: &Node) -> Resul
 }
 
 // Writes the problem line.
-fn put_problem<W: Out>(network: &Network, nodes: &[Node], line: &mut String, out: &mut W) -> Result<(), Refusal>
+fn put_problem<W: Out>(
+    network: &Network,
+    nodes: &[Node],
+    line: &mut String,
+    out: &mut W,
+) -> Result<(), Refusal>
     ensures { IsSent result (W.written out.old) (W.written out.new) (W.has_failed out.old) (W.has_failed out.new) (problem_line (length nodes.now) (length network.now.arcs)) }
 {
     let node_count = nodes.len();
@@ -135,7 +156,12 @@ fn put_supply<W: Out>(id: usize, node: &Node, line: &mut String, out: &mut W) ->
 }
 
 // Writes the arcs.
-fn put_arcs<W: Out>(network: &Network, nodes: &[Node], line: &mut String, out: &mut W) -> Result<(), Refusal>
+fn put_arcs<W: Out>(
+    network: &Network,
+    nodes: &[Node],
+    line: &mut String,
+    out: &mut W,
+) -> Result<(), Refusal>
     requires { Rises node_cmp nodes.now }
     ensures { IsSent result (W.written out.old) (W.written out.new) (W.has_failed out.old) (W.has_failed out.new) (flat_map (arc_line nodes.now) network.now.arcs) }
 {
@@ -146,7 +172,12 @@ fn put_arcs<W: Out>(network: &Network, nodes: &[Node], line: &mut String, out: &
 }
 
 // Writes an arc, given as (from, to, capacity, cost).
-fn put_arc<W: Out>(nodes: &[Node], arc: (Node, Node, u64, u32), line: &mut String, out: &mut W) -> Result<(), Refusal>
+fn put_arc<W: Out>(
+    nodes: &[Node],
+    arc: (Node, Node, u64, u32),
+    line: &mut String,
+    out: &mut W,
+) -> Result<(), Refusal>
     requires { Rises node_cmp nodes.now }
     ensures { IsSent result (W.written out.old) (W.written out.new) (W.has_failed out.old) (W.has_failed out.new) (arc_line nodes.now (arc_entry arc)) }
 {

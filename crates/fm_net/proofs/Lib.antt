@@ -1,4 +1,5 @@
 pub mod Equal
+mod Examples
 pub mod Kept
 pub mod Said
 pub mod Touches

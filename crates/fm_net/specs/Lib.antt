@@ -4,3 +4,7 @@ pub mod Net
 pub mod Walks
 pub mod Same
 pub mod Ends
+pub mod Network
+pub mod ListLaws
+pub mod NetworkLaws
+pub mod BoundLaws

@@ -1,7 +1,7 @@
 -- The names of nodes and their order. The kinds are those of Firmament's network-aware policy, with Quincy's
 -- unscheduled aggregators; the order is this project's profile.
-use Rattle.std.specs.Prelude.{ℕ, Bool, ◌<◌, ◌≤◌, ◌^◌}
-use Rattle.std.specs.Ordering.{nat_cmp, on, then_cmp, is_eq}
+use Rattle.std.specs.Prelude.{ℕ, ◌<◌, ◌≤◌, ◌^◌}
+use Rattle.std.specs.Ordering.{nat_cmp, on, then_cmp}
 use Rattle.std.specs.declared.cmp.Ordering.{Ordering}
 use Rattle.fm_net.specs.declared.node.Node.{Node}
 use Rattle.fm_net.specs.declared.node.Node.TheVariants.{Sink, Unscheduled, Request, Machine, Task}
@@ -34,10 +34,6 @@ node_cmp = (node_ord.ghosts).cmp
 -- by the node that an arc leaves, then by the node that it enters
 abbrev pub ends_cmp : Node × Node → Node × Node → Ordering
 ends_cmp = then_cmp (on (λ e. e.0) node_cmp) (on (λ e. e.1) node_cmp)
-
--- whether the nodes are one
-abbrev pub is_node : Node → Node → Bool
-is_node a b = is_eq (node_cmp a b)
 
 -- a request is at most 1,000,000
 abbrev pub IsRequestInRange : Node → Type 0

@@ -1,6 +1,7 @@
 //! The network: nodes, and arcs that have a capacity and a cost.
 #![tactic(auto)]
 
+pub mod laws;
 pub mod network;
 pub mod node;
 #[cfg(test)]

@@ -41,7 +41,7 @@ module _ {K : Type 0} (cmp : K → K → Ordering) (total : IsTotalOrder cmp) (s
       by_cases (cmp q x) (λ o. Rises cmp (by_order o (q ∷ x ∷ xs) (x ∷ xs) (x ∷ insert_once cmp q xs)))
       (λ e. ((e, below_all_trans q x xs e r.0), r)) (λ _. r) (λ e. (below_insert x q xs (greater_less cmp total q x e) r.0, rises_insert q xs r.1))
 
-  rises_rising : (xs : List K) → Rises cmp (rising cmp xs)
+  pub rises_rising : (xs : List K) → Rises cmp (rising cmp xs)
   rises_rising [] = tt
   rises_rising (x ∷ xs) = rises_insert x (rising cmp xs) (rises_rising xs)
 
@@ -57,7 +57,7 @@ module _ {K : Type 0} (cmp : K → K → Ordering) (total : IsTotalOrder cmp) (s
       by_cases (cmp k x) (λ o. IsMember q (by_order o (k ∷ x ∷ xs) (x ∷ xs) (x ∷ insert_once cmp k xs)))
       (λ _. inr h) (λ _. h) (λ _. elim h [ inl e ↦ inl e | inr later ↦ inr (member_still q k xs later) ])
 
-  member_rising : (q : K) (xs : List K) → IsMember q xs → IsMember q (rising cmp xs)
+  pub member_rising : (q : K) (xs : List K) → IsMember q xs → IsMember q (rising cmp xs)
   member_rising q [] h = absurd h
   member_rising q (x ∷ xs) h = elim h [
     | inl e ↦ subst (λ z. IsMember z (insert_once cmp x (rising cmp xs))) e (member_new x (rising cmp xs))

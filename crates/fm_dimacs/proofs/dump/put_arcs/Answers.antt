@@ -16,10 +16,13 @@ pub loop-arc-preserved : goal.loop-arc-preserved
 loop-arc-preserved g c =
     let i = c.loop-arc.invariant.2 in
     let lines = arc_line c.args.nodes.now in
-    let line = lines (arc_entry c.in-Some.arc) in
-    (tt, tt, record {
-      sent = i.sent ++ line;
-      whole = i.whole ∙ ap (λ arcs. i.sent ++ flat_map lines arcs) c.in-Some.ensures.steps ∙ sym (append_assoc i.sent line _);
-      appended = appends_more _ _ _ _ _ i.appended c.in_ok-put_arc.ensures.0;
-      fails_not = c.in_ok-put_arc.ensures.1 ∙ i.fails_not;
-    })
+    let line = lines (arc_entry c.in-Some.arc) in (
+      tt,
+      tt,
+      record {
+        sent = i.sent ++ line;
+        whole = i.whole ∙ ap (λ arcs. i.sent ++ flat_map lines arcs) c.in-Some.ensures.steps ∙ sym (append_assoc i.sent line _);
+        appended = appends_more _ _ _ _ _ i.appended c.in_ok-put_arc.ensures.0;
+        fails_not = c.in_ok-put_arc.ensures.1 ∙ i.fails_not;
+      },
+    )
