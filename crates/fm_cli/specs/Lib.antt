@@ -1,2 +1,5 @@
 pub mod Json
 pub mod Script
+pub mod Faults
+pub mod Steps
+pub mod Winners

@@ -1,9 +1,12 @@
 //! The program `firmament`.
 #![tactic(auto)]
 
+mod fault;
 mod input;
 mod reading;
+mod run;
 mod script;
+mod winners;
 mod words;
 
 use std::process::ExitCode;
