@@ -1,8 +1,9 @@
 //! The facts that knowledge tells: what is live, open and held, and what a machine has left. None takes memory.
 
-ghost use Rattle.std.specs.Prelude.{◌≡◌, ◌<◌, ◌^◌, ◌*◌, ◌+◌, cond, option_map, sum_by, length, List};
+ghost use Rattle.std.specs.Prelude.{◌≡◌, cond, option_map, sum_by, IfSome};
 ghost use Rattle.fm_records.specs.Facts.{job_of, spec_of, progress_of, is_done, live_spec, is_live, job_stands, open_state, is_open, is_present, used_of, winner_of, won_spot, holder_of, held_tasks, holds, request_of, load_of, spare_of};
 ghost use Rattle.fm_know.specs.Winners.{as_winner};
+ghost use Rattle.fm_know.specs.Limits.{JobWithin, SpecWithin, StateWithin};
 
 use crate::knowledge::Knowledge;
 use fm_records::ids::{CoordId, JobId, MachineId, TaskId};
@@ -20,7 +21,8 @@ pub struct Winner {
 impl Knowledge {
     /// What is known of the job. O(log n), as every reader here that does not say otherwise.
     pub fn job(&self, job: JobId) -> Option<JobReg>
-        ensures { result ≡ job_of self.now job }
+        ensures record { result ≡ job_of self.now job }
+        ensures within { IfSome result JobWithin }
     {
         match self.jobs.get(&job) {
             Some(register) => Some(register.0),
@@ -43,7 +45,8 @@ impl Knowledge {
 
     /// The spec of the task, live or not.
     pub fn spec(&self, task: TaskId) -> Option<SpecReg>
-        ensures { result ≡ spec_of self.now task }
+        ensures record { result ≡ spec_of self.now task }
+        ensures within { IfSome result SpecWithin }
     {
         match self.tasks.get(&task) {
             Some(record) => spec_in(record),
@@ -54,7 +57,8 @@ impl Knowledge {
     /// The spec of the task, if it is live: known and not withdrawn, of a job that is known and not withdrawn, and not
     /// done.
     pub fn live_spec(&self, task: TaskId) -> Option<SpecReg>
-        ensures { result ≡ live_spec self.now task }
+        ensures record { result ≡ live_spec self.now task }
+        ensures within { IfSome result SpecWithin }
     {
         let spec = self.spec(task)?;
         if spec.withdrawn || !self.job_stands(spec.job) || is_done(self.attempt(task).phase) {
@@ -72,7 +76,8 @@ impl Knowledge {
 
     /// The state of the machine, if it is open: known at the present incarnation, and up.
     pub fn open_state(&self, machine: MachineId) -> Option<MachineReg>
-        ensures { result ≡ open_state self.now machine }
+        ensures record { result ≡ open_state self.now machine }
+        ensures within { IfSome result StateWithin }
     {
         let record = self.machines.get(&machine)?;
         match &record.1.0.0 {
@@ -205,8 +210,8 @@ fn spec_in(record: &TaskRec) -> Option<SpecReg>
     }
 }
 
-// The bandwidth that the task requests; 0 where its spec is not known.
-fn request_in(record: &TaskRec) -> u32
+/// The bandwidth that the task of the record requests; 0 where its spec is not known.
+pub fn request_in(record: &TaskRec) -> u32
     ensures { result ≡ request_of record.now.0 }
 {
     match spec_in(record) {

@@ -1,12 +1,9 @@
 //! The replicated state and its joins.
 
 ghost use Rattle.std.specs.Prelude.{◌≡◌, ◌↔◌, [], ◌++◌, List, IsTrue, IfOk, OnOk, OnErr};
-ghost use Rattle.std.specs.Bool.{Decides};
 ghost use Rattle.fm_records.specs.declared.ops.Op.{Op};
 ghost use Rattle.fm_records.specs.Know.{know};
 ghost use Rattle.fm_records.specs.Joined.{table_join};
-ghost use Rattle.fm_records.specs.Ranges.{CanBe};
-ghost use Rattle.fm_records.specs.Spelled.{ops};
 
 use fm_lattice::join::{Join, OutOfMemory, copied};
 use fm_lattice::map::JoinMap;
@@ -151,4 +148,22 @@ impl Join for Knowledge {
     }
 
     ghost laws = { table_laws };
+}
+
+impl PartialEq for Knowledge {
+    ghost use Rattle.fm_know.specs.Same.{same_table, table_equivalence};
+
+    ghost eq = { same_table };
+
+    ghost laws = { table_equivalence };
+
+    /// Whether both know the same. O(n log n).
+    fn eq(&self, other: &Self) -> bool
+        ensures value { result ≡ same_table self.now other.now }
+        ensures exact { IsTrue result ↔ (self.now ≡ other.now) }
+    {
+        self.known();
+        other.known();
+        self.leq(other) && other.leq(self)
+    }
 }

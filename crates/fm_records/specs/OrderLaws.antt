@@ -15,7 +15,7 @@ use Rattle.fm_records.specs.declared.records.Progress.{Progress}
 use Rattle.fm_records.specs.declared.records.MachineReg.{MachineReg}
 use Rattle.fm_records.specs.declared.records.Report.{Report}
 use Rattle.fm_records.specs.declared.records.Spot.{Spot}
-use Rattle.fm_records.specs.Orders.{phase_cmp, job_cmp, spec_cmp, progress_cmp, machine_cmp, report_cmp, spot_cmp, attempt_cmp}
+use Rattle.fm_records.specs.Orders.{phase_place, phase_cmp, job_cmp, spec_cmp, progress_cmp, machine_cmp, report_cmp, spot_cmp, attempt_cmp}
 
 pub total_job : IsTotalOrder job_cmp
 total_job = then_total (on_total (λ (r : JobReg). r.version) nat_cmp_total) (then_total (on_total (λ (r : JobReg). r.writer) nat_cmp_total) (then_total (on_total (λ (r : JobReg). r.withdrawn) bool_cmp_total) (then_total (on_total (λ (r : JobReg). r.wait) nat_cmp_total) (on_total (λ (r : JobReg). r.preempt) nat_cmp_total))))
@@ -41,13 +41,7 @@ same_bool false false e = refl
 same_bool true false e = cc
 same_bool false true e = cc
 
--- the place of a phase in their order
-abbrev place : Phase → ℕ
-place Pending = 0
-place Running = 1
-place Done = 2
-
-by_place : (x y : Phase) → phase_cmp x y ≡ nat_cmp (place x) (place y)
+pub by_place : (x y : Phase) → phase_cmp x y ≡ nat_cmp (phase_place x) (phase_place y)
 by_place Pending Pending = refl
 by_place Pending Running = refl
 by_place Pending Done = refl
@@ -59,7 +53,7 @@ by_place Done Running = refl
 by_place Done Done = refl
 
 total_phase : IsTotalOrder phase_cmp
-total_phase = let same : phase_cmp ≡ on place nat_cmp = λ i x y. by_place x y i in subst IsTotalOrder (sym same) (on_total place nat_cmp_total)
+total_phase = let same : phase_cmp ≡ on phase_place nat_cmp = λ i x y. by_place x y i in subst IsTotalOrder (sym same) (on_total phase_place nat_cmp_total)
 
 same_phase : (x y : Phase) → phase_cmp x y ≡ Equal → x ≡ y
 same_phase Pending Pending e = refl

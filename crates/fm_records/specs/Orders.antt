@@ -3,6 +3,7 @@ use Rattle.std.specs.Prelude.{ℕ}
 use Rattle.std.specs.Ordering.{nat_cmp, bool_cmp, on, then_cmp}
 use Rattle.std.specs.declared.cmp.Ordering.{Ordering}
 use Rattle.fm_records.specs.declared.ops.Phase.{Phase}
+use Rattle.fm_records.specs.declared.ops.Phase.TheVariants.{Pending, Running, Done}
 use Rattle.fm_records.specs.contracts.ops.PhaseOrd.TheImpl as phase_ord
 use Rattle.fm_records.specs.declared.records.JobReg.{JobReg}
 use Rattle.fm_records.specs.declared.records.SpecReg.{SpecReg}
@@ -11,7 +12,13 @@ use Rattle.fm_records.specs.declared.records.MachineReg.{MachineReg}
 use Rattle.fm_records.specs.declared.records.Report.{Report}
 use Rattle.fm_records.specs.declared.records.Spot.{Spot}
 
--- Pending, Running, Done: the order that is derived for the type
+-- the place of a phase: Pending, Running, Done
+abbrev pub phase_place : Phase → ℕ
+phase_place Pending = 0
+phase_place Running = 1
+phase_place Done = 2
+
+-- by place; written as the order that is derived for the type, which a law says is that
 abbrev pub phase_cmp : Phase → Phase → Ordering
 phase_cmp = (phase_ord.ghosts).cmp
 

@@ -1,6 +1,7 @@
 //! Operations, which are what a coordinator is told.
 
 ghost use Rattle.std.specs.Prelude.{◌≡◌, ◌↔◌, ◌&&◌, if◌then◌else◌, nat_le, IsOk, IfErr, option_map};
+ghost use Rattle.fm_records.specs.Ids.{is_coordinator};
 ghost use Rattle.fm_records.specs.Ops.{op_fault};
 
 use crate::ids::{JobId, MachineId, TaskId};
@@ -107,7 +108,7 @@ impl Op {
                 preempt,
                 ..
             } => {
-                within(Field::Writer, 1, writer as u32, 64)?;
+                within_coordinators(Field::Writer, writer)?;
                 within(Field::Wait, 0, wait, 1_000_000_000)?;
                 within(Field::Preempt, 0, preempt, 1_000_000_000)
             }
@@ -116,7 +117,7 @@ impl Op {
                 request,
                 ..
             } => {
-                within(Field::Writer, 1, writer as u32, 64)?;
+                within_coordinators(Field::Writer, writer)?;
                 within(Field::Request, 0, request, 1_000_000)
             }
             Op::Progress { .. } => Ok(()),
@@ -126,19 +127,21 @@ impl Op {
                 nic,
                 ..
             } => {
-                within(Field::Writer, 1, writer as u32, 64)?;
+                within_coordinators(Field::Writer, writer)?;
                 within(Field::Slots, 1, slots, 1_000)?;
                 within(Field::Nic, 0, nic, 1_000_000)
             }
             Op::Report { used, .. } => within(Field::Used, 0, used, 1_000_000_000),
-            Op::Propose { coordinator, .. } => within(
-                Field::Coordinator,
-                1,
-                coordinator as u32,
-                64,
-            ),
+            Op::Propose { coordinator, .. } => within_coordinators(Field::Coordinator, coordinator),
         }
     }
+}
+
+// Whether the field names a coordinator, as writers do too: from 1 to 64.
+fn within_coordinators(field: Field, number: u8) -> Result<(), Refusal>
+    ensures { result ≡ (if is_coordinator number then Ok tt else Err (Refusal.BadOp field)) }
+{
+    within(field, 1, number as u32, 64)
 }
 
 // Whether the field's value is from the least to the greatest.

@@ -2,7 +2,7 @@
 
 ghost use Rattle.std.specs.Prelude.{◌≡◌};
 ghost use Rattle.std.specs.Ordering.{nat_cmp};
-ghost use Rattle.fm_records.specs.Orders.{phase_cmp, job_cmp, spec_cmp, progress_cmp, machine_cmp, report_cmp, spot_cmp};
+ghost use Rattle.fm_records.specs.Orders.{phase_place, job_cmp, spec_cmp, progress_cmp, machine_cmp, report_cmp, spot_cmp};
 
 use crate::ids::{CoordId, JobId, MachineId, TaskId};
 use crate::ops::Phase;
@@ -39,7 +39,7 @@ pub fn coordinators(a: &CoordId, b: &CoordId) -> Ordering
 
 /// The order of two phases: pending, running, done.
 pub fn phases(a: &Phase, b: &Phase) -> Ordering
-    ensures { result ≡ phase_cmp a.now b.now }
+    ensures { result ≡ nat_cmp (phase_place a.now) (phase_place b.now) }
 {
     a.cmp(b)
 }

@@ -36,7 +36,6 @@ impl JobReg {
     pub fn of(op: &Op) -> Option<JobReg>
         ensures { result ≡ job_record op.now }
     {
-        op.check().ok()?;
         match *op {
             Op::Job {
                 version,
@@ -45,7 +44,7 @@ impl JobReg {
                 wait,
                 preempt,
                 ..
-            } => Some(JobReg {
+            } if op.check().is_ok() => Some(JobReg {
                 version,
                 writer,
                 withdrawn,
@@ -114,7 +113,6 @@ impl SpecReg {
     pub fn of(op: &Op) -> Option<SpecReg>
         ensures { result ≡ spec_record op.now }
     {
-        op.check().ok()?;
         match *op {
             Op::Spec {
                 version,
@@ -123,7 +121,7 @@ impl SpecReg {
                 job,
                 request,
                 ..
-            } => Some(SpecReg {
+            } if op.check().is_ok() => Some(SpecReg {
                 version,
                 writer,
                 withdrawn,
@@ -185,11 +183,10 @@ impl Chain for Progress {
 }
 
 impl Progress {
-    /// The record of a Progress operation whose check is Ok; none of another kind, or of one whose check refuses.
+    /// The record of a Progress operation, whose check is always Ok; none of another kind.
     pub fn of(op: &Op) -> Option<Progress>
         ensures { result ≡ progress_record op.now }
     {
-        op.check().ok()?;
         match *op {
             Op::Progress { attempt, phase, .. } => Some(Progress { attempt, phase }),
             _ => None,
@@ -241,7 +238,6 @@ impl MachineReg {
     pub fn of(op: &Op) -> Option<MachineReg>
         ensures { result ≡ machine_record op.now }
     {
-        op.check().ok()?;
         match *op {
             Op::Machine {
                 version,
@@ -250,7 +246,7 @@ impl MachineReg {
                 slots,
                 nic,
                 ..
-            } => Some(MachineReg {
+            } if op.check().is_ok() => Some(MachineReg {
                 version,
                 writer,
                 up,
@@ -316,9 +312,8 @@ impl Report {
     pub fn of(op: &Op) -> Option<Report>
         ensures { result ≡ report_record op.now }
     {
-        op.check().ok()?;
         match *op {
-            Op::Report { number, used, .. } => Some(Report { number, used }),
+            Op::Report { number, used, .. } if op.check().is_ok() => Some(Report { number, used }),
             _ => None,
         }
     }
@@ -356,13 +351,12 @@ impl Spot {
     pub fn of(op: &Op) -> Option<Spot>
         ensures { result ≡ spot_record op.now }
     {
-        op.check().ok()?;
         match *op {
             Op::Propose {
                 machine,
                 incarnation,
                 ..
-            } => Some(Spot {
+            } if op.check().is_ok() => Some(Spot {
                 machine,
                 incarnation,
             }),

@@ -1,0 +1,155 @@
+-- A network that is part of a table's and has all of it is the table's network.
+use Rattle.std.proofs.Common.{◌≡◌, ℕ, Bool, true, false, cond, List, [], ◌∷◌, Option, Some, None, refl, sym, ◌∙◌, ap, subst, inl, inr, IsTrue, IsSome}
+use Rattle.std.specs.Prelude.{◌==◌, ◌&&◌, ◌||◌, not, is_some, option_map}
+use Rattle.std.specs.List.{list_any, filter_map, cons_option}
+use Rattle.std.specs.Ordering.{is_eq}
+use Rattle.std.specs.Cmp.{Equal-is}
+use borrow.Author.Tests.{eqb-true}
+use Rattle.fm_records.specs.declared.records.SpecReg.{SpecReg}
+use Rattle.fm_records.specs.Sets.{IsMember}
+use Rattle.fm_records.specs.Options.{when, and_then, only_if, passes}
+use Rattle.fm_records.specs.Table.{Table}
+use Rattle.fm_records.specs.Facts.{live_spec, is_live, open_state, is_open, is_present, won_spot, holder_of, holds, job_of}
+use Rattle.fm_net.specs.declared.node.Node.{Node}
+use Rattle.fm_net.specs.declared.node.Node.TheVariants.{Sink, Unscheduled, Request, Machine, Task}
+use Rattle.fm_net.specs.Nodes.{node_cmp}
+use Rattle.fm_net.specs.NodeOrder.{node_exact, node_total}
+use Rattle.std.proofs.lemmas.Cmp.{tied_itself}
+use Rattle.fm_net.specs.Net.{Net, CanBeNet, has_node, arc_at, sink_alone}
+use Rattle.fm_net.specs.Network.{IsNetworkOf, is_node, is_held, is_live_of, waits_for, live_tasks, arc_of}
+use Rattle.fm_policy.specs.Building.{Stands, Leads, IsPart, HasTask, HasWaiting, HasHolder, CoversMachine, CoversTask, CoversPlace, EachStands, request_named}
+use Rattle.fm_policy.proofs.Arcs.{spec_tested, place_needs}
+
+no_way : {A : Type 0} → false ≡ true → A
+no_way h = absurd (let no : ⊥ = cc in no)
+
+or_right : (a b : Bool) → b ≡ true → a || b ≡ true
+or_right true b h = refl
+or_right false b h = h
+
+and_left : (a b : Bool) → a && b ≡ true → a ≡ true
+and_left true b h = refl
+and_left false b h = h
+
+and_right : (a b : Bool) → a && b ≡ true → b ≡ true
+and_right true b h = h
+and_right false b h = no_way h
+
+-- the sink alone is part of every network
+pub sink_part : (k : Table) → IsPart k sink_alone
+sink_part k = record {
+  nodes = λ n stands. elim n as (λ m. Stands sink_alone m → IsTrue (is_node k m)) [ Sink ↦ λ _. refl | Unscheduled j ↦ λ no. no_way no | Request r ↦ λ no. no_way no | Machine m ↦ λ no. no_way no | Task t ↦ λ no. no_way no ] stands;
+  arcs = λ a b leads. no_way leads;
+}
+
+-- a request is among those named exactly where it is a node
+pub named_stands : (r : ℕ) (ns : List Node) → IsMember r (filter_map request_named ns) → list_any (λ m. is_eq (node_cmp (Request r) m)) ns ≡ true
+named_stands r [] h = absurd h
+named_stands r (Sink ∷ ns) h = named_stands r ns h
+named_stands r (Unscheduled j ∷ ns) h = named_stands r ns h
+named_stands r (Machine m ∷ ns) h = named_stands r ns h
+named_stands r (Task t ∷ ns) h = named_stands r ns h
+named_stands r (Request q ∷ ns) h = elim h [
+  | inl e ↦ let here : is_eq (node_cmp (Request r) (Request q)) ≡ true = ap (λ n. is_eq (node_cmp (Request r) (Request n))) e ∙ ap is_eq (tied_itself node_total (Request r)) in ap (λ b. b || list_any (λ m. is_eq (node_cmp (Request r) m)) ns) here
+  | inr later ↦ or_right (is_eq (node_cmp (Request r) (Request q))) _ (named_stands r ns later)
+]
+
+named_here : (r : ℕ) (n : Node) (ns : List Node) → Request r ≡ n → IsMember r (filter_map request_named (n ∷ ns))
+named_here r n ns e = subst (λ m. IsMember r (filter_map request_named (m ∷ ns))) e (inl refl)
+
+named_later : (r : ℕ) (n : Node) (ns : List Node) → IsMember r (filter_map request_named ns) → IsMember r (filter_map request_named (n ∷ ns))
+named_later r n ns later = elim (request_named n) as (λ o. IsMember r (cons_option o (filter_map request_named ns))) [ None ↦ later | Some q ↦ inr later ]
+
+pub stands_named : (r : ℕ) (ns : List Node) → list_any (λ m. is_eq (node_cmp (Request r) m)) ns ≡ true → IsMember r (filter_map request_named ns)
+stands_named r [] h = no_way h
+stands_named r (n ∷ ns) h =
+    elim (is_eq (node_cmp (Request r) n)) as (λ b. is_eq (node_cmp (Request r) n) ≡ b → b || list_any (λ m. is_eq (node_cmp (Request r) m)) ns ≡ true → IsMember r (filter_map request_named (n ∷ ns))) [
+      | true ↦ λ same _. named_here r n ns (node_exact (Request r) n ((Equal-is (node_cmp (Request r) n)).0 same))
+      | false ↦ λ _ rest. named_later r n ns (stands_named r ns rest)
+    ] refl h
+
+some_found : {V : Type 0} (test : ℕ → Bool) (es : List (ℕ × V)) → list_any (λ e. test e.0) es ≡ true → (t : ℕ) × (test t ≡ true)
+some_found test [] h = no_way h
+some_found test (e ∷ es) h = elim (test e.0) as (λ b. test e.0 ≡ b → b || list_any (λ x. test x.0) es ≡ true → (t : ℕ) × (test t ≡ true)) [ true ↦ λ is _. (e.0, is) | false ↦ λ _ rest. some_found test es rest ] refl h
+
+same_bool : (a b : Bool) → (a ≡ true → b ≡ true) → (b ≡ true → a ≡ true) → a ≡ b
+same_bool true b f g = sym (f refl)
+same_bool false true f g = sym (sym (g refl))
+same_bool false false f g = refl
+
+module _ (k : Table) where
+  none_held : (t : ℕ) → not (is_held k t) ≡ true → holder_of k t ≡ None
+  none_held t h = elim (holder_of k t) as (λ o. not (passes (λ m. true) o) ≡ true → o ≡ None) [ None ↦ λ _. refl | Some m ↦ λ no. no_way no ] h
+
+  -- a task that waits for a request, with its spec
+  waiting : (r t : ℕ) → waits_for k r t ≡ true → (s : SpecReg) × (live_spec k t ≡ Some s) × (s.request ≡ r) × (holder_of k t ≡ None)
+  waiting r t h =
+      let live = spec_tested k (λ s. s.request == r) t (and_left _ _ h) in
+      (live.0, live.1, eqb-true live.0.request r live.2, none_held t (and_right (passes (λ s. s.request == r) (live_spec k t)) _ h))
+
+  -- a task that is held is live
+  held_live : (t m : ℕ) → holds k m t ≡ true → (s : SpecReg) × (live_spec k t ≡ Some s) × (holder_of k t ≡ Some m)
+  held_live t m h =
+      let held : holder_of k t ≡ Some m = elim (holder_of k t) as (λ o. passes (λ n. n == m) o ≡ true → o ≡ Some m) [ None ↦ λ no. no_way no | Some n ↦ λ is. ap Some (eqb-true n m is) ] h in
+      elim (live_spec k t) as (λ o. live_spec k t ≡ o → (s : SpecReg) × (o ≡ Some s) × (holder_of k t ≡ Some m)) [
+        | None ↦ λ dead. let none : holder_of k t ≡ None = ap (λ o. cond (passes (λ s. true) o) (option_map (λ s. s.machine) (only_if (is_present k) (won_spot k t))) None) dead in absurd (let no : None ≡ Some m = sym none ∙ held in let no2 : ⊥ = cc in no2)
+        | Some s ↦ λ _. (s, refl, held)
+      ] refl
+
+  module _ (net : Net) (tasks : (t : ℕ) → CoversTask k t net) where
+    has_waiting : (r t : ℕ) → waits_for k r t ≡ true → HasWaiting t r net
+    has_waiting r t h =
+        let w = waiting r t h in
+        let has = subst (λ o. HasHolder t w.0.request o net) w.3 (tasks t w.0 w.1).holder in
+        subst (λ q. HasWaiting t q net) w.2 has
+
+    pub request_stands : (r : ℕ) → is_node k (Request r) ≡ true → Stands net (Request r)
+    request_stands r h = let found = some_found (waits_for k r) k.tasks h in (has_waiting r found.0 found.1).request
+
+    has_job : (j t : ℕ) → is_live_of k j t ≡ true → (Stands net (Unscheduled j)) × (Leads net (Unscheduled j) Sink) × (Leads net (Task t) (Unscheduled j))
+    has_job j t h =
+        let live = spec_tested k (λ s. s.job == j) t h in
+        let has = tasks t live.0 live.1 in
+        let is = eqb-true live.0.job j live.2 in
+        (subst (λ i. Stands net (Unscheduled i)) is has.job, subst (λ i. Leads net (Unscheduled i) Sink) is has.sink, subst (λ i. Leads net (Task t) (Unscheduled i)) is has.unscheduled)
+
+    module _ (can : CanBeNet net) (machines : (m : ℕ) → CoversMachine k m net) (places : (r : ℕ) → is_node k (Request r) ≡ true → (m : ℕ) → CoversPlace k r m net) where
+      all_nodes : (n : Node) → is_node k n ≡ true → Stands net n
+      all_nodes Sink h = can.has_sink
+      all_nodes (Unscheduled j) h = let found = some_found (is_live_of k j) k.tasks h in (has_job j found.0 found.1).0
+      all_nodes (Request r) h = request_stands r h
+      all_nodes (Machine m) h = (machines m h).node
+      all_nodes (Task t) h = let live = spec_tested k (λ s. true) t h in (tasks t live.0 live.1).node
+
+      of_when : {A : Type 0} (b : Bool) (x : A) → is_some (when b x) ≡ true → b ≡ true
+      of_when true x h = refl
+      of_when false x h = h
+
+      of_cond : {A : Type 0} (b : Bool) (o : Option A) → is_some (cond b o None) ≡ true → b ≡ true
+      of_cond true o h = refl
+      of_cond false o h = h
+
+      all_arcs : (a b : Node) → is_some (arc_of k a b) ≡ true → Leads net a b
+      all_arcs (Task t) (Request r) h = (has_waiting r t (of_when _ _ h)).waits
+      all_arcs (Request r) (Machine m) h = places r (place_needs k r m h).0 m h
+      all_arcs (Task t) (Machine m) h = let held = held_live t m (of_when _ _ h) in subst (λ o. HasHolder t held.0.request o net) held.2 (tasks t held.0 held.1).holder
+      all_arcs (Task t) (Unscheduled j) h = (has_job j t (of_cond _ _ h)).2
+      all_arcs (Machine m) Sink h = let is_open_now : is_open k m ≡ true = elim (open_state k m) as (λ o. is_some {T = ℕ × ℕ} (option_map (λ state. (state.slots, 0)) o) ≡ true → passes (λ r. true) o ≡ true) [ None ↦ λ no. no | Some s ↦ λ _. refl ] h in (machines m is_open_now).sink
+      all_arcs (Unscheduled j) Sink h = let found = some_found (is_live_of k j) k.tasks (of_when _ _ h) in (has_job j found.0 found.1).1
+      all_arcs _ _ h = no_way h
+
+      module _ (part : IsPart k net) where
+        same_arc : (a b : Node) (o : Option (ℕ × ℕ)) → arc_of k a b ≡ o → arc_at net a b ≡ o
+        same_arc a b (Some v) e = part.arcs a b (all_arcs a b (ap is_some e)) ∙ e
+        same_arc a b None e = elim (arc_at net a b) as (λ o. arc_at net a b ≡ o → o ≡ None) [
+          | None ↦ λ _. refl
+          | Some v ↦ λ there. let leads : Leads net a b = ap is_some there in sym there ∙ part.arcs a b leads ∙ e
+        ] refl
+
+        pub is_network : IsNetworkOf k net
+        is_network = record {
+          nodes_rise = can.nodes_rise;
+          arcs_rise = can.arcs_rise;
+          each_node = λ n. same_bool _ _ (part.nodes n) (all_nodes n);
+          each_arc = λ a b. same_arc a b (arc_of k a b) refl;
+        }

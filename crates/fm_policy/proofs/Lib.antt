@@ -1,0 +1,6 @@
+pub mod Adds
+pub mod Listed
+pub mod Arcs
+pub mod Covered
+pub mod Members
+pub mod Finished

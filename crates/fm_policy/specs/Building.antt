@@ -1,0 +1,74 @@
+-- Steps towards the network of a table: nothing is put that is not the table's, and nothing is taken away.
+use Rattle.std.specs.Prelude.{◌≡◌, ℕ, true, List, Option, Some, None, IsTrue, IsSome}
+use Rattle.fm_records.specs.declared.records.SpecReg.{SpecReg}
+use Rattle.fm_records.specs.Sets.{IsMember}
+use Rattle.fm_records.specs.Table.{Table}
+use Rattle.fm_records.specs.Facts.{is_open, live_spec, holder_of}
+use Rattle.fm_net.specs.declared.node.Node.{Node}
+use Rattle.fm_net.specs.declared.node.Node.TheVariants.{Sink, Unscheduled, Request, Machine, Task}
+use Rattle.fm_net.specs.Net.{Net, has_node, arc_at}
+use Rattle.fm_net.specs.Network.{is_node, arc_of}
+
+abbrev pub Stands : Net → Node → Type 0
+Stands net n = IsTrue (has_node net n)
+
+abbrev pub Leads : Net → Node → Node → Type 0
+Leads net a b = IsSome (arc_at net a b)
+
+-- each node and each arc of the network is one of the table
+pub record IsPart (k : Table) (net : Net) : Type 0 where
+  pub nodes : (n : Node) → Stands net n → IsTrue (is_node k n)
+  pub arcs : (a b : Node) → Leads net a b → arc_at net a b ≡ arc_of k a b
+
+-- what stood stands
+pub record Grows (old new : Net) : Type 0 where
+  pub nodes : (n : Node) → Stands old n → Stands new n
+  pub arcs : (a b : Node) → Leads old a b → Leads new a b
+
+-- the new network has more of the table's network
+pub record Adds (k : Table) (old new : Net) : Type 0 where
+  pub part : IsPart k old → IsPart k new
+  pub grows : Grows old new
+
+-- what an open machine, and a live task, have in the table's network, but for the arcs of requests to machines
+
+pub record HasMachine (m : ℕ) (net : Net) : Type 0 where
+  pub node : Stands net (Machine m)
+  pub sink : Leads net (Machine m) Sink
+
+pub record HasWaiting (t r : ℕ) (net : Net) : Type 0 where
+  pub request : Stands net (Request r)
+  pub waits : Leads net (Task t) (Request r)
+
+abbrev pub HasHolder : ℕ → ℕ → Option ℕ → Net → Type 0
+HasHolder t r None net = HasWaiting t r net
+HasHolder t r (Some m) net = Leads net (Task t) (Machine m)
+
+pub record HasTask (k : Table) (t : ℕ) (spec : SpecReg) (net : Net) : Type 0 where
+  pub node : Stands net (Task t)
+  pub job : Stands net (Unscheduled spec.job)
+  pub sink : Leads net (Unscheduled spec.job) Sink
+  pub unscheduled : Leads net (Task t) (Unscheduled spec.job)
+  pub holder : HasHolder t spec.request (holder_of k t) net
+
+abbrev pub CoversMachine : Table → ℕ → Net → Type 0
+CoversMachine k m net = IsTrue (is_open k m) → HasMachine m net
+
+abbrev pub CoversTask : Table → ℕ → Net → Type 0
+CoversTask k t net = (spec : SpecReg) → live_spec k t ≡ Some spec → HasTask k t spec net
+
+abbrev pub CoversPlace : Table → ℕ → ℕ → Net → Type 0
+CoversPlace k r m net = IsSome (arc_of k (Request r) (Machine m)) → Leads net (Request r) (Machine m)
+
+-- the open machines are nodes
+abbrev pub MachinesStand : Table → Net → Type 0
+MachinesStand k net = (m : ℕ) → IsTrue (is_open k m) → Stands net (Machine m)
+
+-- each of the requests is a node, of the network and of the table's
+abbrev pub EachStands : Table → List ℕ → Net → Type 0
+EachStands k requests net = (r : ℕ) → IsMember r requests → IsTrue (is_node k (Request r)) × Stands net (Request r)
+
+-- the request that a node is of
+abbrev pub request_named : Node → Option ℕ
+request_named (Request r) = Some r
+request_named _ = None

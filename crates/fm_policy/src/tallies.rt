@@ -1,0 +1,81 @@
+//! What one walk over the tasks adds up: the live tasks of each job, and what each machine holds.
+
+ghost use Rattle.std.specs.Prelude.{◌≡◌, ◌<◌, ◌+◌, ◌≤◌, ◌^◌, ℕ, cond, unwrap_or, IfOk, OnOk, length};
+ghost use Rattle.fm_records.specs.Facts.{is_open, load_of, used_of};
+ghost use Rattle.fm_policy.specs.Tallying.{live_in, held_in, counted, requested, IsTally};
+
+use fm_know::facts::request_in;
+use fm_know::knowledge::Knowledge;
+use fm_lattice::join::OutOfMemory;
+use fm_records::ids::{JobId, MachineId, TaskId};
+use std::alloc::Global;
+use std::collections::BTreeMap;
+
+/// The live tasks of each job that has any, and the requests of the tasks that each machine holds.
+#[derive(Drop)]
+pub(crate) struct Tallies {
+    pub(crate) live: BTreeMap<JobId, u64>,
+    pub(crate) held: BTreeMap<MachineId, u128>,
+}
+
+impl Tallies {
+    /// The tallies of all tasks. O(n log n).
+    pub(crate) fn of(alloc: Global, knowledge: &Knowledge) -> Result<Tallies, OutOfMemory>
+        ensures { IfOk result (IsTally knowledge.now) }
+    {
+        let mut tallies = Tallies {
+            live: BTreeMap::new(alloc),
+            held: BTreeMap::new(alloc),
+        };
+        for (task, record) in knowledge.tasks().iter() {
+            tallies.add(knowledge, *task, request_in(record))?;
+        }
+        Ok(tallies)
+    }
+
+    // Counts the task with its request, where it is live.
+    fn add(
+        &mut self,
+        knowledge: &Knowledge,
+        task: TaskId,
+        request: u32,
+    ) -> Result<(), OutOfMemory>
+        requires live_fits { (j : ℕ) → live_in self.old j + 1 < 2 ^ 64 }
+        requires held_fits { (m : ℕ) → held_in self.old m + 2 ^ 32 < 2 ^ 128 }
+        ensures live { OnOk result ((j : ℕ) → live_in self.new j ≡ live_in self.old j + counted knowledge.now j task) }
+        ensures held { OnOk result ((m : ℕ) → held_in self.new m ≡ held_in self.old m + requested knowledge.now m task request) }
+    {
+        let Some(spec) = knowledge.live_spec(task) else {
+            return Ok(());
+        };
+        let live = self.live_of(spec.job);
+        self.live.insert(spec.job, live + 1)?;
+        if let Some(machine) = knowledge.holder(task) {
+            let held = self.held_of(machine);
+            self.held.insert(machine, held + u128::from(request))?;
+        }
+        Ok(())
+    }
+
+    /// How many live tasks the job has. O(log n).
+    pub(crate) fn live_of(&self, job: JobId) -> u64
+        ensures { result ≡ live_in self.now job }
+    {
+        self.live.get(&job).copied().unwrap_or(0)
+    }
+
+    /// The sum of the requests of the tasks that the machine holds. O(log n).
+    pub(crate) fn held_of(&self, machine: MachineId) -> u128
+        ensures { result ≡ held_in self.now machine }
+    {
+        self.held.get(&machine).copied().unwrap_or(0)
+    }
+
+    /// The load of a machine: the greater of what it reported and what it holds. O(log n).
+    pub(crate) fn load_of(&self, knowledge: &Knowledge, machine: MachineId) -> u128
+        ensures { IsTally knowledge.now self.now → result ≡ load_of knowledge.now machine }
+    {
+        let used = u128::from(knowledge.used(machine));
+        used.max(self.held_of(machine))
+    }
+}
