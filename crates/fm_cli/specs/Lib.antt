@@ -3,3 +3,5 @@ pub mod Script
 pub mod Faults
 pub mod Steps
 pub mod Winners
+pub mod Output
+pub mod Endings

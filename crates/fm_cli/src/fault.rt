@@ -3,10 +3,9 @@
 ghost use Rattle.std.specs.Prelude.{◌≡◌, Some};
 ghost use Rattle.fm_records.specs.declared.refusal.Refusal.TheVariants as refusal;
 
-use std::fmt;
-
 use fm_lattice::join::OutOfMemory;
 use fm_records::refusal::Refusal;
+use std::fmt;
 
 /// A refusal, and the step at fault, counted from 1, where one is.
 #[derive(Debug, Clone, Copy, PartialEq, Eq, Drop)]

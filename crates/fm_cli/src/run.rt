@@ -5,16 +5,14 @@ ghost use Rattle.std.specs.List.{list_all};
 ghost use Rattle.fm_records.specs.Ops.{op_fault};
 ghost use Rattle.fm_records.specs.Know.{know};
 ghost use Rattle.fm_cli.specs.Faults.{fault_of};
-ghost use Rattle.fm_cli.specs.Steps.{step_fault, first_refused, told_to, op_told};
-
-use std::alloc::Global;
-
-use fm_know::knowledge::Knowledge;
-use fm_records::ops::Op;
-use fm_records::refusal::Refusal;
+ghost use Rattle.fm_cli.specs.Steps.{is_listed, step_fault, first_refused, told_to, op_told};
 
 use crate::fault::Fault;
 use crate::script::{Act, Script, Step};
+use fm_know::knowledge::Knowledge;
+use fm_records::ops::Op;
+use fm_records::refusal::Refusal;
+use std::alloc::Global;
 
 /// What the coordinator knows once the script's steps have run. The first step that is refused is named: by
 /// `NoCoordinator` where the script does not list its coordinator, else by `BadOp`.
@@ -67,10 +65,17 @@ fn accepted(listed: &[u8], step: &Step) -> Result<Op, Refusal>
     ensures in_range { IfOk result (λ op. op_fault op ≡ None) }
     ensures err { IfErr result (λ e. step_fault listed.now step.now ≡ Some e) }
 {
-    if !listed.contains(&step.at) {
+    if !is_listed(listed, step.at) {
         return Err(Refusal::NoCoordinator);
     }
     let Act::Tell(op) = step.act;
     op.check()?;
     Ok(op)
+}
+
+/// Whether the number is one of those listed.
+pub fn is_listed(listed: &[u8], number: u8) -> bool
+    ensures { result ≡ is_listed listed.now number }
+{
+    listed.contains(&number)
 }

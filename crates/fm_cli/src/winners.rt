@@ -4,17 +4,20 @@ ghost use Rattle.std.specs.Prelude.{◌≡◌, ◌++◌, OnOk, IsOkUnless, strin
 ghost use Rattle.fm_dimacs.specs.Sending.{IsSent};
 ghost use Rattle.fm_cli.specs.Winners.{attempt_line, won_text, winners_text};
 
-use std::alloc::Global;
-
 use fm_dimacs::out::{Out, put_all};
 use fm_know::facts::Winner;
 use fm_know::knowledge::Knowledge;
 use fm_records::ids::{MachineId, TaskId};
 use fm_records::refusal::Refusal;
+use std::alloc::Global;
 
 /// Writes a line for each task whose present attempt has a winner, by task: TASK ATTEMPT COORDINATOR MACHINE INCARNATION,
 /// and `held` or `free`. After a refusal a prefix of it is written: refused by the writer, or refused memory.
-pub fn write_winners<W: Out>(alloc: Global, knowledge: &Knowledge, out: &mut W) -> Result<(), Refusal>
+pub fn write_winners<W: Out>(
+    alloc: Global,
+    knowledge: &Knowledge,
+    out: &mut W,
+) -> Result<(), Refusal>
     ensures { IsSent result (W.written out.old) (W.written out.new) (W.has_failed out.old) (W.has_failed out.new) (winners_text knowledge.now) }
 {
     let mut line = String::new(alloc);
@@ -41,7 +44,13 @@ fn put_attempt<W: Out>(
 }
 
 // Appends the line of an attempt, where it is the task's present one and has a winner.
-fn write_attempt(alloc: Global, knowledge: &Knowledge, task: TaskId, attempt: u32, line: &mut String) -> Result<(), Refusal>
+fn write_attempt(
+    alloc: Global,
+    knowledge: &Knowledge,
+    task: TaskId,
+    attempt: u32,
+    line: &mut String,
+) -> Result<(), Refusal>
     ensures ok { OnOk result (string_bytes line.new ≡ string_bytes line.old ++ attempt_line knowledge.now (task, attempt)) }
     ensures err { IsOkUnless result Refusal.OutOfMemory }
 {
@@ -71,8 +80,14 @@ fn write_winner(
     let coordinator = winner.coordinator.value();
     let machine = winner.machine.text(alloc)?;
     match holder {
-        Some(_) => write!(line, "{task} {attempt} {coordinator} {machine} {incarnation} held\n")?,
-        None => write!(line, "{task} {attempt} {coordinator} {machine} {incarnation} free\n")?,
+        Some(_) => write!(
+            line,
+            "{task} {attempt} {coordinator} {machine} {incarnation} held\n"
+        )?,
+        None => write!(
+            line,
+            "{task} {attempt} {coordinator} {machine} {incarnation} free\n"
+        )?,
     }
     Ok(())
 }
