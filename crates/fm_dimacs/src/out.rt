@@ -84,8 +84,8 @@ impl<W: Write> Out for Over<W> {
     }
 }
 
-// Puts the whole piece.
-pub(crate) fn put_all<W: Out>(out: &mut W, piece: &[u8]) -> Result<(), Refusal>
+/// Puts the whole piece. `WriteFault` where the writer fails, after a prefix of it went out.
+pub fn put_all<W: Out>(out: &mut W, piece: &[u8]) -> Result<(), Refusal>
     ensures { IsSent result (W.written out.old) (W.written out.new) (W.has_failed out.old) (W.has_failed out.new) piece.now }
 {
     let mut rest = piece;

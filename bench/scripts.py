@@ -1,0 +1,56 @@
+#!/usr/bin/env python3
+"""Writes the script of a cluster, the same for the same numbers.
+
+    bench/scripts.py --tasks N [--machines N] [--requests N] [--seed N]
+
+A tenth as many machines as tasks, a job for each fifty tasks, 20 to 50 sizes of requests. Every tenth task is held by a
+proposal, and every fourth machine has reported a use. Ids are random, so that they do not come in order.
+"""
+import argparse
+import json
+import random
+import sys
+import uuid
+
+
+def script(tasks, machines=None, requests=None, seed=1):
+    """The lines of the script."""
+    chance = random.Random("%d %s %s %d" % (tasks, machines, requests, seed))
+    machines = machines or max(1, tasks // 10)
+    requests = requests or chance.randint(20, 50)
+
+    def ids(count):
+        return [str(uuid.UUID(int=chance.getrandbits(128), version=4)) for _ in range(count)]
+
+    sizes = chance.sample(range(1, 1001), requests)
+    jobs, hosts, names = ids(max(1, tasks // 50)), ids(machines), ids(tasks)
+    told = []
+    for job in jobs:
+        wait = chance.randint(500, 20000)
+        told.append({"job": {"id": job, "version": 1, "writer": 1, "withdrawn": False,
+                             "wait": wait, "preempt": wait + chance.randint(0, 5000)}})
+    for host in hosts:
+        told.append({"machine": {"id": host, "incarnation": 1, "version": 1, "writer": 1, "up": True,
+                                 "slots": chance.randint(5, 20), "nic": chance.randint(2000, 20000)}})
+    for task in names:
+        told.append({"spec": {"id": task, "version": 1, "writer": 1, "withdrawn": False,
+                              "job": chance.choice(jobs), "request": chance.choice(sizes)}})
+    for task in names[::10]:
+        told.append({"propose": {"id": task, "attempt": 0, "coordinator": 1,
+                                 "machine": chance.choice(hosts), "incarnation": 1}})
+    for host in hosts[::4]:
+        told.append({"report": {"id": host, "incarnation": 1, "number": 1, "used": chance.randint(0, 5000)}})
+    yield '{"coordinators":[1],"steps":[\n'
+    for place, op in enumerate(told):
+        step = json.dumps({"at": 1, "tell": op}, separators=(",", ":"))
+        yield step + ("\n" if place + 1 == len(told) else ",\n")
+    yield "]}\n"
+
+
+if __name__ == "__main__":
+    words = argparse.ArgumentParser(description=__doc__, formatter_class=argparse.RawDescriptionHelpFormatter)
+    words.add_argument("--tasks", type=int, required=True)
+    words.add_argument("--machines", type=int)
+    words.add_argument("--requests", type=int)
+    words.add_argument("--seed", type=int, default=1)
+    sys.stdout.writelines(script(**vars(words.parse_args())))

@@ -1,0 +1,20 @@
+-- How the program ends (this project's profile).
+use Rattle.std.specs.Prelude.{ℕ, List, [], ◌∷◌, Bool, cond, Option, Some, None, Result, Ok, Err}
+use Rattle.fm_records.specs.declared.refusal.Refusal.TheVariants.{NoCoordinator}
+use Rattle.fm_cli.specs.declared.fault.Fault.{Fault}
+use Rattle.fm_cli.specs.declared.serve.Ending.{Ending}
+use Rattle.fm_cli.specs.declared.serve.Ending.TheVariants.{Done, Wrong, Stopped}
+use Rattle.fm_cli.specs.Faults.{fault_of, status_of}
+use Rattle.fm_cli.specs.Steps.{is_listed}
+
+-- 0 where all is done, 2 where the words were wrong, and else the fault's status
+abbrev pub ending_status : Ending → ℕ
+ending_status Done = 0
+ending_status (Wrong text) = 2
+ending_status (Stopped fault) = status_of fault.refusal
+
+-- the coordinator that is asked: the one named, where it is listed, and the first listed where none is named
+abbrev pub asked_of : List ℕ → Option ℕ → Result ℕ Fault
+asked_of listed (Some number) = cond (is_listed listed number) (Ok number) (Err (fault_of NoCoordinator))
+asked_of [] None = Err (fault_of NoCoordinator)
+asked_of (first ∷ others) None = Ok first

@@ -1,0 +1,55 @@
+-- Members of a JSON object, each at the type that it is to have (this project's profile).
+use Rattle.std.specs.Prelude.{ℕ, suc, ◌^◌, ◌==◌, List, [], ◌∷◌, Bool, nat_lt, Option, Some, None, option_map}
+use Rattle.serde_json.specs.Data.{Data, Items, no_items, item, Members, no_members, member}
+use Rattle.serde_json.specs.Find.{get, as_number, as_u64, as_bool, as_str, as_array, as_object}
+use Rattle.fm_records.specs.Ids.{read_id}
+use Rattle.fm_records.specs.Options.{when, passes}
+
+-- what the function makes of the value, where there is one
+abbrev pub given : {A B : Type 0} → Option A → (A → Option B) → Option B
+given None f = None
+given (Some a) f = f a
+
+-- the number, where it is below the bound
+abbrev pub below : ℕ → ℕ → Option ℕ
+below bound n = when (nat_lt n bound) n
+
+-- the whole number in the member of the name, and the same where it fits a type of fewer bits
+abbrev pub number_at : List ℕ → Data → Option ℕ
+number_at name d = given (get name d) (λ v. given (as_number v) as_u64)
+
+abbrev pub number_32_at : List ℕ → Data → Option ℕ
+number_32_at name d = given (number_at name d) (below (2 ^ 32))
+
+abbrev pub number_8_at : List ℕ → Data → Option ℕ
+number_8_at name d = given (number_at name d) (below (2 ^ 8))
+
+-- the truth value in the member of the name
+abbrev pub flag_at : List ℕ → Data → Option Bool
+flag_at name d = given (get name d) as_bool
+
+-- the text in the member of the name
+abbrev pub text_at : List ℕ → Data → Option (List ℕ)
+text_at name d = given (get name d) as_str
+
+-- the id that the text in the member of the name spells
+abbrev pub id_at : List ℕ → Data → Option ℕ
+id_at name d = given (text_at name d) read_id
+
+-- how many members an object has
+abbrev pub count_of : Members → ℕ
+count_of no_members = 0
+count_of (member name d ms) = suc (count_of ms)
+
+-- the value is an object of that many members
+abbrev pub has_size : ℕ → Data → Bool
+has_size n d = passes (λ ms. count_of ms == n) (as_object d)
+
+-- the items of an array
+abbrev pub list_of : Items → List Data
+list_of no_items = []
+list_of (item d ds) = d ∷ list_of ds
+
+-- the items of the array in the member of the name
+abbrev pub items_at : List ℕ → Data → Option (List Data)
+items_at name d = option_map list_of (given (get name d) as_array)

@@ -1,0 +1,94 @@
+//! The words of a command line.
+
+use clap::error::ErrorKind;
+use clap::{Arg, ArgAction, Error, value_parser};
+use fm_records::refusal::Refusal;
+use std::alloc::Global;
+
+/// What the program is asked to do.
+#[derive(Debug, Clone, Copy, PartialEq, Eq, Drop)]
+pub enum Command {
+    /// Print the network of what a coordinator knows; of the first listed where none is named.
+    Graph { at: Option<u8> },
+    /// Print who won the present attempt of each task, by what a coordinator knows.
+    Winners { at: Option<u8> },
+}
+
+/// What the words come to.
+#[derive(Debug, Drop)]
+pub enum Words {
+    Run(Command),
+    /// A text that was asked for.
+    Help(String),
+    /// What is wrong with the words.
+    Wrong(String),
+}
+
+/// Reads the words of a command line, the program's own name first. Only want of memory is refused.
+pub fn read_words(alloc: Global, words: &[String]) -> Result<Words, Refusal> {
+    match parser(alloc)?.try_get_matches_from(words) {
+        Ok(matches) => match matches.subcommand() {
+            Some(("winners", inner)) => Ok(Words::Run(Command::Winners {
+                at: inner.get_one::<u8>("at"),
+            })),
+            Some((_, inner)) => Ok(Words::Run(Command::Graph {
+                at: inner.get_one::<u8>("at"),
+            })),
+            None => Ok(Words::Wrong(String::new(alloc))),
+        },
+        Err(error) => text_of(alloc, &error),
+    }
+}
+
+// The text of what is no command.
+fn text_of(alloc: Global, error: &Error) -> Result<Words, Refusal> {
+    if error.kind() == ErrorKind::OutOfMemory {
+        return Err(Refusal::OutOfMemory);
+    }
+    let text = error.to_string(alloc)?;
+    if error.use_stderr() {
+        Ok(Words::Wrong(text))
+    } else {
+        Ok(Words::Help(text))
+    }
+}
+
+// The commands that there are.
+fn parser<'a>(alloc: Global) -> Result<clap::Command<'a>, Refusal> {
+    let graph = clap::Command::new(alloc, "graph")
+        .about(
+            "Prints the network of what a coordinator knows, as a minimum-cost flow problem in DIMACS lines",
+        )
+        .after_help("Example: firmament graph --at 1 < examples/first.json")
+        .arg(at(alloc))?;
+    let winners = clap::Command::new(alloc, "winners")
+        .about(
+            "Prints, for each task whose present attempt has a winner: TASK ATTEMPT COORDINATOR MACHINE INCARNATION, and held or free",
+        )
+        .after_help("Example: firmament winners < examples/held.json")
+        .arg(at(alloc))?;
+    Ok(
+        clap::Command::new(alloc, "firmament")
+            .bin_name("firmament")?
+            .about(
+                "Schedules tasks over a network of bandwidths: runs the script on standard input, and prints what is asked for",
+            )
+            .after_help("Example: firmament graph < examples/first.json")
+            .subcommand_required(true)
+            .arg_required_else_help(true)
+            .subcommand(graph)?
+            .subcommand(winners)?,
+    )
+}
+
+// The coordinator that is asked.
+fn at<'a>(alloc: Global) -> Arg<'a> {
+    Arg::new(alloc, "at")
+        .long("at")
+        .value_name("N")
+        .help(
+            "The coordinator that is asked, from 0 to 255; the first of the script where it is left out",
+        )
+        .action(ArgAction::Set)
+        .value_parser(value_parser!(u8))
+}
