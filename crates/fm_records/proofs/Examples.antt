@@ -1,5 +1,5 @@
 -- The definitions computed on small examples. Each list of operations is also told in another order and with repeats.
-use Rattle.std.proofs.Common.{◌≡◌, ℕ, ◌+◌, Bool, true, false, List, [], ◌∷◌, ◌++◌, Option, Some, None, length, map, refl}
+use Rattle.std.proofs.Common.{◌≡◌, ℕ, ◌+◌, true, false, List, [], ◌∷◌, ◌++◌, Some, None, map, refl}
 use Rattle.fm_records.specs.declared.ops.Field.TheVariants as field
 use Rattle.fm_records.specs.declared.ops.Phase.TheVariants.{Pending, Running, Done}
 use Rattle.fm_records.specs.declared.ops.Op.{Op}

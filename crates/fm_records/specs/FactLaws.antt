@@ -1,31 +1,26 @@
 -- The facts on the table of a set are those of the set.
-use Rattle.std.specs.Prelude.{◌≡◌, ℕ, Bool, true, false, cond, ◌==◌, ◌&&◌, List, [], ◌∷◌, Option, Some, None, option_map, refl}
+use Rattle.std.specs.Prelude.{◌≡◌, ℕ, true, false, cond, ◌==◌, ◌&&◌, List, [], ◌∷◌, Option, Some, None, option_map, refl}
 use Rattle.std.specs.List.{filter_map}
 use Rattle.std.specs.Ordering.{nat_cmp, is_eq, is_lt}
 use Rattle.std.specs.Cmp.{nat_cmp_total}
-use Rattle.std.specs.declared.cmp.Ordering.{Ordering}
-use Rattle.std.specs.declared.cmp.Ordering.TheVariants.{Less, Equal, Greater}
 use Rattle.std.proofs.Common.{sym, ap, ◌∙◌, subst, eq-eqb, true≢false}
 use Rattle.std.proofs.lemmas.Bool.{eqb-true}
 use Rattle.std.proofs.lemmas.Cmp.{tied_itself}
 use Rattle.fm_records.specs.declared.ops.Op.{Op}
 use Rattle.fm_records.specs.declared.ops.Op.TheVariants as op
-use Rattle.fm_records.specs.declared.records.JobReg.{JobReg}
 use Rattle.fm_records.specs.declared.records.SpecReg.{SpecReg}
 use Rattle.fm_records.specs.declared.records.Progress.{Progress}
-use Rattle.fm_records.specs.declared.records.MachineReg.{MachineReg}
-use Rattle.fm_records.specs.declared.records.Report.{Report}
 use Rattle.fm_records.specs.declared.records.Spot.{Spot}
-use Rattle.fm_records.specs.Options.{when, and_then, or_else}
+use Rattle.fm_records.specs.Options.{and_then, or_else}
 use Rattle.fm_records.specs.Sets.{IsMember, least, with_value, table, unless_empty}
 use Rattle.fm_records.specs.Orders.{spot_cmp}
 use Rattle.fm_records.specs.OrderLaws.{total_spot}
-use Rattle.fm_records.specs.Know.{none_begun, coordinator_in, spot_in, coordinator_named, job, spec, told_progress, progress, incarnation, state_at, report_at, state, report, task_value, machine_at, entry, entries, winner, know}
-use Rattle.fm_records.specs.Facts.{first_of, job_of, spec_of, progress_of, incarnation_of, state_of, report_of, entries_of, winner_of}
-use Rattle.fm_records.specs.Characterized.{IsLeast, IsLeastOf}
+use Rattle.fm_records.specs.Know.{none_begun, coordinator_in, spot_in, coordinator_named, spec, told_progress, progress, incarnation, state_at, report_at, state, report, task_value, machine_at, entry, winner, know}
+use Rattle.fm_records.specs.Facts.{first_of, spec_of, progress_of, incarnation_of, state_of, report_of, entries_of, winner_of}
+use Rattle.fm_records.specs.Characterized.{IsLeastOf}
 use Rattle.fm_records.specs.SetLaws.{member_from, member_kept}
 use Rattle.fm_records.specs.GreatestLaws.{least_is}
-use Rattle.fm_records.specs.LookupLaws.{none_some, when_true, both_true, lookup_job, lookup_task, lookup_machine, lookup_entry, lookup_entries}
+use Rattle.fm_records.specs.LookupLaws.{none_some, when_true, both_true, lookup_task, lookup_machine, lookup_entry, lookup_entries}
 use Rattle.fm_records.specs.RangeLaws.{inside, when_value, least_member, all_of_some, spots_rise}
 use Rattle.fm_lattice.specs.Chains.{nat_same, by_cases, greater_less}
 use Rattle.fm_lattice.specs.Joins.{min_join}

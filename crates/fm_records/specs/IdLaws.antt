@@ -1,5 +1,5 @@
 -- The text of an id is read back as the id.
-use Rattle.std.specs.Prelude.{◌≡◌, ℕ, ◌+◌, ◌*◌, ◌/◌, ◌%◌, ◌^◌, ◌<◌, List, All, length, Option, Some, option_map, zero, suc, refl}
+use Rattle.std.specs.Prelude.{◌≡◌, ℕ, ◌+◌, ◌*◌, ◌/◌, ◌%◌, ◌^◌, ◌<◌, All, Some, option_map, zero, suc, refl}
 use Rattle.std.specs.Int.{byte_at, bytes_high_first, from_be_bytes, to_be_bytes, w128}
 use Rattle.std.proofs.Common.{sym, ap, ◌∙◌, inl, arith}
 use Rattle.std.proofs.Math.Nat.{add-mul, mul_assoc, mul_comm, div-div-eq-div-mul}

@@ -1,10 +1,9 @@
 -- What a set of operations in range comes to is a table that can be.
-use Rattle.std.specs.Prelude.{◌≡◌, ◌⊎◌, ℕ, Bool, true, false, cond, ◌==◌, ◌&&◌, List, [], ◌∷◌, ◌++◌, Option, Some, None, option_map, flat_map, map, refl}
+use Rattle.std.specs.Prelude.{◌≡◌, ◌⊎◌, ℕ, Bool, true, false, cond, ◌==◌, ◌&&◌, List, [], ◌∷◌, ◌++◌, Option, Some, None, option_map, flat_map, refl}
 use Rattle.std.specs.List.{filter_map, list_all}
 use Rattle.std.specs.Ordering.{nat_cmp, is_eq}
 use Rattle.std.specs.Cmp.{IsTotalOrder, nat_cmp_total}
 use Rattle.std.specs.declared.cmp.Ordering.{Ordering}
-use Rattle.std.specs.declared.cmp.Ordering.TheVariants.{Less, Equal, Greater}
 use Rattle.std.proofs.Common.{sym, ap, ◌∙◌, subst, inl, inr, eq-eqb}
 use Rattle.std.proofs.lemmas.Bool.{eqb-true}
 use Rattle.std.proofs.lemmas.Cmp.{tied_itself}
@@ -23,12 +22,11 @@ use Rattle.fm_records.specs.declared.records.MachineReg.{MachineReg}
 use Rattle.fm_records.specs.declared.records.Report.{Report}
 use Rattle.fm_records.specs.declared.records.Spot.{Spot}
 use Rattle.fm_records.specs.Options.{when}
-use Rattle.fm_records.specs.Ops.{op_fault}
 use Rattle.fm_records.specs.Sets.{IsMember, all_of, greatest, least, table, unless_empty}
 use Rattle.fm_records.specs.Orders.{job_cmp, spec_cmp, progress_cmp, machine_cmp, report_cmp, spot_cmp, attempt_cmp}
 use Rattle.fm_records.specs.OrderLaws.{total_job, total_spec, total_progress, total_machine, total_report, total_spot, total_attempt, same_attempt}
 use Rattle.fm_records.specs.Table.{Table, TaskValue, MachineValue}
-use Rattle.fm_records.specs.Know.{none_begun, job_in, spec_in, progress_in, incarnation_in, state_in, report_in, spot_in, coordinator_named, job, spec, told_progress, incarnation, state_at, report_at, task_value, task, machine_at, machine, entry, entries, know}
+use Rattle.fm_records.specs.Know.{job_in, spec_in, progress_in, incarnation_in, state_in, report_in, spot_in, coordinator_named, job, spec, told_progress, incarnation, state_at, report_at, task_value, machine_at, machine, entry, entries, know}
 use Rattle.fm_records.specs.Spelled.{each, job_op, job_ops, spec_op, progress_op, task_ops, machine_op, report_op, machine_ops, propose_op, entry_ops, ops, has_part, IsFull, IsTable}
 use Rattle.fm_records.specs.Ranges.{is_id, fits, in_range, all_in_range, CanBe}
 use Rattle.fm_records.specs.Characterized.{IsGreatest, IsGreatestOf, IsLeast, IsLeastOf}
