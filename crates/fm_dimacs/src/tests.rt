@@ -15,7 +15,13 @@ use std::io::{self, Write};
 use std::test::Fail;
 
 // Puts an arc and its ends.
-fn put(network: &mut Network, from: &Node, to: &Node, capacity: u64, cost: u32) -> Result<(), Refusal>
+fn put(
+    network: &mut Network,
+    from: &Node,
+    to: &Node,
+    capacity: u64,
+    cost: u32,
+) -> Result<(), Refusal>
     requires kinds { IsArcKind from.now to.now }
     requires from_in_range { IsRequestInRange from.now }
     requires to_in_range { IsRequestInRange to.now }
@@ -47,7 +53,13 @@ fn machine_and_task(alloc: Global, wait: u32) -> Result<Network, Refusal>
     let mut network = Network::new(alloc)?;
     put(&mut network, &Node::Machine(machine()), &Node::Sink, 2, 0)?;
     put(&mut network, &Node::Unscheduled(job()), &Node::Sink, 1, 0)?;
-    put(&mut network, &Node::Task(task()), &Node::Unscheduled(job()), 1, wait)?;
+    put(
+        &mut network,
+        &Node::Task(task()),
+        &Node::Unscheduled(job()),
+        1,
+        wait,
+    )?;
     Ok(network)
 }
 
@@ -57,7 +69,13 @@ fn waiting(alloc: Global, wait: u32) -> Result<Network, Refusal>
 {
     let mut network = machine_and_task(alloc, wait)?;
     put(&mut network, &Node::Task(task()), &Node::Request(100), 1, 0)?;
-    put(&mut network, &Node::Request(100), &Node::Machine(machine()), 2, 100)?;
+    put(
+        &mut network,
+        &Node::Request(100),
+        &Node::Machine(machine()),
+        2,
+        100,
+    )?;
     Ok(network)
 }
 
@@ -159,7 +177,13 @@ a 5 3 0 1 0
 #[test]
 fn a_task_is_held(rt: HostRuntime) -> Result<(), Fail> {
     let mut network = machine_and_task(rt.alloc(), 800)?;
-    put(&mut network, &Node::Task(task()), &Node::Machine(machine()), 1, 0)?;
+    put(
+        &mut network,
+        &Node::Task(task()),
+        &Node::Machine(machine()),
+        1,
+        0,
+    )?;
     let text = text_of(rt.alloc(), &network)?;
     let expected = "c 1 S
 c 2 U 00000000-0000-0000-0000-000000000001
@@ -181,7 +205,13 @@ a 4 3 0 1 0
 fn a_machine_is_closed(rt: HostRuntime) -> Result<(), Fail> {
     let mut network = Network::new(rt.alloc())?;
     put(&mut network, &Node::Unscheduled(job()), &Node::Sink, 1, 0)?;
-    put(&mut network, &Node::Task(task()), &Node::Unscheduled(job()), 1, 500)?;
+    put(
+        &mut network,
+        &Node::Task(task()),
+        &Node::Unscheduled(job()),
+        1,
+        500,
+    )?;
     put(&mut network, &Node::Task(task()), &Node::Request(100), 1, 0)?;
     let text = text_of(rt.alloc(), &network)?;
     let expected = "c 1 S
@@ -203,7 +233,13 @@ a 4 3 0 1 0
 fn a_request_of_0(rt: HostRuntime) -> Result<(), Fail> {
     let mut network = machine_and_task(rt.alloc(), 500)?;
     put(&mut network, &Node::Task(task()), &Node::Request(0), 1, 0)?;
-    put(&mut network, &Node::Request(0), &Node::Machine(machine()), 2, 40)?;
+    put(
+        &mut network,
+        &Node::Request(0),
+        &Node::Machine(machine()),
+        2,
+        40,
+    )?;
     let text = text_of(rt.alloc(), &network)?;
     let expected = "c 1 S
 c 2 U 00000000-0000-0000-0000-000000000001
@@ -262,9 +298,15 @@ fn writer_of(alloc: Global, at_a_time: usize, room: usize) -> Over<Narrow> {
 fn a_writer_fails_after_ten_bytes(rt: HostRuntime) -> Result<(), Fail> {
     let network = waiting(rt.alloc(), 500)?;
     let mut out = writer_of(rt.alloc(), 1000, 10);
-    assert_eq!(rt; dump(rt.alloc(), &network, &mut out), Err(Refusal::WriteFault));
+    assert_eq!(rt;
+        dump(rt.alloc(), &network, &mut out),
+        Err(Refusal::WriteFault)
+    );
     assert!(rt; out.failed());
-    assert_eq!(rt; out.into_inner().bytes.as_slice(), b"c 1 S\nc 2 ".as_slice());
+    assert_eq!(rt;
+        out.into_inner().bytes.as_slice(),
+        b"c 1 S\nc 2 ".as_slice()
+    );
     Ok(())
 }
 
@@ -284,7 +326,10 @@ fn a_writer_takes_a_byte_at_a_time(rt: HostRuntime) -> Result<(), Fail> {
 fn a_writer_takes_nothing(rt: HostRuntime) -> Result<(), Fail> {
     let network = waiting(rt.alloc(), 500)?;
     let mut out = writer_of(rt.alloc(), 0, 1000);
-    assert_eq!(rt; dump(rt.alloc(), &network, &mut out), Err(Refusal::WriteFault));
+    assert_eq!(rt;
+        dump(rt.alloc(), &network, &mut out),
+        Err(Refusal::WriteFault)
+    );
     assert!(rt; out.failed());
     assert_eq!(rt; out.put(b""), 0);
     assert!(rt; out.into_inner().bytes.is_empty());
