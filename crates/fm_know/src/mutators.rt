@@ -169,6 +169,10 @@ mod tests {
         known.next_machine(MachineId::new(10), incarnation, 1, true, 2, 1_000)
     }
 
+    fn next_attempt(known: &Knowledge) -> Result<Op, Refusal> {
+        known.next_attempt(TaskId::new(17))
+    }
+
     #[test]
     fn a_job_is_spoken_of_at_its_next_version(rt: HostRuntime) -> Result<(), Fail> {
         let alloc = rt.alloc();
@@ -193,11 +197,10 @@ mod tests {
     #[test]
     fn a_task_goes_on_to_its_next_attempt(rt: HostRuntime) -> Result<(), Fail> {
         let alloc = rt.alloc();
-        let task = TaskId::new(17);
-        let next = Knowledge::empty(alloc).next_attempt(task);
+        let next = next_attempt(&Knowledge::empty(alloc));
         assert_eq!(rt; next, Ok(progress(1, Phase::Pending)));
         let last = knowing(alloc, progress(4_294_967_295, Phase::Running))?;
-        assert_eq!(rt; last.next_attempt(task), Err(Refusal::AttemptsSpent));
+        assert_eq!(rt; next_attempt(&last), Err(Refusal::AttemptsSpent));
         Ok(())
     }
 }
