@@ -1,3 +1,4 @@
 pub mod Deltas
 pub mod DeltaLaws
 pub mod Packets
+pub mod PacketLaws

@@ -3,3 +3,5 @@
 
 pub mod buffer;
 pub mod packet;
+#[cfg(test)]
+mod tests;
