@@ -126,3 +126,6 @@ fn asked(script: &Script, at: Option<u8>) -> Result<u8, Fault>
         },
     }
 }
+
+#[cfg(test)]
+mod tests;

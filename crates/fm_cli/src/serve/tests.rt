@@ -1,0 +1,533 @@
+use super::serve;
+use std::alloc::{AllocError, Global};
+use std::io::{self, Read, Write};
+use std::test::Fail;
+
+// Steps by name. In all texts here `..` stands for the zeros with which an id begins.
+static STEPS: [(&str, &str); 21] = [
+    (
+        "J",
+        r#"{"at":1,"tell":{"job":{"id":"..001","version":1,"writer":1,"withdrawn":false,"wait":500,"preempt":800}}}"#,
+    ),
+    (
+        "J600",
+        r#"{"at":1,"tell":{"job":{"id":"..001","version":1,"writer":1,"withdrawn":false,"wait":600,"preempt":800}}}"#,
+    ),
+    (
+        "JTwice",
+        r#"{"at":1,"tell":{"job":{"id":"..002","id":"..001","version":1,"writer":1,"withdrawn":false,"wait":[],"wait":500,"preempt":800,"more":{}}}}"#,
+    ),
+    (
+        "A",
+        r#"{"at":1,"tell":{"machine":{"id":"..00a","incarnation":1,"version":1,"writer":1,"up":true,"slots":2,"nic":1000}}}"#,
+    ),
+    (
+        "B",
+        r#"{"at":1,"tell":{"machine":{"id":"..00b","incarnation":1,"version":1,"writer":1,"up":true,"slots":2,"nic":1000}}}"#,
+    ),
+    (
+        "T",
+        r#"{"at":1,"tell":{"spec":{"id":"..011","version":1,"writer":1,"withdrawn":false,"job":"..001","request":100}}}"#,
+    ),
+    (
+        "T0",
+        r#"{"at":1,"tell":{"spec":{"id":"..011","version":1,"writer":1,"withdrawn":false,"job":"..001","request":0}}}"#,
+    ),
+    (
+        "TDone",
+        r#"{"at":1,"tell":{"progress":{"id":"..011","attempt":0,"phase":"done"}}}"#,
+    ),
+    (
+        "TAgain",
+        r#"{"at":1,"tell":{"progress":{"id":"..011","attempt":1,"phase":"pending"}}}"#,
+    ),
+    (
+        "OnA",
+        r#"{"at":1,"tell":{"propose":{"id":"..011","attempt":0,"coordinator":1,"machine":"..00a","incarnation":1}}}"#,
+    ),
+    (
+        "OnB",
+        r#"{"at":1,"tell":{"propose":{"id":"..011","attempt":0,"coordinator":2,"machine":"..00b","incarnation":1}}}"#,
+    ),
+    (
+        "Used950",
+        r#"{"at":1,"tell":{"report":{"id":"..00a","incarnation":1,"number":3,"used":950}}}"#,
+    ),
+    (
+        "Used0",
+        r#"{"at":1,"tell":{"report":{"id":"..00a","incarnation":1,"number":2,"used":0}}}"#,
+    ),
+    (
+        "Used40",
+        r#"{"at":1,"tell":{"report":{"id":"..00a","incarnation":1,"number":1,"used":40}}}"#,
+    ),
+    (
+        "Used1001",
+        r#"{"at":1,"tell":{"report":{"id":"..00a","incarnation":1,"number":4,"used":1001}}}"#,
+    ),
+    (
+        "Lost",
+        r#"{"at":1,"tell":{"report":{"id":"..00a","incarnation":2,"number":1,"used":0}}}"#,
+    ),
+    (
+        "NoSlots",
+        r#"{"at":1,"tell":{"machine":{"id":"..00a","incarnation":1,"version":1,"writer":1,"up":true,"slots":0,"nic":1000001}}}"#,
+    ),
+    (
+        "MostWait",
+        r#"{"at":1,"tell":{"job":{"id":"..001","version":1,"writer":64,"withdrawn":false,"wait":1000000000,"preempt":0}}}"#,
+    ),
+    (
+        "MoreWait",
+        r#"{"at":1,"tell":{"job":{"id":"..001","version":1,"writer":1,"withdrawn":false,"wait":1000000001,"preempt":0}}}"#,
+    ),
+    (
+        "Elsewhere",
+        r#"{"at":0,"tell":{"job":{"id":"..001","version":1,"writer":65,"withdrawn":false,"wait":0,"preempt":0}}}"#,
+    ),
+    ("Strange", r#"{"at":1}"#),
+];
+
+const NOTHING: &str = "c 1 S\np min 1 0\n";
+
+const MACHINE: &str = "c 1 S\nc 2 M ..00a\np min 2 1\na 2 1 0 2 0\n";
+
+const WAITING: &str = "c 1 S
+c 2 U ..001
+c 3 R 100
+c 4 M ..00a
+c 5 T ..011
+p min 5 5
+n 1 -1
+n 5 1
+a 2 1 0 1 0
+a 3 4 0 2 100
+a 4 1 0 2 0
+a 5 2 0 1 500
+a 5 3 0 1 0
+";
+
+const WAITING_DEARLY: &str = "c 1 S
+c 2 U ..001
+c 3 R 100
+c 4 M ..00a
+c 5 T ..011
+p min 5 5
+n 1 -1
+n 5 1
+a 2 1 0 1 0
+a 3 4 0 2 100
+a 4 1 0 2 0
+a 5 2 0 1 600
+a 5 3 0 1 0
+";
+
+const CROWDED_OUT: &str = "c 1 S
+c 2 U ..001
+c 3 R 100
+c 4 M ..00a
+c 5 T ..011
+p min 5 4
+n 1 -1
+n 5 1
+a 2 1 0 1 0
+a 4 1 0 2 0
+a 5 2 0 1 500
+a 5 3 0 1 0
+";
+
+const HELD: &str = "c 1 S
+c 2 U ..001
+c 3 M ..00a
+c 4 T ..011
+p min 4 4
+n 1 -1
+n 4 1
+a 2 1 0 1 0
+a 3 1 0 2 0
+a 4 2 0 1 800
+a 4 3 0 1 0
+";
+
+const LOST: &str = "c 1 S
+c 2 U ..001
+c 3 R 100
+c 4 T ..011
+p min 4 3
+n 1 -1
+n 4 1
+a 2 1 0 1 0
+a 4 2 0 1 500
+a 4 3 0 1 0
+";
+
+const ASKING_NOTHING: &str = "c 1 S
+c 2 U ..001
+c 3 R 0
+c 4 M ..00a
+c 5 T ..011
+p min 5 5
+n 1 -1
+n 5 1
+a 2 1 0 1 0
+a 3 4 0 2 40
+a 4 1 0 2 0
+a 5 2 0 1 500
+a 5 3 0 1 0
+";
+
+const NOTHING_SPARED: &str = "c 1 S
+c 2 U ..001
+c 3 R 0
+c 4 M ..00a
+c 5 T ..011
+p min 5 4
+n 1 -1
+n 5 1
+a 2 1 0 1 0
+a 4 1 0 2 0
+a 5 2 0 1 500
+a 5 3 0 1 0
+";
+
+// Runs: the words, the steps by name, and then the status, what is written, and the text for standard error.
+static RUNS: [(&str, &str, u8, &str, &str); 40] = [
+    ("graph", "", 0, NOTHING, ""),
+    ("graph", "J A T", 0, WAITING, ""),
+    ("graph --at 1", "A T J", 0, WAITING, ""),
+    ("graph --at=1", "T J A J T A", 0, WAITING, ""),
+    ("graph", "JTwice A T", 0, WAITING, ""),
+    ("graph", "A T", 0, MACHINE, ""),
+    ("graph", "J J600 A T", 0, WAITING_DEARLY, ""),
+    ("graph", "J600 J A T", 0, WAITING_DEARLY, ""),
+    ("graph", "J A T Used950 Used0", 0, CROWDED_OUT, ""),
+    ("graph", "J A T Used0 Used950", 0, CROWDED_OUT, ""),
+    ("graph", "J A T OnA", 0, HELD, ""),
+    ("graph", "OnA T A J", 0, HELD, ""),
+    ("graph", "J A T OnA Lost", 0, LOST, ""),
+    ("graph", "Lost J A T OnA", 0, LOST, ""),
+    ("graph", "J A T OnA TAgain", 0, WAITING, ""),
+    ("graph", "J A T TDone", 0, MACHINE, ""),
+    ("graph", "J A T0 Used40", 0, ASKING_NOTHING, ""),
+    ("graph", "J A T0 Used40 Used1001", 0, NOTHING_SPARED, ""),
+    ("winners", "", 0, "", ""),
+    ("winners", "J A T", 0, "", ""),
+    (
+        "winners --at 1",
+        "J A T OnA",
+        0,
+        "..011 0 1 ..00a 1 held\n",
+        "",
+    ),
+    (
+        "winners",
+        "J A T OnA Lost",
+        0,
+        "..011 0 1 ..00a 1 free\n",
+        "",
+    ),
+    ("winners", "J A T OnA TAgain", 0, "", ""),
+    ("winners", "OnA", 0, "..011 0 1 ..00a 1 free\n", ""),
+    ("winners", "J A B T OnB", 0, "..011 0 2 ..00b 1 held\n", ""),
+    (
+        "winners",
+        "J A B T OnB OnA",
+        0,
+        "..011 0 1 ..00a 1 held\n",
+        "",
+    ),
+    (
+        "winners",
+        "J A B T OnA OnB",
+        0,
+        "..011 0 1 ..00a 1 held\n",
+        "",
+    ),
+    (
+        "graph",
+        "J NoSlots A",
+        3,
+        "",
+        "firmament: refusal 2 at step 2\n",
+    ),
+    ("graph", "MostWait", 0, NOTHING, ""),
+    (
+        "winners",
+        "J A T MoreWait",
+        3,
+        "",
+        "firmament: refusal 2 at step 4\n",
+    ),
+    (
+        "graph",
+        "J Elsewhere NoSlots",
+        3,
+        "",
+        "firmament: refusal 8 at step 2\n",
+    ),
+    (
+        "graph",
+        "J Strange",
+        3,
+        "",
+        "firmament: refusal 16 at step 2\n",
+    ),
+    ("graph --at 2", "J A T", 3, "", "firmament: refusal 8\n"),
+    ("winners --at 0", "J A T", 3, "", "firmament: refusal 8\n"),
+    ("graph --at 255", "NoSlots", 3, "", "firmament: refusal 8\n"),
+    (
+        "graph --at 2",
+        "Elsewhere Strange",
+        3,
+        "",
+        "firmament: refusal 16 at step 2\n",
+    ),
+    (
+        "graph --at 256",
+        "Strange",
+        2,
+        "",
+        "error: invalid value '256' for '--at <N>': 256 is not in 0..=255\n\nFor more information, try '--help'.\n",
+    ),
+    (
+        "graph --at -1",
+        "",
+        2,
+        "",
+        "error: unexpected argument '-1' found\n\nUsage: firmament graph [OPTIONS]\n\nFor more information, try '--help'.\n",
+    ),
+    (
+        "grapf",
+        "",
+        2,
+        "",
+        "error: unrecognized subcommand 'grapf'\n\n  tip: a similar subcommand exists: 'graph'\n\nUsage: firmament <COMMAND>\n\nFor more information, try '--help'.\n",
+    ),
+    (
+        "solve",
+        "",
+        2,
+        "",
+        "error: unrecognized subcommand 'solve'\n\nUsage: firmament <COMMAND>\n\nFor more information, try '--help'.\n",
+    ),
+];
+
+// The text with each `..` written out.
+fn expanded(alloc: Global, text: &str) -> Result<String, AllocError> {
+    let mut all = String::new(alloc);
+    let mut rest = text;
+    while let Some((front, back)) = rest.split_once("..") {
+        all.push_str(front)?;
+        // an end of a range is no id
+        if back.starts_with("=") {
+            all.push_str("..")?;
+        } else {
+            all.push_str("00000000-0000-0000-0000-000000000")?;
+        }
+        rest = back;
+    }
+    all.push_str(rest)?;
+    Ok(all)
+}
+
+// The step of the name.
+fn step_named(name: &str) -> &'static str {
+    for (other, step) in &STEPS {
+        if *other == name {
+            return *step;
+        }
+    }
+    ""
+}
+
+// The script of the steps, by name.
+fn script_of(alloc: Global, steps: &str) -> Result<String, AllocError> {
+    let mut script = String::from_str(alloc, r#"{"coordinators":[1],"steps":["#)?;
+    for (place, name) in steps.split_whitespace().enumerate() {
+        if place != 0 {
+            script.push_str(",\n")?;
+        }
+        script.push_str(step_named(name))?;
+    }
+    script.push_str("]}\n")?;
+    expanded(alloc, script.as_str())
+}
+
+// The words of a command line.
+fn words_of(alloc: Global, words: &str) -> Result<Vec<String>, AllocError> {
+    let mut all = Vec::new(alloc);
+    all.push(String::from_str(alloc, "/where/it/is/firmament")?)?;
+    for word in words.split_whitespace() {
+        all.push(String::from_str(alloc, word)?)?;
+    }
+    Ok(all)
+}
+
+// Runs the words on the steps, and answers the status, what was written, and the text for standard error.
+fn run(alloc: Global, words: &str, steps: &str) -> Result<(u8, Vec<u8>, String), AllocError> {
+    let words = words_of(alloc, words)?;
+    let script = script_of(alloc, steps)?;
+    let mut reader = script.as_bytes();
+    let mut writer = Vec::new(alloc);
+    let ending = serve(alloc, words.as_slice(), &mut reader, &mut writer);
+    let text = ending.to_string(alloc)?;
+    Ok((ending.status(), writer, text))
+}
+
+#[test]
+fn each_run_writes_and_says_what_it_should(rt: HostRuntime) -> Result<(), Fail> {
+    let alloc = rt.alloc();
+    for (words, steps, status, out, err) in &RUNS {
+        let (ended, written, said) = run(alloc, *words, *steps)?;
+        let out = expanded(alloc, *out)?;
+        let err = expanded(alloc, *err)?;
+        assert_eq!(rt; ended, *status, "{words}: {steps}");
+        assert!(rt; written.as_slice() == out.as_bytes(), "{words}: {steps}");
+        assert!(rt; said.as_str() == err.as_str(), "{words}: {steps}: {said}");
+    }
+    Ok(())
+}
+
+#[test]
+fn help_is_written(rt: HostRuntime) -> Result<(), Fail> {
+    let alloc = rt.alloc();
+    for words in ["--help", "help", "graph -h", "winners --help"] {
+        let (status, written, said) = run(alloc, words, "Strange")?;
+        assert_eq!(rt; status, 0, "{words}");
+        assert!(rt; !written.is_empty() && said.is_empty(), "{words}");
+    }
+    Ok(())
+}
+
+// A reader that gives a few bytes at a time, and at the end of what it has fails or ends.
+#[derive(Drop)]
+struct Narrow<'a> {
+    bytes: &'a [u8],
+    at_a_time: usize,
+    fails: bool,
+}
+
+impl Read for Narrow<'_> {
+    fn read(&mut self, piece: &mut [u8]) -> io::Result<usize> {
+        if self.bytes.is_empty() && self.fails {
+            return Err(io::Error::from(io::ErrorKind::Other));
+        }
+        let n = piece.len().min(self.at_a_time).min(self.bytes.len());
+        let (front, back) = self.bytes.split_at(n);
+        piece[..n].copy_from_slice(front);
+        self.bytes = back;
+        Ok(n)
+    }
+}
+
+// A reader that gives one space at a time without an end, and counts.
+#[derive(Drop)]
+struct Spaces {
+    reads: u64,
+}
+
+impl Read for Spaces {
+    fn read(&mut self, piece: &mut [u8]) -> io::Result<usize> {
+        self.reads = self.reads.saturating_add(1);
+        if piece.is_empty() {
+            return Ok(0);
+        }
+        piece[0] = b' ';
+        Ok(1)
+    }
+}
+
+// A writer that takes a few bytes at a time, until it has no room.
+#[derive(Drop)]
+struct Full {
+    bytes: Vec<u8>,
+    at_a_time: usize,
+    room: usize,
+}
+
+impl Write for Full {
+    fn write(&mut self, piece: &[u8]) -> io::Result<usize> {
+        if self.room == 0 {
+            return Err(io::Error::from(io::ErrorKind::StorageFull));
+        }
+        let n = piece.len().min(self.at_a_time).min(self.room);
+        self.bytes.extend_from_slice(&piece[..n])?;
+        self.room -= n;
+        Ok(n)
+    }
+
+    fn flush(&mut self) -> io::Result<()> {
+        Ok(())
+    }
+}
+
+// What the text for standard error is after a run of `graph` that reads from the reader.
+fn said_of<R: Read>(alloc: Global, reader: &mut R) -> Result<String, AllocError> {
+    let words = words_of(alloc, "graph")?;
+    let mut writer = Vec::new(alloc);
+    serve(alloc, words.as_slice(), reader, &mut writer).to_string(alloc)
+}
+
+#[test]
+fn a_reader_is_read_to_its_end_or_its_fault(rt: HostRuntime) -> Result<(), Fail> {
+    let alloc = rt.alloc();
+    let script = script_of(alloc, "J A T")?;
+    for at_a_time in [1, 7, 65_536] {
+        let mut whole = Narrow {
+            bytes: script.as_bytes(),
+            at_a_time,
+            fails: false,
+        };
+        assert!(rt; said_of(alloc, &mut whole)?.is_empty());
+        let mut fails = Narrow {
+            bytes: script.as_bytes(),
+            at_a_time,
+            fails: true,
+        };
+        assert!(rt; said_of(alloc, &mut fails)?.as_str() == "firmament: refusal 16\n");
+    }
+    let mut spaces = Spaces { reads: 0 };
+    assert!(rt; said_of(alloc, &mut spaces)?.as_str() == "firmament: refusal 16\n");
+    assert_eq!(rt; spaces.reads, 16_777_217);
+    Ok(())
+}
+
+#[test]
+fn a_writer_that_fails_has_a_prefix(rt: HostRuntime) -> Result<(), Fail> {
+    let alloc = rt.alloc();
+    let wanted = expanded(alloc, WAITING)?;
+    for (words, steps, room, at_a_time, status, said) in [
+        ("graph", "J A T", 0, 100, 6, "firmament: refusal 17\n"),
+        ("graph", "J A T", 10, 100, 6, "firmament: refusal 17\n"),
+        ("graph", "J A T", 10, 3, 6, "firmament: refusal 17\n"),
+        ("graph", "J A T", 1000, 0, 6, "firmament: refusal 17\n"),
+        ("graph", "J A T", 1000, 1, 0, ""),
+        (
+            "graph",
+            "J A T NoSlots",
+            0,
+            1,
+            3,
+            "firmament: refusal 2 at step 4\n",
+        ),
+        ("--help", "", 0, 1, 6, "firmament: refusal 17\n"),
+    ] {
+        let words = words_of(alloc, words)?;
+        let script = script_of(alloc, steps)?;
+        let mut writer = Full {
+            bytes: Vec::new(alloc),
+            at_a_time,
+            room,
+        };
+        let ending = serve(alloc, words.as_slice(), &mut script.as_bytes(), &mut writer);
+        assert_eq!(rt; ending.status(), status);
+        assert!(rt; ending.to_string(alloc)?.as_str() == said);
+        assert!(rt; wanted.as_bytes().starts_with(&writer.bytes));
+        if status == 0 {
+            assert_eq!(rt; writer.bytes.len(), wanted.len());
+        } else if room == 10 {
+            assert_eq!(rt; writer.bytes.as_slice(), b"c 1 S\nc 2 ".as_slice());
+        }
+    }
+    Ok(())
+}
