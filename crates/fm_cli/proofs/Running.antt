@@ -3,8 +3,13 @@ use Rattle.std.proofs.Common.{◌≡◌, ◌==◌, ◌++◌, ◌+◌, ◌<◌, �
 use Rattle.std.specs.List.{list_all, cons_option}
 use Rattle.std.proofs.lemmas.List.Elements.{filter_map-append}
 use Rattle.std.proofs.lemmas.List.Folds.{list_all-append}
-use Rattle.std.proofs.lemmas.List.{take_more}
+use Rattle.std.proofs.lemmas.List.{take_more, take-append-drop}
 use Rattle.std.proofs.Math.Seq.{drop-cons}
+use Rattle.fm_records.specs.declared.ops.Op.{Op}
+use Rattle.fm_records.specs.Table.{Table}
+use Rattle.fm_records.specs.Know.{know}
+use Rattle.fm_records.specs.Joined.{table_join}
+use Rattle.fm_records.specs.UnionLaws.{know_append}
 use Rattle.fm_cli.specs.declared.script.Step.{Step}
 use Rattle.fm_cli.specs.Steps.{op_told, told_at, told_to, step_fault, first_refused}
 
@@ -28,3 +33,9 @@ first_refused-drop listed place steps i s h e accepted =
 pub list_all-more : {A : Type 0} (test : A → Bool) (xs : List A) (here : Bool) (x : A) → IsTrue (list_all test xs) → IsTrue (test x) → IsTrue (list_all test (xs ++ cond here (x ∷ []) []))
 list_all-more test xs true x h e = list_all-append test xs (x ∷ []) ∙ rw (h, e) refl
 list_all-more test xs false x h e = rw append-nil h
+
+-- the two halves of the operations come to what all of them do
+pub know-halves : (ops front back : List Op) (mid : ℕ) (first second both : Table) → front ≡ take mid ops → back ≡ drop mid ops → first ≡ know front → second ≡ know back → both ≡ table_join first second → both ≡ know ops
+know-halves ops front back mid first second both f b g h j =
+    j ∙ ap (λ t. table_join t second) (g ∙ ap know f) ∙ ap (λ t. table_join (know (take mid ops)) t) (h ∙ ap know b)
+    ∙ sym (know_append (take mid ops) (drop mid ops)) ∙ ap know (take-append-drop mid ops)

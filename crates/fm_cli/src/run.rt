@@ -10,9 +10,13 @@ ghost use Rattle.fm_cli.specs.Steps.{is_listed, step_fault, first_refused, told_
 use crate::fault::Fault;
 use crate::script::{Act, Script, Step};
 use fm_know::knowledge::Knowledge;
+use fm_lattice::join::{Join, OutOfMemory};
 use fm_records::ops::Op;
 use fm_records::refusal::Refusal;
 use std::alloc::Global;
+
+// How many operations are told one after another.
+const FEW: usize = 64;
 
 /// What the coordinator knows once the script's steps have run. The first step that is refused is named: by
 /// `NoCoordinator` where the script does not list its coordinator, else by `BadOp`.
@@ -22,7 +26,23 @@ pub fn knowledge_of(alloc: Global, script: &Script, at: u8) -> Result<Knowledge,
     ensures err { IfErr result (λ f. (f ≡ fault_of Refusal.OutOfMemory) ⊎ (first_refused script.now.coordinators.items 1 script.now.steps.items ≡ Some f)) }
 {
     let told = told_in(alloc, &script.coordinators, &script.steps, at)?;
-    Ok(Knowledge::told(alloc, &told)?)
+    Ok(known(alloc, &told)?)
+}
+
+// What the operations come to. Told one after another, each is put into the middle of what is known; so of many, the
+// halves are joined, and n operations take O(n log n).
+fn known(alloc: Global, ops: &[Op]) -> Result<Knowledge, OutOfMemory>
+    requires { IsTrue (list_all (λ op. is_none (op_fault op)) ops.now) }
+    ensures { IfOk result (λ k. k ≡ know ops.now) }
+{
+    if ops.len() <= FEW {
+        return Knowledge::told(alloc, ops);
+    }
+    let (front, back) = ops.split_at(ops.len() / 2);
+    let front = known(alloc, front)?;
+    let back = known(alloc, back)?;
+    let both = front.joined(&back)?;
+    Ok(both)
 }
 
 // The operations that the steps tell at the coordinator.

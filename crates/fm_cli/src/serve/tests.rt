@@ -315,18 +315,15 @@ static RUNS: [(&str, &str, u8, &str, &str); 40] = [
 // The text with each `..` written out.
 fn expanded(alloc: Global, text: &str) -> Result<String, AllocError> {
     let mut all = String::new(alloc);
-    let mut rest = text;
-    while let Some((front, back)) = rest.split_once("..") {
-        all.push_str(front)?;
+    for (place, piece) in text.split("..").enumerate() {
         // an end of a range is no id
-        if back.starts_with("=") {
+        if place != 0 && piece.starts_with("=") {
             all.push_str("..")?;
-        } else {
+        } else if place != 0 {
             all.push_str("00000000-0000-0000-0000-000000000")?;
         }
-        rest = back;
+        all.push_str(piece)?;
     }
-    all.push_str(rest)?;
     Ok(all)
 }
 
@@ -356,7 +353,7 @@ fn script_of(alloc: Global, steps: &str) -> Result<String, AllocError> {
 // The words of a command line.
 fn words_of(alloc: Global, words: &str) -> Result<Vec<String>, AllocError> {
     let mut all = Vec::new(alloc);
-    all.push(String::from_str(alloc, "/where/it/is/firmament")?)?;
+    all.push(String::from_str(alloc, "firmament")?)?;
     for word in words.split_whitespace() {
         all.push(String::from_str(alloc, word)?)?;
     }
