@@ -34,12 +34,7 @@ impl Tallies {
     }
 
     // Counts the task with its request, where it is live.
-    fn add(
-        &mut self,
-        knowledge: &Knowledge,
-        task: TaskId,
-        request: u32,
-    ) -> Result<(), OutOfMemory>
+    fn add(&mut self, knowledge: &Knowledge, task: TaskId, request: u32) -> Result<(), OutOfMemory>
         requires live_fits { (j : ℕ) → live_in self.old j + 1 < 2 ^ 64 }
         requires held_fits { (m : ℕ) → held_in self.old m + 2 ^ 32 < 2 ^ 128 }
         ensures live { OnOk result ((j : ℕ) → live_in self.new j ≡ live_in self.old j + counted knowledge.now j task) }

@@ -16,8 +16,8 @@ put_requests-requires-clause-wait c =
     let start : IsPart k c.in_ok-network.network = subst (IsPart k) (sym c.in_ok-network.ensures) (sink_part k) in
     let part = c.in_ok-put_tasks.ensures.adds.part (c.in_ok-put_machines.ensures.adds.part start) in
     λ r member.
-        let stands = named_stands r net.nodes (rw (c.as_slice.ensures.value, c.in_ok-requests.ensures) at member) in
-        (part.nodes (Request r) stands, stands)
+    let stands = named_stands r net.nodes (rw (c.as_slice.ensures.value, c.in_ok-requests.ensures) at member) in
+    (part.nodes (Request r) stands, stands)
 
 pub returns : goal.returns
 returns c =
