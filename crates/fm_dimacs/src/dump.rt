@@ -9,7 +9,8 @@ ghost use Rattle.fm_net.specs.Walks.{arc_entry};
 ghost use Rattle.fm_dimacs.specs.Sending.{AppendsPrefix, StopsBy, IsSent};
 ghost use Rattle.fm_dimacs.specs.Text.{node_line, problem_line, is_task, demand_line, supply_line, arc_line, lines_from, id_in, dump_text};
 
-use crate::out::{Out, put_all};
+use crate::out::Out;
+use crate::pieces::put_all;
 use fm_net::network::Network;
 use fm_net::node::Node;
 use fm_records::refusal::Refusal;

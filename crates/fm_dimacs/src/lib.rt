@@ -3,3 +3,6 @@
 
 pub mod dump;
 pub mod out;
+pub mod pieces;
+#[cfg(test)]
+mod tests;

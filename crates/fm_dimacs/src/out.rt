@@ -2,9 +2,8 @@
 
 ghost use Rattle.std.specs.Prelude.{◌≡◌, ◌≤◌, ◌||◌, ℕ, List, Bool, Option, false, length, take};
 ghost use Rattle.std.specs.Io.KnownBytes.{Appends};
-ghost use Rattle.fm_dimacs.specs.Sending.{IsSent, fails_at};
+ghost use Rattle.fm_dimacs.specs.Sending.{fails_at};
 
-use fm_records::refusal::Refusal;
 use std::io::Write;
 use std::marker::Model;
 
@@ -82,19 +81,4 @@ impl<W: Write> Out for Over<W> {
     fn failed(&self) -> bool {
         self.failed
     }
-}
-
-/// Puts the whole piece. `WriteFault` where the writer fails, after a prefix of it went out.
-pub fn put_all<W: Out>(out: &mut W, piece: &[u8]) -> Result<(), Refusal>
-    ensures { IsSent result (W.written out.old) (W.written out.new) (W.has_failed out.old) (W.has_failed out.new) piece.now }
-{
-    let mut rest = piece;
-    while !rest.is_empty() {
-        let taken = out.put(rest);
-        if taken == 0 {
-            return Err(Refusal::WriteFault);
-        }
-        rest = &rest[taken..];
-    }
-    Ok(())
 }

@@ -1,5 +1,5 @@
 -- Each change of a network leaves one that can be.
-use Rattle.std.proofs.Common.{◌≡◌, ◌≤◌, ◌<◌, ◌^◌, ◌∙◌, ◌↔◌, ◌⊎◌, ap, sym, subst, refl, inl, inr, Bool, true, false, cond, Option, Some, None, IsTrue, IsSome, ℕ}
+use Rattle.std.proofs.Common.{◌≡◌, ◌∙◌, ◌↔◌, ◌⊎◌, ap, sym, subst, refl, inl, inr, true, false, cond, Option, Some, None, IsTrue, IsSome, ℕ}
 use Rattle.std.specs.Ordering.{is_eq}
 use Rattle.std.specs.declared.cmp.Ordering.TheVariants.{Less, Equal, Greater}
 use Rattle.std.proofs.lemmas.Cmp.{tied_itself}
@@ -10,7 +10,7 @@ use Rattle.fm_net.specs.declared.node.Node.{Node}
 use Rattle.fm_net.specs.declared.node.Node.TheVariants.{Sink}
 use Rattle.fm_net.specs.Nodes.{node_cmp, ends_cmp, IsInRange}
 use Rattle.fm_net.specs.NodeOrder.{node_exact, node_total, ends_exact}
-use Rattle.fm_net.specs.Net.{Net, CanBeNet, IsArc, IsArcKind, IsTouched, has_node, arc_at, are_ends}
+use Rattle.fm_net.specs.Net.{Net, CanBeNet, IsArc, IsTouched, has_node, arc_at, are_ends}
 
 -- an arc stands as it did where its ends do
 arc_kept : (old new : Net) (from to : Node) (arc : ℕ × ℕ) → IsArc old from to arc → has_node new from ≡ true → has_node new to ≡ true → IsArc new from to arc

@@ -1,5 +1,5 @@
 -- An arc touches a node where a search of the arcs' ends finds it.
-use Rattle.std.proofs.Common.{◌≡◌, ◌∙◌, ◌⊎◌, ◌↔◌, ◌||◌, inl, inr, sym, ap, subst, refl, Bool, true, false, cond, List, [], ◌∷◌, Option, Some, None, IsTrue, IsSome, ℕ}
+use Rattle.std.proofs.Common.{◌≡◌, ◌⊎◌, ◌↔◌, ◌||◌, inl, inr, sym, ap, refl, Bool, true, false, cond, List, [], ◌∷◌, Some, IsTrue, IsSome, ℕ}
 use Rattle.std.specs.List.{list_any}
 use Rattle.std.specs.Map.{keys_of}
 use Rattle.std.specs.Ordering.{is_eq}
@@ -9,7 +9,7 @@ use Rattle.fm_lattice.specs.Maps.{lookup}
 use Rattle.fm_net.specs.declared.node.Node.{Node}
 use Rattle.fm_net.specs.Nodes.{ends_cmp}
 use Rattle.fm_net.specs.NodeOrder.{ends_exact, ends_total}
-use Rattle.fm_net.specs.Net.{Net, IsTouched, arc_at}
+use Rattle.fm_net.specs.Net.{Net, IsTouched}
 use Rattle.fm_net.specs.Ends.{is_end}
 use Rattle.fm_net.specs.Same.{same_node, node_Decides}
 

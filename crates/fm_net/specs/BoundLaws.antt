@@ -1,29 +1,27 @@
 -- The network of a table that can be is one that can be.
-use Rattle.std.specs.Prelude.{◌≡◌, ℕ, ◌+◌, ◌-◌, ◌*◌, ◌/◌, ◌<◌, ◌≤◌, ◌^◌, Bool, true, false, cond, not, ◌==◌, ◌&&◌, ◌||◌, nat_le, nat_lt, min, count_by, is_none, length, List, [], ◌∷◌, Option, Some, None, option_map, refl}
+use Rattle.std.specs.Prelude.{◌≡◌, ℕ, ◌+◌, ◌-◌, ◌/◌, ◌<◌, ◌≤◌, ◌^◌, Bool, true, false, cond, ◌==◌, ◌||◌, nat_le, min, count_by, is_none, length, List, [], ◌∷◌, Option, Some, None, refl}
 use Rattle.std.specs.List.{list_any}
-use Rattle.std.specs.Ordering.{nat_cmp}
-use Rattle.std.proofs.Common.{sym, ap, ◌∙◌, subst, eq-eqb, arith}
+use Rattle.std.proofs.Common.{sym, ◌∙◌, subst, eq-eqb, arith}
 use Rattle.std.proofs.lemmas.Bool.{eqb-true, leb-true, ltb-true}
 use Rattle.std.proofs.lemmas.Nat.{le-div}
 use Rattle.std.proofs.lemmas.List.Sums.{count_by-le-length, sum_by-cons}
-use Rattle.fm_lattice.specs.Maps.{lookup}
 use Rattle.fm_records.specs.declared.ops.Field.{Field}
 use Rattle.fm_records.specs.declared.records.JobReg.{JobReg}
 use Rattle.fm_records.specs.declared.records.SpecReg.{SpecReg}
 use Rattle.fm_records.specs.declared.records.MachineReg.{MachineReg}
-use Rattle.fm_records.specs.Options.{when, and_then, passes}
+use Rattle.fm_records.specs.Options.{when, and_then}
 use Rattle.fm_records.specs.LookupLaws.{when_true, both_true}
-use Rattle.fm_records.specs.Spelled.{job_op, spec_op, progress_op, machine_op, task_ops, machine_ops}
+use Rattle.fm_records.specs.Spelled.{spec_op, machine_op, task_ops, machine_ops}
 use Rattle.fm_records.specs.Ranges.{in_range, all_in_range, CanBe}
-use Rattle.fm_records.specs.RangeLaws.{inside, when_value, job_in_range, task_in_range, machine_in_range}
+use Rattle.fm_records.specs.RangeLaws.{when_value, job_in_range, task_in_range, machine_in_range}
 use Rattle.fm_records.specs.Table.{Table, TaskValue, MachineValue}
 use Rattle.fm_records.specs.Facts.{job_of, live_spec, open_state, load_of, spare_of, holds}
 use Rattle.fm_net.specs.declared.node.Node.{Node}
 use Rattle.fm_net.specs.declared.node.Node.TheVariants.{Sink, Unscheduled, Request, Machine, Task}
 use Rattle.fm_net.specs.Nodes.{IsInRange}
-use Rattle.fm_net.specs.Net.{CanBeNet, IsArc}
+use Rattle.fm_net.specs.Net.{CanBeNet}
 use Rattle.fm_net.specs.ListLaws.{some_member}
-use Rattle.fm_net.specs.Network.{is_held, is_live_of, waits_for, live_tasks, is_node, places, place_arc, arc_of, net_of}
+use Rattle.fm_net.specs.Network.{is_held, is_live_of, waits_for, is_node, places, place_arc, arc_of, net_of}
 use Rattle.fm_net.specs.NetworkLaws.{passed, came_from, mapped_from, where_true, live_entry, open_entry, ends_of, is_network_of}
 
 none : {A P : Type 0} {a : A} → None ≡ Some a → P

@@ -1,5 +1,5 @@
 -- A network is the table's exactly where it is the one computed.
-use Rattle.std.specs.Prelude.{◌≡◌, ◌↔◌, ℕ, Bool, true, false, cond, ◌==◌, ◌&&◌, List, [], ◌∷◌, ◌++◌, Option, Some, None, option_map, flat_map, map, filter, refl}
+use Rattle.std.specs.Prelude.{◌≡◌, ◌↔◌, ℕ, Bool, true, false, cond, ◌==◌, [], ◌∷◌, Option, Some, None, option_map, flat_map, map, refl}
 use Rattle.std.specs.List.{list_any}
 use Rattle.std.specs.Ordering.{nat_cmp, is_eq}
 use Rattle.std.proofs.Common.{sym, ap, ◌∙◌, subst, inl, inr}
@@ -9,21 +9,20 @@ use Rattle.fm_lattice.specs.Maps.{lookup}
 use Rattle.fm_lattice.specs.MapLaws.{same_map}
 use Rattle.fm_records.specs.declared.records.SpecReg.{SpecReg}
 use Rattle.fm_records.specs.declared.records.MachineReg.{MachineReg}
-use Rattle.fm_records.specs.declared.records.Spot.{Spot}
-use Rattle.fm_records.specs.Options.{when, and_then, only_if, passes}
+use Rattle.fm_records.specs.Options.{and_then, only_if, passes}
 use Rattle.fm_records.specs.Sets.{IsMember, rising}
 use Rattle.fm_records.specs.LookupLaws.{when_true, both_true}
 use Rattle.fm_records.specs.RangeLaws.{inside, when_value}
 use Rattle.fm_records.specs.TableLaws.{rising_table, lookup_table, rises_rising, member_rising}
 use Rattle.fm_records.specs.Table.{Table, TaskValue, MachineValue}
-use Rattle.fm_records.specs.Facts.{spec_of, state_of, job_of, live_spec, is_live, open_state, is_open, is_present, won_spot, holder_of, holds, spare_of}
+use Rattle.fm_records.specs.Facts.{spec_of, state_of, live_spec, is_live, open_state, is_open, is_present, won_spot, holder_of, holds, spare_of}
 use Rattle.fm_net.specs.declared.node.Node.{Node}
 use Rattle.fm_net.specs.declared.node.Node.TheVariants.{Sink, Unscheduled, Request, Machine, Task}
 use Rattle.fm_net.specs.Nodes.{node_cmp, ends_cmp}
 use Rattle.fm_net.specs.NodeOrder.{node_exact, node_total, ends_exact, ends_total}
 use Rattle.fm_net.specs.Net.{Net, IsArcKind}
 use Rattle.fm_net.specs.ListLaws.{any_of, some_member, member_before, member_behind, member_passing, passes_kept, member_mapped, member_of_one, entry_member, has_member, member_has, rises_kept, same_rising}
-use Rattle.fm_net.specs.Network.{is_held, is_live_of, waits_for, some_task, is_node, place_arc, arc_of, IsNetworkOf, names_of_task, names, nodes_of, pairs, net_of}
+use Rattle.fm_net.specs.Network.{is_live_of, waits_for, some_task, is_node, place_arc, arc_of, IsNetworkOf, names_of_task, names, nodes_of, pairs, net_of}
 
 none : {A P : Type 0} {a : A} → None ≡ Some a → P
 none e = absurd (let no : ⊥ = cc in no)

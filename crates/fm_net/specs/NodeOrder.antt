@@ -1,8 +1,7 @@
 -- Node order is a total order in which only a node and itself are equal, and so is the order of ends.
-use Rattle.std.specs.Prelude.{◌≡◌, refl}
+use Rattle.std.specs.Prelude.{refl}
 use Rattle.std.specs.FinMap.{nat_cmp-IsAntisymmetric}
 use Rattle.std.specs.Cmp.{IsTotalOrder}
-use Rattle.std.specs.declared.cmp.Ordering.TheVariants.{Equal}
 use Rattle.std.proofs.Common.{ap}
 use Rattle.std.proofs.lemmas.Cmp.{then_total, on_total}
 use Rattle.fm_lattice.specs.Chains.{TellsApart, pair_same}

@@ -1,4 +1,4 @@
-use Rattle.std.proofs.Common.{◌≡◌, ◌++◌, ◌∙◌, append_assoc, ap, sym}
+use Rattle.std.proofs.Common.{◌++◌, ◌∙◌, append_assoc, ap, sym}
 use Rattle.std.specs.List.{flat_map}
 use Rattle.fm_net.specs.Walks.{arc_entry}
 use Rattle.fm_dimacs.specs.Text.{arc_line}

@@ -1,4 +1,4 @@
-use Rattle.std.proofs.Common.{◌≡◌, ◌∙◌, ◌+◌, add-one, arith}
+use Rattle.std.proofs.Common.{◌∙◌, ◌+◌, add-one, arith}
 use Rattle.fm_dimacs.specs.Text.{supply_line}
 use Rattle.fm_dimacs.proofs.Sent.{appends_more, step_at, stopped_later}
 use Rattle.fm_dimacs.proofs.dump.put_supplies.Goals as goal

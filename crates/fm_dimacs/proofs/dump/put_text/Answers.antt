@@ -1,6 +1,5 @@
-use Rattle.std.proofs.Common.{◌≡◌, ◌++◌, ◌∙◌, ℕ, List, [], Bool, Result, Option, append_assoc, length, count_by, refl, sym, subst}
+use Rattle.std.proofs.Common.{◌≡◌, ◌++◌, ◌∙◌, ℕ, List, [], append_assoc, length, count_by, refl, sym, subst}
 use Rattle.std.specs.List.{flat_map}
-use Rattle.std.specs.Io.KnownBytes.{Appends}
 use Rattle.fm_dimacs.specs.Sending.{IsSent}
 use Rattle.fm_dimacs.specs.Text.{node_line, problem_line, is_task, demand_line, supply_line, arc_line, lines_from}
 use Rattle.fm_dimacs.proofs.Sent.{appends_nothing, appends_more, sent_last, stopped_later}

@@ -1,4 +1,4 @@
-use Rattle.std.proofs.Common.{◌≡◌, ◌∙◌}
+use Rattle.std.proofs.Common.{◌∙◌}
 use Rattle.fm_net.proofs.network.Network.arc.Goals as goal
 
 pub returns : goal.returns

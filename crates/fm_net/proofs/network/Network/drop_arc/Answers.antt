@@ -1,4 +1,4 @@
-use Rattle.std.proofs.Common.{◌≡◌, refl}
+use Rattle.std.proofs.Common.{refl}
 use Rattle.fm_net.proofs.Kept.{after_drop_arc}
 use Rattle.fm_net.proofs.Said.{same_lists, rising_said}
 use Rattle.fm_net.proofs.network.Network.drop_arc.Goals as goal

@@ -1,5 +1,4 @@
-use Rattle.std.proofs.Common.{◌≡◌, ◌∙◌, refl, sym, subst}
-use Rattle.fm_net.specs.declared.node.Node.{Node}
+use Rattle.std.proofs.Common.{refl, sym, subst}
 use Rattle.fm_net.specs.Net.{Net, IsTouched}
 use Rattle.fm_net.proofs.Kept.{after_drop_node, drop_has}
 use Rattle.fm_net.proofs.Said.{same_lists, rises_said}

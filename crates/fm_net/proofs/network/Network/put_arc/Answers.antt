@@ -1,4 +1,4 @@
-use Rattle.std.proofs.Common.{◌≡◌, ◌∙◌, ap, refl, arith}
+use Rattle.std.proofs.Common.{◌∙◌, ap, refl, arith}
 use Rattle.fm_net.specs.Net.{has_node}
 use Rattle.fm_net.proofs.Kept.{after_put_arc}
 use Rattle.fm_net.proofs.Said.{same_lists, rising_said, insert_entry_is}

@@ -1,4 +1,4 @@
-use Rattle.std.proofs.Common.{◌≡◌, ◌∙◌, refl}
+use Rattle.std.proofs.Common.{◌∙◌, refl}
 use Rattle.fm_net.proofs.Kept.{after_put_node, put_has}
 use Rattle.fm_net.proofs.Said.{same_lists, rises_said, insert_key_is}
 use Rattle.fm_net.proofs.network.Network.put_node.Goals as goal

@@ -1,5 +1,3 @@
-use Rattle.std.proofs.Common.{◌≡◌, ◌↔◌, IsTrue, subst}
-use Rattle.fm_net.specs.Net.{IsTouched}
 use Rattle.fm_net.proofs.Touches.{touches_said}
 use Rattle.fm_net.proofs.network.Network.touched.Goals as goal
 

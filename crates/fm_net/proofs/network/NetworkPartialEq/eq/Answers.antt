@@ -1,4 +1,4 @@
-use Rattle.std.proofs.Common.{◌≡◌, ◌↔◌, ◌∙◌, sym, IsTrue}
+use Rattle.std.proofs.Common.{◌∙◌, sym}
 use Rattle.fm_net.proofs.Equal.{same_nodes, other_nodes}
 use Rattle.fm_net.proofs.network.NetworkPartialEq.eq.Goals as goal
 
