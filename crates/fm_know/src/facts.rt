@@ -201,20 +201,20 @@ impl Knowledge {
 }
 
 // The spec in the record, if it is known.
-fn spec_in(record: &TaskRec) -> Option<SpecReg>
-    ensures { result ≡ record.now.0 }
+fn spec_in(task: &TaskRec) -> Option<SpecReg>
+    ensures { result ≡ task.now.0 }
 {
-    match &record.0.0 {
+    match &task.0.0 {
         Some(spec) => Some(spec.0),
         None => None,
     }
 }
 
 /// The bandwidth that the task of the record requests; 0 where its spec is not known.
-pub fn request_in(record: &TaskRec) -> u32
-    ensures { result ≡ request_of record.now.0 }
+pub fn request_in(task: &TaskRec) -> u32
+    ensures { result ≡ request_of task.now.0 }
 {
-    match spec_in(record) {
+    match spec_in(task) {
         Some(spec) => spec.request,
         None => 0,
     }
