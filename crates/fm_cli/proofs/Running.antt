@@ -1,5 +1,5 @@
 -- What one more step adds.
-use Rattle.std.proofs.Common.{◌≡◌, ◌==◌, ◌++◌, ◌+◌, ◌<◌, ℕ, suc, List, [], ◌∷◌, Bool, true, false, cond, IsTrue, Option, Some, None, length, get_or, take, drop, refl, sym, ◌∙◌, ap, add-one, append-nil}
+use Rattle.std.proofs.Common.{◌≡◌, ◌==◌, ◌++◌, ◌+◌, ◌<◌, ℕ, suc, List, [], ◌∷◌, Bool, true, false, cond, IsTrue, Some, None, length, get_or, take, drop, refl, sym, ◌∙◌, ap, add-one, append-nil}
 use Rattle.std.specs.List.{list_all, cons_option}
 use Rattle.std.proofs.lemmas.List.Elements.{filter_map-append}
 use Rattle.std.proofs.lemmas.List.Folds.{list_all-append}

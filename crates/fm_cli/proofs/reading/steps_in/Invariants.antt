@@ -1,4 +1,4 @@
-use Rattle.std.proofs.Common.{◌≡◌, ◌+◌, List, Some, map, take, drop}
+use Rattle.std.proofs.Common.{◌≡◌, ◌+◌, Some, map, take, drop}
 use Rattle.serde_json.specs.View.{view}
 use Rattle.fm_cli.specs.Script.{step_of, first_strange}
 use Rattle.fm_cli.proofs.reading.steps_in.Given as goal

@@ -1,5 +1,4 @@
-use Rattle.std.proofs.Common.{◌≡◌, ◌==◌, ◌∙◌, ◌<◌, length, is_none, None, IsTrue, subst, ap, sym, rules, arith, refl}
-use Rattle.std.specs.List.{list_all}
+use Rattle.std.proofs.Common.{◌==◌, ◌∙◌, ◌<◌, length, is_none, IsTrue, ap, arith}
 use Rattle.fm_records.specs.Ops.{op_fault}
 use Rattle.fm_cli.proofs.Running.{told_to-take, first_refused-drop, list_all-more}
 use Rattle.fm_cli.proofs.run.told_in.Goals as goal

@@ -1,4 +1,4 @@
-use Rattle.std.proofs.Common.{◌≡◌, ◌++◌, ◌∙◌, ℕ, List, [], append_assoc, refl, ap, sym}
+use Rattle.std.proofs.Common.{◌++◌, ◌∙◌, ℕ, List, [], append_assoc, refl, ap, sym}
 use Rattle.std.specs.List.{flat_map}
 use Rattle.fm_records.specs.declared.records.Spot.{Spot}
 use Rattle.fm_dimacs.proofs.Sent.{appends_nothing, appends_more, stopped_later}
