@@ -1,0 +1,10 @@
+pub mod Alike
+pub mod Members
+pub mod Sums
+pub mod Exchange
+pub mod Least
+pub mod Totalled
+pub mod Units
+pub mod Small
+pub mod Certified
+pub mod Priced

@@ -1,0 +1,32 @@
+-- Lists with rising keys: what stands in one is what is looked up, and std's insertion is a put.
+use Rattle.std.specs.Prelude.{◌≡◌, List, [], ◌∷◌, Some, refl}
+use Rattle.std.proofs.Common.{sym, ap, ◌∙◌, inl, inr}
+use Rattle.std.specs.BTreeMap.{insert_entry}
+use Rattle.std.specs.Cmp.{IsTotalOrder}
+use Rattle.std.specs.declared.cmp.Ordering.{Ordering}
+use Rattle.std.specs.declared.cmp.Ordering.TheVariants.{Less, Equal, Greater}
+use Rattle.std.proofs.lemmas.Cmp.{tied_itself}
+use Rattle.fm_lattice.specs.Chains.{TellsApart, by_order, less_greater}
+use Rattle.fm_lattice.specs.Maps.{lookup, put, replaced, IsBelow, IsRising}
+use Rattle.fm_records.specs.Sets.{IsMember}
+
+module _ {K V : Type 0} (cmp : K → K → Ordering) (total : IsTotalOrder cmp) (same : TellsApart cmp) where
+  above : (k : K) (e : K × V) (es : List (K × V)) → IsBelow cmp k es → IsMember e es → cmp k e.0 ≡ Less
+  above k e [] b h = absurd h
+  above k e (x ∷ es) b h = elim h [ inl is ↦ ap (λ (p : K × V). cmp k p.0) (sym is) ∙ b.0 | inr later ↦ above k e es b.1 later ]
+
+  pub member_lookup : (e : K × V) (es : List (K × V)) → IsRising cmp es → IsMember e es → lookup cmp e.0 es ≡ Some e.1
+  member_lookup e [] r h = absurd h
+  member_lookup e (x ∷ es) r h = elim h [
+    | inl is ↦
+        let tied : cmp e.0 x.0 ≡ Equal = ap (λ (p : K × V). cmp e.0 p.0) is ∙ tied_itself total e.0 in
+        rw tied (ap (λ (p : K × V). Some p.1) is)
+    | inr later ↦
+        let less = above x.0 e es r.0 later in
+        let greater : cmp e.0 x.0 ≡ Greater = less_greater cmp total x.0 e.0 less in
+        rw greater (member_lookup e es r.1 later)
+  ]
+
+pub insert_is : {K V : Type 0} (cmp : K → K → Ordering) (k : K) (v : V) (es : List (K × V)) → insert_entry cmp es k v ≡ put cmp replaced k v es
+insert_is cmp k v [] = refl
+insert_is cmp k v (e ∷ es) = ap (λ rest. by_order (cmp k e.0) ((k, v) ∷ e ∷ es) ((e.0, v) ∷ es) (e ∷ rest)) (insert_is cmp k v es)
