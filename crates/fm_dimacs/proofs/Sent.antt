@@ -2,7 +2,7 @@
 use Rattle.std.proofs.Common.{◌≡◌, ◌+◌, ◌-◌, ◌<◌, ◌||◌, ◌&&◌, ℕ, zero, suc, List, [], ◌∷◌, ◌++◌, Bool, true, false, Result, Ok, Err, Option, Some, None, length, take, drop, get_or, nat_eq, nat_lt, append_assoc, append-nil, length-drop, refl, sym, ◌∙◌, ap, subst, arith}
 use Rattle.std.specs.Cmp.{unsigned_Decides}
 use Rattle.std.proofs.lemmas.List.{take_all, take-append-drop}
-use Rattle.std.specs.Result.{IsErrAnd}
+use Rattle.std.specs.Result.{IsErrAnd, OnErr}
 use Rattle.std.specs.Io.KnownBytes.{Appends}
 use Rattle.fm_records.specs.declared.refusal.Refusal.{Refusal}
 use Rattle.fm_net.specs.declared.node.Node.{Node}
@@ -97,3 +97,8 @@ stopped_later r refusal old mid new had mid_failed has whole start piece rest h 
     stopped r refusal old new had has whole h
     (subst (AppendsPrefix old new) (sym is) (prefix_later old mid new start (piece ++ rest) e (prefix_start mid new piece rest k.0)))
     (stops_since refusal had mid_failed has f k.1)
+
+-- where a text did not go out whole, a prefix did
+pub prefix_sent : {T : Type 0} (r : Result T Refusal) (old new : Option (List ℕ)) (had has : Bool) (text : List ℕ) → IsSent r old new had has text → OnErr r (AppendsPrefix old new text)
+prefix_sent (Ok x) old new had has text h = tt
+prefix_sent (Err x) old new had has text h = h.0

@@ -190,8 +190,8 @@ fn put_arc<W: Out>(
     put_all(out, line.as_bytes())
 }
 
-// The node's ID: its place, counted from 1. O(log n).
-fn id_of(nodes: &[Node], node: &Node) -> usize
+/// The node's ID: its place, counted from 1. O(log n).
+pub(crate) fn id_of(nodes: &[Node], node: &Node) -> usize
     requires { Rises node_cmp nodes.now }
     ensures { result ≡ id_in nodes.now node.now }
 {

@@ -4,5 +4,6 @@
 pub mod dump;
 pub mod out;
 pub mod pieces;
+pub mod solution;
 #[cfg(test)]
 mod tests;

@@ -1,0 +1,134 @@
+//! The text of a flow.
+
+ghost use Rattle.std.specs.Prelude.{◌≡◌, ◌++◌, IfOk, OnOk, OnErr, IfErr, IsOkUnless, string_bytes};
+ghost use Rattle.std.specs.List.{flat_map};
+ghost use Rattle.std.specs.Io.KnownBytes.{Appends};
+ghost use Rattle.fm_records.specs.TableLaws.{Rises};
+ghost use Rattle.fm_net.specs.Nodes.{node_cmp};
+ghost use Rattle.fm_net.specs.Walks.{arc_entry};
+ghost use Rattle.fm_flow.specs.Built.{IsBuilt};
+ghost use Rattle.fm_flow.specs.Flows.{units_in, IsFeasible};
+ghost use Rattle.fm_dimacs.specs.Sending.{AppendsPrefix, StopsBy, IsSent};
+ghost use Rattle.fm_dimacs.specs.Solution.{cost_line, units_line, flow_line, solution_text};
+
+use crate::dump::id_of;
+use crate::out::Out;
+use crate::pieces::put_all;
+use fm_flow::cost::cost;
+use fm_flow::flow::Flow;
+use fm_lattice::join::OutOfMemory;
+use fm_net::network::Network;
+use fm_net::node::Node;
+use fm_records::refusal::Refusal;
+use std::alloc::Global;
+
+/// Writes the flow's text, with the IDs of the network's text. The caller owes a network that the policy can build, and a
+/// feasible flow. A refusal is as `dump`'s. O(arcs log arcs).
+pub fn write_solution<W: Out>(
+    alloc: Global,
+    network: &Network,
+    flow: &Flow,
+    out: &mut W,
+) -> Result<(), Refusal>
+    requires built { IsBuilt network.now }
+    requires feasible { IsFeasible network.now (units_in flow.now) }
+    ensures ok { OnOk result (Appends (W.written out.old) (W.written out.new) (solution_text network.now (units_in flow.now))) }
+    ensures ok_fails_not { OnOk result (W.has_failed out.new ≡ W.has_failed out.old) }
+    ensures err { OnErr result (AppendsPrefix (W.written out.old) (W.written out.new) (solution_text network.now (units_in flow.now))) }
+    ensures cause { IfErr result (λ refusal. StopsBy refusal (W.has_failed out.old) (W.has_failed out.new)) }
+{
+    network.known();
+    let nodes = nodes_of(alloc, network)?;
+    put_text(alloc, network, flow, &nodes, out)
+}
+
+// The network's nodes, in order.
+fn nodes_of(alloc: Global, network: &Network) -> Result<Vec<Node>, OutOfMemory>
+    ensures { IfOk result (λ nodes. nodes.items ≡ network.now.nodes) }
+{
+    Ok(network.nodes().collect(alloc)?)
+}
+
+// Writes the text of the flow, with the network's nodes.
+fn put_text<W: Out>(
+    alloc: Global,
+    network: &Network,
+    flow: &Flow,
+    nodes: &[Node],
+    out: &mut W,
+) -> Result<(), Refusal>
+    requires rises { Rises node_cmp nodes.now }
+    requires built { IsBuilt network.now }
+    requires feasible { IsFeasible network.now (units_in flow.now) }
+    ensures { IsSent result (W.written out.old) (W.written out.new) (W.has_failed out.old) (W.has_failed out.new) (solution_text (record { nodes = nodes.now; arcs = network.now.arcs }) (units_in flow.now)) }
+{
+    let total = cost(network, flow);
+    let mut line = String::new(alloc);
+    put_cost(total, &mut line, out)?;
+    put_flow(network, flow, nodes, &mut line, out)
+}
+
+// Writes what the flow costs.
+fn put_cost<W: Out>(total: u128, line: &mut String, out: &mut W) -> Result<(), Refusal>
+    ensures { IsSent result (W.written out.old) (W.written out.new) (W.has_failed out.old) (W.has_failed out.new) (cost_line total) }
+{
+    line.clear();
+    write!(line, "s {total}\n")?;
+    put_all(out, line.as_bytes())
+}
+
+// Writes the units of each arc.
+fn put_flow<W: Out>(
+    network: &Network,
+    flow: &Flow,
+    nodes: &[Node],
+    line: &mut String,
+    out: &mut W,
+) -> Result<(), Refusal>
+    requires { Rises node_cmp nodes.now }
+    ensures { IsSent result (W.written out.old) (W.written out.new) (W.has_failed out.old) (W.has_failed out.new) (flat_map (flow_line nodes.now (units_in flow.now)) network.now.arcs) }
+{
+    for arc in network.arcs() {
+        put_units(flow, nodes, arc, line, out)?;
+    }
+    Ok(())
+}
+
+// Writes the units of an arc, given as (from, to, capacity, cost), if it has any.
+fn put_units<W: Out>(
+    flow: &Flow,
+    nodes: &[Node],
+    arc: (Node, Node, u64, u32),
+    line: &mut String,
+    out: &mut W,
+) -> Result<(), Refusal>
+    requires { Rises node_cmp nodes.now }
+    ensures { IsSent result (W.written out.old) (W.written out.new) (W.has_failed out.old) (W.has_failed out.new) (flow_line nodes.now (units_in flow.now) (arc_entry arc)) }
+{
+    let (from, to, _, _) = arc;
+    let units = flow.units(from, to).unwrap_or(0);
+    line.clear();
+    write_units(nodes, &from, &to, units, line)?;
+    put_all(out, line.as_bytes())
+}
+
+// Appends the units between two nodes, if there are any.
+fn write_units(
+    nodes: &[Node],
+    from: &Node,
+    to: &Node,
+    units: u64,
+    line: &mut String,
+) -> Result<(), Refusal>
+    requires { Rises node_cmp nodes.now }
+    ensures ok { OnOk result (string_bytes line.new ≡ string_bytes line.old ++ units_line nodes.now from.now to.now units) }
+    ensures err { IsOkUnless result Refusal.OutOfMemory }
+{
+    if units == 0 {
+        return Ok(());
+    }
+    let source = id_of(nodes, from);
+    let target = id_of(nodes, to);
+    write!(line, "f {source} {target} {units}\n")?;
+    Ok(())
+}
