@@ -3,3 +3,5 @@ pub mod Certificates
 pub mod Totals
 pub mod Checks
 pub mod Built
+pub mod Numbered
+pub mod Found

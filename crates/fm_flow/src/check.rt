@@ -85,3 +85,6 @@ fn sends(flow: &Flow, node: &Node) -> bool
         }
     }
 }
+
+#[cfg(test)]
+mod tests;

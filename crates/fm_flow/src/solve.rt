@@ -1,0 +1,69 @@
+//! The solver.
+
+ghost use Rattle.std.specs.Prelude.{◌≡◌, ◌⊎◌, IfOk, IfErr};
+ghost use Rattle.fm_flow.specs.Built.{IsBuilt};
+ghost use Rattle.fm_flow.specs.Flows.{units_in, IsLeast};
+ghost use Rattle.fm_flow.specs.Certificates.{IsCertified};
+
+use crate::cancel::improve;
+use crate::check::check;
+use crate::flow::Flow;
+use crate::numbered::Numbered;
+use crate::potentials::Potentials;
+use crate::start::start;
+use fm_lattice::join::OutOfMemory;
+use fm_net::network::Network;
+use fm_records::refusal::Refusal;
+use std::alloc::Global;
+
+/// A least flow of the network, and potentials that certify it. The caller owes a network that the policy can build.
+/// Refused memory, or Uncertified where what was found does not pass `check`, or a cancelling did not lower the cost.
+/// A fast start places the tasks; then cycles of negative cost are cancelled until none is left.
+pub fn solve(alloc: Global, network: &Network) -> Result<(Flow, Potentials), Refusal>
+    requires built { IsBuilt network.now }
+    ensures certified { IfOk result (λ found. IsCertified network.now found.0 found.1) }
+    ensures least { IfOk result (λ found. IsLeast network.now (units_in found.0)) }
+    ensures cause { IfErr result (λ refusal. (refusal ≡ Refusal.OutOfMemory) ⊎ (refusal ≡ Refusal.Uncertified)) }
+{
+    let (flow, potentials) = found(alloc, network)?;
+    if !check(network, &flow, &potentials) {
+        return Err(Refusal::Uncertified);
+    }
+    Ok((flow, potentials))
+}
+
+// What the solver finds.
+fn found(alloc: Global, network: &Network) -> Result<(Flow, Potentials), Refusal>
+    ensures { IfErr result (λ refusal. (refusal ≡ Refusal.OutOfMemory) ⊎ (refusal ≡ Refusal.Uncertified)) }
+{
+    let numbered = Numbered::of(alloc, network)?;
+    let first = start(alloc, &numbered)?;
+    let (units, values) = improve(alloc, &numbered, first)?;
+    let flow = flow_of(alloc, network, &units)?;
+    let potentials = potentials_of(alloc, network, &values)?;
+    Ok((flow, potentials))
+}
+
+// The units of the arcs, in order, as a flow.
+fn flow_of(alloc: Global, network: &Network, units: &[u64]) -> Result<Flow, OutOfMemory> {
+    let mut flow = Flow::new(alloc);
+    let mut rest = units.iter();
+    for (from, to, _, _) in network.arcs() {
+        flow.put(from, to, rest.next().copied().unwrap_or(0))?;
+    }
+    Ok(flow)
+}
+
+// The values of the nodes, in order, as potentials.
+fn potentials_of(
+    alloc: Global,
+    network: &Network,
+    values: &[i128],
+) -> Result<Potentials, OutOfMemory> {
+    let mut potentials = Potentials::new(alloc);
+    let mut rest = values.iter();
+    for node in network.nodes() {
+        potentials.put(node, rest.next().copied().unwrap_or(0))?;
+    }
+    Ok(potentials)
+}

@@ -1,0 +1,262 @@
+//! A first flow: all tasks unscheduled, or placed by falling worth.
+
+ghost use Rattle.std.specs.Prelude.{◌≡◌, vec_len, IfOk};
+
+use crate::lanes::{Lanes, bandwidth, machine_of, price_at};
+use crate::loading::{FAR, Loading};
+use crate::numbered::{Kind, Numbered, at, inflow, is_feasible};
+use crate::paths::Paths;
+use fm_lattice::join::OutOfMemory;
+use std::alloc::Global;
+
+// A task's two arcs, and what its place is worth, from which the price of the slot is still to be taken.
+#[derive(Debug, Clone, Copy, PartialEq, Eq, PartialOrd, Ord, Drop)]
+struct Choice {
+    worth: i64,
+    place: usize,
+    placed: usize,
+    left: usize,
+}
+
+// Choices of one worth and place, from the first on.
+#[derive(Debug, Clone, Copy, PartialEq, Eq, Drop)]
+struct Class {
+    worth: i64,
+    place: usize,
+    first: usize,
+    count: usize,
+}
+
+// What a task's place is worth where it costs so much to leave it unscheduled.
+fn worth_of(
+    numbered: &Numbered,
+    prices: &[i64],
+    place: usize,
+    unscheduled: u32,
+    placed: u32,
+) -> i64 {
+    let saved = i64::from(unscheduled).saturating_sub(i64::from(placed));
+    match numbered.places.kind(place) {
+        Kind::Request(request) => saved.saturating_sub(bandwidth(numbered, request)),
+        Kind::Machine(machine) => saved.saturating_add(price_at(prices, machine)),
+        _ => 0 - FAR,
+    }
+}
+
+// The choices of all tasks: the arc to the job, and the first one to a place.
+fn choices(alloc: Global, numbered: &Numbered, prices: &[i64]) -> Result<Vec<Choice>, OutOfMemory> {
+    let mut choices = Vec::new(alloc);
+    let mut job = None;
+    for (arc, ends) in numbered.arcs.iter().enumerate() {
+        match (
+            numbered.places.kind(ends.from),
+            numbered.places.kind(ends.to),
+            job,
+        ) {
+            (Kind::Task(_), Kind::Unscheduled(_), _) => job = Some((arc, ends.cost)),
+            (Kind::Task(_), _, Some((left, cost))) => {
+                choices.push(Choice {
+                    worth: worth_of(numbered, prices, ends.to, cost, ends.cost),
+                    place: ends.to,
+                    placed: arc,
+                    left,
+                })?;
+                job = None;
+            }
+            _ => {}
+        }
+    }
+    Ok(choices)
+}
+
+// The classes of sorted choices.
+fn classes(alloc: Global, choices: &[Choice]) -> Result<Vec<Class>, OutOfMemory> {
+    let mut classes: Vec<Class> = Vec::new(alloc);
+    for (first, choice) in choices.iter().enumerate() {
+        match classes.last_mut() {
+            Some(class) if class.worth == choice.worth && class.place == choice.place => {
+                class.count = class.count.saturating_add(1);
+            }
+            _ => classes.push(Class {
+                worth: choice.worth,
+                place: choice.place,
+                first,
+                count: 1,
+            })?,
+        }
+    }
+    Ok(classes)
+}
+
+// The placing in hand.
+#[derive(Drop)]
+struct Placing<'a> {
+    numbered: &'a Numbered,
+    lanes: Lanes,
+    loading: Loading,
+    paths: Paths,
+}
+
+impl<'a> Placing<'a> {
+    // No task is placed yet.
+    fn new(alloc: Global, numbered: &'a Numbered) -> Result<Self, OutOfMemory> {
+        let lanes = Lanes::of(alloc, numbered)?;
+        let loading = Loading::new(alloc, numbered)?;
+        let paths = Paths::new(alloc, numbered)?;
+        Ok(Placing {
+            numbered,
+            lanes,
+            loading,
+            paths,
+        })
+    }
+
+    // Sends units from the origin on the cheapest path below the worth, as many as fit, and answers how many.
+    fn send(&mut self, origin: Kind, worth: i64, count: u64) -> Result<u64, OutOfMemory> {
+        let found = self.paths.find(self.numbered, &self.lanes, &mut self.loading, origin, worth)?;
+        let Some(end) = found else {
+            return Ok(0);
+        };
+        let hops = self.paths.hops_to(self.numbered, &self.lanes, end)?;
+        let Some(last) = self.loading.direct(self.numbered, &self.lanes, end) else {
+            return Ok(0);
+        };
+        Ok(
+            self.loading
+                .send(self.numbered, &self.lanes, &hops, last, count),
+        )
+    }
+
+    // Sends units of a request over its own arc where no other path is cheaper.
+    fn send_request(&mut self, request: usize, worth: i64, count: u64) -> Result<u64, OutOfMemory> {
+        let least = self.loading.least.get(request).copied().unwrap_or(FAR);
+        if least >= worth {
+            return Ok(0);
+        }
+        match self.loading.direct(self.numbered, &self.lanes, request) {
+            Some(last) if price_at(&self.lanes.prices, machine_of(self.numbered, last)) <= least =>
+                Ok(
+                    self.loading
+                        .send(self.numbered, &self.lanes, &[], last, count),
+                ),
+            _ => self.send(Kind::Request(request), worth, count),
+        }
+    }
+
+    // Leaves held tasks in free slots of their machine, or else makes room there.
+    fn send_held(&mut self, machine: usize, worth: i64, count: u64) -> Result<u64, OutOfMemory> {
+        let least = self.loading.least_held.get(machine).copied().unwrap_or(FAR);
+        let free = at(&self.loading.free, machine);
+        if least >= worth || price_at(&self.lanes.prices, machine) >= worth {
+            return Ok(0);
+        }
+        if free == 0 {
+            return self.send(Kind::Machine(machine), worth, count);
+        }
+        let most = free.min(count);
+        self.loading
+            .take_slots(self.numbered, &self.lanes, machine, most);
+        Ok(most)
+    }
+
+    // Places tasks of a class, and answers how many.
+    fn place(&mut self, class: &Class) -> Result<u64, OutOfMemory> {
+        let count = class.count as u64;
+        let mut sent = 0u64;
+        for _ in 0..class.count {
+            let rest = count.saturating_sub(sent);
+            let more = match self.numbered.places.kind(class.place) {
+                Kind::Request(request) if rest > 0 => self.send_request(
+                    request,
+                    class.worth,
+                    rest,
+                )?,
+                Kind::Machine(machine) if rest > 0 => self.send_held(machine, class.worth, rest)?,
+                _ => 0,
+            };
+            if more == 0 {
+                break;
+            }
+            sent = sent.saturating_add(more);
+        }
+        Ok(sent)
+    }
+}
+
+// Puts the units on an arc.
+fn put(units: &mut [u64], arc: usize, sent: u64) {
+    if let Some(unit) = units.get_mut(arc) {
+        *unit = sent;
+    }
+}
+
+// Sends the first so many tasks to their places and the others to their jobs.
+fn settle(units: &mut [u64], choices: &[Choice], sent: u64) {
+    let mut rest = sent;
+    for choice in choices {
+        if rest > 0 {
+            put(units, choice.placed, 1);
+        } else {
+            put(units, choice.left, 1);
+        }
+        rest = rest.saturating_sub(1);
+    }
+}
+
+// Sends on to the sink what jobs and machines take.
+fn drain(alloc: Global, numbered: &Numbered, units: &mut [u64]) -> Result<(), OutOfMemory> {
+    let entered = inflow(alloc, numbered, units)?;
+    for (place, arc) in numbered.arcs.iter().enumerate() {
+        if let Kind::Sink = numbered.places.kind(arc.to) {
+            put(units, place, at(&entered, arc.from));
+        }
+    }
+    Ok(())
+}
+
+/// The flow with all tasks unscheduled.
+pub(crate) fn unscheduled(alloc: Global, numbered: &Numbered) -> Result<Vec<u64>, OutOfMemory>
+    ensures { IfOk result (λ units. vec_len units ≡ vec_len numbered.now.arcs) }
+{
+    let mut units = vec![in alloc; 0u64; numbered.arcs.len()]?;
+    for (place, arc) in numbered.arcs.iter().enumerate() {
+        if let Kind::Unscheduled(_) = numbered.places.kind(arc.to) {
+            put(&mut units, place, 1);
+        }
+    }
+    drain(alloc, numbered, &mut units)?;
+    Ok(units)
+}
+
+// The units of tasks placed by falling worth, each class where its slots are cheapest.
+fn placed(alloc: Global, numbered: &Numbered) -> Result<Vec<u64>, OutOfMemory> {
+    let mut placing = Placing::new(alloc, numbered)?;
+    let mut choices = choices(alloc, numbered, &placing.lanes.prices)?;
+    choices.sort()?;
+    let classes = classes(alloc, &choices)?;
+    for class in classes.iter().rev() {
+        let sent = placing.place(class)?;
+        let end = class.first.saturating_add(class.count);
+        if let Some(tasks) = choices.get(class.first..end) {
+            settle(&mut placing.loading.units, tasks, sent);
+        }
+    }
+    let mut units = placing.loading.into_units();
+    drain(alloc, numbered, &mut units)?;
+    Ok(units)
+}
+
+/// A flow that is mostly least: tasks are placed by falling worth, or else all are unscheduled.
+pub(crate) fn start(alloc: Global, numbered: &Numbered) -> Result<Vec<u64>, OutOfMemory>
+    ensures { IfOk result (λ units. vec_len units ≡ vec_len numbered.now.arcs) }
+{
+    let units = placed(alloc, numbered)?;
+    if is_feasible(alloc, numbered, &units)? {
+        Ok(units)
+    } else {
+        unscheduled(alloc, numbered)
+    }
+}
+
+#[cfg(test)]
+mod tests;
