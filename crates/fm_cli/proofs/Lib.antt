@@ -1,3 +1,4 @@
 pub mod Views
 pub mod Running
 pub mod Stopping
+pub mod Solving

@@ -5,7 +5,7 @@ ghost use Rattle.fm_cli.specs.Endings.{ending_status, asked_of};
 
 use crate::fault::Fault;
 use crate::input::read_input;
-use crate::output::{graph, winners};
+use crate::output::{graph, solution, winners};
 use crate::reading::read_script;
 use crate::run::is_listed;
 use crate::script::Script;
@@ -105,6 +105,7 @@ fn answer<W: Write>(
     let mut out = Over::new(&mut buffer);
     match command {
         Command::Graph { at } => graph(alloc, script, asked(script, at)?, &mut out)?,
+        Command::Solve { at } => solution(alloc, script, asked(script, at)?, &mut out)?,
         Command::Winners { at } => winners(alloc, script, asked(script, at)?, &mut out)?,
     }
     match buffer.flush() {

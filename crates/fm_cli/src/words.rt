@@ -10,6 +10,8 @@ use std::alloc::Global;
 pub enum Command {
     /// Print the network of what a coordinator knows; of the first listed where none is named.
     Graph { at: Option<u8> },
+    /// Print a least flow of that network.
+    Solve { at: Option<u8> },
     /// Print who won the present attempt of each task, by what a coordinator knows.
     Winners { at: Option<u8> },
 }
@@ -28,6 +30,9 @@ pub enum Words {
 pub fn read_words(alloc: Global, words: &[String]) -> Result<Words, Refusal> {
     match parser(alloc)?.try_get_matches_from(words) {
         Ok(matches) => match matches.subcommand() {
+            Some(("solve", inner)) => Ok(Words::Run(Command::Solve {
+                at: inner.get_one::<u8>("at"),
+            })),
             Some(("winners", inner)) => Ok(Words::Run(Command::Winners {
                 at: inner.get_one::<u8>("at"),
             })),
@@ -61,6 +66,10 @@ fn parser<'a>(alloc: Global) -> Result<clap::Command<'a>, Refusal> {
         )
         .after_help("Example: firmament graph --at 1 < examples/first.json")
         .arg(at(alloc))?;
+    let solve = clap::Command::new(alloc, "solve")
+        .about("Prints a least flow of that network, its cost first, in DIMACS lines: the schedule")
+        .after_help("Example: firmament solve < examples/first.json")
+        .arg(at(alloc))?;
     let winners = clap::Command::new(alloc, "winners")
         .about(
             "Prints, for each task whose present attempt has a winner: TASK ATTEMPT COORDINATOR MACHINE INCARNATION, and held or free",
@@ -77,6 +86,7 @@ fn parser<'a>(alloc: Global) -> Result<clap::Command<'a>, Refusal> {
             .subcommand_required(true)
             .arg_required_else_help(true)
             .subcommand(graph)?
+            .subcommand(solve)?
             .subcommand(winners)?,
     )
 }

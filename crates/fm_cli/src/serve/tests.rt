@@ -4,7 +4,7 @@ use std::io::{self, Read, Write};
 use std::test::Fail;
 
 // Steps by name. In all texts here `..` stands for the zeros with which an id begins.
-static STEPS: [(&str, &str); 21] = [
+static STEPS: [(&str, &str); 28] = [
     (
         "J",
         r#"{"at":1,"tell":{"job":{"id":"..001","version":1,"writer":1,"withdrawn":false,"wait":500,"preempt":800}}}"#,
@@ -84,6 +84,34 @@ static STEPS: [(&str, &str); 21] = [
     (
         "Elsewhere",
         r#"{"at":0,"tell":{"job":{"id":"..001","version":1,"writer":65,"withdrawn":false,"wait":0,"preempt":0}}}"#,
+    ),
+    (
+        "J700",
+        r#"{"at":1,"tell":{"job":{"id":"..001","version":1,"writer":1,"withdrawn":false,"wait":700,"preempt":800}}}"#,
+    ),
+    (
+        "JWait100",
+        r#"{"at":1,"tell":{"job":{"id":"..001","version":1,"writer":1,"withdrawn":false,"wait":100,"preempt":800}}}"#,
+    ),
+    (
+        "JPreempt80",
+        r#"{"at":1,"tell":{"job":{"id":"..001","version":1,"writer":1,"withdrawn":false,"wait":500,"preempt":80}}}"#,
+    ),
+    (
+        "AOneSlot",
+        r#"{"at":1,"tell":{"machine":{"id":"..00a","incarnation":1,"version":1,"writer":1,"up":true,"slots":1,"nic":1000}}}"#,
+    ),
+    (
+        "T600",
+        r#"{"at":1,"tell":{"spec":{"id":"..011","version":1,"writer":1,"withdrawn":false,"job":"..001","request":600}}}"#,
+    ),
+    (
+        "U500",
+        r#"{"at":1,"tell":{"spec":{"id":"..012","version":1,"writer":1,"withdrawn":false,"job":"..001","request":500}}}"#,
+    ),
+    (
+        "U0",
+        r#"{"at":1,"tell":{"spec":{"id":"..012","version":1,"writer":1,"withdrawn":false,"job":"..001","request":0}}}"#,
     ),
     ("Strange", r#"{"at":1}"#),
 ];
@@ -190,8 +218,10 @@ a 5 2 0 1 500
 a 5 3 0 1 0
 ";
 
+const PLACED: &str = "s 100\nf 3 4 1\nf 4 1 1\nf 5 3 1\n";
+
 // Runs: the words, the steps by name, and then the status, what is written, and the text for standard error.
-static RUNS: [(&str, &str, u8, &str, &str); 40] = [
+static RUNS: [(&str, &str, u8, &str, &str); 51] = [
     ("graph", "", 0, NOTHING, ""),
     ("graph", "J A T", 0, WAITING, ""),
     ("graph --at 1", "A T J", 0, WAITING, ""),
@@ -303,12 +333,59 @@ static RUNS: [(&str, &str, u8, &str, &str); 40] = [
         "",
         "error: unrecognized subcommand 'grapf'\n\n  tip: a similar subcommand exists: 'graph'\n\nUsage: firmament <COMMAND>\n\nFor more information, try '--help'.\n",
     ),
+    ("solve", "", 0, "s 0\n", ""),
+    ("solve", "J A T", 0, PLACED, ""),
+    ("solve --at 1", "J J600 A T", 0, PLACED, ""),
     (
         "solve",
+        "J A T Used950 Used0",
+        0,
+        "s 500\nf 2 1 1\nf 5 2 1\n",
+        "",
+    ),
+    ("solve", "J A T OnA", 0, "s 0\nf 3 1 1\nf 4 3 1\n", ""),
+    (
+        "solve",
+        "J A T OnA Lost",
+        0,
+        "s 500\nf 2 1 1\nf 4 2 1\n",
+        "",
+    ),
+    (
+        "solve",
+        "J A T0 Used40",
+        0,
+        "s 40\nf 3 4 1\nf 4 1 1\nf 5 3 1\n",
+        "",
+    ),
+    (
+        "solve",
+        "J700 A T600 U500",
+        0,
+        "s 1100\nf 3 5 1\nf 4 5 1\nf 5 1 2\nf 6 4 1\nf 7 3 1\n",
+        "",
+    ),
+    (
+        "solve",
+        "JPreempt80 AOneSlot T OnA U0 Used0",
+        0,
+        "s 180\nf 2 1 1\nf 3 4 1\nf 4 1 1\nf 5 2 1\nf 6 3 1\n",
+        "",
+    ),
+    ("solve --at 2", "J A T", 3, "", "firmament: refusal 8\n"),
+    (
+        "solve",
+        "J NoSlots",
+        3,
+        "",
+        "firmament: refusal 2 at step 2\n",
+    ),
+    (
+        "pack",
         "",
         2,
         "",
-        "error: unrecognized subcommand 'solve'\n\nUsage: firmament <COMMAND>\n\nFor more information, try '--help'.\n",
+        "error: unrecognized subcommand 'pack'\n\nUsage: firmament <COMMAND>\n\nFor more information, try '--help'.\n",
     ),
 ];
 
@@ -385,10 +462,25 @@ fn each_run_writes_and_says_what_it_should(rt: HostRuntime) -> Result<(), Fail> 
     Ok(())
 }
 
+// A task is placed or left where both cost the same.
+#[test]
+fn equal_costs_are_solved(rt: HostRuntime) -> Result<(), Fail> {
+    let (status, written, _) = run(rt.alloc(), "solve", "JWait100 A T")?;
+    assert_eq!(rt; status, 0);
+    assert!(rt; written.starts_with(b"s 100\n"));
+    Ok(())
+}
+
 #[test]
 fn help_is_written(rt: HostRuntime) -> Result<(), Fail> {
     let alloc = rt.alloc();
-    for words in ["--help", "help", "graph -h", "winners --help"] {
+    for words in [
+        "--help",
+        "help",
+        "graph -h",
+        "solve --help",
+        "winners --help",
+    ] {
         let (status, written, said) = run(alloc, words, "Strange")?;
         assert_eq!(rt; status, 0, "{words}");
         assert!(rt; !written.is_empty() && said.is_empty(), "{words}");
