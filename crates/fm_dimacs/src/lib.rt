@@ -4,5 +4,6 @@
 pub mod dump;
 pub mod out;
 pub mod pieces;
+mod scan;
 #[cfg(test)]
 mod tests;

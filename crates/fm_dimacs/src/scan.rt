@@ -1,0 +1,111 @@
+//! Reading a text from its front.
+
+ghost use Rattle.std.specs.Prelude.{◌≡◌, ◌<◌, ◌^◌, ◌+◌, ◌-◌, ◌*◌, true, SomeIff, IfOk, IfSome};
+ghost use Rattle.std.specs.Char.{is_ascii_digit};
+ghost use Rattle.fm_dimacs.specs.Scan.{Reads, ReadsWithin, after, digits_from, fitting, number_at, id_at, request_at, named_at, kind_at, node_at, problem_at, numbers_at};
+
+use fm_net::node::Node;
+use fm_records::ids::{JobId, MachineId, TaskId};
+use fm_records::refusal::Refusal;
+use std::alloc::Global;
+use std::str;
+
+// What stands behind the text.
+pub(crate) fn after<'a>(bytes: &'a [u8], text: &[u8]) -> Option<&'a [u8]>
+    ensures { Reads (λ x. x.now) result (after text.now bytes.now) }
+{
+    bytes.strip_prefix(text)
+}
+
+// A number of 64 bits without leading zeros.
+#[tactic(auto, unfolding(crate::specs::Scan::number_at))]
+fn number(bytes: &[u8]) -> Option<(u64, &[u8])>
+    ensures { Reads (λ x. (x.0, x.1.now)) result (number_at bytes.now) }
+{
+    let Some((first, rest)) = bytes.split_first() else {
+        return None;
+    };
+    if *first == b'0' {
+        return Some((0, rest));
+    }
+    if !first.is_ascii_digit() {
+        return None;
+    }
+    digits(u64::from(*first - b'0'), rest)
+}
+
+// The number that the digits go on to from the first one.
+fn digits(first: u64, bytes: &[u8]) -> Option<(u64, &[u8])>
+    ensures { Reads (λ x. (x.0, x.1.now)) result (fitting (digits_from first bytes.now)) }
+{
+    let mut number = first;
+    for (i, byte) in bytes.iter().enumerate() {
+        if !byte.is_ascii_digit() {
+            return Some((number, &bytes[i..]));
+        }
+        let Some(next) = with_digit(number, *byte) else {
+            return None;
+        };
+        number = next;
+    }
+    Some((number, &bytes[bytes.len()..]))
+}
+
+// The number with one more digit, if it fits.
+fn with_digit(number: u64, digit: u8) -> Option<u64>
+    requires { is_ascii_digit digit ≡ true }
+    ensures { SomeIff result (number * 10 + (digit - 48) < 2 ^ 64) (number * 10 + (digit - 48)) }
+{
+    let Some(tens) = number.checked_mul(10) else {
+        return None;
+    };
+    tens.checked_add(u64::from(digit - b'0'))
+}
+
+// The numbers of an arc's line: the IDs of its ends, the capacity and the cost.
+#[tactic(auto, unfolding(crate::specs::Scan::numbers_at))]
+pub(crate) fn numbers(bytes: &[u8]) -> Option<((u64, u64, u64, u64), &[u8])>
+    ensures { Reads (λ x. (x.0, x.1.now)) result (numbers_at bytes.now) }
+{
+    let rest = after(bytes, b"a ")?;
+    let (source, rest) = number(rest)?;
+    let rest = after(rest, b" ")?;
+    let (target, rest) = number(rest)?;
+    let rest = after(rest, b" 0 ")?;
+    let (capacity, rest) = number(rest)?;
+    let rest = after(rest, b" ")?;
+    let (cost, rest) = number(rest)?;
+    let rest = after(rest, b"\n")?;
+    Some(((source, target, capacity, cost), rest))
+}
+
+// The number of arcs of the problem line with this number of nodes.
+#[tactic(auto, unfolding(crate::specs::Scan::problem_at))]
+pub(crate) fn problem(nodes: u64, bytes: &[u8]) -> Option<(u64, &[u8])>
+    ensures { Reads (λ x. (x.0, x.1.now)) result (problem_at nodes bytes.now) }
+{
+    let rest = after(bytes, b"p min ")?;
+    let (found, rest) = number(rest)?;
+    let rest = after(rest, b" ")?;
+    let (arcs, rest) = number(rest)?;
+    let rest = after(rest, b"\n")?;
+    if found == nodes {
+        Some((arcs, rest))
+    } else {
+        None
+    }
+}
+
+// A request, and the line's end.
+#[tactic(auto, unfolding(crate::specs::Scan::request_at))]
+fn request(bytes: &[u8]) -> Option<(Node, &[u8])>
+    ensures { Reads (λ x. (x.0, x.1.now)) result (request_at bytes.now) }
+{
+    let (found, rest) = number(bytes)?;
+    let rest = after(rest, b"\n")?;
+    if found <= 1_000_000 {
+        Some((Node::Request(found as u32), rest))
+    } else {
+        None
+    }
+}
