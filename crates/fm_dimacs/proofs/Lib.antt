@@ -1,3 +1,4 @@
 pub mod Placed
 pub mod Sent
 mod Digits
+mod Uuids
