@@ -20,7 +20,7 @@ pub ends : (n : ℕ) (bs : List ℕ) → digits_from n (drop (length bs) bs) ≡
 ends n bs = let e : drop (length bs) bs ≡ [] = drop_all (length bs) bs (omega arith) in rw e refl
 
 -- a number only grows
-grows : (n : ℕ) (bs : List ℕ) → n ≤ (digits_from n bs).0
+pub grows : (n : ℕ) (bs : List ℕ) → n ≤ (digits_from n bs).0
 grows n [] = omega arith
 grows n (b ∷ bs) =
     let more = grows (n * 10 + (b - 48)) bs in

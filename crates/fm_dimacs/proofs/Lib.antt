@@ -2,3 +2,4 @@ pub mod Placed
 pub mod Sent
 mod Digits
 mod Uuids
+mod Words
