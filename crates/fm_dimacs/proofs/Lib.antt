@@ -3,3 +3,4 @@ pub mod Sent
 mod Digits
 mod Uuids
 mod Words
+mod ReadLines
