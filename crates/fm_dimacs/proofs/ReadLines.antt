@@ -8,7 +8,7 @@ use Rattle.fm_net.specs.declared.node.Node.TheVariants.{Sink, Unscheduled, Reque
 use Rattle.fm_net.specs.Nodes.{IsInRange}
 use Rattle.fm_dimacs.specs.Text.{node_line, problem_line}
 use Rattle.fm_dimacs.specs.Scan.{◌>>=◌, choose, after, number_at, id_at, request_at, named_at, kind_at, node_at, problem_at, numbers_at}
-use Rattle.fm_dimacs.proofs.Words.{bind_some, guard_some, after_takes, after_again, number_takes, number_again, id_takes, id_again}
+use Rattle.fm_dimacs.proofs.Words.{Stops, bind_some, guard_some, after_takes, after_again, number_takes, number_again, id_takes, id_again}
 
 some_is : {A : Type 0} (x y : A) → Some x ≡ Some y → x ≡ y
 some_is x y e = cc
@@ -116,3 +116,145 @@ node_takes id bytes x e =
           ∙ sym (append_assoc (codes "c ") (decimal id ++ kind_text x.0) x.1) ∙ ap (λ t. t ++ x.1) (sym (line_is id x.0))
       | false ↦ λ same f. absurd (let never : ⊥ = cc in never)
     ] refl b.2
+
+kind_stops : (n : Node) (rest : List ℕ) → Stops (kind_text n ++ rest)
+kind_stops Sink rest = refl
+kind_stops (Unscheduled job) rest = refl
+kind_stops (Request request) rest = refl
+kind_stops (Machine machine) rest = refl
+kind_stops (Task task) rest = refl
+
+pub node_again : (id : ℕ) (n : Node) (rest : List ℕ) → id < 2 ^ 64 → IsInRange n → node_at id (node_line id n ++ rest) ≡ Some (n, rest)
+unfolding node_at
+node_again id n rest fits in_range =
+    let regrouped : node_line id n ++ rest ≡ codes "c " ++ (decimal id ++ (kind_text n ++ rest)) =
+    ap (λ t. t ++ rest) (line_is id n) ∙ append_assoc (codes "c ") (decimal id ++ kind_text n) rest ∙ ap (λ t. codes "c " ++ t) (append_assoc (decimal id) (kind_text n) rest) in
+    ap (node_at id) regrouped
+    ∙ ap (λ o. o >>= λ r. number_at r >>= λ m. cond (eqb m.0 id) (kind_at m.1) None) (after_again (codes "c ") (decimal id ++ (kind_text n ++ rest)))
+    ∙ ap (λ o. o >>= λ m. cond (eqb m.0 id) (kind_at m.1) None) (number_again id (kind_text n ++ rest) fits (kind_stops n rest))
+    ∙ ap (λ t. cond t (kind_at (kind_text n ++ rest)) None) (eq-eqb id id refl)
+    ∙ kind_again n rest in_range
+
+-- ---- the problem
+
+pub problem_takes : (nodes : ℕ) (bytes : List ℕ) (x : ℕ × List ℕ) → problem_at nodes bytes ≡ Some x → (bytes ≡ problem_line nodes x.0 ++ x.1) × (x.0 < 2 ^ 64)
+unfolding problem_at
+problem_takes nodes bytes x e =
+    let a = bind_some (after (codes "p min ") bytes) (λ rest. number_at rest >>= λ n. after (codes " ") n.1 >>= λ rest. number_at rest >>= λ arcs. after (codes "\n") arcs.1 >>= λ rest. cond (eqb n.0 nodes) (Some (arcs.0, rest)) None) x e in
+    let b = bind_some (number_at a.0) (λ n. after (codes " ") n.1 >>= λ rest. number_at rest >>= λ arcs. after (codes "\n") arcs.1 >>= λ rest. cond (eqb n.0 nodes) (Some (arcs.0, rest)) None) x a.2 in
+    let c = bind_some (after (codes " ") b.0.1) (λ rest. number_at rest >>= λ arcs. after (codes "\n") arcs.1 >>= λ rest. cond (eqb b.0.0 nodes) (Some (arcs.0, rest)) None) x b.2 in
+    let d = bind_some (number_at c.0) (λ arcs. after (codes "\n") arcs.1 >>= λ rest. cond (eqb b.0.0 nodes) (Some (arcs.0, rest)) None) x c.2 in
+    let f = bind_some (after (codes "\n") d.0.1) (λ rest. cond (eqb b.0.0 nodes) (Some (d.0.0, rest)) None) x d.2 in
+    let g = guard_some (eqb b.0.0 nodes) (d.0.0, f.0) x f.2 in
+    let number : b.0.0 ≡ nodes = eqb-true b.0.0 nodes g.0 in
+    let arcs = number_takes c.0 d.0 d.1 in
+    let whole : bytes ≡ problem_line nodes d.0.0 ++ f.0 =
+    after_takes (codes "p min ") bytes a.0 a.1
+    ∙ ap (λ t. codes "p min " ++ t) ((number_takes a.0 b.0 b.1).0 ∙ (λ i. decimal (number i) ++ after_takes (codes " ") b.0.1 c.0 c.1 i)
+      ∙ ap (λ t. decimal nodes ++ (codes " " ++ t)) (arcs.0 ∙ ap (λ t. decimal d.0.0 ++ t) (after_takes (codes "\n") d.0.1 f.0 f.1)))
+    ∙ sym (five (codes "p min ") (decimal nodes) (codes " ") (decimal d.0.0) (codes "\n") f.0) in
+    subst (λ (y : ℕ × List ℕ). (bytes ≡ problem_line nodes y.0 ++ y.1) × (y.0 < 2 ^ 64)) g.1 (whole, arcs.1)
+  where
+    five : (a b c d e rest : List ℕ) → (a ++ (b ++ (c ++ (d ++ e)))) ++ rest ≡ a ++ (b ++ (c ++ (d ++ (e ++ rest))))
+    five a b c d e rest = simp append_assoc
+
+pub problem_again : (nodes arcs : ℕ) (rest : List ℕ) → nodes < 2 ^ 64 → arcs < 2 ^ 64 → problem_at nodes (problem_line nodes arcs ++ rest) ≡ Some (arcs, rest)
+unfolding problem_at
+problem_again nodes arcs rest fits fit =
+    let behind_n = codes " " ++ (decimal arcs ++ (codes "\n" ++ rest)) in
+    ap (problem_at nodes) (five (codes "p min ") (decimal nodes) (codes " ") (decimal arcs) (codes "\n") rest)
+    ∙ ap (λ o. o >>= λ r. number_at r >>= λ n. after (codes " ") n.1 >>= λ r. number_at r >>= λ m. after (codes "\n") m.1 >>= λ r. cond (eqb n.0 nodes) (Some (m.0, r)) None) (after_again (codes "p min ") (decimal nodes ++ behind_n))
+    ∙ ap (λ o. o >>= λ n. after (codes " ") n.1 >>= λ r. number_at r >>= λ m. after (codes "\n") m.1 >>= λ r. cond (eqb n.0 nodes) (Some (m.0, r)) None) (number_again nodes behind_n fits refl)
+    ∙ ap (λ o. o >>= λ r. number_at r >>= λ m. after (codes "\n") m.1 >>= λ r. cond (eqb nodes nodes) (Some (m.0, r)) None) (after_again (codes " ") (decimal arcs ++ (codes "\n" ++ rest)))
+    ∙ ap (λ o. o >>= λ m. after (codes "\n") m.1 >>= λ r. cond (eqb nodes nodes) (Some (m.0, r)) None) (number_again arcs (codes "\n" ++ rest) fit refl)
+    ∙ ap (λ o. o >>= λ r. cond (eqb nodes nodes) (Some (arcs, r)) None) (after_again (codes "\n") rest)
+    ∙ ap (λ t. cond t (Some (arcs, rest)) None) (eq-eqb nodes nodes refl)
+  where
+    five : (a b c d e rest : List ℕ) → (a ++ (b ++ (c ++ (d ++ e)))) ++ rest ≡ a ++ (b ++ (c ++ (d ++ (e ++ rest))))
+    five a b c d e rest = simp append_assoc
+
+-- ---- an arc
+
+-- the line of an arc with these numbers
+abbrev pub numbers_line : ℕ × ℕ × ℕ × ℕ → List ℕ
+numbers_line x = codes "a " ++ (decimal x.0 ++ (codes " " ++ (decimal x.1 ++ (codes " 0 " ++ (decimal x.2 ++ (codes " " ++ (decimal x.3 ++ codes "\n")))))))
+
+pub record Fit (x : ℕ × ℕ × ℕ × ℕ) : Type 0 where
+  pub source : x.0 < 2 ^ 64
+  pub target : x.1 < 2 ^ 64
+  pub capacity : x.2 < 2 ^ 64
+  pub cost : x.3 < 2 ^ 64
+
+nine : (a b c d e f g h i rest : List ℕ) → (a ++ (b ++ (c ++ (d ++ (e ++ (f ++ (g ++ (h ++ i)))))))) ++ rest ≡ a ++ (b ++ (c ++ (d ++ (e ++ (f ++ (g ++ (h ++ (i ++ rest))))))))
+nine a b c d e f g h i rest = simp append_assoc
+
+abbrev Found : Type 0
+Found = Option ((ℕ × ℕ × ℕ × ℕ) × List ℕ)
+
+-- what is read behind each of the numbers
+abbrev behind_cost : ℕ → ℕ → ℕ → ℕ × List ℕ → Found
+behind_cost s t c w = after (codes "\n") w.1 >>= λ r. Some ((s, t, c, w.0), r)
+
+abbrev behind_capacity : ℕ → ℕ → ℕ × List ℕ → Found
+behind_capacity s t c = after (codes " ") c.1 >>= λ r. number_at r >>= behind_cost s t c.0
+
+abbrev behind_target : ℕ → ℕ × List ℕ → Found
+behind_target s t = after (codes " 0 ") t.1 >>= λ r. number_at r >>= behind_capacity s t.0
+
+abbrev behind_source : ℕ × List ℕ → Found
+behind_source s = after (codes " ") s.1 >>= λ r. number_at r >>= behind_target s.0
+
+-- a word, and then a number
+pub record Wrote (word bytes : List ℕ) (f : ℕ × List ℕ → Found) (y : (ℕ × ℕ × ℕ × ℕ) × List ℕ) : Type 0 where
+  pub found : ℕ × List ℕ
+  pub text : bytes ≡ word ++ (decimal found.0 ++ found.1)
+  pub fits : found.0 < 2 ^ 64
+  pub rest : f found ≡ Some y
+
+number_behind : (word bytes : List ℕ) (f : ℕ × List ℕ → Found) (y : (ℕ × ℕ × ℕ × ℕ) × List ℕ) → (after word bytes >>= λ r. number_at r >>= f) ≡ Some y → Wrote word bytes f y
+number_behind word bytes f y e =
+    let a = bind_some (after word bytes) (λ r. number_at r >>= f) y e in
+    let b = bind_some (number_at a.0) f y a.2 in
+    let n = number_takes a.0 b.0 b.1 in
+    record { found = b.0; text = after_takes word bytes a.0 a.1 ∙ ap (λ t. word ++ t) n.0; fits = n.1; rest = b.2 }
+
+written_behind : (word rest : List ℕ) (n : ℕ) (f : ℕ × List ℕ → Found) → n < 2 ^ 64 → Stops rest → (after word (word ++ (decimal n ++ rest)) >>= λ r. number_at r >>= f) ≡ f (n, rest)
+written_behind word rest n f fits stop =
+    ap (λ o. o >>= λ r. number_at r >>= f) (after_again word (decimal n ++ rest)) ∙ ap (λ o. o >>= f) (number_again n rest fits stop)
+
+joined : (s t c w : ℕ) (bytes a b d e rest : List ℕ) (x : (ℕ × ℕ × ℕ × ℕ) × List ℕ)
+    → bytes ≡ codes "a " ++ (decimal s ++ a) → a ≡ codes " " ++ (decimal t ++ b) → b ≡ codes " 0 " ++ (decimal c ++ d) → d ≡ codes " " ++ (decimal w ++ e) → e ≡ codes "\n" ++ rest
+    → ((s, t, c, w), rest) ≡ x → Fit (s, t, c, w) → (bytes ≡ numbers_line x.0 ++ x.1) × Fit x.0
+joined s t c w bytes a b d e rest x p q r u v is fit =
+    let whole : bytes ≡ numbers_line (s, t, c, w) ++ rest =
+    p ∙ (λ i. codes "a " ++ (decimal s ++ q i)) ∙ (λ i. codes "a " ++ (decimal s ++ (codes " " ++ (decimal t ++ r i))))
+    ∙ (λ i. codes "a " ++ (decimal s ++ (codes " " ++ (decimal t ++ (codes " 0 " ++ (decimal c ++ u i))))))
+    ∙ (λ i. codes "a " ++ (decimal s ++ (codes " " ++ (decimal t ++ (codes " 0 " ++ (decimal c ++ (codes " " ++ (decimal w ++ v i))))))))
+    ∙ sym (nine (codes "a ") (decimal s) (codes " ") (decimal t) (codes " 0 ") (decimal c) (codes " ") (decimal w) (codes "\n") rest) in
+    subst (λ (y : (ℕ × ℕ × ℕ × ℕ) × List ℕ). (bytes ≡ numbers_line y.0 ++ y.1) × Fit y.0) is (whole, fit)
+
+pub numbers_take : (bytes : List ℕ) (x : (ℕ × ℕ × ℕ × ℕ) × List ℕ) → numbers_at bytes ≡ Some x → (bytes ≡ numbers_line x.0 ++ x.1) × Fit x.0
+unfolding numbers_at
+numbers_take bytes x e =
+    let s = number_behind (codes "a ") bytes behind_source x e in
+    let t = number_behind (codes " ") s.found.1 (behind_target s.found.0) x s.rest in
+    let c = number_behind (codes " 0 ") t.found.1 (behind_capacity s.found.0 t.found.0) x t.rest in
+    let w = number_behind (codes " ") c.found.1 (behind_cost s.found.0 t.found.0 c.found.0) x c.rest in
+    let n = bind_some (after (codes "\n") w.found.1) (λ r. Some ((s.found.0, t.found.0, c.found.0, w.found.0), r)) x w.rest in
+    let is = some_is ((s.found.0, t.found.0, c.found.0, w.found.0), n.0) x n.2 in
+    joined s.found.0 t.found.0 c.found.0 w.found.0 bytes s.found.1 t.found.1 c.found.1 w.found.1 n.0 x s.text t.text c.text w.text (after_takes (codes "\n") w.found.1 n.0 n.1)
+    is (record { source = s.fits; target = t.fits; capacity = c.fits; cost = w.fits })
+
+pub numbers_again : (x : ℕ × ℕ × ℕ × ℕ) (rest : List ℕ) → Fit x → numbers_at (numbers_line x ++ rest) ≡ Some (x, rest)
+unfolding numbers_at
+numbers_again x rest fit =
+    let end = codes "\n" ++ rest in
+    let cost = codes " " ++ (decimal x.3 ++ end) in
+    let capacity = codes " 0 " ++ (decimal x.2 ++ cost) in
+    let target = codes " " ++ (decimal x.1 ++ capacity) in
+    ap numbers_at (nine (codes "a ") (decimal x.0) (codes " ") (decimal x.1) (codes " 0 ") (decimal x.2) (codes " ") (decimal x.3) (codes "\n") rest)
+    ∙ written_behind (codes "a ") target x.0 behind_source fit.source refl
+    ∙ written_behind (codes " ") capacity x.1 (behind_target x.0) fit.target refl
+    ∙ written_behind (codes " 0 ") cost x.2 (behind_capacity x.0 x.1) fit.capacity refl
+    ∙ written_behind (codes " ") end x.3 (behind_cost x.0 x.1 x.2) fit.cost refl
+    ∙ ap (λ o. o >>= λ r. Some ((x.0, x.1, x.2, x.3), r)) (after_again (codes "\n") rest)
