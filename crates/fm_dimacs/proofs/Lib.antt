@@ -4,3 +4,5 @@ mod Digits
 mod Uuids
 mod Words
 mod ReadLines
+mod Ids
+mod Leading
