@@ -6,3 +6,4 @@ mod Words
 mod ReadLines
 mod Ids
 mod Leading
+mod Whole
