@@ -7,3 +7,4 @@ mod ReadLines
 mod Ids
 mod Leading
 mod Whole
+mod Lasting
