@@ -8,3 +8,4 @@ mod Ids
 mod Leading
 mod Whole
 mod Lasting
+mod Verdict

@@ -2,8 +2,10 @@
 #![tactic(auto)]
 
 pub mod dump;
+pub mod laws;
 pub mod out;
 pub mod pieces;
+pub mod read;
 mod scan;
 #[cfg(test)]
 mod tests;
