@@ -123,7 +123,7 @@ pair_is x y e = cc
 heads_apart : (b c : ℕ) (x y : List ℕ) → eqb b c ≡ false → b ∷ x ≡ c ∷ y → ⊥
 heads_apart b c x y apart e = eqb-false b c apart (ap (λ (l : List ℕ). get_or l 0 0) e)
 
-node_no_problem : (id nodes arcs : ℕ) (n : Node) (b c : List ℕ) → node_line id n ++ b ≡ problem_line nodes arcs ++ c → ⊥
+pub node_no_problem : (id nodes arcs : ℕ) (n : Node) (b c : List ℕ) → node_line id n ++ b ≡ problem_line nodes arcs ++ c → ⊥
 node_no_problem id nodes arcs Sink b c e = heads_apart 99 112 _ _ refl e
 node_no_problem id nodes arcs (Unscheduled job) b c e = heads_apart 99 112 _ _ refl e
 node_no_problem id nodes arcs (Request request) b c e = heads_apart 99 112 _ _ refl e

@@ -9,3 +9,4 @@ mod Leading
 mod Whole
 mod Lasting
 mod Verdict
+mod Reader

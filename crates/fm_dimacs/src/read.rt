@@ -8,9 +8,10 @@ ghost use Rattle.fm_dimacs.specs.Text.{node_line};
 ghost use Rattle.fm_dimacs.specs.Lines.{Comments, Leads, IsNextNode, IsFault};
 
 use crate::scan;
-use fm_net::node::Node;
+use fm_net::node::{Node, order};
 use fm_records::refusal::Refusal;
 use std::alloc::Global;
+use std::cmp::Ordering;
 
 // Whether the node may come behind these.
 fn comes_next(nodes: &[Node], node: &Node) -> bool
@@ -18,7 +19,7 @@ fn comes_next(nodes: &[Node], node: &Node) -> bool
     ensures { IsTrue result ↔ IsNextNode nodes.now node.now }
 {
     match nodes.last() {
-        Some(last) => last < node,
+        Some(last) => matches!(order(last, node), Ordering::Less),
         None => matches!(node, Node::Sink),
     }
 }
