@@ -1,20 +1,24 @@
 -- For the reader's parts: what may come next, and what may not.
-use Rattle.std.proofs.Common.{◌≡◌, ℕ, zero, suc, ◌+◌, ◌-◌, ◌^◌, ◌<◌, ◌≤◌, List, [], ◌∷◌, ◌++◌, Option, Some, None, length, refl, sym, ap, subst, ◌∙◌, inl, inr, arith}
-use Rattle.std.specs.Prelude.{slice_get, IfSome}
+use Rattle.std.proofs.Common.{◌≡◌, ℕ, zero, suc, ◌+◌, ◌-◌, ◌^◌, ◌<◌, ◌≤◌, ◌==◌, false, List, [], ◌∷◌, ◌++◌, Result, Ok, Err, Option, Some, None, length, get_or, drop, refl, sym, ap, subst, ◌∙◌, inl, inr, arith}
+use Rattle.std.specs.Prelude.{slice_get, IfSome, IfErr}
+use Rattle.std.specs.Result.{IsErrAnd}
+use Rattle.std.proofs.lemmas.Bool.{eqb-false}
 use Rattle.std.specs.declared.cmp.Ordering.{Ordering}
 use Rattle.std.specs.declared.cmp.Ordering.TheVariants.{Less}
+use Rattle.std.proofs.Math.Seq.{drop-cons}
 use Rattle.std.proofs.lemmas.List.{length-append}
 use Rattle.fm_records.specs.TableLaws.{some_none}
 use Rattle.fm_records.specs.declared.refusal.Refusal.{Refusal}
 use Rattle.fm_records.specs.declared.refusal.Refusal.TheVariants.{OutOfMemory, BadDimacs}
 use Rattle.fm_net.specs.declared.node.Node.{Node}
 use Rattle.fm_net.specs.Nodes.{node_cmp, IsInRange}
-use Rattle.fm_dimacs.specs.Text.{node_line, problem_line}
-use Rattle.fm_dimacs.specs.Lines.{Place, Comments, Body, Allows, Leads, IsStuck, IsAfterLast, IsNextNode, BreaksAfter, IsFault, unit_lines}
-use Rattle.fm_dimacs.specs.Scan.{Reads, node_at, problem_at}
+use Rattle.fm_dimacs.specs.Text.{node_line, problem_line, supply_line}
+use Rattle.fm_dimacs.specs.Lines.{Place, Comments, Body, Allows, Leads, IsStuck, IsAfterLast, IsNextNode, BreaksAfter, IsFault, with_line, supplies_from, unit_lines}
+use Rattle.fm_dimacs.specs.Scan.{Reads, after, node_at, problem_at}
 use Rattle.fm_dimacs.proofs.Leading.{next_in_range, same_node_line, node_no_problem}
-use Rattle.fm_dimacs.proofs.ReadLines.{node_again, node_takes}
-use Rattle.fm_dimacs.proofs.Lasting.{leads_more}
+use Rattle.fm_dimacs.proofs.Words.{after_takes, after_again}
+use Rattle.fm_dimacs.proofs.ReadLines.{node_again, node_takes, problem_again, problem_takes}
+use Rattle.fm_dimacs.proofs.Lasting.{leads_more, leads_one}
 use Rattle.fm_dimacs.proofs.Verdict.{broken_here, broken_behind}
 
 -- what a value is that was read
@@ -85,3 +89,47 @@ node_more nodes items n text b c e h next is =
     let count : length nodes + 1 ≡ length items = omega (arith, ap length e, length-append nodes (n ∷ [])) in
     let more = leads_more (length nodes) (Comments []) (Comments nodes) (Comments items) text b (node_line (length nodes + 1) n) c h is (inl (n, next, refl, ap Comments e)) in
     subst (λ k. Leads k (Comments []) text (Comments items) c) count more
+
+-- no problem line stands where none is read, and none may stand before any comment
+pub problem_broken : (nodes : List Node) (text : List ℕ) (line : ℕ) → line ≡ length nodes + 1 → length nodes < 2 ^ 64 → ((n : Node) (behind : List ℕ) → IsNextNode nodes n → text ≡ node_line (length nodes + 1) n ++ behind → ⊥)
+    → ((arcs : ℕ) (behind : List ℕ) → 0 < length nodes → problem_at (length nodes) text ≡ Some (arcs, behind) → ⊥) → BreaksAfter (length nodes) (Comments nodes) text line
+problem_broken nodes text line e few never none =
+    broken_here (length nodes) line (Comments nodes) text e (record {
+      no_line = λ line behind next is h. elim h [
+        | inl x ↦ never x.0 behind x.1 (is ∙ (λ i. x.2 i ++ behind))
+        | inr x ↦ none x.0 behind x.1 (ap (problem_at (length nodes)) (is ∙ (λ i. x.3 i ++ behind)) ∙ problem_again (length nodes) x.0 behind few x.2)
+      ];
+      no_end = λ h. h;
+    })
+
+pub problem_leads : (nodes : List Node) (text : List ℕ) (x : ℕ × List ℕ) → 0 < length nodes → problem_at (length nodes) text ≡ Some x → Leads 1 (Comments nodes) text (Body nodes (unit_lines nodes) [] x.0) x.1
+problem_leads nodes text x some e =
+    let found = problem_takes (length nodes) text x e in
+    leads_one (Comments nodes) (Body nodes (unit_lines nodes) [] x.0) text (problem_line (length nodes) x.0) x.1 found.0 (inr (x.0, some, found.1, refl, refl))
+
+-- ---- the demand and the supplies
+
+pub unit_leads : (line text rest : List ℕ) → (length line == 0) ≡ false → after line text ≡ Some rest → (nodes : List Node) (units : List (List ℕ)) (left : ℕ) → Leads 1 (Body nodes (with_line line units) [] left) text (Body nodes units [] left) rest
+unit_leads [] text rest some e nodes units left = absurd (let never : ⊥ = cc in never)
+unit_leads (b ∷ bs) text rest some e nodes units left = leads_one (Body nodes ((b ∷ bs) ∷ units) [] left) (Body nodes units [] left) text (b ∷ bs) rest (after_takes (b ∷ bs) text rest e) (refl, refl)
+
+pub unit_broken : (line text : List ℕ) (lines : ℕ) → (length line == 0) ≡ false → after line text ≡ None → (nodes : List Node) (units : List (List ℕ)) (left : ℕ) → BreaksAfter lines (Body nodes (with_line line units) [] left) text (lines + 1)
+unit_broken [] text lines some e nodes units left = absurd (let never : ⊥ = cc in never)
+unit_broken (b ∷ bs) text lines some e nodes units left =
+    broken_here lines (lines + 1) (Body nodes ((b ∷ bs) ∷ units) [] left) text refl (record {
+      no_line = λ line behind next is h. some_none behind (sym (after_again (b ∷ bs) behind) ∙ sym (ap (after (b ∷ bs)) (is ∙ (λ i. h.0 i ++ behind))) ∙ e);
+      no_end = λ h. h;
+    })
+
+pub supplies_at : (id i : ℕ) (nodes : List Node) (n : Node) → i < length nodes → n ≡ get_or nodes i n → supplies_from id (drop i nodes) ≡ with_line (supply_line id n) (supplies_from (id + 1) (drop (i + 1) nodes))
+supplies_at id i nodes n h is =
+    let next : suc i ≡ i + 1 = omega arith in
+    ap (supplies_from id) (drop-cons nodes i n h) ∙ (λ j. with_line (supply_line id (sym is j)) (supplies_from (id + 1) (drop (next j) nodes)))
+
+pub unit_room : (line text rest : List ℕ) → (length line == 0) ≡ false → after line text ≡ Some rest → 1 + length rest ≤ length text
+unit_room line text rest some e = let other = eqb-false (length line) 0 some in omega (arith, ap length (after_takes line text rest e), length-append line rest)
+
+-- a call that passes on the refusal of another
+pub fault_passed : {T : Type 0} (r : Result T Refusal) (refusal : Refusal) (lines : ℕ) (p : Place) (text : List ℕ) → IsErrAnd r (λ e. e ≡ refusal) → IsFault lines p text refusal → IfErr r (IsFault lines p text)
+fault_passed (Ok x) refusal lines p text h f = absurd h
+fault_passed (Err e) refusal lines p text h f = subst (IsFault lines p text) (sym h) f

@@ -5,8 +5,9 @@ ghost use Rattle.fm_records.specs.declared.refusal.Refusal.TheVariants as refusa
 ghost use Rattle.fm_net.specs.declared.node.Node.{Node as NodeName};
 ghost use Rattle.fm_net.specs.Nodes.{IsInRange};
 ghost use Rattle.fm_dimacs.specs.Text.{node_line};
-ghost use Rattle.fm_dimacs.specs.Lines.{Comments, Leads, IsNextNode, IsFault};
+ghost use Rattle.fm_dimacs.specs.Lines.{Comments, Body, Leads, IsNextNode, IsFault, with_line, supplies_from, unit_lines};
 
+use crate::dump::{count_tasks, write_demand, write_supply};
 use crate::scan;
 use fm_net::node::{Node, order};
 use fm_records::refusal::Refusal;
@@ -67,4 +68,79 @@ fn read_nodes(alloc: Global, text: &[u8]) -> Result<(Vec<Node>, &[u8]), Refusal>
             }
         }
     }
+}
+
+// The number of arcs of the problem line, and what stands behind it.
+fn read_problem<'a>(nodes: &[Node], text: &'a [u8]) -> Result<(u64, &'a [u8]), Refusal>
+    requires room { length nodes.now + length text.now < 2 ^ 63 }
+    requires no_node { (n : NodeName) (behind : List ℕ) → IsNextNode nodes.now n → text.now ≡ node_line (length nodes.now + 1) n ++ behind → ⊥ }
+    ensures ok { IfOk result (λ x. Leads 1 (Comments nodes.now) text.now (Body nodes.now (unit_lines nodes.now) [] x.0) x.1.now) }
+    ensures err { IfErr result (IsFault (length nodes.now) (Comments nodes.now) text.now) }
+{
+    if nodes.is_empty() {
+        return Err(Refusal::BadDimacs(1));
+    }
+    match scan::problem(nodes.len() as u64, text) {
+        Some(found) => Ok(found),
+        None => Err(Refusal::BadDimacs(nodes.len() + 1)),
+    }
+}
+
+// How many lines the line is, none if it is empty, and what stands behind it.
+fn read_unit<'a>(line: &[u8], lines: usize, text: &'a [u8]) -> Result<(usize, &'a [u8]), Refusal>
+    requires { lines < 2 ^ 63 }
+    ensures ok { IfOk result (λ x. (nodes : List NodeName) (units : List (List ℕ)) (left : ℕ) → Leads x.0 (Body nodes (with_line line.now units) [] left) text.now (Body nodes units [] left) x.1.now) }
+    ensures room { IfOk result (λ x. x.0 + length x.1.now ≤ length text.now) }
+    ensures err { (nodes : List NodeName) (units : List (List ℕ)) (left : ℕ) → IfErr result (IsFault lines (Body nodes (with_line line.now units) [] left) text.now) }
+{
+    if line.is_empty() {
+        return Ok((0, text));
+    }
+    match scan::after(text, line) {
+        Some(rest) => Ok((1, rest)),
+        None => Err(Refusal::BadDimacs(lines + 1)),
+    }
+}
+
+// How many lines of supplies there are, and what stands behind them.
+fn read_supplies<'a>(
+    nodes: &[Node],
+    line: &mut String,
+    lines: usize,
+    text: &'a [u8],
+) -> Result<(usize, &'a [u8]), Refusal>
+    requires { lines + length text.now < 2 ^ 63 }
+    ensures ok { IfOk result (λ x. (left : ℕ) → Leads x.0 (Body nodes.now (supplies_from 1 nodes.now) [] left) text.now (Body nodes.now [] [] left) x.1.now) }
+    ensures room { IfOk result (λ x. x.0 + length x.1.now ≤ length text.now) }
+    ensures err { (left : ℕ) → IfErr result (IsFault lines (Body nodes.now (supplies_from 1 nodes.now) [] left) text.now) }
+{
+    let mut count = 0;
+    let mut rest = text;
+    for (i, node) in nodes.iter().enumerate() {
+        line.clear();
+        write_supply(line, i + 1, node)?;
+        let (more, behind) = read_unit(line.as_bytes(), lines + count, rest)?;
+        count += more;
+        rest = behind;
+    }
+    Ok((count, rest))
+}
+
+// How many lines of demand and supplies there are, and what stands behind them.
+fn read_units<'a>(
+    alloc: Global,
+    nodes: &[Node],
+    lines: usize,
+    text: &'a [u8],
+) -> Result<(usize, &'a [u8]), Refusal>
+    requires { lines + length text.now < 2 ^ 63 }
+    ensures ok { IfOk result (λ x. (left : ℕ) → Leads x.0 (Body nodes.now (unit_lines nodes.now) [] left) text.now (Body nodes.now [] [] left) x.1.now) }
+    ensures room { IfOk result (λ x. x.0 + length x.1.now ≤ length text.now) }
+    ensures err { (left : ℕ) → IfErr result (IsFault lines (Body nodes.now (unit_lines nodes.now) [] left) text.now) }
+{
+    let mut line = String::new(alloc);
+    write_demand(&mut line, count_tasks(nodes))?;
+    let (demands, rest) = read_unit(line.as_bytes(), lines, text)?;
+    let (supplies, rest) = read_supplies(nodes, &mut line, lines + demands, rest)?;
+    Ok((demands + supplies, rest))
 }
