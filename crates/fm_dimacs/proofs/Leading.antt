@@ -13,7 +13,7 @@ use Rattle.fm_net.specs.Net.{IsArc}
 use Rattle.fm_net.specs.ListLaws.{member_has}
 use Rattle.fm_dimacs.specs.Text.{node_line, problem_line, is_task, demand_line, supply_line, arc_line, id_in}
 use Rattle.fm_dimacs.specs.Lines.{Place, Comments, Body, Allows, Leads, IsNextNode, IsNextArc, with_line, supplies_from, unit_lines}
-use Rattle.fm_dimacs.specs.Scan.{node_at, problem_at, numbers_at}
+use Rattle.fm_dimacs.specs.Scan.{ids_of, node_at, problem_at, numbers_at}
 use Rattle.fm_dimacs.proofs.Ids.{id_below, id_tells}
 use Rattle.fm_dimacs.proofs.ReadLines.{node_again, problem_again, numbers_again, numbers_line, Fit}
 
@@ -87,9 +87,6 @@ next_in_range [] n e = subst IsInRange (sym e) tt
 next_in_range (m ∷ ms) n h = h.1
 
 -- ---- arcs by the IDs of their ends
-
-abbrev pub ids_of : List Node → Arc → ℕ × ℕ × ℕ × ℕ
-ids_of nodes arc = (id_in nodes arc.0.0, id_in nodes arc.0.1, arc.1.0, arc.1.1)
 
 pub line_of_ids : (nodes : List Node) (arc : Arc) → arc_line nodes arc ≡ numbers_line (ids_of nodes arc)
 line_of_ids nodes arc = refl

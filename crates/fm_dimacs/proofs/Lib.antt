@@ -10,3 +10,4 @@ mod Whole
 mod Lasting
 mod Verdict
 mod Reader
+mod Arcs

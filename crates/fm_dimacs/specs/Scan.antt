@@ -7,6 +7,10 @@ use Rattle.fm_records.specs.declared.refusal.Refusal.TheVariants.{OutOfMemory}
 use Rattle.fm_records.specs.Ids.{read_id, id_text}
 use Rattle.fm_net.specs.declared.node.Node.{Node}
 use Rattle.fm_net.specs.declared.node.Node.TheVariants.{Sink, Unscheduled, Request, Machine, Task}
+use Rattle.fm_net.specs.Nodes.{ends_cmp}
+use Rattle.fm_net.specs.Net.{IsArc}
+use Rattle.fm_dimacs.specs.Text.{id_in}
+use Rattle.std.specs.declared.cmp.Ordering.TheVariants.{Less}
 
 infixl 10 ◌>>=◌
 abbrev pub ◌>>=◌ : {A B : Type 0} → Option A → (A → Option B) → Option B
@@ -104,3 +108,16 @@ numbers_at bytes = do
   cost ← number_at rest
   rest ← after (codes "\n") cost.1
   Some ((source.0, target.0, capacity.0, cost.0), rest)
+
+-- an arc that a network of the nodes can have
+abbrev pub IsArcAmong : List Node → (Node × Node) × (ℕ × ℕ) → Type 0
+IsArcAmong nodes arc = IsArc (record { nodes = nodes; arcs = [] }) arc.0.0 arc.0.1 arc.1
+
+-- the arc comes after the one with these ends, if there is one
+abbrev pub IsAfter : Option (Node × Node) → (Node × Node) × (ℕ × ℕ) → Type 0
+IsAfter None arc = Unit {0}
+IsAfter (Some ends) arc = ends_cmp ends arc.0 ≡ Less
+
+-- the IDs of an arc's ends, its capacity and its cost
+abbrev pub ids_of : List Node → (Node × Node) × (ℕ × ℕ) → ℕ × ℕ × ℕ × ℕ
+ids_of nodes arc = (id_in nodes arc.0.0, id_in nodes arc.0.1, arc.1.0, arc.1.1)
