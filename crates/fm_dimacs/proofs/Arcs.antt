@@ -8,6 +8,7 @@ use Rattle.std.specs.declared.cmp.Ordering.{Ordering}
 use Rattle.std.specs.declared.cmp.Ordering.TheVariants.{Less, Equal, Greater}
 use Rattle.std.proofs.lemmas.Bool.{eqb-false}
 use Rattle.std.proofs.lemmas.Cmp.{tied_itself}
+use Rattle.std.proofs.lemmas.List.{get_or_default}
 use Rattle.fm_lattice.specs.Chains.{less_greater}
 use Rattle.fm_lattice.specs.Maps.{put, IsBelow, IsRising}
 use Rattle.fm_records.specs.Sets.{IsMember, insert_once}
@@ -16,45 +17,30 @@ use Rattle.fm_net.specs.declared.node.Node.{Node}
 use Rattle.fm_net.specs.declared.node.Node.TheVariants.{Sink}
 use Rattle.fm_net.specs.Nodes.{node_cmp, ends_cmp, IsInRange, IsRequestInRange}
 use Rattle.fm_net.specs.NodeOrder.{node_total, node_exact, ends_total}
-use Rattle.fm_net.specs.Net.{Net, IsArc, has_node, later}
+use Rattle.fm_net.specs.Net.{Net, IsArc, IsArcKind, has_node, later}
 use Rattle.fm_net.specs.ListLaws.{has_member, member_has}
 use Rattle.fm_dimacs.specs.Text.{id_in}
 use Rattle.fm_dimacs.specs.Lines.{Place, Comments, Body, Allows, Leads, IsEnd, IsStuck, IsAfterLast, IsNextNode, IsNextArc, BreaksAfter}
 use Rattle.fm_dimacs.specs.Scan.{IsArcAmong, IsAfter, ids_of}
-use Rattle.fm_dimacs.proofs.Ids.{id_below, id_least}
+use Rattle.fm_dimacs.proofs.Ids.{id_below, id_least, id_tells}
 use Rattle.fm_dimacs.proofs.Placed.{id_at}
 use Rattle.fm_dimacs.proofs.Leading.{Arc, nodes_of}
 
 -- ---- nodes by ID
 
-standing : List Node → Node → Type 0
-standing nodes n = IsTrue (has_node (record { nodes = nodes; arcs = [] }) n)
+member_at : (nodes : List Node) (i : ℕ) (d : Node) → i < length nodes → IsMember (get_or nodes i d) nodes
+member_at [] i d h = absurd (omega arith)
+member_at (m ∷ ms) zero d h = inl refl
+member_at (m ∷ ms) (suc i) d h = inr (member_at ms i d (omega arith))
 
-got : (nodes : List Node) (i : ℕ) (n d : Node) → slice_get nodes i ≡ Some n → (i < length nodes) × (get_or nodes i d ≡ n)
-got [] i n d e = some_none n (sym e)
-got (m ∷ ms) zero n d e = (omega arith, cc)
-got (m ∷ ms) (suc i) n d e = let rest = got ms i n d e in (omega (arith, rest.0), rest.1)
+pub node_found : (nodes : List Node) (id : ℕ) (n : Node) → Rises node_cmp nodes → (id ≡ 0 → ⊥) → id - 1 < length nodes → n ≡ get_or nodes (id - 1) n → IsTrue (has_node (record { nodes = nodes; arcs = [] }) n) × (id_in nodes n ≡ id)
+node_found nodes id n r some place is =
+    let same : (d : Node) → node_cmp (get_or nodes (id - 1) d) n ≡ Equal = λ d. ap (λ m. node_cmp m n) (get_or_default nodes (id - 1) d n place ∙ sym is) ∙ tied_itself node_total n in
+    let member = subst (λ m. IsMember m nodes) (sym is) (member_at nodes (id - 1) n place) in
+    (has_member node_cmp node_total node_exact n nodes member, id_at 1 nodes n (id - 1) r place same ∙ omega arith)
 
-missing : (nodes : List Node) (i : ℕ) → slice_get nodes i ≡ None → length nodes ≤ i
-missing [] i e = omega arith
-missing (m ∷ ms) zero e = some_none m e
-missing (m ∷ ms) (suc i) e = let rest = missing ms i e in omega arith
-
-got_member : (nodes : List Node) (i : ℕ) (n : Node) → slice_get nodes i ≡ Some n → IsMember n nodes
-got_member [] i n e = some_none n (sym e)
-got_member (m ∷ ms) zero n e = inl cc
-got_member (m ∷ ms) (suc i) n e = inr (got_member ms i n e)
-
-pub node_found : (nodes : List Node) (id : ℕ) (n : Node) → Rises node_cmp nodes → (id == 0) ≡ false → slice_get nodes (id - 1) ≡ Some n → IsTrue (has_node (record { nodes = nodes; arcs = [] }) n) × (id_in nodes n ≡ id)
-node_found nodes id n r some e =
-    let positive = eqb-false id 0 some in
-    let place = (got nodes (id - 1) n n e).0 in
-    let same : (d : Node) → node_cmp (get_or nodes (id - 1) d) n ≡ Equal = λ d. ap (λ m. node_cmp m n) (got nodes (id - 1) n d e).1 ∙ tied_itself node_total n in
-    (has_member node_cmp node_total node_exact n nodes (got_member nodes (id - 1) n e), id_at 1 nodes n (id - 1) r place same ∙ omega arith)
-
-pub node_missing : (nodes : List Node) (id : ℕ) → slice_get nodes (id - 1) ≡ None → (n : Node) → IsTrue (has_node (record { nodes = nodes; arcs = [] }) n) → id_in nodes n ≡ id → ⊥
-node_missing nodes id e n stands is =
-    let few = missing nodes (id - 1) e in
+pub node_missing : (nodes : List Node) (id : ℕ) → length nodes ≤ id - 1 → (n : Node) → IsTrue (has_node (record { nodes = nodes; arcs = [] }) n) → id_in nodes n ≡ id → ⊥
+node_missing nodes id few n stands is =
     let below = id_below 1 nodes n (omega arith) in
     let least = id_least 1 nodes n (member_has node_cmp node_total node_exact n nodes stands) in
     omega arith
@@ -167,3 +153,20 @@ put_last (x ∷ []) from to arc r h =
 put_last (x ∷ y ∷ more) from to arc r h =
     let greater : ends_cmp (from, to) x.0 ≡ Greater = less_greater ends_cmp ends_total x.0 (from, to) (last_below x.0 y more ((from, to), arc) r.0.0 r.0.1 h) in
     rw greater (ap (λ l. x ∷ l) (put_last (y ∷ more) from to arc r.1 h))
+
+-- what is known of an arc whose IDs are those of two nodes
+pub record Known (from to : Node) (numbers : ℕ × ℕ × ℕ × ℕ) : Type 0 where
+  pub kinds : IsArcKind from to
+  pub capacity : 1 ≤ numbers.2
+  pub cost : numbers.3 ≤ 1000000000
+
+pub known : (nodes : List Node) (a : Arc) (numbers : ℕ × ℕ × ℕ × ℕ) (from to : Node) → IsArcAmong nodes a → ids_of nodes a ≡ numbers
+    → IsTrue (has_node (record { nodes = nodes; arcs = [] }) from) × (id_in nodes from ≡ numbers.0) → IsTrue (has_node (record { nodes = nodes; arcs = [] }) to) × (id_in nodes to ≡ numbers.1) → Known from to numbers
+known nodes a numbers from to is e f t =
+    let first : a.0.0 ≡ from = id_tells 1 nodes a.0.0 from (member_has node_cmp node_total node_exact a.0.0 nodes is.from_stands) (member_has node_cmp node_total node_exact from nodes f.0) (ap (λ x. x.0) e ∙ sym f.1) in
+    let second : a.0.1 ≡ to = id_tells 1 nodes a.0.1 to (member_has node_cmp node_total node_exact a.0.1 nodes is.to_stands) (member_has node_cmp node_total node_exact to nodes t.0) (ap (λ x. x.1) e ∙ sym t.1) in
+    record {
+      kinds = subst (λ n. IsArcKind n to) first (subst (IsArcKind a.0.0) second is.kinds);
+      capacity = omega (arith, is.capacity_above, ap (λ x. x.2) e);
+      cost = omega (arith, is.cost_within, ap (λ x. x.3) e);
+    }

@@ -1,6 +1,7 @@
 //! Networks as text, in a canonical form of the DIMACS format.
 #![tactic(auto)]
 
+mod arc_lines;
 pub mod dump;
 pub mod laws;
 pub mod out;
