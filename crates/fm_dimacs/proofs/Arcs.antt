@@ -8,7 +8,7 @@ use Rattle.std.specs.declared.cmp.Ordering.{Ordering}
 use Rattle.std.specs.declared.cmp.Ordering.TheVariants.{Less, Equal, Greater}
 use Rattle.std.proofs.lemmas.Bool.{eqb-false}
 use Rattle.std.proofs.lemmas.Cmp.{tied_itself}
-use Rattle.std.proofs.lemmas.List.{get_or_default}
+use Rattle.std.proofs.lemmas.List.{get_or_default, length-append}
 use Rattle.fm_lattice.specs.Chains.{less_greater}
 use Rattle.fm_lattice.specs.Maps.{put, IsBelow, IsRising}
 use Rattle.fm_records.specs.Sets.{IsMember, insert_once}
@@ -19,12 +19,15 @@ use Rattle.fm_net.specs.Nodes.{node_cmp, ends_cmp, IsInRange, IsRequestInRange}
 use Rattle.fm_net.specs.NodeOrder.{node_total, node_exact, ends_total}
 use Rattle.fm_net.specs.Net.{Net, IsArc, IsArcKind, has_node, later}
 use Rattle.fm_net.specs.ListLaws.{has_member, member_has}
-use Rattle.fm_dimacs.specs.Text.{id_in}
+use Rattle.fm_dimacs.specs.Text.{id_in, arc_line}
 use Rattle.fm_dimacs.specs.Lines.{Place, Comments, Body, Allows, Leads, IsEnd, IsStuck, IsAfterLast, IsNextNode, IsNextArc, BreaksAfter}
-use Rattle.fm_dimacs.specs.Scan.{IsArcAmong, IsAfter, ids_of}
+use Rattle.fm_dimacs.specs.Scan.{IsArcAmong, IsAfter, ids_of, numbers_at}
 use Rattle.fm_dimacs.proofs.Ids.{id_below, id_least, id_tells}
 use Rattle.fm_dimacs.proofs.Placed.{id_at}
-use Rattle.fm_dimacs.proofs.Leading.{Arc, nodes_of}
+use Rattle.fm_dimacs.proofs.Leading.{Arc, nodes_of, ids_fit}
+use Rattle.fm_dimacs.proofs.Lasting.{leads_more}
+use Rattle.fm_dimacs.proofs.Verdict.{broken_here, broken_behind}
+use Rattle.fm_dimacs.proofs.ReadLines.{numbers_line, numbers_take, numbers_again}
 
 -- ---- nodes by ID
 
@@ -170,3 +173,50 @@ known nodes a numbers from to is e f t =
       capacity = omega (arith, is.capacity_above, ap (λ x. x.2) e);
       cost = omega (arith, is.cost_within, ap (λ x. x.3) e);
     }
+
+-- ---- lines of arcs
+
+pub no_numbers : (nodes : List Node) (text : List ℕ) (a : Arc) (behind : List ℕ) → length nodes < 2 ^ 64 → IsArcAmong nodes a → numbers_at text ≡ None → text ≡ arc_line nodes a ++ behind → ⊥
+no_numbers nodes text a behind few is none e =
+    some_none (ids_of nodes a, behind) (sym (numbers_again (ids_of nodes a) behind (ids_fit nodes [] a few is)) ∙ sym (ap numbers_at e) ∙ none)
+
+pub same_numbers : (nodes : List Node) (text : List ℕ) (a : Arc) (behind : List ℕ) (x : (ℕ × ℕ × ℕ × ℕ) × List ℕ) → length nodes < 2 ^ 64 → IsArcAmong nodes a → numbers_at text ≡ Some x → text ≡ arc_line nodes a ++ behind → ids_of nodes a ≡ x.0
+same_numbers nodes text a behind x few is found e =
+    let same : (ids_of nodes a, behind) ≡ x = some_is (ids_of nodes a, behind) x (sym (numbers_again (ids_of nodes a) behind (ids_fit nodes [] a few is)) ∙ sym (ap numbers_at e) ∙ found) in
+    ap (λ y. y.0) same
+  where
+    some_is : {A : Type 0} (y z : A) → Some y ≡ Some z → y ≡ z
+    some_is y z g = cc
+
+pub arc_stands : (nodes : List Node) (text : List ℕ) (a : Arc) (x : (ℕ × ℕ × ℕ × ℕ) × List ℕ) → ids_of nodes a ≡ x.0 → numbers_at text ≡ Some x → text ≡ arc_line nodes a ++ x.1
+arc_stands nodes text a x same found = (numbers_take text x found).0 ∙ ap (λ n. numbers_line n ++ x.1) (sym same)
+
+with_others : (nodes : List Node) (others more : List Arc) (a : Arc) → IsArc (record { nodes = nodes; arcs = others }) a.0.0 a.0.1 a.1 → IsArc (record { nodes = nodes; arcs = more }) a.0.0 a.0.1 a.1
+with_others nodes others more a is =
+    record { from_stands = is.from_stands; to_stands = is.to_stands; kinds = is.kinds; capacity_above = is.capacity_above; capacity_fits = is.capacity_fits; cost_within = is.cost_within }
+
+-- behind these arcs, of which one more is to come, no line of an arc stands that may
+pub arc_broken : (nodes : List Node) (arcs : List Arc) (left done lines line : ℕ) (last : Option (Node × Node)) (text rest : List ℕ) → line ≡ lines + done + 1 → done < left → last ≡ last_ends arcs
+    → Leads done (Body nodes [] [] left) text (Body nodes [] arcs (left - done)) rest
+    → ((a : Arc) (behind : List ℕ) → IsArcAmong nodes a → IsAfter last a → rest ≡ arc_line nodes a ++ behind → ⊥) → BreaksAfter lines (Body nodes [] [] left) text line
+arc_broken nodes arcs left done lines line last text rest number more is leads none =
+    let one : left - done ≡ suc (left - done - 1) = omega arith in
+    let here : Leads done (Body nodes [] [] left) text (Body nodes [] arcs (suc (left - done - 1))) rest = subst (λ k. Leads done (Body nodes [] [] left) text (Body nodes [] arcs k) rest) one leads in
+    broken_behind lines done line (Body nodes [] [] left) (Body nodes [] arcs (suc (left - done - 1))) text rest here
+    (broken_here (lines + done) line (Body nodes [] arcs (suc (left - done - 1))) rest number (record {
+      no_line = λ l behind next e h. none h.0 behind (with_others nodes arcs [] h.0 h.1.0) (subst (λ ends. IsAfter ends h.0) (sym is) (after_last arcs h.0 h.1.1)) (e ∙ (λ i. h.2 i ++ behind));
+      no_end = λ h. h;
+    }))
+
+-- one more arc
+pub arc_leads : (nodes : List Node) (arcs all : List Arc) (left done : ℕ) (last : Option (Node × Node)) (text rest behind : List ℕ) (a : Arc) → done < left → last ≡ last_ends arcs
+    → Leads done (Body nodes [] [] left) text (Body nodes [] arcs (left - done)) rest → IsArcAmong nodes a → IsAfter last a → rest ≡ arc_line nodes a ++ behind → all ≡ arcs ++ (a ∷ [])
+    → Leads (done + 1) (Body nodes [] [] left) text (Body nodes [] all (left - (done + 1))) behind
+arc_leads nodes arcs all left done last text rest behind a more is leads arc after e whole =
+    let one : left - done ≡ suc (left - (done + 1)) = omega arith in
+    let here : Leads done (Body nodes [] [] left) text (Body nodes [] arcs (suc (left - (done + 1)))) rest = subst (λ k. Leads done (Body nodes [] [] left) text (Body nodes [] arcs k) rest) one leads in
+    leads_more done (Body nodes [] [] left) (Body nodes [] arcs (suc (left - (done + 1)))) (Body nodes [] all (left - (done + 1))) text rest (arc_line nodes a) behind here e
+    (a, (with_others nodes [] arcs a arc, is_after_last arcs a (subst (λ ends. IsAfter ends a) is after)), refl, ap (λ list. Body nodes [] list (left - (done + 1))) whole)
+
+pub arc_room : (nodes : List Node) (a : Arc) (rest behind : List ℕ) → rest ≡ arc_line nodes a ++ behind → 1 + length behind ≤ length rest
+arc_room nodes a rest behind e = let whole = length-append (arc_line nodes a) behind in omega (arith, ap length e)

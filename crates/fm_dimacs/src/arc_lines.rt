@@ -1,16 +1,18 @@
 //! The lines of arcs.
 
-ghost use Rattle.std.specs.Prelude.{◌≡◌, ◌≤◌, ◌<◌, ◌^◌, ◌+◌, ◌++◌, ◌↔◌, ℕ, List, [], IsTrue, IfOk, IfErr, IfSome, IfNone, OnOk, OnErr, length, MatchOption};
+ghost use Rattle.std.specs.Prelude.{◌≡◌, ◌≤◌, ◌<◌, ◌^◌, ◌+◌, ◌++◌, ◌∷◌, ◌↔◌, ℕ, List, [], IsTrue, IfOk, IfErr, IfSome, IfNone, OnOk, OnErr, length, MatchOption};
+ghost use Rattle.std.specs.Ordering.{on};
 ghost use Rattle.fm_records.specs.TableLaws.{Rises};
 ghost use Rattle.fm_net.specs.declared.node.Node.{Node as NodeName};
 ghost use Rattle.fm_net.specs.Nodes.{node_cmp, ends_cmp};
 ghost use Rattle.fm_net.specs.Net.{IsArcKind, has_node};
 ghost use Rattle.fm_net.specs.Walks.{arc_entry};
 ghost use Rattle.fm_dimacs.specs.Text.{arc_line, id_in};
-ghost use Rattle.fm_dimacs.specs.Lines.{Body, Leads, IsFault};
+ghost use Rattle.fm_dimacs.specs.Lines.{Body, Leads, IsAfterLast, IsFault};
 ghost use Rattle.fm_dimacs.specs.Scan.{IsArcAmong, IsAfter, ids_of};
 
 use crate::scan;
+use fm_lattice::join::OutOfMemory;
 use fm_net::network::Network;
 use fm_net::node::{Node, order};
 use fm_records::refusal::Refusal;
@@ -100,5 +102,49 @@ fn next_arc<'a>(
         Some((arc, behind))
     } else {
         None
+    }
+}
+
+// Puts the arc, behind which no other stands yet.
+fn put(network: &mut Network, arc: &(Node, Node, u64, u32)) -> Result<(), OutOfMemory>
+    requires is_arc { IsArcAmong network.old.nodes (arc_entry arc.now) }
+    requires last { IsAfterLast (on (λ e. e.0) ends_cmp) network.old.arcs (arc_entry arc.now) }
+    ensures { OnOk result (network.new ≡ record { nodes = network.old.nodes; arcs = network.old.arcs ++ (arc_entry arc.now ∷ []) }) }
+{
+    network.known();
+    let (from, to, capacity, cost) = *arc;
+    let _ = network.put_arc(from, to, capacity, cost)?;
+    Ok(())
+}
+
+// Puts the arcs of so many lines, behind which the text ends; lines before these are counted.
+pub(crate) fn read_arcs(
+    nodes: &[Node],
+    network: &mut Network,
+    left: u64,
+    lines: usize,
+    text: &[u8],
+) -> Result<(), Refusal>
+    requires rise { Rises node_cmp nodes.now }
+    requires nodes { network.old ≡ record { nodes = nodes.now; arcs = [] } }
+    requires room { lines + length text.now < 2 ^ 63 }
+    ensures nodes { OnOk result (network.new ≡ record { nodes = nodes.now; arcs = network.new.arcs }) }
+    ensures ok { OnOk result (Leads left (Body nodes.now [] [] left) text.now (Body nodes.now [] network.new.arcs 0) []) }
+    ensures err { IfErr result (IsFault lines (Body nodes.now [] [] left) text.now) }
+{
+    let mut last = None;
+    let mut rest = text;
+    for done in 0..left {
+        let Some((arc, behind)) = next_arc(nodes, last, rest) else {
+            return Err(Refusal::BadDimacs(lines + done as usize + 1));
+        };
+        put(network, &arc)?;
+        last = Some((arc.0, arc.1));
+        rest = behind;
+    }
+    if rest.is_empty() {
+        Ok(())
+    } else {
+        Err(Refusal::BadDimacs(lines + left as usize + 1))
     }
 }
