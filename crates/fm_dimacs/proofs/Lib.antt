@@ -11,3 +11,4 @@ mod Lasting
 mod Verdict
 mod Reader
 mod Arcs
+mod Building

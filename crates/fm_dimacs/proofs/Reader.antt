@@ -1,6 +1,6 @@
 -- For the reader's parts: what may come next, and what may not.
 use Rattle.std.proofs.Common.{◌≡◌, ℕ, zero, suc, ◌+◌, ◌-◌, ◌^◌, ◌<◌, ◌≤◌, ◌==◌, false, List, [], ◌∷◌, ◌++◌, Result, Ok, Err, Option, Some, None, length, get_or, drop, refl, sym, ap, subst, ◌∙◌, inl, inr, arith}
-use Rattle.std.specs.Prelude.{slice_get, IfSome, IfErr}
+use Rattle.std.specs.Prelude.{slice_get, IfSome, IfErr, MatchResult}
 use Rattle.std.specs.Result.{IsErrAnd}
 use Rattle.std.proofs.lemmas.Bool.{eqb-false}
 use Rattle.std.specs.declared.cmp.Ordering.{Ordering}
@@ -133,3 +133,7 @@ unit_room line text rest some e = let other = eqb-false (length line) 0 some in 
 pub fault_passed : {T : Type 0} (r : Result T Refusal) (refusal : Refusal) (lines : ℕ) (p : Place) (text : List ℕ) → IsErrAnd r (λ e. e ≡ refusal) → IsFault lines p text refusal → IfErr r (IsFault lines p text)
 fault_passed (Ok x) refusal lines p text h f = absurd h
 fault_passed (Err e) refusal lines p text h f = subst (IsFault lines p text) (sym h) f
+
+pub only_passed : {T : Type 0} (r : Result T Refusal) (refusal : Refusal) (P : T → Type 0) → IsErrAnd r (λ e. e ≡ refusal) → refusal ≡ OutOfMemory → MatchResult r P (λ e. e ≡ OutOfMemory)
+only_passed (Ok x) refusal P h is = absurd h
+only_passed (Err e) refusal P h is = h ∙ is

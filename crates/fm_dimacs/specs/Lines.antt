@@ -94,3 +94,7 @@ abbrev pub IsFault : ℕ → Place → List ℕ → Refusal → Type 0
 IsFault lines start text OutOfMemory = Unit {0}
 IsFault lines start text (BadDimacs line) = BreaksAfter lines start text line
 IsFault lines start text _ = ⊥
+
+-- why a text was not read, from its start
+abbrev pub WhyNot : List ℕ → Refusal → Type 0
+WhyNot = IsFault 0 (Comments [])

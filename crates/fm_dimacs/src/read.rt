@@ -1,14 +1,20 @@
 //! The network that a text is of.
 
-ghost use Rattle.std.specs.Prelude.{◌≡◌, ◌≤◌, ◌<◌, ◌^◌, ◌+◌, ◌++◌, ◌∷◌, ◌↔◌, ℕ, List, [], IsTrue, IfOk, IfErr, IfSome, IfNone, OnOk, length, MatchOption, MatchResult};
+ghost use Rattle.std.specs.Prelude.{◌≡◌, ◌≤◌, ◌<◌, ◌^◌, ◌+◌, ◌++◌, ◌∷◌, ◌↔◌, ℕ, List, [], IsTrue, IfOk, IfErr, IfSome, IfNone, OnOk, length, drop, MatchOption, MatchResult};
+ghost use Rattle.std.specs.List.{AllByRecursion};
 ghost use Rattle.fm_records.specs.declared.refusal.Refusal.TheVariants as refusal;
 ghost use Rattle.fm_net.specs.declared.node.Node.{Node as NodeName};
-ghost use Rattle.fm_net.specs.Nodes.{IsInRange};
-ghost use Rattle.fm_dimacs.specs.Text.{node_line};
-ghost use Rattle.fm_dimacs.specs.Lines.{Comments, Body, Leads, IsNextNode, IsFault, with_line, supplies_from, unit_lines};
+ghost use Rattle.fm_records.specs.TableLaws.{Rises};
+ghost use Rattle.fm_net.specs.Nodes.{IsInRange, node_cmp};
+ghost use Rattle.fm_net.specs.Net.{Net, CanBeNet};
+ghost use Rattle.fm_dimacs.specs.Text.{node_line, dump_text};
+ghost use Rattle.fm_dimacs.specs.Lines.{Comments, Body, Leads, IsNextNode, IsFault, WhyNot, with_line, supplies_from, unit_lines};
 
+use crate::arc_lines::read_arcs;
 use crate::dump::{count_tasks, write_demand, write_supply};
 use crate::scan;
+use fm_lattice::join::OutOfMemory;
+use fm_net::network::Network;
 use fm_net::node::{Node, order};
 use fm_records::refusal::Refusal;
 use std::alloc::Global;
@@ -143,4 +149,63 @@ fn read_units<'a>(
     let (demands, rest) = read_unit(line.as_bytes(), lines, text)?;
     let (supplies, rest) = read_supplies(nodes, &mut line, lines + demands, rest)?;
     Ok((demands + supplies, rest))
+}
+
+// Puts the nodes, which come after those of the network.
+fn put_nodes(network: &mut Network, nodes: &[Node]) -> Result<(), OutOfMemory>
+    requires rise { Rises node_cmp (network.old.nodes ++ nodes.now) }
+    requires in_range { AllByRecursion IsInRange nodes.now }
+    ensures { OnOk result (network.new ≡ record { nodes = network.old.nodes ++ nodes.now; arcs = network.old.arcs }) }
+{
+    for node in nodes {
+        let _ = network.put_node(*node)?;
+    }
+    Ok(())
+}
+
+// The network of the nodes alone.
+fn network_of(alloc: Global, nodes: &[Node]) -> Result<Network, OutOfMemory>
+    requires first { nodes.now ≡ NodeName.Sink ∷ drop 1 nodes.now }
+    requires rise { Rises node_cmp nodes.now }
+    requires in_range { AllByRecursion IsInRange nodes.now }
+    ensures { IfOk result (λ net. net ≡ record { nodes = nodes.now; arcs = [] }) }
+{
+    let mut network = Network::new(alloc)?;
+    put_nodes(&mut network, &nodes[1..])?;
+    Ok(network)
+}
+
+// The network of the text whose comments, of these nodes, are read.
+fn read_body(alloc: Global, nodes: &[Node], text: &[u8]) -> Result<Network, Refusal>
+    requires room { length nodes.now + length text.now < 2 ^ 63 }
+    requires first { 0 < length nodes.now → nodes.now ≡ NodeName.Sink ∷ drop 1 nodes.now }
+    requires rise { Rises node_cmp nodes.now }
+    requires in_range { AllByRecursion IsInRange nodes.now }
+    requires no_node { (n : NodeName) (behind : List ℕ) → IsNextNode nodes.now n → text.now ≡ node_line (length nodes.now + 1) n ++ behind → ⊥ }
+    ensures ok { IfOk result (λ net. (k : ℕ) × Leads k (Comments nodes.now) text.now (Body net.nodes [] net.arcs 0) []) }
+    ensures err { IfErr result (IsFault (length nodes.now) (Comments nodes.now) text.now) }
+{
+    let (left, rest) = read_problem(nodes, text)?;
+    let lines = nodes.len() + 1;
+    let (units, rest) = read_units(alloc, nodes, lines, rest)?;
+    let mut network = network_of(alloc, nodes)?;
+    read_arcs(nodes, &mut network, left, lines + units, rest)?;
+    Ok(network)
+}
+
+/// The network that the text is of, where there is one, of which there is one at most. Refused with the number of the first line that breaks
+/// a rule, counted from 1, which is the line that is missing where the text ends too early; or refused memory. O(bytes log bytes).
+pub fn read(alloc: Global, text: &[u8]) -> Result<Network, Refusal>
+    ensures found { IfOk result (λ net. CanBeNet net × (text.now ≡ dump_text net)) }
+    ensures only { (net : Net) → CanBeNet net → text.now ≡ dump_text net → MatchResult result (λ found. found ≡ net) (λ e. e ≡ refusal.OutOfMemory) }
+    ensures broken { IfErr result (WhyNot text.now) }
+{
+    match read_nodes(alloc, text) {
+        Err(refusal) => Err(refusal),
+        Ok((nodes, rest)) => {
+            let network = read_body(alloc, &nodes, rest)?;
+            network.known();
+            Ok(network)
+        }
+    }
 }
