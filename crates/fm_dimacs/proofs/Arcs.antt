@@ -1,12 +1,11 @@
 -- Arcs by the IDs of their ends, and networks with one more arc.
-use Rattle.std.proofs.Common.{◌≡◌, ℕ, zero, suc, ◌+◌, ◌-◌, ◌^◌, ◌<◌, ◌≤◌, ◌==◌, true, false, List, [], ◌∷◌, ◌++◌, Option, Some, None, length, get_or, refl, sym, ap, subst, ◌∙◌, inl, inr, append_assoc, arith}
-use Rattle.std.specs.Prelude.{slice_get, IsTrue}
+use Rattle.std.proofs.Common.{◌≡◌, ℕ, zero, suc, ◌+◌, ◌-◌, ◌^◌, ◌<◌, ◌≤◌, List, [], ◌∷◌, ◌++◌, Option, Some, None, length, get_or, refl, sym, ap, subst, ◌∙◌, inl, inr, arith}
+use Rattle.std.specs.Prelude.{IsTrue}
 use Rattle.std.specs.List.{AllByRecursion}
 use Rattle.std.specs.Cmp.{IsTotalOrder}
-use Rattle.std.specs.Ordering.{is_eq, on}
+use Rattle.std.specs.Ordering.{on}
 use Rattle.std.specs.declared.cmp.Ordering.{Ordering}
 use Rattle.std.specs.declared.cmp.Ordering.TheVariants.{Less, Equal, Greater}
-use Rattle.std.proofs.lemmas.Bool.{eqb-false}
 use Rattle.std.proofs.lemmas.Cmp.{tied_itself}
 use Rattle.std.proofs.lemmas.List.{get_or_default, length-append}
 use Rattle.fm_lattice.specs.Chains.{less_greater}
@@ -15,12 +14,12 @@ use Rattle.fm_records.specs.Sets.{IsMember, insert_once}
 use Rattle.fm_records.specs.TableLaws.{some_none, IsBelowAll, Rises}
 use Rattle.fm_net.specs.declared.node.Node.{Node}
 use Rattle.fm_net.specs.declared.node.Node.TheVariants.{Sink}
-use Rattle.fm_net.specs.Nodes.{node_cmp, ends_cmp, IsInRange, IsRequestInRange}
+use Rattle.fm_net.specs.Nodes.{node_cmp, ends_cmp, IsInRange}
 use Rattle.fm_net.specs.NodeOrder.{node_total, node_exact, ends_total}
-use Rattle.fm_net.specs.Net.{Net, IsArc, IsArcKind, has_node, later}
+use Rattle.fm_net.specs.Net.{IsArc, IsArcKind, has_node, later}
 use Rattle.fm_net.specs.ListLaws.{has_member, member_has}
 use Rattle.fm_dimacs.specs.Text.{id_in, arc_line}
-use Rattle.fm_dimacs.specs.Lines.{Place, Comments, Body, Allows, Leads, IsEnd, IsStuck, IsAfterLast, IsNextNode, IsNextArc, BreaksAfter}
+use Rattle.fm_dimacs.specs.Lines.{Place, Comments, Body, Allows, Leads, IsAfterLast, IsNextNode, BreaksAfter}
 use Rattle.fm_dimacs.specs.Scan.{IsArcAmong, IsAfter, ids_of, numbers_at}
 use Rattle.fm_dimacs.proofs.Ids.{id_below, id_least, id_tells}
 use Rattle.fm_dimacs.proofs.Placed.{id_at}

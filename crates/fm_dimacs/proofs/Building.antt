@@ -1,6 +1,5 @@
 -- The network of the nodes that were read, and the verdict on a whole text.
-use Rattle.std.proofs.Common.{◌≡◌, ℕ, zero, suc, ◌+◌, ◌-◌, ◌^◌, ◌<◌, ◌≤◌, List, [], ◌∷◌, ◌++◌, Result, Ok, Err, length, get_or, take, drop, refl, sym, ap, subst, ◌∙◌, append_assoc, arith}
-use Rattle.std.specs.Prelude.{IfOk, IfErr, MatchResult}
+use Rattle.std.proofs.Common.{◌≡◌, ℕ, zero, suc, ◌+◌, ◌^◌, ◌<◌, List, [], ◌∷◌, ◌++◌, length, get_or, take, drop, refl, sym, ap, subst, ◌∙◌, append_assoc, arith}
 use Rattle.std.specs.List.{AllByRecursion}
 use Rattle.std.proofs.Math.Seq.{drop-cons}
 use Rattle.std.proofs.lemmas.List.{take_more, take-append-drop}
@@ -13,8 +12,7 @@ use Rattle.fm_net.specs.declared.node.Node.TheVariants.{Sink, Unscheduled, Reque
 use Rattle.fm_net.specs.Nodes.{node_cmp, IsInRange, IsRequestInRange}
 use Rattle.fm_net.specs.Net.{Net, CanBeNet}
 use Rattle.fm_dimacs.specs.Text.{dump_text}
-use Rattle.fm_dimacs.specs.Lines.{Place, Comments, Body, Leads, IsFault, WhyNot, BreaksAt}
-use Rattle.fm_dimacs.proofs.Leading.{nodes_of}
+use Rattle.fm_dimacs.specs.Lines.{Comments, Body, Leads, WhyNot}
 use Rattle.fm_dimacs.proofs.Arcs.{insert_last, leads_first}
 use Rattle.fm_dimacs.proofs.Lasting.{leads_on}
 use Rattle.fm_dimacs.proofs.Whole.{whole_text}

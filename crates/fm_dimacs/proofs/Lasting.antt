@@ -1,8 +1,7 @@
 -- The text of each network is read to its end.
-use Rattle.std.proofs.Common.{◌≡◌, ℕ, zero, suc, ◌+◌, ◌-◌, ◌^◌, ◌<◌, ◌≤◌, Bool, true, false, List, [], ◌∷◌, ◌++◌, Some, length, refl, sym, ap, subst, ◌∙◌, inl, inr, append_assoc, arith}
+use Rattle.std.proofs.Common.{◌≡◌, ℕ, zero, suc, ◌+◌, ◌^◌, ◌<◌, List, [], ◌∷◌, ◌++◌, Some, length, refl, sym, ap, subst, ◌∙◌, inl, inr, append_assoc, arith}
 use Rattle.std.specs.List.{flat_map}
-use Rattle.std.specs.Cmp.{IsTotalOrder}
-use Rattle.std.specs.Ordering.{is_eq, on}
+use Rattle.std.specs.Ordering.{on}
 use Rattle.std.specs.declared.cmp.Ordering.{Ordering}
 use Rattle.std.specs.declared.cmp.Ordering.TheVariants.{Less, Equal, Greater}
 use Rattle.std.proofs.lemmas.Cmp.{tied_itself}
@@ -14,7 +13,7 @@ use Rattle.fm_records.specs.TableLaws.{IsBelowAll, Rises}
 use Rattle.fm_net.specs.declared.node.Node.{Node}
 use Rattle.fm_net.specs.declared.node.Node.TheVariants.{Sink, Unscheduled, Request, Machine, Task}
 use Rattle.fm_net.specs.Nodes.{node_cmp, ends_cmp, IsInRange}
-use Rattle.fm_net.specs.NodeOrder.{node_total, node_exact, ends_total, ends_exact}
+use Rattle.fm_net.specs.NodeOrder.{node_total, node_exact, ends_total}
 use Rattle.fm_net.specs.Net.{Net, CanBeNet, IsArc}
 use Rattle.fm_net.specs.ListLaws.{has_member, member_has}
 use Rattle.fm_dimacs.specs.Text.{node_line, problem_line, arc_line, lines_from, dump_text}
@@ -109,9 +108,6 @@ leads_arcs nodes before (a ∷ more) rest h =
     let later = leads_arcs nodes here more rest h.1 in
     let whole = subst (λ all. Leads (length more) (Body nodes [] here (length more)) (flat_map (arc_line nodes) more ++ rest) (Body nodes [] all 0) rest) (append_assoc before (a ∷ []) more) later in
     (line, Body nodes [] here (length more), flat_map (arc_line nodes) more ++ rest, append_assoc line (flat_map (arc_line nodes) more) rest, (a, h.0, refl, refl), whole)
-
-by_ends : Arc → Arc → Ordering
-by_ends = on (λ a. a.0) ends_cmp
 
 next_arcs : (nodes : List Node) (before : List Arc) (x : Arc) (more : List Arc) → IsBelow ends_cmp x.0 more → IsRising ends_cmp more
     → ((others : List Arc) (a : Arc) → IsMember a more → IsArc (record { nodes = nodes; arcs = others }) a.0.0 a.0.1 a.1) → AreNextArcs nodes (before ++ (x ∷ [])) more

@@ -1,7 +1,7 @@
 -- A line that is read is the line as it is written, and a line that is written is read again.
-use Rattle.std.proofs.Common.{◌≡◌, ℕ, ◌+◌, ◌*◌, ◌^◌, ◌<◌, ◌≤◌, Bool, true, false, cond, eqb, nat_le, List, [], ◌∷◌, ◌++◌, Option, Some, None, refl, sym, ap, subst, ◌∙◌, append_assoc, arith}
+use Rattle.std.proofs.Common.{◌≡◌, ℕ, ◌^◌, ◌<◌, ◌≤◌, true, false, cond, eqb, nat_le, List, ◌++◌, Option, Some, None, refl, sym, ap, subst, ◌∙◌, append_assoc, arith}
 use Rattle.std.specs.Prelude.{codes, decimal}
-use Rattle.std.proofs.lemmas.Bool.{eqb-true, eq-eqb, leb-true, le-leb}
+use Rattle.std.proofs.lemmas.Bool.{eqb-true, eq-eqb, le-leb}
 use Rattle.fm_records.specs.Ids.{id_text}
 use Rattle.fm_net.specs.declared.node.Node.{Node}
 use Rattle.fm_net.specs.declared.node.Node.TheVariants.{Sink, Unscheduled, Request, Machine, Task}
@@ -29,12 +29,6 @@ line_is id (Unscheduled job) = refl
 line_is id (Request request) = refl
 line_is id (Machine machine) = refl
 line_is id (Task task) = refl
-
-abbrev IsText : (Node → List ℕ) → List ℕ → Node × List ℕ → Type 0
-IsText text bytes x = bytes ≡ text x.0 ++ x.1
-
-two_parts : (a b rest : List ℕ) → (a ++ b) ++ rest ≡ a ++ (b ++ rest)
-two_parts a b rest = append_assoc a b rest
 
 request_takes : (bytes : List ℕ) (x : Node × List ℕ) → request_at bytes ≡ Some x → codes " R " ++ bytes ≡ kind_text x.0 ++ x.1
 unfolding request_at
@@ -137,6 +131,9 @@ node_again id n rest fits in_range =
 
 -- ---- the problem
 
+five : (a b c d e rest : List ℕ) → (a ++ (b ++ (c ++ (d ++ e)))) ++ rest ≡ a ++ (b ++ (c ++ (d ++ (e ++ rest))))
+five a b c d e rest = simp append_assoc
+
 pub problem_takes : (nodes : ℕ) (bytes : List ℕ) (x : ℕ × List ℕ) → problem_at nodes bytes ≡ Some x → (bytes ≡ problem_line nodes x.0 ++ x.1) × (x.0 < 2 ^ 64)
 unfolding problem_at
 problem_takes nodes bytes x e =
@@ -151,12 +148,9 @@ problem_takes nodes bytes x e =
     let whole : bytes ≡ problem_line nodes d.0.0 ++ f.0 =
     after_takes (codes "p min ") bytes a.0 a.1
     ∙ ap (λ t. codes "p min " ++ t) ((number_takes a.0 b.0 b.1).0 ∙ (λ i. decimal (number i) ++ after_takes (codes " ") b.0.1 c.0 c.1 i)
-      ∙ ap (λ t. decimal nodes ++ (codes " " ++ t)) (arcs.0 ∙ ap (λ t. decimal d.0.0 ++ t) (after_takes (codes "\n") d.0.1 f.0 f.1)))
+    ∙ ap (λ t. decimal nodes ++ (codes " " ++ t)) (arcs.0 ∙ ap (λ t. decimal d.0.0 ++ t) (after_takes (codes "\n") d.0.1 f.0 f.1)))
     ∙ sym (five (codes "p min ") (decimal nodes) (codes " ") (decimal d.0.0) (codes "\n") f.0) in
     subst (λ (y : ℕ × List ℕ). (bytes ≡ problem_line nodes y.0 ++ y.1) × (y.0 < 2 ^ 64)) g.1 (whole, arcs.1)
-  where
-    five : (a b c d e rest : List ℕ) → (a ++ (b ++ (c ++ (d ++ e)))) ++ rest ≡ a ++ (b ++ (c ++ (d ++ (e ++ rest))))
-    five a b c d e rest = simp append_assoc
 
 pub problem_again : (nodes arcs : ℕ) (rest : List ℕ) → nodes < 2 ^ 64 → arcs < 2 ^ 64 → problem_at nodes (problem_line nodes arcs ++ rest) ≡ Some (arcs, rest)
 unfolding problem_at
@@ -169,9 +163,6 @@ problem_again nodes arcs rest fits fit =
     ∙ ap (λ o. o >>= λ m. after (codes "\n") m.1 >>= λ r. cond (eqb nodes nodes) (Some (m.0, r)) None) (number_again arcs (codes "\n" ++ rest) fit refl)
     ∙ ap (λ o. o >>= λ r. cond (eqb nodes nodes) (Some (arcs, r)) None) (after_again (codes "\n") rest)
     ∙ ap (λ t. cond t (Some (arcs, rest)) None) (eq-eqb nodes nodes refl)
-  where
-    five : (a b c d e rest : List ℕ) → (a ++ (b ++ (c ++ (d ++ e)))) ++ rest ≡ a ++ (b ++ (c ++ (d ++ (e ++ rest))))
-    five a b c d e rest = simp append_assoc
 
 -- ---- an arc
 

@@ -1,5 +1,5 @@
 -- For the reader's parts: what may come next, and what may not.
-use Rattle.std.proofs.Common.{◌≡◌, ℕ, zero, suc, ◌+◌, ◌-◌, ◌^◌, ◌<◌, ◌≤◌, ◌==◌, false, List, [], ◌∷◌, ◌++◌, Result, Ok, Err, Option, Some, None, length, get_or, drop, refl, sym, ap, subst, ◌∙◌, inl, inr, arith}
+use Rattle.std.proofs.Common.{◌≡◌, ℕ, suc, ◌+◌, ◌-◌, ◌^◌, ◌<◌, ◌≤◌, ◌==◌, false, List, [], ◌∷◌, ◌++◌, Result, Ok, Err, Option, Some, None, length, get_or, drop, refl, sym, ap, subst, ◌∙◌, inl, inr, arith}
 use Rattle.std.specs.Prelude.{slice_get, IfSome, IfErr, MatchResult}
 use Rattle.std.specs.Result.{IsErrAnd}
 use Rattle.std.proofs.lemmas.Bool.{eqb-false}
@@ -13,7 +13,7 @@ use Rattle.fm_records.specs.declared.refusal.Refusal.TheVariants.{OutOfMemory, B
 use Rattle.fm_net.specs.declared.node.Node.{Node}
 use Rattle.fm_net.specs.Nodes.{node_cmp, IsInRange}
 use Rattle.fm_dimacs.specs.Text.{node_line, problem_line, supply_line}
-use Rattle.fm_dimacs.specs.Lines.{Place, Comments, Body, Allows, Leads, IsStuck, IsAfterLast, IsNextNode, BreaksAfter, IsFault, with_line, supplies_from, unit_lines}
+use Rattle.fm_dimacs.specs.Lines.{Place, Comments, Body, Leads, IsAfterLast, IsNextNode, BreaksAfter, IsFault, with_line, supplies_from, unit_lines}
 use Rattle.fm_dimacs.specs.Scan.{Reads, after, node_at, problem_at}
 use Rattle.fm_dimacs.proofs.Leading.{next_in_range, same_node_line, node_no_problem}
 use Rattle.fm_dimacs.proofs.Words.{after_takes, after_again}

@@ -1,14 +1,13 @@
 -- Reading an id's text from the front.
-use Rattle.std.proofs.Common.{◌≡◌, ℕ, ◌+◌, ◌-◌, ◌^◌, ◌<◌, ◌≤◌, Bool, true, false, cond, List, ◌++◌, length, take, drop, Option, Some, None, refl, sym, ap, subst, ◌∙◌, inl, arith}
+use Rattle.std.proofs.Common.{◌≡◌, ℕ, ◌<◌, Bool, true, false, cond, List, length, take, drop, Option, Some, None, refl, ap, subst, inl, arith}
 use Rattle.std.specs.Int.{to_be_bytes, w128}
-use Rattle.std.specs.Str.{IsAscii, IsUtf8, bytes_eq}
-use Rattle.std.proofs.lemmas.List.{take_at, drop_at, length-take}
+use Rattle.std.specs.Str.{IsUtf8, bytes_eq}
+use Rattle.std.proofs.lemmas.List.{length-take}
 use Rattle.std.proofs.lemmas.Slice.Eq.{bytes_eq-Decides}
 use Rattle.std.proofs.lemmas.Str.{IsUtf8-from_ascii}
 use Rattle.uuid.specs.Text.{lower}
 use Rattle.uuid.proofs.TextLemmas.{by_index_length, hyphenated_ascii}
 use Rattle.fm_records.specs.Ids.{read_id, id_text}
-use Rattle.fm_records.specs.IdLaws.{text_read}
 use Rattle.fm_dimacs.specs.Scan.{id_at, ◌>>=◌}
 
 pub id_text_long : (n : ℕ) → length (id_text n) ≡ 36

@@ -1,13 +1,12 @@
 -- A text is one network's at most, and of none where a line breaks a rule, which is one line then.
-use Rattle.std.proofs.Common.{◌≡◌, ℕ, zero, suc, ◌+◌, ◌-◌, ◌^◌, ◌<◌, ◌≤◌, List, [], ◌∷◌, ◌++◌, length, refl, sym, ap, subst, ◌∙◌, inl, inr, arith}
+use Rattle.std.proofs.Common.{◌≡◌, ℕ, zero, suc, ◌+◌, ◌-◌, ◌^◌, ◌<◌, ◌≤◌, List, [], ◌∷◌, ◌++◌, length, refl, sym, ap, subst, inl, inr, arith}
 use Rattle.std.specs.List.{flat_map, AllByRecursion}
 use Rattle.std.proofs.lemmas.Bool.{cases_lt}
 use Rattle.std.proofs.lemmas.List.{length-append}
-use Rattle.fm_records.specs.declared.refusal.Refusal.{Refusal}
 use Rattle.fm_net.specs.declared.node.Node.{Node}
 use Rattle.fm_net.specs.Net.{Net, CanBeNet}
 use Rattle.fm_dimacs.specs.Text.{node_line, problem_line, arc_line, lines_from, dump_text}
-use Rattle.fm_dimacs.specs.Lines.{Place, Comments, Body, Allows, Leads, IsEnd, IsStuck, BreaksAfter, BreaksAt, IsFault, unit_lines}
+use Rattle.fm_dimacs.specs.Lines.{Place, Comments, Body, Allows, Leads, IsEnd, IsStuck, BreaksAfter, BreaksAt, unit_lines}
 use Rattle.fm_dimacs.proofs.Leading.{Arc, nodes_of, units_of, IsNonEmpty, Small, units_some, line_some, onward}
 use Rattle.fm_dimacs.proofs.Whole.{text_of, dump_is}
 use Rattle.fm_dimacs.proofs.Lasting.{leads_on, network_leads}

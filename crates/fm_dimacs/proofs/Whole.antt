@@ -1,12 +1,11 @@
 -- The texts that are read to their end are those of networks.
-use Rattle.std.proofs.Common.{◌≡◌, ℕ, zero, suc, ◌+◌, ◌-◌, ◌^◌, ◌<◌, ◌≤◌, true, List, [], ◌∷◌, ◌++◌, length, refl, sym, ap, subst, ◌∙◌, inl, inr, append_assoc, arith}
+use Rattle.std.proofs.Common.{◌≡◌, ℕ, zero, suc, ◌+◌, List, [], ◌∷◌, ◌++◌, length, refl, sym, ap, subst, ◌∙◌, inl, inr, append_assoc}
 use Rattle.std.specs.Prelude.{count_by}
 use Rattle.std.specs.List.{flat_map}
 use Rattle.std.proofs.lemmas.List.{append-nil, length-append}
 use Rattle.fm_net.specs.declared.node.Node.{Node}
-use Rattle.fm_net.specs.Net.{Net}
 use Rattle.fm_dimacs.specs.Text.{node_line, problem_line, is_task, demand_line, supply_line, arc_line, lines_from, dump_text}
-use Rattle.fm_dimacs.specs.Lines.{Place, Comments, Body, Allows, Leads, with_line, supplies_from, unit_lines}
+use Rattle.fm_dimacs.specs.Lines.{Place, Comments, Body, Leads, with_line, supplies_from, unit_lines}
 use Rattle.fm_dimacs.proofs.Leading.{Arc}
 
 abbrev pub text_of : List (List ℕ) → List ℕ
@@ -49,15 +48,19 @@ remains (suc k) (Comments before) text nodes arcs h =
     elim h.4 [
       | inl x ↦
           let r : Remains (Comments (before ++ (x.0 ∷ []))) h.2 nodes arcs = subst (λ z. Remains z h.2 nodes arcs) x.3 rest in
-          let count : length (before ++ (x.0 ∷ [])) ≡ length before + 1 = length-append before (x.0 ∷ []) in
-          (x.0 ∷ r.0, r.1 ∙ append_assoc before (x.0 ∷ []) r.0,
+          let count : length (before ++ (x.0 ∷ [])) ≡ length before + 1 = length-append before (x.0 ∷ []) in (
+            x.0 ∷ r.0,
+            r.1 ∙ append_assoc before (x.0 ∷ []) r.0,
             h.3 ∙ (λ i. x.2 i ++ r.2 i) ∙ ap (λ id. node_line (length before + 1) x.0 ++ (lines_from node_line (id + 1) r.0 ++ body_text nodes arcs)) count
-            ∙ sym (append_assoc (node_line (length before + 1) x.0) (lines_from node_line (length before + 1 + 1) r.0) (body_text nodes arcs)))
+                ∙ sym (append_assoc (node_line (length before + 1) x.0) (lines_from node_line (length before + 1 + 1) r.0) (body_text nodes arcs)),
+          )
       | inr x ↦
           let r : Remains (Body before (unit_lines before) [] x.0) h.2 nodes arcs = subst (λ z. Remains z h.2 nodes arcs) x.4 rest in
-          let count : x.0 ≡ length arcs = sym r.3 ∙ ap length (sym r.2) in
-          ([], sym r.1 ∙ sym (append-nil before),
-            h.3 ∙ (λ i. x.3 i ++ r.4 i) ∙ (λ i. problem_line (length (r.1 i)) (count i) ++ (text_of (unit_lines (r.1 i)) ++ flat_map (arc_line nodes) (sym r.2 i))))
+          let count : x.0 ≡ length arcs = sym r.3 ∙ ap length (sym r.2) in (
+            [],
+            sym r.1 ∙ sym (append-nil before),
+            h.3 ∙ (λ i. x.3 i ++ r.4 i) ∙ (λ i. problem_line (length (r.1 i)) (count i) ++ (text_of (unit_lines (r.1 i)) ++ flat_map (arc_line nodes) (sym r.2 i))),
+          )
     ]
 remains (suc k) (Body of (unit ∷ units) before left) text nodes arcs h =
     let r : Remains (Body of units before left) h.2 nodes arcs = subst (λ z. Remains z h.2 nodes arcs) h.4.1 (remains k h.1 h.2 nodes arcs h.5) in

@@ -38,7 +38,10 @@ fn joins(from: &Node, to: &Node) -> bool
     ensures { IsTrue result ↔ IsArcKind from.now to.now }
 {
     match from {
-        Node::Task(_) => matches!(to, Node::Request(_) | Node::Machine(_) | Node::Unscheduled(_)),
+        Node::Task(_) => matches!(
+            to,
+            Node::Request(_) | Node::Machine(_) | Node::Unscheduled(_)
+        ),
         Node::Request(_) => matches!(to, Node::Machine(_)),
         Node::Machine(_) | Node::Unscheduled(_) => matches!(to, Node::Sink),
         Node::Sink => false,
@@ -46,10 +49,7 @@ fn joins(from: &Node, to: &Node) -> bool
 }
 
 // The arc with these IDs of its ends, capacity and cost, if a network of the nodes can have it.
-fn arc_with(
-    nodes: &[Node],
-    numbers: (u64, u64, u64, u64),
-) -> Option<(Node, Node, u64, u32)>
+fn arc_with(nodes: &[Node], numbers: (u64, u64, u64, u64)) -> Option<(Node, Node, u64, u32)>
     requires { Rises node_cmp nodes.now }
     ensures some { IfSome result (λ a. IsArcAmong nodes.now (arc_entry a) × (ids_of nodes.now (arc_entry a) ≡ numbers)) }
     ensures none { IfNone result ((a : (NodeName × NodeName) × (ℕ × ℕ)) → IsArcAmong nodes.now a → ids_of nodes.now a ≡ numbers → ⊥) }

@@ -208,11 +208,7 @@ fn kind(alloc: Global, bytes: &[u8]) -> Result<Option<(Node, &[u8])>, Refusal>
 
 // The comment of the node with the ID.
 #[tactic(auto, unfolding(crate::specs::Scan::node_at))]
-pub(crate) fn node(
-    alloc: Global,
-    id: u64,
-    bytes: &[u8],
-) -> Result<Option<(Node, &[u8])>, Refusal>
+pub(crate) fn node(alloc: Global, id: u64, bytes: &[u8]) -> Result<Option<(Node, &[u8])>, Refusal>
     ensures reads { ReadsWithin (λ x. (x.0, x.1.now)) result (node_at id bytes.now) }
     ensures in_range { IfOk result (λ found. IfSome found (λ x. IsInRange x.0)) }
 {

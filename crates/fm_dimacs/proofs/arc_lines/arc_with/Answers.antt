@@ -1,5 +1,5 @@
 -- No arc of these IDs can be where a test failed.
-use Rattle.std.proofs.Common.{◌≡◌, true, false, sym, ◌∙◌, arith}
+use Rattle.std.proofs.Common.{arith}
 use Rattle.fm_dimacs.proofs.Arcs.{known}
 use Rattle.fm_dimacs.proofs.arc_lines.arc_with.Goals as goal
 use Rattle.fm_dimacs.proofs.arc_lines.arc_with.Goals.{else-joins-via-then-joins+then-capacity-ge1+else-cost-le1000000000, else-joins-via-then-joins+else-capacity-ge1, else-joins-via-else-joins}

@@ -1,5 +1,5 @@
 -- The line's numbers are the arc's, and tell it from all others.
-use Rattle.std.proofs.Common.{◌≡◌, ◌<◌, ◌^◌, [], length, sym, ◌∙◌, subst, arith}
+use Rattle.std.proofs.Common.{◌≡◌, [], sym, ◌∙◌, subst, arith}
 use Rattle.fm_net.specs.Walks.{arc_entry}
 use Rattle.fm_dimacs.specs.Scan.{IsAfter}
 use Rattle.fm_dimacs.proofs.Arcs.{no_numbers, same_numbers, arc_stands}

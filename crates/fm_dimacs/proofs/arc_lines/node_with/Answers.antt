@@ -1,5 +1,5 @@
 -- The node at the place before the ID is the one that has it.
-use Rattle.std.proofs.Common.{sym, ◌∙◌}
+use Rattle.std.proofs.Common.{◌∙◌}
 use Rattle.fm_dimacs.proofs.Arcs.{node_found, node_missing, no_node_0}
 use Rattle.fm_dimacs.proofs.arc_lines.node_with.Goals as goal
 

@@ -1,5 +1,5 @@
 -- Each arc leads on from those before it; where none comes next, the line is broken.
-use Rattle.std.proofs.Common.{◌≡◌, ◌+◌, ◌-◌, ◌≤◌, ◌++◌, ◌∷◌, [], Some, length, refl, sym, ap, ◌∙◌, subst, arith}
+use Rattle.std.proofs.Common.{◌≡◌, ◌+◌, ◌++◌, ◌∷◌, [], refl, sym, ap, ◌∙◌, subst, arith}
 use Rattle.fm_net.specs.Walks.{arc_entry}
 use Rattle.fm_dimacs.specs.Scan.{IsAfter}
 use Rattle.fm_dimacs.proofs.Arcs.{arc_broken, arc_leads, arc_room, is_after_last, last_ends, last_more}

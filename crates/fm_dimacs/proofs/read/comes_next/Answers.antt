@@ -1,4 +1,4 @@
-use Rattle.std.proofs.Common.{◌≡◌, true, false, refl, sym, ap, ◌∙◌, slice_get, length, ◌-◌, Some}
+use Rattle.std.proofs.Common.{◌≡◌, refl, sym, ◌∙◌, slice_get, length, ◌-◌, Some}
 use Rattle.fm_dimacs.proofs.Reader.{next_is_after, after_is_next}
 use Rattle.fm_dimacs.proofs.read.comes_next.Goals as goal
 

@@ -1,5 +1,5 @@
 -- A comment that is not read does not stand there, and one of a node that may not come next is broken.
-use Rattle.std.proofs.Common.{◌≡◌, ◌+◌, length, arith}
+use Rattle.std.proofs.Common.{◌+◌, length, arith}
 use Rattle.fm_net.specs.Nodes.{IsInRange}
 use Rattle.fm_dimacs.proofs.Leading.{next_in_range}
 use Rattle.fm_dimacs.proofs.ReadLines.{node_takes}

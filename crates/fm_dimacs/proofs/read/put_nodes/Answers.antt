@@ -1,9 +1,6 @@
 -- Each node comes after all others, so that it is put at the end.
-use Rattle.std.proofs.Common.{◌≡◌, ◌++◌, ap, take, ◌∙◌}
-use Rattle.fm_net.specs.declared.node.Node.{Node}
-use Rattle.fm_net.specs.Nodes.{node_cmp}
-use Rattle.fm_records.specs.Sets.{insert_once}
-use Rattle.fm_net.specs.Net.{Net, with_node}
+use Rattle.std.proofs.Common.{ap, ◌∙◌}
+use Rattle.fm_net.specs.Net.{with_node}
 use Rattle.fm_dimacs.proofs.Building.{node_put}
 use Rattle.fm_dimacs.proofs.read.put_nodes.Goals as goal
 

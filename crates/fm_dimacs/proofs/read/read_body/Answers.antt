@@ -1,6 +1,5 @@
 -- The problem line, the demand and the supplies, and the arcs lead on from one another.
-use Rattle.std.proofs.Common.{◌≡◌, ◌+◌, [], length, refl, sym, ap, subst, ◌∙◌, arith}
-use Rattle.fm_net.specs.Net.{Net}
+use Rattle.std.proofs.Common.{◌≡◌, ◌+◌, [], length, refl, sym, ap, subst, arith}
 use Rattle.fm_dimacs.specs.Lines.{Comments, Body, Leads, unit_lines}
 use Rattle.fm_dimacs.proofs.Lasting.{leads_on}
 use Rattle.fm_dimacs.proofs.Reader.{fault_behind, fault_passed}

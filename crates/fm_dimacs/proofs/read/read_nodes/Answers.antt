@@ -1,5 +1,5 @@
 -- Each comment leads on from those before it.
-use Rattle.std.proofs.Common.{◌≡◌, ◌+◌, ◌<◌, ◌^◌, List, ◌++◌, ◌∷◌, [], length, arith, sym, ap, ◌∙◌, subst}
+use Rattle.std.proofs.Common.{◌≡◌, ◌+◌, List, ◌++◌, [], length, arith, ap, subst}
 use Rattle.fm_net.specs.declared.node.Node.{Node}
 use Rattle.fm_dimacs.specs.Text.{node_line}
 use Rattle.fm_dimacs.specs.Lines.{Comments, IsNextNode, IsFault}

@@ -1,5 +1,5 @@
 -- The comments so far lead from the start to the rest, which only becomes shorter.
-use Rattle.std.proofs.Common.{ℕ, [], length}
+use Rattle.std.proofs.Common.{[], length}
 use Rattle.fm_dimacs.specs.Lines.{Comments, Leads}
 use Rattle.fm_dimacs.proofs.read.read_nodes.Given as goal
 

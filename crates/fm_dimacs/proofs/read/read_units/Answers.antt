@@ -1,5 +1,5 @@
 -- The demand comes first, then the supplies.
-use Rattle.std.proofs.Common.{◌≡◌, ℕ, ◌+◌, ◌++◌, List, [], refl, sym, ap, subst, ◌∙◌}
+use Rattle.std.proofs.Common.{◌≡◌, ◌+◌, ◌++◌, [], refl, subst, ◌∙◌}
 use Rattle.std.specs.Prelude.{count_by}
 use Rattle.fm_dimacs.specs.Text.{is_task, demand_line}
 use Rattle.fm_dimacs.specs.Lines.{Body, Leads, IsFault, with_line, supplies_from, unit_lines}

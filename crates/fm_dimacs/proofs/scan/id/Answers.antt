@@ -1,5 +1,5 @@
 -- What is no text at all is no id's.
-use Rattle.std.proofs.Common.{sym, subst, take}
+use Rattle.std.proofs.Common.{sym, subst}
 use Rattle.std.specs.Str.{IsUtf8}
 use Rattle.fm_dimacs.proofs.Uuids.{no_text_no_id}
 use Rattle.fm_dimacs.proofs.scan.id.Goals as goal
