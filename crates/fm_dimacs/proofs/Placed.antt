@@ -44,7 +44,7 @@ searchable ns n r i j d le h =
       | inr (inr more) ↦ absurd (omega arith)
     ]
 
-id_at : (id : ℕ) (ns : List Node) (n : Node) (i : ℕ) → Rises node_cmp ns → i < length ns → ((d : Node) → node_cmp (get_or ns i d) n ≡ Equal) → id_from id ns n ≡ id + i
+pub id_at : (id : ℕ) (ns : List Node) (n : Node) (i : ℕ) → Rises node_cmp ns → i < length ns → ((d : Node) → node_cmp (get_or ns i d) n ≡ Equal) → id_from id ns n ≡ id + i
 id_at id [] n i r h at = absurd (omega arith)
 id_at id (m ∷ ns) n zero r h at = rw (at n) (omega arith)
 id_at id (m ∷ ns) n (suc i) r h at =

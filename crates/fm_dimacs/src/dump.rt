@@ -127,12 +127,27 @@ fn is_task(node: &Node) -> bool
 fn put_demand<W: Out>(nodes: &[Node], line: &mut String, out: &mut W) -> Result<(), Refusal>
     ensures { IsSent result (W.written out.old) (W.written out.new) (W.has_failed out.old) (W.has_failed out.new) (demand_line (count_by is_task nodes.now)) }
 {
-    let tasks = nodes.iter().filter(|node| is_task(node)).count();
     line.clear();
+    write_demand(line, count_tasks(nodes))?;
+    put_all(out, line.as_bytes())
+}
+
+// How many tasks there are.
+pub(crate) fn count_tasks(nodes: &[Node]) -> usize
+    ensures { result ≡ count_by is_task nodes.now }
+{
+    nodes.iter().filter(|node| is_task(node)).count()
+}
+
+// Appends the sink's demand, where there is a task.
+pub(crate) fn write_demand(line: &mut String, tasks: usize) -> Result<(), Refusal>
+    ensures ok { OnOk result (string_bytes line.new ≡ string_bytes line.old ++ demand_line tasks) }
+    ensures err { IsOkUnless result Refusal.OutOfMemory }
+{
     if tasks != 0 {
         write!(line, "n 1 -{tasks}\n")?;
     }
-    put_all(out, line.as_bytes())
+    Ok(())
 }
 
 // Writes each task's supply.
@@ -150,10 +165,19 @@ fn put_supply<W: Out>(id: usize, node: &Node, line: &mut String, out: &mut W) ->
     ensures { IsSent result (W.written out.old) (W.written out.new) (W.has_failed out.old) (W.has_failed out.new) (supply_line id node.now) }
 {
     line.clear();
+    write_supply(line, id, node)?;
+    put_all(out, line.as_bytes())
+}
+
+// Appends the supply of a task, and nothing for another node.
+pub(crate) fn write_supply(line: &mut String, id: usize, node: &Node) -> Result<(), Refusal>
+    ensures ok { OnOk result (string_bytes line.new ≡ string_bytes line.old ++ supply_line id node.now) }
+    ensures err { IsOkUnless result Refusal.OutOfMemory }
+{
     if is_task(node) {
         write!(line, "n {id} 1\n")?;
     }
-    put_all(out, line.as_bytes())
+    Ok(())
 }
 
 // Writes the arcs.

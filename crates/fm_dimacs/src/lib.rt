@@ -1,9 +1,13 @@
 //! Networks as text, in a canonical form of the DIMACS format.
 #![tactic(auto)]
 
+mod arc_lines;
 pub mod dump;
+pub mod laws;
 pub mod out;
 pub mod pieces;
+pub mod read;
+mod scan;
 pub mod solution;
 #[cfg(test)]
 mod tests;

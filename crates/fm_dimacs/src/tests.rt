@@ -6,6 +6,7 @@ ghost use Rattle.fm_net.specs.Nodes.{IsRequestInRange};
 
 use crate::dump::dump;
 use crate::out::{Out, Over};
+use crate::read::read;
 use fm_net::network::Network;
 use fm_net::node::Node;
 use fm_records::ids::{JobId, MachineId, TaskId};
@@ -256,6 +257,146 @@ a 5 2 0 1 500
 a 5 3 0 1 0
 ";
     assert_eq!(rt; text.as_slice(), expected.as_bytes());
+    Ok(())
+}
+
+// The number of the first line that breaks a rule, 0 where the text is a network's.
+fn broken_line(alloc: Global, text: &[u8]) -> Result<usize, Refusal> {
+    match read(alloc, text) {
+        Ok(_) => Ok(0),
+        Err(Refusal::BadDimacs(line)) => Ok(line),
+        Err(refusal) => Err(refusal),
+    }
+}
+
+fn is_read_as(alloc: Global, text: &[u8], network: &Network) -> Result<bool, Refusal> {
+    let found = read(alloc, text)?;
+    Ok(found == *network)
+}
+
+#[test]
+fn what_is_written_is_read(rt: HostRuntime) -> Result<(), Fail> {
+    let network = waiting(rt.alloc(), 500)?;
+    assert!(rt; is_read_as(rt.alloc(), WAITING.as_bytes(), &network)?);
+    let sink = Network::new(rt.alloc())?;
+    assert!(rt; is_read_as(rt.alloc(), b"c 1 S\np min 1 0\n", &sink)?);
+    Ok(())
+}
+
+// Where the text that waits is cut off behind so many lines, the next one is missing.
+#[test]
+fn a_text_cut_off_behind_each_line(rt: HostRuntime) -> Result<(), Fail> {
+    let mut lines = 0;
+    for (i, byte) in WAITING.bytes().enumerate() {
+        assert_eq!(rt;
+            broken_line(rt.alloc(), &WAITING.as_bytes()[..i])?,
+            lines + 1,
+            "{i} bytes"
+        );
+        if byte == b'\n' {
+            lines += 1;
+        }
+    }
+    assert_eq!(rt; lines, 13);
+    Ok(())
+}
+
+// What stands once in the text that waits, what is put in its place, and the first line that breaks a rule then.
+const CHANGES: &[(&str, &str, usize)] = &[
+    ("p min 5 5", "p min 5 6", 14),
+    ("a 5 3 0 1 0\n", "", 13),
+    ("c 1 S", "c 1 S ", 1),
+    ("c 1 S", "c 01 S", 1),
+    ("c 1 S", "c 0 S", 1),
+    ("c 1 S\n", "", 1),
+    ("c 1 S\n", "\nc 1 S\n", 1),
+    ("c 1 S", "C 1 S", 1),
+    ("c 1 S\n", "c 1 S\r\n", 1),
+    ("c 1 S", "c 1 R 5", 1),
+    ("c 2 U", "c  2 U", 2),
+    ("c 2 U", "c 1 U", 2),
+    ("c 2 U", "c 3 U", 2),
+    ("c 2 U", "c +2 U", 2),
+    ("c 2 U", "c 2 S\nc 3 U", 2),
+    (
+        "c 2 U 00000000-0000-0000-0000-000000000001",
+        "c 2 U 00000000000000000000000000000001",
+        2,
+    ),
+    (
+        "c 3 R 100\n",
+        "c 3 U 00000000-0000-0000-0000-000000000001\n",
+        3,
+    ),
+    (
+        "c 3 R 100\n",
+        "c 3 U 00000000-0000-0000-0000-000000000000\n",
+        3,
+    ),
+    ("c 3 R 100", "c 3 R 0100", 3),
+    ("c 3 R 100", "c 3 R 1000001", 3),
+    ("c 3 R 100", "c 3 R 1000000", 0),
+    ("c 3 R 100", "c 3 R -1", 3),
+    ("c 3 R 100", "c 3 X 100", 3),
+    ("00000000000a", "00000000000A", 4),
+    (
+        "c 5 T 00000000-0000-0000-0000-000000000011\n",
+        "c 5 R 200\n",
+        5,
+    ),
+    ("p min 5 5", "p min 4 5", 6),
+    ("p min 5 5", "p min 6 5", 6),
+    ("p min 5 5", "p min 5 05", 6),
+    ("p min 5 5", "p max 5 5", 6),
+    ("p min 5 5", "p min 5 18446744073709551616", 6),
+    ("p min 5 5", "p min 5 18446744073709551615", 14),
+    ("p min 5 5", "p min 5 4", 13),
+    ("p min 5 5", "p min 5", 6),
+    ("n 1 -1\n", "", 7),
+    ("n 1 -1", "n 1 -2", 7),
+    ("n 1 -1", "n 1 1", 7),
+    ("n 1 -1\nn 5 1", "n 5 1\nn 1 -1", 7),
+    ("n 5 1", "n 4 1", 8),
+    ("n 5 1\n", "", 8),
+    ("n 5 1\n", "n 5 1\nn 5 1\n", 9),
+    ("a 2 1 0 1 0", "a 2 1 1 1 0", 9),
+    ("a 2 1 0 1 0", "a 0 1 0 1 0", 9),
+    ("a 2 1 0 1 0", "a 6 1 0 1 0", 9),
+    ("a 2 1 0 1 0", "a 2 3 0 1 0", 9),
+    ("a 2 1 0 1 0", "a 2 1 0 0 0", 9),
+    ("a 2 1 0 1 0", "a 2 1 0 18446744073709551615 0", 0),
+    ("a 2 1 0 1 0", "a 2 1 0 18446744073709551616 0", 9),
+    ("a 2 1 0 1 0", "a 2 1 0 1 1000000000", 0),
+    ("a 2 1 0 1 0", "a 2 1 0 1 1000000001", 9),
+    ("a 2 1 0 1 0", "a 2 1 0 1 00", 9),
+    ("a 2 1 0 1 0", "a 2 1 0 1", 9),
+    (
+        "a 2 1 0 1 0\na 3 4 0 2 100",
+        "a 3 4 0 2 100\na 2 1 0 1 0",
+        10,
+    ),
+    ("a 3 4 0 2 100", "a 2 1 0 1 0", 10),
+    (
+        "a 5 2 0 1 500\na 5 3 0 1 0",
+        "a 5 3 0 1 0\na 5 2 0 1 500",
+        13,
+    ),
+    ("a 5 3 0 1 0\n", "a 5 3 0 1 0", 13),
+    ("a 5 3 0 1 0\n", "a 5 3 0 1 0\n\n", 14),
+    ("a 5 3 0 1 0\n", "a 5 3 0 1 0\na 5 4 0 1 0\n", 14),
+    ("a 5 3 0 1 0\n", "a 5 3 0 1 0\nc", 14),
+];
+
+#[test]
+fn each_rule_broken_once(rt: HostRuntime) -> Result<(), Fail> {
+    for (old, new, line) in CHANGES {
+        let text = WAITING.replacen(rt.alloc(), *old, new, 1)?;
+        assert_eq!(rt;
+            broken_line(rt.alloc(), text.as_bytes())?,
+            *line,
+            "{old} by {new}"
+        );
+    }
     Ok(())
 }
 
