@@ -112,9 +112,12 @@ pub record Listed : Type 0 where
 abbrev pub entry_cmp : (ℕ × ℕ) × ℕ → (ℕ × ℕ) × ℕ → Ordering
 entry_cmp = then_cmp (on (λ k. k.0) attempt_cmp) (on (λ k. k.1) nat_cmp)
 
--- the proposals in one list
+-- the proposals for one attempt, each under its attempt and coordinator, and all proposals in one list
+abbrev pub entries_at : ℕ × ℕ → List (ℕ × Spot) → List (((ℕ × ℕ) × ℕ) × Spot)
+entries_at at spots = map (λ c. ((at, c.0), c.1)) spots
+
 abbrev pub entries_of : List ((ℕ × ℕ) × List (ℕ × Spot)) → List (((ℕ × ℕ) × ℕ) × Spot)
-entries_of = flat_map (λ e. map (λ c. ((e.0, c.0), c.1)) e.1)
+entries_of = flat_map (λ e. entries_at e.0 e.1)
 
 abbrev pub listed : Packet → Listed
 listed p = record {
@@ -130,11 +133,27 @@ listed p = record {
 abbrev pub magic : ℕ
 magic = 0x46444731
 
--- sender, number, and the four lists of records
+-- the magic, the sender, and the number of the packet
+unfoldable pub header : Format (ℕ × ℕ)
+header = seen_as (number w32 magic magic ⨾ coordinator ⨾ count) (λ f. f.1) (λ h. (magic, h))
+
+-- the four lists of records
+abbrev pub jobs : Format (List (ℕ × JobReg))
+jobs = records nat_cmp id job
+
+abbrev pub tasks : Format (List (ℕ × TaskValue))
+tasks = records nat_cmp id task
+
+abbrev pub machines : Format (List (ℕ × MachineValue))
+machines = records nat_cmp id machine
+
+abbrev pub entries : Format (List (((ℕ × ℕ) × ℕ) × Spot))
+entries = records entry_cmp ((id ⨾ attempt) ⨾ coordinator) spot
+
 unfoldable pub packet : Format Listed
-packet = seen_as (number w32 magic magic ⨾ coordinator ⨾ count ⨾ records nat_cmp id job ⨾ records nat_cmp id task ⨾ records nat_cmp id machine ⨾ records entry_cmp ((id ⨾ attempt) ⨾ coordinator) spot)
-    (λ f. record { sender = f.1.0; number = f.1.1.0; jobs = f.1.1.1.0; tasks = f.1.1.1.1.0; machines = f.1.1.1.1.1.0; entries = f.1.1.1.1.1.1 })
-    (λ p. (magic, (p.sender, (p.number, (p.jobs, (p.tasks, (p.machines, p.entries)))))))
+packet = seen_as (header ⨾ jobs ⨾ tasks ⨾ machines ⨾ entries)
+    (λ f. record { sender = f.0.0; number = f.0.1; jobs = f.1.0; tasks = f.1.1.0; machines = f.1.1.1.0; entries = f.1.1.1.1 })
+    (λ p. ((p.sender, p.number), (p.jobs, (p.tasks, (p.machines, p.entries)))))
 
 -- the bytes of a packet
 abbrev pub spelling : Packet → List ℕ
