@@ -1,3 +1,4 @@
 pub mod Binds
 pub mod Walks
 pub mod Grouped
+pub mod Parts
