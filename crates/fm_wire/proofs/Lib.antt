@@ -2,3 +2,5 @@ pub mod Binds
 pub mod Walks
 pub mod Grouped
 pub mod Parts
+pub mod Widths
+pub mod Lawful

@@ -106,7 +106,7 @@ module _ {K V : Type 0} (cmp : K → K → Ordering) (F : Format K) (G : Format 
       let whole : (K × V) × List ℕ = ((key.0.0, value.0.0), value.0.1) in
       subst (λ (x : (K × V) × List ℕ). comes_after cmp last x.0.0 ≡ true) (ok_is whole made value.2) (key_rises last bytes key.0 key.1)
 
-less_is : (o : Ordering) → is_lt o ≡ true → o ≡ Less
+pub less_is : (o : Ordering) → is_lt o ≡ true → o ≡ Less
 less_is Less h = refl
 less_is Equal h = absurd cc
 less_is Greater h = absurd cc
