@@ -4,3 +4,5 @@ pub mod Grouped
 pub mod Parts
 pub mod Widths
 pub mod Lawful
+pub mod PacketLawful
+pub mod InRange

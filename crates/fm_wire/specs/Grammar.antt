@@ -1,6 +1,6 @@
 -- The format of packets: every field, its width and its range, in the order in which they stand (this project's profile,
 -- version FDG1). There is one spelling per packet.
-use Rattle.std.specs.Prelude.{ℕ, ◌-◌, ◌^◌, ◌==◌, ◌||◌, Bool, cond, is_some, List, Option, Some, None, flat_map, map}
+use Rattle.std.specs.Prelude.{◌≡◌, ℕ, ◌<◌, IsTrue, length, ◌-◌, ◌^◌, ◌==◌, ◌||◌, Bool, cond, is_some, List, Option, Some, None, flat_map, map}
 use Rattle.std.specs.Int.{w8, w32, w64, w128}
 use Rattle.std.specs.Ordering.{nat_cmp, on, then_cmp}
 use Rattle.std.specs.declared.cmp.Ordering.{Ordering}
@@ -12,6 +12,8 @@ use Rattle.fm_records.specs.declared.records.Progress.{Progress}
 use Rattle.fm_records.specs.declared.records.MachineReg.{MachineReg}
 use Rattle.fm_records.specs.declared.records.Report.{Report}
 use Rattle.fm_records.specs.declared.records.Spot.{Spot}
+use Rattle.fm_records.specs.Ids.{is_coordinator}
+use Rattle.fm_records.specs.Ranges.{CanBe}
 use Rattle.fm_records.specs.Orders.{phase_place, attempt_cmp}
 use Rattle.fm_records.specs.Table.{TaskValue, MachineValue}
 use Rattle.fm_delta.specs.declared.packet.Packet.{Packet}
@@ -162,3 +164,18 @@ spelling p = packet.spell (listed p)
 -- the place of the first fault of bytes that are no packet's
 abbrev pub fault : List ℕ → Option ℕ
 fault = fault_in packet
+
+-- a packet that can be: its sender and its number fit, its knowledge is one that operations come to, and it has fewer
+-- records of each kind than 64 bits count, as any memory does
+pub record IsPacket (p : Packet) : Type 0 where
+  pub sender : IsTrue (is_coordinator p.sender)
+  pub number : p.number < 2 ^ 64
+  pub value : CanBe p.value
+  pub jobs : length p.value.jobs < 2 ^ 64
+  pub tasks : length p.value.tasks < 2 ^ 64
+  pub machines : length p.value.machines < 2 ^ 64
+  pub entries : length (entries_of p.value.proposals) < 2 ^ 64
+
+-- the bytes are a packet's spelling
+abbrev pub IsSpelling : List ℕ → Type 0
+IsSpelling bytes = (p : Packet) × IsPacket p × (bytes ≡ spelling p)
