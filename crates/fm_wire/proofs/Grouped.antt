@@ -1,13 +1,12 @@
 -- Proposals by attempt and in one list are the same proposals.
-use Rattle.std.proofs.Common.{◌≡◌, ℕ, Bool, true, false, List, [], ◌∷◌, ◌++◌, map, Option, Some, None, refl, sym, ap, subst, ◌∙◌, append_assoc}
-use Rattle.std.specs.List.{flat_map, AllByRecursion}
+use Rattle.std.proofs.Common.{◌≡◌, ℕ, List, [], ◌∷◌, ◌++◌, Some, refl, sym, ap, subst, ◌∙◌, append_assoc}
 use Rattle.std.specs.Ordering.{nat_cmp, ordering_then}
 use Rattle.std.specs.Cmp.{IsTotalOrder, nat_cmp_total}
 use Rattle.std.specs.declared.cmp.Ordering.{Ordering}
 use Rattle.std.specs.declared.cmp.Ordering.TheVariants.{Less, Equal, Greater}
 use Rattle.std.proofs.lemmas.Cmp.{tied_itself, tied_back, on_total, then_total}
 use Rattle.std.proofs.lemmas.List.{append-nil}
-use Rattle.fm_lattice.specs.Chains.{TellsApart, nat_same, by_order, by_cases, less_greater, greater_less}
+use Rattle.fm_lattice.specs.Chains.{nat_same, by_order, by_cases, less_greater}
 use Rattle.fm_lattice.specs.Joins.{min_join, Any}
 use Rattle.fm_lattice.specs.Maps.{IsBelow, IsRising, AreValues, IsMap, put}
 use Rattle.fm_lattice.specs.MapLaws.{rising_put}
@@ -65,7 +64,7 @@ below_group : (at here : ℕ × ℕ) (c : ℕ) (spots : Spots) → attempt_cmp a
 below_group at here c [] e = tt
 below_group at here c (s ∷ spots) e = (rw e refl, below_group at here c spots e)
 
-below_groups : (at : ℕ × ℕ) (c : ℕ) (groups : Groups) → IsBelow attempt_cmp at groups → IsBelow entry_cmp (at, c) (entries_of groups)
+pub below_groups : (at : ℕ × ℕ) (c : ℕ) (groups : Groups) → IsBelow attempt_cmp at groups → IsBelow entry_cmp (at, c) (entries_of groups)
 below_groups at c [] b = tt
 below_groups at c (g ∷ groups) b = below_both entry_cmp entry_total (at, c) (entries_at g.0 g.1) (entries_of groups) (below_group at g.0 c g.1 b.0) (below_groups at c groups b.1)
 

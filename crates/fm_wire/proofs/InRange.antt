@@ -1,11 +1,10 @@
 -- The values that formats have are those of the operations in range.
-use Rattle.std.proofs.Common.{◌≡◌, ℕ, zero, suc, ◌+◌, ◌-◌, ◌^◌, ◌<◌, ◌≤◌, Bool, true, false, cond, List, [], ◌∷◌, ◌++◌, length, map, Option, Some, None, refl, sym, ap, subst, ◌∙◌, arith}
-use Rattle.std.specs.Prelude.{IsTrue, nat_lt, nat_le, ◌&&◌, is_none, flat_map}
-use Rattle.std.specs.List.{AllByRecursion, list_all}
-use Rattle.std.specs.Ordering.{nat_cmp}
+use Rattle.std.proofs.Common.{◌≡◌, ℕ, ◌-◌, ◌^◌, ◌<◌, ◌≤◌, Bool, true, false, cond, List, [], ◌∷◌, ◌++◌, Option, Some, None, refl, ap, ◌∙◌, arith}
+use Rattle.std.specs.Prelude.{nat_lt, nat_le, ◌&&◌, is_none, flat_map}
+use Rattle.std.specs.List.{AllByRecursion}
 use Rattle.std.proofs.lemmas.Bool.{ltb-true, lt-ltb, leb-true, le-leb}
 use Rattle.fm_lattice.specs.Joins.{Any}
-use Rattle.fm_lattice.specs.Maps.{IsRising, AreValues, IsMap}
+use Rattle.fm_lattice.specs.Maps.{AreValues}
 use Rattle.fm_records.specs.declared.ops.Phase.{Phase}
 use Rattle.fm_records.specs.declared.ops.Phase.TheVariants.{Pending, Running, Done}
 use Rattle.fm_records.specs.declared.ops.Field.{Field}
@@ -16,16 +15,14 @@ use Rattle.fm_records.specs.declared.records.Progress.{Progress}
 use Rattle.fm_records.specs.declared.records.MachineReg.{MachineReg}
 use Rattle.fm_records.specs.declared.records.Report.{Report}
 use Rattle.fm_records.specs.declared.records.Spot.{Spot}
-use Rattle.fm_records.specs.Ids.{is_coordinator}
-use Rattle.fm_records.specs.Ops.{is_price, is_bandwidth, is_use, is_slots, op_fault}
-use Rattle.fm_records.specs.Orders.{attempt_cmp}
-use Rattle.fm_records.specs.Table.{Table, TaskValue, MachineValue}
-use Rattle.fm_records.specs.Spelled.{job_op, spec_op, progress_op, machine_op, report_op, propose_op, job_ops, task_ops, machine_ops, entry_ops, ops, has_part, IsFull, IsTable}
-use Rattle.fm_records.specs.Ranges.{is_id, is_count, is_attempt, fits, in_range, all_in_range, CanBe}
+use Rattle.fm_records.specs.Ops.{op_fault}
+use Rattle.fm_records.specs.Table.{TaskValue, MachineValue}
+use Rattle.fm_records.specs.Spelled.{job_op, spec_op, progress_op, machine_op, report_op, propose_op, task_ops, machine_ops, entry_ops, has_part}
+use Rattle.fm_records.specs.Ranges.{is_id, is_count, is_attempt, fits, in_range, all_in_range}
 use Rattle.fm_records.specs.LookupLaws.{both_true}
 use Rattle.fm_records.specs.RangeLaws.{all_pass, both_pass}
-use Rattle.fm_wire.specs.Formats.{Format, number, ◌⨾◌, seen_as, part, tagged, records}
-use Rattle.fm_wire.specs.Grammar.{id, count, attempt, coordinator, flag, price, bandwidth, phase, job, spec, optional_spec, task, state, report, parts, machine, spot, entry_cmp, entries_at, entries_of}
+use Rattle.fm_wire.specs.Formats.{◌⨾◌, part}
+use Rattle.fm_wire.specs.Grammar.{id, count, attempt, coordinator, flag, phase, job, spec, optional_spec, task, state, report, parts, machine, spot, entries_at, entries_of}
 
 -- ---- tests of fields
 

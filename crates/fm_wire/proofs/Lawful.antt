@@ -1,6 +1,6 @@
 -- Formats are read as they are spelled: what is read is spelled so, and what is spelled is read.
-use Rattle.std.proofs.Common.{◌≡◌, ℕ, zero, suc, ◌+◌, ◌-◌, ◌^◌, ◌<◌, ◌≤◌, Bool, true, false, cond, ltb, leb, List, [], ◌∷◌, ◌++◌, length, take, drop, Option, Some, None, Result, Ok, Err, refl, sym, ap, subst, ◌∙◌, append_assoc, arith}
-use Rattle.std.specs.Int.{Width, w8, w32, w64, w128, byte_len, from_be_bytes}
+use Rattle.std.proofs.Common.{◌≡◌, ℕ, zero, suc, ◌-◌, ◌^◌, ◌<◌, ◌≤◌, Bool, true, false, cond, ltb, List, [], ◌∷◌, ◌++◌, length, take, drop, Option, Some, None, Ok, Err, refl, sym, ap, subst, ◌∙◌, append_assoc, arith}
+use Rattle.std.specs.Int.{Width, w8, w64, byte_len, from_be_bytes}
 use Rattle.std.specs.List.{AllByRecursion, flat_map}
 use Rattle.std.specs.Cmp.{IsTotalOrder}
 use Rattle.std.specs.declared.cmp.Ordering.{Ordering}
@@ -9,11 +9,11 @@ use Rattle.std.proofs.lemmas.List.Concat.{flat_map-cons}
 use Rattle.fm_lattice.specs.Chains.{TellsApart}
 use Rattle.fm_lattice.specs.Maps.{IsBelow, IsRising}
 use Rattle.fm_lattice.specs.MapLaws.{below_trans}
-use Rattle.std.specs.Prelude.{nat_lt, nat_le, ◌&&◌}
+use Rattle.std.specs.Prelude.{nat_le, ◌&&◌}
 use Rattle.std.proofs.lemmas.Bool.{ltb-false, le-ltb, leb-true, le-leb}
 use Rattle.std.proofs.lemmas.List.{take_at, drop_at, take-append-drop, length-append, length-take}
 use Rattle.fm_records.specs.LookupLaws.{both_true}
-use Rattle.fm_wire.specs.Formats.{Reading, ◌>>=◌, Format, bytes_of, number_at, number, ◌⨾◌, seen_as, part, tagged, comes_after, key_at, record_at, records_at, records}
+use Rattle.fm_wire.specs.Formats.{◌>>=◌, Format, bytes_of, number_at, number, ◌⨾◌, seen_as, part, tagged, comes_after, key_at, record_at, records_at, records}
 use Rattle.fm_wire.proofs.Binds.{bind_ok, guard_ok, ok_is}
 use Rattle.fm_wire.proofs.Walks.{less_is}
 use Rattle.fm_wire.proofs.Widths.{IsBytes, IsBytes-take, IsBytes-drop, IsWide, wide8, wide64}

@@ -6,3 +6,4 @@ pub mod Widths
 pub mod Lawful
 pub mod PacketLawful
 pub mod InRange
+pub mod PacketLaws

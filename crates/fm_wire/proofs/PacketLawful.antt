@@ -1,5 +1,5 @@
 -- The format of packets is read as it is spelled.
-use Rattle.std.proofs.Common.{◌≡◌, ℕ, zero, suc, ◌-◌, ◌^◌, ◌≤◌, ◌<◌, Bool, true, false, cond, Option, Some, None, refl, arith, eqb}
+use Rattle.std.proofs.Common.{◌≡◌, ℕ, zero, suc, ◌-◌, ◌^◌, ◌≤◌, Bool, true, false, cond, Option, Some, None, refl, arith, eqb}
 use Rattle.std.specs.Prelude.{◌||◌}
 use Rattle.std.specs.Int.{w8, w32, w64, w128}
 use Rattle.std.specs.Ordering.{nat_cmp}
@@ -12,7 +12,7 @@ use Rattle.fm_records.specs.declared.records.Report.{Report}
 use Rattle.fm_records.specs.declared.records.SpecReg.{SpecReg}
 use Rattle.fm_records.specs.Orders.{phase_place, attempt_cmp}
 use Rattle.fm_records.specs.OrderLaws.{same_attempt}
-use Rattle.fm_wire.specs.Formats.{Format, number, ◌⨾◌, seen_as, part, tagged, records}
+use Rattle.fm_wire.specs.Formats.{Format, number, ◌⨾◌, part}
 use Rattle.fm_wire.specs.Grammar.{id, count, attempt, coordinator, flag, price, bandwidth, phase_from, phase, job, spec, has_of, optional_spec, task, state, report, parts_of, parts, machine, spot, entry_cmp, magic, header, jobs, tasks, machines, entries, packet}
 use Rattle.fm_wire.proofs.Widths.{wide8, wide32, wide64, wide128}
 use Rattle.fm_wire.proofs.Lawful.{Lawful, number_lawful, pair_lawful, seen_lawful, part_lawful, tagged_lawful, records_lawful}

@@ -1,8 +1,13 @@
 -- A packet is its header and its lists, one after the other.
-use Rattle.std.proofs.Common.{◌≡◌, ℕ, List, [], ◌∷◌, ◌++◌, Result, Ok, Err, refl, sym, ap, ◌∙◌, append_assoc}
+use Rattle.std.proofs.Common.{◌≡◌, ℕ, List, [], ◌++◌, Result, Ok, Err, refl, ap, ◌∙◌, append_assoc}
+use Rattle.fm_records.specs.declared.records.JobReg.{JobReg}
+use Rattle.fm_records.specs.declared.records.Spot.{Spot}
+use Rattle.fm_records.specs.Table.{TaskValue, MachineValue}
+use Rattle.fm_wire.specs.declared.fault.ReadError.{ReadError}
+use Rattle.fm_wire.specs.declared.fault.ReadError.TheVariants as errors
 use Rattle.fm_wire.specs.Formats.{Reading, ◌>>=◌, Format, ◌⨾◌}
 use Rattle.fm_wire.specs.Grammar.{Listed, header, jobs, tasks, machines, entries, packet}
-use Rattle.fm_wire.specs.Reads.{rest_of}
+use Rattle.fm_wire.specs.Reads.{rest_of, Fails}
 
 -- ---- spelling
 
@@ -58,3 +63,68 @@ packet_rest bytes =
     rest_then (tasks.read b) (machines ⨾ entries)
     ∙ then_same (rest_of (tasks.read b)) _ after_tasks (λ c.
     rest_then (machines.read c) entries)))
+
+-- ---- reading
+
+abbrev JobList : Type 0
+JobList = List (ℕ × JobReg)
+
+abbrev TaskList : Type 0
+TaskList = List (ℕ × TaskValue)
+
+abbrev MachineList : Type 0
+MachineList = List (ℕ × MachineValue)
+
+abbrev EntryList : Type 0
+EntryList = List (((ℕ × ℕ) × ℕ) × Spot)
+
+-- what was read of a packet at the front, part by part
+pub record ReadHeader (bytes : List ℕ) (h : ℕ × ℕ) (a : List ℕ) : Type 0 where
+  pub header : header.read bytes ≡ Ok (h, a)
+
+pub record ReadJobs (bytes : List ℕ) (h : ℕ × ℕ) (js : JobList) (b : List ℕ) : Type 0 where
+  pub after : List ℕ
+  pub before : ReadHeader bytes h after
+  pub jobs : jobs.read after ≡ Ok (js, b)
+
+pub record ReadTasks (bytes : List ℕ) (h : ℕ × ℕ) (js : JobList) (ts : TaskList) (c : List ℕ) : Type 0 where
+  pub after : List ℕ
+  pub before : ReadJobs bytes h js after
+  pub tasks : tasks.read after ≡ Ok (ts, c)
+
+pub record ReadMachines (bytes : List ℕ) (h : ℕ × ℕ) (js : JobList) (ts : TaskList) (ms : MachineList) (d : List ℕ) : Type 0 where
+  pub after : List ℕ
+  pub before : ReadTasks bytes h js ts after
+  pub machines : machines.read after ≡ Ok (ms, d)
+
+pub reads_packet : (bytes : List ℕ) (h : ℕ × ℕ) (js : JobList) (ts : TaskList) (ms : MachineList) (d : List ℕ) (es : EntryList) (rest : List ℕ) → ReadMachines bytes h js ts ms d → entries.read d ≡ Ok (es, rest)
+    → packet.read bytes ≡ Ok (record { sender = h.0; number = h.1; jobs = js; tasks = ts; machines = ms; entries = es }, rest)
+unfolding packet
+reads_packet bytes h js ts ms d es rest m e =
+    let t = m.before in
+    let j = t.before in
+    rw (j.before.header, j.jobs, t.tasks, m.machines, e) refl
+
+pub header_fails : (bytes : List ℕ) (left : ℕ) → header.read bytes ≡ Err left → packet.read bytes ≡ Err left
+unfolding packet
+header_fails bytes left e = rw e refl
+
+pub jobs_fail : (e : ReadError) (bytes : List ℕ) (h : ℕ × ℕ) (a : List ℕ) → ReadHeader bytes h a → Fails e (jobs.read a) → Fails e (packet.read bytes)
+unfolding packet
+jobs_fail errors.Memory bytes h a r f = tt
+jobs_fail (errors.Fault left) bytes h a r f = rw (r.header, f) refl
+
+pub tasks_fail : (e : ReadError) (bytes : List ℕ) (h : ℕ × ℕ) (js : JobList) (b : List ℕ) → ReadJobs bytes h js b → Fails e (tasks.read b) → Fails e (packet.read bytes)
+unfolding packet
+tasks_fail errors.Memory bytes h js b r f = tt
+tasks_fail (errors.Fault left) bytes h js b r f = rw (r.before.header, r.jobs, f) refl
+
+pub machines_fail : (e : ReadError) (bytes : List ℕ) (h : ℕ × ℕ) (js : JobList) (ts : TaskList) (c : List ℕ) → ReadTasks bytes h js ts c → Fails e (machines.read c) → Fails e (packet.read bytes)
+unfolding packet
+machines_fail errors.Memory bytes h js ts c r f = tt
+machines_fail (errors.Fault left) bytes h js ts c r f = rw (r.before.before.header, r.before.jobs, r.tasks, f) refl
+
+pub entries_fail : (e : ReadError) (bytes : List ℕ) (h : ℕ × ℕ) (js : JobList) (ts : TaskList) (ms : MachineList) (d : List ℕ) → ReadMachines bytes h js ts ms d → Fails e (entries.read d) → Fails e (packet.read bytes)
+unfolding packet
+entries_fail errors.Memory bytes h js ts ms d r f = tt
+entries_fail (errors.Fault left) bytes h js ts ms d r f = rw (r.before.before.before.header, r.before.before.jobs, r.before.tasks, r.machines, f) refl

@@ -1,5 +1,5 @@
 -- Going over records from the front: what is left gives what all gave.
-use Rattle.std.proofs.Common.{◌≡◌, ℕ, zero, suc, ◌+◌, ◌-◌, ◌<◌, ◌≤◌, Bool, true, false, cond, List, [], ◌∷◌, ◌++◌, length, Option, Some, None, Result, Ok, Err, refl, sym, ap, subst, ◌∙◌, append_assoc, arith}
+use Rattle.std.proofs.Common.{◌≡◌, ℕ, suc, ◌+◌, ◌-◌, ◌<◌, ◌≤◌, true, cond, List, [], ◌∷◌, ◌++◌, length, Option, Some, Result, Ok, Err, refl, sym, ap, subst, ◌∙◌, append_assoc, arith}
 use Rattle.std.specs.List.{AllByRecursion, flat_map}
 use Rattle.std.specs.Ordering.{is_lt}
 use Rattle.std.specs.Cmp.{IsTotalOrder}
@@ -7,13 +7,11 @@ use Rattle.std.specs.declared.cmp.Ordering.{Ordering}
 use Rattle.std.specs.declared.cmp.Ordering.TheVariants.{Less, Equal, Greater}
 use Rattle.std.proofs.lemmas.List.{append-nil}
 use Rattle.std.proofs.lemmas.List.Concat.{flat_map-cons}
-use Rattle.fm_lattice.specs.Chains.{by_order, less_greater}
+use Rattle.fm_lattice.specs.Chains.{less_greater}
 use Rattle.fm_lattice.specs.Maps.{put}
-use Rattle.fm_wire.specs.declared.fault.ReadError.{ReadError}
-use Rattle.fm_wire.specs.declared.fault.ReadError.TheVariants as errors
 use Rattle.std.specs.Int.{w64}
 use Rattle.fm_wire.specs.Formats.{Reading, ◌>>=◌, Format, bytes_of, comes_after, key_at, record_at, records_at}
-use Rattle.fm_wire.specs.Reads.{rest_of, Fails}
+use Rattle.fm_wire.specs.Reads.{rest_of}
 use Rattle.fm_wire.proofs.Binds.{bind_ok, guard_ok, ok_is}
 
 rest_after : {A : Type 0} (e : A) (r : Reading (List A)) → rest_of (r >>= λ others. Ok (e ∷ others.0, others.1)) ≡ rest_of r

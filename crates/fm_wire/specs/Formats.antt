@@ -5,7 +5,6 @@ use Rattle.std.specs.Int.{Width, w8, w64, byte_len, from_be_bytes, to_be_bytes}
 use Rattle.std.specs.Ordering.{is_lt}
 use Rattle.std.specs.declared.cmp.Ordering.{Ordering}
 use Rattle.fm_lattice.specs.Maps.{IsRising}
-use Rattle.fm_records.specs.Options.{when}
 
 -- What reading from the front of bytes gives: a value and the bytes after it; or, at the first fault, how many bytes there
 -- are from the fault to the end, none where they end too early.
@@ -134,9 +133,11 @@ records cmp F G = record {
     records_at cmp F G count.0 None count.1;
 }
 
--- the place of the first fault in bytes that are to be one value and nothing more
+-- the place of the first fault in so many bytes that are to be one value and nothing more: none where all were read, the first
+-- byte after the value where there is one, else where the reading failed
 abbrev pub fault_place : {A : Type 0} → ℕ → Reading A → Option ℕ
-fault_place len (Ok x) = when (nat_lt 0 (length x.1)) (len - length x.1)
+fault_place len (Ok (a, [])) = None
+fault_place len (Ok (a, byte ∷ rest)) = Some (len - length (byte ∷ rest))
 fault_place len (Err left) = Some (len - left)
 
 abbrev pub fault_in : {A : Type 0} → Format A → List ℕ → Option ℕ

@@ -2,7 +2,9 @@
 use Rattle.std.specs.Prelude.{◌≡◌, ℕ, List, Result, Ok, Err}
 use Rattle.fm_wire.specs.declared.fault.ReadError.{ReadError}
 use Rattle.fm_wire.specs.declared.fault.ReadError.TheVariants as errors
+use Rattle.fm_delta.specs.declared.packet.Packet.{Packet}
 use Rattle.fm_wire.specs.Formats.{Reading}
+use Rattle.fm_wire.specs.Grammar.{Listed, listed}
 
 -- what a function answered, seen by view, is what reading gives
 abbrev pub Gives : {X Y : Type 0} → (X → Y) → Result X ℕ → Result Y ℕ → Type 0
@@ -22,3 +24,8 @@ Builds view (Err e) read = Fails e read
 abbrev pub rest_of : {A : Type 0} → Reading A → Result (List ℕ) ℕ
 rest_of (Ok x) = Ok x.1
 rest_of (Err left) = Err left
+
+-- the packet stands at the front, unless memory ran out
+abbrev pub Finds : Result Packet ReadError → Reading Listed → Type 0
+Finds (Ok p) read = (rest : List ℕ) × (read ≡ Ok (listed p, rest))
+Finds (Err e) read = Fails e read

@@ -3,6 +3,7 @@
 
 mod entries;
 mod fault;
+pub mod laws;
 mod maps;
 mod numbers;
 pub mod reading;

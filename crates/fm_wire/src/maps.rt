@@ -1,6 +1,6 @@
 //! Records behind their count, keys rising.
 
-ghost use Rattle.std.specs.Prelude.{◌≡◌, ◌++◌, None, OnOk};
+ghost use Rattle.std.specs.Prelude.{◌≡◌, ◌<◌, ◌^◌, ◌++◌, length, None, OnOk};
 ghost use Rattle.fm_wire.specs.Formats.{comes_after, key_at, record_at, records_at, records};
 ghost use Rattle.fm_wire.specs.Reads.{Gives, Builds, rest_of};
 
@@ -17,7 +17,8 @@ pub(crate) fn put_map<K: Chain + Spelled, V: Join + Spelled>(
     out: &mut Vec<u8>,
     map: &JoinMap<K, V>,
 ) -> Result<(), OutOfMemory>
-    ensures { OnOk result (out.new.items ≡ out.old.items ++ (records K.cmp K.format V.format).spell map.now) }
+    ensures ok { OnOk result (out.new.items ≡ out.old.items ++ (records K.cmp K.format V.format).spell map.now) }
+    ensures fits { length map.now < 2 ^ 64 }
 {
     put_u64(out, map.len() as u64)?;
     for (key, value) in map.iter() {

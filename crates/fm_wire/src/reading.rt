@@ -1,15 +1,23 @@
 //! The packet that bytes spell, and the first fault of bytes that spell none.
 
-ghost use Rattle.std.specs.Prelude.{◌≡◌, ◌≤◌, IfOk};
-ghost use Rattle.fm_wire.specs.Grammar.{header, packet, listed, spelling, fault};
-ghost use Rattle.fm_wire.specs.Reads.{Gives, rest_of};
+ghost use Rattle.std.specs.Prelude.{◌≡◌, ◌≤◌, ◌↔◌, None, IsOk, IfOk, IfErr, option_map};
+ghost use Rattle.fm_records.specs.Options.{or_else};
+ghost use Rattle.fm_records.specs.Ranges.{CanBe};
+ghost use Rattle.fm_wire.specs.Grammar.{header, packet, spelling, fault, IsPacket, IsSpelling};
+ghost use Rattle.fm_wire.specs.Reads.{Gives, Finds, rest_of};
 
+use crate::entries::proposals_in;
+use crate::fault::ReadError;
 use crate::maps::{map_at, rest_of_map};
 use crate::numbers::{u8_at, u32_at, u64_at};
 use crate::writing::MAGIC;
+use fm_delta::packet::Packet;
+use fm_know::knowledge::Knowledge;
 use fm_lattice::plain::{Max, Min};
 use fm_records::ids::{CoordId, JobId, MachineId, TaskId};
 use fm_records::records::{JobReg, MachineRec, Spot, TaskRec};
+use fm_records::refusal::Refusal;
+use std::alloc::Global;
 
 /// The place of the first fault in bytes that are no packet's spelling; none where they are one. It takes no memory. O(n).
 pub fn fault_of(bytes: &[u8]) -> Option<usize>
@@ -20,6 +28,43 @@ pub fn fault_of(bytes: &[u8]) -> Option<usize>
         Ok(rest) => Some(bytes.len().saturating_sub(rest.len())),
         Err(left) => Some(bytes.len().saturating_sub(left)),
     }
+}
+
+/// The packet that the bytes spell. O(n log n). Before any memory is taken the bytes are gone over: BadPacket with the place of
+/// the first fault, where they are no packet's spelling.
+pub fn decode(alloc: Global, bytes: &[u8]) -> Result<Packet, Refusal>
+    ensures spelling { IfOk result (λ p. bytes.now ≡ spelling p) }
+    ensures packet { IfOk result IsPacket }
+    ensures none { IsOk result → fault bytes.now ≡ None }
+    ensures err { IfErr result (λ e. e ≡ or_else Refusal.OutOfMemory (option_map Refusal.BadPacket (fault bytes.now))) }
+    ensures exact { (fault bytes.now ≡ None) ↔ IsSpelling bytes.now }
+{
+    if let Some(place) = fault_of(bytes) {
+        return Err(Refusal::BadPacket(place));
+    }
+    match packet_at(alloc, bytes) {
+        Ok(packet) => Ok(packet),
+        Err(ReadError::Memory) => Err(Refusal::OutOfMemory),
+        Err(ReadError::Fault(left)) => Err(Refusal::BadPacket(bytes.len().saturating_sub(left))),
+    }
+}
+
+// The packet at the front.
+fn packet_at(alloc: Global, bytes: &[u8]) -> Result<Packet, ReadError>
+    ensures found { Finds result (packet.read bytes.now) }
+    ensures value { IfOk result (λ p. CanBe p.value) }
+{
+    let ((sender, number), rest) = header_at(bytes)?;
+    let (jobs, rest) = map_at::<JobId, Max<JobReg>>(alloc, rest)?;
+    let (tasks, rest) = map_at::<TaskId, TaskRec>(alloc, rest)?;
+    let (machines, rest) = map_at::<MachineId, MachineRec>(alloc, rest)?;
+    let (entries, _) = map_at::<((TaskId, u32), CoordId), Min<Spot>>(alloc, rest)?;
+    let proposals = proposals_in(alloc, &entries)?;
+    Ok(Packet {
+        sender: CoordId::new(sender).unwrap(),
+        number,
+        value: Knowledge::of(jobs, tasks, machines, proposals),
+    })
 }
 
 // Goes over the packet at the front without memory, and answers the bytes after it.

@@ -1,4 +1,4 @@
-use Rattle.std.proofs.Common.{◌≡◌, ◌++◌, [], refl, ap, subst, ◌∙◌}
+use Rattle.std.proofs.Common.{◌++◌, refl, ap, ◌∙◌}
 use Rattle.fm_wire.specs.Grammar.{entries_of}
 use Rattle.fm_wire.proofs.Walks.{none_left}
 use Rattle.fm_wire.proofs.Grouped.{entries_rise, maps_rise, group_fits, groups_step}

@@ -1,4 +1,4 @@
-use Rattle.std.proofs.Common.{◌≡◌, ◌∷◌, [], ap, sym, ◌∙◌}
+use Rattle.std.proofs.Common.{◌≡◌, ◌∷◌, [], ap, ◌∙◌}
 use Rattle.fm_lattice.specs.Joins.{min_join}
 use Rattle.fm_lattice.specs.Maps.{put}
 use Rattle.std.specs.Ordering.{nat_cmp}

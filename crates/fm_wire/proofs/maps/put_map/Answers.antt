@@ -1,6 +1,5 @@
-use Rattle.std.proofs.Common.{◌++◌, refl, ◌∙◌, sym}
+use Rattle.std.proofs.Common.{◌++◌, refl, ◌∙◌}
 use Rattle.fm_wire.proofs.Walks.{begun, wrote, written}
-use Rattle.fm_wire.specs.Formats.{records}
 use Rattle.fm_wire.proofs.maps.put_map.Goals as goal
 
 pub loop-key-init : goal.loop-key-init
@@ -15,5 +14,5 @@ loop-key-preserved g c =
     c.loop-key.key-iterator c.next.new.self _
     c.in_ok-put.ensures c.in_ok-put-2.ensures refl c.in-Some.ensures.steps c.loop-key.invariant
 
-pub returns : goal.returns
-returns g c = written (λ e. g.K.Spelled.format.spell e.0 ++ g.V.Spelled.format.spell e.1) c.loop-key.out.items _ c.loop-key.key-iterator c.in-None.ensures.steps.0 c.loop-key.invariant
+pub returns-clause-ok : goal.returns-clause-ok
+returns-clause-ok g c = written (λ e. g.K.Spelled.format.spell e.0 ++ g.V.Spelled.format.spell e.1) c.loop-key.out.items _ c.loop-key.key-iterator c.in-None.ensures.steps.0 c.loop-key.invariant

@@ -1,8 +1,7 @@
-use Rattle.std.proofs.Common.{◌≡◌, ◌∷◌, ◌++◌, [], None, sym, ap, ◌∙◌, List}
-use Rattle.std.proofs.lemmas.List.{append-nil}
+use Rattle.std.proofs.Common.{◌≡◌, ◌∷◌, ◌++◌, [], None, ◌∙◌}
 use Rattle.std.proofs.lemmas.Result.{err_from_is_err_and}
 use Rattle.fm_wire.specs.Formats.{records_at}
-use Rattle.fm_wire.proofs.Walks.{read_goes_on, read_ends, read_begins, read_done, IsEnd, end_begins, end_next, key_after, put_above}
+use Rattle.fm_wire.proofs.Walks.{read_goes_on, read_ends, read_begins, read_done, end_begins, end_next, key_after, put_above}
 use Rattle.fm_wire.proofs.maps.records_at.Goals as goal
 
 pub loop-init : goal.loop-init
