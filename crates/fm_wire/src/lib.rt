@@ -9,4 +9,6 @@ mod numbers;
 pub mod reading;
 mod records;
 mod spelled;
+#[cfg(test)]
+mod tests;
 pub mod writing;
