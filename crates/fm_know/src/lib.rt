@@ -5,6 +5,7 @@ pub mod facts;
 pub mod knowledge;
 pub mod laws;
 pub mod mutators;
+pub mod parts;
 #[cfg(test)]
 mod tests;
 pub mod told;

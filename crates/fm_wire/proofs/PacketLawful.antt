@@ -1,0 +1,157 @@
+-- The format of packets is read as it is spelled.
+use Rattle.std.proofs.Common.{◌≡◌, ℕ, zero, suc, ◌-◌, ◌^◌, ◌≤◌, Bool, true, false, cond, Option, Some, None, refl, arith, eqb}
+use Rattle.std.specs.Prelude.{◌||◌}
+use Rattle.std.specs.Int.{w8, w32, w64, w128}
+use Rattle.std.specs.Ordering.{nat_cmp}
+use Rattle.std.specs.Cmp.{nat_cmp_total}
+use Rattle.fm_lattice.specs.Chains.{TellsApart, nat_same, pair_same}
+use Rattle.fm_records.specs.declared.ops.Phase.{Phase}
+use Rattle.fm_records.specs.declared.ops.Phase.TheVariants.{Pending, Running, Done}
+use Rattle.fm_records.specs.declared.records.MachineReg.{MachineReg}
+use Rattle.fm_records.specs.declared.records.Report.{Report}
+use Rattle.fm_records.specs.declared.records.SpecReg.{SpecReg}
+use Rattle.fm_records.specs.Orders.{phase_place, attempt_cmp}
+use Rattle.fm_records.specs.OrderLaws.{same_attempt}
+use Rattle.fm_wire.specs.Formats.{Format, number, ◌⨾◌, part}
+use Rattle.fm_wire.specs.Grammar.{id, count, attempt, coordinator, flag, price, bandwidth, phase_from, phase, job, spec, has_of, optional_spec, task, state, report, parts_of, parts, machine, spot, entry_cmp, magic, header, jobs, tasks, machines, entries, packet}
+use Rattle.fm_wire.proofs.Widths.{wide8, wide32, wide64, wide128}
+use Rattle.fm_wire.proofs.Lawful.{Lawful, number_lawful, pair_lawful, seen_lawful, part_lawful, tagged_lawful, records_lawful}
+use Rattle.fm_wire.proofs.Grouped.{entry_total}
+
+id_lawful : Lawful id
+id_lawful = number_lawful w128 (2 ^ 128) 0 (2 ^ 128 - 1) wide128 (omega arith)
+
+count_lawful : Lawful count
+count_lawful = number_lawful w64 (2 ^ 64) 0 (2 ^ 64 - 1) wide64 (omega arith)
+
+attempt_lawful : Lawful attempt
+attempt_lawful = number_lawful w32 (2 ^ 32) 0 (2 ^ 32 - 1) wide32 (omega arith)
+
+coordinator_lawful : Lawful coordinator
+coordinator_lawful = number_lawful w8 (2 ^ 8) 1 64 wide8 (omega arith)
+
+price_lawful : Lawful price
+price_lawful = number_lawful w32 (2 ^ 32) 0 1000000000 wide32 (omega arith)
+
+bandwidth_lawful : Lawful bandwidth
+bandwidth_lawful = number_lawful w32 (2 ^ 32) 0 1000000 wide32 (omega arith)
+
+slots_lawful : Lawful (number w32 1 1000)
+slots_lawful = number_lawful w32 (2 ^ 32) 1 1000 wide32 (omega arith)
+
+flag_lawful : Lawful flag
+flag_lawful = seen_lawful (number w8 0 1) (λ n. eqb n 1) (λ b. cond b 1 0) (number_lawful w8 (2 ^ 8) 0 1 wide8 (omega arith)) back forth
+  where
+    back : (n : ℕ) → (0 ≤ n) × (n ≤ 1) → cond (eqb n 1) 1 0 ≡ n
+    back zero h = refl
+    back (suc zero) h = refl
+    back (suc (suc n)) h = absurd (omega (arith, h.1))
+
+    forth : (b : Bool) → eqb (cond b 1 0) 1 ≡ b
+    forth true = refl
+    forth false = refl
+
+phase_lawful : Lawful phase
+phase_lawful = seen_lawful (number w8 0 2) phase_from phase_place (number_lawful w8 (2 ^ 8) 0 2 wide8 (omega arith)) back forth
+  where
+    back : (n : ℕ) → (0 ≤ n) × (n ≤ 2) → phase_place (phase_from n) ≡ n
+    back zero h = refl
+    back (suc zero) h = refl
+    back (suc (suc zero)) h = refl
+    back (suc (suc (suc n))) h = absurd (omega (arith, h.1))
+
+    forth : (p : Phase) → phase_from (phase_place p) ≡ p
+    forth Pending = refl
+    forth Running = refl
+    forth Done = refl
+
+pub job_lawful : Lawful job
+unfolding job
+job_lawful = seen_lawful (count ⨾ coordinator ⨾ flag ⨾ price ⨾ price) _ _
+    (pair_lawful count _ count_lawful (pair_lawful coordinator _ coordinator_lawful (pair_lawful flag _ flag_lawful (pair_lawful price price price_lawful price_lawful)))) (λ f _. refl) (λ r. refl)
+
+pub spec_lawful : Lawful spec
+unfolding spec
+spec_lawful = seen_lawful (count ⨾ coordinator ⨾ flag ⨾ id ⨾ bandwidth) _ _
+    (pair_lawful count _ count_lawful (pair_lawful coordinator _ coordinator_lawful (pair_lawful flag _ flag_lawful (pair_lawful id bandwidth id_lawful bandwidth_lawful)))) (λ f _. refl) (λ r. refl)
+
+optional_lawful : Lawful optional_spec
+unfolding optional_spec
+optional_lawful = tagged_lawful 0 1 has_of (λ has. part (eqb has 1) spec) (omega arith) (λ has. part_lawful (eqb has 1) spec spec_lawful) tells
+  where
+    tells : (tag : ℕ) (o : Option SpecReg) → 0 ≤ tag → tag ≤ 1 → (part (eqb tag 1) spec).has o → has_of o ≡ tag
+    tells zero None low high h = refl
+    tells zero (Some s) low high h = absurd cc
+    tells (suc zero) None low high h = absurd h
+    tells (suc zero) (Some s) low high h = refl
+    tells (suc (suc tag)) o low high h = absurd (omega (arith, high))
+
+pub task_lawful : Lawful task
+unfolding task
+task_lawful = seen_lawful (attempt ⨾ phase ⨾ optional_spec) _ _
+    (pair_lawful attempt _ attempt_lawful (pair_lawful phase optional_spec phase_lawful optional_lawful)) (λ f _. refl) (λ v. refl)
+
+pub state_lawful : Lawful state
+unfolding state
+state_lawful = seen_lawful (count ⨾ coordinator ⨾ flag ⨾ number w32 1 1000 ⨾ bandwidth) _ _
+    (pair_lawful count _ count_lawful (pair_lawful coordinator _ coordinator_lawful (pair_lawful flag _ flag_lawful (pair_lawful (number w32 1 1000) bandwidth slots_lawful bandwidth_lawful)))) (λ f _. refl) (λ r. refl)
+
+pub report_lawful : Lawful report
+unfolding report
+report_lawful = seen_lawful (count ⨾ price) _ _ (pair_lawful count price count_lawful price_lawful) (λ f _. refl) (λ r. refl)
+
+abbrev Known : Type 0
+Known = Option MachineReg × Option Report
+
+abbrev parts_at : ℕ → Format Known
+parts_at tag = part (eqb tag 1 || eqb tag 3) state ⨾ part (eqb tag 2 || eqb tag 3) report
+
+no_none : {A : Type 0} (a : A) → Some a ≡ None → ⊥
+no_none a e = cc
+
+parts_tell : (tag : ℕ) (a : Known) → 1 ≤ tag → tag ≤ 3 → (parts_at tag).has a → parts_of a ≡ tag
+parts_tell zero a low high h = absurd (omega (arith, low))
+parts_tell (suc zero) (None, r) low high h = absurd h.0
+parts_tell (suc zero) (Some s, None) low high h = refl
+parts_tell (suc zero) (Some s, Some r) low high h = absurd (no_none r h.1)
+parts_tell (suc (suc zero)) (None, None) low high h = absurd h.1
+parts_tell (suc (suc zero)) (None, Some r) low high h = refl
+parts_tell (suc (suc zero)) (Some s, r) low high h = absurd (no_none s h.0)
+parts_tell (suc (suc (suc zero))) (None, r) low high h = absurd h.0
+parts_tell (suc (suc (suc zero))) (Some s, None) low high h = absurd h.1
+parts_tell (suc (suc (suc zero))) (Some s, Some r) low high h = refl
+parts_tell (suc (suc (suc (suc tag)))) a low high h = absurd (omega (arith, high))
+
+parts_lawful : Lawful parts
+unfolding parts
+parts_lawful = tagged_lawful 1 3 parts_of parts_at (omega arith) (λ tag.
+    pair_lawful (part (eqb tag 1 || eqb tag 3) state) (part (eqb tag 2 || eqb tag 3) report) (part_lawful (eqb tag 1 || eqb tag 3) state state_lawful) (part_lawful (eqb tag 2 || eqb tag 3) report report_lawful)) parts_tell
+
+pub machine_lawful : Lawful machine
+unfolding machine
+machine_lawful = pair_lawful count parts count_lawful parts_lawful
+
+pub spot_lawful : Lawful spot
+unfolding spot
+spot_lawful = seen_lawful (id ⨾ count) _ _ (pair_lawful id count id_lawful count_lawful) (λ f _. refl) (λ s. refl)
+
+header_lawful : Lawful header
+unfolding header
+header_lawful = seen_lawful (number w32 magic magic ⨾ coordinator ⨾ count) (λ f. f.1) (λ h. (magic, h))
+    (pair_lawful (number w32 magic magic) _ (number_lawful w32 (2 ^ 32) magic magic wide32 (omega arith)) (pair_lawful coordinator count coordinator_lawful count_lawful))
+    (λ a h. let is : magic ≡ a.0 = omega (arith, h.0.0, h.0.1) in λ i. (is i, a.1)) (λ h. refl)
+
+same_entry : TellsApart entry_cmp
+same_entry = pair_same attempt_cmp nat_cmp same_attempt nat_same
+
+entry_key : Lawful ((id ⨾ attempt) ⨾ coordinator)
+entry_key = pair_lawful (id ⨾ attempt) coordinator (pair_lawful id attempt id_lawful attempt_lawful) coordinator_lawful
+
+pub packet_lawful : Lawful packet
+unfolding packet
+packet_lawful = seen_lawful (header ⨾ jobs ⨾ tasks ⨾ machines ⨾ entries) _ _
+    (pair_lawful header _ header_lawful
+    (pair_lawful jobs _ (records_lawful nat_cmp nat_cmp_total nat_same id job id_lawful job_lawful)
+    (pair_lawful tasks _ (records_lawful nat_cmp nat_cmp_total nat_same id task id_lawful task_lawful)
+    (pair_lawful machines entries (records_lawful nat_cmp nat_cmp_total nat_same id machine id_lawful machine_lawful)
+    (records_lawful entry_cmp entry_total same_entry ((id ⨾ attempt) ⨾ coordinator) spot entry_key spot_lawful))))) (λ f _. refl) (λ p. refl)

@@ -1,0 +1,180 @@
+-- The format of packets: every field, its width and its range, in the order in which they stand (this project's profile,
+-- version FDG1). There is one spelling per packet.
+use Rattle.std.specs.Prelude.{◌≡◌, ℕ, ◌<◌, IsTrue, length, ◌-◌, ◌^◌, ◌==◌, ◌||◌, Bool, cond, is_some, List, Option, Some, None, flat_map, map}
+use Rattle.std.specs.Int.{w8, w32, w64, w128}
+use Rattle.std.specs.Ordering.{nat_cmp, on, then_cmp}
+use Rattle.std.specs.declared.cmp.Ordering.{Ordering}
+use Rattle.fm_records.specs.declared.ops.Phase.{Phase}
+use Rattle.fm_records.specs.declared.ops.Phase.TheVariants.{Pending, Running, Done}
+use Rattle.fm_records.specs.declared.records.JobReg.{JobReg}
+use Rattle.fm_records.specs.declared.records.SpecReg.{SpecReg}
+use Rattle.fm_records.specs.declared.records.MachineReg.{MachineReg}
+use Rattle.fm_records.specs.declared.records.Report.{Report}
+use Rattle.fm_records.specs.declared.records.Spot.{Spot}
+use Rattle.fm_records.specs.Ids.{is_coordinator}
+use Rattle.fm_records.specs.Ranges.{CanBe}
+use Rattle.fm_records.specs.Orders.{phase_place, attempt_cmp}
+use Rattle.fm_records.specs.Table.{TaskValue, MachineValue}
+use Rattle.fm_delta.specs.declared.packet.Packet.{Packet}
+use Rattle.fm_wire.specs.Formats.{Format, number, ◌⨾◌, seen_as, part, tagged, records, fault_in}
+
+-- the fields that several records have
+abbrev pub id : Format ℕ
+id = number w128 0 (2 ^ 128 - 1)
+
+abbrev pub count : Format ℕ
+count = number w64 0 (2 ^ 64 - 1)
+
+abbrev pub attempt : Format ℕ
+attempt = number w32 0 (2 ^ 32 - 1)
+
+abbrev pub coordinator : Format ℕ
+coordinator = number w8 1 64
+
+abbrev pub flag : Format Bool
+flag = seen_as (number w8 0 1) (λ n. n == 1) (λ b. cond b 1 0)
+
+abbrev pub price : Format ℕ
+price = number w32 0 1000000000
+
+abbrev pub bandwidth : Format ℕ
+bandwidth = number w32 0 1000000
+
+-- 0 pending, 1 running, 2 done
+abbrev pub phase_from : ℕ → Phase
+phase_from n = cond (n == 0) Pending (cond (n == 1) Running Done)
+
+abbrev pub phase : Format Phase
+phase = seen_as (number w8 0 2) phase_from phase_place
+
+-- version, writer, withdrawn, wait, preempt
+unfoldable pub job : Format JobReg
+job = seen_as (count ⨾ coordinator ⨾ flag ⨾ price ⨾ price)
+    (λ f. record { version = f.0; writer = f.1.0; withdrawn = f.1.1.0; wait = f.1.1.1.0; preempt = f.1.1.1.1 })
+    (λ r. (r.version, (r.writer, (r.withdrawn, (r.wait, r.preempt)))))
+
+-- version, writer, withdrawn, job, request
+unfoldable pub spec : Format SpecReg
+spec = seen_as (count ⨾ coordinator ⨾ flag ⨾ id ⨾ bandwidth)
+    (λ f. record { version = f.0; writer = f.1.0; withdrawn = f.1.1.0; job = f.1.1.1.0; request = f.1.1.1.1 })
+    (λ r. (r.version, (r.writer, (r.withdrawn, (r.job, r.request)))))
+
+-- whether a spec follows: 1 where it does, else 0
+abbrev pub has_of : Option SpecReg → ℕ
+has_of o = cond (is_some o) 1 0
+
+unfoldable pub optional_spec : Format (Option SpecReg)
+optional_spec = tagged 0 1 has_of (λ has. part (has == 1) spec)
+
+-- attempt, phase, has, and the spec if it follows
+unfoldable pub task : Format TaskValue
+task = seen_as (attempt ⨾ phase ⨾ optional_spec)
+    (λ f. (f.1.1, record { attempt = f.0; phase = f.1.0 }))
+    (λ v. (v.1.attempt, (v.1.phase, v.0)))
+
+-- version, writer, up, slots, nic
+unfoldable pub state : Format MachineReg
+state = seen_as (count ⨾ coordinator ⨾ flag ⨾ number w32 1 1000 ⨾ bandwidth)
+    (λ f. record { version = f.0; writer = f.1.0; up = f.1.1.0; slots = f.1.1.1.0; nic = f.1.1.1.1 })
+    (λ r. (r.version, (r.writer, (r.up, (r.slots, r.nic)))))
+
+-- number, used
+unfoldable pub report : Format Report
+report = seen_as (count ⨾ price) (λ f. record { number = f.0; used = f.1 }) (λ r. (r.number, r.used))
+
+-- which parts follow: 1 a state, 2 a report, 3 a state and then a report
+abbrev pub parts_of : Option MachineReg × Option Report → ℕ
+parts_of (None, None) = 0
+parts_of (Some s, None) = 1
+parts_of (None, Some r) = 2
+parts_of (Some s, Some r) = 3
+
+unfoldable pub parts : Format (Option MachineReg × Option Report)
+parts = tagged 1 3 parts_of (λ parts. part (parts == 1 || parts == 3) state ⨾ part (parts == 2 || parts == 3) report)
+
+-- incarnation, parts, and the parts that follow
+unfoldable pub machine : Format MachineValue
+machine = count ⨾ parts
+
+-- machine, incarnation
+unfoldable pub spot : Format Spot
+spot = seen_as (id ⨾ count) (λ f. record { machine = f.0; incarnation = f.1 }) (λ s. (s.machine, s.incarnation))
+
+-- a packet whose proposals stand in one list, each under its task, attempt and coordinator
+pub record Listed : Type 0 where
+  pub sender : ℕ
+  pub number : ℕ
+  pub jobs : List (ℕ × JobReg)
+  pub tasks : List (ℕ × TaskValue)
+  pub machines : List (ℕ × MachineValue)
+  pub entries : List (((ℕ × ℕ) × ℕ) × Spot)
+
+-- by task, attempt and coordinator
+abbrev pub entry_cmp : (ℕ × ℕ) × ℕ → (ℕ × ℕ) × ℕ → Ordering
+entry_cmp = then_cmp (on (λ k. k.0) attempt_cmp) (on (λ k. k.1) nat_cmp)
+
+-- the proposals for one attempt, each under its attempt and coordinator, and all proposals in one list
+abbrev pub entries_at : ℕ × ℕ → List (ℕ × Spot) → List (((ℕ × ℕ) × ℕ) × Spot)
+entries_at at spots = map (λ c. ((at, c.0), c.1)) spots
+
+abbrev pub entries_of : List ((ℕ × ℕ) × List (ℕ × Spot)) → List (((ℕ × ℕ) × ℕ) × Spot)
+entries_of = flat_map (λ e. entries_at e.0 e.1)
+
+abbrev pub listed : Packet → Listed
+listed p = record {
+  sender = p.sender;
+  number = p.number;
+  jobs = p.value.jobs;
+  tasks = p.value.tasks;
+  machines = p.value.machines;
+  entries = entries_of p.value.proposals;
+}
+
+-- the four bytes "FDG1"
+abbrev pub magic : ℕ
+magic = 0x46444731
+
+-- the magic, the sender, and the number of the packet
+unfoldable pub header : Format (ℕ × ℕ)
+header = seen_as (number w32 magic magic ⨾ coordinator ⨾ count) (λ f. f.1) (λ h. (magic, h))
+
+-- the four lists of records
+abbrev pub jobs : Format (List (ℕ × JobReg))
+jobs = records nat_cmp id job
+
+abbrev pub tasks : Format (List (ℕ × TaskValue))
+tasks = records nat_cmp id task
+
+abbrev pub machines : Format (List (ℕ × MachineValue))
+machines = records nat_cmp id machine
+
+abbrev pub entries : Format (List (((ℕ × ℕ) × ℕ) × Spot))
+entries = records entry_cmp ((id ⨾ attempt) ⨾ coordinator) spot
+
+unfoldable pub packet : Format Listed
+packet = seen_as (header ⨾ jobs ⨾ tasks ⨾ machines ⨾ entries)
+    (λ f. record { sender = f.0.0; number = f.0.1; jobs = f.1.0; tasks = f.1.1.0; machines = f.1.1.1.0; entries = f.1.1.1.1 })
+    (λ p. ((p.sender, p.number), (p.jobs, (p.tasks, (p.machines, p.entries)))))
+
+-- the bytes of a packet
+abbrev pub spelling : Packet → List ℕ
+spelling p = packet.spell (listed p)
+
+-- the place of the first fault of bytes that are no packet's
+abbrev pub fault : List ℕ → Option ℕ
+fault = fault_in packet
+
+-- a packet that can be: its sender and its number fit, its knowledge is one that operations come to, and it has fewer
+-- records of each kind than 64 bits count, as any memory does
+pub record IsPacket (p : Packet) : Type 0 where
+  pub sender : IsTrue (is_coordinator p.sender)
+  pub number : p.number < 2 ^ 64
+  pub value : CanBe p.value
+  pub jobs : length p.value.jobs < 2 ^ 64
+  pub tasks : length p.value.tasks < 2 ^ 64
+  pub machines : length p.value.machines < 2 ^ 64
+  pub entries : length (entries_of p.value.proposals) < 2 ^ 64
+
+-- the bytes are a packet's spelling
+abbrev pub IsSpelling : List ℕ → Type 0
+IsSpelling bytes = (p : Packet) × IsPacket p × (bytes ≡ spelling p)

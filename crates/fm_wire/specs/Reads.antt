@@ -1,0 +1,31 @@
+-- What functions answer, against what reading gives.
+use Rattle.std.specs.Prelude.{◌≡◌, ℕ, List, Result, Ok, Err}
+use Rattle.fm_wire.specs.declared.fault.ReadError.{ReadError}
+use Rattle.fm_wire.specs.declared.fault.ReadError.TheVariants as errors
+use Rattle.fm_delta.specs.declared.packet.Packet.{Packet}
+use Rattle.fm_wire.specs.Formats.{Reading}
+use Rattle.fm_wire.specs.Grammar.{Listed, listed}
+
+-- what a function answered, seen by view, is what reading gives
+abbrev pub Gives : {X Y : Type 0} → (X → Y) → Result X ℕ → Result Y ℕ → Type 0
+Gives view (Ok x) read = read ≡ Ok (view x)
+Gives view (Err left) read = read ≡ Err left
+
+-- the same, unless memory ran out
+abbrev pub Fails : {Y : Type 0} → ReadError → Result Y ℕ → Type 0
+Fails errors.Memory read = Unit {0}
+Fails (errors.Fault left) read = read ≡ Err left
+
+abbrev pub Builds : {X Y : Type 0} → (X → Y) → Result X ReadError → Result Y ℕ → Type 0
+Builds view (Ok x) read = read ≡ Ok (view x)
+Builds view (Err e) read = Fails e read
+
+-- the bytes after the value
+abbrev pub rest_of : {A : Type 0} → Reading A → Result (List ℕ) ℕ
+rest_of (Ok x) = Ok x.1
+rest_of (Err left) = Err left
+
+-- the packet stands at the front, unless memory ran out
+abbrev pub Finds : Result Packet ReadError → Reading Listed → Type 0
+Finds (Ok p) read = (rest : List ℕ) × (read ≡ Ok (listed p, rest))
+Finds (Err e) read = Fails e read

@@ -1,0 +1,30 @@
+//! Why a value could not be made of bytes.
+
+ghost use Rattle.std.specs.Prelude.{◌≡◌};
+ghost use Rattle.fm_wire.specs.declared.fault.ReadError.TheVariants.{Memory, Fault};
+
+use fm_lattice::join::OutOfMemory;
+
+/// Want of memory, or a fault in the bytes.
+#[derive(Debug, Clone, Copy, PartialEq, Eq, Drop)]
+pub(crate) enum ReadError {
+    Memory,
+    /// How many bytes there are from the fault to the end.
+    Fault(usize),
+}
+
+impl From<OutOfMemory> for ReadError {
+    ghost from_gives = { λ _ e. e ≡ Memory };
+
+    fn from(_: OutOfMemory) -> ReadError {
+        ReadError::Memory
+    }
+}
+
+impl From<usize> for ReadError {
+    ghost from_gives = { λ left e. e ≡ Fault left };
+
+    fn from(left: usize) -> ReadError {
+        ReadError::Fault(left)
+    }
+}

@@ -1,0 +1,92 @@
+//! The packet that bytes spell, and the first fault of bytes that spell none.
+
+ghost use Rattle.std.specs.Prelude.{◌≡◌, ◌≤◌, ◌↔◌, None, IsOk, IfOk, IfErr, option_map};
+ghost use Rattle.fm_records.specs.Options.{or_else};
+ghost use Rattle.fm_records.specs.Ranges.{CanBe};
+ghost use Rattle.fm_wire.specs.Grammar.{header, packet, spelling, fault, IsPacket, IsSpelling};
+ghost use Rattle.fm_wire.specs.Reads.{Gives, Finds, rest_of};
+
+use crate::entries::proposals_in;
+use crate::fault::ReadError;
+use crate::maps::{map_at, rest_of_map};
+use crate::numbers::{u8_at, u32_at, u64_at};
+use crate::writing::MAGIC;
+use fm_delta::packet::Packet;
+use fm_know::knowledge::Knowledge;
+use fm_lattice::plain::{Max, Min};
+use fm_records::ids::{CoordId, JobId, MachineId, TaskId};
+use fm_records::records::{JobReg, MachineRec, Spot, TaskRec};
+use fm_records::refusal::Refusal;
+use std::alloc::Global;
+
+/// The place of the first fault in bytes that are no packet's spelling; none where they are one. It takes no memory. O(n).
+pub fn fault_of(bytes: &[u8]) -> Option<usize>
+    ensures { result ≡ fault bytes.now }
+{
+    match rest_of_packet(bytes) {
+        Ok([]) => None,
+        Ok(rest) => Some(bytes.len().saturating_sub(rest.len())),
+        Err(left) => Some(bytes.len().saturating_sub(left)),
+    }
+}
+
+/// The packet that the bytes spell. O(n log n). Before any memory is taken the bytes are gone over: BadPacket with the place of
+/// the first fault, where they are no packet's spelling.
+pub fn decode(alloc: Global, bytes: &[u8]) -> Result<Packet, Refusal>
+    ensures spelling { IfOk result (λ p. bytes.now ≡ spelling p) }
+    ensures packet { IfOk result IsPacket }
+    ensures none { IsOk result → fault bytes.now ≡ None }
+    ensures err { IfErr result (λ e. e ≡ or_else Refusal.OutOfMemory (option_map Refusal.BadPacket (fault bytes.now))) }
+    ensures exact { (fault bytes.now ≡ None) ↔ IsSpelling bytes.now }
+{
+    if let Some(place) = fault_of(bytes) {
+        return Err(Refusal::BadPacket(place));
+    }
+    match packet_at(alloc, bytes) {
+        Ok(packet) => Ok(packet),
+        Err(ReadError::Memory) => Err(Refusal::OutOfMemory),
+        Err(ReadError::Fault(left)) => Err(Refusal::BadPacket(bytes.len().saturating_sub(left))),
+    }
+}
+
+// The packet at the front.
+fn packet_at(alloc: Global, bytes: &[u8]) -> Result<Packet, ReadError>
+    ensures found { Finds result (packet.read bytes.now) }
+    ensures value { IfOk result (λ p. CanBe p.value) }
+{
+    let ((sender, number), rest) = header_at(bytes)?;
+    let (jobs, rest) = map_at::<JobId, Max<JobReg>>(alloc, rest)?;
+    let (tasks, rest) = map_at::<TaskId, TaskRec>(alloc, rest)?;
+    let (machines, rest) = map_at::<MachineId, MachineRec>(alloc, rest)?;
+    let (entries, _) = map_at::<((TaskId, u32), CoordId), Min<Spot>>(alloc, rest)?;
+    let proposals = proposals_in(alloc, &entries)?;
+    Ok(Packet {
+        sender: CoordId::new(sender).unwrap(),
+        number,
+        value: Knowledge::of(jobs, tasks, machines, proposals),
+    })
+}
+
+// Goes over the packet at the front without memory, and answers the bytes after it.
+fn rest_of_packet(bytes: &[u8]) -> Result<&[u8], usize>
+    ensures { Gives (λ rest. rest.now) result (rest_of (packet.read bytes.now)) }
+{
+    let (_, rest) = header_at(bytes)?;
+    let rest = rest_of_map::<JobId, Max<JobReg>>(rest)?;
+    let rest = rest_of_map::<TaskId, TaskRec>(rest)?;
+    let rest = rest_of_map::<MachineId, MachineRec>(rest)?;
+    rest_of_map::<((TaskId, u32), CoordId), Min<Spot>>(rest)
+}
+
+// The sender and the number at the front, behind the magic.
+#[tactic(auto, unfolding(crate::specs::Grammar::header))]
+fn header_at(bytes: &[u8]) -> Result<((u8, u64), &[u8]), usize>
+    ensures header { Gives (λ x. (x.0, x.1.now)) result (header.read bytes.now) }
+    ensures least { IfOk result (λ x. 1 ≤ x.0.0) }
+    ensures greatest { IfOk result (λ x. x.0.0 ≤ 64) }
+{
+    let (_, rest) = u32_at(bytes, MAGIC, MAGIC)?;
+    let (sender, rest) = u8_at(rest, 1, 64)?;
+    let (number, rest) = u64_at(rest)?;
+    Ok(((sender, number), rest))
+}
