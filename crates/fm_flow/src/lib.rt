@@ -8,6 +8,7 @@ pub mod cost;
 pub mod entries;
 pub mod flow;
 mod groups;
+mod kept;
 mod lanes;
 pub mod laws;
 mod loading;

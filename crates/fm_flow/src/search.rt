@@ -1,6 +1,6 @@
 //! The search for a cycle that makes a flow cheaper.
 
-ghost use Rattle.std.specs.Prelude.{◌≡◌, length, vec_len, IfOk};
+ghost use Rattle.std.specs.Prelude.{◌≡◌, vec_len, IfOk};
 ghost use Rattle.fm_flow.specs.Found.{HasPotentials};
 
 use crate::numbered::{Arc, Numbered, at};
@@ -27,17 +27,17 @@ pub(crate) enum Found {
 // The least costs of walks of at most some number of steps, and the last step of those that have that number.
 #[derive(Debug, Drop)]
 struct Row {
-    costs: Vec<i64>,
+    costs: Vec<i128>,
     lasts: Vec<Option<Step>>,
 }
 
 // The cost of the least walk to a node.
-fn cost_at(costs: &[i64], node: usize) -> i64 {
+fn cost_at(costs: &[i128], node: usize) -> i128 {
     costs.get(node).copied().unwrap_or(0)
 }
 
 // Takes the step as the last one to a node where the walk is cheaper by it.
-fn lower(row: &mut Row, node: usize, cost: i64, step: Step) -> bool
+fn lower(row: &mut Row, node: usize, cost: i128, step: Step) -> bool
     ensures { vec_len row.new.costs ≡ vec_len row.old.costs }
 {
     let Some(least) = row.costs.get_mut(node) else {
@@ -54,13 +54,13 @@ fn lower(row: &mut Row, node: usize, cost: i64, step: Step) -> bool
 }
 
 // Takes each step behind the walks of the row before, and answers a node with a cheaper walk.
-fn extend(arcs: &[Arc], units: &[u64], before: &[i64], row: &mut Row) -> Option<usize>
+fn extend(arcs: &[Arc], units: &[u64], before: &[i128], row: &mut Row) -> Option<usize>
     ensures { vec_len row.new.costs ≡ vec_len row.old.costs }
 {
     let mut cheaper = None;
     for (place, arc) in arcs.iter().enumerate() {
         let sent = at(units, place);
-        let cost = i64::from(arc.cost);
+        let cost = i128::from(arc.cost);
         let forward = cost_at(before, arc.from).saturating_add(cost);
         let backward = cost_at(before, arc.to).saturating_sub(cost);
         if sent < arc.capacity
@@ -137,13 +137,6 @@ fn cycle_behind(
     Ok(None)
 }
 
-// The costs as potentials.
-fn potentials(alloc: Global, costs: &[i64]) -> Result<Vec<i128>, OutOfMemory>
-    ensures { IfOk result (λ potentials. vec_len potentials ≡ length costs.now) }
-{
-    Ok(costs.iter().map(|cost| i128::from(*cost)).collect(alloc)?)
-}
-
 /// Potentials that show the units to be a least flow, or a cycle of negative cost. The cycle has no steps where neither
 /// was found. Each round is O(arcs), and of a least flow there are few.
 pub(crate) fn search(
@@ -154,7 +147,7 @@ pub(crate) fn search(
     ensures { IfOk result (HasPotentials numbered.now.places.end) }
 {
     let nodes = numbered.places.end;
-    let mut costs = vec![in alloc; 0i64; nodes]?;
+    let mut costs = vec![in alloc; 0i128; nodes]?;
     let mut rows: Vec<Vec<Option<Step>>> = Vec::new(alloc);
     'rounds: for _ in 0..=nodes {
         let mut row = Row {
@@ -162,7 +155,7 @@ pub(crate) fn search(
             lasts: vec![in alloc; None; nodes]?,
         };
         let Some(end) = extend(&numbered.arcs, units, &costs, &mut row) else {
-            return Ok(Found::Potentials(potentials(alloc, &costs)?));
+            return Ok(Found::Potentials(costs));
         };
         let Row {
             costs: lower,

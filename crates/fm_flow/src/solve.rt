@@ -10,7 +10,7 @@ use crate::check::check;
 use crate::flow::Flow;
 use crate::numbered::Numbered;
 use crate::potentials::Potentials;
-use crate::start::start;
+use crate::start::{resume, start};
 use fm_lattice::join::OutOfMemory;
 use fm_net::network::Network;
 use fm_records::refusal::Refusal;
@@ -25,23 +25,56 @@ pub fn solve(alloc: Global, network: &Network) -> Result<(Flow, Potentials), Ref
     ensures least { IfOk result (λ found. IsLeast network.now (units_in found.0)) }
     ensures cause { IfErr result (λ refusal. (refusal ≡ Refusal.OutOfMemory) ⊎ (refusal ≡ Refusal.Uncertified)) }
 {
-    let (flow, potentials) = found(alloc, network)?;
+    let numbered = Numbered::of(alloc, network)?;
+    let first = start(alloc, &numbered)?;
+    certified(alloc, network, &numbered, first)
+}
+
+/// As `solve`, and starts with the task paths of the flow, of this network or an earlier one, that are still whole and
+/// fit. The caller owes a network that the policy can build. Refused as `solve` is.
+pub fn solve_from(
+    alloc: Global,
+    network: &Network,
+    flow: &Flow,
+) -> Result<(Flow, Potentials), Refusal>
+    requires built { IsBuilt network.now }
+    ensures certified { IfOk result (λ found. IsCertified network.now found.0 found.1) }
+    ensures least { IfOk result (λ found. IsLeast network.now (units_in found.0)) }
+    ensures cause { IfErr result (λ refusal. (refusal ≡ Refusal.OutOfMemory) ⊎ (refusal ≡ Refusal.Uncertified)) }
+{
+    let numbered = Numbered::of(alloc, network)?;
+    let given = units_of(alloc, network, flow)?;
+    let first = resume(alloc, &numbered, &given)?;
+    certified(alloc, network, &numbered, first)
+}
+
+// What cancelling makes of the units, where it passes the check.
+fn certified(
+    alloc: Global,
+    network: &Network,
+    numbered: &Numbered,
+    first: Vec<u64>,
+) -> Result<(Flow, Potentials), Refusal>
+    ensures certified { IfOk result (λ found. IsCertified network.now found.0 found.1) }
+    ensures least { IfOk result (λ found. IsLeast network.now (units_in found.0)) }
+    ensures cause { IfErr result (λ refusal. (refusal ≡ Refusal.OutOfMemory) ⊎ (refusal ≡ Refusal.Uncertified)) }
+{
+    let (units, values) = improve(alloc, numbered, first)?;
+    let flow = flow_of(alloc, network, &units)?;
+    let potentials = potentials_of(alloc, network, &values)?;
     if !check(network, &flow, &potentials) {
         return Err(Refusal::Uncertified);
     }
     Ok((flow, potentials))
 }
 
-// What the solver finds.
-fn found(alloc: Global, network: &Network) -> Result<(Flow, Potentials), Refusal>
-    ensures { IfErr result (λ refusal. (refusal ≡ Refusal.OutOfMemory) ⊎ (refusal ≡ Refusal.Uncertified)) }
-{
-    let numbered = Numbered::of(alloc, network)?;
-    let first = start(alloc, &numbered)?;
-    let (units, values) = improve(alloc, &numbered, first)?;
-    let flow = flow_of(alloc, network, &units)?;
-    let potentials = potentials_of(alloc, network, &values)?;
-    Ok((flow, potentials))
+// The flow's units on the arcs, in order.
+fn units_of(alloc: Global, network: &Network, flow: &Flow) -> Result<Vec<u64>, OutOfMemory> {
+    let mut units = Vec::new(alloc);
+    for (from, to, _, _) in network.arcs() {
+        units.push(flow.units(from, to).unwrap_or(0))?;
+    }
+    Ok(units)
 }
 
 // The units of the arcs, in order, as a flow.

@@ -1,11 +1,13 @@
-//! A first flow: all tasks unscheduled, or placed by falling worth.
+//! A first flow: all tasks unscheduled, or placed by falling worth, or as an earlier flow had them.
 
-ghost use Rattle.std.specs.Prelude.{◌≡◌, vec_len, IfOk};
+ghost use Rattle.std.specs.Prelude.{◌≡◌, length, vec_len, IsTrue, IfOk};
 
+use crate::kept::Kept;
 use crate::lanes::{Lanes, bandwidth, machine_of, price_at};
 use crate::loading::{FAR, Loading};
 use crate::numbered::{Kind, Numbered, at, inflow, is_feasible};
 use crate::paths::Paths;
+use crate::search::{Found, search};
 use fm_lattice::join::OutOfMemory;
 use std::alloc::Global;
 
@@ -228,10 +230,37 @@ pub(crate) fn unscheduled(alloc: Global, numbered: &Numbered) -> Result<Vec<u64>
     Ok(units)
 }
 
-// The units of tasks placed by falling worth, each class where its slots are cheapest.
-fn placed(alloc: Global, numbered: &Numbered) -> Result<Vec<u64>, OutOfMemory> {
+// Places the tasks that the given units place, where their paths are still whole and fit, and answers the others.
+fn keep_given(
+    alloc: Global,
+    placing: &mut Placing<'_>,
+    choices: &[Choice],
+    given: &[u64],
+) -> Result<Vec<Choice>, OutOfMemory> {
+    let mut kept = Kept::new(alloc, placing.numbered, given)?;
+    let mut others = Vec::with_capacity(alloc, choices.len())?;
+    for choice in choices {
+        let (lanes, loading) = (&placing.lanes, &mut placing.loading);
+        if kept.keep(
+            placing.numbered,
+            lanes,
+            loading,
+            choice.place,
+            choice.placed,
+        ) {
+            put(&mut placing.loading.units, choice.placed, 1);
+        } else {
+            others.push(*choice)?;
+        }
+    }
+    Ok(others)
+}
+
+// The units of tasks placed by falling worth, each class where its slots are cheapest, behind those of the given units.
+fn placed(alloc: Global, numbered: &Numbered, given: &[u64]) -> Result<Vec<u64>, OutOfMemory> {
     let mut placing = Placing::new(alloc, numbered)?;
-    let mut choices = choices(alloc, numbered, &placing.lanes.prices)?;
+    let all = choices(alloc, numbered, &placing.lanes.prices)?;
+    let mut choices = keep_given(alloc, &mut placing, &all, given)?;
     choices.sort()?;
     let classes = classes(alloc, &choices)?;
     for class in classes.iter().rev() {
@@ -246,15 +275,47 @@ fn placed(alloc: Global, numbered: &Numbered) -> Result<Vec<u64>, OutOfMemory> {
     Ok(units)
 }
 
-/// A flow that is mostly least: tasks are placed by falling worth, or else all are unscheduled.
+/// Tasks placed by falling worth; all unscheduled where that is no flow. Where each arc into a machine costs the request
+/// and the machine's load, and no waiting task has an arc to a machine, this is a least flow: no clause says so, a search
+/// for cycles does. O(arcs log arcs), and for each class of tasks at most some searches between requests.
 pub(crate) fn start(alloc: Global, numbered: &Numbered) -> Result<Vec<u64>, OutOfMemory>
     ensures { IfOk result (λ units. vec_len units ≡ vec_len numbered.now.arcs) }
 {
-    let units = placed(alloc, numbered)?;
+    let units = placed(alloc, numbered, &[])?;
     if is_feasible(alloc, numbered, &units)? {
         Ok(units)
     } else {
         unscheduled(alloc, numbered)
+    }
+}
+
+// Whether the units are a least flow.
+fn is_least(alloc: Global, numbered: &Numbered, units: &[u64]) -> Result<bool, OutOfMemory>
+    ensures { IfOk result (λ least. IsTrue least → length units.now ≡ vec_len numbered.now.arcs) }
+{
+    if !is_feasible(alloc, numbered, units)? {
+        return Ok(false);
+    }
+    match search(alloc, numbered, units)? {
+        Found::Potentials(_) => Ok(true),
+        Found::Cycle(_) => Ok(false),
+    }
+}
+
+/// A flow with the task paths of the given units that are still whole and fit, the other tasks placed by falling worth,
+/// if that is a least flow; else the one that is made without them.
+pub(crate) fn resume(
+    alloc: Global,
+    numbered: &Numbered,
+    given: &[u64],
+) -> Result<Vec<u64>, OutOfMemory>
+    ensures { IfOk result (λ units. vec_len units ≡ vec_len numbered.now.arcs) }
+{
+    let units = placed(alloc, numbered, given)?;
+    if is_least(alloc, numbered, &units)? {
+        Ok(units)
+    } else {
+        start(alloc, numbered)
     }
 }
 

@@ -3,7 +3,7 @@
 use crate::cancel::improve;
 use crate::numbered::{Numbered, is_feasible, total};
 use crate::search::{Found, search};
-use crate::start::{start, unscheduled};
+use crate::start::{resume, start, unscheduled};
 use fm_lattice::join::OutOfMemory;
 use fm_net::network::Network;
 use fm_net::node::Node;
@@ -263,6 +263,26 @@ fn drawn_networks_are_solved(rt: HostRuntime) -> Result<(), Fail> {
     for seed in 1..=12u64 {
         let network = drawn(rt.alloc(), seed)?;
         assert!(rt; both_cost(rt.alloc(), &network, None)?);
+    }
+    Ok(())
+}
+
+// Whether an earlier flow that is least is kept as it is, and one of other units ends at the same cost.
+fn is_taken_over(alloc: Global, network: &Network) -> Result<bool, OutOfMemory> {
+    let numbered = Numbered::of(alloc, network)?;
+    let first = start(alloc, &numbered)?;
+    let kept = resume(alloc, &numbered, &first)?;
+    let strange = vec![in alloc; 1u64; numbered.arcs.len()]?;
+    let other = resume(alloc, &numbered, &strange)?;
+    let costs = (total(&numbered.arcs, &first), total(&numbered.arcs, &other));
+    Ok(kept.as_slice() == first.as_slice() && costs.0 == costs.1)
+}
+
+#[test]
+fn earlier_flows_are_taken_over(rt: HostRuntime) -> Result<(), Fail> {
+    for seed in 1..=6u64 {
+        let network = drawn(rt.alloc(), seed)?;
+        assert!(rt; is_taken_over(rt.alloc(), &network)?);
     }
     Ok(())
 }

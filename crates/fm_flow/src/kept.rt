@@ -1,0 +1,87 @@
+//! The task paths of an earlier flow that are still whole and fit.
+
+use crate::lanes::Lanes;
+use crate::loading::Loading;
+use crate::numbered::{Kind, Numbered, at};
+use fm_lattice::join::OutOfMemory;
+use std::alloc::Global;
+
+/// The units of the earlier flow that no task has taken up yet.
+#[derive(Debug, Drop)]
+pub(crate) struct Kept {
+    given: Vec<u64>,
+    /// Each request's first arc, cheaper machines first, that may have such units and fit.
+    cursors: Vec<usize>,
+}
+
+impl Kept {
+    /// All units of the earlier flow.
+    pub(crate) fn new(
+        alloc: Global,
+        numbered: &Numbered,
+        given: &[u64],
+    ) -> Result<Self, OutOfMemory> {
+        Ok(Kept {
+            given: Vec::from_slice(alloc, given)?,
+            cursors: vec![in alloc; 0usize; numbered.places.requests_len()]?,
+        })
+    }
+
+    /// Takes up the path of a task over its arc to a request or machine, if it is whole and fits, and tells whether.
+    pub(crate) fn keep(
+        &mut self,
+        numbered: &Numbered,
+        lanes: &Lanes,
+        loading: &mut Loading,
+        place: usize,
+        arc: usize,
+    ) -> bool {
+        if at(&self.given, arc) == 0 {
+            return false;
+        }
+        match numbered.places.kind(place) {
+            Kind::Request(request) => self.keep_request(numbered, lanes, loading, request),
+            Kind::Machine(machine) if at(&loading.free, machine) > 0 => {
+                loading.take_slots(numbered, lanes, machine, 1);
+                true
+            }
+            _ => false,
+        }
+    }
+
+    // Takes up a unit of a request.
+    fn keep_request(
+        &mut self,
+        numbered: &Numbered,
+        lanes: &Lanes,
+        loading: &mut Loading,
+        request: usize,
+    ) -> bool {
+        let arcs = lanes.by_request.group(request);
+        let first = self.cursors.get(request).copied().unwrap_or(0);
+        for place in first..arcs.len() {
+            let arc = arcs.get(place).copied().unwrap_or(0);
+            if at(&self.given, arc) > 0 && loading.send(numbered, lanes, &[], arc, 1) > 0 {
+                self.take(arc);
+                self.put_cursor(request, place);
+                return true;
+            }
+        }
+        self.put_cursor(request, arcs.len());
+        false
+    }
+
+    // Takes up a unit of an arc.
+    fn take(&mut self, arc: usize) {
+        if let Some(units) = self.given.get_mut(arc) {
+            *units = units.saturating_sub(1);
+        }
+    }
+
+    // Remembers where a request's arcs may have units.
+    fn put_cursor(&mut self, request: usize, place: usize) {
+        if let Some(cursor) = self.cursors.get_mut(request) {
+            *cursor = place;
+        }
+    }
+}
