@@ -1,0 +1,5 @@
+pub mod Same
+pub mod SameLaws
+pub mod Admission
+pub mod Stopping
+pub mod Planned
