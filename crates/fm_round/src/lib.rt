@@ -4,3 +4,4 @@
 pub mod equal;
 pub mod listed;
 pub mod parts;
+pub mod stopping;
