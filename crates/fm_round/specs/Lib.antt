@@ -3,3 +3,5 @@ pub mod SameLaws
 pub mod Admission
 pub mod Stopping
 pub mod Planned
+pub mod Desks
+pub mod Holdings
