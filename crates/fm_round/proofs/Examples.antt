@@ -6,7 +6,6 @@ use Rattle.fm_records.specs.declared.ops.Op.TheVariants as op
 use Rattle.fm_records.specs.Know.{know}
 use Rattle.fm_records.specs.Facts.{progress_of, load_of}
 use Rattle.fm_net.specs.declared.node.Node.TheVariants as node
-use Rattle.fm_net.specs.Network.{net_of}
 use Rattle.fm_round.specs.declared.parts.Place.{Place}
 use Rattle.fm_round.specs.declared.parts.Preempt.{Preempt}
 use Rattle.fm_round.specs.declared.parts.Answer.{Answer}
@@ -78,7 +77,7 @@ tight_flow =
     ((node.Request 500, node.Machine A), 1) ∷ ((node.Request 600, node.Machine A), 1) ∷ ((node.Machine A, node.Sink), 2)
     ∷ ((node.Task t1, node.Request 600), 1) ∷ ((node.Task t2, node.Request 500), 1) ∷ []
 
-tight_plan : planned (net_of (know tight)) tight_flow (know tight) ≡ record { places = place t1 A 1 ∷ place t2 A 1 ∷ []; preempts = [] }
+tight_plan : planned tight_flow (know tight) ≡ record { places = place t1 A 1 ∷ place t2 A 1 ∷ []; preempts = [] }
 tight_plan = refl
 
 tight_outcome : admitted (know tight) 1 (record { places = place t1 A 1 ∷ place t2 A 1 ∷ []; preempts = [] }) ≡ record { ops = op.Propose t1 0 1 A 1 ∷ []; answers = Accepted ∷ NoRoom ∷ [] }
@@ -100,7 +99,7 @@ swap_flow =
     ∷ ((node.Task t1, node.Unscheduled J), 1) ∷ ((node.Task t2, node.Request 0), 1) ∷ []
 
 abbrev swap_plan : Plan
-swap_plan = planned (net_of (know swap)) swap_flow (know swap)
+swap_plan = planned swap_flow (know swap)
 
 swap_planned : swap_plan ≡ record { places = place t2 A 1 ∷ []; preempts = preempt t1 0 ∷ [] }
 swap_planned = refl
@@ -122,7 +121,7 @@ freed_flow =
     ((node.Unscheduled J, node.Sink), 1) ∷ ((node.Request 0, node.Machine A), 1) ∷ ((node.Machine A, node.Sink), 1)
     ∷ ((node.Task t1, node.Unscheduled J), 1) ∷ ((node.Task t2, node.Request 0), 1) ∷ []
 
-freed_plan : planned (net_of (know freed)) freed_flow (know freed) ≡ record { places = place t2 A 1 ∷ []; preempts = [] }
+freed_plan : planned freed_flow (know freed) ≡ record { places = place t2 A 1 ∷ []; preempts = [] }
 freed_plan = refl
 
 freed_outcome : admitted (know freed) 1 (only_place (place t2 A 1)) ≡ record { ops = op.Propose t2 0 1 A 1 ∷ []; answers = Accepted ∷ [] }
@@ -139,7 +138,7 @@ pair_flow =
     ∷ ((node.Machine A, node.Sink), 1) ∷ ((node.Machine B, node.Sink), 1)
     ∷ ((node.Task t1, node.Request 100), 1) ∷ ((node.Task t2, node.Request 100), 1) ∷ []
 
-pair_plan : planned (net_of (know pair)) pair_flow (know pair) ≡ record { places = place t1 A 1 ∷ place t2 B 1 ∷ []; preempts = [] }
+pair_plan : planned pair_flow (know pair) ≡ record { places = place t1 A 1 ∷ place t2 B 1 ∷ []; preempts = [] }
 pair_plan = refl
 
 -- the last attempt

@@ -9,3 +9,4 @@ pub mod Accepted
 pub mod Turns
 pub mod Ready
 pub mod Nic
+pub mod Pairing

@@ -3,5 +3,6 @@ pub mod SameLaws
 pub mod Admission
 pub mod Stopping
 pub mod Planned
+pub mod Seating
 pub mod Desks
 pub mod Holdings

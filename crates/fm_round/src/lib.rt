@@ -6,5 +6,6 @@ pub mod equal;
 mod holdings;
 pub mod listed;
 pub mod parts;
+pub mod planning;
 mod rules;
 pub mod stopping;
