@@ -1,0 +1,8 @@
+pub mod Same
+pub mod SameLaws
+pub mod Admission
+pub mod Stopping
+pub mod Planned
+pub mod Seating
+pub mod Desks
+pub mod Holdings

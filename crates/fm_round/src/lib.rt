@@ -1,0 +1,11 @@
+//! Rounds: plans, what becomes of their entries, and what a coordinator has to stop.
+#![tactic(auto)]
+
+pub mod admission;
+pub mod equal;
+mod holdings;
+pub mod listed;
+pub mod parts;
+pub mod planning;
+mod rules;
+pub mod stopping;

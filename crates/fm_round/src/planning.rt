@@ -1,0 +1,286 @@
+//! The plan that a flow comes to.
+
+ghost use Rattle.std.specs.Prelude.{◌≡◌, ◌<◌, ◌+◌, ◌^◌, ◌==◌, ◌++◌, ◌∷◌, [], ℕ, Some, cond, replicate, option_to_list, IfOk, OnOk};
+ghost use Rattle.std.specs.Ordering.{is_eq};
+ghost use Rattle.std.specs.List.{filter_map};
+ghost use Rattle.fm_lattice.specs.Maps.{IsRising};
+ghost use Rattle.fm_net.specs.Nodes.{ends_cmp};
+ghost use Rattle.fm_round.specs.Planned.{wait_in, seats_in, unscheduled_in, waits, seats, place_at, place_of, preempt_of, planned};
+ghost use Rattle.fm_round.specs.Seating.{count_of, pair_cmp, seat_at, SeatsAre, AreApart};
+ghost use Rattle.fm_records.specs.Options.{and_then};
+
+use crate::listed::Listed;
+use crate::parts::{Place, Plan, Preempt};
+use fm_know::knowledge::Knowledge;
+use fm_lattice::join::OutOfMemory;
+use fm_net::node::Node;
+use fm_records::ids::{MachineId, TaskId};
+use std::alloc::Global;
+use std::collections::BTreeMap;
+
+/// The plan of a flow, which is given as its arcs with their units, in the order of their ends: within an aggregator of a
+/// request the i-th task that has a unit to it goes to the i-th machine, where a machine stands as often as there are units
+/// to it, at the machine's present incarnation; a held task that has a unit to its job is preempted at its present attempt.
+/// Both in the order of the tasks' ids. O(n log n) in the arcs and the units.
+pub fn plan_of(
+    alloc: Global,
+    flow: &[((Node, Node), u64)],
+    knowledge: &Knowledge,
+) -> Result<Plan, OutOfMemory>
+    requires { IsRising ends_cmp flow.now }
+    ensures { IfOk result (λ plan. plan ≡ planned flow.now knowledge.now) }
+{
+    let waits = waits_of(alloc, flow)?;
+    let seats = seats_of(alloc, flow)?;
+    let places = places_of(alloc, waits.as_slice(), seats.as_slice(), knowledge)?;
+    let preempts = preempts_of(alloc, flow, knowledge)?;
+    Ok(Plan {
+        places: Listed::new(places),
+        preempts: Listed::new(preempts),
+    })
+}
+
+/// A task that a flow sends to an aggregator of a request.
+#[derive(Clone, Copy, Drop)]
+pub(crate) struct Wait {
+    pub(crate) request: u32,
+    pub(crate) task: TaskId,
+}
+
+/// A unit that a flow sends from an aggregator of a request to a machine.
+#[derive(Clone, Copy, Drop)]
+pub(crate) struct Seat {
+    pub(crate) request: u32,
+    pub(crate) machine: MachineId,
+}
+
+// The task and its request, where there is a unit between them.
+fn wait_in(from: Node, to: Node, units: u64) -> Option<Wait>
+    ensures { result ≡ wait_in ((from, to), units) }
+{
+    let Node::Task(task) = from else {
+        return None;
+    };
+    let Node::Request(request) = to else {
+        return None;
+    };
+    if units == 0 {
+        return None;
+    }
+    Some(Wait { request, task })
+}
+
+// The task, where it has a unit to its job.
+fn unscheduled_in(from: Node, to: Node, units: u64) -> Option<TaskId>
+    ensures { result ≡ unscheduled_in ((from, to), units) }
+{
+    let Node::Task(task) = from else {
+        return None;
+    };
+    match to {
+        Node::Unscheduled(_) if units > 0 => Some(task),
+        _ => None,
+    }
+}
+
+// The tasks with a unit to a request.
+fn waits_of(alloc: Global, flow: &[((Node, Node), u64)]) -> Result<Vec<Wait>, OutOfMemory>
+    ensures { IfOk result (λ found. found.items ≡ waits flow.now) }
+{
+    let mut found = Vec::new(alloc);
+    for arc in flow {
+        if let Some(wait) = wait_in(arc.0.0, arc.0.1, arc.1) {
+            found.push(wait)?;
+        }
+    }
+    Ok(found)
+}
+
+// The machines with units from requests, once for each unit.
+fn seats_of(alloc: Global, flow: &[((Node, Node), u64)]) -> Result<Vec<Seat>, OutOfMemory>
+    ensures { IfOk result (λ found. found.items ≡ seats flow.now) }
+{
+    let mut found = Vec::new(alloc);
+    for arc in flow {
+        add_seats(&mut found, arc.0.0, arc.0.1, arc.1)?;
+    }
+    Ok(found)
+}
+
+// Adds the seats of one arc.
+fn add_seats(seats: &mut Vec<Seat>, from: Node, to: Node, units: u64) -> Result<(), OutOfMemory>
+    ensures { OnOk result (seats.new.items ≡ seats.old.items ++ seats_in ((from, to), units)) }
+{
+    match (from, to) {
+        (Node::Request(request), Node::Machine(machine)) => {
+            push_times(seats, &Seat { request, machine }, units)
+        }
+        _ => Ok(()),
+    }
+}
+
+// Pushes the seat so many times.
+fn push_times(seats: &mut Vec<Seat>, seat: &Seat, times: u64) -> Result<(), OutOfMemory>
+    ensures { OnOk result (seats.new.items ≡ seats.old.items ++ replicate times seat.now) }
+{
+    for i in 0..times {
+        seats.push(*seat)?;
+    }
+    Ok(())
+}
+
+/// How many items of each request there were so far.
+#[derive(Drop)]
+pub(crate) struct Counts {
+    pub(crate) by_request: BTreeMap<u32, u64>,
+}
+
+impl Counts {
+    // How many items of the request there were.
+    fn of(&self, request: u32) -> u64
+        ensures { result ≡ count_of self.now request }
+    {
+        self.by_request.get(&request).copied().unwrap_or(0)
+    }
+
+    // Counts one more.
+    fn add_one(&mut self, request: u32) -> Result<(), OutOfMemory>
+        requires { count_of self.old request + 1 < 2 ^ 64 }
+        ensures { OnOk result ((q : ℕ) → count_of self.new q ≡ count_of self.old q + cond (request == q) 1 0) }
+    {
+        let count = self.of(request);
+        self.by_request.insert(request, count + 1)?;
+        Ok(())
+    }
+}
+
+/// The machines of seats, by request, and by number among the seats of that.
+#[derive(Drop)]
+pub(crate) struct Seating {
+    pub(crate) machines: BTreeMap<(u32, u64), MachineId>,
+    pub(crate) counts: Counts,
+}
+
+impl Seating {
+    // The seats, numbered.
+    fn of(alloc: Global, seats: &[Seat]) -> Result<Seating, OutOfMemory>
+        ensures { IfOk result (SeatsAre seats.now) }
+    {
+        let mut seating = Seating {
+            machines: BTreeMap::new(alloc),
+            counts: Counts {
+                by_request: BTreeMap::new(alloc),
+            },
+        };
+        for seat in seats {
+            seating.add(seat)?;
+        }
+        Ok(seating)
+    }
+
+    // Adds a seat behind those of its request.
+    fn add(&mut self, seat: &Seat) -> Result<(), OutOfMemory>
+        requires { count_of self.old.counts seat.now.request + 1 < 2 ^ 64 }
+        ensures counts { OnOk result ((q : ℕ) → count_of self.new.counts q ≡ count_of self.old.counts q + cond (seat.now.request == q) 1 0) }
+        ensures machines { OnOk result ((q i : ℕ) → seat_at self.new q i ≡ cond (is_eq (pair_cmp (seat.now.request, count_of self.old.counts seat.now.request) (q, i))) (Some seat.now.machine) (seat_at self.old q i)) }
+    {
+        let number = self.counts.of(seat.request);
+        self.machines.insert((seat.request, number), seat.machine)?;
+        self.counts.add_one(seat.request)
+    }
+
+    // The machine of the seat with the number among those of the request.
+    fn machine(&self, request: u32, number: u64) -> Option<MachineId>
+        ensures { result ≡ seat_at self.now request number }
+    {
+        self.machines.get(&(request, number)).copied()
+    }
+}
+
+// The places of the tasks: the i-th of those with a unit to a request goes to the i-th seat of that.
+fn places_of(
+    alloc: Global,
+    waits: &[Wait],
+    seats: &[Seat],
+    knowledge: &Knowledge,
+) -> Result<Vec<Place>, OutOfMemory>
+    requires { AreApart waits.now }
+    ensures { IfOk result (λ found. found.items ≡ filter_map (place_of waits.now seats.now knowledge.now) waits.now) }
+{
+    let seating = Seating::of(alloc, seats)?;
+    let mut found = Vec::new(alloc);
+    let mut seen = Counts {
+        by_request: BTreeMap::new(alloc),
+    };
+    for wait in waits {
+        let number = seen.of(wait.request);
+        let machine = seating.machine(wait.request, number);
+        push_some(&mut found, place_of(knowledge, wait.task, machine))?;
+        seen.add_one(wait.request)?;
+    }
+    Ok(found)
+}
+
+// Pushes the place, if there is one.
+fn push_some(places: &mut Vec<Place>, place: Option<Place>) -> Result<(), OutOfMemory>
+    ensures { OnOk result (places.new.items ≡ places.old.items ++ option_to_list place) }
+{
+    if let Some(place) = place {
+        places.push(place)?;
+    }
+    Ok(())
+}
+
+// The place of the task on the machine, if there is one, at its present incarnation.
+fn place_of(knowledge: &Knowledge, task: TaskId, machine: Option<MachineId>) -> Option<Place>
+    ensures { result ≡ and_then (place_at knowledge.now task) machine }
+{
+    match machine {
+        Some(machine) => place_at(knowledge, task, machine),
+        None => None,
+    }
+}
+
+// The place of the task on the machine at its present incarnation.
+fn place_at(knowledge: &Knowledge, task: TaskId, machine: MachineId) -> Option<Place>
+    ensures { result ≡ place_at knowledge.now task machine }
+{
+    match knowledge.machines().get(&machine) {
+        Some(record) => Some(Place {
+            task,
+            machine,
+            incarnation: record.0,
+        }),
+        None => None,
+    }
+}
+
+// The preempts of the held tasks with a unit to their job.
+fn preempts_of(
+    alloc: Global,
+    flow: &[((Node, Node), u64)],
+    knowledge: &Knowledge,
+) -> Result<Vec<Preempt>, OutOfMemory>
+    ensures { IfOk result (λ found. found.items ≡ filter_map (preempt_of knowledge.now) (filter_map unscheduled_in flow.now)) }
+{
+    let mut found = Vec::new(alloc);
+    for arc in flow {
+        if let Some(task) = unscheduled_in(arc.0.0, arc.0.1, arc.1) {
+            if let Some(preempt) = preempt_of(knowledge, task) {
+                found.push(preempt)?;
+            }
+        }
+    }
+    Ok(found)
+}
+
+// The preempt of the task at its present attempt, where some machine holds it.
+fn preempt_of(knowledge: &Knowledge, task: TaskId) -> Option<Preempt>
+    ensures { result ≡ preempt_of knowledge.now task }
+{
+    let _machine = knowledge.holder(task)?;
+    Some(Preempt {
+        task,
+        attempt: knowledge.attempt(task).attempt,
+    })
+}
