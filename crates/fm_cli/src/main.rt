@@ -8,6 +8,7 @@ mod reading;
 mod run;
 mod script;
 mod serve;
+mod unpack;
 mod winners;
 mod words;
 

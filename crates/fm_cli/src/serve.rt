@@ -9,8 +9,9 @@ use crate::output::{graph, solution, winners};
 use crate::reading::read_script;
 use crate::run::is_listed;
 use crate::script::Script;
-use crate::words::{Command, Words, read_words};
-use fm_dimacs::out::Over;
+use crate::unpack::unpack;
+use crate::words::{Command, Question, Words, read_words};
+use fm_dimacs::out::{Out, Over};
 use fm_records::refusal::Refusal;
 use std::alloc::Global;
 use std::fmt;
@@ -78,7 +79,7 @@ fn print<W: Write>(text: &str, writer: &mut W) -> Result<(), Fault> {
     }
 }
 
-// Runs the command on the script that the reader gives.
+// Runs the command on what the reader gives.
 fn run<R: Read, W: Write>(
     alloc: Global,
     command: Command,
@@ -86,31 +87,35 @@ fn run<R: Read, W: Write>(
     writer: &mut W,
 ) -> Result<(), Fault> {
     let text = read_input(alloc, reader)?;
-    match read_script(alloc, text.as_slice()) {
-        Ok(script) => answer(alloc, command, &script, writer),
-        Err(refusal) => Err(Fault::of_script(refusal)),
-    }
-}
-
-// Writes what the command asks of the script.
-fn answer<W: Write>(
-    alloc: Global,
-    command: Command,
-    script: &Script,
-    writer: &mut W,
-) -> Result<(), Fault> {
     let Ok(mut buffer) = BufWriter::new(alloc, writer) else {
         return Err(Fault::from(Refusal::OutOfMemory));
     };
     let mut out = Over::new(&mut buffer);
     match command {
-        Command::Graph { at } => graph(alloc, script, asked(script, at)?, &mut out)?,
-        Command::Solve { at } => solution(alloc, script, asked(script, at)?, &mut out)?,
-        Command::Winners { at } => winners(alloc, script, asked(script, at)?, &mut out)?,
+        Command::Unpack => unpack(alloc, text.as_slice(), &mut out)?,
+        Command::Ask { question, at } => match read_script(alloc, text.as_slice()) {
+            Ok(script) => answer(alloc, question, asked(&script, at)?, &script, &mut out)?,
+            Err(refusal) => return Err(Fault::of_script(refusal)),
+        },
     }
     match buffer.flush() {
         Ok(()) => Ok(()),
         Err(_) => Err(Fault::from(Refusal::WriteFault)),
+    }
+}
+
+// Writes what is asked of the coordinator once the script's steps have run.
+fn answer<W: Out>(
+    alloc: Global,
+    question: Question,
+    at: u8,
+    script: &Script,
+    out: &mut W,
+) -> Result<(), Fault> {
+    match question {
+        Question::Graph => graph(alloc, script, at, out),
+        Question::Solve => solution(alloc, script, at, out),
+        Question::Winners => winners(alloc, script, at, out),
     }
 }
 

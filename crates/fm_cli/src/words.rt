@@ -1,19 +1,28 @@
 //! The words of a command line.
 
 use clap::error::ErrorKind;
-use clap::{Arg, ArgAction, Error, value_parser};
+use clap::{Arg, ArgAction, ArgMatches, Error, value_parser};
 use fm_records::refusal::Refusal;
 use std::alloc::Global;
 
 /// What the program is asked to do.
 #[derive(Debug, Clone, Copy, PartialEq, Eq, Drop)]
 pub enum Command {
-    /// Print the network of what a coordinator knows; of the first listed where none is named.
-    Graph { at: Option<u8> },
-    /// Print a least flow of that network.
-    Solve { at: Option<u8> },
-    /// Print who won the present attempt of each task, by what a coordinator knows.
-    Winners { at: Option<u8> },
+    /// Answer the question about a coordinator, the first that the script lists where none is named.
+    Ask { question: Question, at: Option<u8> },
+    /// Print the records of a packet.
+    Unpack,
+}
+
+/// What is asked of a coordinator once a script's steps have run.
+#[derive(Debug, Clone, Copy, PartialEq, Eq, Drop)]
+pub enum Question {
+    /// The network of what it knows.
+    Graph,
+    /// A least flow of that network.
+    Solve,
+    /// Who won the present attempt of each task, by what it knows.
+    Winners,
 }
 
 /// What the words come to.
@@ -30,19 +39,20 @@ pub enum Words {
 pub fn read_words(alloc: Global, words: &[String]) -> Result<Words, Refusal> {
     match parser(alloc)?.try_get_matches_from(words) {
         Ok(matches) => match matches.subcommand() {
-            Some(("solve", inner)) => Ok(Words::Run(Command::Solve {
-                at: inner.get_one::<u8>("at"),
-            })),
-            Some(("winners", inner)) => Ok(Words::Run(Command::Winners {
-                at: inner.get_one::<u8>("at"),
-            })),
-            Some((_, inner)) => Ok(Words::Run(Command::Graph {
-                at: inner.get_one::<u8>("at"),
-            })),
+            Some(("unpack", _)) => Ok(Words::Run(Command::Unpack)),
+            Some(("solve", inner)) => Ok(asks(Question::Solve, inner)),
+            Some(("winners", inner)) => Ok(asks(Question::Winners, inner)),
+            Some((_, inner)) => Ok(asks(Question::Graph, inner)),
             None => Ok(Words::Wrong(String::new(alloc))),
         },
         Err(error) => text_of(alloc, &error),
     }
+}
+
+// The question, with the coordinator that is named.
+fn asks(question: Question, matches: &ArgMatches) -> Words {
+    let at = matches.get_one::<u8>("at");
+    Words::Run(Command::Ask { question, at })
 }
 
 // The text of what is no command.
@@ -70,6 +80,11 @@ fn parser<'a>(alloc: Global) -> Result<clap::Command<'a>, Refusal> {
         .about("Prints a least flow of that network, its cost first, in DIMACS lines: the schedule")
         .after_help("Example: firmament solve < examples/first.json")
         .arg(at(alloc))?;
+    let unpack = clap::Command::new(alloc, "unpack")
+        .about(
+            "Prints the records of a packet, which stands on standard input in hexadecimal digits, a line each",
+        )
+        .after_help("Example: firmament unpack < examples/packet.hex");
     let winners = clap::Command::new(alloc, "winners")
         .about(
             "Prints, for each task whose present attempt has a winner: TASK ATTEMPT COORDINATOR MACHINE INCARNATION, and held or free",
@@ -87,6 +102,7 @@ fn parser<'a>(alloc: Global) -> Result<clap::Command<'a>, Refusal> {
             .arg_required_else_help(true)
             .subcommand(graph)?
             .subcommand(solve)?
+            .subcommand(unpack)?
             .subcommand(winners)?,
     )
 }

@@ -1,6 +1,6 @@
 -- The plan that a flow comes to: after Quincy, a unit from a task through a machine means "run there", and one from a
 -- running task to its unscheduled aggregator means "preempt".
-use Rattle.std.specs.Prelude.{ℕ, nat_lt, ◌==◌, List, [], Option, None, option_map, flat_map, replicate, zip}
+use Rattle.std.specs.Prelude.{ℕ, nat_lt, ◌==◌, List, [], Option, None, option_map, flat_map, map, replicate, zip}
 use Rattle.std.specs.List.{filter_map}
 use Rattle.std.specs.Ordering.{nat_cmp}
 use Rattle.fm_lattice.specs.Maps.{lookup}
@@ -9,6 +9,7 @@ use Rattle.fm_records.specs.Table.{Table}
 use Rattle.fm_records.specs.Facts.{attempt_of, incarnation_of}
 use Rattle.fm_net.specs.declared.node.Node.{Node}
 use Rattle.fm_net.specs.declared.node.Node.TheVariants.{Unscheduled, Request, Machine, Task}
+use Rattle.fm_net.specs.Net.{Net}
 use Rattle.fm_net.specs.Network.{is_held}
 use Rattle.fm_round.specs.declared.parts.Place.{Place}
 use Rattle.fm_round.specs.declared.parts.Preempt.{Preempt}
@@ -19,6 +20,10 @@ use Rattle.fm_round.specs.declared.planning.Seat.{Seat}
 -- a flow: the units of each arc, in the order of the arcs' ends, which is by node and so by id
 abbrev pub Units : Type 0
 Units = List ((Node × Node) × ℕ)
+
+-- the units that a flow gives the arcs of a network
+abbrev pub units_over : Net → (Node → Node → ℕ) → Units
+units_over net units = map (λ a. (a.0, units a.0.0 a.0.1)) net.arcs
 
 -- a task with a unit to a request
 abbrev pub wait_in : (Node × Node) × ℕ → Option Wait

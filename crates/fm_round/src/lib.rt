@@ -6,6 +6,7 @@ pub mod equal;
 mod holdings;
 pub mod listed;
 pub mod parts;
+pub mod plan;
 pub mod planning;
 mod rules;
 pub mod stopping;

@@ -389,6 +389,78 @@ static RUNS: [(&str, &str, u8, &str, &str); 51] = [
     ),
 ];
 
+// Packets in hexadecimal digits, and then the status, what is written of them, and the text for standard error.
+static PACKETS: [(&str, u8, &str, &str); 13] = [
+    (
+        "46444731010000000000000003000000000000000100000000000000000000000000000001000000000000000201000000025800000320000000000000000000000000000000000000000000000000",
+        0,
+        "packet 1 3\njob ..001 2 1 false 600 800\n",
+        "",
+    ),
+    (
+        "46444731010000000000000003000000000000000100000000000000000000000000000001000000000000000201000000025800000320000000000000000000000000000000000000000000000000\n",
+        0,
+        "packet 1 3\njob ..001 2 1 false 600 800\n",
+        "",
+    ),
+    (
+        "46444731010000000000000003000000000000000100000000000000000000000000000001000000000000000201000000025800000321000000000000000000000000000000000000000000000000",
+        0,
+        "packet 1 3\njob ..001 2 1 false 600 801\n",
+        "",
+    ),
+    (
+        "4644473101000000000000000100000000000000010000000000000000000000000000000100000000000000010100000001f40000032000000000000000010000000000000000000000000000001100000000000100000000000000010100000000000000000000000000000000010000006400000000000000010000000000000000000000000000000a00000000000000020200000000000000010000000000000000000000010000000000000000000000000000001100000000010000000000000000000000000000000a0000000000000001\n",
+        0,
+        "packet 1 1\njob ..001 1 1 false 500 800\ntask ..011 0 pending\nspec ..011 1 1 false ..001 100\nmachine ..00a 2\nreport ..00a 1 0\npropose ..011 0 1 ..00a 1\n",
+        "",
+    ),
+    (
+        "46444731000000000000000003000000000000000100000000000000000000000000000001000000000000000201000000025800000320000000000000000000000000000000000000000000000000",
+        3,
+        "",
+        "firmament: refusal 6\n",
+    ),
+    (
+        "46444731010000000000000003000000000000000100000000000000000000000000000001000000000000000201003b9aca0100000320000000000000000000000000000000000000000000000000",
+        3,
+        "",
+        "firmament: refusal 6\n",
+    ),
+    (
+        "4644473101000000000000000300000000000000010000000000000000000000000000000100000000000000020100000002580000032000000000000000000000000000000000000000000000000000",
+        3,
+        "",
+        "firmament: refusal 6\n",
+    ),
+    (
+        "464447310100000000000000030000000000000001000000000000000000000000000000010000000000000002010000000258000003200000000000000000000000000000000000000000000000",
+        3,
+        "",
+        "firmament: refusal 6\n",
+    ),
+    ("", 3, "", "firmament: refusal 6\n"),
+    (
+        "4644473101000000000000000300000000000000010000000000000000000000000000000100000000000000020100000002580000032000000000000000000000000000000000000000000000000",
+        3,
+        "",
+        "firmament: refusal 16\n",
+    ),
+    (
+        "46444731010000000000000003000000000000000100000000000000000000000000000001000000000000000201000000025800000320000000000000000000000000000000000000000000000000\n\n",
+        3,
+        "",
+        "firmament: refusal 16\n",
+    ),
+    (
+        " 46444731010000000000000003000000000000000100000000000000000000000000000001000000000000000201000000025800000320000000000000000000000000000000000000000000000000",
+        3,
+        "",
+        "firmament: refusal 16\n",
+    ),
+    ("4g", 3, "", "firmament: refusal 16\n"),
+];
+
 // The text with each `..` written out.
 fn expanded(alloc: Global, text: &str) -> Result<String, AllocError> {
     let mut all = String::new(alloc);
@@ -439,9 +511,14 @@ fn words_of(alloc: Global, words: &str) -> Result<Vec<String>, AllocError> {
 
 // Runs the words on the steps, and answers the status, what was written, and the text for standard error.
 fn run(alloc: Global, words: &str, steps: &str) -> Result<(u8, Vec<u8>, String), AllocError> {
-    let words = words_of(alloc, words)?;
     let script = script_of(alloc, steps)?;
-    let mut reader = script.as_bytes();
+    run_on(alloc, words, script.as_str())
+}
+
+// Runs the words on the input.
+fn run_on(alloc: Global, words: &str, input: &str) -> Result<(u8, Vec<u8>, String), AllocError> {
+    let words = words_of(alloc, words)?;
+    let mut reader = input.as_bytes();
     let mut writer = Vec::new(alloc);
     let ending = serve(alloc, words.as_slice(), &mut reader, &mut writer);
     let text = ending.to_string(alloc)?;
@@ -458,6 +535,19 @@ fn each_run_writes_and_says_what_it_should(rt: HostRuntime) -> Result<(), Fail> 
         assert_eq!(rt; ended, *status, "{words}: {steps}");
         assert!(rt; written.as_slice() == out.as_bytes(), "{words}: {steps}");
         assert!(rt; said.as_str() == err.as_str(), "{words}: {steps}: {said}");
+    }
+    Ok(())
+}
+
+#[test]
+fn packets_are_unpacked(rt: HostRuntime) -> Result<(), Fail> {
+    let alloc = rt.alloc();
+    for (input, status, out, err) in &PACKETS {
+        let (ended, written, said) = run_on(alloc, "unpack", *input)?;
+        let out = expanded(alloc, *out)?;
+        assert_eq!(rt; ended, *status, "{input}");
+        assert!(rt; written.as_slice() == out.as_bytes(), "{input}");
+        assert!(rt; said.as_str() == *err, "{input}: {said}");
     }
     Ok(())
 }
