@@ -385,7 +385,7 @@ static RUNS: [(&str, &str, u8, &str, &str); 51] = [
         "",
         2,
         "",
-        "error: unrecognized subcommand 'pack'\n\nUsage: firmament <COMMAND>\n\nFor more information, try '--help'.\n",
+        "error: unrecognized subcommand 'pack'\n\n  tip: a similar subcommand exists: 'unpack'\n\nUsage: firmament <COMMAND>\n\nFor more information, try '--help'.\n",
     ),
 ];
 
