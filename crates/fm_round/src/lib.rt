@@ -4,6 +4,7 @@
 pub mod admission;
 pub mod equal;
 mod holdings;
+pub mod laws;
 pub mod listed;
 pub mod parts;
 pub mod plan;

@@ -1,8 +1,9 @@
 //! Lists that contracts see as lists.
 
-ghost use Rattle.std.specs.Prelude.{◌≡◌};
+ghost use Rattle.std.specs.Prelude.{◌≡◌, IfOk};
 ghost use Rattle.std.specs.Cmp.Lexicographic.{pointwise};
 
+use fm_lattice::join::OutOfMemory;
 use std::marker::Model;
 
 /// The items of a `Vec`, which contracts see as a list.
@@ -39,6 +40,17 @@ impl<T> Listed<T> {
         ensures { result.items ≡ self }
     {
         self.items
+    }
+}
+
+impl<T: Copy + Drop> Listed<T> {
+    /// The list again, in memory of its own. O(n).
+    pub fn copy(&self) -> Result<Listed<T>, OutOfMemory>
+        ensures { IfOk result (λ list. list ≡ self.now) }
+    {
+        let alloc = *self.items.allocator();
+        let items = self.items.iter().copied().collect(alloc)?;
+        Ok(Listed { items })
     }
 }
 

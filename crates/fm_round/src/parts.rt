@@ -1,9 +1,10 @@
 //! The parts of plans, what becomes of an entry, and stops.
 
-ghost use Rattle.std.specs.Prelude.{◌≡◌, ◌↔◌, IsTrue};
+ghost use Rattle.std.specs.Prelude.{◌≡◌, ◌↔◌, IsTrue, IfOk};
 ghost use Rattle.fm_round.specs.Same.{same_plan, same_admitted};
 
 use crate::listed::Listed;
+use fm_lattice::join::OutOfMemory;
 use fm_records::ids::{MachineId, TaskId};
 use fm_records::ops::Op;
 
@@ -55,6 +56,18 @@ pub struct Stop {
 pub struct Plan {
     pub places: Listed<Place>,
     pub preempts: Listed<Preempt>,
+}
+
+impl Plan {
+    /// The plan again, in memory of its own. O(n).
+    pub fn copy(&self) -> Result<Plan, OutOfMemory>
+        ensures { IfOk result (λ plan. plan ≡ self.now) }
+    {
+        Ok(Plan {
+            places: self.places.copy()?,
+            preempts: self.preempts.copy()?,
+        })
+    }
 }
 
 impl PartialEq for Plan {
