@@ -1,0 +1,11 @@
+mod Examples
+pub mod Told
+pub mod Weights
+pub mod Keeps
+pub mod Steps
+pub mod After
+pub mod Results
+pub mod Accepted
+pub mod Turns
+pub mod Ready
+pub mod Nic

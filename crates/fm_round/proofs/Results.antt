@@ -1,0 +1,11 @@
+-- What follows where an answer is Ok.
+use Rattle.std.proofs.Common.{Result, Ok, Err}
+use Rattle.std.specs.Result.{OnOk}
+
+pub on_ok : {A E P Q : Type 0} → (P → Q) → (r : Result A E) → OnOk r P → OnOk r Q
+on_ok f (Ok x) h = f h
+on_ok f (Err e) h = tt
+
+pub both_ok : {A E P Q R : Type 0} → (P → Q → R) → (r : Result A E) → OnOk r P → OnOk r Q → OnOk r R
+both_ok f (Ok x) p q = f p q
+both_ok f (Err e) p q = tt

@@ -1,0 +1,28 @@
+use Rattle.std.proofs.Common.{◌≡◌, ◌+◌, ◌∷◌, sym, ◌∙◌, ap, subst, drop}
+use Rattle.std.proofs.lemmas.List.{drop_more, drop_all}
+use Rattle.fm_round.specs.Admission.{place_answer, place_ops}
+use Rattle.fm_round.proofs.Turns.{Ahead, one_further, at_end}
+use Rattle.fm_round.proofs.admission.Desk.take_places.Goals as goal
+
+pub loop-place-preserved : goal.loop-place-preserved
+loop-place-preserved c =
+    let answer_to = place_answer c.args.coordinator in
+    let ops_of = place_ops c.args.coordinator in
+    let old = c.args.self.now in
+    let xs = c.args.places.now in
+    let i = c.loop-place.place-index in
+    let item = c.place-item.result in
+    let rest : drop i xs ≡ item ∷ drop (i + 1) xs = drop_more xs i item c.loop-place-test.true ∙ ap (λ z. z ∷ drop (i + 1) xs) (sym c.place-item.is) in
+    let ahead = subst (Ahead answer_to ops_of old xs c.loop-place.self) rest c.loop-place.invariant.ahead in
+    record {
+      ready = c.in_ok-take_place.ensures.ready;
+      ahead = one_further answer_to ops_of old xs c.loop-place.self c.take_place.new.self item (drop (i + 1) xs) c.loop-place.invariant.ready.table ahead c.in_ok-take_place.ensures.took;
+    }
+
+pub returns-clause-took : goal.returns-clause-took
+returns-clause-took c =
+    let answer_to = place_answer c.args.coordinator in
+    let ops_of = place_ops c.args.coordinator in
+    let old = c.args.self.now in
+    let xs = c.args.places.now in
+    at_end answer_to ops_of old xs c.loop-place.self c.loop-place.invariant.ready.table (subst (Ahead answer_to ops_of old xs c.loop-place.self) (drop_all c.loop-place.place-index xs c.loop-place-test.false) c.loop-place.invariant.ahead)

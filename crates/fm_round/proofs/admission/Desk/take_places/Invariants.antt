@@ -1,0 +1,11 @@
+use Rattle.std.proofs.Common.{drop}
+use Rattle.fm_round.specs.Admission.{place_answer, place_ops}
+use Rattle.fm_round.specs.Desks.{IsReady}
+use Rattle.fm_round.proofs.Turns.{Ahead}
+use Rattle.fm_round.proofs.admission.Desk.take_places.Given as goal
+
+abbrev pub invariant-loop-place : goal.invariant-loop-place
+invariant-loop-place l = record {
+  ready : IsReady l.self;
+  ahead : Ahead (place_answer l.coordinator) (place_ops l.coordinator) l.fn.self l.places l.self (drop l.place-index l.places);
+}

@@ -1,0 +1,270 @@
+//! Admission: what a plan comes to.
+
+ghost use Rattle.std.specs.Prelude.{◌≡◌, ℕ, ◌<◌, ◌^◌, ◌∷◌, ◌++◌, ◌==◌, ◌&&◌, [], true, false, IsTrue, IfOk, IfSome, OnOk};
+ghost use Rattle.fm_records.specs.declared.ops.Op.{Op as Operation};
+ghost use Rattle.fm_records.specs.declared.ops.Phase.TheVariants.{Pending as IsPending};
+ghost use Rattle.fm_records.specs.Ranges.{in_range, all_in_range};
+ghost use Rattle.fm_records.specs.Spelled.{IsTable};
+ghost use Rattle.fm_records.specs.Facts.{attempt_of, open_state};
+ghost use Rattle.fm_know.specs.Limits.{StateWithin};
+ghost use Rattle.fm_round.specs.Admission.{told, is_accepted, last_attempt, has_proposal, place_ops, place_answer, preempt_ops, preempt_answer, one_entry, placed, preempted, admitted, got_place, is_within_nic};
+ghost use Rattle.fm_round.specs.Desks.{Took, IsReady};
+
+use crate::holdings::Holdings;
+use crate::listed::Listed;
+use crate::parts::{Admitted, Answer, Place, Plan, Preempt};
+use crate::rules::{has_proposal, place_answer, preempt_answer, request_of};
+use fm_know::knowledge::Knowledge;
+use fm_lattice::join::{Join, OutOfMemory};
+use fm_records::ids::{CoordId, MachineId, TaskId};
+use fm_records::ops::{Op, Phase};
+use std::alloc::Global;
+
+/// What the plan of the coordinator comes to: the places are judged in their order, and then the preempts, each on what is
+/// known with the operations of the earlier accepted entries, and the first rule that applies is the answer.
+/// A machine that got a place has a load of at most its nic after all that is added.
+/// O(n log n) in the records that are known, once, and O(log n) for each entry, but for the moves of what lies behind new
+/// proposals. Nothing but want of memory is refused.
+pub fn admit(
+    alloc: Global,
+    knowledge: &Knowledge,
+    coordinator: CoordId,
+    plan: &Plan,
+) -> Result<Admitted, OutOfMemory>
+    ensures admitted { IfOk result (λ a. a ≡ admitted knowledge.now coordinator plan.now) }
+    ensures in_range { IfOk result (λ a. IsTrue (all_in_range a.ops)) }
+    ensures within_nic { IfOk result (λ a. (m : ℕ) → IsTrue (got_place plan.now.places a.answers m) → IsTrue (is_within_nic (told knowledge.now a.ops) m)) }
+{
+    knowledge.known();
+    let mut desk = Desk::of(alloc, knowledge)?;
+    desk.take_places(coordinator, plan.places.as_slice())?;
+    desk.take_preempts(plan.preempts.as_slice())?;
+    Ok(desk.into_admitted())
+}
+
+/// What is known with the operations of the entries that were accepted so far, what machines hold by that, these
+/// operations, and the answers so far.
+#[derive(Drop)]
+pub(crate) struct Desk {
+    pub(crate) alloc: Global,
+    pub(crate) now: Knowledge,
+    pub(crate) holdings: Holdings,
+    pub(crate) ops: Vec<Op>,
+    pub(crate) answers: Vec<Answer>,
+}
+
+impl Desk {
+    // The desk before the first entry.
+    fn of(alloc: Global, knowledge: &Knowledge) -> Result<Desk, OutOfMemory>
+        ensures now { IfOk result (λ desk. desk.now ≡ knowledge.now) }
+        ensures ops { IfOk result (λ desk. desk.ops.items ≡ []) }
+        ensures answers { IfOk result (λ desk. desk.answers.items ≡ []) }
+        ensures ready { IfOk result IsReady }
+    {
+        knowledge.known();
+        Ok(Desk {
+            alloc,
+            now: knowledge.copy()?,
+            holdings: Holdings::of(alloc, knowledge)?,
+            ops: Vec::new(alloc),
+            answers: Vec::new(alloc),
+        })
+    }
+
+    // What the entries came to.
+    fn into_admitted(self) -> Admitted
+        ensures { result ≡ record { ops = self.ops.items; answers = self.answers.items } }
+    {
+        Admitted {
+            ops: Listed::new(self.ops),
+            answers: Listed::new(self.answers),
+        }
+    }
+
+    // Takes the places in their order.
+    fn take_places(&mut self, coordinator: CoordId, places: &[Place]) -> Result<(), OutOfMemory>
+        requires { IsReady self.old }
+        ensures took { OnOk result (Took (placed coordinator self.old.now places.now) self.old self.new) }
+        ensures ready { OnOk result (IsReady self.new) }
+    {
+        for place in places {
+            self.take_place(coordinator, place)?;
+        }
+        Ok(())
+    }
+
+    // Takes the preempts in their order.
+    fn take_preempts(&mut self, preempts: &[Preempt]) -> Result<(), OutOfMemory>
+        requires { IsReady self.old }
+        ensures took { OnOk result (Took (preempted self.old.now preempts.now) self.old self.new) }
+        ensures ready { OnOk result (IsReady self.new) }
+    {
+        for preempt in preempts {
+            self.take_preempt(preempt)?;
+        }
+        Ok(())
+    }
+
+    // Tells the operation, which is in range.
+    fn tell(&mut self, op: Op) -> Result<(), OutOfMemory>
+        requires { IsTrue (in_range op) }
+        ensures now { OnOk result (self.new.now ≡ told self.old.now (op ∷ [])) }
+        ensures ops { OnOk result (self.new.ops.items ≡ self.old.ops.items ++ op ∷ []) }
+        ensures answers { self.new.answers.items ≡ self.old.answers.items }
+        ensures holdings { self.new.holdings ≡ self.old.holdings }
+    {
+        let delta = Knowledge::delta_of(self.alloc, &op)?;
+        self.now.join_into(&delta)?;
+        self.ops.push(op)?;
+        Ok(())
+    }
+
+    // Notes the answer to an entry.
+    fn answer(&mut self, answer: Answer) -> Result<(), OutOfMemory>
+        ensures now { self.new.now ≡ self.old.now }
+        ensures ops { self.new.ops.items ≡ self.old.ops.items }
+        ensures answers { OnOk result (self.new.answers.items ≡ self.old.answers.items ++ answer ∷ []) }
+        ensures holdings { self.new.holdings ≡ self.old.holdings }
+    {
+        self.answers.push(answer)?;
+        Ok(())
+    }
+
+    // Tells the operations of an accepted place.
+    fn tell_place(&mut self, coordinator: CoordId, place: &Place) -> Result<(), OutOfMemory>
+        requires table { IsTable self.old.now }
+        requires unspent { (has_proposal self.old.now place.now.task (attempt_of self.old.now place.now.task) && attempt_of self.old.now place.now.task == last_attempt) ≡ false }
+        ensures now { OnOk result (self.new.now ≡ told self.old.now (place_ops coordinator self.old.now place.now)) }
+        ensures ops { OnOk result (self.new.ops.items ≡ self.old.ops.items ++ place_ops coordinator self.old.now place.now) }
+        ensures answers { self.new.answers.items ≡ self.old.answers.items }
+        ensures holdings { self.new.holdings ≡ self.old.holdings }
+        ensures in_range { OnOk result (IsTrue (all_in_range self.old.ops.items) → IsTrue (all_in_range self.new.ops.items)) }
+    {
+        let attempt = self.now.attempt(place.task).attempt;
+        if has_proposal(&self.now, place.task, attempt) {
+            self.tell(pending(place.task, attempt + 1))?;
+            self.tell(proposal(coordinator, attempt + 1, place))
+        } else {
+            self.tell(proposal(coordinator, attempt, place))
+        }
+    }
+
+    // Accepts the place: what the machine holds is counted, and the operations are told.
+    fn accept_place(&mut self, coordinator: CoordId, place: &Place) -> Result<(), OutOfMemory>
+        requires ready { IsReady self.old }
+        requires accepted { is_accepted (place_answer coordinator self.old.now place.now) ≡ true }
+        ensures now { OnOk result (self.new.now ≡ told self.old.now (place_ops coordinator self.old.now place.now)) }
+        ensures ops { OnOk result (self.new.ops.items ≡ self.old.ops.items ++ place_ops coordinator self.old.now place.now) }
+        ensures answers { self.new.answers.items ≡ self.old.answers.items }
+        ensures ready { OnOk result (IsReady self.new) }
+    {
+        law_limits(&self.now, place.machine);
+        let request = request_of(&self.now, place.task);
+        self.holdings.add(place.machine, request)?;
+        self.tell_place(coordinator, place)
+    }
+
+    // Accepts the preempt: what the machine holds is counted, and the operation is told.
+    fn accept_preempt(&mut self, preempt: &Preempt) -> Result<(), OutOfMemory>
+        requires ready { IsReady self.old }
+        requires accepted { is_accepted (preempt_answer self.old.now preempt.now) ≡ true }
+        ensures now { OnOk result (self.new.now ≡ told self.old.now (preempt_ops self.old.now preempt.now)) }
+        ensures ops { OnOk result (self.new.ops.items ≡ self.old.ops.items ++ preempt_ops self.old.now preempt.now) }
+        ensures answers { self.new.answers.items ≡ self.old.answers.items }
+        ensures ready { OnOk result (IsReady self.new) }
+    {
+        let request = request_of(&self.now, preempt.task);
+        let Some(machine) = self.now.holder(preempt.task) else {
+            unreachable!()
+        };
+        self.holdings.remove(machine, request)?;
+        self.tell(pending(preempt.task, preempt.attempt + 1))
+    }
+
+    // Judges the place, and adds its operations where it is accepted.
+    fn take_place(&mut self, coordinator: CoordId, place: &Place) -> Result<(), OutOfMemory>
+        requires { IsReady self.old }
+        ensures took { OnOk result (Took (one_entry (place_answer coordinator self.old.now place.now) (place_ops coordinator self.old.now place.now)) self.old self.new) }
+        ensures ready { OnOk result (IsReady self.new) }
+    {
+        let answer = place_answer(&self.now, &self.holdings, coordinator, place);
+        if !is_accepted(answer) {
+            return self.answer(answer);
+        }
+        self.accept_place(coordinator, place)?;
+        self.answer(answer)
+    }
+
+    // Judges the preempt, and adds its operation where it is accepted.
+    fn take_preempt(&mut self, preempt: &Preempt) -> Result<(), OutOfMemory>
+        requires { IsReady self.old }
+        ensures took { OnOk result (Took (one_entry (preempt_answer self.old.now preempt.now) (preempt_ops self.old.now preempt.now)) self.old self.new) }
+        ensures ready { OnOk result (IsReady self.new) }
+    {
+        let answer = preempt_answer(&self.now, preempt);
+        if !is_accepted(answer) {
+            return self.answer(answer);
+        }
+        self.accept_preempt(preempt)?;
+        self.answer(answer)
+    }
+}
+
+// Whether the entry is accepted.
+fn is_accepted(answer: Answer) -> bool
+    ensures { result ≡ is_accepted answer }
+{
+    match answer {
+        Answer::Gone
+        | Answer::Held
+        | Answer::AttemptsSpent
+        | Answer::Contested
+        | Answer::NoSlot
+        | Answer::NoRoom => false,
+        Answer::Accepted => true,
+    }
+}
+
+// The limits of an open machine's state, which a clause does not see by itself.
+fn law_limits(known: &Knowledge, machine: MachineId)
+    ensures { IfSome (open_state known.now machine) StateWithin }
+{
+    let _state = known.open_state(machine);
+}
+
+// The operation that the task's attempt is pending.
+fn pending(task: TaskId, attempt: u32) -> Op
+    ensures op { result ≡ Op.Progress task attempt IsPending }
+    ensures within { IsTrue (in_range result) }
+{
+    let _id = task.value();
+    Op::Progress {
+        id: task,
+        attempt,
+        phase: Phase::Pending,
+    }
+}
+
+// The operation by which the coordinator proposes the place for the attempt.
+fn proposal(coordinator: CoordId, attempt: u32, place: &Place) -> Op
+    ensures op { result ≡ Op.Propose place.now.task attempt coordinator place.now.machine place.now.incarnation }
+    ensures within { IsTrue (in_range result) }
+{
+    law_u64(place.incarnation);
+    let _task = place.task.value();
+    let _machine = place.machine.value();
+    Op::Propose {
+        id: place.task,
+        attempt,
+        coordinator: coordinator.value(),
+        machine: place.machine,
+        incarnation: place.incarnation,
+    }
+}
+
+// A number fits its type, which a clause does not see by itself.
+fn law_u64(number: u64)
+    ensures { number < 2 ^ 64 }
+{
+    let _ = number;
+}

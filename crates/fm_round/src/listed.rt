@@ -1,0 +1,56 @@
+//! Lists that contracts see as lists.
+
+ghost use Rattle.std.specs.Prelude.{◌≡◌};
+ghost use Rattle.std.specs.Cmp.Lexicographic.{pointwise};
+
+use std::marker::Model;
+
+/// The items of a `Vec`, which contracts see as a list.
+#[derive(Debug, Drop)]
+pub struct Listed<T> {
+    items: Vec<T>,
+}
+
+impl<T> Model for Listed<T> {
+    ghost use Rattle.std.specs.Prelude.{List};
+
+    ghost Value = { List T };
+
+    ghost view = { λ e. e.items.items };
+}
+
+impl<T> Listed<T> {
+    /// The items, in their order. It takes no memory.
+    pub fn new(items: Vec<T>) -> Listed<T>
+        ensures { result ≡ items.items }
+    {
+        Listed { items }
+    }
+
+    /// The items, lent.
+    pub fn as_slice(&self) -> &[T]
+        ensures { result.now ≡ self.now }
+    {
+        self.items.as_slice()
+    }
+
+    /// The items, given back. It takes no memory.
+    pub fn into_vec(self) -> Vec<T>
+        ensures { result.items ≡ self }
+    {
+        self.items
+    }
+}
+
+impl<T: PartialEq> PartialEq for Listed<T> {
+    ghost use Rattle.std.specs.Cmp.Lexicographic.{pointwise, lists_per};
+
+    ghost eq = { pointwise T.eq };
+
+    ghost laws = { lists_per T.laws };
+
+    /// Whether the items are equal, one by one. O(n).
+    fn eq(&self, other: &Self) -> bool {
+        self.items.as_slice() == other.items.as_slice()
+    }
+}
