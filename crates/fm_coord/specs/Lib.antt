@@ -1,0 +1,5 @@
+pub mod Events
+pub mod Causes
+pub mod Replays
+pub mod States
+pub mod StepLaws

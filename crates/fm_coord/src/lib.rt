@@ -1,0 +1,7 @@
+//! One coordinator with its history.
+#![tactic(auto)]
+
+pub mod coordinator;
+pub mod entry;
+pub mod shared;
+pub mod view;
