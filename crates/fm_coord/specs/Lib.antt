@@ -3,3 +3,4 @@ pub mod Causes
 pub mod Replays
 pub mod States
 pub mod StepLaws
+pub mod SameLaws

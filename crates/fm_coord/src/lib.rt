@@ -3,5 +3,7 @@
 
 pub mod coordinator;
 pub mod entry;
+pub mod equal;
+pub mod laws;
 pub mod shared;
 pub mod view;
