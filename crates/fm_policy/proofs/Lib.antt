@@ -4,3 +4,5 @@ pub mod Arcs
 pub mod Covered
 pub mod Members
 pub mod Finished
+pub mod Named
+mod Examples

@@ -1,2 +1,4 @@
 pub mod Tallying
 pub mod Building
+pub mod Changes
+pub mod Keeping

@@ -1,5 +1,10 @@
-//! The network-aware policy: the network of what is known.
+//! The network-aware policy: the network of what is known, and keepers of it.
 #![tactic(auto)]
 
 pub mod build;
+pub mod changed;
+pub mod keeper;
+pub mod rebuilder;
 mod tallies;
+#[cfg(test)]
+mod tests;

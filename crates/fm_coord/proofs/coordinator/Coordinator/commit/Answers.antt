@@ -1,0 +1,22 @@
+use Rattle.std.proofs.Common.{◌≡◌, ◌∙◌, None, ap, sym, subst, rules}
+use Rattle.fm_records.specs.Table.{Table}
+use Rattle.fm_records.specs.Know.{know}
+use Rattle.fm_round.specs.declared.parts.Admitted.{Admitted}
+use Rattle.fm_round.specs.Admission.{admitted}
+use Rattle.fm_coord.specs.declared.entry.Call.TheVariants as call
+use Rattle.fm_coord.specs.declared.entry.Reply.TheVariants as reply
+use Rattle.fm_coord.specs.Causes.{room_fault}
+use Rattle.fm_coord.specs.States.{State, bounds, entry, took, IsCoordinator}
+use Rattle.fm_coord.proofs.Keeps.{keeps_commit}
+use Rattle.fm_coord.proofs.coordinator.Coordinator.commit.Goals as goal
+
+pub take_in-requires : goal.take_in-requires
+take_in-requires g c =
+    let s : State = c.args.self.now.state in
+    let room : room_fault (bounds s) ≡ None = search rules in
+    let came : c.in_ok-admitted.admitted ≡ admitted s.knowledge s.number c.args.plan = c.in_ok-admitted.ensures.admitted in
+    let shared : c.in_ok-share.field-0 ≡ admitted s.knowledge s.number c.args.plan = c.in_ok-share.ensures ∙ came in
+    let delta : c.in_ok-delta.delta ≡ know c.in_ok-admitted.admitted.ops = search rules in
+    let told : c.in_ok-delta.delta ≡ know (admitted s.knowledge s.number c.args.plan).ops = delta ∙ ap (λ (a : Admitted). know a.ops) came in
+    subst (λ (p : Table × Admitted). IsCoordinator (took s p.0 (entry c.args.by (call.Commit c.args.plan) (reply.Admitted p.1)))) (λ i. (sym told i, sym shared i))
+    (keeps_commit s c.known.ensures.coordinator c.args.by c.args.plan room)

@@ -1,0 +1,20 @@
+use Rattle.std.proofs.Common.{◌≡◌, None, sym, subst, rules}
+use Rattle.fm_records.specs.Table.{Table}
+use Rattle.fm_records.specs.Ranges.{CanBe}
+use Rattle.fm_coord.specs.declared.entry.Entry.{Entry}
+use Rattle.fm_coord.specs.declared.entry.Call.TheVariants as call
+use Rattle.fm_coord.specs.declared.entry.Reply.TheVariants as reply
+use Rattle.fm_coord.specs.Causes.{room_fault}
+use Rattle.fm_coord.specs.States.{State, bounds, entry, took, IsCoordinator}
+use Rattle.fm_coord.proofs.Keeps.{keeps_merge}
+use Rattle.fm_coord.proofs.coordinator.Coordinator.merge.Goals as goal
+
+pub take_in-requires : goal.take_in-requires
+take_in-requires g c =
+    let s : State = c.args.self.now.state in
+    let can : CanBe c.args.packet.value = search rules in
+    let room : room_fault (bounds s) ≡ None = search rules in
+    let delta : c.in_ok-delta.delta ≡ c.args.packet.value = search rules in
+    let merged : Entry = entry c.args.by (call.Merge c.args.packet) reply.Nothing in
+    subst (λ (d : Table). IsCoordinator (took s d merged)) (sym delta)
+    (keeps_merge s c.known.ensures.coordinator c.args.by c.args.packet can.table room)

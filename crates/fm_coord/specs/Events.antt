@@ -1,0 +1,84 @@
+-- A replica as the sets of operations that it took in, and what happens to it. Delta-state CRDTs (Almeida, Shoker and
+-- Baquero): basic anti-entropy in the transitive mode, where what was taken in from others is passed on too.
+use Rattle.std.specs.Prelude.{ℕ, ◌+◌, List, [], ◌∷◌, ◌++◌}
+use Rattle.std.specs.List.{slice_range}
+use Rattle.fm_records.specs.declared.ops.Op.{Op}
+use Rattle.fm_records.specs.Know.{know}
+use Rattle.fm_delta.specs.Deltas.{union_of}
+use Rattle.fm_round.specs.declared.parts.Plan.{Plan}
+use Rattle.fm_round.specs.declared.parts.Admitted.{Admitted}
+use Rattle.fm_round.specs.Admission.{admitted}
+use Rattle.fm_coord.specs.declared.entry.Range.{Range}
+use Rattle.fm_coord.specs.declared.entry.Range.TheVariants.{Interval, Full}
+
+-- a packet: its sender, the sender's number for it, and the set of operations that it stands for
+pub record Sent : Type 0 where
+  pub sender : ℕ
+  pub number : ℕ
+  pub set : List Op
+
+-- what may happen at a replica
+pub data Event : Type 0 where
+  -- an operation is told
+  Told : (op : Op) → Event
+  -- a packet is merged
+  Merged : (packet : Sent) → Event
+  -- a packet is cut
+  Gave : (range : Range) → Event
+  -- the deltas below n are let go
+  LetGo : (n : ℕ) → Event
+  -- what is known is looked at
+  Viewed : Event
+  -- a plan is admitted
+  Committed : (plan : Plan) → Event
+
+-- a replica
+pub record Replica : Type 0 where
+  pub number : ℕ
+  -- how many entries its history may have
+  pub limit : ℕ
+  -- every operation that it took in, and the sets by which it took them in
+  pub taken : List Op
+  pub buffer : List (List Op)
+  pub floor : ℕ
+  -- how many packets it cut
+  pub cuts : ℕ
+  -- what happened, with who asked for it
+  pub steps : List (ℕ × Event)
+
+-- a replica to which nothing happened
+abbrev pub opening : ℕ → ℕ → Replica
+opening number limit = record { number = number; limit = limit; taken = []; buffer = []; floor = 0; cuts = 0; steps = [] }
+
+-- what a range comes to: the sets of an interval together, or all that was taken in
+abbrev pub set_of : Replica → Range → List Op
+set_of r (Interval from to) = union_of (slice_range r.buffer from to)
+set_of r Full = r.taken
+
+-- the packet of a cut: its number is one more than the cuts before
+abbrev pub packet_of : Replica → Range → Sent
+packet_of r range = record { sender = r.number; number = r.cuts + 1; set = set_of r range }
+
+-- what a plan comes to
+abbrev pub admitted_by : Replica → Plan → Admitted
+admitted_by r plan = admitted (know r.taken) r.number plan
+
+-- a set that is added goes into what was taken in, and to the end of the buffer
+abbrev pub added : Replica → List Op → Replica
+added r S = record { number = r.number; limit = r.limit; taken = r.taken ++ S; buffer = r.buffer ++ S ∷ []; floor = r.floor; cuts = r.cuts; steps = r.steps }
+
+-- what an event does
+abbrev pub moved : Replica → Event → Replica
+moved r (Told op) = added r (op ∷ [])
+moved r (Merged packet) = added r packet.set
+moved r (Committed plan) = added r (admitted_by r plan).ops
+moved r (Gave range) = record { number = r.number; limit = r.limit; taken = r.taken; buffer = r.buffer; floor = r.floor; cuts = r.cuts + 1; steps = r.steps }
+moved r (LetGo n) = record { number = r.number; limit = r.limit; taken = r.taken; buffer = r.buffer; floor = n; cuts = r.cuts; steps = r.steps }
+moved r Viewed = r
+
+abbrev pub listed : Replica → ℕ → Event → Replica
+listed r by event = record { number = r.number; limit = r.limit; taken = r.taken; buffer = r.buffer; floor = r.floor; cuts = r.cuts; steps = r.steps ++ (by, event) ∷ [] }
+
+-- the replica after an event that someone asked for
+abbrev pub happens : Replica → ℕ → Event → Replica
+happens r by event = listed (moved r event) by event

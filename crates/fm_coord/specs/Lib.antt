@@ -1,0 +1,6 @@
+pub mod Events
+pub mod Causes
+pub mod Replays
+pub mod States
+pub mod StepLaws
+pub mod SameLaws

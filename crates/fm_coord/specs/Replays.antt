@@ -1,0 +1,62 @@
+-- Histories, and the replicas that they come to.
+use Rattle.std.specs.Prelude.{◌≡◌, List, [], ◌∷◌, length, None}
+use Rattle.fm_records.specs.Know.{know}
+use Rattle.fm_records.specs.Spelled.{ops}
+use Rattle.fm_delta.specs.declared.packet.Packet.{Packet}
+use Rattle.fm_coord.specs.declared.entry.Call.{Call}
+use Rattle.fm_coord.specs.declared.entry.Call.TheVariants as call
+use Rattle.fm_coord.specs.declared.entry.Reply.{Reply}
+use Rattle.fm_coord.specs.declared.entry.Reply.TheVariants as reply
+use Rattle.fm_coord.specs.declared.entry.Entry.{Entry}
+use Rattle.fm_coord.specs.Events.{Sent, Event, Told, Merged, Gave, LetGo, Viewed, Committed, Replica, packet_of, admitted_by, happens}
+use Rattle.fm_coord.specs.Causes.{cause, bounds_of}
+
+-- a packet as coordinators see it
+abbrev pub seen : Sent → Packet
+seen p = record { sender = p.sender; number = p.number; value = know p.set }
+
+-- the call by which an event comes
+abbrev pub call_of : Event → Call
+call_of (Told op) = call.Tell op
+call_of (Merged packet) = call.Merge (seen packet)
+call_of (Gave range) = call.Cut range
+call_of (LetGo n) = call.Trim n
+call_of Viewed = call.View
+call_of (Committed plan) = call.Commit plan
+
+-- what an event is answered: a cut by its packet, a plan by what it comes to, and a view by the count of what happened
+-- before and what is known
+abbrev pub reply_of : Replica → Event → Reply
+reply_of r (Told op) = reply.Nothing
+reply_of r (Merged packet) = reply.Nothing
+reply_of r (Gave range) = reply.Packet (seen (packet_of r range))
+reply_of r (LetGo n) = reply.Nothing
+reply_of r Viewed = reply.Seen (length r.steps) (know r.taken)
+reply_of r (Committed plan) = reply.Admitted (admitted_by r plan)
+
+-- a call as an event: a packet that is merged stands for the operations that its value spells out
+abbrev pub event_of : Call → Event
+event_of (call.Tell op) = Told op
+event_of (call.Merge p) = Merged (record { sender = p.sender; number = p.number; set = ops p.value })
+event_of (call.Cut range) = Gave range
+event_of (call.Trim n) = LetGo n
+event_of call.View = Viewed
+event_of (call.Commit plan) = Committed plan
+
+-- the replica after an entry, and after the entries of a history
+abbrev pub entered : Replica → Entry → Replica
+entered r e = happens r e.by (event_of e.call)
+
+abbrev pub replay : Replica → List Entry → Replica
+replay r [] = r
+replay r (e ∷ es) = replay (entered r e) es
+
+-- the entry's call has no cause of refusal, and its reply is the event's
+pub record Fits (r : Replica) (e : Entry) : Type 0 where
+  pub accepted : cause (bounds_of r) e.call ≡ None
+  pub reply : e.reply ≡ reply_of r (event_of e.call)
+
+-- a history is legal where each entry fits the replica that those before it come to
+abbrev pub IsLegal : Replica → List Entry → Type 0
+IsLegal r [] = Unit {0}
+IsLegal r (e ∷ es) = Fits r e × IsLegal (entered r e) es

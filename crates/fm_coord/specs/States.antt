@@ -1,0 +1,118 @@
+-- What a coordinator keeps, what calls make of it, and for which replica it stands.
+use Rattle.std.specs.Prelude.{◌≡◌, ◌≤◌, ℕ, ◌+◌, Option, List, [], ◌∷◌, ◌++◌, length, drop, map}
+use Rattle.fm_records.specs.Table.{Table}
+use Rattle.fm_records.specs.Know.{know}
+use Rattle.fm_records.specs.Joined.{table_join}
+use Rattle.fm_delta.specs.declared.packet.Packet.{Packet}
+use Rattle.fm_delta.specs.Deltas.{Deltas, end_of, pushed, trimmed, between, joined_all}
+use Rattle.fm_net.specs.Net.{Net}
+use Rattle.fm_policy.specs.Keeping.{IsHeldFor}
+use Rattle.fm_round.specs.Admission.{admitted}
+use Rattle.fm_coord.specs.declared.entry.Call.{Call}
+use Rattle.fm_coord.specs.declared.entry.Call.TheVariants as call
+use Rattle.fm_coord.specs.declared.entry.Reply.{Reply}
+use Rattle.fm_coord.specs.declared.entry.Entry.{Entry}
+use Rattle.fm_coord.specs.declared.entry.Range.{Range}
+use Rattle.fm_coord.specs.declared.entry.Range.TheVariants.{Interval, Full}
+use Rattle.fm_coord.specs.Events.{Event, Replica, opening}
+use Rattle.fm_coord.specs.Causes.{Bounds}
+use Rattle.fm_coord.specs.Replays.{call_of, replay, IsLegal}
+
+-- what a coordinator keeps
+pub record State : Type 0 where
+  pub number : ℕ
+  pub limit : ℕ
+  pub knowledge : Table
+  pub deltas : Deltas
+  pub cuts : ℕ
+  pub history : List Entry
+
+-- with its network, where that is fresh
+pub record WithNetwork : Type 0 where
+  pub state : State
+  pub held : Option Net
+
+-- a coordinator to which nothing happened
+abbrev pub new_state : ℕ → ℕ → State
+new_state number limit = record { number = number; limit = limit; knowledge = know []; deltas = record { floor = 0; kept = [] }; cuts = 0; history = [] }
+
+abbrev pub entry : ℕ → Call → Reply → Entry
+entry by call reply = record { by = by; call = call; reply = reply }
+
+-- what its refusals turn on
+abbrev pub bounds : State → Bounds
+bounds s = record { limit = s.limit; entries = length s.history; floor = s.deltas.floor; end = end_of s.deltas }
+
+-- a delta is taken in: joined to what is known, and kept at the end
+abbrev pub took : State → Table → Entry → State
+took s delta e = record { number = s.number; limit = s.limit; knowledge = table_join s.knowledge delta; deltas = pushed s.deltas delta; cuts = s.cuts; history = s.history ++ e ∷ [] }
+
+-- a packet is cut
+abbrev pub gave : State → Entry → State
+gave s e = record { number = s.number; limit = s.limit; knowledge = s.knowledge; deltas = s.deltas; cuts = s.cuts + 1; history = s.history ++ e ∷ [] }
+
+-- the deltas below n are let go
+abbrev pub let_go : State → ℕ → Entry → State
+let_go s n e = record { number = s.number; limit = s.limit; knowledge = s.knowledge; deltas = trimmed s.deltas n; cuts = s.cuts; history = s.history ++ e ∷ [] }
+
+-- the entry alone is added
+abbrev pub noted : State → Entry → State
+noted s e = record { number = s.number; limit = s.limit; knowledge = s.knowledge; deltas = s.deltas; cuts = s.cuts; history = s.history ++ e ∷ [] }
+
+-- what a range comes to: the join of an interval's deltas, or all that is known
+abbrev pub range_value : State → Range → Table
+range_value s (Interval from to) = joined_all (between s.deltas from to)
+range_value s Full = s.knowledge
+
+-- the packet of a cut
+abbrev pub cut_packet : State → Range → Packet
+cut_packet s range = record { sender = s.number; number = s.cuts + 1; value = range_value s range }
+
+-- what an accepted call leaves, with its entry
+abbrev pub after : State → Entry → Call → State
+after s e (call.Tell op) = took s (know (op ∷ [])) e
+after s e (call.Merge packet) = took s packet.value e
+after s e (call.Cut range) = gave s e
+after s e (call.Trim n) = let_go s n e
+after s e call.View = noted s e
+after s e (call.Commit plan) = took s (know (admitted s.knowledge s.number plan).ops) e
+
+-- who asked for what
+abbrev pub asked : Entry → ℕ × Call
+asked e = (e.by, e.call)
+
+abbrev pub step_asked : ℕ × Event → ℕ × Call
+step_asked s = (s.0, call_of s.1)
+
+-- the coordinator stands for the replica
+pub record StandsFor (s : State) (r : Replica) : Type 0 where
+  pub number : s.number ≡ r.number
+  pub limit : s.limit ≡ r.limit
+  -- it knows what all that was taken in comes to
+  pub knowledge : s.knowledge ≡ know r.taken
+  -- its deltas are what the sets from the floor on come to
+  pub deltas : s.deltas.kept ≡ map know (drop r.floor r.buffer)
+  pub floor : s.deltas.floor ≡ r.floor
+  pub end : end_of s.deltas ≡ length r.buffer
+  pub cuts : s.cuts ≡ r.cuts
+  -- its history is just what happened
+  pub history : map asked s.history ≡ map step_asked r.steps
+
+-- the replica that a coordinator's history comes to
+abbrev pub replayed : State → Replica
+replayed s = replay (opening s.number s.limit) s.history
+
+-- what holds of every coordinator
+pub record IsCoordinator (s : State) : Type 0 where
+  -- its history is legal, and it stands for what that comes to
+  pub legal : IsLegal (opening s.number s.limit) s.history
+  pub stands : StandsFor s (replayed s)
+  -- the history is within its limit, and counts no less than deltas and cuts
+  pub within : length s.history ≤ s.limit
+  pub end_within : end_of s.deltas ≤ length s.history
+  pub cuts_within : s.cuts ≤ length s.history
+
+-- and its network is stale or that of what it knows
+pub record IsKept (k : WithNetwork) : Type 0 where
+  pub coordinator : IsCoordinator k.state
+  pub network : IsHeldFor k.state.knowledge k.held

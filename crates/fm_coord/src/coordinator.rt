@@ -1,0 +1,444 @@
+//! One coordinator with its history.
+
+ghost use Rattle.std.specs.Prelude.{◌≡◌, ◌≤◌, ◌<◌, ◌+◌, ◌^◌, ◌↔◌, ◌∷◌, ◌++◌, [], length, is_some, is_none, IsTrue, Some, None, IsOk, IsOkUnless, IfOk, IfErr, OnOk, OnErr};
+ghost use Rattle.std.specs.List.{list_all};
+ghost use Rattle.fm_records.specs.Ops.{op_fault};
+ghost use Rattle.fm_records.specs.Know.{know};
+ghost use Rattle.fm_records.specs.Joined.{table_join};
+ghost use Rattle.fm_delta.specs.Deltas.{end_of, pushed};
+ghost use Rattle.fm_net.specs.Network.{net_of};
+ghost use Rattle.fm_policy.specs.Keeping.{IsHeldFor};
+ghost use Rattle.std.specs.Io.KnownBytes.{Appends};
+ghost use Rattle.fm_dimacs.specs.Sending.{AppendsPrefix, StopsBy, IsSent};
+ghost use Rattle.fm_dimacs.specs.Text.{dump_text};
+ghost use Rattle.fm_round.specs.Admission.{admitted};
+ghost use Rattle.fm_coord.specs.Causes.{cause, refusal_for, room_fault, range_fault, floor_fault};
+ghost use Rattle.fm_coord.specs.States.{new_state, bounds, entry, took, gave, let_go, noted, cut_packet, range_value, IsCoordinator};
+
+use crate::entry::{Call, Entry, Range, Reply};
+use crate::shared::Shared;
+use crate::view::View;
+use fm_delta::buffer::Buffer;
+use fm_delta::packet::Packet;
+use fm_dimacs::dump::dump;
+use fm_dimacs::out::Out;
+use fm_know::knowledge::Knowledge;
+use fm_lattice::join::{Join, OutOfMemory};
+use fm_policy::changed::changed_of;
+use fm_policy::keeper::NetKeeper;
+use fm_records::ids::CoordId;
+use fm_records::ops::Op;
+use fm_records::refusal::Refusal;
+use fm_round::admission::admit;
+use fm_round::parts::{Admitted, Plan};
+use std::alloc::Global;
+use std::marker::Model;
+
+/// A coordinator: what it knows, the deltas by which it came to know it, its network, and the history of the calls that it
+/// accepted, which all of the others follow from.
+#[derive(Drop)]
+pub struct Coordinator<N: NetKeeper> {
+    alloc: Global,
+    number: CoordId,
+    limit: usize,
+    knowledge: Knowledge,
+    buffer: Buffer,
+    cuts: u64,
+    history: Vec<Entry>,
+    keeper: N,
+}
+
+impl<N: NetKeeper> Model for Coordinator<N> {
+    ghost use Rattle.fm_coord.specs.States.{WithNetwork, IsKept};
+
+    ghost Value = { WithNetwork };
+
+    ghost view = { λ a. record { state = record { number = a.number; limit = a.limit; knowledge = a.knowledge; deltas = a.buffer.deltas; cuts = a.cuts; history = a.history.items }; held = N.held a.keeper } };
+
+    ghost invariant = { λ a. IsKept (record { state = record { number = a.number; limit = a.limit; knowledge = a.knowledge; deltas = a.buffer.deltas; cuts = a.cuts; history = a.history.items }; held = N.held a.keeper }) };
+}
+
+impl<N: NetKeeper> Coordinator<N> {
+    /// A coordinator to which nothing happened, whose history may have as many entries as the limit. The caller owes a
+    /// keeper whose network, if fresh, is that of nothing known. It takes no memory.
+    pub fn new(alloc: Global, number: CoordId, limit: usize, keeper: N) -> Coordinator<N>
+        requires { IsHeldFor (know []) (N.held keeper) }
+        ensures state { result.state ≡ new_state number limit }
+        ensures held { result.held ≡ N.held keeper }
+    {
+        Coordinator {
+            alloc,
+            number,
+            limit,
+            knowledge: Knowledge::empty(alloc),
+            buffer: Buffer::new(alloc),
+            cuts: 0,
+            history: Vec::new(alloc),
+            keeper,
+        }
+    }
+
+    /// What holds of every coordinator: its history is legal, it stands for the replica that its history comes to, and its
+    /// network is stale or that of what it knows.
+    pub fn known(&self)
+        ensures coordinator { IsCoordinator self.now.state }
+        ensures network { IsHeldFor self.now.state.knowledge self.now.held }
+    {
+        let _ = &self.number;
+    }
+
+    /// Its number.
+    pub fn number(&self) -> CoordId
+        ensures { result ≡ self.now.state.number }
+    {
+        self.number
+    }
+
+    /// The calls that it accepted, in order.
+    pub fn history(&self) -> &[Entry]
+        ensures { result.now ≡ self.now.state.history }
+    {
+        self.history.as_slice()
+    }
+
+    /// What it knows.
+    pub fn knowledge(&self) -> &Knowledge
+        ensures { result.now ≡ self.now.state.knowledge }
+    {
+        &self.knowledge
+    }
+
+    /// The first delta that it keeps.
+    pub fn floor(&self) -> u64
+        ensures { result ≡ self.now.state.deltas.floor }
+    {
+        self.buffer.floor()
+    }
+
+    /// How many deltas it took in.
+    pub fn end(&self) -> u64
+        ensures { result ≡ end_of self.now.state.deltas }
+    {
+        self.buffer.end()
+    }
+
+    /// Whether its network is that of what it knows. It is stale after a want of memory, or where the keeper leaves a delta
+    /// to the next build.
+    pub fn is_fresh(&self) -> bool
+        ensures { result ≡ is_some self.now.held }
+    {
+        self.keeper.is_fresh()
+    }
+
+    // Whether there is room for an entry.
+    fn check_room(&self) -> Result<(), Refusal>
+        ensures ok { OnOk result (room_fault (bounds self.now.state) ≡ None) }
+        ensures err { IfErr result (λ refusal. room_fault (bounds self.now.state) ≡ Some refusal) }
+    {
+        if self.history.len() >= self.limit {
+            return Err(Refusal::HistoryFull);
+        }
+        Ok(())
+    }
+
+    // Whether the buffer has the range.
+    fn check_range(&self, range: Range) -> Result<(), Refusal>
+        ensures ok { OnOk result (range_fault (bounds self.now.state) range ≡ None) }
+        ensures err { IfErr result (λ refusal. range_fault (bounds self.now.state) range ≡ Some refusal) }
+    {
+        if let Range::Interval(from, to) = range {
+            if from > to || to > self.buffer.end() {
+                return Err(Refusal::BadInterval);
+            }
+            if from < self.buffer.floor() {
+                return Err(Refusal::Trimmed(self.buffer.floor()));
+            }
+        }
+        Ok(())
+    }
+
+    // Whether the floor may be n.
+    fn check_floor(&self, n: u64) -> Result<(), Refusal>
+        ensures ok { OnOk result (floor_fault (bounds self.now.state) n ≡ None) }
+        ensures err { IfErr result (λ refusal. floor_fault (bounds self.now.state) n ≡ Some refusal) }
+    {
+        if n < self.buffer.floor() || n > self.buffer.end() {
+            return Err(Refusal::BadInterval);
+        }
+        Ok(())
+    }
+
+    // Takes a delta in with its entry, or does nothing.
+    fn take_in(&mut self, delta: Knowledge, entry: Entry) -> Result<(), OutOfMemory>
+        requires { IsCoordinator (took self.old.state delta entry) }
+        ensures ok { OnOk result (self.new.state ≡ took self.old.state delta entry) }
+        ensures err { OnErr result (self.new ≡ self.old) }
+    {
+        let changed = changed_of(self.alloc, &delta)?;
+        self.knowledge.known();
+        delta.known();
+        add_delta(
+            &mut self.knowledge,
+            &mut self.buffer,
+            &mut self.history,
+            delta,
+            entry,
+        )?;
+        // A network that cannot follow is stale, and the call is accepted.
+        let _ = self.keeper.absorb(self.alloc, &self.knowledge, &changed);
+        Ok(())
+    }
+
+    /// Takes an operation in.
+    /// BadOp with the first field that is out of its range, HistoryFull, OutOfMemory; then nothing has changed.
+    pub fn tell(&mut self, by: u32, op: Op) -> Result<(), Refusal>
+        ensures ok { OnOk result (self.new.state ≡ took self.old.state (know (op ∷ [])) (entry by (Call.Tell op) Reply.Nothing)) }
+        ensures within { IsOk result → cause (bounds self.old.state) (Call.Tell op) ≡ None }
+        ensures err { IfErr result (λ refusal. refusal ≡ refusal_for (bounds self.old.state) (Call.Tell op)) }
+        ensures unchanged { OnErr result (self.new ≡ self.old) }
+    {
+        self.known();
+        op.check()?;
+        self.check_room()?;
+        let delta = Knowledge::delta_of(self.alloc, &op)?;
+        let told = Entry {
+            by,
+            call: Call::Tell(op),
+            reply: Reply::Nothing,
+        };
+        self.take_in(delta, told)?;
+        Ok(())
+    }
+
+    /// Takes a packet's value in.
+    /// HistoryFull, OutOfMemory; then nothing has changed.
+    pub fn merge(&mut self, by: u32, packet: Packet) -> Result<(), Refusal>
+        ensures ok { OnOk result (self.new.state ≡ took self.old.state packet.value (entry by (Call.Merge packet) Reply.Nothing)) }
+        ensures within { IsOk result → cause (bounds self.old.state) (Call.Merge packet) ≡ None }
+        ensures err { IfErr result (λ refusal. refusal ≡ refusal_for (bounds self.old.state) (Call.Merge packet)) }
+        ensures unchanged { OnErr result (self.new ≡ self.old) }
+    {
+        self.known();
+        packet.value.known();
+        self.check_room()?;
+        let delta = packet.value.copy()?;
+        let merged = Entry {
+            by,
+            call: Call::Merge(packet),
+            reply: Reply::Nothing,
+        };
+        self.take_in(delta, merged)?;
+        Ok(())
+    }
+
+    /// A packet of what the range comes to: the join of an interval's deltas, or all that is known. Its number is 1 plus the
+    /// packets that were cut before.
+    /// BadInterval, Trimmed, HistoryFull, OutOfMemory; then nothing has changed.
+    pub fn cut(&mut self, by: u32, range: Range) -> Result<Shared<Packet>, Refusal>
+        ensures ok { IfOk result (λ packet. self.new.state ≡ gave self.old.state (entry by (Call.Cut range) (Reply.Packet packet))) }
+        ensures packet { IfOk result (λ packet. packet ≡ cut_packet self.old.state range) }
+        ensures within { IsOk result → cause (bounds self.old.state) (Call.Cut range) ≡ None }
+        ensures err { IfErr result (λ refusal. refusal ≡ refusal_for (bounds self.old.state) (Call.Cut range)) }
+        ensures unchanged { OnErr result (self.new ≡ self.old) }
+    {
+        self.check_range(range)?;
+        self.check_room()?;
+        let packet = self.packet_of(range)?;
+        let given = Entry {
+            by,
+            call: Call::Cut(range),
+            reply: Reply::Packet(packet.share()?),
+        };
+        self.history.push(given)?;
+        self.cuts += 1;
+        Ok(packet)
+    }
+
+    // The packet of a cut.
+    fn packet_of(&self, range: Range) -> Result<Shared<Packet>, Refusal>
+        requires range { range_fault (bounds self.now.state) range ≡ None }
+        requires room { room_fault (bounds self.now.state) ≡ None }
+        ensures ok { IfOk result (λ packet. packet ≡ cut_packet self.now.state range) }
+        ensures err { IsOkUnless result Refusal.OutOfMemory }
+    {
+        let value = self.value_of(range)?;
+        let number = self.cuts + 1;
+        let packet = Packet {
+            sender: self.number,
+            number,
+            value,
+        };
+        Ok(Shared::new(self.alloc, packet)?)
+    }
+
+    // What the range comes to.
+    fn value_of(&self, range: Range) -> Result<Knowledge, Refusal>
+        requires range { range_fault (bounds self.now.state) range ≡ None }
+        ensures ok { IfOk result (λ value. value ≡ range_value self.now.state range) }
+        ensures err { IsOkUnless result Refusal.OutOfMemory }
+    {
+        match range {
+            Range::Interval(from, to) => self.buffer.cut(from, to),
+            Range::Full => Ok(self.knowledge.copy()?),
+        }
+    }
+
+    /// Lets the deltas below n go, which then can be cut no more.
+    /// BadInterval where n is below the floor or above the end, HistoryFull, OutOfMemory; then nothing has changed.
+    pub fn trim(&mut self, by: u32, n: u64) -> Result<(), Refusal>
+        ensures ok { OnOk result (self.new.state ≡ let_go self.old.state n (entry by (Call.Trim n) Reply.Nothing)) }
+        ensures within { IsOk result → cause (bounds self.old.state) (Call.Trim n) ≡ None }
+        ensures err { IfErr result (λ refusal. refusal ≡ refusal_for (bounds self.old.state) (Call.Trim n)) }
+        ensures unchanged { OnErr result (self.new ≡ self.old) }
+    {
+        self.check_floor(n)?;
+        self.check_room()?;
+        let trimmed = Entry {
+            by,
+            call: Call::Trim(n),
+            reply: Reply::Nothing,
+        };
+        self.history.push(trimmed)?;
+        self.buffer.trim(n).unwrap();
+        Ok(())
+    }
+
+    /// What is known now, with the count of entries before this one's, and the network, which is built first where it is
+    /// stale. O(n) in what is known.
+    /// HistoryFull, OutOfMemory; then nothing has changed but for a network that is fresh or stale.
+    pub fn view(&mut self, by: u32) -> Result<View, Refusal>
+        ensures ok { IfOk result (λ view. self.new.state ≡ noted self.old.state (entry by Call.View (Reply.Seen view.at view.knowledge))) }
+        ensures at { IfOk result (λ view. view.at ≡ length self.old.state.history) }
+        ensures knowledge { IfOk result (λ view. view.knowledge ≡ self.old.state.knowledge) }
+        ensures network { IfOk result (λ view. view.network ≡ net_of self.old.state.knowledge) }
+        ensures fresh { OnOk result (self.new.held ≡ Some (net_of self.old.state.knowledge)) }
+        ensures within { IsOk result → cause (bounds self.old.state) Call.View ≡ None }
+        ensures err { IfErr result (λ refusal. refusal ≡ refusal_for (bounds self.old.state) Call.View) }
+        ensures unchanged { OnErr result (self.new.state ≡ self.old.state) }
+    {
+        self.known();
+        self.check_room()?;
+        self.refresh()?;
+        let view = self.seen()?;
+        let viewed = Entry {
+            by,
+            call: Call::View,
+            reply: Reply::Seen(view.at, view.knowledge.share()?),
+        };
+        self.note(viewed)?;
+        Ok(view)
+    }
+
+    // Builds the network where it is stale.
+    fn refresh(&mut self) -> Result<(), OutOfMemory>
+        ensures state { self.new.state ≡ self.old.state }
+        ensures fresh { OnOk result (self.new.held ≡ Some (net_of self.old.state.knowledge)) }
+    {
+        if !self.keeper.is_fresh() {
+            self.keeper.rebuild(self.alloc, &self.knowledge)?;
+        }
+        Ok(())
+    }
+
+    // What a view hands out.
+    fn seen(&self) -> Result<View, OutOfMemory>
+        requires { self.now.held ≡ Some (net_of self.now.state.knowledge) }
+        ensures at { IfOk result (λ view. view.at ≡ length self.now.state.history) }
+        ensures knowledge { IfOk result (λ view. view.knowledge ≡ self.now.state.knowledge) }
+        ensures network { IfOk result (λ view. view.network ≡ net_of self.now.state.knowledge) }
+    {
+        Ok(View {
+            at: self.history.len(),
+            knowledge: Shared::new(self.alloc, self.knowledge.copy()?)?,
+            network: self.keeper.network().copy()?,
+        })
+    }
+
+    // Adds an entry alone.
+    fn note(&mut self, entry: Entry) -> Result<(), OutOfMemory>
+        requires { IsCoordinator (noted self.old.state entry) }
+        ensures ok { OnOk result (self.new.state ≡ noted self.old.state entry) }
+        ensures held { self.new.held ≡ self.old.held }
+        ensures err { OnErr result (self.new.state ≡ self.old.state) }
+    {
+        self.history.push(entry)?;
+        Ok(())
+    }
+
+    /// Admits a plan, takes in what it comes to, and answers that. Where nothing is admitted, the delta is empty.
+    /// HistoryFull, OutOfMemory; then nothing has changed.
+    pub fn commit(&mut self, by: u32, plan: Plan) -> Result<Shared<Admitted>, Refusal>
+        ensures ok { IfOk result (λ admitted. self.new.state ≡ took self.old.state (know admitted.ops) (entry by (Call.Commit plan) (Reply.Admitted admitted))) }
+        ensures admitted { IfOk result (λ a. a ≡ admitted self.old.state.knowledge self.old.state.number plan) }
+        ensures within { IsOk result → cause (bounds self.old.state) (Call.Commit plan) ≡ None }
+        ensures err { IfErr result (λ refusal. refusal ≡ refusal_for (bounds self.old.state) (Call.Commit plan)) }
+        ensures unchanged { OnErr result (self.new ≡ self.old) }
+    {
+        self.known();
+        self.check_room()?;
+        let admitted = self.admitted_by(&plan)?;
+        let delta = Knowledge::told(self.alloc, admitted.get().ops.as_slice())?;
+        let committed = Entry {
+            by,
+            call: Call::Commit(plan),
+            reply: Reply::Admitted(admitted.share()?),
+        };
+        self.take_in(delta, committed)?;
+        Ok(admitted)
+    }
+
+    // What a plan comes to here.
+    fn admitted_by(&self, plan: &Plan) -> Result<Shared<Admitted>, OutOfMemory>
+        ensures admitted { IfOk result (λ a. a ≡ admitted self.now.state.knowledge self.now.state.number plan.now) }
+        ensures in_range { IfOk result (λ a. IsTrue (list_all (λ op. is_none (op_fault op)) a.ops)) }
+    {
+        let admitted = admit(self.alloc, &self.knowledge, self.number, plan)?;
+        Ok(Shared::new(self.alloc, admitted)?)
+    }
+
+    /// Writes the text of its network, which is built first where it is stale. It adds no entry, and what is known, kept and
+    /// listed stays as it is, also where it is refused: then a prefix was written.
+    /// WriteFault, OutOfMemory.
+    pub fn dump<W: Out>(&mut self, out: &mut W) -> Result<(), Refusal>
+        ensures ok { OnOk result (Appends (W.written out.old) (W.written out.new) (dump_text (net_of self.old.state.knowledge))) }
+        ensures ok_fails_not { OnOk result (W.has_failed out.new ≡ W.has_failed out.old) }
+        ensures err { OnErr result (AppendsPrefix (W.written out.old) (W.written out.new) (dump_text (net_of self.old.state.knowledge))) }
+        ensures cause { IfErr result (λ refusal. StopsBy refusal (W.has_failed out.old) (W.has_failed out.new)) }
+        ensures state { self.new.state ≡ self.old.state }
+    {
+        self.refresh()?;
+        self.write(out)
+    }
+
+    // Writes the text of the network.
+    fn write<W: Out>(&self, out: &mut W) -> Result<(), Refusal>
+        requires { self.now.held ≡ Some (net_of self.now.state.knowledge) }
+        ensures { IsSent result (W.written out.old) (W.written out.new) (W.has_failed out.old) (W.has_failed out.new) (dump_text (net_of self.now.state.knowledge)) }
+    {
+        dump(self.alloc, self.keeper.network(), out)
+    }
+}
+
+// Joins the delta in, keeps it and adds the entry, or does none of it.
+fn add_delta(
+    knowledge: &mut Knowledge,
+    buffer: &mut Buffer,
+    history: &mut Vec<Entry>,
+    delta: Knowledge,
+    entry: Entry,
+) -> Result<(), OutOfMemory>
+    requires { end_of buffer.old.deltas + 1 < 2 ^ 64 }
+    ensures knowledge { OnOk result (knowledge.new ≡ table_join knowledge.old delta) }
+    ensures deltas { OnOk result (buffer.new.deltas ≡ pushed buffer.old.deltas delta) }
+    ensures history { OnOk result (history.new.items ≡ history.old.items ++ entry ∷ []) }
+    ensures same_knowledge { OnErr result (knowledge.new ≡ knowledge.old) }
+    ensures same_deltas { OnErr result (buffer.new.deltas ≡ buffer.old.deltas) }
+    ensures same_history { OnErr result (history.new.items ≡ history.old.items) }
+{
+    history.reserve(1)?;
+    buffer.reserve(1)?;
+    knowledge.join_into(&delta)?;
+    buffer.push(delta).unwrap();
+    history.push(entry).unwrap();
+    Ok(())
+}

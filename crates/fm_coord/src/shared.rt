@@ -1,0 +1,60 @@
+//! Values with several owners.
+
+ghost use Rattle.std.specs.Prelude.{◌≡◌, IfOk};
+
+use fm_lattice::join::OutOfMemory;
+use std::alloc::Global;
+use std::marker::Model;
+use std::sync::Arc;
+
+/// A value with several owners, which contracts see as the value.
+#[derive(Debug, Drop)]
+pub struct Shared<T> {
+    inner: Arc<T, Global>,
+}
+
+impl<T> Model for Shared<T> {
+    ghost use Rattle.std.specs.Arc.{arc_value};
+
+    ghost Value = { T };
+
+    ghost view = { λ s. arc_value s.inner };
+}
+
+impl<T: Drop> Shared<T> {
+    /// The value, with one owner. After a refusal of memory it is dropped.
+    pub fn new(alloc: Global, value: T) -> Result<Shared<T>, OutOfMemory>
+        ensures { IfOk result (λ s. s ≡ value) }
+    {
+        Ok(Shared {
+            inner: Arc::new(alloc, value)?,
+        })
+    }
+
+    /// The same value for one more owner. It copies nothing, and is refused where no more owners can be counted.
+    pub fn share(&self) -> Result<Shared<T>, OutOfMemory>
+        ensures { IfOk result (λ s. s ≡ self.now) }
+    {
+        Ok(Shared {
+            inner: Arc::try_clone(&self.inner)?,
+        })
+    }
+
+    /// The value.
+    pub fn get(&self) -> &T
+        ensures { result.now ≡ self.now }
+    {
+        &self.inner
+    }
+}
+
+impl<T: PartialEq> PartialEq for Shared<T> {
+    ghost eq = { T.eq };
+
+    ghost laws = { T.laws };
+
+    /// Whether the values are equal.
+    fn eq(&self, other: &Self) -> bool {
+        *self.inner == *other.inner
+    }
+}

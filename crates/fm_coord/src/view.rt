@@ -1,0 +1,13 @@
+//! What a view hands out.
+
+use crate::shared::Shared;
+use fm_know::knowledge::Knowledge;
+use fm_net::network::Network;
+
+/// What was known at a point of a history: the count of entries before it, the knowledge, and its network.
+#[derive(Drop)]
+pub struct View {
+    pub at: usize,
+    pub knowledge: Shared<Knowledge>,
+    pub network: Network,
+}

@@ -1,0 +1,71 @@
+//! A keeper that builds anew.
+
+ghost use Rattle.std.specs.Prelude.{◌≡◌, [], Some, None, IfOk};
+ghost use Rattle.fm_records.specs.Know.{know};
+ghost use Rattle.fm_net.specs.Network.{net_of};
+
+use crate::build::build;
+use crate::changed::Changed;
+use crate::keeper::NetKeeper;
+use fm_know::knowledge::Knowledge;
+use fm_lattice::join::OutOfMemory;
+use fm_net::network::Network;
+use std::alloc::Global;
+use std::marker::Model;
+
+/// A keeper that any delta makes stale, and that builds the whole network anew where it is wanted.
+#[derive(Debug, Drop)]
+pub struct Rebuilder {
+    network: Network,
+    fresh: bool,
+}
+
+impl Model for Rebuilder {
+    ghost use Rattle.std.specs.Prelude.{Option, Some, None, cond};
+    ghost use Rattle.fm_net.specs.Net.{Net};
+
+    ghost Value = { Option Net };
+
+    ghost view = { λ r. cond r.fresh (Some r.network) None };
+}
+
+impl Rebuilder {
+    /// Fresh, with the network of nothing known.
+    pub fn new(alloc: Global) -> Result<Rebuilder, OutOfMemory>
+        ensures { IfOk result (λ r. r ≡ Some (net_of (know []))) }
+    {
+        Ok(Rebuilder {
+            network: Network::new(alloc)?,
+            fresh: true,
+        })
+    }
+}
+
+impl NetKeeper for Rebuilder {
+    ghost held = { λ r. r };
+
+    fn absorb(
+        &mut self,
+        _alloc: Global,
+        _now: &Knowledge,
+        _changed: &Changed,
+    ) -> Result<(), OutOfMemory> {
+        self.fresh = false;
+        Ok(())
+    }
+
+    fn rebuild(&mut self, alloc: Global, now: &Knowledge) -> Result<(), OutOfMemory> {
+        let built = build(alloc, now);
+        self.fresh = built.is_ok();
+        self.network = built?;
+        Ok(())
+    }
+
+    fn is_fresh(&self) -> bool {
+        self.fresh
+    }
+
+    fn network(&self) -> &Network {
+        &self.network
+    }
+}
