@@ -12,3 +12,4 @@ mod Verdict
 mod Reader
 mod Arcs
 mod Building
+mod Examples

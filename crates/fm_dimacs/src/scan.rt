@@ -77,8 +77,8 @@ pub(crate) fn numbers(bytes: &[u8]) -> Option<((u64, u64, u64, u64), &[u8])>
     let (capacity, rest) = number(rest)?;
     let rest = after(rest, b" ")?;
     let (cost, rest) = number(rest)?;
-    let rest = after(rest, b"\n")?;
-    Some(((source, target, capacity, cost), rest))
+    let behind = after(rest, b"\n")?;
+    Some(((source, target, capacity, cost), behind))
 }
 
 // The number of arcs of the problem line with this number of nodes.

@@ -285,19 +285,16 @@ fn what_is_written_is_read(rt: HostRuntime) -> Result<(), Fail> {
 
 // Where the text that waits is cut off behind so many lines, the next one is missing.
 #[test]
-fn a_text_cut_off_behind_each_line(rt: HostRuntime) -> Result<(), Fail> {
-    let mut lines = 0;
-    for (i, byte) in WAITING.bytes().enumerate() {
+fn a_text_cut_off_behind_each_byte(rt: HostRuntime) -> Result<(), Fail> {
+    for end in 0..WAITING.len() {
+        let text = &WAITING.as_bytes()[..end];
+        let lines = text.iter().filter(|byte| **byte == b'\n').count();
         assert_eq!(rt;
-            broken_line(rt.alloc(), &WAITING.as_bytes()[..i])?,
-            lines + 1,
-            "{i} bytes"
+            broken_line(rt.alloc(), text)?,
+            lines.saturating_add(1),
+            "{end} bytes"
         );
-        if byte == b'\n' {
-            lines += 1;
-        }
     }
-    assert_eq!(rt; lines, 13);
     Ok(())
 }
 
