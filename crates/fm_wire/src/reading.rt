@@ -19,7 +19,7 @@ use fm_records::records::{JobReg, MachineRec, Spot, TaskRec};
 use fm_records::refusal::Refusal;
 use std::alloc::Global;
 
-/// The place of the first fault in bytes that are no packet's spelling; none where they are one. It takes no memory. O(n).
+/// The place of the first fault, counted from 0; none where the bytes are a packet's spelling. It takes no memory. O(n).
 pub fn fault_of(bytes: &[u8]) -> Option<usize>
     ensures { result ≡ fault bytes.now }
 {
@@ -30,8 +30,8 @@ pub fn fault_of(bytes: &[u8]) -> Option<usize>
     }
 }
 
-/// The packet that the bytes spell. O(n log n). Before any memory is taken the bytes are gone over: BadPacket with the place of
-/// the first fault, where they are no packet's spelling.
+/// The packet that the bytes spell. They are gone over before any memory is taken, so a count of records takes none.
+/// BadPacket with the place of the first fault where they are no packet's spelling. O(n log n).
 pub fn decode(alloc: Global, bytes: &[u8]) -> Result<Packet, Refusal>
     ensures spelling { IfOk result (λ p. bytes.now ≡ spelling p) }
     ensures packet { IfOk result IsPacket }

@@ -15,7 +15,7 @@ use std::alloc::Global;
 // The bytes "FDG1" as a number.
 pub(crate) const MAGIC: u32 = 0x4644_4731;
 
-/// The bytes of the packet: its one spelling. O(n).
+/// The bytes of the packet: its one spelling. O(n), and a search for each proposal.
 pub fn encode(alloc: Global, packet: &Packet) -> Result<Vec<u8>, OutOfMemory>
     ensures spelling { IfOk result (λ bytes. bytes.items ≡ spelling packet.now) }
     ensures packet { IsOk result → IsPacket packet.now }
