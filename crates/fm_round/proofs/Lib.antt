@@ -10,3 +10,4 @@ pub mod Turns
 pub mod Ready
 pub mod Nic
 pub mod Pairing
+pub mod Flows

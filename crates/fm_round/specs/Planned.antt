@@ -4,11 +4,12 @@ use Rattle.std.specs.Prelude.{ℕ, nat_lt, ◌==◌, List, [], Option, None, opt
 use Rattle.std.specs.List.{filter_map}
 use Rattle.std.specs.Ordering.{nat_cmp}
 use Rattle.fm_lattice.specs.Maps.{lookup}
-use Rattle.fm_records.specs.Options.{when, and_then}
+use Rattle.fm_records.specs.Options.{when, and_then, or_else}
 use Rattle.fm_records.specs.Table.{Table}
 use Rattle.fm_records.specs.Facts.{attempt_of, incarnation_of}
 use Rattle.fm_net.specs.declared.node.Node.{Node}
 use Rattle.fm_net.specs.declared.node.Node.TheVariants.{Unscheduled, Request, Machine, Task}
+use Rattle.fm_net.specs.Nodes.{ends_cmp}
 use Rattle.fm_net.specs.Network.{is_held}
 use Rattle.fm_round.specs.declared.parts.Place.{Place}
 use Rattle.fm_round.specs.declared.parts.Preempt.{Preempt}
@@ -19,6 +20,10 @@ use Rattle.fm_round.specs.declared.planning.Seat.{Seat}
 -- a flow: the units of each arc, in the order of the arcs' ends, which is by node and so by id
 abbrev pub Units : Type 0
 Units = List ((Node × Node) × ℕ)
+
+-- the units from one node to another, 0 where there is no arc
+abbrev pub units : Units → Node → Node → ℕ
+units f from to = or_else 0 (lookup ends_cmp (from, to) f)
 
 -- a task with a unit to a request
 abbrev pub wait_in : (Node × Node) × ℕ → Option Wait
