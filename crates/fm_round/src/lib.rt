@@ -10,3 +10,5 @@ pub mod parts;
 pub mod planning;
 mod rules;
 pub mod stopping;
+#[cfg(test)]
+mod tests;
