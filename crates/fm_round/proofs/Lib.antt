@@ -11,3 +11,4 @@ pub mod Ready
 pub mod Nic
 pub mod Pairing
 pub mod Over
+pub mod Flows

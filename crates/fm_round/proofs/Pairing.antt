@@ -125,7 +125,7 @@ wait_of : (b : Bool) (v w : Wait) → when b v ≡ Some w → v ≡ w
 wait_of true v w e = cc
 wait_of false v w e = absurd (let no : ⊥ = cc in no)
 
-wait_is : (e : (Node × Node) × ℕ) (w : Wait) → wait_in e ≡ Some w → e.0 ≡ (Task w.task, Request w.request)
+pub wait_is : (e : (Node × Node) × ℕ) (w : Wait) → wait_in e ≡ Some w → e.0 ≡ (Task w.task, Request w.request)
 wait_is ((Task t, Request r), u) w e = ap (λ z. (Task z.task, Request z.request)) (wait_of _ (record { request = r; task = t }) w e)
 wait_is _ w e = absurd (let no : ⊥ = cc in no)
 

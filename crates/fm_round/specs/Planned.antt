@@ -4,12 +4,13 @@ use Rattle.std.specs.Prelude.{ℕ, nat_lt, ◌==◌, List, [], Option, None, opt
 use Rattle.std.specs.List.{filter_map}
 use Rattle.std.specs.Ordering.{nat_cmp}
 use Rattle.fm_lattice.specs.Maps.{lookup}
-use Rattle.fm_records.specs.Options.{when, and_then}
+use Rattle.fm_records.specs.Options.{when, and_then, or_else}
 use Rattle.fm_records.specs.Table.{Table}
 use Rattle.fm_records.specs.Facts.{attempt_of, incarnation_of}
 use Rattle.fm_net.specs.declared.node.Node.{Node}
 use Rattle.fm_net.specs.declared.node.Node.TheVariants.{Unscheduled, Request, Machine, Task}
 use Rattle.fm_net.specs.Net.{Net}
+use Rattle.fm_net.specs.Nodes.{ends_cmp}
 use Rattle.fm_net.specs.Network.{is_held}
 use Rattle.fm_round.specs.declared.parts.Place.{Place}
 use Rattle.fm_round.specs.declared.parts.Preempt.{Preempt}
@@ -23,7 +24,11 @@ Units = List ((Node × Node) × ℕ)
 
 -- the units that a flow gives the arcs of a network
 abbrev pub units_over : Net → (Node → Node → ℕ) → Units
-units_over net units = map (λ a. (a.0, units a.0.0 a.0.1)) net.arcs
+units_over net sent = map (λ a. (a.0, sent a.0.0 a.0.1)) net.arcs
+
+-- the units from one node to another, 0 where there is no arc
+abbrev pub units : Units → Node → Node → ℕ
+units f from to = or_else 0 (lookup ends_cmp (from, to) f)
 
 -- a task with a unit to a request
 abbrev pub wait_in : (Node × Node) × ℕ → Option Wait

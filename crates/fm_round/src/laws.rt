@@ -1,8 +1,13 @@
 //! Laws of rounds. Each function does nothing: its contract is the law.
 
-ghost use Rattle.std.specs.Prelude.{◌≡◌, ◌++◌, ℕ, List};
+ghost use Rattle.std.specs.Prelude.{◌≡◌, ◌↔◌, ◌<◌, ◌==◌, ◌++◌, ℕ, List, count_by};
 ghost use Rattle.fm_records.specs.declared.ops.Op.{Op};
 ghost use Rattle.fm_records.specs.Know.{know};
+ghost use Rattle.fm_records.specs.Sets.{IsMember};
+ghost use Rattle.fm_lattice.specs.Maps.{IsRising};
+ghost use Rattle.fm_net.specs.Nodes.{ends_cmp};
+ghost use Rattle.fm_net.specs.declared.node.Node.{Node};
+ghost use Rattle.fm_round.specs.Planned.{Units, units, waits, seats, tasks_of, machines_of};
 ghost use Rattle.fm_round.specs.declared.parts.Plan.{Plan};
 ghost use Rattle.fm_round.specs.Admission.{told, admitted};
 ghost use Rattle.fm_round.specs.Stopping.{stops_of};
@@ -16,4 +21,11 @@ pub fn law_told()
 pub fn law_sets()
     ensures admitted { (S T : List Op) (c : ℕ) (plan : Plan) → know S ≡ know T → admitted (know S) c plan ≡ admitted (know T) c plan }
     ensures stops { (S T : List Op) (c : ℕ) → know S ≡ know T → stops_of (know S) c ≡ stops_of (know T) c }
+{}
+
+/// Of a flow in order, the plan's tasks of a request are those with a unit to it, and each machine stands behind a request
+/// as often as there are units between them.
+pub fn law_flows()
+    ensures tasks { (f : Units) (r t : ℕ) → IsRising ends_cmp f → (IsMember t (tasks_of r (waits f)) ↔ (0 < units f (Node.Task t) (Node.Request r))) }
+    ensures machines { (f : Units) (r m : ℕ) → IsRising ends_cmp f → count_by (λ x. x == m) (machines_of r (seats f)) ≡ units f (Node.Request r) (Node.Machine m) }
 {}

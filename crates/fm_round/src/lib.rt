@@ -11,3 +11,5 @@ pub mod plan;
 pub mod planning;
 mod rules;
 pub mod stopping;
+#[cfg(test)]
+mod tests;
