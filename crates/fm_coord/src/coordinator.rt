@@ -237,6 +237,7 @@ impl<N: NetKeeper> Coordinator<N> {
     pub fn cut(&mut self, by: u32, range: Range) -> Result<Shared<Packet>, Refusal>
         ensures ok { IfOk result (λ packet. self.new.state ≡ gave self.old.state (entry by (Call.Cut range) (Reply.Packet packet))) }
         ensures packet { IfOk result (λ packet. packet ≡ cut_packet self.old.state range) }
+        ensures network { self.new.held ≡ self.old.held }
         ensures within { IsOk result → cause (bounds self.old.state) (Call.Cut range) ≡ None }
         ensures err { IfErr result (λ refusal. refusal ≡ refusal_for (bounds self.old.state) (Call.Cut range)) }
         ensures unchanged { OnErr result (self.new ≡ self.old) }
@@ -287,6 +288,7 @@ impl<N: NetKeeper> Coordinator<N> {
     /// BadInterval where n is below the floor or above the end, HistoryFull, OutOfMemory; then nothing has changed.
     pub fn trim(&mut self, by: u32, n: u64) -> Result<(), Refusal>
         ensures ok { OnOk result (self.new.state ≡ let_go self.old.state n (entry by (Call.Trim n) Reply.Nothing)) }
+        ensures network { self.new.held ≡ self.old.held }
         ensures within { IsOk result → cause (bounds self.old.state) (Call.Trim n) ≡ None }
         ensures err { IfErr result (λ refusal. refusal ≡ refusal_for (bounds self.old.state) (Call.Trim n)) }
         ensures unchanged { OnErr result (self.new ≡ self.old) }

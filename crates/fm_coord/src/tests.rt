@@ -1,0 +1,187 @@
+use crate::coordinator::Coordinator;
+use crate::entry::Range;
+use crate::shared::Shared;
+use crate::view::View;
+use fm_delta::packet::Packet;
+use fm_dimacs::out::Over;
+use fm_policy::rebuilder::Rebuilder;
+use fm_records::ids::{CoordId, JobId, MachineId, TaskId};
+use fm_records::ops::Op;
+use fm_records::refusal::Refusal;
+use fm_round::listed::Listed;
+use fm_round::parts::{Answer, Place, Plan};
+use std::alloc::Global;
+use std::test::Fail;
+
+fn job() -> Op {
+    Op::Job {
+        id: JobId::new(1),
+        version: 1,
+        writer: 1,
+        withdrawn: false,
+        wait: 500,
+        preempt: 800,
+    }
+}
+
+fn machine() -> Op {
+    Op::Machine {
+        id: MachineId::new(10),
+        incarnation: 1,
+        version: 1,
+        writer: 1,
+        up: true,
+        slots: 2,
+        nic: 1_000,
+    }
+}
+
+fn task() -> Op {
+    Op::Spec {
+        id: TaskId::new(17),
+        version: 1,
+        writer: 1,
+        withdrawn: false,
+        job: JobId::new(1),
+        request: 100,
+    }
+}
+
+// The functions below have no contract: the tests are of what is answered, and proofs of them stay short.
+
+fn coordinator(alloc: Global, number: u8, limit: usize) -> Result<Coordinator<Rebuilder>, Fail> {
+    let number = CoordId::new(number).ok_or("no such number")?;
+    Ok(Coordinator::new(alloc, number, limit, Rebuilder::new(alloc)?))
+}
+
+fn tell(node: &mut Coordinator<Rebuilder>, op: Op) -> Result<(), Refusal> {
+    node.tell(0, op)
+}
+
+// A coordinator that was told of a job, a machine and a task.
+fn three_told(alloc: Global) -> Result<Coordinator<Rebuilder>, Fail> {
+    let mut node = coordinator(alloc, 1, 100)?;
+    tell(&mut node, job())?;
+    tell(&mut node, machine())?;
+    tell(&mut node, task())?;
+    Ok(node)
+}
+
+fn cut(node: &mut Coordinator<Rebuilder>, range: Range) -> Result<Shared<Packet>, Refusal> {
+    node.cut(0, range)
+}
+
+fn refused(node: &mut Coordinator<Rebuilder>, from: u64, to: u64) -> Option<Refusal> {
+    cut(node, Range::Interval(from, to)).err()
+}
+
+fn trim(node: &mut Coordinator<Rebuilder>, n: u64) -> Result<(), Refusal> {
+    node.trim(0, n)
+}
+
+fn view(node: &mut Coordinator<Rebuilder>) -> Result<View, Refusal> {
+    node.view(0)
+}
+
+#[test]
+fn a_view_shows_what_three_tells_came_to(rt: HostRuntime) -> Result<(), Fail> {
+    let mut node = three_told(rt.alloc())?;
+    assert!(rt; !node.is_fresh());
+    let seen = view(&mut node)?;
+    assert_eq!(rt; seen.at, 3);
+    assert_eq!(rt; seen.network.nodes_len(), 5);
+    assert_eq!(rt; seen.network.arcs_len(), 5);
+    assert_eq!(rt; node.history().len(), 4);
+    assert!(rt; node.is_fresh());
+    Ok(())
+}
+
+#[test]
+fn cuts_and_trims_within_the_buffer_are_taken(rt: HostRuntime) -> Result<(), Fail> {
+    let mut node = three_told(rt.alloc())?;
+    assert_eq!(rt; refused(&mut node, 3, 3), None);
+    assert_eq!(rt; refused(&mut node, 4, 3), Some(Refusal::BadInterval));
+    assert_eq!(rt; refused(&mut node, 0, 4), Some(Refusal::BadInterval));
+    assert_eq!(rt; trim(&mut node, 2), Ok(()));
+    assert_eq!(rt; refused(&mut node, 1, 3), Some(Refusal::Trimmed(2)));
+    assert_eq!(rt; trim(&mut node, 1), Err(Refusal::BadInterval));
+    assert_eq!(rt; node.floor(), 2);
+    assert_eq!(rt; node.end(), 3);
+    assert_eq!(rt; node.history().len(), 5);
+    Ok(())
+}
+
+// Whether the two know the same once the second has merged all that the first knows.
+fn agree(
+    first: &mut Coordinator<Rebuilder>,
+    second: &mut Coordinator<Rebuilder>,
+) -> Result<bool, Fail> {
+    let packet = cut(first, Range::Full)?.get().copy()?;
+    second.merge(0, packet)?;
+    Ok(first.knowledge() == second.knowledge())
+}
+
+#[test]
+fn a_full_packet_tells_all(rt: HostRuntime) -> Result<(), Fail> {
+    let mut first = three_told(rt.alloc())?;
+    let mut second = coordinator(rt.alloc(), 2, 100)?;
+    assert!(rt; agree(&mut first, &mut second)?);
+    assert_eq!(rt; second.history().len(), 1);
+    Ok(())
+}
+
+#[test]
+fn a_full_history_takes_no_call(rt: HostRuntime) -> Result<(), Fail> {
+    let mut node = coordinator(rt.alloc(), 1, 1)?;
+    assert_eq!(rt; tell(&mut node, job()), Ok(()));
+    assert_eq!(rt; tell(&mut node, task()), Err(Refusal::HistoryFull));
+    assert_eq!(rt; node.history().len(), 1);
+    Ok(())
+}
+
+// The answers to a plan that places the task on the machine.
+fn placed(alloc: Global, node: &mut Coordinator<Rebuilder>) -> Result<Vec<Answer>, Fail> {
+    let mut places = Vec::new(alloc);
+    places.push(Place {
+        task: TaskId::new(17),
+        machine: MachineId::new(10),
+        incarnation: 1,
+    })?;
+    let plan = Plan {
+        places: Listed::new(places),
+        preempts: Listed::new(Vec::new(alloc)),
+    };
+    let admitted = node.commit(0, plan)?;
+    let mut answers = Vec::new(alloc);
+    answers.extend_from_slice(admitted.get().answers.as_slice())?;
+    Ok(answers)
+}
+
+#[test]
+fn a_commit_places_a_task(rt: HostRuntime) -> Result<(), Fail> {
+    let mut node = three_told(rt.alloc())?;
+    let answers = placed(rt.alloc(), &mut node)?;
+    assert_eq!(rt; answers.as_slice(), [Answer::Accepted].as_slice());
+    assert_eq!(rt;
+        node.knowledge().holder(TaskId::new(17)),
+        Some(MachineId::new(10))
+    );
+    assert_eq!(rt; node.end(), 4);
+    Ok(())
+}
+
+// The text of the node's network.
+fn dumped(alloc: Global, node: &mut Coordinator<Rebuilder>) -> Result<Vec<u8>, Fail> {
+    let mut out = Over::new(Vec::new(alloc));
+    node.dump(&mut out)?;
+    Ok(out.into_inner())
+}
+
+#[test]
+fn a_dump_of_nothing_is_the_sink(rt: HostRuntime) -> Result<(), Fail> {
+    let mut node = coordinator(rt.alloc(), 1, 1)?;
+    let text = dumped(rt.alloc(), &mut node)?;
+    assert_eq!(rt; text.as_slice(), b"c 1 S\np min 1 0\n".as_slice());
+    assert_eq!(rt; node.history().len(), 0);
+    Ok(())
+}
