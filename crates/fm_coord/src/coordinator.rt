@@ -130,8 +130,8 @@ impl<N: NetKeeper> Coordinator<N> {
         self.keeper.is_fresh()
     }
 
-    // Whether there is room for an entry.
-    fn check_room(&self) -> Result<(), Refusal>
+    /// Whether there is room for an entry. HistoryFull where there is none.
+    pub fn check_room(&self) -> Result<(), Refusal>
         ensures ok { OnOk result (room_fault (bounds self.now.state) ≡ None) }
         ensures err { IfErr result (λ refusal. room_fault (bounds self.now.state) ≡ Some refusal) }
     {
@@ -141,8 +141,9 @@ impl<N: NetKeeper> Coordinator<N> {
         Ok(())
     }
 
-    // Whether the buffer has the range.
-    fn check_range(&self, range: Range) -> Result<(), Refusal>
+    /// Whether a packet of the range can be cut. BadInterval where it ends before it starts or beyond the end, Trimmed with
+    /// the floor where it starts below that.
+    pub fn check_range(&self, range: Range) -> Result<(), Refusal>
         ensures ok { OnOk result (range_fault (bounds self.now.state) range ≡ None) }
         ensures err { IfErr result (λ refusal. range_fault (bounds self.now.state) range ≡ Some refusal) }
     {

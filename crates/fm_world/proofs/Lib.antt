@@ -1,0 +1,5 @@
+pub mod Acts
+pub mod Places
+pub mod Steps
+pub mod Numbers
+pub mod Runs

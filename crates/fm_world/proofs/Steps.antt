@@ -1,0 +1,86 @@
+-- A step of a world that stands for a world of sets.
+use Rattle.std.proofs.Common.{◌≡◌, ◌==◌, ℕ, List, [], Option, Some, None, Result, Ok, Err, map, get_or, slice_set, position, sym, ap, ◌∙◌, subst}
+use Rattle.std.specs.Result.{IfOk, IfErr, OnOk, OnErr}
+use Rattle.std.proofs.lemmas.List.Quantifiers.{position-Some}
+use Rattle.fm_records.specs.declared.refusal.Refusal.{Refusal}
+use Rattle.fm_records.specs.declared.refusal.Refusal.TheVariants.{OutOfMemory, NoCoordinator}
+use Rattle.fm_records.specs.Options.{or_else}
+use Rattle.fm_delta.specs.declared.packet.Packet.{Packet}
+use Rattle.fm_coord.specs.declared.view.View.{View}
+use Rattle.fm_coord.specs.Events.{Sent, Replica, opening}
+use Rattle.fm_coord.specs.Replays.{seen, replay}
+use Rattle.fm_coord.specs.States.{State, WithNetwork, StandsFor, IsCoordinator}
+use Rattle.fm_world.specs.declared.step.Step.{Step}
+use Rattle.fm_world.specs.Worlds.{WorldOfSets, with_number, event_asked, acted, cause_here, cause_at, cause_of, refusal_of, sent_at, step_of}
+use Rattle.fm_world.specs.Stands.{Kept, state_of, number_of, WorldStandsFor, state_with, shown, IsActed}
+use Rattle.fm_world.proofs.Acts.{by_cause}
+use Rattle.fm_world.proofs.Places.{Stood, stood, absent, put_back, same_states, found_at, missing}
+
+-- a coordinator to which nothing happened stands for a replica to which nothing happened
+pub unused : (s : State) → IsCoordinator s → s.history ≡ [] → StandsFor s (opening s.number s.limit)
+unused s is none = subst (λ es. StandsFor s (replay (opening s.number s.limit) es)) none is.stands
+
+abbrev kept : List WithNetwork → List Packet → Kept
+kept cs ps = record { coordinators = map state_of cs; packets = ps }
+
+-- where no coordinator has the number
+pub nobody : (cs : List WithNetwork) (ps : List Packet) (step : Step) → None ≡ position (λ c. number_of c == step.at) cs → (k : Kept) → kept cs ps ≡ k → (w : WorldOfSets) → WorldStandsFor k w → NoCoordinator ≡ refusal_of w step
+nobody cs ps step none k whole w h =
+    let stands : WorldStandsFor (kept cs ps) w = subst (λ (l : Kept). WorldStandsFor l w) (sym whole) h in
+    ap (λ o. or_else OutOfMemory (cause_at o (event_asked w.packets step.act)))
+    (sym (absent step.at (map state_of cs) w.replicas stands.coordinators (missing cs step.at none)))
+
+module _ (cs : List WithNetwork) (ps : List Packet) (step : Step) (i : ℕ) (old new : WithNetwork) (at : Some i ≡ position (λ c. number_of c == step.at) cs) (is : old ≡ get_or cs i old) (k : Kept) (whole : kept cs ps ≡ k) (result : Result (Option View) Refusal) where
+  here : state_with (map state_of cs) step.at ≡ Some old.state
+  here = found_at cs step.at i old at is
+
+  module _ (w : WorldOfSets) (h : WorldStandsFor k w) where
+    stands : WorldStandsFor (kept cs ps) w
+    stands = subst (λ (l : Kept). WorldStandsFor l w) (sym whole) h
+
+    one : Stood (with_number w.replicas step.at) old.state
+    one = stood step.at (map state_of cs) w.replicas stands.coordinators old.state here
+
+    pub refuses : ((r : Replica) (sent : List Sent) → StandsFor old.state r → ps ≡ map seen sent → IfErr result (λ refusal. refusal ≡ or_else OutOfMemory (cause_here r (event_asked sent step.act)))) → IfErr result (λ refusal. refusal ≡ refusal_of w step)
+    refuses err =
+        by_cause result _ _ (ap (λ o. or_else OutOfMemory (cause_at o (event_asked w.packets step.act))) (sym one.at))
+        (err one.replica w.packets one.stands stands.packets)
+
+  pub shows : IfOk result (λ view. view ≡ shown (Some old.state) step.act) → IfOk result (λ view. view ≡ shown (state_with k.coordinators step.at) step.act)
+  shows h =
+      subst (λ (o : Option State). IfOk result (λ view. view ≡ shown o step.act)) (sym (ap (λ (l : Kept). state_with l.coordinators step.at) (sym whole) ∙ here)) h
+
+  module _ (new_ps : List Packet) where
+    after_it : (w : WorldOfSets) (h : WorldStandsFor k w) → IsActed new.state new_ps (one w h).replica w.packets step.by step.act → WorldStandsFor (kept (slice_set cs i new) new_ps) (step_of w step)
+    after_it w h a =
+        let place = position-Some (λ c. number_of c == step.at) cs i old (sym at) in
+        let event = event_asked w.packets step.act in
+        record {
+          coordinators =
+              put_back step.at cs w.replicas i old new (acted step.by event) (stands w h).coordinators place.0 place.1 place.2
+              (λ r there. let same : (one w h).replica ≡ r = let e = (one w h).at in cc in subst (λ (q : Replica). StandsFor new.state (acted step.by event q)) same a.stands);
+          packets = a.packets ∙ ap (λ o. map seen (sent_at w.packets o event)) (sym (one w h).at);
+        }
+
+    module _ (acts : (r : Replica) (sent : List Sent) → StandsFor old.state r → ps ≡ map seen sent → OnOk result (IsActed new.state new_ps r sent step.by step.act)) (w : WorldOfSets) (h : WorldStandsFor k w) where
+      on_ok : {P Q : Type 0} (res : Result (Option View) Refusal) → (P → Q) → OnOk res P → OnOk res Q
+      on_ok (Ok v) f p = f p
+      on_ok (Err e) f p = tt
+
+      its : OnOk result (IsActed new.state new_ps (one w h).replica w.packets step.by step.act)
+      its = acts (one w h).replica w.packets (one w h).stands (stands w h).packets
+
+      pub stands_on : OnOk result (WorldStandsFor (kept (slice_set cs i new) new_ps) (step_of w step))
+      stands_on = on_ok result (after_it w h) its
+
+      pub accepts : OnOk result (cause_of w step ≡ None)
+      accepts = on_ok result (λ (a : IsActed new.state new_ps (one w h).replica w.packets step.by step.act). ap (λ o. cause_at o (event_asked w.packets step.act)) (one w h).at ∙ a.accepted) its
+
+    pub stays : OnErr result (new.state ≡ old.state) → OnErr result (new_ps ≡ ps) → OnErr result (kept (slice_set cs i new) new_ps ≡ k)
+    stays a b = stays_by result a b where
+      stays_by : (res : Result (Option View) Refusal) → OnErr res (new.state ≡ old.state) → OnErr res (new_ps ≡ ps) → OnErr res (kept (slice_set cs i new) new_ps ≡ k)
+      stays_by (Ok v) s p = tt
+      stays_by (Err e) s p =
+          let place = position-Some (λ c. number_of c == step.at) cs i old (sym at) in
+          let states = same_states cs i old new place.0 (s ∙ ap state_of is) in
+          (λ j. record { coordinators = states j; packets = p j }) ∙ whole

@@ -1,0 +1,42 @@
+-- What coordinators that took in the same operations have in common.
+use Rattle.std.specs.Prelude.{◌≡◌, ℕ, List, Option, Some, None}
+use Rattle.std.specs.Io.KnownBytes.{Appends}
+use Rattle.fm_records.specs.Sets.{HaveSameMembers}
+use Rattle.fm_records.specs.Know.{know, winner}
+use Rattle.fm_records.specs.Facts.{winner_of}
+use Rattle.fm_net.specs.Network.{net_of}
+use Rattle.fm_dimacs.specs.Text.{dump_text}
+use Rattle.fm_coord.specs.Events.{Replica}
+use Rattle.fm_coord.specs.States.{State}
+use Rattle.fm_world.specs.Worlds.{WorldOfSets, with_number}
+use Rattle.fm_world.specs.Stands.{Kept, state_with}
+
+-- the coordinator with the number keeps s, where the world of sets has the replica r
+pub record IsAt (k : Kept) (w : WorldOfSets) (n : ℕ) (s : State) (r : Replica) : Type 0 where
+  pub state : state_with k.coordinators n ≡ Some s
+  pub replica : with_number w.replicas n ≡ Some r
+
+-- it knows what all that the replica took in comes to, and names the winners among that
+pub record Knows (s : State) (r : Replica) : Type 0 where
+  pub knowledge : s.knowledge ≡ know r.taken
+  pub winners : (task attempt : ℕ) → winner_of s.knowledge task attempt ≡ winner r.taken (task, attempt)
+
+-- the coordinators know the same, name the same winner for each attempt of each task, and have one network
+pub record Agree (s t : State) : Type 0 where
+  pub knowledge : s.knowledge ≡ t.knowledge
+  pub winners : (task attempt : ℕ) → winner_of s.knowledge task attempt ≡ winner_of t.knowledge task attempt
+  pub networks : net_of s.knowledge ≡ net_of t.knowledge
+
+-- each coordinator knows what its replica took in
+abbrev pub EachKnows : Kept → WorldOfSets → Type 0
+EachKnows k w = (n : ℕ) (s : State) (r : Replica) → IsAt k w n s r → Knows s r
+
+-- any two coordinators whose replicas took in the same operations, in whatever order, as often and by whatever packets, agree
+abbrev pub SameAgree : Kept → WorldOfSets → Type 0
+SameAgree k w =
+    (m n : ℕ) (s t : State) (a b : Replica) → IsAt k w m s a → IsAt k w n t b → HaveSameMembers a.taken b.taken → Agree s t
+
+-- what went out is the text of the network of what the replica took in, and nothing else; there is such a replica
+abbrev pub IsDumpOf : Option Replica → Option (List ℕ) → Option (List ℕ) → Type 0
+IsDumpOf None old new = ⊥
+IsDumpOf (Some r) old new = Appends old new (dump_text (net_of (know r.taken)))

@@ -1,0 +1,3 @@
+pub mod Worlds
+pub mod Stands
+pub mod Agreement

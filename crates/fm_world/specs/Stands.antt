@@ -1,0 +1,59 @@
+-- What a world of coordinators keeps, and for which world of sets it stands.
+use Rattle.std.specs.Prelude.{◌≡◌, ◌==◌, ℕ, cond, List, [], ◌∷◌, ◌++◌, length, Option, Some, None, map}
+use Rattle.fm_delta.specs.declared.packet.Packet.{Packet}
+use Rattle.fm_net.specs.Network.{net_of}
+use Rattle.fm_coord.specs.declared.view.View.{View}
+use Rattle.fm_coord.specs.Events.{Sent, Replica}
+use Rattle.fm_coord.specs.Replays.{seen}
+use Rattle.fm_coord.specs.States.{State, WithNetwork, StandsFor}
+use Rattle.fm_world.specs.declared.step.Act.{Act}
+use Rattle.fm_world.specs.declared.step.Act.TheVariants as act
+use Rattle.fm_world.specs.Worlds.{WorldOfSets, event_asked, acted, cut_by, cause_here}
+
+-- what the coordinators keep, and the packets that were cut, in the order of their cuts
+pub record Kept : Type 0 where
+  pub coordinators : List State
+  pub packets : List Packet
+
+abbrev pub state_of : WithNetwork → State
+state_of c = c.state
+
+abbrev pub number_of : WithNetwork → ℕ
+number_of c = c.state.number
+
+-- a coordinator's number, and how many entries its history may have
+abbrev pub opening_of : WithNetwork → ℕ × ℕ
+opening_of c = (c.state.number, c.state.limit)
+
+-- nothing happened to the coordinators
+abbrev pub AreUnused : List WithNetwork → Type 0
+AreUnused [] = Unit {0}
+AreUnused (c ∷ cs) = (c.state.history ≡ []) × AreUnused cs
+
+-- each coordinator stands for the replica in its place
+abbrev pub AllStand : List State → List Replica → Type 0
+AllStand [] [] = Unit {0}
+AllStand (s ∷ ss) (r ∷ rs) = StandsFor s r × AllStand ss rs
+AllStand [] (r ∷ rs) = ⊥
+AllStand (s ∷ ss) [] = ⊥
+
+-- the coordinators stand for the replicas, and the packets are those of the world with what their sets come to
+pub record WorldStandsFor (k : Kept) (w : WorldOfSets) : Type 0 where
+  pub coordinators : AllStand k.coordinators w.replicas
+  pub packets : k.packets ≡ map seen w.packets
+
+-- what the coordinator with the number keeps
+abbrev pub state_with : List State → ℕ → Option State
+state_with [] n = None
+state_with (s ∷ ss) n = cond (s.number == n) (Some s) (state_with ss n)
+
+-- what a step shows: of a view the count of entries before it, what is known, and its network
+abbrev pub shown : Option State → Act → Option View
+shown (Some s) act.View = Some (record { at = length s.history; knowledge = s.knowledge; network = net_of s.knowledge })
+shown _ _ = None
+
+-- an act at a replica was accepted: what the coordinator and the packets are is what they are after the event
+pub record IsActed (s : State) (ps : List Packet) (r : Replica) (sent : List Sent) (by : ℕ) (act : Act) : Type 0 where
+  pub accepted : cause_here r (event_asked sent act) ≡ None
+  pub stands : StandsFor s (acted by (event_asked sent act) r)
+  pub packets : ps ≡ map seen (sent ++ cut_by r (event_asked sent act))

@@ -1,0 +1,27 @@
+//! Coordinators by their numbers.
+
+ghost use Rattle.std.specs.Prelude.{◌≡◌, ◌==◌, ◌↔◌, IsTrue, map, position};
+ghost use Rattle.fm_world.specs.Worlds.{AreDistinct};
+ghost use Rattle.fm_world.specs.Stands.{number_of};
+
+use fm_coord::coordinator::Coordinator;
+use fm_policy::keeper::NetKeeper;
+
+/// Whether no two of the coordinators have one number. O(n) for each coordinator, of which at most 64 are looked at.
+pub fn distinct<N: NetKeeper>(coordinators: &[Coordinator<N>]) -> bool
+    ensures { IsTrue result ↔ AreDistinct (map number_of coordinators.now) }
+{
+    match coordinators.split_first() {
+        None => true,
+        Some((first, rest)) => place_of(rest, first.number().value()).is_none() && distinct(rest),
+    }
+}
+
+// The place of the first coordinator with the number.
+pub(crate) fn place_of<N: NetKeeper>(coordinators: &[Coordinator<N>], number: u8) -> Option<usize>
+    ensures { result ≡ position (λ c. number_of c == number) coordinators.now }
+{
+    coordinators
+        .iter()
+        .position(|c| c.number().value() == number)
+}

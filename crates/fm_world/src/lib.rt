@@ -1,0 +1,7 @@
+//! Many coordinators as steps.
+#![tactic(auto)]
+
+mod acting;
+pub mod distinct;
+pub mod step;
+pub mod world;

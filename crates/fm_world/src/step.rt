@@ -1,0 +1,38 @@
+//! What a world is run on.
+
+use fm_coord::entry::Range;
+use fm_records::ops::Op;
+use fm_records::refusal::Refusal;
+use fm_round::parts::Plan;
+
+/// What a step asks a coordinator for.
+#[derive(Drop)]
+pub enum Act {
+    /// Take the operation in.
+    Tell(Op),
+    /// Cut a packet of what the range comes to.
+    Cut(Range),
+    /// Take in the packet that was cut as the one with the number, counted from 0 over all coordinators.
+    Deliver(usize),
+    /// Let the deltas below the number go.
+    Trim(u64),
+    /// Show what is known.
+    View,
+    /// Admit the plan, and take in what it comes to.
+    Commit(Plan),
+}
+
+/// A step: the number of the coordinator, the number of the seat that asks, and what for.
+#[derive(Drop)]
+pub struct Step {
+    pub at: u8,
+    pub by: u32,
+    pub act: Act,
+}
+
+/// Where a run stopped: the place of the refused step, counted from 0, and why it was refused.
+#[derive(Debug, Clone, Copy, PartialEq, Eq, Drop)]
+pub struct RunStop {
+    pub place: usize,
+    pub refusal: Refusal,
+}

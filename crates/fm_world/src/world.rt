@@ -1,0 +1,136 @@
+//! Coordinators, and every packet that they cut.
+
+ghost use Rattle.std.specs.Prelude.{◌≡◌, [], None, Some, IfOk, IfErr, OnOk, OnErr, MatchOption, map, option_map};
+ghost use Rattle.fm_net.specs.Network.{net_of};
+ghost use Rattle.fm_dimacs.specs.Sending.{AppendsPrefix, StopsBy};
+ghost use Rattle.fm_dimacs.specs.Text.{dump_text};
+ghost use Rattle.fm_world.specs.Worlds.{AreDistinct, WorldOfSets, opening_world, with_number, cause_of, refusal_of, step_of, run_of, AreAccepted, taken_by, StopsAt};
+ghost use Rattle.fm_world.specs.Agreement.{EachKnows, SameAgree, IsDumpOf};
+ghost use Rattle.fm_world.specs.Stands.{state_of, number_of, opening_of, AreUnused, AllStand, WorldStandsFor, state_with, shown};
+
+use crate::acting::act_at;
+use crate::distinct::place_of;
+use crate::step::{RunStop, Step};
+use fm_coord::coordinator::Coordinator;
+use fm_coord::shared::Shared;
+use fm_coord::view::View;
+use fm_delta::packet::Packet;
+use fm_dimacs::out::Out;
+use fm_policy::keeper::NetKeeper;
+use fm_records::ids::CoordId;
+use fm_records::refusal::Refusal;
+use std::alloc::Global;
+use std::marker::Model;
+
+/// Coordinators, and every packet that they cut. Contracts see what the coordinators keep, without their networks.
+#[derive(Drop)]
+pub struct World<N: NetKeeper> {
+    alloc: Global,
+    coordinators: Vec<Coordinator<N>>,
+    packets: Vec<Shared<Packet>>,
+}
+
+impl<N: NetKeeper> Model for World<N> {
+    ghost use Rattle.std.specs.Prelude.{map};
+    ghost use Rattle.fm_world.specs.Stands.{Kept, state_of};
+
+    ghost Value = { Kept };
+
+    ghost view = { λ a. record { coordinators = map state_of a.coordinators.items; packets = a.packets.items } };
+}
+
+impl<N: NetKeeper> World<N> {
+    /// The coordinators with no packets. The caller owes that no two of them have one number, and that nothing happened to
+    /// them. It takes no memory.
+    pub fn new(coordinators: Vec<Coordinator<N>>) -> World<N>
+        requires distinct { AreDistinct (map number_of coordinators.items) }
+        requires unused { AreUnused coordinators.items }
+        ensures kept { result ≡ record { coordinators = map state_of coordinators.items; packets = [] } }
+        ensures stands { WorldStandsFor result (opening_world (map opening_of coordinators.items)) }
+    {
+        see_unused(coordinators.as_slice());
+        let alloc = *coordinators.allocator();
+        World {
+            alloc,
+            coordinators,
+            packets: Vec::new(alloc),
+        }
+    }
+
+    /// The coordinator with the number, if there is one.
+    pub fn coordinator(&self, number: CoordId) -> Option<&Coordinator<N>>
+        ensures { option_map (λ c. c.now.state) result ≡ state_with self.now.coordinators number }
+    {
+        match place_of(self.coordinators.as_slice(), number.value()) {
+            None => None,
+            Some(place) => Some(&self.coordinators[place]),
+        }
+    }
+
+    /// Takes a step, and answers the view of a View.
+    /// NoCoordinator, NoPacket, then as the coordinator's call: BadOp, BadInterval, Trimmed, HistoryFull, OutOfMemory.
+    /// After a refusal nothing has changed, but for a network that is fresh or stale.
+    pub fn step(&mut self, step: &Step) -> Result<Option<View>, Refusal>
+        ensures stands { (w : WorldOfSets) → WorldStandsFor self.old w → OnOk result (WorldStandsFor self.new (step_of w step.now)) }
+        ensures accepted { (w : WorldOfSets) → WorldStandsFor self.old w → OnOk result (cause_of w step.now ≡ None) }
+        ensures view { IfOk result (λ view. view ≡ shown (state_with self.old.coordinators step.now.at) step.now.act) }
+        ensures err { (w : WorldOfSets) → WorldStandsFor self.old w → IfErr result (λ refusal. refusal ≡ refusal_of w step.now) }
+        ensures unchanged { OnErr result (self.new ≡ self.old) }
+    {
+        match place_of(self.coordinators.as_slice(), step.at) {
+            None => Err(Refusal::NoCoordinator),
+            Some(place) => act_at(
+                self.alloc,
+                &mut self.coordinators[place],
+                &mut self.packets,
+                step.by,
+                &step.act,
+            ),
+        }
+    }
+
+    /// Takes the steps in order, up to the first that is refused: it answers that one's place, counted from 0, and why. Those
+    /// before it stand. Two coordinators that took in the same operations, in whatever order, as often and by whatever
+    /// packets, then know the same, name the same winners, and have one network.
+    pub fn run(&mut self, steps: &[Step]) -> Result<(), RunStop>
+        ensures stands { (w : WorldOfSets) → WorldStandsFor self.old w → WorldStandsFor self.new (run_of w (taken_by result steps.now)) }
+        ensures accepted { (w : WorldOfSets) → WorldStandsFor self.old w → AreAccepted w (taken_by result steps.now) }
+        ensures stopped { (w : WorldOfSets) → WorldStandsFor self.old w → IfErr result (λ stop. StopsAt w steps.now stop) }
+        ensures each_knows { (w : WorldOfSets) → WorldStandsFor self.old w → EachKnows self.new (run_of w (taken_by result steps.now)) }
+        ensures same_agree { (w : WorldOfSets) → WorldStandsFor self.old w → SameAgree self.new (run_of w (taken_by result steps.now)) }
+    {
+        for (place, step) in steps.iter().enumerate() {
+            if let Err(refusal) = self.step(step) {
+                return Err(RunStop { place, refusal });
+            }
+        }
+        Ok(())
+    }
+
+    /// Writes the text of the coordinator's network: it is the network of the operations that it took in. What is known, kept
+    /// and listed stays as it is, also where it is refused: then a prefix was written.
+    /// NoCoordinator, before anything is written; WriteFault, OutOfMemory.
+    pub fn dump<W: Out>(&mut self, number: CoordId, out: &mut W) -> Result<(), Refusal>
+        ensures ok { (w : WorldOfSets) → WorldStandsFor self.old w → OnOk result (IsDumpOf (with_number w.replicas number) (W.written out.old) (W.written out.new)) }
+        ensures ok_fails_not { OnOk result (W.has_failed out.new ≡ W.has_failed out.old) }
+        ensures err { OnErr result (MatchOption (state_with self.old.coordinators number) (out.new ≡ out.old) (λ s. AppendsPrefix (W.written out.old) (W.written out.new) (dump_text (net_of s.knowledge)))) }
+        ensures cause { IfErr result (λ refusal. MatchOption (state_with self.old.coordinators number) (refusal ≡ Refusal.NoCoordinator) (λ s. StopsBy refusal (W.has_failed out.old) (W.has_failed out.new))) }
+        ensures same { self.new ≡ self.old }
+    {
+        match place_of(self.coordinators.as_slice(), number.value()) {
+            None => Err(Refusal::NoCoordinator),
+            Some(place) => self.coordinators[place].dump(out),
+        }
+    }
+}
+
+// Coordinators to which nothing happened stand for replicas to which nothing happened.
+fn see_unused<N: NetKeeper>(coordinators: &[Coordinator<N>])
+    requires { AreUnused coordinators.now }
+    ensures { AllStand (map state_of coordinators.now) (opening_world (map opening_of coordinators.now)).replicas }
+{
+    if let Some((first, rest)) = coordinators.split_first() {
+        first.known();
+        see_unused(rest);
+    }
+}
