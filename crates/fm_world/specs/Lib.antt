@@ -1,3 +1,4 @@
 pub mod Worlds
 pub mod Stands
 pub mod Agreement
+pub mod Examples

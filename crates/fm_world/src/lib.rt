@@ -4,4 +4,6 @@
 mod acting;
 pub mod distinct;
 pub mod step;
+#[cfg(test)]
+mod tests;
 pub mod world;
