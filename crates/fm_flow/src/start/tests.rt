@@ -221,17 +221,17 @@ fn drawn_task(network: &mut Network, seed: &mut u64, number: u128) -> Result<(),
     }
 }
 
-// A network of three jobs, eight machines and forty tasks.
-fn drawn(alloc: Global, first: u64) -> Result<Network, OutOfMemory> {
+// A network of three jobs, and of so many machines and tasks.
+fn drawn(alloc: Global, first: u64, machines: u64, tasks: u64) -> Result<Network, OutOfMemory> {
     let mut network = Network::new(alloc)?;
     let mut seed = first;
     for number in 0..3u64 {
-        job(&mut network, u128::from(number), 40)?;
+        job(&mut network, u128::from(number), tasks)?;
     }
-    for number in 0..8u64 {
+    for number in 0..machines {
         drawn_machine(&mut network, &mut seed, u128::from(number))?;
     }
-    for number in 0..40u64 {
+    for number in 0..tasks {
         drawn_task(&mut network, &mut seed, u128::from(number))?;
     }
     Ok(network)
@@ -261,8 +261,17 @@ fn contended_slots_are_solved(rt: HostRuntime) -> Result<(), Fail> {
 #[test]
 fn drawn_networks_are_solved(rt: HostRuntime) -> Result<(), Fail> {
     for seed in 1..=12u64 {
-        let network = drawn(rt.alloc(), seed)?;
+        let network = drawn(rt.alloc(), seed, 8, 40)?;
         assert!(rt; both_cost(rt.alloc(), &network, None)?);
+    }
+    Ok(())
+}
+
+#[test]
+fn the_search_finds_no_cycle_after_the_start(rt: HostRuntime) -> Result<(), Fail> {
+    for seed in 1..=3u64 {
+        let network = drawn(rt.alloc(), seed, 60, 400)?;
+        assert!(rt; started(rt.alloc(), &network)?.is_some());
     }
     Ok(())
 }
@@ -281,7 +290,7 @@ fn is_taken_over(alloc: Global, network: &Network) -> Result<bool, OutOfMemory> 
 #[test]
 fn earlier_flows_are_taken_over(rt: HostRuntime) -> Result<(), Fail> {
     for seed in 1..=6u64 {
-        let network = drawn(rt.alloc(), seed)?;
+        let network = drawn(rt.alloc(), seed, 8, 40)?;
         assert!(rt; is_taken_over(rt.alloc(), &network)?);
     }
     Ok(())
