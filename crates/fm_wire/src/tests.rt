@@ -81,6 +81,24 @@ fn fault_of_op(alloc: Global, op: Op, place: usize, byte: u8) -> Result<Option<u
     fault_with(alloc, &bytes, place, byte)
 }
 
+// The fault of the bytes of a packet of the operation alone, with another number of 32 bits at the place.
+fn fault_at_number(
+    alloc: Global,
+    op: Op,
+    place: usize,
+    number: u32,
+) -> Result<Option<usize>, Fail> {
+    let bytes = bytes_of(alloc, &packet_of(alloc, 1, Some(op))?)?;
+    let end = place.saturating_add(4);
+    let mut changed = Vec::new(alloc);
+    if let (Some(front), Some(back)) = (bytes.get(..place), bytes.get(end..)) {
+        changed.extend_from_slice(front)?;
+        changed.extend_from_slice(&number.to_be_bytes())?;
+        changed.extend_from_slice(back)?;
+    }
+    Ok(fault(&changed))
+}
+
 #[test]
 fn a_job_is_34_bytes(rt: HostRuntime) -> Result<(), Fail> {
     let packet = packet_of(rt.alloc(), 3, Some(job(800)))?;
@@ -192,6 +210,87 @@ fn tags_and_keys_have_ranges(rt: HostRuntime) -> Result<(), Fail> {
         (proposal, 65, 65, Some(65)),
     ] {
         assert_eq!(rt; fault_of_op(rt.alloc(), op, place, byte)?, want);
+    }
+    Ok(())
+}
+
+#[test]
+fn numbers_of_jobs_and_specs_have_ranges(rt: HostRuntime) -> Result<(), Fail> {
+    let spec = Op::Spec {
+        id: TaskId::new(17),
+        version: 1,
+        writer: 1,
+        withdrawn: false,
+        job: JobId::new(1),
+        request: 100,
+    };
+    for (op, place, number, want) in [
+        (job(800), 47, 0, None),
+        (job(800), 47, 1_000_000_000, None),
+        (job(800), 47, 1_000_000_001, Some(47)),
+        (job(800), 51, 0, None),
+        (job(800), 51, 1_000_000_000, None),
+        (job(800), 51, 1_000_000_001, Some(51)),
+        (spec, 45, u32::MAX, None),
+        (spec, 77, 0, None),
+        (spec, 77, 1_000_000, None),
+        (spec, 77, 1_000_001, Some(77)),
+    ] {
+        assert_eq!(rt; fault_at_number(rt.alloc(), op, place, number)?, want);
+    }
+    for (op, place, byte, want) in [
+        (job(800), 4, 64, None),
+        (job(800), 4, 65, Some(4)),
+        (job(800), 45, 0, Some(45)),
+        (job(800), 45, 64, None),
+        (job(800), 46, 1, None),
+        (spec, 59, 0, Some(59)),
+        (spec, 59, 65, Some(59)),
+        (spec, 60, 2, Some(60)),
+    ] {
+        assert_eq!(rt; fault_of_op(rt.alloc(), op, place, byte)?, want);
+    }
+    Ok(())
+}
+
+#[test]
+fn numbers_of_machines_have_ranges(rt: HostRuntime) -> Result<(), Fail> {
+    let machine = Op::Machine {
+        id: MachineId::new(10),
+        incarnation: 1,
+        version: 1,
+        writer: 1,
+        up: true,
+        slots: 2,
+        nic: 1000,
+    };
+    let report = Op::Report {
+        id: MachineId::new(10),
+        incarnation: 2,
+        number: 1,
+        used: 0,
+    };
+    for (op, place, number, want) in [
+        (machine, 72, 0, Some(72)),
+        (machine, 72, 1, None),
+        (machine, 72, 1_000, None),
+        (machine, 72, 1_001, Some(72)),
+        (machine, 76, 0, None),
+        (machine, 76, 1_000_000, None),
+        (machine, 76, 1_000_001, Some(76)),
+        (report, 70, 1_000_000_000, None),
+        (report, 70, 1_000_000_001, Some(70)),
+    ] {
+        assert_eq!(rt; fault_at_number(rt.alloc(), op, place, number)?, want);
+    }
+    for (place, byte, want) in [
+        (70, 0, Some(70)),
+        (70, 64, None),
+        (70, 65, Some(70)),
+        (71, 0, None),
+        (71, 2, Some(71)),
+    ] {
+        assert_eq!(rt; fault_of_op(rt.alloc(), machine, place, byte)?, want);
     }
     Ok(())
 }
