@@ -710,3 +710,23 @@ fn a_writer_that_fails_has_a_prefix(rt: HostRuntime) -> Result<(), Fail> {
     }
     Ok(())
 }
+
+#[test]
+fn a_solution_that_fails_has_a_prefix(rt: HostRuntime) -> Result<(), Fail> {
+    let alloc = rt.alloc();
+    for room in [0, 10] {
+        let words = words_of(alloc, "solve")?;
+        let script = script_of(alloc, "J A T")?;
+        let mut writer = Full {
+            bytes: Vec::new(alloc),
+            at_a_time: 3,
+            room,
+        };
+        let ending = serve(alloc, words.as_slice(), &mut script.as_bytes(), &mut writer);
+        assert_eq!(rt; ending.status(), 6);
+        assert!(rt; ending.to_string(alloc)?.as_str() == "firmament: refusal 17\n");
+        assert!(rt; PLACED.as_bytes().starts_with(&writer.bytes));
+        assert_eq!(rt; writer.bytes.len(), room);
+    }
+    Ok(())
+}
