@@ -6,7 +6,7 @@ ghost use Rattle.fm_records.specs.Know.{know};
 ghost use Rattle.fm_records.specs.Joined.{table_join};
 
 use fm_lattice::join::{Join, OutOfMemory, copied};
-use fm_lattice::map::JoinMap;
+use fm_lattice::map::{JoinMap, join_four};
 use fm_lattice::plain::{Max, Min};
 use fm_records::ids::{CoordId, JobId, MachineId, TaskId};
 use fm_records::records::{JobReg, MachineRec, Spot, TaskRec};
@@ -75,8 +75,8 @@ impl Knowledge {
         &self.proposals
     }
 
-    /// Joins the other in. Where the other has entries in one map alone, as what one operation comes to has, this is done
-    /// in place, at the cost of `JoinMap::join_into`; else it copies both, O(n + m).
+    /// Joins the other in, all or nothing, each of its maps at the cost of `JoinMap::join_into`: so what has few entries
+    /// costs O(m log n), and moves within blocks of bounded length.
     /// After a refusal of memory nothing has changed.
     pub fn join_into(&mut self, other: &Knowledge) -> Result<(), OutOfMemory>
         ensures ok { OnOk result (self.new ≡ table_join self.old other.now) }
@@ -86,26 +86,21 @@ impl Knowledge {
         self.take_in(other)
     }
 
-    // Joins the other in, in place where it has entries in one map alone.
+    // Joins the other in, map by map.
     fn take_in(&mut self, other: &Knowledge) -> Result<(), OutOfMemory>
         ensures ok { OnOk result (self.new ≡ table_join self.old other.now) }
         ensures err { OnErr result (self.new ≡ self.old) }
     {
-        if other.tasks.is_empty() && other.machines.is_empty() && other.proposals.is_empty() {
-            return self.jobs.join_into(&other.jobs);
-        }
-        if other.jobs.is_empty() && other.machines.is_empty() && other.proposals.is_empty() {
-            return self.tasks.join_into(&other.tasks);
-        }
-        if other.jobs.is_empty() && other.tasks.is_empty() && other.proposals.is_empty() {
-            return self.machines.join_into(&other.machines);
-        }
-        if other.jobs.is_empty() && other.tasks.is_empty() && other.machines.is_empty() {
-            return self.proposals.join_into(&other.proposals);
-        }
-        let joined = self.joined(other)?;
-        *self = joined;
-        Ok(())
+        join_four(
+            &mut self.jobs,
+            &other.jobs,
+            &mut self.tasks,
+            &other.tasks,
+            &mut self.machines,
+            &other.machines,
+            &mut self.proposals,
+            &other.proposals,
+        )
     }
 
     /// The knowledge again, in memory of its own. O(n).

@@ -4,3 +4,5 @@ pub mod PlainLaws
 pub mod Maps
 pub mod MapLaws
 pub mod Places
+pub mod Blocks
+pub mod Plans

@@ -1,10 +1,14 @@
 //! Joins: values that merge, whatever the order and however often.
 #![tactic(auto)]
 
+mod blocks;
 pub mod chain;
 pub mod join;
 pub mod map;
+mod merging;
+mod pairs;
 pub mod plain;
+mod plan;
 mod rising;
 #[cfg(test)]
 mod tests;

@@ -1,31 +1,35 @@
 //! Maps whose values merge.
 
 ghost use Rattle.std.specs.Prelude.{◌≡◌, ◌↔◌, ◌<◌, ◌^◌, List, [], ◌∷◌, length, IsTrue, IfOk, OnOk, OnErr, option_copied};
-ghost use Rattle.std.specs.Iterator.{YieldsFirstBy, item_count};
 ghost use Rattle.fm_lattice.specs.Maps.{IsMap, lookup, put, map_join, JoinsByKey};
 ghost use Rattle.fm_lattice.specs.MapLaws.{map_laws};
 
+use crate::blocks::{make_room, value_at, write};
 use crate::chain::Chain;
 use crate::join::{Join, OutOfMemory, copied};
-use crate::rising::{joined_pairs, merged, overwrite, place};
+use crate::merging::{counted, joined_at, merged};
+pub use crate::pairs::Pairs;
+use crate::plan::{carry_out, plan_join};
 use std::alloc::Global;
 use std::marker::Model;
 
-/// A map that merges key by key.
+/// A map that merges key by key. Its pairs lie in blocks, so a new key moves no more than what is in its block.
 #[derive(Drop)]
 pub struct JoinMap<K: Chain, V: Join> {
-    pairs: Vec<(K, V)>,
+    // Each block with its first key.
+    blocks: Vec<(K, Vec<(K, V)>)>,
+    len: usize,
 }
 
 impl<K: Chain, V: Join> Model for JoinMap<K, V> {
     ghost use Rattle.std.specs.Prelude.{List};
-    ghost use Rattle.fm_lattice.specs.Maps.{IsMap};
+    ghost use Rattle.fm_lattice.specs.Blocks.{pairs_of, IsKept};
 
     ghost Value = { List (K × V) };
 
-    ghost view = { λ m. m.pairs.items };
+    ghost view = { λ m. pairs_of m.blocks.items };
 
-    ghost invariant = { λ m. IsMap K.cmp V.is_value m.pairs.items };
+    ghost invariant = { λ m. IsKept K.cmp V.is_value m.blocks.items m.len };
 }
 
 impl<K: Chain, V: Join> JoinMap<K, V> {
@@ -34,7 +38,8 @@ impl<K: Chain, V: Join> JoinMap<K, V> {
         ensures { result ≡ [] }
     {
         JoinMap {
-            pairs: Vec::new(alloc),
+            blocks: Vec::new(alloc),
+            len: 0,
         }
     }
 
@@ -42,24 +47,21 @@ impl<K: Chain, V: Join> JoinMap<K, V> {
     pub fn len(&self) -> usize
         ensures { result ≡ length self.now }
     {
-        self.pairs.len()
+        self.len
     }
 
     /// Whether there is no key.
     pub fn is_empty(&self) -> bool
         ensures { IsTrue result ↔ (self.now ≡ []) }
     {
-        self.pairs.is_empty()
+        self.len == 0
     }
 
     /// The value at the key, if the key is there. O(log n).
     pub fn get(&self, key: &K) -> Option<&V>
         ensures { option_copied result ≡ lookup K.cmp key.now self.now }
     {
-        match place(&self.pairs, key) {
-            Ok(at) => Some(&self.pairs[at].1),
-            Err(_) => None,
-        }
+        value_at(&self.blocks, key)
     }
 
     /// The pairs, keys rising.
@@ -68,10 +70,11 @@ impl<K: Chain, V: Join> JoinMap<K, V> {
         ensures map { IsMap K.cmp V.is_value self.now }
         ensures fits { length self.now < 2 ^ 64 }
     {
-        Pairs { rest: &self.pairs }
+        let _count = self.len();
+        Pairs::of(&self.blocks)
     }
 
-    /// Joins the value in at the key. O(log n), and the moves of what lies behind a new key.
+    /// Joins the value in at the key. O(log n), and the moves within a block of bounded length.
     /// After a refusal of memory the map is as it was.
     pub fn put(&mut self, key: K, value: V) -> Result<(), OutOfMemory>
         ensures ok { OnOk result (self.new ≡ put K.cmp V.join key value self.old) }
@@ -79,18 +82,25 @@ impl<K: Chain, V: Join> JoinMap<K, V> {
         ensures err { OnErr result (self.new ≡ self.old) }
     {
         value.known();
-        match place(&self.pairs, &key) {
-            Ok(at) => {
-                let joined = self.pairs[at].1.joined(&value)?;
-                self.pairs[at].1 = joined;
-            }
-            Err(at) => self.pairs.insert(at, (key, value))?,
+        if self.len == usize::MAX {
+            return Err(OutOfMemory);
         }
+        if self.blocks.is_empty() {
+            let mut pairs = Vec::with_capacity(*self.blocks.allocator(), 1)?;
+            pairs.push((key, value))?;
+            self.blocks.push((key, pairs))?;
+            self.len = 1;
+            return Ok(());
+        }
+        let joined = joined_at(&self.blocks, &key, value)?;
+        let at = make_room(&mut self.blocks, &key)?;
+        self.len += write(&mut self.blocks, at, key, joined);
         Ok(())
     }
 
-    /// Joins the other map in, in place: for each of the other's m keys a search among the n here, O(m log n), and the
-    /// moves of what lies behind new keys. `joined` is one merge, O(n + m), but copies both.
+    /// Joins the other map in. Where the other has no more keys than there are blocks here, this is done in place: for each
+    /// of the other's m keys a search among the n here and the moves within a block, O(m log n). Else it is one merge of
+    /// both, O(n + m), put in the map's place.
     /// After a refusal of memory the map is as it was.
     pub fn join_into(&mut self, other: &JoinMap<K, V>) -> Result<(), OutOfMemory>
         ensures ok { OnOk result (self.new ≡ map_join K.cmp V.join self.old other.now) }
@@ -98,9 +108,8 @@ impl<K: Chain, V: Join> JoinMap<K, V> {
         ensures err { OnErr result (self.new ≡ self.old) }
     {
         other.known();
-        let joined = joined_pairs(*self.pairs.allocator(), &self.pairs, &other.pairs)?;
-        self.pairs.reserve(joined.len())?;
-        overwrite(&mut self.pairs, joined);
+        let plan = plan_join(&mut self.blocks, self.len, &other.blocks, other.len)?;
+        self.len = carry_out(&mut self.blocks, self.len, plan);
         Ok(())
     }
 
@@ -118,7 +127,7 @@ impl<K: Chain, V: Join> Join for JoinMap<K, V> {
     ghost join = { map_join K.cmp V.join };
 
     fn known(&self) {
-        let _ = &self.pairs;
+        let _ = &self.blocks;
     }
 
     /// The map with the pairs of both, joined where a key is in both. O(n + m).
@@ -126,17 +135,18 @@ impl<K: Chain, V: Join> Join for JoinMap<K, V> {
         ensures ok { IfOk result (λ r. r ≡ map_join K.cmp V.join self.now other.now) }
         ensures by_key { IfOk result (λ r. JoinsByKey K.cmp V.join self.now other.now r) }
     {
-        let pairs = merged(*self.pairs.allocator(), &self.pairs, &other.pairs)?;
-        Ok(JoinMap { pairs })
+        let blocks = merged(*self.blocks.allocator(), &self.blocks, &other.blocks)?;
+        let len = counted(&blocks)?;
+        Ok(JoinMap { blocks, len })
     }
 
     /// Whether each key here is in the other, with a value that is above the one here. O(n log m).
     fn leq(&self, other: &JoinMap<K, V>) -> bool {
         other.known();
-        for pair in &self.pairs {
-            match other.get(&pair.0) {
+        for (key, here) in self.iter() {
+            match other.get(key) {
                 Some(value) => {
-                    if !pair.1.leq(value) {
+                    if !here.leq(value) {
                         return false;
                     }
                 }
@@ -149,28 +159,50 @@ impl<K: Chain, V: Join> Join for JoinMap<K, V> {
     ghost laws = { map_laws K.cmp K.total K.same V.join V.is_value V.laws };
 }
 
-/// The pairs of a map that are left, with keys rising.
-#[derive(Drop)]
-pub struct Pairs<'a, K, V> {
-    rest: &'a [(K, V)],
-}
-
-impl<'a, K, V> Model for Pairs<'a, K, V> {
-    ghost Value = { List (K × V) };
-
-    ghost view = { λ s. s.rest.now };
-}
-
-impl<'a, K, V> Iterator for Pairs<'a, K, V> {
-    type Item = (&'a K, &'a V);
-
-    ghost next_gives = { YieldsFirstBy (λ pair. (pair.0.now, pair.1.now)) (λ s. s) };
-
-    ghost remaining = { item_count (λ s. s) };
-
-    fn next(&mut self) -> Option<(&'a K, &'a V)> {
-        let (first, others) = self.rest.split_first()?;
-        self.rest = others;
-        Some((&first.0, &first.1))
-    }
+/// Joins each of four maps into one of four others, all or none, each at the cost of `JoinMap::join_into`.
+/// After a refusal of memory all are as they were.
+pub fn join_four<
+    K1: Chain,
+    V1: Join,
+    K2: Chain,
+    V2: Join,
+    K3: Chain,
+    V3: Join,
+    K4: Chain,
+    V4: Join,
+>(
+    first: &mut JoinMap<K1, V1>,
+    to_first: &JoinMap<K1, V1>,
+    second: &mut JoinMap<K2, V2>,
+    to_second: &JoinMap<K2, V2>,
+    third: &mut JoinMap<K3, V3>,
+    to_third: &JoinMap<K3, V3>,
+    fourth: &mut JoinMap<K4, V4>,
+    to_fourth: &JoinMap<K4, V4>,
+) -> Result<(), OutOfMemory>
+    ensures first { OnOk result (first.new ≡ map_join K1.cmp V1.join first.old to_first.now) }
+    ensures second { OnOk result (second.new ≡ map_join K2.cmp V2.join second.old to_second.now) }
+    ensures third { OnOk result (third.new ≡ map_join K3.cmp V3.join third.old to_third.now) }
+    ensures fourth { OnOk result (fourth.new ≡ map_join K4.cmp V4.join fourth.old to_fourth.now) }
+    ensures err { OnErr result ((first.new ≡ first.old) × (second.new ≡ second.old) × (third.new ≡ third.old) × (fourth.new ≡ fourth.old)) }
+{
+    let plan1 = plan_join(&mut first.blocks, first.len, &to_first.blocks, to_first.len)?;
+    let plan2 = plan_join(
+        &mut second.blocks,
+        second.len,
+        &to_second.blocks,
+        to_second.len,
+    )?;
+    let plan3 = plan_join(&mut third.blocks, third.len, &to_third.blocks, to_third.len)?;
+    let plan4 = plan_join(
+        &mut fourth.blocks,
+        fourth.len,
+        &to_fourth.blocks,
+        to_fourth.len,
+    )?;
+    first.len = carry_out(&mut first.blocks, first.len, plan1);
+    second.len = carry_out(&mut second.blocks, second.len, plan2);
+    third.len = carry_out(&mut third.blocks, third.len, plan3);
+    fourth.len = carry_out(&mut fourth.blocks, fourth.len, plan4);
+    Ok(())
 }

@@ -1,7 +1,13 @@
 use Rattle.std.proofs.Common.{◌≡◌, get_or, sym, ◌∙◌, IsOk}
 use Rattle.fm_lattice.specs.Maps.{replaced}
-use Rattle.fm_lattice.proofs.Places.{put_at, put_gap}
+use Rattle.fm_lattice.proofs.Places.{lookup_gap, put_at, put_gap}
 use Rattle.fm_lattice.proofs.rising.set.Goals as goal
+
+-- the key is not there, so there is room
+pub unwrap-requires : goal.unwrap-requires
+unwrap-requires g c =
+    let gap = rw c.deref.ensures.value at c.in-Err.ensures.absent in
+    c.insert.ensures.succeeds (c.requires.room (lookup_gap g.K.Ord.cmp g.met.K.Ord.total g.met.K.Chain.same c.args.pairs.now.items c.args.key c.in-Err.at gap))
 
 -- the key is there, and its value is replaced
 pub returns-in-Ok-clause-items : goal.returns-in-Ok-clause-items
@@ -17,5 +23,6 @@ returns-in-Ok-clause-items g c =
 pub returns-in-Err-clause-items : goal.returns-in-Err-clause-items
 returns-in-Err-clause-items g c =
     let gap = rw c.deref.ensures.value at c.in-Err.ensures.absent in
-    let ok : IsOk c.insert.result = c.insert.ensures.succeeds c.requires.room in
+    let none = lookup_gap g.K.Ord.cmp g.met.K.Ord.total g.met.K.Chain.same c.args.pairs.now.items c.args.key c.in-Err.at gap in
+    let ok : IsOk c.insert.result = c.insert.ensures.succeeds (c.requires.room none) in
     rw ok at c.insert.ensures.items ∙ sym (put_gap g.K.Ord.cmp g.met.K.Ord.total g.met.K.Chain.same replaced c.args.pairs.now.items c.args.key c.args.value c.in-Err.at gap)

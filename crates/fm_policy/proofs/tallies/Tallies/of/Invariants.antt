@@ -9,5 +9,6 @@ abbrev pub invariant-loop-task : goal.invariant-loop-task
 invariant-loop-task l = record {
   live : (j : ℕ) → live_in l.tallies j + count_by (λ e. is_live_of l.knowledge j e.0) l.task-iterator ≡ live_tasks l.knowledge j;
   held : (m : ℕ) → held_in l.tallies m + sum_by (λ e. request_of e.1.0) (filter (λ e. holds l.knowledge m e.0) l.task-iterator) ≡ sum_by (λ e. request_of e.1.0) (held_tasks l.knowledge m);
+  few : (j : ℕ) → live_in l.tallies j + length l.task-iterator ≤ length l.knowledge.tasks;
   fits : (m : ℕ) → held_in l.tallies m + 2 ^ 32 * length l.task-iterator ≤ 2 ^ 32 * length l.knowledge.tasks;
 }

@@ -1,0 +1,22 @@
+-- What is there when the plan of a join is carried out.
+use Rattle.std.proofs.Common.{◌≡◌, ℕ, Bool, List, length, sym, ◌∙◌, ap, subst}
+use Rattle.std.specs.declared.vec.Vec.{Vec}
+use Rattle.std.specs.Cmp.{IsTotalOrder}
+use Rattle.std.specs.declared.cmp.Ordering.{Ordering}
+use Rattle.fm_lattice.specs.Chains.{TellsApart}
+use Rattle.fm_lattice.specs.Joins.{JoinLaws}
+use Rattle.fm_lattice.specs.Maps.{IsMap, map_join}
+use Rattle.fm_lattice.specs.MapLaws.{is_map_join}
+use Rattle.fm_lattice.specs.Blocks.{pairs_of, AreHeaded, IsKept}
+use Rattle.fm_lattice.specs.Plans.{outcome}
+
+module _ {K V A : Type 0} (cmp : K → K → Ordering) (total : IsTotalOrder cmp) (same : TellsApart cmp) (join : V → V → V) (is_value : V → Type 0) (laws : JoinLaws is_value join) (bs now other after : List (K × Vec (K × V) A)) (len other_len : ℕ) (here : IsKept cmp is_value bs len) (there : IsKept cmp is_value other other_len) (aside : Bool) (whole : List (K × Vec (K × V) A)) (changes : List ((K × V) × Vec (K × V) A)) (items : now ≡ bs) (out : outcome cmp (pairs_of bs) aside whole changes ≡ map_join cmp join (pairs_of bs) (pairs_of other)) (made : pairs_of after ≡ outcome cmp (pairs_of now) aside whole changes) where
+  pub planned_pairs : pairs_of after ≡ map_join cmp join (pairs_of bs) (pairs_of other)
+  planned_pairs = made ∙ ap (λ z. outcome cmp (pairs_of z) aside whole changes) items ∙ out
+
+  pub planned_kept : (count : ℕ) → AreHeaded after → count ≡ length (pairs_of after) → IsKept cmp is_value after count
+  planned_kept count headed counted = record {
+    map = subst (IsMap cmp is_value) (sym planned_pairs) (is_map_join cmp total same join is_value laws (pairs_of bs) (pairs_of other) here.map there.map);
+    headed = headed;
+    counted = counted;
+  }

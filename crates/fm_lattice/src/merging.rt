@@ -1,0 +1,192 @@
+//! Joins of two maps kept in blocks: a merge aside, and changes in place.
+
+ghost use Rattle.std.specs.Prelude.{◌≡◌, ◌+◌, ◌≤◌, ◌<◌, ◌++◌, ◌∷◌, [], List, None, IfOk, OnOk, map, length, vec_len, vec_capacity};
+ghost use Rattle.fm_lattice.specs.Maps.{IsRising, lookup, put, map_join, replaced, joined_onto, joined_pair};
+ghost use Rattle.fm_lattice.specs.Blocks.{pairs_of, AreHeaded, HaveSpares};
+
+use crate::blocks::{FULL, take_room, value_at, write};
+use crate::chain::Chain;
+use crate::join::{Join, OutOfMemory, copied};
+use crate::pairs::Pairs;
+use std::alloc::Global;
+use std::cmp::Ordering;
+
+// The pairs of both, joined where a key is in both, in blocks that are filled in order. O(n + m).
+pub(crate) fn merged<K: Chain, V: Join>(
+    alloc: Global,
+    left: &[(K, Vec<(K, V)>)],
+    right: &[(K, Vec<(K, V)>)],
+) -> Result<Vec<(K, Vec<(K, V)>)>, OutOfMemory>
+    requires left_headed { AreHeaded left.now }
+    requires right_headed { AreHeaded right.now }
+    requires right_rises { IsRising K.cmp (pairs_of right.now) }
+    ensures pairs { IfOk result (λ blocks. pairs_of blocks.items ≡ map_join K.cmp V.join (pairs_of left.now) (pairs_of right.now)) }
+    ensures headed { IfOk result (λ blocks. AreHeaded blocks.items) }
+{
+    let mut done = Vec::new(alloc);
+    let mut lefts = Pairs::of(left);
+    let mut rights = Pairs::of(right);
+    'both: while let (Some(here), Some(there)) = (lefts.first(), rights.first()) {
+        match here.0.cmp(&there.0) {
+            Ordering::Less => {
+                append(&mut done, here.0, copied(&here.1)?)?;
+                lefts.skip_first();
+            }
+            Ordering::Equal => {
+                append(&mut done, here.0, here.1.joined(&there.1)?)?;
+                lefts.skip_first();
+                rights.skip_first();
+            }
+            Ordering::Greater => {
+                append(&mut done, there.0, copied(&there.1)?)?;
+                rights.skip_first();
+            }
+        }
+    }
+    append_rest(&mut done, lefts)?;
+    append_rest(&mut done, rights)?;
+    Ok(done)
+}
+
+// Adds a copy of each.
+fn append_rest<K: Chain, V: Join>(
+    blocks: &mut Vec<(K, Vec<(K, V)>)>,
+    mut rest: Pairs<'_, K, V>,
+) -> Result<(), OutOfMemory>
+    requires { AreHeaded blocks.old.items }
+    ensures pairs { OnOk result (pairs_of blocks.new.items ≡ pairs_of blocks.old.items ++ rest.entry) }
+    ensures headed { OnOk result (AreHeaded blocks.new.items) }
+{
+    'rest: while let Some(pair) = rest.first() {
+        append(blocks, pair.0, copied(&pair.1)?)?;
+        rest.skip_first();
+    }
+    Ok(())
+}
+
+// Adds the pair at the end.
+fn append<K: Chain, V: Drop>(
+    blocks: &mut Vec<(K, Vec<(K, V)>)>,
+    key: K,
+    value: V,
+) -> Result<(), OutOfMemory>
+    requires { AreHeaded blocks.old.items }
+    ensures pairs { OnOk result (pairs_of blocks.new.items ≡ pairs_of blocks.old.items ++ (key, value) ∷ []) }
+    ensures headed { OnOk result (AreHeaded blocks.new.items) }
+{
+    let count = blocks.len();
+    if count > 0 && blocks[count - 1].1.len() < FULL {
+        push_in(&mut blocks[count - 1], key, value)?;
+        return Ok(());
+    }
+    let room = if count == 0 { 1 } else { FULL };
+    let mut pairs = Vec::with_capacity(*blocks.allocator(), room)?;
+    pairs.push((key, value))?;
+    blocks.push((key, pairs))?;
+    Ok(())
+}
+
+fn push_in<K: Chain, V: Drop>(
+    block: &mut (K, Vec<(K, V)>),
+    key: K,
+    value: V,
+) -> Result<(), OutOfMemory>
+    ensures key { block.new.0 ≡ block.old.0 }
+    ensures items { OnOk result (block.new.1.items ≡ block.old.1.items ++ (key, value) ∷ []) }
+{
+    block.1.push((key, value))?;
+    Ok(())
+}
+
+// How many pairs there are.
+pub(crate) fn counted<K, V>(blocks: &[(K, Vec<(K, V)>)]) -> Result<usize, OutOfMemory>
+    ensures { IfOk result (λ count. count ≡ length (pairs_of blocks.now)) }
+{
+    let mut count = 0usize;
+    for block in blocks {
+        if usize::MAX - count < block.1.len() {
+            return Err(OutOfMemory);
+        }
+        count += block.1.len();
+    }
+    Ok(count)
+}
+
+// The value joined to what stands at its key, if anything does. O(log n).
+pub(crate) fn joined_at<K: Chain, V: Join>(
+    blocks: &[(K, Vec<(K, V)>)],
+    key: &K,
+    value: V,
+) -> Result<V, OutOfMemory>
+    requires headed { AreHeaded blocks.now }
+    requires rising { IsRising K.cmp (pairs_of blocks.now) }
+    ensures { IfOk result (λ r. r ≡ joined_onto V.join (lookup K.cmp key.now (pairs_of blocks.now)) value) }
+{
+    match value_at(blocks, key) {
+        Some(there) => there.joined(&value),
+        None => Ok(value),
+    }
+}
+
+// For each key of the right, what the join of both has there, and a spare block where the left lacks the key. O(m log n).
+pub(crate) fn changes<K: Chain, V: Join>(
+    alloc: Global,
+    left: &[(K, Vec<(K, V)>)],
+    right: &[(K, Vec<(K, V)>)],
+) -> Result<Vec<((K, V), Vec<(K, V)>)>, OutOfMemory>
+    requires left_headed { AreHeaded left.now }
+    requires left_rises { IsRising K.cmp (pairs_of left.now) }
+    requires right_headed { AreHeaded right.now }
+    ensures pairs { IfOk result (λ changes. map (λ c. c.0) changes.items ≡ map (joined_pair K.cmp V.join (pairs_of left.now)) (pairs_of right.now)) }
+    ensures spares { IfOk result (λ changes. HaveSpares K.cmp 128 (pairs_of left.now) changes.items) }
+{
+    let mut changes = Vec::new(alloc);
+    let mut rest = Pairs::of(right);
+    'rest: while let Some(pair) = rest.first() {
+        let change = change_at(alloc, left, pair)?;
+        changes.push(change)?;
+        rest.skip_first();
+    }
+    Ok(changes)
+}
+
+fn change_at<K: Chain, V: Join>(
+    alloc: Global,
+    left: &[(K, Vec<(K, V)>)],
+    pair: &(K, V),
+) -> Result<((K, V), Vec<(K, V)>), OutOfMemory>
+    requires headed { AreHeaded left.now }
+    requires rises { IsRising K.cmp (pairs_of left.now) }
+    ensures pair { IfOk result (λ change. change.0 ≡ joined_pair K.cmp V.join (pairs_of left.now) pair.now) }
+    ensures empty { IfOk result (λ change. vec_len change.1 ≡ 0) }
+    ensures spare { IfOk result (λ change. lookup K.cmp pair.now.0 (pairs_of left.now) ≡ None → 128 ≤ vec_capacity change.1) }
+{
+    match value_at(left, &pair.0) {
+        Some(value) => Ok(((pair.0, value.joined(&pair.1)?), Vec::new(alloc))),
+        None => Ok(((pair.0, copied(&pair.1)?), Vec::with_capacity(alloc, FULL)?)),
+    }
+}
+
+// Makes each change, and answers how many pairs there are more. There is room for all, so nothing can fail.
+// O(m log n) and the moves within blocks.
+pub(crate) fn apply<K: Chain, V: Drop>(
+    blocks: &mut Vec<(K, Vec<(K, V)>)>,
+    changes: Vec<((K, V), Vec<(K, V)>)>,
+) -> usize
+    requires some { 0 < vec_len blocks.old }
+    requires headed { AreHeaded blocks.old.items }
+    requires rising { IsRising K.cmp (pairs_of blocks.old.items) }
+    requires spares { HaveSpares K.cmp 128 (pairs_of blocks.old.items) changes.items }
+    requires room { vec_len blocks.old + vec_len changes ≤ vec_capacity blocks.old }
+    ensures pairs { pairs_of blocks.new.items ≡ map_join K.cmp replaced (pairs_of blocks.old.items) (map (λ c. c.0) changes.items) }
+    ensures headed { AreHeaded blocks.new.items }
+    ensures counted { length (pairs_of blocks.new.items) ≡ length (pairs_of blocks.old.items) + result }
+    ensures few { result ≤ vec_len changes }
+{
+    let mut added = 0;
+    for ((key, value), spare) in changes {
+        let at = take_room(blocks, spare, &key);
+        added += write(blocks, at, key, value);
+    }
+    added
+}

@@ -1,0 +1,94 @@
+//! Joins in two steps: a plan, for which memory can be refused, and what carries it out, which cannot fail.
+
+ghost use Rattle.std.specs.Prelude.{◌≡◌, List, true, IfOk, length};
+ghost use Rattle.fm_lattice.specs.Maps.{IsRising, map_join};
+ghost use Rattle.fm_lattice.specs.Blocks.{pairs_of, AreHeaded, IsKept};
+ghost use Rattle.fm_lattice.specs.Plans.{IsReady, outcome};
+
+use crate::chain::Chain;
+use crate::join::{Join, OutOfMemory};
+use crate::merging::{apply, changes, counted, merged};
+
+// Blocks in place of those that are there, or changes of them.
+#[derive(Drop)]
+pub(crate) struct Plan<K: Chain, V: Drop> {
+    pub(crate) aside: bool,
+    pub(crate) whole: Vec<(K, Vec<(K, V)>)>,
+    pub(crate) len: usize,
+    pub(crate) changes: Vec<((K, V), Vec<(K, V)>)>,
+}
+
+// Plans to join the other pairs in: by changes where they are fewer than the blocks here, O(m log n), else by a merge
+// aside, O(n + m).
+pub(crate) fn plan_join<K: Chain, V: Join>(
+    blocks: &mut Vec<(K, Vec<(K, V)>)>,
+    len: usize,
+    other: &[(K, Vec<(K, V)>)],
+    count: usize,
+) -> Result<Plan<K, V>, OutOfMemory>
+    requires here { IsKept K.cmp V.is_value blocks.old.items len }
+    requires there { IsKept K.cmp V.is_value other.now count }
+    ensures items { blocks.new.items ≡ blocks.old.items }
+    ensures ready { IfOk result (λ plan. IsReady K.cmp blocks.new len plan.aside plan.whole.items plan.len plan.changes) }
+    ensures outcome { IfOk result (λ plan. outcome K.cmp (pairs_of blocks.old.items) plan.aside plan.whole.items plan.changes.items ≡ map_join K.cmp V.join (pairs_of blocks.old.items) (pairs_of other.now)) }
+{
+    let alloc = *blocks.allocator();
+    if blocks.is_empty() || blocks.len() < count {
+        return plan_aside(blocks, other);
+    }
+    let changes = changes(alloc, blocks, other)?;
+    if usize::MAX - len < changes.len() {
+        return Err(OutOfMemory);
+    }
+    blocks.reserve(changes.len())?;
+    Ok(Plan {
+        aside: false,
+        whole: Vec::new(alloc),
+        len,
+        changes,
+    })
+}
+
+fn plan_aside<K: Chain, V: Join>(
+    blocks: &Vec<(K, Vec<(K, V)>)>,
+    other: &[(K, Vec<(K, V)>)],
+) -> Result<Plan<K, V>, OutOfMemory>
+    requires here { AreHeaded blocks.now.items }
+    requires there { AreHeaded other.now }
+    requires rises { IsRising K.cmp (pairs_of other.now) }
+    ensures aside { IfOk result (λ plan. plan.aside ≡ true) }
+    ensures headed { IfOk result (λ plan. AreHeaded plan.whole.items) }
+    ensures counted { IfOk result (λ plan. plan.len ≡ length (pairs_of plan.whole.items)) }
+    ensures pairs { IfOk result (λ plan. pairs_of plan.whole.items ≡ map_join K.cmp V.join (pairs_of blocks.now.items) (pairs_of other.now)) }
+{
+    let alloc = *blocks.allocator();
+    let whole = merged(alloc, blocks, other)?;
+    let len = counted(&whole)?;
+    Ok(Plan {
+        aside: true,
+        whole,
+        len,
+        changes: Vec::new(alloc),
+    })
+}
+
+// Carries the plan out, and answers how many pairs there are then.
+pub(crate) fn carry_out<K: Chain, V: Drop>(
+    blocks: &mut Vec<(K, Vec<(K, V)>)>,
+    len: usize,
+    plan: Plan<K, V>,
+) -> usize
+    requires headed { AreHeaded blocks.old.items }
+    requires rising { IsRising K.cmp (pairs_of blocks.old.items) }
+    requires counted { len ≡ length (pairs_of blocks.old.items) }
+    requires ready { IsReady K.cmp blocks.old len plan.aside plan.whole.items plan.len plan.changes }
+    ensures pairs { pairs_of blocks.new.items ≡ outcome K.cmp (pairs_of blocks.old.items) plan.aside plan.whole.items plan.changes.items }
+    ensures headed { AreHeaded blocks.new.items }
+    ensures counted { result ≡ length (pairs_of blocks.new.items) }
+{
+    if plan.aside {
+        *blocks = plan.whole;
+        return plan.len;
+    }
+    len + apply(blocks, plan.changes)
+}
