@@ -6,7 +6,7 @@ use fm_delta::packet::Packet;
 use fm_dimacs::out::Over;
 use fm_policy::rebuilder::Rebuilder;
 use fm_records::ids::{CoordId, JobId, MachineId, TaskId};
-use fm_records::ops::Op;
+use fm_records::ops::{Op, Phase};
 use fm_records::refusal::Refusal;
 use fm_round::listed::Listed;
 use fm_round::parts::{Answer, Place, Plan};
@@ -167,6 +167,30 @@ fn a_commit_places_a_task(rt: HostRuntime) -> Result<(), Fail> {
         Some(MachineId::new(10))
     );
     assert_eq!(rt; node.end(), 4);
+    Ok(())
+}
+
+#[test]
+fn a_spent_attempt_is_not_placed(rt: HostRuntime) -> Result<(), Fail> {
+    let mut node = three_told(rt.alloc())?;
+    let last = Op::Progress {
+        id: TaskId::new(17),
+        attempt: u32::MAX,
+        phase: Phase::Running,
+    };
+    let elsewhere = Op::Propose {
+        id: TaskId::new(17),
+        attempt: u32::MAX,
+        coordinator: 1,
+        machine: MachineId::new(11),
+        incarnation: 1,
+    };
+    assert_eq!(rt; tell(&mut node, last), Ok(()));
+    assert_eq!(rt; tell(&mut node, elsewhere), Ok(()));
+    let answers = placed(rt.alloc(), &mut node)?;
+    assert_eq!(rt; answers.as_slice(), [Answer::AttemptsSpent].as_slice());
+    assert_eq!(rt; node.knowledge().holder(TaskId::new(17)), None);
+    assert_eq!(rt; node.history().len(), 6);
     Ok(())
 }
 

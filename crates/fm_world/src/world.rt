@@ -1,6 +1,6 @@
 //! Coordinators, and every packet that they cut.
 
-ghost use Rattle.std.specs.Prelude.{◌≡◌, [], None, Some, IfOk, IfErr, OnOk, OnErr, MatchOption, map, option_map};
+ghost use Rattle.std.specs.Prelude.{◌≡◌, [], None, Some, IfOk, IfErr, OnOk, OnErr, MatchOption, map, option_map, slice_get};
 ghost use Rattle.fm_net.specs.Network.{net_of};
 ghost use Rattle.fm_dimacs.specs.Sending.{AppendsPrefix, StopsBy};
 ghost use Rattle.fm_dimacs.specs.Text.{dump_text};
@@ -64,6 +64,23 @@ impl<N: NetKeeper> World<N> {
         match place_of(self.coordinators.as_slice(), number.value()) {
             None => None,
             Some(place) => Some(&self.coordinators[place]),
+        }
+    }
+
+    /// The coordinators, as they were handed in.
+    pub fn coordinators(&self) -> &[Coordinator<N>]
+        ensures { map state_of result.now ≡ self.now.coordinators }
+    {
+        self.coordinators.as_slice()
+    }
+
+    /// The packet that was cut as the one with the number, counted from 0 over all coordinators, if there is one.
+    pub fn packet(&self, number: usize) -> Option<&Packet>
+        ensures { option_map (λ packet. packet.now) result ≡ slice_get self.now.packets number }
+    {
+        match self.packets.get(number) {
+            None => None,
+            Some(packet) => Some(packet.get()),
         }
     }
 
