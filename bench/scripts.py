@@ -1,10 +1,11 @@
 #!/usr/bin/env python3
 """Writes the script of a cluster, the same for the same numbers.
 
-    bench/scripts.py --tasks N [--machines N] [--requests N] [--seed N]
+    bench/scripts.py --tasks N [--machines N] [--requests N] [--seed N] [--gossip]
 
 A tenth as many machines as tasks, a job for each fifty tasks, 20 to 50 sizes of requests. Every tenth task is held by a
-proposal, and every fourth machine has reported a use. Ids are random, so that they do not come in order.
+proposal, and every fourth machine has reported a use. Ids are random, so that they do not come in order. All is told to
+coordinator 1; with --gossip there is a second, which is delivered all of that in one packet.
 """
 import argparse
 import json
@@ -13,7 +14,7 @@ import sys
 import uuid
 
 
-def script(tasks, machines=None, requests=None, seed=1):
+def script(tasks, machines=None, requests=None, seed=1, gossip=False):
     """The lines of the script."""
     chance = random.Random("%d %s %s %d" % (tasks, machines, requests, seed))
     machines = machines or max(1, tasks // 10)
@@ -40,10 +41,12 @@ def script(tasks, machines=None, requests=None, seed=1):
                                  "machine": chance.choice(hosts), "incarnation": 1}})
     for host in hosts[::4]:
         told.append({"report": {"id": host, "incarnation": 1, "number": 1, "used": chance.randint(0, 5000)}})
-    yield '{"coordinators":[1],"steps":[\n'
-    for place, op in enumerate(told):
-        step = json.dumps({"at": 1, "tell": op}, separators=(",", ":"))
-        yield step + ("\n" if place + 1 == len(told) else ",\n")
+    steps = [{"at": 1, "tell": op} for op in told]
+    if gossip:
+        steps += [{"at": 1, "cut": {"name": "all"}}, {"at": 2, "deliver": "all"}]
+    yield '{"coordinators":%s,"steps":[\n' % ("[1,2]" if gossip else "[1]")
+    for place, step in enumerate(steps):
+        yield json.dumps(step, separators=(",", ":")) + ("\n" if place + 1 == len(steps) else ",\n")
     yield "]}\n"
 
 
@@ -53,4 +56,5 @@ if __name__ == "__main__":
     words.add_argument("--machines", type=int)
     words.add_argument("--requests", type=int)
     words.add_argument("--seed", type=int, default=1)
+    words.add_argument("--gossip", action="store_true")
     sys.stdout.writelines(script(**vars(words.parse_args())))

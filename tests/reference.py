@@ -1,16 +1,39 @@
 #!/usr/bin/env python3
-"""What `firmament graph` and `firmament winners` are to print, worked out from the script by the rules alone, slowly and
-in another way: every record is the greatest of all that the operations tell, found by going over all of them.
+"""What `firmament graph`, `winners`, `agree` and `pack` are to print, worked out from the script by the rules alone, slowly
+and in another way: a coordinator is the set of all operations that it took in, a packet is the set of those that it stands
+for, and every record is the greatest of all that a set tells, found by going over all of them.
 
-    tests/reference.py graph < SCRIPT
-    tests/reference.py winners < SCRIPT
+    tests/reference.py graph [--at N] < SCRIPT
+    tests/reference.py winners [--at N] < SCRIPT
+    tests/reference.py agree < SCRIPT
+    tests/reference.py pack NAME < SCRIPT
+
+Texts, refusals and statuses are the program's. Rounds are not done: which of several least flows is found is not said, so
+what comes of a round does not follow from the rules alone. The forms of steps are not looked at but for a name that two cuts
+give, and histories have no limit, since no script without rounds is long enough to reach it.
 """
+import argparse
 import collections
 import json
+import struct
 import sys
 import uuid
 
-PHASES = {"pending": 0, "running": 1, "done": 2}
+PHASES = ["pending", "running", "done"]
+
+LIMITS = {"writer": (1, 64), "coordinator": (1, 64), "wait": (0, 10 ** 9), "preempt": (0, 10 ** 9), "request": (0, 10 ** 6),
+          "slots": (1, 1000), "nic": (0, 10 ** 6), "used": (0, 10 ** 9)}
+
+
+class Refused(Exception):
+    """The program stops: the number of the refusal, and the step, where it is one's."""
+
+    def __init__(self, number, step=None):
+        super().__init__("firmament: refusal %d" % number + ("" if step is None else " at step %d" % step))
+
+
+class NotSaid(Exception):
+    """The rules leave open what comes of the script."""
 
 
 def number(text):
@@ -21,20 +44,25 @@ def name(n):
     return str(uuid.UUID(int=n))
 
 
-class Known:
-    """What the operations of a script come to."""
+def raw(n):
+    return n.to_bytes(16, "big")
 
-    def __init__(self, script):
+
+class Known:
+    """What a set of operations comes to."""
+
+    def __init__(self, operations):
         told = collections.defaultdict(list)
-        for step in script["steps"]:
-            (kind, op), = step["tell"].items()
-            told[kind].append(op)
+        for kind, fields in operations:
+            told[kind].append(dict(fields))
         self.jobs = self.greatest(
             (number(o["id"]), (o["version"], o["writer"], o["withdrawn"], o["wait"], o["preempt"])) for o in told["job"])
         self.specs = self.greatest(
             (number(o["id"]), (o["version"], o["writer"], o["withdrawn"], number(o["job"]), o["request"]))
             for o in told["spec"])
-        self.progress = self.greatest((number(o["id"]), (o["attempt"], PHASES[o["phase"]])) for o in told["progress"])
+        self.progress = {task: (0, 0) for task in self.specs}
+        self.progress.update(self.greatest(
+            (number(o["id"]), (o["attempt"], PHASES.index(o["phase"]))) for o in told["progress"]))
         self.incarnations = self.greatest(
             (number(o["id"]), o["incarnation"]) for o in told["machine"] + told["report"])
         self.states = self.greatest(
@@ -42,14 +70,17 @@ class Known:
             for o in told["machine"] if self.is_now(o))
         self.reports = self.greatest(
             (number(o["id"]), (o["number"], o["used"])) for o in told["report"] if self.is_now(o))
-        spots = {}
+        self.spots = {}
         for o in told["propose"]:
             at = (number(o["id"]), o["attempt"], o["coordinator"])
             spot = (number(o["machine"]), o["incarnation"])
-            spots[at] = min(spots.get(at, spot), spot)
+            self.spots[at] = min(self.spots.get(at, spot), spot)
         self.winners = {}
-        for task, attempt, coordinator in sorted(spots, reverse=True):
-            self.winners[task, attempt] = (coordinator,) + spots[task, attempt, coordinator]
+        for task, attempt, coordinator in sorted(self.spots, reverse=True):
+            self.winners[task, attempt] = (coordinator,) + self.spots[task, attempt, coordinator]
+
+    def __eq__(self, other):
+        return vars(self) == vars(other)
 
     def is_now(self, op):
         return op["incarnation"] == self.incarnations[number(op["id"])]
@@ -68,7 +99,7 @@ class Known:
         if task not in self.specs or self.specs[task][2]:
             return False
         job = self.specs[task][3]
-        return job in self.jobs and not self.jobs[job][2] and self.progress.get(task, (0, 0))[1] != 2
+        return job in self.jobs and not self.jobs[job][2] and self.progress[task][1] != 2
 
     def is_open(self, machine):
         return machine in self.states and self.states[machine][2]
@@ -79,6 +110,78 @@ class Known:
             return None
         _, machine, incarnation = winner
         return machine if self.is_open(machine) and self.incarnations[machine] == incarnation else None
+
+
+class Coordinator:
+    """What a coordinator took in, the sets by which it did, below which of these it keeps none, and how many packets it cut."""
+
+    def __init__(self):
+        self.taken, self.sets, self.floor, self.cuts = set(), [], 0, 0
+
+    def take(self, operations):
+        self.taken |= operations
+        self.sets.append(operations)
+
+
+Packet = collections.namedtuple("Packet", "sender number operations")
+
+
+class World:
+    """What the steps of a script come to. Each act answers the number of its refusal, if it is refused."""
+
+    def __init__(self, script):
+        self.coordinators = {number: Coordinator() for number in script["coordinators"]}
+        self.packets = {}
+        for place, step in enumerate(script["steps"], 1):
+            refused = self.act(**step)
+            if refused:
+                raise Refused(refused, place)
+
+    def act(self, at, **act):
+        (kind, asked), = act.items()
+        return getattr(self, kind)(at, asked) if at in self.coordinators else 8
+
+    def tell(self, at, asked):
+        (kind, fields), = asked.items()
+        for field, (least, most) in LIMITS.items():
+            if field in fields and not least <= fields[field] <= most:
+                return 2
+        self.coordinators[at].take({(kind, frozenset(fields.items()))})
+
+    def cut(self, at, asked):
+        sender = self.coordinators[at]
+        operations = set(sender.taken)
+        if "from" in asked:
+            start, end = asked["from"], asked["to"]
+            if start > end or end > len(sender.sets):
+                return 4
+            if start < sender.floor:
+                return 5
+            operations = set().union(*sender.sets[start:end])
+        sender.cuts += 1
+        self.packets[asked["name"]] = Packet(at, sender.cuts, operations)
+
+    def deliver(self, at, asked):
+        if asked not in self.packets:
+            return 9
+        self.coordinators[at].take(self.packets[asked].operations)
+
+    def trim(self, at, asked):
+        if not self.coordinators[at].floor <= asked <= len(self.coordinators[at].sets):
+            return 4
+        self.coordinators[at].floor = asked
+
+    def round(self, at, asked):
+        raise NotSaid("which least flow a round finds is not said")
+
+
+def check_names(script):
+    """No two cuts give one name."""
+    names = set()
+    for place, step in enumerate(script["steps"], 1):
+        if "cut" in step and step["cut"]["name"] in names:
+            raise Refused(16, place)
+        names |= {step["cut"]["name"]} if "cut" in step else set()
 
 
 def winners(known):
@@ -141,6 +244,109 @@ def graph(known):
         yield "a %d %d 0 %d %d\n" % (ids[source], ids[target], capacity, cost)
 
 
+def job_record(known, job):
+    """A record's lines, and its bytes; and so below."""
+    version, writer, withdrawn, wait, preempt = known.jobs[job]
+    line = "job %s %d %d %s %d %d\n" % (name(job), version, writer, json.dumps(withdrawn), wait, preempt)
+    return line, struct.pack(">16sQBBII", raw(job), version, writer, withdrawn, wait, preempt)
+
+
+def task_record(known, task):
+    attempt, phase = known.progress[task]
+    lines = "task %s %d %s\n" % (name(task), attempt, PHASES[phase])
+    spelled = struct.pack(">16sIBB", raw(task), attempt, phase, task in known.specs)
+    if task in known.specs:
+        version, writer, withdrawn, job, request = known.specs[task]
+        lines += "spec %s %d %d %s %s %d\n" % (name(task), version, writer, json.dumps(withdrawn), name(job), request)
+        spelled += struct.pack(">QBB16sI", version, writer, withdrawn, raw(job), request)
+    return lines, spelled
+
+
+def machine_record(known, machine):
+    incarnation = known.incarnations[machine]
+    lines = "machine %s %d\n" % (name(machine), incarnation)
+    parts = (machine in known.states) + 2 * (machine in known.reports)
+    spelled = struct.pack(">16sQB", raw(machine), incarnation, parts)
+    if machine in known.states:
+        version, writer, up, slots, nic = known.states[machine]
+        lines += "state %s %d %d %s %d %d\n" % (name(machine), version, writer, json.dumps(up), slots, nic)
+        spelled += struct.pack(">QBBII", version, writer, up, slots, nic)
+    if machine in known.reports:
+        count, used = known.reports[machine]
+        lines += "report %s %d %d\n" % (name(machine), count, used)
+        spelled += struct.pack(">QI", count, used)
+    return lines, spelled
+
+
+def proposal_record(known, at):
+    (task, attempt, coordinator), (machine, incarnation) = at, known.spots[at]
+    line = "propose %s %d %d %s %d\n" % (name(task), attempt, coordinator, name(machine), incarnation)
+    return line, struct.pack(">16sIB16sQ", raw(task), attempt, coordinator, raw(machine), incarnation)
+
+
+def packed(packet):
+    """The packet's lines, as `unpack` prints them, and its bytes in hexadecimal digits, as `pack` does."""
+    known = Known(packet.operations)
+    lines, spelled = "packet %d %d\n" % packet[:2], struct.pack(">4sBQ", b"FDG1", *packet[:2])
+    for keys, record in ((known.jobs, job_record), (known.progress, task_record),
+                         (known.incarnations, machine_record), (known.spots, proposal_record)):
+        spelled += struct.pack(">Q", len(keys))
+        for key in sorted(keys):
+            line, some = record(known, key)
+            lines, spelled = lines + line, spelled + some
+    return lines, spelled.hex() + "\n"
+
+
+def agree(world):
+    """The status, and the text: the first coordinator listed, and the first that knows something else."""
+    known = {number: Known(coordinator.taken) for number, coordinator in world.coordinators.items()}
+    first = next(iter(known))
+    for other in known:
+        if known[other] != known[first]:
+            return 5, "differ %d %d\n" % (first, other)
+    return 0, "same\n"
+
+
+def read_words(words):
+    parser = argparse.ArgumentParser(description=__doc__, formatter_class=argparse.RawDescriptionHelpFormatter)
+    commands = parser.add_subparsers(dest="command", required=True)
+    for command in ("graph", "winners"):
+        commands.add_parser(command).add_argument("--at", type=int)
+    commands.add_parser("agree")
+    commands.add_parser("pack").add_argument("name")
+    return parser.parse_args(words)
+
+
+def asked(words, script):
+    """The status, and what is printed."""
+    check_names(script)
+    at = getattr(words, "at", None)
+    at = script["coordinators"][0] if at is None else at
+    if at not in script["coordinators"]:
+        raise Refused(8)
+    world = World(script)
+    if words.command == "agree":
+        return agree(world)
+    if words.command == "pack":
+        if words.name not in world.packets:
+            raise Refused(9)
+        return 0, packed(world.packets[words.name])[1]
+    return 0, "".join({"graph": graph, "winners": winners}[words.command](Known(world.coordinators[at].taken)))
+
+
+def answer(words, script):
+    """The status, and the texts on standard output and standard error, of a run with the words on the text of a script."""
+    try:
+        return asked(read_words(words), json.loads(script)) + ("",)
+    except Refused as refused:
+        return 3, "", "%s\n" % refused
+
+
 if __name__ == "__main__":
-    known = Known(json.load(sys.stdin))
-    sys.stdout.writelines({"graph": graph, "winners": winners}[sys.argv[1]](known))
+    try:
+        status, out, err = answer(sys.argv[1:], sys.stdin.read())
+    except NotSaid as why:
+        sys.exit("tests/reference.py: %s" % why)
+    sys.stdout.write(out)
+    sys.stderr.write(err)
+    sys.exit(status)

@@ -1,4 +1,8 @@
 pub mod Views
-pub mod Running
-pub mod Stopping
+pub mod Naming
+pub mod Spelling
 pub mod Solving
+pub mod Rounds
+pub mod Opening
+pub mod Coming
+pub mod Asking

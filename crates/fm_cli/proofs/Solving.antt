@@ -11,7 +11,7 @@ use Rattle.fm_dimacs.specs.Sending.{AppendsPrefix, StopsBy}
 use Rattle.fm_dimacs.specs.Solution.{solution_text}
 use Rattle.fm_cli.specs.declared.fault.Fault.{Fault}
 use Rattle.fm_cli.specs.Faults.{fault_of}
-use Rattle.fm_cli.specs.Output.{IsSolved, StopsSolving, LeavesUnsolved}
+use Rattle.fm_cli.specs.Output.{IsSolved, LeavesUnsolved}
 
 -- a least flow's text that is written is a solution
 pub solved : {T : Type 0} (r : Result T Refusal) (net wanted : Net) (units : Units) (old new : Option (List ℕ)) → net ≡ wanted → IsLeast net units → OnOk r (Appends old new (solution_text net units)) → OnOk r (IsSolved wanted old new)
@@ -22,12 +22,3 @@ solved (Err e) net wanted units old new is least written = tt
 pub cut_short : {T : Type 0} (r : Result T Refusal) (net wanted : Net) (units : Units) (old new : Option (List ℕ)) (had has : Bool) → net ≡ wanted → IsLeast net units → OnErr r (AppendsPrefix old new (solution_text net units)) → IfErr r (λ e. StopsBy e had has) → IfErr r (λ e. LeavesUnsolved e old new had has wanted)
 cut_short (Ok x) net wanted units old new had has is least prefix cause = tt
 cut_short (Err e) net wanted units old new had has is least prefix cause = subst (λ n. LeavesUnsolved e old new had has n) is (inr (record { units = units; least = least; prefix = prefix; cause = cause }))
-
--- after all steps were accepted
-pub stops_later : {T : Type 0} (r : Result T Fault) (refusal : Refusal) (refused : Option Fault) (old new : Option (List ℕ)) (had has : Bool) (net wanted : Net) → IsErrAnd r (λ e. e ≡ fault_of refusal) → refused ≡ None → net ≡ wanted → LeavesUnsolved refusal old new had has net → IfErr r (λ e. StopsSolving e refused old new had has wanted)
-stops_later (Ok x) refusal refused old new had has net wanted is accepted same leaves = tt
-stops_later (Err e) refusal refused old new had has net wanted is accepted same leaves = inr (inr (record { refusal = refusal; named = is; accepted = accepted; leaves = subst (λ n. LeavesUnsolved refusal old new had has n) same leaves }))
-
--- a solution for one table is one for the same table
-pub solved_of : (k l : Table) (old new : Option (List ℕ)) → k ≡ l → IsSolved (net_of k) old new → IsSolved (net_of l) old new
-solved_of k l old new is h = subst (λ (t : Table). IsSolved (net_of t) old new) is h

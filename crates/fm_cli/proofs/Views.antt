@@ -1,10 +1,9 @@
 -- What `serde_json`'s views of lists and members are, as lists.
-use Rattle.std.proofs.Common.{◌≡◌, suc, ◌≤◌, List, [], ◌∷◌, length, map, None, String, Global, refl, ap, arith}
+use Rattle.std.proofs.Common.{◌≡◌, suc, List, [], ◌∷◌, length, String, Global, refl, ap}
 use Rattle.serde_json.specs.Data.{Data}
-use Rattle.serde_json.specs.View.{view, items_of, members_view}
+use Rattle.serde_json.specs.View.{items_of, members_view}
 use Rattle.serde_json.specs.declared.value.Value.{Value}
 use Rattle.fm_cli.specs.Json.{count_of, list_of}
-use Rattle.fm_cli.specs.Script.{lone_coordinator}
 
 -- an object has as many members as its map has entries
 pub count_of-members_view : (es : List (String Global × Value)) → count_of (members_view es) ≡ length es
@@ -15,9 +14,3 @@ count_of-members_view (e ∷ es) = ap suc (count_of-members_view es)
 pub list_of-items_of : (ds : List Data) → list_of (items_of ds) ≡ ds
 list_of-items_of [] = refl
 list_of-items_of (d ∷ ds) = ap (λ xs. d ∷ xs) (list_of-items_of ds)
-
--- two items or more are no lone one
-pub lone_coordinator-many : (vs : List Value) → 2 ≤ length vs → lone_coordinator (map view vs) ≡ None
-lone_coordinator-many [] many = absurd (omega arith)
-lone_coordinator-many (v ∷ []) many = absurd (omega arith)
-lone_coordinator-many (v ∷ w ∷ vs) many = refl

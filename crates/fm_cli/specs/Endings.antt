@@ -3,13 +3,14 @@ use Rattle.std.specs.Prelude.{ℕ, List, [], ◌∷◌, cond, Option, Some, None
 use Rattle.fm_records.specs.declared.refusal.Refusal.TheVariants.{NoCoordinator}
 use Rattle.fm_cli.specs.declared.fault.Fault.{Fault}
 use Rattle.fm_cli.specs.declared.serve.Ending.{Ending}
-use Rattle.fm_cli.specs.declared.serve.Ending.TheVariants.{Done, Wrong, Stopped}
+use Rattle.fm_cli.specs.declared.serve.Ending.TheVariants.{Done, Differ, Wrong, Stopped}
 use Rattle.fm_cli.specs.Faults.{fault_of, status_of}
-use Rattle.fm_cli.specs.Steps.{is_listed}
+use Rattle.fm_cli.specs.Script.{is_listed}
 
--- 0 where all is done, 2 where the words were wrong, and else the fault's status
+-- 0 where all is done, 5 where coordinators do not know the same, 2 where the words were wrong, and else the fault's status
 abbrev pub ending_status : Ending → ℕ
 ending_status Done = 0
+ending_status Differ = 5
 ending_status (Wrong text) = 2
 ending_status (Stopped fault) = status_of fault.refusal
 

@@ -14,9 +14,13 @@ given (Some a) f = f a
 abbrev pub below : ℕ → ℕ → Option ℕ
 below bound n = when (nat_lt n bound) n
 
+-- the whole number that a value is, of 64 bits
+abbrev pub whole_of : Data → Option ℕ
+whole_of d = given (as_number d) as_u64
+
 -- the whole number in the member of the name, and the same where it fits a type of fewer bits
 abbrev pub number_at : List ℕ → Data → Option ℕ
-number_at name d = given (get name d) (λ v. given (as_number v) as_u64)
+number_at name d = given (get name d) whole_of
 
 abbrev pub number_32_at : List ℕ → Data → Option ℕ
 number_32_at name d = given (number_at name d) (below (2 ^ 32))

@@ -1,7 +1,7 @@
 pub mod Json
 pub mod Script
 pub mod Faults
-pub mod Steps
+pub mod Running
 pub mod Winners
 pub mod Output
 pub mod Endings

@@ -1,9 +1,12 @@
-//! The program `firmament`: runs a script of operations, and writes the network of what they come to, or who won.
+//! The program `firmament`: runs a script on a world of coordinators, and writes what is asked for.
 #![tactic(auto)]
 
+mod agree;
 mod fault;
 mod input;
+mod names;
 mod output;
+mod pack;
 mod reading;
 mod run;
 mod script;
@@ -15,6 +18,7 @@ mod words;
 use fault::Fault;
 use fm_records::refusal::Refusal;
 use serve::{Ending, serve};
+use std::alloc::Global;
 use std::process::ExitCode;
 use std::{env, io};
 
@@ -26,20 +30,31 @@ fn main(rt: HostRuntime) -> ExitCode {
             &mut rt.reader(),
             &mut io::writer(&rt),
         ),
-        Err(fault) => Ending::Stopped(fault),
+        Err(ending) => ending,
     };
     let status = ending.status();
     let _ = eprint!(rt; "{ending}");
     ExitCode::from(status)
 }
 
-// The words of the command line.
-fn given_words(rt: &HostRuntime) -> Result<Vec<String>, Fault> {
-    let Ok(words) = env::args(rt) else {
-        return Err(Fault::from(Refusal::OutOfMemory));
-    };
-    match words.collect(rt.alloc()) {
-        Ok(words) => Ok(words),
-        Err(_) => Err(Fault::from(Refusal::OutOfMemory)),
+// The words of the command line. Those that are no text are wrong.
+fn given_words(rt: &HostRuntime) -> Result<Vec<String>, Ending> {
+    match env::args(rt) {
+        Ok(words) => match words.collect(rt.alloc()) {
+            Ok(words) => Ok(words),
+            Err(_) => Err(Ending::Stopped(Fault::from(Refusal::OutOfMemory))),
+        },
+        Err(error) => Err(no_words(rt.alloc(), error.kind())),
     }
+}
+
+// How a run ends whose words cannot be read: one is no UTF-8, or memory is wanted.
+fn no_words(alloc: Global, kind: io::ErrorKind) -> Ending {
+    if kind == io::ErrorKind::InvalidData {
+        let text = "error: a word of the command line is not UTF-8\n\nFor more information, try '--help'.\n";
+        if let Ok(text) = String::from_str(alloc, text) {
+            return Ending::Wrong(text);
+        }
+    }
+    Ending::Stopped(Fault::from(Refusal::OutOfMemory))
 }

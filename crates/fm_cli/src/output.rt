@@ -1,59 +1,108 @@
-//! What a script's steps come to, written out: the network, and who won.
+//! What is asked once a script's steps ran, written out.
 
-ghost use Rattle.std.specs.Prelude.{◌≡◌, ◌⊎◌, None, Some, IfOk, IfErr, OnOk};
+ghost use Rattle.std.specs.Prelude.{◌≡◌, ◌↔◌, None, Some, IsTrue, IfOk, IfErr, OnOk};
 ghost use Rattle.std.specs.Io.KnownBytes.{Appends};
+ghost use Rattle.fm_records.specs.declared.refusal.Refusal.TheVariants as refused;
 ghost use Rattle.fm_net.specs.Network.{net_of};
-ghost use Rattle.fm_cli.specs.Faults.{fault_of};
-ghost use Rattle.fm_cli.specs.Steps.{first_refused};
-ghost use Rattle.fm_cli.specs.Output.{network_at, graph_text, winners_of, IsSolved, Stops, LeavesUnsolved, StopsSolving};
+ghost use Rattle.fm_world.specs.Agreement.{IsDumpOf};
+ghost use Rattle.fm_world.specs.Stands.{WorldStandsFor};
+ghost use Rattle.fm_world.specs.Worlds.{AreDistinct, WorldOfSets, with_number};
+ghost use Rattle.fm_cli.specs.Output.{After, Writes, Leaves, LeavesSolution, LeavesUnsolved, Ends, IsSolved, IsSolvedAt, graph_of, winners_of, difference, agreement_text, packet_named, packet_at, packet_line};
 
+use crate::agree::{difference, write_agreement};
 use crate::fault::Fault;
-use crate::run::knowledge_of;
+use crate::pack::write_packet;
+use crate::run::run;
 use crate::script::Script;
 use crate::winners::write_winners;
-use fm_dimacs::dump::dump;
 use fm_dimacs::out::Out;
 use fm_dimacs::solution::write_solution;
 use fm_flow::solve::solve;
 use fm_know::knowledge::Knowledge;
 use fm_know::laws::law_can_be;
-use fm_net::network::Network;
 use fm_policy::build::build;
+use fm_policy::rebuilder::Rebuilder;
+use fm_records::ids::CoordId;
 use fm_records::refusal::Refusal;
+use fm_world::world::World;
 use std::alloc::Global;
 
-/// Writes the network of what the coordinator knows once the script's steps have run. A refusal names the step that is
-/// refused, after which nothing is written, or is want of memory or of a writer, after which a prefix is.
-pub fn graph<W: Out>(alloc: Global, script: &Script, at: u8, out: &mut W) -> Result<(), Fault>
-    ensures ok { OnOk result (Appends (W.written out.old) (W.written out.new) (graph_text at script.now.steps.items)) }
-    ensures accepted { OnOk result (first_refused script.now.coordinators.items 1 script.now.steps.items ≡ None) }
-    ensures err { IfErr result (λ f. Stops f (first_refused script.now.coordinators.items 1 script.now.steps.items) (W.written out.old) (W.written out.new) (W.has_failed out.old) (W.has_failed out.new) (graph_text at script.now.steps.items)) }
+/// Runs the script's steps, and writes the network of all that the coordinator took in. A step that is refused is named, and
+/// then nothing is written; a refusal after them all is want of memory or a writer's fault, and then a prefix is.
+pub fn graph<W: Out>(alloc: Global, script: &Script, at: CoordId, out: &mut W) -> Result<(), Fault>
+    requires { AreDistinct script.now.coordinators.items }
+    ensures ok { OnOk result (After script.now.coordinators.items script.now.steps.items (λ w. IsDumpOf (with_number w.replicas at) (W.written out.old) (W.written out.new))) }
+    ensures err { IfErr result (λ fault. Ends script.now.coordinators.items script.now.steps.items fault (W.written out.old) (W.written out.new) (λ refusal w. Leaves refused.NoCoordinator (with_number w.replicas at) graph_of refusal (W.written out.old) (W.written out.new) (W.has_failed out.old) (W.has_failed out.new))) }
 {
-    let network = network_of(alloc, script, at)?;
-    dump(alloc, &network, out)?;
+    let mut world = run(alloc, script)?;
+    world.dump(at, out)?;
     Ok(())
 }
 
-// The network of what the coordinator knows once the script's steps have run.
-fn network_of(alloc: Global, script: &Script, at: u8) -> Result<Network, Fault>
-    ensures known { IfOk result (λ net. net ≡ network_at at script.now.steps.items) }
-    ensures accepted { OnOk result (first_refused script.now.coordinators.items 1 script.now.steps.items ≡ None) }
-    ensures err { IfErr result (λ f. (f ≡ fault_of Refusal.OutOfMemory) ⊎ (first_refused script.now.coordinators.items 1 script.now.steps.items ≡ Some f)) }
+/// Runs the script's steps, and writes who won the present attempt of each task, by all that the coordinator took in.
+/// Refused as `graph` is.
+pub fn winners<W: Out>(
+    alloc: Global,
+    script: &Script,
+    at: CoordId,
+    out: &mut W,
+) -> Result<(), Fault>
+    requires { AreDistinct script.now.coordinators.items }
+    ensures ok { OnOk result (After script.now.coordinators.items script.now.steps.items (λ w. Writes (with_number w.replicas at) winners_of (W.written out.old) (W.written out.new))) }
+    ensures err { IfErr result (λ fault. Ends script.now.coordinators.items script.now.steps.items fault (W.written out.old) (W.written out.new) (λ refusal w. Leaves refused.NoCoordinator (with_number w.replicas at) winners_of refusal (W.written out.old) (W.written out.new) (W.has_failed out.old) (W.has_failed out.new))) }
 {
-    let knowledge = knowledge_of(alloc, script, at)?;
-    Ok(build(alloc, &knowledge)?)
+    let world = run(alloc, script)?;
+    put_winners(alloc, &world, at, out)?;
+    Ok(())
 }
 
-/// Writes a least flow of the network of what the coordinator knows once the script's steps have run, with its cost.
-/// A refusal is as `graph`'s, or Uncertified where the solver's result did not pass its check; then nothing is written.
-pub fn solution<W: Out>(alloc: Global, script: &Script, at: u8, out: &mut W) -> Result<(), Fault>
-    ensures ok { OnOk result (IsSolved (network_at at script.now.steps.items) (W.written out.old) (W.written out.new)) }
-    ensures accepted { OnOk result (first_refused script.now.coordinators.items 1 script.now.steps.items ≡ None) }
-    ensures err { IfErr result (λ f. StopsSolving f (first_refused script.now.coordinators.items 1 script.now.steps.items) (W.written out.old) (W.written out.new) (W.has_failed out.old) (W.has_failed out.new) (network_at at script.now.steps.items)) }
+// Writes who won by what the coordinator knows.
+fn put_winners<W: Out>(
+    alloc: Global,
+    world: &World<Rebuilder>,
+    at: CoordId,
+    out: &mut W,
+) -> Result<(), Refusal>
+    ensures ok { (w : WorldOfSets) → WorldStandsFor world.now w → OnOk result (Writes (with_number w.replicas at) winners_of (W.written out.old) (W.written out.new)) }
+    ensures err { (w : WorldOfSets) → WorldStandsFor world.now w → IfErr result (λ refusal. Leaves refused.NoCoordinator (with_number w.replicas at) winners_of refusal (W.written out.old) (W.written out.new) (W.has_failed out.old) (W.has_failed out.new)) }
 {
-    let knowledge = knowledge_of(alloc, script, at)?;
-    write_least(alloc, &knowledge, out)?;
+    match world.coordinator(at) {
+        None => Err(Refusal::NoCoordinator),
+        Some(coordinator) => write_winners(alloc, coordinator.knowledge(), out),
+    }
+}
+
+/// Runs the script's steps, and writes a least flow of the network of all that the coordinator took in, its cost first.
+/// Refused as `graph` is, or by Uncertified where the solver's result did not pass its check; then nothing is written.
+pub fn solution<W: Out>(
+    alloc: Global,
+    script: &Script,
+    at: CoordId,
+    out: &mut W,
+) -> Result<(), Fault>
+    requires { AreDistinct script.now.coordinators.items }
+    ensures ok { OnOk result (After script.now.coordinators.items script.now.steps.items (λ w. IsSolvedAt (with_number w.replicas at) (W.written out.old) (W.written out.new))) }
+    ensures err { IfErr result (λ fault. Ends script.now.coordinators.items script.now.steps.items fault (W.written out.old) (W.written out.new) (λ refusal w. LeavesSolution (with_number w.replicas at) refusal (W.written out.old) (W.written out.new) (W.has_failed out.old) (W.has_failed out.new))) }
+{
+    let world = run(alloc, script)?;
+    put_solution(alloc, &world, at, out)?;
     Ok(())
+}
+
+// Writes a least flow of the network of what the coordinator knows.
+fn put_solution<W: Out>(
+    alloc: Global,
+    world: &World<Rebuilder>,
+    at: CoordId,
+    out: &mut W,
+) -> Result<(), Refusal>
+    ensures ok { (w : WorldOfSets) → WorldStandsFor world.now w → OnOk result (IsSolvedAt (with_number w.replicas at) (W.written out.old) (W.written out.new)) }
+    ensures err { (w : WorldOfSets) → WorldStandsFor world.now w → IfErr result (λ refusal. LeavesSolution (with_number w.replicas at) refusal (W.written out.old) (W.written out.new) (W.has_failed out.old) (W.has_failed out.new)) }
+{
+    match world.coordinator(at) {
+        None => Err(Refusal::NoCoordinator),
+        Some(coordinator) => write_least(alloc, coordinator.knowledge(), out),
+    }
 }
 
 // Writes a least flow of the network of what is known.
@@ -67,14 +116,46 @@ fn write_least<W: Out>(alloc: Global, knowledge: &Knowledge, out: &mut W) -> Res
     write_solution(alloc, &network, &flow, out)
 }
 
-/// Writes who won the present attempt of each task, by what the coordinator knows once the script's steps have run.
-/// A refusal is as `graph`'s.
-pub fn winners<W: Out>(alloc: Global, script: &Script, at: u8, out: &mut W) -> Result<(), Fault>
-    ensures ok { OnOk result (Appends (W.written out.old) (W.written out.new) (winners_of at script.now.steps.items)) }
-    ensures accepted { OnOk result (first_refused script.now.coordinators.items 1 script.now.steps.items ≡ None) }
-    ensures err { IfErr result (λ f. Stops f (first_refused script.now.coordinators.items 1 script.now.steps.items) (W.written out.old) (W.written out.new) (W.has_failed out.old) (W.has_failed out.new) (winners_of at script.now.steps.items)) }
+/// Runs the script's steps, writes `same` where all coordinators know the same, and else `differ A B`: the first listed and
+/// the first that knows something else; and answers whether they know the same. Refused as `graph` is.
+pub fn agreement<W: Out>(alloc: Global, script: &Script, out: &mut W) -> Result<bool, Fault>
+    requires { AreDistinct script.now.coordinators.items }
+    ensures ok { IfOk result (λ same. After script.now.coordinators.items script.now.steps.items (λ w. (IsTrue same ↔ (difference w.replicas ≡ None)) × Appends (W.written out.old) (W.written out.new) (agreement_text (difference w.replicas)))) }
+    ensures err { IfErr result (λ fault. Ends script.now.coordinators.items script.now.steps.items fault (W.written out.old) (W.written out.new) (λ refusal w. Leaves refused.NoCoordinator (Some w) (λ v. agreement_text (difference v.replicas)) refusal (W.written out.old) (W.written out.new) (W.has_failed out.old) (W.has_failed out.new))) }
 {
-    let knowledge = knowledge_of(alloc, script, at)?;
-    write_winners(alloc, &knowledge, out)?;
+    let world = run(alloc, script)?;
+    let found = difference(&world);
+    write_agreement(alloc, found, out)?;
+    Ok(found.is_none())
+}
+
+/// Runs the script's steps, and writes the bytes of the packet that was cut under the name in hexadecimal digits, as a line.
+/// Refused as `graph` is, or by NoPacket where no packet has the name; then nothing is written.
+pub fn packet<W: Out>(alloc: Global, script: &Script, name: &str, out: &mut W) -> Result<(), Fault>
+    requires { AreDistinct script.now.coordinators.items }
+    ensures ok { OnOk result (After script.now.coordinators.items script.now.steps.items (λ w. Writes (packet_named script.now.names name.now w) packet_line (W.written out.old) (W.written out.new))) }
+    ensures err { IfErr result (λ fault. Ends script.now.coordinators.items script.now.steps.items fault (W.written out.old) (W.written out.new) (λ refusal w. Leaves refused.NoPacket (packet_named script.now.names name.now w) packet_line refusal (W.written out.old) (W.written out.new) (W.has_failed out.old) (W.has_failed out.new))) }
+{
+    let world = run(alloc, script)?;
+    put_packet(alloc, &world, script.names.place(name), out)?;
     Ok(())
+}
+
+// Writes the packet that was cut as the one with the number.
+fn put_packet<W: Out>(
+    alloc: Global,
+    world: &World<Rebuilder>,
+    number: Option<usize>,
+    out: &mut W,
+) -> Result<(), Refusal>
+    ensures ok { (w : WorldOfSets) → WorldStandsFor world.now w → OnOk result (Writes (packet_at w number) packet_line (W.written out.old) (W.written out.new)) }
+    ensures err { (w : WorldOfSets) → WorldStandsFor world.now w → IfErr result (λ refusal. Leaves refused.NoPacket (packet_at w number) packet_line refusal (W.written out.old) (W.written out.new) (W.has_failed out.old) (W.has_failed out.new)) }
+{
+    let Some(number) = number else {
+        return Err(Refusal::NoPacket);
+    };
+    match world.packet(number) {
+        None => Err(Refusal::NoPacket),
+        Some(packet) => write_packet(alloc, packet, out),
+    }
 }

@@ -1,101 +1,124 @@
-//! Running a script's steps, and what is asked of what they come to.
+//! Running a script's steps on a world of its coordinators.
 
-ghost use Rattle.std.specs.Prelude.{◌≡◌, ◌⊎◌, ◌++◌, ◌∷◌, [], if◌then◌else◌, IsOkUnless, None, Some, IsTrue, IfOk, IfErr, OnOk, is_none, option_map};
-ghost use Rattle.std.specs.List.{list_all};
-ghost use Rattle.fm_records.specs.Ops.{op_fault};
-ghost use Rattle.fm_records.specs.Know.{know};
-ghost use Rattle.fm_cli.specs.Faults.{fault_of};
-ghost use Rattle.fm_cli.specs.Steps.{is_listed, step_fault, first_refused, told_to, op_told};
+ghost use Rattle.std.specs.Prelude.{◌≡◌, ◌⊎◌, ℕ, IfOk, IfErr, OnOk};
+ghost use Rattle.fm_net.specs.Network.{net_of};
+ghost use Rattle.fm_world.specs.declared.step.Act.TheVariants as world_act;
+ghost use Rattle.fm_world.specs.Worlds.{AreDistinct, WorldOfSets, refusal_of};
+ghost use Rattle.fm_world.specs.Stands.{WorldStandsFor};
+ghost use Rattle.fm_cli.specs.declared.script.Act.TheVariants as script_act;
+ghost use Rattle.fm_cli.specs.Running.{opened, step_at, IsPlanOf, Takes, Acts, Come, Refuses, StopsIn, Stops, IsRun};
 
 use crate::fault::Fault;
 use crate::script::{Act, Script, Step};
-use fm_know::knowledge::Knowledge;
-use fm_lattice::join::{Join, OutOfMemory};
-use fm_records::ops::Op;
+use fm_coord::coordinator::Coordinator;
+use fm_coord::view::View;
+use fm_flow::solve::solve;
+use fm_know::laws::law_can_be;
+use fm_lattice::join::OutOfMemory;
+use fm_policy::rebuilder::Rebuilder;
+use fm_records::ids::CoordId;
 use fm_records::refusal::Refusal;
+use fm_round::parts::Plan;
+use fm_round::plan::plan;
+use fm_world::step::{Act as WorldAct, Step as WorldStep};
+use fm_world::world::World;
 use std::alloc::Global;
 
-// How many operations are told one after another.
-const FEW: usize = 64;
+/// How many entries a coordinator's history may have.
+pub const HISTORY_LIMIT: usize = 1_000_000;
 
-/// What the coordinator knows once the script's steps have run. The first step that is refused is named: by
-/// `NoCoordinator` where the script does not list its coordinator, else by `BadOp`.
-pub fn knowledge_of(alloc: Global, script: &Script, at: u8) -> Result<Knowledge, Fault>
-    ensures known { IfOk result (λ k. k ≡ know (told_to at script.now.steps.items)) }
-    ensures accepted { OnOk result (first_refused script.now.coordinators.items 1 script.now.steps.items ≡ None) }
-    ensures err { IfErr result (λ f. (f ≡ fault_of Refusal.OutOfMemory) ⊎ (first_refused script.now.coordinators.items 1 script.now.steps.items ≡ Some f)) }
+/// The world that the script's steps come to. A step that is refused is named: by NoCoordinator where its coordinator is not
+/// listed, by NoPacket where no packet of the name was cut, else as the coordinator's call, and a round also by Uncertified.
+/// Else only memory is wanted. The caller owes that no two coordinators have one number.
+pub fn run(alloc: Global, script: &Script) -> Result<World<Rebuilder>, Fault>
+    requires { AreDistinct script.now.coordinators.items }
+    ensures ok { IfOk result (λ world. IsRun script.now.coordinators.items script.now.steps.items world) }
+    ensures err { IfErr result (λ fault. Stops script.now.coordinators.items script.now.steps.items fault) }
 {
-    let told = told_in(alloc, &script.coordinators, &script.steps, at)?;
-    Ok(known(alloc, &told)?)
+    let mut world = open(alloc, &script.coordinators)?;
+    take_all(alloc, &mut world, &script.steps)?;
+    Ok(world)
 }
 
-// What the operations come to. Told one after another, each is put into the middle of what is known; so of many, the
-// halves are joined, and n operations take O(n log n).
-fn known(alloc: Global, ops: &[Op]) -> Result<Knowledge, OutOfMemory>
-    requires { IsTrue (list_all (λ op. is_none (op_fault op)) ops.now) }
-    ensures { IfOk result (λ k. k ≡ know ops.now) }
+// The world in which a script begins.
+fn open(alloc: Global, listed: &[CoordId]) -> Result<World<Rebuilder>, OutOfMemory>
+    requires { AreDistinct listed.now }
+    ensures { IfOk result (λ world. WorldStandsFor world (opened listed.now)) }
 {
-    if ops.len() <= FEW {
-        return Knowledge::told(alloc, ops);
+    let mut coordinators = Vec::with_capacity(alloc, listed.len())?;
+    for number in listed {
+        let keeper = Rebuilder::new(alloc)?;
+        coordinators.push(Coordinator::new(alloc, *number, HISTORY_LIMIT, keeper))?;
     }
-    let (front, back) = ops.split_at(ops.len() / 2);
-    let front = known(alloc, front)?;
-    let back = known(alloc, back)?;
-    let both = front.joined(&back)?;
-    Ok(both)
+    Ok(World::new(coordinators))
 }
 
-// The operations that the steps tell at the coordinator.
-fn told_in(alloc: Global, listed: &[u8], steps: &[Step], at: u8) -> Result<Vec<Op>, Fault>
-    ensures told { IfOk result (λ ops. ops.items ≡ told_to at steps.now) }
-    ensures in_range { IfOk result (λ ops. IsTrue (list_all (λ op. is_none (op_fault op)) ops.items)) }
-    ensures accepted { OnOk result (first_refused listed.now 1 steps.now ≡ None) }
-    ensures err { IfErr result (λ f. (f ≡ fault_of Refusal.OutOfMemory) ⊎ (first_refused listed.now 1 steps.now ≡ Some f)) }
+// Takes the steps in order, up to the first that is refused.
+fn take_all(alloc: Global, world: &mut World<Rebuilder>, steps: &[Step]) -> Result<(), Fault>
+    ensures ok { (w : WorldOfSets) → WorldStandsFor world.old w → OnOk result ((v : WorldOfSets) × Come w steps.now v × WorldStandsFor world.new v) }
+    ensures err { (w : WorldOfSets) → WorldStandsFor world.old w → IfErr result (λ fault. StopsIn w steps.now fault) }
 {
-    let mut told = Vec::new(alloc);
     for (place, step) in steps.iter().enumerate() {
-        let op = match accepted(listed, step) {
-            Ok(op) => op,
-            Err(refusal) => {
-                return Err(Fault {
-                    refusal,
-                    step: Some(place + 1),
-                });
-            }
-        };
-        keep_if(step.at == at, op, &mut told)?;
-    }
-    Ok(told)
-}
-
-// Adds the operation, where it is told here.
-fn keep_if(here: bool, op: Op, told: &mut Vec<Op>) -> Result<(), Refusal>
-    ensures ok { OnOk result (told.new.items ≡ told.old.items ++ (if here then op ∷ [] else [])) }
-    ensures err { IsOkUnless result Refusal.OutOfMemory }
-{
-    if here {
-        told.push(op)?;
+        if let Err(refusal) = take(alloc, world, step.at, step.act) {
+            return Err(Fault {
+                refusal,
+                step: Some(place + 1),
+            });
+        }
     }
     Ok(())
 }
 
-// The operation that a step tells, where the step is accepted.
-fn accepted(listed: &[u8], step: &Step) -> Result<Op, Refusal>
-    ensures ok { IfOk result (λ op. (op ≡ op_told step.now.act) × (step_fault listed.now step.now ≡ None)) }
-    ensures in_range { IfOk result (λ op. op_fault op ≡ None) }
-    ensures err { IfErr result (λ e. step_fault listed.now step.now ≡ Some e) }
+// What happens in a step.
+fn take(alloc: Global, world: &mut World<Rebuilder>, at: u8, act: Act) -> Result<(), Refusal>
+    ensures ok { (w : WorldOfSets) → WorldStandsFor world.old w → OnOk result ((v : WorldOfSets) × Acts w at act v × WorldStandsFor world.new v) }
+    ensures err { (w : WorldOfSets) → WorldStandsFor world.old w → IfErr result (λ refusal. Refuses w at act refusal) }
 {
-    if !is_listed(listed, step.at) {
-        return Err(Refusal::NoCoordinator);
+    match act {
+        Act::Tell(op) => ask(world, at, WorldAct::Tell(op)),
+        Act::Cut(range) => ask(world, at, WorldAct::Cut(range)),
+        Act::Deliver(packet) => ask(world, at, WorldAct::Deliver(packet)),
+        Act::Trim(n) => ask(world, at, WorldAct::Trim(n)),
+        Act::Round => round(alloc, world, at),
     }
-    let Act::Tell(op) = step.act;
-    op.check()?;
-    Ok(op)
 }
 
-/// Whether the number is one of those listed.
-pub fn is_listed(listed: &[u8], number: u8) -> bool
-    ensures { result ≡ is_listed listed.now number }
+// One step of the world.
+fn ask(world: &mut World<Rebuilder>, at: u8, act: WorldAct) -> Result<(), Refusal>
+    ensures ok { (w : WorldOfSets) → WorldStandsFor world.old w → OnOk result ((v : WorldOfSets) × Takes w (step_at at act) v × WorldStandsFor world.new v) }
+    ensures err { (w : WorldOfSets) → WorldStandsFor world.old w → IfErr result (λ refusal. refusal ≡ refusal_of w (step_at at act)) }
 {
-    listed.contains(&number)
+    match world.run(&[WorldStep { at, by: 0, act }]) {
+        Ok(()) => Ok(()),
+        Err(stop) => Err(stop.refusal),
+    }
+}
+
+// A round: what the coordinator sees is planned for, and the plan is committed.
+fn round(alloc: Global, world: &mut World<Rebuilder>, at: u8) -> Result<(), Refusal>
+    ensures ok { (w : WorldOfSets) → WorldStandsFor world.old w → OnOk result ((v : WorldOfSets) × Acts w at script_act.Round v × WorldStandsFor world.new v) }
+    ensures err { (w : WorldOfSets) → WorldStandsFor world.old w → IfErr result (λ refusal. Refuses w at script_act.Round refusal) }
+{
+    let look = WorldStep {
+        at,
+        by: 0,
+        act: WorldAct::View,
+    };
+    let Some(view) = world.step(&look)? else {
+        return Err(Refusal::NoCoordinator);
+    };
+    let plan = plan_for(alloc, &view)?;
+    ask(world, at, WorldAct::Commit(plan))
+}
+
+// The plan of a least flow of the network that is seen. Refused memory, or Uncertified as `solve` is.
+fn plan_for(alloc: Global, view: &View) -> Result<Plan, Refusal>
+    requires { view.now.network ≡ net_of view.now.knowledge }
+    ensures ok { IfOk result (λ plan. IsPlanOf view.now.knowledge plan) }
+    ensures err { IfErr result (λ refusal. (refusal ≡ Refusal.OutOfMemory) ⊎ (refusal ≡ Refusal.Uncertified)) }
+{
+    let knowledge = view.knowledge.get();
+    law_can_be(knowledge);
+    let (flow, _) = solve(alloc, &view.network)?;
+    Ok(plan(alloc, &view.network, &flow, knowledge)?)
 }

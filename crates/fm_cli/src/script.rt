@@ -1,5 +1,8 @@
 //! A script as data: the coordinators that there are, and what happens at each of them in turn.
 
+use crate::names::Names;
+use fm_coord::entry::Range;
+use fm_records::ids::CoordId;
 use fm_records::ops::Op;
 
 /// What a step does at its coordinator.
@@ -7,6 +10,15 @@ use fm_records::ops::Op;
 pub enum Act {
     /// The coordinator is told an operation, whose ranges are not yet checked.
     Tell(Op),
+    /// It cuts a packet of what the range comes to.
+    Cut(Range),
+    /// It takes in the packet that was cut as the one with the number, counted from 0. Where no earlier step cuts a packet
+    /// of the name, the number is how many were cut: there is no such packet then.
+    Deliver(usize),
+    /// It lets the deltas below the number go.
+    Trim(u64),
+    /// It looks at what it knows, plans by a least flow of that, and commits the plan.
+    Round,
 }
 
 /// One step of a script.
@@ -21,6 +33,8 @@ pub struct Step {
 #[derive(Debug, Drop)]
 pub struct Script {
     /// The numbers of the coordinators, as listed.
-    pub coordinators: Vec<u8>,
+    pub coordinators: Vec<CoordId>,
+    /// The names of the packets, in the order of their cuts.
+    pub names: Names,
     pub steps: Vec<Step>,
 }

@@ -1,17 +1,18 @@
 //! One run of the program, over its words, a reader and a writer.
 
-ghost use Rattle.std.specs.Prelude.{◌≡◌};
+ghost use Rattle.std.specs.Prelude.{◌≡◌, Some, IfOk};
+ghost use Rattle.fm_world.specs.Worlds.{AreDistinct};
 ghost use Rattle.fm_cli.specs.Endings.{ending_status, asked_of};
 
 use crate::fault::Fault;
 use crate::input::read_input;
-use crate::output::{graph, solution, winners};
+use crate::output::{agreement, graph, packet, solution, winners};
 use crate::reading::read_script;
-use crate::run::is_listed;
 use crate::script::Script;
 use crate::unpack::unpack;
 use crate::words::{Command, Question, Words, read_words};
 use fm_dimacs::out::{Out, Over};
+use fm_records::ids::CoordId;
 use fm_records::refusal::Refusal;
 use std::alloc::Global;
 use std::fmt;
@@ -22,6 +23,8 @@ use std::io::{BufWriter, Read, Write};
 pub enum Ending {
     /// What was asked for is written.
     Done,
+    /// It is written that coordinators do not know the same.
+    Differ,
     /// The words were wrong, with what is to be said of them.
     Wrong(String),
     /// The run was stopped.
@@ -29,12 +32,14 @@ pub enum Ending {
 }
 
 impl Ending {
-    /// The status: 0 where all is done, 2 where the words were wrong, and else the fault's.
+    /// The status: 0 where all is done, 2 where the words were wrong, 5 where coordinators do not know the same, and else the
+    /// fault's.
     pub fn status(&self) -> u8
         ensures { result ≡ ending_status self.now }
     {
         match self {
             Ending::Done => 0,
+            Ending::Differ => 5,
             Ending::Wrong(_) => 2,
             Ending::Stopped(fault) => fault.status(),
         }
@@ -44,7 +49,7 @@ impl Ending {
 impl fmt::Display for Ending {
     fn fmt<W: fmt::Write>(&self, f: &mut fmt::Formatter<W>) -> fmt::Result {
         match self {
-            Ending::Done => Ok(()),
+            Ending::Done | Ending::Differ => Ok(()),
             Ending::Wrong(text) => write!(f, "{text}"),
             Ending::Stopped(fault) => write!(f, "{fault}"),
         }
@@ -66,15 +71,15 @@ pub fn serve<R: Read, W: Write>(
         Err(refusal) => Err(Fault::from(refusal)),
     };
     match done {
-        Ok(()) => Ending::Done,
+        Ok(ending) => ending,
         Err(fault) => Ending::Stopped(fault),
     }
 }
 
 // Writes the text.
-fn print<W: Write>(text: &str, writer: &mut W) -> Result<(), Fault> {
+fn print<W: Write>(text: &str, writer: &mut W) -> Result<Ending, Fault> {
     match writer.write_all(text.as_bytes()) {
-        Ok(()) => Ok(()),
+        Ok(()) => Ok(Ending::Done),
         Err(_) => Err(Fault::from(Refusal::WriteFault)),
     }
 }
@@ -85,51 +90,82 @@ fn run<R: Read, W: Write>(
     command: Command,
     reader: &mut R,
     writer: &mut W,
-) -> Result<(), Fault> {
+) -> Result<Ending, Fault> {
     let text = read_input(alloc, reader)?;
     let Ok(mut buffer) = BufWriter::new(alloc, writer) else {
         return Err(Fault::from(Refusal::OutOfMemory));
     };
-    let mut out = Over::new(&mut buffer);
-    match command {
-        Command::Unpack => unpack(alloc, text.as_slice(), &mut out)?,
-        Command::Ask { question, at } => match read_script(alloc, text.as_slice()) {
-            Ok(script) => answer(alloc, question, asked(&script, at)?, &script, &mut out)?,
-            Err(refusal) => return Err(Fault::of_script(refusal)),
-        },
-    }
+    let ending = answer(alloc, command, &text, &mut Over::new(&mut buffer))?;
     match buffer.flush() {
-        Ok(()) => Ok(()),
+        Ok(()) => Ok(ending),
         Err(_) => Err(Fault::from(Refusal::WriteFault)),
     }
 }
 
-// Writes what is asked of the coordinator once the script's steps have run.
+// Writes what the command asks for of the text.
 fn answer<W: Out>(
     alloc: Global,
-    question: Question,
-    at: u8,
-    script: &Script,
+    command: Command,
+    text: &[u8],
     out: &mut W,
-) -> Result<(), Fault> {
-    match question {
-        Question::Graph => graph(alloc, script, at, out),
-        Question::Solve => solution(alloc, script, at, out),
-        Question::Winners => winners(alloc, script, at, out),
+) -> Result<Ending, Fault> {
+    match command {
+        Command::Unpack => unpack(alloc, text, out)?,
+        Command::Pack { name } => packet(alloc, &script_in(alloc, text)?, name, out)?,
+        Command::Agree => {
+            if !agreement(alloc, &script_in(alloc, text)?, out)? {
+                return Ok(Ending::Differ);
+            }
+        }
+        Command::Ask { question, at } => {
+            let script = script_in(alloc, text)?;
+            let at = asked(&script.coordinators, at)?;
+            match question {
+                Question::Graph => graph(alloc, &script, at, out)?,
+                Question::Solve => solution(alloc, &script, at, out)?,
+                Question::Winners => winners(alloc, &script, at, out)?,
+            }
+        }
+    }
+    Ok(Ending::Done)
+}
+
+// The script that the text spells.
+fn script_in(alloc: Global, text: &[u8]) -> Result<Script, Fault>
+    ensures { IfOk result (λ script. AreDistinct script.coordinators.items) }
+{
+    match read_script(alloc, text) {
+        Ok(script) => Ok(script),
+        Err(refusal) => Err(Fault::of_script(refusal)),
     }
 }
 
 // The coordinator that is asked: the one named, or else the first that the script lists.
-fn asked(script: &Script, at: Option<u8>) -> Result<u8, Fault>
-    ensures { result ≡ asked_of script.now.coordinators.items at }
+fn asked(listed: &[CoordId], at: Option<u8>) -> Result<CoordId, Fault>
+    ensures { result ≡ asked_of listed.now at }
 {
     match at {
-        Some(number) if is_listed(&script.coordinators, number) => Ok(number),
-        Some(_) => Err(Fault::from(Refusal::NoCoordinator)),
-        None => match script.coordinators.as_slice() {
+        Some(number) => named(listed, number),
+        None => match listed {
             [first, ..] => Ok(*first),
             [] => Err(Fault::from(Refusal::NoCoordinator)),
         },
+    }
+}
+
+// The coordinator with the number.
+fn named(listed: &[CoordId], number: u8) -> Result<CoordId, Fault>
+    ensures { result ≡ asked_of listed.now (Some number) }
+{
+    match listed.split_first() {
+        None => Err(Fault::from(Refusal::NoCoordinator)),
+        Some((first, rest)) => {
+            if first.value() == number {
+                Ok(*first)
+            } else {
+                named(rest, number)
+            }
+        }
     }
 }
 

@@ -7,9 +7,13 @@ use std::alloc::Global;
 
 /// What the program is asked to do.
 #[derive(Debug, Clone, Copy, PartialEq, Eq, Drop)]
-pub enum Command {
+pub enum Command<'a> {
     /// Answer the question about a coordinator, the first that the script lists where none is named.
     Ask { question: Question, at: Option<u8> },
+    /// Say whether all coordinators know the same.
+    Agree,
+    /// Print the bytes of the packet that was cut under the name.
+    Pack { name: &'a str },
     /// Print the records of a packet.
     Unpack,
 }
@@ -27,8 +31,8 @@ pub enum Question {
 
 /// What the words come to.
 #[derive(Debug, Drop)]
-pub enum Words {
-    Run(Command),
+pub enum Words<'a> {
+    Run(Command<'a>),
     /// A text that was asked for.
     Help(String),
     /// What is wrong with the words.
@@ -36,9 +40,11 @@ pub enum Words {
 }
 
 /// Reads the words of a command line, the program's own name first. Only want of memory is refused.
-pub fn read_words(alloc: Global, words: &[String]) -> Result<Words, Refusal> {
+pub fn read_words<'a>(alloc: Global, words: &'a [String]) -> Result<Words<'a>, Refusal> {
     match parser(alloc)?.try_get_matches_from(words) {
         Ok(matches) => match matches.subcommand() {
+            Some(("agree", _)) => Ok(Words::Run(Command::Agree)),
+            Some(("pack", inner)) => Ok(packs(alloc, inner)),
             Some(("unpack", _)) => Ok(Words::Run(Command::Unpack)),
             Some(("solve", inner)) => Ok(asks(Question::Solve, inner)),
             Some(("winners", inner)) => Ok(asks(Question::Winners, inner)),
@@ -50,13 +56,21 @@ pub fn read_words(alloc: Global, words: &[String]) -> Result<Words, Refusal> {
 }
 
 // The question, with the coordinator that is named.
-fn asks(question: Question, matches: &ArgMatches) -> Words {
+fn asks<'a>(question: Question, matches: &ArgMatches<'a>) -> Words<'a> {
     let at = matches.get_one::<u8>("at");
     Words::Run(Command::Ask { question, at })
 }
 
+// The name of a packet, which the command requires.
+fn packs<'a>(alloc: Global, matches: &ArgMatches<'a>) -> Words<'a> {
+    match matches.get_str("name") {
+        Some(name) => Words::Run(Command::Pack { name }),
+        None => Words::Wrong(String::new(alloc)),
+    }
+}
+
 // The text of what is no command.
-fn text_of(alloc: Global, error: &Error) -> Result<Words, Refusal> {
+fn text_of<'a>(alloc: Global, error: &Error) -> Result<Words<'a>, Refusal> {
     if error.kind() == ErrorKind::OutOfMemory {
         return Err(Refusal::OutOfMemory);
     }
@@ -70,12 +84,28 @@ fn text_of(alloc: Global, error: &Error) -> Result<Words, Refusal> {
 
 // The commands that there are.
 fn parser<'a>(alloc: Global) -> Result<clap::Command<'a>, Refusal> {
+    let agree = clap::Command::new(alloc, "agree")
+        .about(
+            "Prints `same` where all coordinators know the same, and else `differ A B`: the first listed, and the first that knows something else; then the status is 5",
+        )
+        .after_help("Example: firmament agree < examples/gossip.json");
     let graph = clap::Command::new(alloc, "graph")
         .about(
             "Prints the network of what a coordinator knows, as a minimum-cost flow problem in DIMACS lines",
         )
         .after_help("Example: firmament graph --at 1 < examples/first.json")
         .arg(at(alloc))?;
+    let pack = clap::Command::new(alloc, "pack")
+        .about(
+            "Prints the bytes of a packet that the script cuts, in hexadecimal digits on one line",
+        )
+        .after_help("Example: firmament pack news < examples/gossip.json")
+        .arg(
+            Arg::new(alloc, "name")
+                .value_name("NAME")
+                .help("The name under which the script cuts the packet")
+                .required(true),
+        )?;
     let solve = clap::Command::new(alloc, "solve")
         .about("Prints a least flow of that network, its cost first, in DIMACS lines: the schedule")
         .after_help("Example: firmament solve < examples/first.json")
@@ -100,7 +130,9 @@ fn parser<'a>(alloc: Global) -> Result<clap::Command<'a>, Refusal> {
             .after_help("Example: firmament graph < examples/first.json")
             .subcommand_required(true)
             .arg_required_else_help(true)
+            .subcommand(agree)?
             .subcommand(graph)?
+            .subcommand(pack)?
             .subcommand(solve)?
             .subcommand(unpack)?
             .subcommand(winners)?,

@@ -22,36 +22,126 @@ const REPORT: &str =
 const PROPOSE: &str =
     r#"{"propose":{"id":"00000000-0000-0000-0000-000000000017","attempt":24,"coordinator":25,"machine":"00000000-0000-0000-0000-00000000001a","incarnation":27}}"#;
 
-// Scripts of one operation, as they are read.
+// Every number that a coordinator can have.
+const NUMBERS: &str =
+    "1,2,3,4,5,6,7,8,9,10,11,12,13,14,15,16,17,18,19,20,21,22,23,24,25,26,27,28,29,30,31,32,33,34,35,36,37,38,39,40,41,42,43,44,45,46,47,48,49,50,51,52,53,54,55,56,57,58,59,60,61,62,63,64";
+
+// Operations, as they are read.
 static READ: [(&str, &str); 6] = [
     (
         JOB,
-        "Script { coordinators: [64], steps: [Step { at: 255, act: Tell(Job { id: JobId { number: 1 }, version: 2, writer: 3, withdrawn: true, wait: 4, preempt: 5 }) }] }",
+        "Job { id: JobId { number: 1 }, version: 2, writer: 3, withdrawn: true, wait: 4, preempt: 5 }",
     ),
     (
         SPEC,
-        "Script { coordinators: [64], steps: [Step { at: 255, act: Tell(Spec { id: TaskId { number: 6 }, version: 7, writer: 8, withdrawn: false, job: JobId { number: 9 }, request: 10 }) }] }",
+        "Spec { id: TaskId { number: 6 }, version: 7, writer: 8, withdrawn: false, job: JobId { number: 9 }, request: 10 }",
     ),
     (
         PROGRESS,
-        "Script { coordinators: [64], steps: [Step { at: 255, act: Tell(Progress { id: TaskId { number: 11 }, attempt: 12, phase: Running }) }] }",
+        "Progress { id: TaskId { number: 11 }, attempt: 12, phase: Running }",
     ),
     (
         MACHINE,
-        "Script { coordinators: [64], steps: [Step { at: 255, act: Tell(Machine { id: MachineId { number: 13 }, incarnation: 14, version: 15, writer: 16, up: true, slots: 17, nic: 18 }) }] }",
+        "Machine { id: MachineId { number: 13 }, incarnation: 14, version: 15, writer: 16, up: true, slots: 17, nic: 18 }",
     ),
     (
         REPORT,
-        "Script { coordinators: [64], steps: [Step { at: 255, act: Tell(Report { id: MachineId { number: 19 }, incarnation: 20, number: 21, used: 22 }) }] }",
+        "Report { id: MachineId { number: 19 }, incarnation: 20, number: 21, used: 22 }",
     ),
     (
         PROPOSE,
-        "Script { coordinators: [64], steps: [Step { at: 255, act: Tell(Propose { id: TaskId { number: 23 }, attempt: 24, coordinator: 25, machine: MachineId { number: 26 }, incarnation: 27 }) }] }",
+        "Propose { id: TaskId { number: 23 }, attempt: 24, coordinator: 25, machine: MachineId { number: 26 }, incarnation: 27 }",
+    ),
+];
+
+// Numbers of coordinators, as they are read.
+static READ_COORDINATORS: [(&str, &str); 4] = [
+    ("1", "[CoordId { number: 1 }]"),
+    ("64", "[CoordId { number: 64 }]"),
+    (
+        "3,1,64",
+        "[CoordId { number: 3 }, CoordId { number: 1 }, CoordId { number: 64 }]",
+    ),
+    (" 2 , 1 ", "[CoordId { number: 2 }, CoordId { number: 1 }]"),
+];
+
+// Steps other than those of one operation, as they are read with the names of their packets.
+static READ_STEPS: [(&str, &str, &str); 15] = [
+    ("", "{}", "[]"),
+    (
+        r#"{"at":0,"cut":{"name":"a","from":0,"to":18446744073709551615}}"#,
+        r#"{"a": ()}"#,
+        "[Step { at: 0, act: Cut(Interval(0, 18446744073709551615)) }]",
+    ),
+    (
+        r#"{"at":1,"cut":{"name":"a","from":7,"to":2}}"#,
+        r#"{"a": ()}"#,
+        "[Step { at: 1, act: Cut(Interval(7, 2)) }]",
+    ),
+    (
+        r#"{"cut":{"name":"a"},"at":255}"#,
+        r#"{"a": ()}"#,
+        "[Step { at: 255, act: Cut(Full) }]",
+    ),
+    (
+        r#"{"at":1,"cut":{"more":[0],"name":"","by":null}}"#,
+        r#"{"": ()}"#,
+        "[Step { at: 1, act: Cut(Full) }]",
+    ),
+    (
+        r#"{"at":1,"cut":{"more":0,"to":2,"name":"a","from":1}}"#,
+        r#"{"a": ()}"#,
+        "[Step { at: 1, act: Cut(Interval(1, 2)) }]",
+    ),
+    (
+        r#"{"at":1,"cut":{"name":"a","from":null,"name":"b","to":1,"from":0}}"#,
+        r#"{"b": ()}"#,
+        "[Step { at: 1, act: Cut(Interval(0, 1)) }]",
+    ),
+    (
+        r#"{"at":1,"deliver":"a"}"#,
+        "{}",
+        "[Step { at: 1, act: Deliver(0) }]",
+    ),
+    (
+        r#"{"at":1,"cut":{"name":"b"}},{"at":2,"deliver":"a"},{"at":3,"cut":{"name":"a"}}"#,
+        r#"{"b": (), "a": ()}"#,
+        "[Step { at: 1, act: Cut(Full) }, Step { at: 2, act: Deliver(1) }, Step { at: 3, act: Cut(Full) }]",
+    ),
+    (
+        r#"{"at":1,"cut":{"name":"b"}},{"at":2,"cut":{"name":"a"}},{"at":3,"deliver":"b"},{"at":4,"deliver":"a"}"#,
+        r#"{"b": (), "a": ()}"#,
+        "[Step { at: 1, act: Cut(Full) }, Step { at: 2, act: Cut(Full) }, Step { at: 3, act: Deliver(0) }, Step { at: 4, act: Deliver(1) }]",
+    ),
+    (
+        r#"{"at":1,"cut":{"name":"a"}},{"at":2,"deliver":"A"},{"at":3,"deliver":""}"#,
+        r#"{"a": ()}"#,
+        "[Step { at: 1, act: Cut(Full) }, Step { at: 2, act: Deliver(1) }, Step { at: 3, act: Deliver(1) }]",
+    ),
+    (
+        r#"{"at":1,"trim":0}"#,
+        "{}",
+        "[Step { at: 1, act: Trim(0) }]",
+    ),
+    (
+        r#"{"at":1,"trim":18446744073709551615}"#,
+        "{}",
+        "[Step { at: 1, act: Trim(18446744073709551615) }]",
+    ),
+    (
+        r#"{"at":1,"round":true}"#,
+        "{}",
+        "[Step { at: 1, act: Round }]",
+    ),
+    (
+        r#"{"at":2,"round":true},{"round":true,"at":2}"#,
+        "{}",
+        "[Step { at: 2, act: Round }, Step { at: 2, act: Round }]",
     ),
 ];
 
 // Texts that are no script as a whole.
-static STRANGE_WHOLES: [&str; 31] = [
+static STRANGE_WHOLES: [&str; 36] = [
     "",
     " ",
     "x",
@@ -79,14 +169,19 @@ static STRANGE_WHOLES: [&str; 31] = [
     r#"{"coordinators":[-1],"steps":[]}"#,
     r#"{"coordinators":[1.0],"steps":[]}"#,
     r#"{"coordinators":["1"],"steps":[]}"#,
+    r#"{"coordinators":[[1]],"steps":[]}"#,
+    r#"{"coordinators":[1,0],"steps":[]}"#,
+    r#"{"coordinators":[1,65],"steps":[]}"#,
+    r#"{"coordinators":[1,257],"steps":[]}"#,
+    r#"{"coordinators":[1,null],"steps":[]}"#,
     r#"{"coordinators":[1,1],"steps":[]}"#,
-    r#"{"coordinators":[1,2],"steps":[]}"#,
+    r#"{"coordinators":[3,2,1,2],"steps":[]}"#,
     r#"{"coordinators":[1],"coordinators":[0],"steps":[]}"#,
     r#"{"coordinators":[0],"steps":[1]}"#,
 ];
 
 // Items of the list of steps that are no step. `TOLD` stands for an operation.
-static STRANGE_STEPS: [&str; 30] = [
+static STRANGE_STEPS: [&str; 67] = [
     r#"1"#,
     r#"null"#,
     r#"[]"#,
@@ -112,11 +207,76 @@ static STRANGE_STEPS: [&str; 30] = [
     r#"{"at":1,"tell":{"progress":null}}"#,
     r#"{"at":1,"tell":{"progress":TOLD}}"#,
     r#"{"at":1,"tell":{"job":null,"spec":null}}"#,
-    r#"{"at":1,"cut":{"name":"a"}}"#,
-    r#"{"at":1,"cut":{"name":"a","from":0,"to":1}}"#,
-    r#"{"at":1,"deliver":"a"}"#,
-    r#"{"at":1,"trim":0}"#,
-    r#"{"at":1,"round":true}"#,
+    r#"{"at":1,"cut":null}"#,
+    r#"{"at":1,"cut":"a"}"#,
+    r#"{"at":1,"cut":["a"]}"#,
+    r#"{"at":1,"cut":{}}"#,
+    r#"{"at":1,"cut":{"from":0,"to":1}}"#,
+    r#"{"at":1,"cut":{"name":null}}"#,
+    r#"{"at":1,"cut":{"name":1}}"#,
+    r#"{"at":1,"cut":{"name":["a"]}}"#,
+    r#"{"at":1,"cut":{"name":"a","from":0}}"#,
+    r#"{"at":1,"cut":{"name":"a","to":1}}"#,
+    r#"{"at":1,"cut":{"name":"a","from":null,"to":null}}"#,
+    r#"{"at":1,"cut":{"name":"a","from":0,"to":null}}"#,
+    r#"{"at":1,"cut":{"name":"a","from":"0","to":1}}"#,
+    r#"{"at":1,"cut":{"name":"a","from":0,"to":"1"}}"#,
+    r#"{"at":1,"cut":{"name":"a","from":-1,"to":1}}"#,
+    r#"{"at":1,"cut":{"name":"a","from":0,"to":1.0}}"#,
+    r#"{"at":1,"cut":{"name":"a","from":0,"to":18446744073709551616}}"#,
+    r#"{"at":1,"deliver":null}"#,
+    r#"{"at":1,"deliver":0}"#,
+    r#"{"at":1,"deliver":["a"]}"#,
+    r#"{"at":1,"deliver":{"name":"a"}}"#,
+    r#"{"at":1,"trim":null}"#,
+    r#"{"at":1,"trim":-1}"#,
+    r#"{"at":1,"trim":1.0}"#,
+    r#"{"at":1,"trim":"1"}"#,
+    r#"{"at":1,"trim":18446744073709551616}"#,
+    r#"{"at":1,"round":null}"#,
+    r#"{"at":1,"round":false}"#,
+    r#"{"at":1,"round":1}"#,
+    r#"{"at":1,"round":"true"}"#,
+    r#"{"at":1,"round":{}}"#,
+    r#"{"at":1,"cut":{"name":"a"},"deliver":"a"}"#,
+    r#"{"at":1,"trim":0,"round":true}"#,
+    r#"{"at":1,"view":true}"#,
+    r#"{"cut":{"name":"a"}}"#,
+    r#"{"round":true}"#,
+    r#"{"cut":{"name":"a"},"tell":TOLD}"#,
+    r#"{"cut":{"name":"a"},"by":1}"#,
+    r#"{"deliver":"a","by":1}"#,
+    r#"{"trim":0,"round":true}"#,
+    r#"{"at":256,"round":true}"#,
+    r#"{"at":null,"cut":{"name":"a"}}"#,
+];
+
+// Steps of which a later one is no step, and its number behind the good step before them.
+static STRANGE_LATER: [(&str, usize); 6] = [
+    (
+        r#"{"at":1,"cut":{"name":"a"}},{"at":1,"cut":{"name":"a"}}"#,
+        3,
+    ),
+    (
+        r#"{"at":1,"cut":{"name":"a","from":0,"to":1}},{"at":2,"cut":{"name":"a","from":1,"to":2}}"#,
+        3,
+    ),
+    (
+        r#"{"at":1,"cut":{"name":"a"}},{"at":2,"cut":{"name":"b"}},{"at":3,"deliver":"a"},{"at":3,"cut":{"name":"a"}}"#,
+        5,
+    ),
+    (
+        r#"{"at":1,"cut":{"name":"a"}},{"at":2,"cut":{"name":"b"}},{"at":3,"cut":{"name":"b"}},{"at":3,"cut":{"name":"a"}}"#,
+        4,
+    ),
+    (
+        r#"{"at":1,"cut":{"name":"a"}},null,{"at":2,"cut":{"name":"a"}}"#,
+        3,
+    ),
+    (
+        r#"{"at":1,"round":true},{"at":1,"trim":0},{"at":1,"round":false}"#,
+        4,
+    ),
 ];
 
 // Operations that are none once the second text stands for the first.
@@ -303,6 +463,12 @@ fn fault_of(alloc: Global, text: &[u8]) -> Option<Refusal> {
     read_script(alloc, text).err()
 }
 
+// The script that the text spells, as it is printed.
+fn printed(alloc: Global, text: &str) -> Result<String, Fail> {
+    let script = read_script(alloc, text.as_bytes())?;
+    Ok(format!(in alloc; "{script:?}")?)
+}
+
 #[test]
 fn each_kind_of_operation_is_read(rt: HostRuntime) -> Result<(), Fail> {
     let alloc = rt.alloc();
@@ -310,9 +476,43 @@ fn each_kind_of_operation_is_read(rt: HostRuntime) -> Result<(), Fail> {
         let text = format!(in alloc;
             "{{\"coordinators\":[64],\"more\":0,\"steps\":[{{\"tell\":{op},\"at\":255}}]}}"
         )?;
-        let script = read_script(alloc, text.as_bytes())?;
-        let script = format!(in alloc; "{script:?}")?;
-        assert_eq!(rt; script.as_str(), *read);
+        let wanted = format!(in alloc;
+            "Script {{ coordinators: [CoordId {{ number: 64 }}], names: Names {{ alloc: Global, places: {{}} }}, steps: [Step {{ at: 255, act: Tell({read}) }}] }}"
+        )?;
+        assert_eq!(rt; printed(alloc, text.as_str())?, wanted);
+    }
+    Ok(())
+}
+
+#[test]
+fn coordinators_are_read_as_listed(rt: HostRuntime) -> Result<(), Fail> {
+    let alloc = rt.alloc();
+    for (listed, read) in &READ_COORDINATORS {
+        let text = format!(in alloc; "{{\"coordinators\":[{listed}],\"steps\":[]}}")?;
+        let wanted = format!(in alloc;
+            "Script {{ coordinators: {read}, names: Names {{ alloc: Global, places: {{}} }}, steps: [] }}"
+        )?;
+        assert_eq!(rt; printed(alloc, text.as_str())?, wanted);
+    }
+    let all = format!(in alloc; "{{\"coordinators\":[{NUMBERS}],\"steps\":[]}}")?;
+    assert_eq!(rt; fault_of(alloc, all.as_bytes()), None);
+    let more = format!(in alloc; "{{\"coordinators\":[{NUMBERS},1],\"steps\":[]}}")?;
+    assert_eq!(rt;
+        fault_of(alloc, more.as_bytes()),
+        Some(Refusal::BadScript(0))
+    );
+    Ok(())
+}
+
+#[test]
+fn each_kind_of_step_is_read(rt: HostRuntime) -> Result<(), Fail> {
+    let alloc = rt.alloc();
+    for (items, names, read) in &READ_STEPS {
+        let text = format!(in alloc; "{{\"coordinators\":[1],\"steps\":[{items}]}}")?;
+        let wanted = format!(in alloc;
+            "Script {{ coordinators: [CoordId {{ number: 1 }}], names: Names {{ alloc: Global, places: {names} }}, steps: {read} }}"
+        )?;
+        assert_eq!(rt; printed(alloc, text.as_str())?, wanted);
     }
     Ok(())
 }
@@ -341,6 +541,17 @@ fn a_strange_step_is_named(rt: HostRuntime) -> Result<(), Fail> {
         let text = script_of(alloc, item.as_str())?;
         let fault = fault_of(alloc, text.as_bytes());
         assert_eq!(rt; fault, Some(Refusal::BadScript(2)), "{text}");
+    }
+    Ok(())
+}
+
+#[test]
+fn a_strange_later_step_is_named(rt: HostRuntime) -> Result<(), Fail> {
+    let alloc = rt.alloc();
+    for (items, number) in &STRANGE_LATER {
+        let text = script_of(alloc, items)?;
+        let fault = fault_of(alloc, text.as_bytes());
+        assert_eq!(rt; fault, Some(Refusal::BadScript(*number)), "{text}");
     }
     Ok(())
 }

@@ -3,8 +3,8 @@ use std::alloc::{AllocError, Global};
 use std::io::{self, Read, Write};
 use std::test::Fail;
 
-// Steps by name. In all texts here `..` stands for the zeros with which an id begins.
-static STEPS: [(&str, &str); 28] = [
+// Steps by name; `2:J` is the step J at coordinator 2. In all texts here `..` stands for the zeros with which an id begins.
+static STEPS: [(&str, &str); 53] = [
     (
         "J",
         r#"{"at":1,"tell":{"job":{"id":"..001","version":1,"writer":1,"withdrawn":false,"wait":500,"preempt":800}}}"#,
@@ -113,6 +113,52 @@ static STEPS: [(&str, &str); 28] = [
         "U0",
         r#"{"at":1,"tell":{"spec":{"id":"..012","version":1,"writer":1,"withdrawn":false,"job":"..001","request":0}}}"#,
     ),
+    (
+        "JTwo",
+        r#"{"at":1,"tell":{"job":{"id":"..001","version":2,"writer":1,"withdrawn":false,"wait":600,"preempt":800}}}"#,
+    ),
+    (
+        "Last",
+        r#"{"at":1,"tell":{"progress":{"id":"..011","attempt":4294967295,"phase":"running"}}}"#,
+    ),
+    (
+        "LastOnB",
+        r#"{"at":1,"tell":{"propose":{"id":"..011","attempt":4294967295,"coordinator":1,"machine":"..00b","incarnation":1}}}"#,
+    ),
+    (
+        "CutFirst",
+        r#"{"at":1,"cut":{"name":"p1","from":0,"to":1}}"#,
+    ),
+    (
+        "CutSecond",
+        r#"{"at":1,"cut":{"name":"p2","from":1,"to":2}}"#,
+    ),
+    ("CutBoth", r#"{"at":1,"cut":{"name":"p3","from":0,"to":2}}"#),
+    (
+        "CutNone",
+        r#"{"at":1,"cut":{"name":"none","from":3,"to":3}}"#,
+    ),
+    (
+        "CutBackwards",
+        r#"{"at":1,"cut":{"name":"p","from":4,"to":3}}"#,
+    ),
+    ("CutFour", r#"{"at":1,"cut":{"name":"p","from":0,"to":4}}"#),
+    ("CutLater", r#"{"at":1,"cut":{"name":"p","from":1,"to":3}}"#),
+    ("CutA", r#"{"at":1,"cut":{"name":"a"}}"#),
+    ("CutB", r#"{"at":1,"cut":{"name":"b"}}"#),
+    ("CutC", r#"{"at":1,"cut":{"name":"c"}}"#),
+    ("CutD", r#"{"at":1,"cut":{"name":"d","from":1,"to":2}}"#),
+    ("GetFirst", r#"{"at":1,"deliver":"p1"}"#),
+    ("GetSecond", r#"{"at":1,"deliver":"p2"}"#),
+    ("GetBoth", r#"{"at":1,"deliver":"p3"}"#),
+    ("GetA", r#"{"at":1,"deliver":"a"}"#),
+    ("GetB", r#"{"at":1,"deliver":"b"}"#),
+    ("GetC", r#"{"at":1,"deliver":"c"}"#),
+    ("GetD", r#"{"at":1,"deliver":"d"}"#),
+    ("Trim1", r#"{"at":1,"trim":1}"#),
+    ("Trim2", r#"{"at":1,"trim":2}"#),
+    ("Trim9", r#"{"at":1,"trim":9}"#),
+    ("Round", r#"{"at":1,"round":true}"#),
     ("Strange", r#"{"at":1}"#),
 ];
 
@@ -221,7 +267,7 @@ a 5 3 0 1 0
 const PLACED: &str = "s 100\nf 3 4 1\nf 4 1 1\nf 5 3 1\n";
 
 // Runs: the words, the steps by name, and then the status, what is written, and the text for standard error.
-static RUNS: [(&str, &str, u8, &str, &str); 51] = [
+static RUNS: [(&str, &str, u8, &str, &str); 52] = [
     ("graph", "", 0, NOTHING, ""),
     ("graph", "J A T", 0, WAITING, ""),
     ("graph --at 1", "A T J", 0, WAITING, ""),
@@ -381,12 +427,250 @@ static RUNS: [(&str, &str, u8, &str, &str); 51] = [
         "firmament: refusal 2 at step 2\n",
     ),
     (
+        "fleet",
+        "",
+        2,
+        "",
+        "error: unrecognized subcommand 'fleet'\n\nUsage: firmament <COMMAND>\n\nFor more information, try '--help'.\n",
+    ),
+    (
         "pack",
         "",
         2,
         "",
-        "error: unrecognized subcommand 'pack'\n\n  tip: a similar subcommand exists: 'unpack'\n\nUsage: firmament <COMMAND>\n\nFor more information, try '--help'.\n",
+        "error: the following required arguments were not provided:\n  <NAME>\n\nUsage: firmament pack <NAME>\n\nFor more information, try '--help'.\n",
     ),
+];
+
+// Runs of several coordinators: the words, the coordinators, the steps by name, and then as above.
+static WORLDS: [(&str, &str, &str, u8, &str, &str); 38] = [
+    ("agree", "1", "", 0, "same\n", ""),
+    ("agree", "3,1", "", 0, "same\n", ""),
+    ("agree", "1,2", "J", 5, "differ 1 2\n", ""),
+    (
+        "agree",
+        "7,64,1",
+        "7:J 7:CutA 64:GetA",
+        5,
+        "differ 7 1\n",
+        "",
+    ),
+    ("agree", "1,2", "J CutA 2:GetA 2:GetA", 0, "same\n", ""),
+    (
+        "agree",
+        "1,2,3",
+        "J JTwo CutFirst CutSecond CutBoth 2:GetBoth 3:GetSecond 3:GetFirst 3:GetSecond 3:GetFirst",
+        0,
+        "same\n",
+        "",
+    ),
+    (
+        "pack p3",
+        "1,2,3",
+        "J JTwo CutFirst CutSecond CutBoth",
+        0,
+        "46444731010000000000000003000000000000000100000000000000000000000000000001000000000000000201000000025800000320000000000000000000000000000000000000000000000000\n",
+        "",
+    ),
+    (
+        "pack a",
+        "1",
+        "J A T OnA Lost CutA",
+        0,
+        "4644473101000000000000000100000000000000010000000000000000000000000000000100000000000000010100000001f40000032000000000000000010000000000000000000000000000001100000000000100000000000000010100000000000000000000000000000000010000006400000000000000010000000000000000000000000000000a00000000000000020200000000000000010000000000000000000000010000000000000000000000000000001100000000010000000000000000000000000000000a0000000000000001\n",
+        "",
+    ),
+    (
+        "pack none",
+        "1",
+        "J A T CutNone",
+        0,
+        "464447310100000000000000010000000000000000000000000000000000000000000000000000000000000000\n",
+        "",
+    ),
+    ("pack b", "1", "J CutA", 3, "", "firmament: refusal 9\n"),
+    (
+        "pack b",
+        "1",
+        "J NoSlots",
+        3,
+        "",
+        "firmament: refusal 2 at step 2\n",
+    ),
+    ("graph", "1,2", "2:J 2:A 2:T", 0, NOTHING, ""),
+    ("graph --at 2", "1,2", "2:J 2:A 2:T", 0, WAITING, ""),
+    ("graph --at 2", "1,2", "J A CutA 2:T 2:GetA", 0, WAITING, ""),
+    ("graph", "2,1", "J A CutA 2:T 2:GetA", 0, WAITING, ""),
+    ("solve --at 2", "1,2", "J A CutA 2:T 2:GetA", 0, PLACED, ""),
+    (
+        "winners --at 1",
+        "1,2",
+        "J A B T OnA CutA 2:OnB 2:CutB 2:GetA GetB",
+        0,
+        "..011 0 1 ..00a 1 held\n",
+        "",
+    ),
+    (
+        "winners --at 2",
+        "1,2",
+        "J A B T OnA CutA 2:OnB 2:CutB GetB 2:GetA",
+        0,
+        "..011 0 1 ..00a 1 held\n",
+        "",
+    ),
+    (
+        "winners",
+        "1",
+        "JPreempt80 AOneSlot T OnA U0 Used0 Round",
+        0,
+        "",
+        "",
+    ),
+    (
+        "winners",
+        "1",
+        "JPreempt80 AOneSlot T OnA U0 Used0 Round Round",
+        0,
+        "..012 0 1 ..00a 1 held\n",
+        "",
+    ),
+    (
+        "winners",
+        "1",
+        "J A T Round",
+        0,
+        "..011 0 1 ..00a 1 held\n",
+        "",
+    ),
+    ("graph", "1", "J A T Round", 0, HELD, ""),
+    (
+        "winners",
+        "1",
+        "J A T Last LastOnB Round",
+        0,
+        "..011 4294967295 1 ..00b 1 free\n",
+        "",
+    ),
+    (
+        "winners --at 2",
+        "1,2",
+        "J A T CutA 2:GetA 2:Round 2:CutB GetB",
+        0,
+        "..011 0 2 ..00a 1 held\n",
+        "",
+    ),
+    (
+        "agree",
+        "1,2",
+        "J A T CutA 2:GetA 2:Round 2:CutB GetB",
+        0,
+        "same\n",
+        "",
+    ),
+    (
+        "graph",
+        "1",
+        "J J600 Trim1 CutBoth",
+        3,
+        "",
+        "firmament: refusal 5 at step 4\n",
+    ),
+    (
+        "graph",
+        "1",
+        "J A T CutBackwards",
+        3,
+        "",
+        "firmament: refusal 4 at step 4\n",
+    ),
+    (
+        "graph",
+        "1",
+        "J A T CutFour",
+        3,
+        "",
+        "firmament: refusal 4 at step 4\n",
+    ),
+    (
+        "graph",
+        "1",
+        "J A T Trim2 CutLater",
+        3,
+        "",
+        "firmament: refusal 5 at step 5\n",
+    ),
+    (
+        "graph",
+        "1",
+        "J A T Trim2 Trim1",
+        3,
+        "",
+        "firmament: refusal 4 at step 5\n",
+    ),
+    (
+        "graph",
+        "1",
+        "J A T Trim9",
+        3,
+        "",
+        "firmament: refusal 4 at step 4\n",
+    ),
+    (
+        "agree",
+        "1",
+        "GetFirst",
+        3,
+        "",
+        "firmament: refusal 9 at step 1\n",
+    ),
+    (
+        "agree",
+        "1",
+        "J CutA GetFirst CutFirst",
+        3,
+        "",
+        "firmament: refusal 9 at step 3\n",
+    ),
+    (
+        "agree",
+        "1",
+        "9:GetFirst",
+        3,
+        "",
+        "firmament: refusal 8 at step 1\n",
+    ),
+    (
+        "agree",
+        "1",
+        "J 2:Round",
+        3,
+        "",
+        "firmament: refusal 8 at step 2\n",
+    ),
+    (
+        "agree",
+        "1,2",
+        "9:J CutA 2:CutA",
+        3,
+        "",
+        "firmament: refusal 16 at step 3\n",
+    ),
+    ("agree", "1,1", "", 3, "", "firmament: refusal 16\n"),
+    (
+        "agree --at 1",
+        "1",
+        "",
+        2,
+        "",
+        "error: unexpected argument '--at' found\n\nUsage: firmament agree\n\nFor more information, try '--help'.\n",
+    ),
+];
+
+// The orders of four packets.
+static ORDERS: [&str; 24] = [
+    "A B C D", "A B D C", "A C B D", "A C D B", "A D B C", "A D C B", "B A C D", "B A D C",
+    "B C A D", "B C D A", "B D A C", "B D C A", "C A B D", "C A D B", "C B A D", "C B D A",
+    "C D A B", "C D B A", "D A B C", "D A C B", "D B A C", "D B C A", "D C A B", "D C B A",
 ];
 
 // Packets in hexadecimal digits, and then the status, what is written of them, and the text for standard error.
@@ -486,17 +770,35 @@ fn step_named(name: &str) -> &'static str {
     ""
 }
 
-// The script of the steps, by name.
-fn script_of(alloc: Global, steps: &str) -> Result<String, AllocError> {
-    let mut script = String::from_str(alloc, r#"{"coordinators":[1],"steps":["#)?;
+// Adds the step of the name, which may have its coordinator before it.
+fn put_step(script: &mut String, name: &str) -> Result<(), AllocError> {
+    let Some((at, name)) = name.split_once(":") else {
+        return script.push_str(step_named(name));
+    };
+    let Some((_, step)) = step_named(name).split_once(r#"{"at":1"#) else {
+        return Ok(());
+    };
+    script.push_str(r#"{"at":"#)?;
+    script.push_str(at)?;
+    script.push_str(step)
+}
+
+// The script of the coordinators and the steps, by name.
+fn script_at(alloc: Global, coordinators: &str, steps: &str) -> Result<String, AllocError> {
+    let mut script = format!(in alloc; "{{\"coordinators\":[{coordinators}],\"steps\":[")?;
     for (place, name) in steps.split_whitespace().enumerate() {
         if place != 0 {
             script.push_str(",\n")?;
         }
-        script.push_str(step_named(name))?;
+        put_step(&mut script, name)?;
     }
     script.push_str("]}\n")?;
     expanded(alloc, script.as_str())
+}
+
+// The script of the steps at coordinator 1, by name.
+fn script_of(alloc: Global, steps: &str) -> Result<String, AllocError> {
+    script_at(alloc, "1", steps)
 }
 
 // The words of a command line.
@@ -552,6 +854,56 @@ fn packets_are_unpacked(rt: HostRuntime) -> Result<(), Fail> {
     Ok(())
 }
 
+#[test]
+fn each_world_writes_and_says_what_it_should(rt: HostRuntime) -> Result<(), Fail> {
+    let alloc = rt.alloc();
+    for (words, coordinators, steps, status, out, err) in &WORLDS {
+        let script = script_at(alloc, *coordinators, *steps)?;
+        let (ended, written, said) = run_on(alloc, *words, script.as_str())?;
+        let out = expanded(alloc, *out)?;
+        assert_eq!(rt; ended, *status, "{words}: {steps}: {said}");
+        assert!(rt; written.as_slice() == out.as_bytes(), "{words}: {steps}");
+        assert!(rt; said.as_str() == *err, "{words}: {steps}: {said}");
+    }
+    Ok(())
+}
+
+// A packet of all that is known after a held task's four operations has two digits for each of its bytes, and a line feed.
+#[test]
+fn a_packet_has_its_size(rt: HostRuntime) -> Result<(), Fail> {
+    let (status, written, _) = run(rt.alloc(), "pack a", "J A T OnA CutA")?;
+    assert_eq!(rt; status, 0);
+    assert_eq!(rt; written.len(), 439);
+    Ok(())
+}
+
+// The steps of three coordinators that each tell something, cut four packets, and take them all in, in the order.
+fn exchange(alloc: Global, order: &str) -> Result<String, AllocError> {
+    let mut steps = String::from_str(alloc, "J 2:A 3:T OnA CutA 2:CutB 3:CutC CutD")?;
+    for packet in order.split_whitespace() {
+        write!(&mut steps, " Get{packet} 2:Get{packet} 3:Get{packet}")?;
+    }
+    Ok(steps)
+}
+
+#[test]
+fn packets_in_every_order_come_to_one_network(rt: HostRuntime) -> Result<(), Fail> {
+    let alloc = rt.alloc();
+    let wanted = expanded(alloc, HELD)?;
+    for order in &ORDERS {
+        let steps = exchange(alloc, *order)?;
+        let script = script_at(alloc, "1,2,3", steps.as_str())?;
+        let (status, written, _) = run_on(alloc, "agree", script.as_str())?;
+        assert_eq!(rt; status, 0, "{order}");
+        assert!(rt; written.as_slice() == b"same\n".as_slice(), "{order}");
+        for words in ["graph --at 1", "graph --at 2", "graph --at 3"] {
+            let (_, written, _) = run_on(alloc, words, script.as_str())?;
+            assert!(rt; written.as_slice() == wanted.as_bytes(), "{order}");
+        }
+    }
+    Ok(())
+}
+
 // A task is placed or left where both cost the same.
 #[test]
 fn equal_costs_are_solved(rt: HostRuntime) -> Result<(), Fail> {
@@ -570,6 +922,8 @@ fn help_is_written(rt: HostRuntime) -> Result<(), Fail> {
         "graph -h",
         "solve --help",
         "winners --help",
+        "agree --help",
+        "pack --help",
     ] {
         let (status, written, said) = run(alloc, words, "Strange")?;
         assert_eq!(rt; status, 0, "{words}");

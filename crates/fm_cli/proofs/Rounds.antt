@@ -1,0 +1,68 @@
+-- A round at a coordinator of a world that stands for a world of sets.
+use Rattle.std.proofs.Common.{◌≡◌, ◌⊎◌, ℕ, Option, Some, None, Result, Ok, Err, IfErr, OnOk, refl, sym, ap, ◌∙◌, subst, inl, inr}
+use Rattle.fm_records.specs.declared.refusal.Refusal.{Refusal}
+use Rattle.fm_records.specs.declared.refusal.Refusal.TheVariants.{OutOfMemory, NoCoordinator}
+use Rattle.fm_records.specs.Options.{or_else}
+use Rattle.fm_records.specs.Table.{Table}
+use Rattle.fm_records.specs.Know.{know}
+use Rattle.fm_net.specs.Net.{Net}
+use Rattle.fm_net.specs.Network.{net_of}
+use Rattle.fm_flow.specs.Flows.{Units, IsLeast}
+use Rattle.fm_round.specs.declared.parts.Plan.{Plan}
+use Rattle.fm_round.specs.Planned.{units_over, planned}
+use Rattle.fm_coord.specs.declared.view.View.{View}
+use Rattle.fm_coord.specs.Events.{Viewed, Replica}
+use Rattle.fm_coord.specs.States.{State}
+use Rattle.fm_world.specs.declared.step.Act.TheVariants as world
+use Rattle.fm_world.specs.Worlds.{WorldOfSets, with_number, cause_at, cause_of, refusal_of, step_of}
+use Rattle.fm_world.specs.Stands.{Kept, WorldStandsFor, state_with, shown}
+use Rattle.fm_world.proofs.Places.{Stood, stood, absent}
+use Rattle.fm_world.proofs.Runs.{if_err}
+use Rattle.fm_cli.specs.Running.{step_at, IsPlanOf, IsPlanAt, Takes, Rounds, StopsAfterView}
+
+-- the plan of a least flow of the network of one table is one of the same table
+pub plan_is : (k l : Table) (net : Net) (units : Units) (plan : Plan) → l ≡ k → net ≡ net_of k → IsLeast net units → plan ≡ planned (units_over net units) l → IsPlanOf k plan
+plan_is k l net units plan same is least made =
+    record { units = units; least = subst (λ n. IsLeast n units) is least; planned = made ∙ (λ i. planned (units_over (is i) units) (same i)) }
+
+-- where nothing is shown of a view there is no coordinator, and what is shown of one is what it knows
+nothing_shown : (o : Option State) → None ≡ shown o world.View → o ≡ None
+nothing_shown None e = refl
+nothing_shown (Some s) e = absurd (let no : ⊥ = cc in no)
+
+record IsShown (o : Option State) (view : View) : Type 0 where
+  state : State
+  there : o ≡ Some state
+  knowledge : view.knowledge ≡ state.knowledge
+
+is_shown : (o : Option State) (view : View) → Some view ≡ shown o world.View → IsShown o view
+is_shown None view e = absurd (let no : ⊥ = cc in no)
+is_shown (Some s) view e = record { state = s; there = refl; knowledge = cc }
+
+on_ok : {T E : Type 0} {P Q : Type 0} (r : Result T E) → (P → Q) → OnOk r P → OnOk r Q
+on_ok (Ok t) f h = f h
+on_ok (Err e) f h = tt
+
+module _ (k : Kept) (w : WorldOfSets) (at : ℕ) (h : WorldStandsFor k w) where
+  pub unseen : None ≡ shown (state_with k.coordinators at) world.View → NoCoordinator ≡ refusal_of w (step_at at world.View)
+  unseen e = ap (λ o. or_else OutOfMemory (cause_at o (Some Viewed))) (sym (absent at k.coordinators w.replicas h.coordinators (nothing_shown _ e)))
+
+  pub plan_at : (view : View) (plan : Plan) → Some view ≡ shown (state_with k.coordinators at) world.View → IsPlanOf view.knowledge plan → IsPlanAt w at plan
+  plan_at view plan e p =
+      let s : IsShown (state_with k.coordinators at) view = is_shown _ view e in
+      let q : Stood (with_number w.replicas at) s.state = stood at k.coordinators w.replicas h.coordinators s.state s.there in
+      record { replica = q.replica; there = q.at; plan_of = subst (λ t. IsPlanOf t plan) (s.knowledge ∙ q.stands.knowledge) p }
+
+module _ (w : WorldOfSets) (at : ℕ) (plan : Plan) (accepted : cause_of w (step_at at world.View) ≡ None) (planned : IsPlanAt w at plan) where
+  viewed : Takes w (step_at at world.View) (step_of w (step_at at world.View))
+  viewed = record { accepted = accepted; made = refl }
+
+  pub rounds : {T E : Type 0} (r : Result T E) (new : Kept)
+      → OnOk r ((v : WorldOfSets) × Takes (step_of w (step_at at world.View)) (step_at at (world.Commit plan)) v × WorldStandsFor new v)
+      → OnOk r ((v : WorldOfSets) × Rounds w at v × WorldStandsFor new v)
+  rounds r new = on_ok r (λ t. (t.0, record { plan = plan; plan_at = planned; seen = _; view = viewed; commit = t.1 }, t.2))
+
+  pub refuses : {T : Type 0} (r : Result T Refusal)
+      → IfErr r (λ e. e ≡ refusal_of (step_of w (step_at at world.View)) (step_at at (world.Commit plan)))
+      → IfErr r (λ e. (e ≡ refusal_of w (step_at at world.View)) ⊎ StopsAfterView w at e)
+  refuses r = if_err r (λ e same. inr (record { seen = _; view = viewed; stopped = inr (plan, planned, same) }))

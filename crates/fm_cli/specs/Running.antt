@@ -1,0 +1,111 @@
+-- What the steps of a script make of a world, and why one is refused (this project's profile).
+use Rattle.std.specs.Prelude.{◌≡◌, ◌⊎◌, ℕ, ◌+◌, List, [], ◌∷◌, map, take, slice_get, Some, None}
+use Rattle.fm_records.specs.declared.refusal.Refusal.{Refusal}
+use Rattle.fm_records.specs.declared.refusal.Refusal.TheVariants.{OutOfMemory, Uncertified}
+use Rattle.fm_records.specs.Table.{Table}
+use Rattle.fm_records.specs.Know.{know}
+use Rattle.fm_net.specs.Network.{net_of}
+use Rattle.fm_flow.specs.Flows.{Units, IsLeast}
+use Rattle.fm_round.specs.declared.parts.Plan.{Plan}
+use Rattle.fm_round.specs.Planned.{units_over, planned}
+use Rattle.fm_coord.specs.Events.{Replica}
+use Rattle.fm_world.specs.declared.step.Act.{Act as WorldAct}
+use Rattle.fm_world.specs.declared.step.Act.TheVariants as world
+use Rattle.fm_world.specs.declared.step.Step.{Step as WorldStep}
+use Rattle.fm_world.specs.Worlds.{WorldOfSets, opening_world, with_number, cause_of, refusal_of, step_of}
+use Rattle.fm_world.specs.Stands.{Kept, WorldStandsFor}
+use Rattle.fm_world.specs.Agreement.{EachKnows, SameAgree}
+use Rattle.fm_cli.specs.declared.fault.Fault.{Fault}
+use Rattle.fm_cli.specs.declared.script.Act.{Act}
+use Rattle.fm_cli.specs.declared.script.Act.TheVariants as act
+use Rattle.fm_cli.specs.declared.script.Step.{Step}
+use Rattle.fm_cli.specs.Faults.{fault_of}
+
+-- how many entries a history of the program may have
+abbrev pub history_limit : ℕ
+history_limit = 1000000
+
+-- the world in which a script begins: its coordinators, to which nothing happened
+abbrev pub opened : List ℕ → WorldOfSets
+opened listed = opening_world (map (λ n. (n, history_limit)) listed)
+
+-- what a step asks a coordinator for; a round asks it for a view first
+abbrev pub asked : Act → WorldAct
+asked (act.Tell op) = world.Tell op
+asked (act.Cut range) = world.Cut range
+asked (act.Deliver i) = world.Deliver i
+asked (act.Trim n) = world.Trim n
+asked act.Round = world.View
+
+-- a step of the world at the coordinator with the number
+abbrev pub step_at : ℕ → WorldAct → WorldStep
+step_at at act = record { at = at; by = 0; act = act }
+
+-- the plan of a least flow of the network of what is known
+pub record IsPlanOf (k : Table) (plan : Plan) : Type 0 where
+  pub units : Units
+  pub least : IsLeast (net_of k) units
+  pub planned : plan ≡ planned (units_over (net_of k) units) k
+
+-- such a plan for the coordinator with the number, by what it took in
+pub record IsPlanAt (w : WorldOfSets) (at : ℕ) (plan : Plan) : Type 0 where
+  pub replica : Replica
+  pub there : with_number w.replicas at ≡ Some replica
+  pub plan_of : IsPlanOf (know replica.taken) plan
+
+-- a step of the world that has no cause of refusal makes v of w
+pub record Takes (w : WorldOfSets) (s : WorldStep) (v : WorldOfSets) : Type 0 where
+  pub accepted : cause_of w s ≡ None
+  pub made : v ≡ step_of w s
+
+-- a round makes v of w: the view, and then the commit of a plan by what was known
+pub record Rounds (w : WorldOfSets) (at : ℕ) (v : WorldOfSets) : Type 0 where
+  pub plan : Plan
+  pub plan_at : IsPlanAt w at plan
+  pub seen : WorldOfSets
+  pub view : Takes w (step_at at world.View) seen
+  pub commit : Takes seen (step_at at (world.Commit plan)) v
+
+-- what happens in a step of the script makes v of w
+abbrev pub Acts : WorldOfSets → ℕ → Act → WorldOfSets → Type 0
+Acts w at act.Round v = Rounds w at v
+Acts w at a v = Takes w (step_at at (asked a)) v
+
+-- steps, one after another, make v of w
+abbrev pub Come : WorldOfSets → List Step → WorldOfSets → Type 0
+Come w [] v = w ≡ v
+Come w (s ∷ ss) v = (u : WorldOfSets) × Acts w s.at s.act u × Come u ss v
+
+-- after its view a round is refused: no flow was certified or memory was wanted for one, or the commit is
+pub record StopsAfterView (w : WorldOfSets) (at : ℕ) (refusal : Refusal) : Type 0 where
+  pub seen : WorldOfSets
+  pub view : Takes w (step_at at world.View) seen
+  pub stopped : ((refusal ≡ OutOfMemory) ⊎ (refusal ≡ Uncertified)) ⊎ ((plan : Plan) × IsPlanAt w at plan × (refusal ≡ refusal_of seen (step_at at (world.Commit plan))))
+
+-- what happens in a step of the script is refused, and why
+abbrev pub Refuses : WorldOfSets → ℕ → Act → Refusal → Type 0
+Refuses w at act.Round refusal = (refusal ≡ refusal_of w (step_at at world.View)) ⊎ StopsAfterView w at refusal
+Refuses w at a refusal = refusal ≡ refusal_of w (step_at at (asked a))
+
+-- a step of the script is refused, and named, counted from 1; those before it made a world of w
+pub record StopsIn (w : WorldOfSets) (steps : List Step) (fault : Fault) : Type 0 where
+  pub place : ℕ
+  pub step : Step
+  pub there : slice_get steps place ≡ Some step
+  pub before : WorldOfSets
+  pub came : Come w (take place steps) before
+  pub refused : Refuses before step.at step.act fault.refusal
+  pub named : fault.step ≡ Some (place + 1)
+
+-- memory was wanted before the first step, or a step is refused
+abbrev pub Stops : List ℕ → List Step → Fault → Type 0
+Stops listed steps fault = (fault ≡ fault_of OutOfMemory) ⊎ StopsIn (opened listed) steps fault
+
+-- all steps ran: the coordinators stand for a world that the steps come to, each knows what it took in, and those that took
+-- in the same operations agree
+pub record IsRun (listed : List ℕ) (steps : List Step) (kept : Kept) : Type 0 where
+  pub world : WorldOfSets
+  pub came : Come (opened listed) steps world
+  pub stands : WorldStandsFor kept world
+  pub each_knows : EachKnows kept world
+  pub same_agree : SameAgree kept world

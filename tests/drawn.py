@@ -1,0 +1,171 @@
+#!/usr/bin/env python3
+"""Draws scripts of several coordinators, the same for the same seeds: `gossip`, in which they pass on what they know,
+`refused`, which has a step that is refused, and `rounds`.
+
+    tests/drawn.py gossip SEED
+    tests/drawn.py refused SEED KIND
+    tests/drawn.py rounds SEED COORDINATORS
+"""
+import json
+import random
+import sys
+import uuid
+
+PHASES = ("pending", "running", "done")
+REFUSED = ("field", "turned", "beyond", "below and beyond", "let go", "sunk", "ahead", "unlisted", "unnamed", "later", "twice")
+NAMES = ("news", "what all know", "W\u00f6rter \u2192", 'a "quote"', "tab\tand \\", "7")
+
+
+def unique(n):
+    return str(uuid.UUID(int=n))
+
+
+def operation(chance):
+    """Of few jobs, machines and tasks, so that operations meet."""
+    job, machine, task = unique(chance.randint(1, 3)), unique(chance.randint(11, 14)), unique(chance.randint(21, 26))
+    register = {"version": chance.randint(0, 3), "writer": chance.randint(1, 3)}
+    gone = chance.random() < 0.15
+    return chance.choice((
+        {"job": {"id": job, **register, "withdrawn": gone, "wait": chance.randint(0, 900), "preempt": chance.randint(0, 900)}},
+        {"spec": {"id": task, **register, "withdrawn": gone, "job": job, "request": chance.choice((0, 100, 300, 700))}},
+        {"spec": {"id": task, **register, "withdrawn": gone, "job": job, "request": chance.choice((0, 100, 300, 700))}},
+        {"progress": {"id": task, "attempt": chance.choice((0, 0, 1, 2)), "phase": chance.choice(PHASES)}},
+        {"machine": {"id": machine, "incarnation": chance.choice((1, 1, 2)), **register, "up": not gone,
+                     "slots": chance.randint(1, 3), "nic": chance.randint(0, 1000)}},
+        {"report": {"id": machine, "incarnation": chance.choice((1, 1, 2)), "number": chance.randint(0, 3),
+                    "used": chance.randint(0, 900)}},
+        {"propose": {"id": task, "attempt": chance.choice((0, 0, 1, 2)), "coordinator": chance.randint(1, 64),
+                     "machine": machine, "incarnation": chance.choice((1, 1, 2))}}))
+
+
+class Drawing:
+    """A script as it grows, with how many deltas each coordinator has, its floor, and the names of packets."""
+
+    def __init__(self, seed, coordinators=None):
+        self.chance = random.Random("%d %s" % (seed, coordinators))
+        self.numbers = self.chance.sample(range(1, 65), coordinators or self.chance.randint(2, 5))
+        self.ends, self.floors = dict.fromkeys(self.numbers, 0), dict.fromkeys(self.numbers, 0)
+        self.names, self.steps = [], []
+
+    def add(self, at, act, asked):
+        self.steps.append({"at": at, act: asked})
+
+    def tell(self):
+        at = self.chance.choice(self.numbers)
+        self.ends[at] += 1
+        self.add(at, "tell", operation(self.chance))
+
+    def cut(self):
+        at = self.chance.choice(self.numbers)
+        count = len(self.names)
+        asked = {"name": NAMES[count] if count < len(NAMES) else "packet %d" % count}
+        if self.chance.random() < 0.6:
+            ends = sorted(self.chance.randint(self.floors[at], self.ends[at]) for _ in range(2))
+            asked["from"], asked["to"] = ends
+        self.names.append(asked["name"])
+        self.add(at, "cut", asked)
+
+    def deliver(self):
+        if self.names:
+            at = self.chance.choice(self.numbers)
+            self.ends[at] += 1
+            self.add(at, "deliver", self.chance.choice(self.names[-6:]))
+
+    def trim(self):
+        at = self.chance.choice(self.numbers)
+        self.floors[at] = self.chance.randint(self.floors[at], (self.floors[at] + self.ends[at] + 1) // 2)
+        self.add(at, "trim", self.floors[at])
+
+    def draw(self, count):
+        for _ in range(count):
+            self.chance.choice((self.tell,) * 8 + (self.cut,) * 4 + (self.deliver,) * 5 + (self.trim,))()
+
+    def exchange(self, name):
+        """Everyone cuts all that it knows, and everyone is given it, in some order."""
+        for at in self.numbers:
+            self.add(at, "cut", {"name": "%s of %d" % (name, at)})
+        given = [(at, sender) for at in self.numbers for sender in self.numbers if at != sender]
+        self.chance.shuffle(given)
+        for at, sender in given:
+            self.add(at, "deliver", "%s of %d" % (name, sender))
+
+    def refused(self, kind):
+        """A step that is refused, at a coordinator whose floor is above 0 and which cut a packet."""
+        at = self.numbers[0]
+        self.draw(20)
+        self.add(at, "tell", operation(self.chance))
+        self.add(at, "cut", {"name": "given"})
+        end = self.ends[at] = self.ends[at] + 1
+        floor = self.floors[at] = max(1, self.floors[at])
+        self.add(at, "trim", floor)
+        other = next(n for n in range(1, 65) if n not in self.numbers)
+        bad = {"job": {"id": unique(1), "version": 1, "writer": 65, "withdrawn": False, "wait": 0, "preempt": 0}}
+        self.add(*{
+            "field": (at, "tell", bad),
+            "turned": (at, "cut", {"name": "no", "from": end, "to": end - 1}),
+            "beyond": (at, "cut", {"name": "no", "from": floor, "to": end + 1}),
+            "below and beyond": (at, "cut", {"name": "no", "from": 0, "to": end + 1}),
+            "let go": (at, "cut", {"name": "no", "from": floor - 1, "to": end}),
+            "sunk": (at, "trim", floor - 1),
+            "ahead": (at, "trim", end + 1),
+            "unlisted": (other, "deliver", "no"),
+            "unnamed": (at, "deliver", "no"),
+            "later": (at, "deliver", "later"),
+            "twice": (at, "cut", {"name": "given", "from": 0, "to": end + 1}),
+        }[kind])
+        self.add(at, "cut", {"name": "later"})
+        self.draw(8)
+
+    def cluster(self, first, wait):
+        """Jobs, machines and tasks that are known as the greatest of their kind, each told to some coordinator."""
+        draw, register = self.chance.randint, {"version": 1, "writer": 1}
+        jobs, hosts, tasks = ([unique(first + 100 * kind + n) for n in range(draw(kind, 2 * kind))] for kind in (1, 2, 3))
+        told = [{"job": {"id": job, **register, "withdrawn": False, "wait": wait + draw(0, 300), "preempt": draw(0, 300)}}
+                for job in jobs]
+        told += [{"machine": {"id": host, "incarnation": 1, **register, "up": True, "slots": draw(1, 2), "nic": draw(0, 900)}}
+                 for host in hosts]
+        told += [{"report": {"id": host, "incarnation": 1, "number": 1, "used": draw(0, 400)}} for host in hosts[::2]]
+        told += [{"spec": {"id": task, **register, "withdrawn": False, "job": self.chance.choice(jobs),
+                           "request": 100 * draw(0, 4)}} for task in tasks]
+        self.chance.shuffle(told)
+        for op in told:
+            self.add(self.chance.choice(self.numbers), "tell", op)
+
+    def rounds(self):
+        for at in self.numbers * 2:
+            self.add(at, "round", True)
+
+    def text(self):
+        return json.dumps({"coordinators": self.numbers, "steps": self.steps})
+
+
+def gossip(seed):
+    """Coordinators that pass on some of what they know; those of every third seed then exchange all."""
+    drawing = Drawing(seed)
+    drawing.draw(drawing.chance.randint(30, 70))
+    if seed % 3 == 0:
+        drawing.exchange("all")
+    return drawing.text()
+
+
+def refused(seed, kind):
+    """A step of the kind, one of REFUSED, amid others."""
+    drawing = Drawing(seed)
+    drawing.refused(kind)
+    return drawing.text()
+
+
+def rounds(seed, coordinators):
+    """Rounds on a cluster that all know, more jobs, which are dearer, and rounds again; in the end all know the same."""
+    drawing = Drawing(seed, coordinators)
+    for first, wait in ((1000, 0), (2000, 600)):
+        drawing.cluster(first, wait)
+        drawing.exchange("told %d" % first)
+        drawing.rounds()
+        drawing.exchange("done %d" % first)
+    return drawing.text()
+
+
+if __name__ == "__main__":
+    kind, seed, *more = sys.argv[1:]
+    print({"gossip": gossip, "refused": refused, "rounds": lambda s, n: rounds(s, int(n))}[kind](int(seed), *more))
