@@ -1,5 +1,5 @@
 -- What becomes of a table that is told the next job, machine state or attempt.
-use Rattle.std.proofs.Common.{◌≡◌, ◌≤◌, ◌<◌, ◌==◌, ℕ, ◌+◌, Bool, true, false, cond, [], ◌∷◌, Option, Some, None, option_map, Result, Ok, refl, sym, ap, ◌∙◌, subst, arith, eq-eqb}
+use Rattle.std.proofs.Common.{◌≡◌, ◌≤◌, ◌<◌, ◌==◌, ℕ, ◌+◌, Bool, true, false, cond, [], ◌∷◌, Option, Some, None, option_map, Ok, refl, sym, ap, ◌∙◌, arith, eq-eqb}
 use Rattle.std.specs.Option.{ok_or, IfSome}
 use Rattle.std.specs.Ordering.{nat_cmp, ordering_then, is_lt}
 use Rattle.std.specs.Cmp.{nat_cmp_total, nat_cmp_is}
@@ -15,16 +15,13 @@ use Rattle.fm_records.specs.declared.ops.Op.TheVariants as op
 use Rattle.fm_records.specs.declared.ops.Phase.TheVariants.{Pending}
 use Rattle.fm_records.specs.declared.records.JobReg.{JobReg}
 use Rattle.fm_records.specs.declared.records.MachineReg.{MachineReg}
-use Rattle.fm_records.specs.declared.records.Report.{Report}
 use Rattle.fm_records.specs.declared.records.Progress.{Progress}
-use Rattle.fm_records.specs.declared.records.SpecReg.{SpecReg}
 use Rattle.fm_records.specs.Options.{when, and_then, or_else, passes}
-use Rattle.fm_records.specs.Orders.{job_cmp, machine_cmp, report_cmp, progress_cmp, phase_cmp}
+use Rattle.fm_records.specs.Orders.{job_cmp, machine_cmp, report_cmp, progress_cmp}
 use Rattle.fm_records.specs.Table.{Table, TaskValue, MachineValue}
 use Rattle.fm_records.specs.Know.{none_begun, know, job_in, state_in, progress_in, job, task, machine, machine_at, incarnation, state_at}
 use Rattle.fm_records.specs.LookupLaws.{lookup_job, lookup_task, lookup_machine}
 use Rattle.fm_records.specs.RangeLaws.{know_table}
-use Rattle.fm_records.specs.Ranges.{is_count}
 use Rattle.fm_records.specs.Spelled.{IsTable}
 use Rattle.fm_records.specs.Facts.{job_of, state_of, incarnation_of, progress_of, attempt_of}
 use Rattle.fm_records.specs.Joined.{table_join, task_join, machine_join}

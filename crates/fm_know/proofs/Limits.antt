@@ -1,12 +1,11 @@
 -- The limits that the fields of known records keep.
-use Rattle.std.proofs.Common.{◌≡◌, ℕ, ◌≤◌, Bool, true, false, cond, Option, Some, None, refl, sym, ◌∙◌, ap}
-use Rattle.std.specs.Prelude.{◌&&◌, is_none, nat_le}
+use Rattle.std.proofs.Common.{◌≡◌, ℕ, Bool, true, false, cond, Option, Some, None, refl}
+use Rattle.std.specs.Prelude.{◌&&◌, is_none}
 use Rattle.std.specs.Option.{IfSome}
 use Rattle.std.specs.Ordering.{nat_cmp}
 use Rattle.std.proofs.lemmas.Bool.{leb-true}
 use Rattle.fm_lattice.specs.Maps.{lookup}
 use Rattle.fm_records.specs.declared.ops.Field.{Field}
-use Rattle.fm_records.specs.declared.ops.Field.TheVariants as field
 use Rattle.fm_records.specs.declared.records.JobReg.{JobReg}
 use Rattle.fm_records.specs.declared.records.SpecReg.{SpecReg}
 use Rattle.fm_records.specs.declared.records.MachineReg.{MachineReg}

@@ -1,6 +1,5 @@
 -- What single steps add to a network.
-use Rattle.std.proofs.Common.{◌≡◌, ◌↔◌, ◌⊎◌, ℕ, Bool, true, false, cond, Option, Some, None, refl, sym, ◌∙◌, ap, subst, inl, inr, IsTrue, IsSome}
-use Rattle.std.specs.Prelude.{is_some}
+use Rattle.std.proofs.Common.{◌≡◌, ◌↔◌, ◌⊎◌, ℕ, Bool, true, false, cond, Option, Some, refl, sym, ◌∙◌, ap, subst, inl, inr, IsTrue, IsSome}
 use Rattle.fm_records.specs.Table.{Table}
 use Rattle.fm_net.specs.declared.node.Node.{Node}
 use Rattle.fm_net.specs.Nodes.{ends_cmp}
@@ -10,7 +9,7 @@ use Rattle.std.specs.Cmp.{Equal-is}
 use Rattle.std.proofs.lemmas.Cmp.{tied_itself}
 use Rattle.fm_net.specs.Net.{Net, has_node, arc_at, are_ends}
 use Rattle.fm_net.specs.Network.{is_node, arc_of}
-use Rattle.fm_policy.specs.Building.{Stands, Leads, IsPart, Grows, Adds}
+use Rattle.fm_policy.specs.Building.{Stands, Leads, Adds}
 
 pub adds_nothing : (k : Table) (net : Net) → Adds k net net
 adds_nothing k net = record { part = λ p. p; grows = record { nodes = λ n s. s; arcs = λ a b l. l } }

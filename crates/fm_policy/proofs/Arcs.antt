@@ -1,5 +1,5 @@
 -- The nodes and arcs of a table's network, one by one.
-use Rattle.std.proofs.Common.{◌≡◌, ℕ, ◌+◌, ◌-◌, ◌≤◌, Bool, true, false, cond, Option, Some, None, refl, sym, ◌∙◌, ap, IsTrue, eq-eqb}
+use Rattle.std.proofs.Common.{◌≡◌, ℕ, ◌+◌, ◌-◌, ◌≤◌, Bool, true, false, cond, Option, Some, None, refl, ◌∙◌, ap, eq-eqb}
 use Rattle.std.specs.Prelude.{◌==◌, ◌&&◌, not, nat_le, option_map, is_some}
 use Rattle.std.specs.Ordering.{nat_cmp}
 use Rattle.std.proofs.lemmas.Bool.{le-leb}
@@ -8,12 +8,11 @@ use Rattle.fm_records.specs.declared.records.JobReg.{JobReg}
 use Rattle.fm_records.specs.declared.records.SpecReg.{SpecReg}
 use Rattle.fm_records.specs.declared.records.MachineReg.{MachineReg}
 use Rattle.fm_records.specs.Options.{when, and_then, only_if, passes}
-use Rattle.fm_records.specs.Table.{Table, TaskValue, MachineValue}
-use Rattle.fm_records.specs.Facts.{job_of, spec_of, live_spec, state_of, open_state, is_open, holder_of, holds, load_of, spare_of}
-use Rattle.fm_net.specs.declared.node.Node.{Node}
+use Rattle.fm_records.specs.Table.{Table}
+use Rattle.fm_records.specs.Facts.{job_of, spec_of, live_spec, state_of, open_state, is_open, holder_of, load_of, spare_of}
 use Rattle.fm_net.specs.declared.node.Node.TheVariants.{Sink, Unscheduled, Request, Machine, Task}
 use Rattle.fm_net.specs.Network.{is_node, is_held, is_live_of, waits_for, live_tasks, places, place_arc, arc_of}
-use Rattle.fm_policy.proofs.Listed.{HasKey, listed, some_listed, count_listed}
+use Rattle.fm_policy.proofs.Listed.{HasKey, listed, some_listed}
 
 -- what passes a test was there
 was_there : {A : Type 0} (test : A → Bool) (o : Option A) (a : A) → only_if test o ≡ Some a → o ≡ Some a

@@ -1,11 +1,10 @@
 -- What a network has of a table's, it keeps as it grows.
-use Rattle.std.proofs.Common.{◌≡◌, ℕ, Option, Some, None}
-use Rattle.fm_records.specs.declared.records.SpecReg.{SpecReg}
+use Rattle.std.proofs.Common.{ℕ, Option, Some, None}
 use Rattle.fm_records.specs.Table.{Table}
-use Rattle.fm_records.specs.Facts.{is_open, holder_of}
+use Rattle.fm_records.specs.Facts.{holder_of}
 use Rattle.fm_net.specs.declared.node.Node.TheVariants.{Sink, Unscheduled, Request, Machine, Task}
 use Rattle.fm_net.specs.Net.{Net}
-use Rattle.fm_policy.specs.Building.{Stands, Grows, HasMachine, HasWaiting, HasHolder, HasTask, MachinesStand, CoversMachine, CoversTask, CoversPlace}
+use Rattle.fm_policy.specs.Building.{Grows, HasHolder, MachinesStand, CoversMachine, CoversTask, CoversPlace}
 
 module _ (k : Table) (old new : Net) (grows : Grows old new) where
   pub machines_still : MachinesStand k old → MachinesStand k new

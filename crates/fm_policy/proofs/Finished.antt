@@ -1,5 +1,5 @@
 -- A network that is part of a table's and has all of it is the table's network.
-use Rattle.std.proofs.Common.{◌≡◌, ℕ, Bool, true, false, cond, List, [], ◌∷◌, Option, Some, None, refl, sym, ◌∙◌, ap, subst, inl, inr, IsTrue, IsSome}
+use Rattle.std.proofs.Common.{◌≡◌, ℕ, Bool, true, false, cond, List, [], ◌∷◌, Option, Some, None, refl, sym, ◌∙◌, ap, subst, inl, inr, IsTrue}
 use Rattle.std.specs.Prelude.{◌==◌, ◌&&◌, ◌||◌, not, is_some, option_map}
 use Rattle.std.specs.List.{list_any, filter_map, cons_option}
 use Rattle.std.specs.Ordering.{is_eq}
@@ -7,17 +7,17 @@ use Rattle.std.specs.Cmp.{Equal-is}
 use borrow.Author.Tests.{eqb-true}
 use Rattle.fm_records.specs.declared.records.SpecReg.{SpecReg}
 use Rattle.fm_records.specs.Sets.{IsMember}
-use Rattle.fm_records.specs.Options.{when, and_then, only_if, passes}
+use Rattle.fm_records.specs.Options.{when, only_if, passes}
 use Rattle.fm_records.specs.Table.{Table}
-use Rattle.fm_records.specs.Facts.{live_spec, is_live, open_state, is_open, is_present, won_spot, holder_of, holds, job_of}
+use Rattle.fm_records.specs.Facts.{live_spec, open_state, is_open, is_present, won_spot, holder_of, holds}
 use Rattle.fm_net.specs.declared.node.Node.{Node}
 use Rattle.fm_net.specs.declared.node.Node.TheVariants.{Sink, Unscheduled, Request, Machine, Task}
 use Rattle.fm_net.specs.Nodes.{node_cmp}
 use Rattle.fm_net.specs.NodeOrder.{node_exact, node_total}
 use Rattle.std.proofs.lemmas.Cmp.{tied_itself}
-use Rattle.fm_net.specs.Net.{Net, CanBeNet, has_node, arc_at, sink_alone}
-use Rattle.fm_net.specs.Network.{IsNetworkOf, is_node, is_held, is_live_of, waits_for, live_tasks, arc_of}
-use Rattle.fm_policy.specs.Building.{Stands, Leads, IsPart, HasTask, HasWaiting, HasHolder, CoversMachine, CoversTask, CoversPlace, EachStands, request_named}
+use Rattle.fm_net.specs.Net.{Net, CanBeNet, arc_at, sink_alone}
+use Rattle.fm_net.specs.Network.{IsNetworkOf, is_node, is_held, is_live_of, waits_for, arc_of}
+use Rattle.fm_policy.specs.Building.{Stands, Leads, IsPart, HasWaiting, HasHolder, CoversMachine, CoversTask, CoversPlace, request_named}
 use Rattle.fm_policy.proofs.Arcs.{spec_tested, place_needs}
 
 no_way : {A : Type 0} → false ≡ true → A

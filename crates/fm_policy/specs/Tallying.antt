@@ -1,5 +1,5 @@
 -- What the tallies of a knowledge are.
-use Rattle.std.specs.Prelude.{◌≡◌, ℕ, cond, unwrap_or, count_by, sum_by}
+use Rattle.std.specs.Prelude.{◌≡◌, ℕ, cond, unwrap_or, sum_by}
 use Rattle.std.specs.Ordering.{nat_cmp}
 use Rattle.std.specs.BTreeMap.{get}
 use Rattle.fm_records.specs.Table.{Table}

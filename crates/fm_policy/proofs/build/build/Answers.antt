@@ -1,9 +1,8 @@
 use Rattle.std.proofs.Common.{◌≡◌, ℕ, true, subst, sym}
 use Rattle.fm_net.specs.declared.node.Node.TheVariants.{Request}
-use Rattle.fm_net.specs.Net.{Net, sink_alone}
 use Rattle.fm_net.specs.Network.{IsNetworkOf, is_node}
 use Rattle.fm_net.specs.NetworkLaws.{network_is}
-use Rattle.fm_policy.specs.Building.{IsPart, CoversMachine, CoversTask, CoversPlace}
+use Rattle.fm_policy.specs.Building.{IsPart, CoversPlace}
 use Rattle.fm_policy.proofs.Adds.{adds_then}
 use Rattle.fm_policy.proofs.Covered.{machine_still, task_still}
 use Rattle.fm_policy.proofs.Finished.{sink_part, named_stands, stands_named, request_stands, is_network}

@@ -1,11 +1,10 @@
-use Rattle.std.proofs.Common.{◌≡◌, ℕ, Some, sym, ◌∙◌, ap, arith, true}
-use Rattle.fm_records.specs.Options.{passes}
-use Rattle.fm_net.specs.declared.node.Node.TheVariants.{Sink, Unscheduled, Request, Machine, Task}
+use Rattle.std.proofs.Common.{Some, sym, ◌∙◌, ap}
+use Rattle.fm_net.specs.declared.node.Node.TheVariants.{Sink, Unscheduled}
 use Rattle.std.specs.Prelude.{◌==◌}
 use Rattle.fm_net.specs.Network.{is_live_of}
-use Rattle.fm_policy.proofs.Adds.{adds_nothing, adds_then, adds_node, adds_arc}
-use Rattle.fm_policy.proofs.Listed.{HasKey, count_listed}
-use Rattle.fm_policy.proofs.Arcs.{spec_tested, live_listed, live_of_job, job_is_node, request_is_node, machine_to_sink, job_to_sink, task_to_machine, task_to_request, task_to_job, request_to_machine}
+use Rattle.fm_policy.proofs.Adds.{adds_then, adds_node, adds_arc}
+use Rattle.fm_policy.proofs.Listed.{count_listed}
+use Rattle.fm_policy.proofs.Arcs.{spec_tested, live_listed, job_is_node, job_to_sink}
 use Rattle.fm_policy.proofs.build.put_job.Goals as goal
 
 pub put_arc-requires-clause-capacity_above : goal.put_arc-requires-clause-capacity_above

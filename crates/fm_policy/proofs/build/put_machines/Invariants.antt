@@ -1,5 +1,4 @@
-use Rattle.std.proofs.Common.{◌≡◌, ℕ}
-use Rattle.fm_policy.specs.Building.{Adds, CoversMachine, CoversTask, CoversPlace}
+use Rattle.fm_policy.specs.Building.{Adds, CoversMachine}
 use Rattle.fm_policy.proofs.Listed.{HoldsBefore}
 use Rattle.fm_policy.proofs.build.put_machines.Given as goal
 

@@ -1,9 +1,7 @@
-use Rattle.std.proofs.Common.{◌≡◌, ℕ, Some, sym, ◌∙◌, ap, arith, true}
-use Rattle.fm_records.specs.Options.{passes}
-use Rattle.fm_net.specs.declared.node.Node.TheVariants.{Sink, Unscheduled, Request, Machine, Task}
-use Rattle.fm_policy.proofs.Adds.{adds_nothing, adds_then, adds_node, adds_arc}
-use Rattle.fm_policy.proofs.Listed.{HasKey, count_listed}
-use Rattle.fm_policy.proofs.Arcs.{live_listed, live_of_job, job_is_node, request_is_node, machine_to_sink, job_to_sink, task_to_machine, task_to_request, task_to_job, request_to_machine}
+use Rattle.std.proofs.Common.{◌≡◌, Some, sym, arith}
+use Rattle.fm_net.specs.declared.node.Node.TheVariants.{Request, Machine}
+use Rattle.fm_policy.proofs.Adds.{adds_arc}
+use Rattle.fm_policy.proofs.Arcs.{request_to_machine}
 use Rattle.std.proofs.Common.{◌+◌}
 use Rattle.fm_records.specs.Facts.{load_of}
 use Rattle.fm_net.specs.Network.{arc_of}

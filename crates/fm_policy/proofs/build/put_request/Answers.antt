@@ -1,8 +1,8 @@
-use Rattle.fm_policy.specs.Building.{CoversMachine, CoversTask, CoversPlace}
+use Rattle.fm_policy.specs.Building.{CoversPlace}
 use Rattle.fm_policy.proofs.Adds.{adds_then}
 use Rattle.fm_policy.proofs.Listed.{one_more, all_done}
-use Rattle.fm_policy.proofs.Arcs.{open_listed, live_listed, place_needs}
-use Rattle.fm_policy.proofs.Covered.{machine_still, task_still, place_still}
+use Rattle.fm_policy.proofs.Arcs.{place_needs}
+use Rattle.fm_policy.proofs.Covered.{place_still}
 use Rattle.fm_policy.proofs.build.put_request.Goals as goal
 
 pub loop-machine-preserved : goal.loop-machine-preserved

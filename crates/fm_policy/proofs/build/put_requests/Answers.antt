@@ -1,4 +1,4 @@
-use Rattle.std.proofs.Common.{◌≡◌, get_or, subst, add-one, inl, inr}
+use Rattle.std.proofs.Common.{get_or, subst, add-one, inl, inr}
 use Rattle.fm_net.specs.declared.node.Node.TheVariants.{Request}
 use Rattle.fm_policy.specs.Building.{CoversPlace}
 use Rattle.fm_policy.proofs.Adds.{adds_then}

@@ -1,9 +1,7 @@
-use Rattle.std.proofs.Common.{◌≡◌, ℕ, Some, sym, ◌∙◌, ap, arith, true}
+use Rattle.std.proofs.Common.{sym, ap, true}
 use Rattle.fm_records.specs.Options.{passes}
-use Rattle.fm_net.specs.declared.node.Node.TheVariants.{Sink, Unscheduled, Request, Machine, Task}
-use Rattle.fm_policy.proofs.Adds.{adds_nothing, adds_then, adds_node, adds_arc}
-use Rattle.fm_policy.proofs.Listed.{HasKey, count_listed}
-use Rattle.fm_policy.proofs.Arcs.{live_listed, live_of_job, job_is_node, request_is_node, machine_to_sink, job_to_sink, task_to_machine, task_to_request, task_to_job, request_to_machine}
+use Rattle.fm_net.specs.declared.node.Node.TheVariants.{Task}
+use Rattle.fm_policy.proofs.Adds.{adds_then, adds_node}
 use Rattle.fm_policy.proofs.build.put_task.Goals as goal
 
 pub returns-clause-adds : goal.returns-clause-adds

@@ -1,5 +1,4 @@
-use Rattle.std.proofs.Common.{◌≡◌, ◌<◌, ap, ◌∙◌, sym, arith}
-use Rattle.fm_records.specs.Facts.{attempt_of}
+use Rattle.std.proofs.Common.{ap, arith}
 use Rattle.fm_know.proofs.AfterTelling.{attempt_told}
 use Rattle.fm_know.proofs.knowledge.Knowledge.next_attempt.Goals as goal
 

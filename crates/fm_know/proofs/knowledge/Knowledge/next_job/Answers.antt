@@ -1,5 +1,5 @@
-use Rattle.std.proofs.Common.{◌≡◌, Some, ap, ◌∙◌, sym}
-use Rattle.fm_know.specs.Mutators.{next_version, job_version}
+use Rattle.std.proofs.Common.{ap, ◌∙◌, sym}
+use Rattle.fm_know.specs.Mutators.{next_version}
 use Rattle.fm_know.proofs.AfterTelling.{some_of, job_told}
 use Rattle.fm_know.proofs.knowledge.Knowledge.next_job.Goals as goal
 

@@ -1,5 +1,4 @@
-use Rattle.std.proofs.Common.{◌≡◌, IsTrue, true, false, sym, ap, ◌∙◌, true≢false}
-use Rattle.fm_records.specs.Joined.{table_join}
+use Rattle.std.proofs.Common.{sym, ap, ◌∙◌, true≢false}
 use Rattle.fm_know.proofs.knowledge.KnowledgeJoin.leq.Goals as goal
 use Rattle.fm_know.proofs.knowledge.KnowledgeJoin.leq.Goals.{then-leq, else-leq, then-leq-2, else-leq-2}
 

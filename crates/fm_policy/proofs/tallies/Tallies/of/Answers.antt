@@ -1,5 +1,5 @@
 use Rattle.fm_records.specs.Table.{TaskValue}
-use Rattle.std.proofs.Common.{ℕ, ◌≡◌, ◌≤◌, ◌<◌, ◌+◌, ◌^◌, Bool, true, false, cond, ap, arith, length}
+use Rattle.std.proofs.Common.{ℕ, ◌≡◌, ◌≤◌, ◌<◌, ◌+◌, ◌^◌, Bool, true, false, cond, arith, length}
 use Rattle.std.proofs.lemmas.List.Sums.{sum_by-cons}
 use Rattle.fm_records.specs.Facts.{holds, request_of}
 use Rattle.fm_net.specs.Network.{is_live_of}
