@@ -1,17 +1,16 @@
 -- A round at a coordinator of a world that stands for a world of sets.
-use Rattle.std.proofs.Common.{◌≡◌, ◌⊎◌, ℕ, Option, Some, None, Result, Ok, Err, IfErr, OnOk, refl, sym, ap, ◌∙◌, subst, inl, inr}
+use Rattle.std.proofs.Common.{◌≡◌, ◌⊎◌, ℕ, Option, Some, None, Result, Ok, Err, IfErr, OnOk, refl, sym, ap, ◌∙◌, subst, inr}
 use Rattle.fm_records.specs.declared.refusal.Refusal.{Refusal}
 use Rattle.fm_records.specs.declared.refusal.Refusal.TheVariants.{OutOfMemory, NoCoordinator}
 use Rattle.fm_records.specs.Options.{or_else}
 use Rattle.fm_records.specs.Table.{Table}
-use Rattle.fm_records.specs.Know.{know}
 use Rattle.fm_net.specs.Net.{Net}
 use Rattle.fm_net.specs.Network.{net_of}
 use Rattle.fm_flow.specs.Flows.{Units, IsLeast}
 use Rattle.fm_round.specs.declared.parts.Plan.{Plan}
 use Rattle.fm_round.specs.Planned.{units_over, planned}
 use Rattle.fm_coord.specs.declared.view.View.{View}
-use Rattle.fm_coord.specs.Events.{Viewed, Replica}
+use Rattle.fm_coord.specs.Events.{Viewed}
 use Rattle.fm_coord.specs.States.{State}
 use Rattle.fm_world.specs.declared.step.Act.TheVariants as world
 use Rattle.fm_world.specs.Worlds.{WorldOfSets, with_number, cause_at, cause_of, refusal_of, step_of}

@@ -1,16 +1,12 @@
 -- Why the program stops where it solves, from why its parts do.
-use Rattle.std.proofs.Common.{◌≡◌, ℕ, List, Bool, Option, None, Result, Ok, Err, IfErr, OnOk, subst, inr}
+use Rattle.std.proofs.Common.{◌≡◌, ℕ, List, Bool, Option, Result, Ok, Err, IfErr, OnOk, subst, inr}
 use Rattle.std.specs.Io.KnownBytes.{Appends}
-use Rattle.std.specs.Result.{IsErrAnd, OnErr}
+use Rattle.std.specs.Result.{OnErr}
 use Rattle.fm_records.specs.declared.refusal.Refusal.{Refusal}
-use Rattle.fm_records.specs.Table.{Table}
 use Rattle.fm_net.specs.Net.{Net}
-use Rattle.fm_net.specs.Network.{net_of}
 use Rattle.fm_flow.specs.Flows.{Units, IsLeast}
 use Rattle.fm_dimacs.specs.Sending.{AppendsPrefix, StopsBy}
 use Rattle.fm_dimacs.specs.Solution.{solution_text}
-use Rattle.fm_cli.specs.declared.fault.Fault.{Fault}
-use Rattle.fm_cli.specs.Faults.{fault_of}
 use Rattle.fm_cli.specs.Output.{IsSolved, LeavesUnsolved}
 
 -- a least flow's text that is written is a solution

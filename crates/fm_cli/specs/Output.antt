@@ -1,9 +1,9 @@
 -- What the program writes once the steps of a script ran, and what it has written where it stops (this project's profile).
-use Rattle.std.specs.Prelude.{◌≡◌, ◌⊎◌, ◌==◌, ℕ, List, [], ◌∷◌, ◌++◌, Bool, true, cond, codes, decimal, Option, Some, None, IsSomeAnd, option_map, position, slice_get}
+use Rattle.std.specs.Prelude.{◌≡◌, ◌⊎◌, ℕ, List, [], ◌∷◌, ◌++◌, Bool, cond, codes, decimal, Option, Some, None, IsSomeAnd, option_map, position, slice_get}
 use Rattle.std.specs.Io.KnownBytes.{Appends}
 use Rattle.hex.specs.Hex.{encode_lower}
 use Rattle.fm_records.specs.declared.refusal.Refusal.{Refusal}
-use Rattle.fm_records.specs.declared.refusal.Refusal.TheVariants.{OutOfMemory, NoCoordinator, NoPacket, Uncertified}
+use Rattle.fm_records.specs.declared.refusal.Refusal.TheVariants.{OutOfMemory, NoCoordinator, Uncertified}
 use Rattle.fm_records.specs.Options.{and_then}
 use Rattle.fm_records.specs.Table.{Table}
 use Rattle.fm_records.specs.Know.{know}
@@ -18,7 +18,7 @@ use Rattle.fm_dimacs.specs.Solution.{solution_text}
 use Rattle.fm_dimacs.specs.Text.{dump_text}
 use Rattle.fm_coord.specs.Events.{Sent, Replica}
 use Rattle.fm_coord.specs.Replays.{seen}
-use Rattle.fm_world.specs.Worlds.{WorldOfSets, with_number}
+use Rattle.fm_world.specs.Worlds.{WorldOfSets}
 use Rattle.fm_cli.specs.declared.agree.Disagreement.{Disagreement}
 use Rattle.fm_cli.specs.declared.fault.Fault.{Fault}
 use Rattle.fm_cli.specs.declared.script.Step.{Step}

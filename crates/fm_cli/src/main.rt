@@ -51,7 +51,8 @@ fn given_words(rt: &HostRuntime) -> Result<Vec<String>, Ending> {
 // How a run ends whose words cannot be read: one is no UTF-8, or memory is wanted.
 fn no_words(alloc: Global, kind: io::ErrorKind) -> Ending {
     if kind == io::ErrorKind::InvalidData {
-        let text = "error: a word of the command line is not UTF-8\n\nFor more information, try '--help'.\n";
+        let text =
+            "error: a word of the command line is not UTF-8\n\nFor more information, try '--help'.\n";
         if let Ok(text) = String::from_str(alloc, text) {
             return Ending::Wrong(text);
         }

@@ -1,4 +1,4 @@
-use Rattle.std.proofs.Common.{sym, ap, ◌∙◌, inl, Some}
+use Rattle.std.proofs.Common.{sym, ◌∙◌, inl}
 use Rattle.fm_cli.proofs.Rounds.{unseen, plan_at, rounds, refuses}
 use Rattle.fm_cli.proofs.run.round.Goals as goal
 
