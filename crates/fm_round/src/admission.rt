@@ -23,8 +23,8 @@ use std::alloc::Global;
 /// What the plan of the coordinator comes to: the places are judged in their order, and then the preempts, each on what is
 /// known with the operations of the earlier accepted entries, and the first rule that applies is the answer.
 /// A machine that got a place has a load of at most its nic after all that is added.
-/// O(n log n) in the records that are known, once, and O(log n) for each entry, but for the moves of what lies behind new
-/// proposals. Nothing but want of memory is refused.
+/// O(n log n) in the records that are known, once, and for each entry O(log n) and the moves within a block of a map.
+/// Nothing but want of memory is refused.
 pub fn admit(
     alloc: Global,
     knowledge: &Knowledge,
