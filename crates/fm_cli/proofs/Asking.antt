@@ -17,7 +17,7 @@ use Rattle.fm_world.specs.Worlds.{WorldOfSets, with_number}
 use Rattle.fm_world.specs.Stands.{Kept, WorldStandsFor, state_with}
 use Rattle.fm_world.proofs.Places.{Stood, stood, absent}
 use Rattle.fm_cli.specs.declared.fault.Fault.{Fault}
-use Rattle.fm_cli.specs.declared.script.Step.{Step}
+use Rattle.fm_input.specs.declared.script.Step.{Step}
 use Rattle.fm_cli.specs.Faults.{fault_of}
 use Rattle.fm_cli.specs.Output.{After, Ends, Leaves, graph_of}
 use Rattle.fm_cli.specs.Running.{IsRun}

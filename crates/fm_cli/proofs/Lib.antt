@@ -1,6 +1,3 @@
-pub mod Views
-pub mod Naming
-pub mod Spelling
 pub mod Solving
 pub mod Rounds
 pub mod Opening

@@ -5,7 +5,7 @@ use Rattle.fm_cli.specs.declared.fault.Fault.{Fault}
 use Rattle.fm_cli.specs.declared.serve.Ending.{Ending}
 use Rattle.fm_cli.specs.declared.serve.Ending.TheVariants.{Done, Differ, Wrong, Stopped}
 use Rattle.fm_cli.specs.Faults.{fault_of, status_of}
-use Rattle.fm_cli.specs.Script.{is_listed}
+use Rattle.fm_input.specs.Script.{is_listed}
 
 -- 0 where all is done, 5 where coordinators do not know the same, 2 where the words were wrong, and else the fault's status
 abbrev pub ending_status : Ending → ℕ

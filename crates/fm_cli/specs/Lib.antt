@@ -1,5 +1,3 @@
-pub mod Json
-pub mod Script
 pub mod Faults
 pub mod Running
 pub mod Winners

@@ -21,10 +21,10 @@ use Rattle.fm_coord.specs.Replays.{seen}
 use Rattle.fm_world.specs.Worlds.{WorldOfSets}
 use Rattle.fm_cli.specs.declared.agree.Disagreement.{Disagreement}
 use Rattle.fm_cli.specs.declared.fault.Fault.{Fault}
-use Rattle.fm_cli.specs.declared.script.Step.{Step}
+use Rattle.fm_input.specs.declared.script.Step.{Step}
 use Rattle.fm_cli.specs.Faults.{fault_of}
 use Rattle.fm_cli.specs.Running.{opened, Come, Stops}
-use Rattle.fm_cli.specs.Script.{is_text}
+use Rattle.fm_input.specs.Script.{is_text}
 use Rattle.fm_cli.specs.Winners.{winners_text}
 
 -- the network of what a replica took in, its text, and the text of who won

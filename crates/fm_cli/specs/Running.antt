@@ -16,9 +16,9 @@ use Rattle.fm_world.specs.Worlds.{WorldOfSets, opening_world, with_number, cause
 use Rattle.fm_world.specs.Stands.{Kept, WorldStandsFor}
 use Rattle.fm_world.specs.Agreement.{EachKnows, SameAgree}
 use Rattle.fm_cli.specs.declared.fault.Fault.{Fault}
-use Rattle.fm_cli.specs.declared.script.Act.{Act}
-use Rattle.fm_cli.specs.declared.script.Act.TheVariants as act
-use Rattle.fm_cli.specs.declared.script.Step.{Step}
+use Rattle.fm_input.specs.declared.script.Act.{Act}
+use Rattle.fm_input.specs.declared.script.Act.TheVariants as act
+use Rattle.fm_input.specs.declared.script.Step.{Step}
 use Rattle.fm_cli.specs.Faults.{fault_of}
 
 -- how many entries a history of the program may have

@@ -3,17 +3,12 @@
 
 mod agree;
 mod fault;
-mod input;
-mod names;
 mod output;
 mod pack;
-mod reading;
 mod run;
-mod script;
 mod serve;
 mod unpack;
 mod winners;
-mod words;
 
 use fault::Fault;
 use fm_records::refusal::Refusal;

@@ -6,18 +6,19 @@ ghost use Rattle.fm_records.specs.declared.refusal.Refusal.TheVariants as refuse
 ghost use Rattle.fm_net.specs.Network.{net_of};
 ghost use Rattle.fm_world.specs.Agreement.{IsDumpOf};
 ghost use Rattle.fm_world.specs.Stands.{WorldStandsFor};
-ghost use Rattle.fm_world.specs.Worlds.{AreDistinct, WorldOfSets, with_number};
+ghost use Rattle.fm_coord.specs.Numbers.{AreDistinct};
+ghost use Rattle.fm_world.specs.Worlds.{WorldOfSets, with_number};
 ghost use Rattle.fm_cli.specs.Output.{After, Writes, Leaves, LeavesSolution, LeavesUnsolved, Ends, IsSolved, IsSolvedAt, graph_of, winners_of, difference, agreement_text, packet_named, packet_at, packet_line};
 
 use crate::agree::{difference, write_agreement};
 use crate::fault::Fault;
 use crate::pack::write_packet;
 use crate::run::run;
-use crate::script::Script;
 use crate::winners::write_winners;
 use fm_dimacs::out::Out;
 use fm_dimacs::solution::write_solution;
 use fm_flow::solve::solve;
+use fm_input::script::Script;
 use fm_know::knowledge::Knowledge;
 use fm_know::laws::law_can_be;
 use fm_policy::build::build;

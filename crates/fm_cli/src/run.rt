@@ -3,16 +3,17 @@
 ghost use Rattle.std.specs.Prelude.{◌≡◌, ◌⊎◌, ℕ, IfOk, IfErr, OnOk};
 ghost use Rattle.fm_net.specs.Network.{net_of};
 ghost use Rattle.fm_world.specs.declared.step.Act.TheVariants as world_act;
-ghost use Rattle.fm_world.specs.Worlds.{AreDistinct, WorldOfSets, refusal_of};
+ghost use Rattle.fm_coord.specs.Numbers.{AreDistinct};
+ghost use Rattle.fm_world.specs.Worlds.{WorldOfSets, refusal_of};
 ghost use Rattle.fm_world.specs.Stands.{WorldStandsFor};
-ghost use Rattle.fm_cli.specs.declared.script.Act.TheVariants as script_act;
+ghost use Rattle.fm_input.specs.declared.script.Act.TheVariants as script_act;
 ghost use Rattle.fm_cli.specs.Running.{opened, step_at, IsPlanOf, Takes, Acts, Come, Refuses, StopsIn, Stops, IsRun};
 
 use crate::fault::Fault;
-use crate::script::{Act, Script, Step};
 use fm_coord::coordinator::Coordinator;
 use fm_coord::view::View;
 use fm_flow::solve::solve;
+use fm_input::script::{Act, Script, Step};
 use fm_know::laws::law_can_be;
 use fm_lattice::join::OutOfMemory;
 use fm_policy::rebuilder::Rebuilder;

@@ -1,17 +1,17 @@
 //! One run of the program, over its words, a reader and a writer.
 
 ghost use Rattle.std.specs.Prelude.{◌≡◌, Some, IfOk};
-ghost use Rattle.fm_world.specs.Worlds.{AreDistinct};
+ghost use Rattle.fm_coord.specs.Numbers.{AreDistinct};
 ghost use Rattle.fm_cli.specs.Endings.{ending_status, asked_of};
 
 use crate::fault::Fault;
-use crate::input::read_input;
 use crate::output::{agreement, graph, packet, solution, winners};
-use crate::reading::read_script;
-use crate::script::Script;
 use crate::unpack::unpack;
-use crate::words::{Command, Question, Words, read_words};
 use fm_dimacs::out::{Out, Over};
+use fm_input::input::read_input;
+use fm_input::reading::read_script;
+use fm_input::script::Script;
+use fm_input::words::{Command, Question, Words, read_words};
 use fm_records::ids::CoordId;
 use fm_records::refusal::Refusal;
 use std::alloc::Global;

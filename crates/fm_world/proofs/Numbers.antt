@@ -7,7 +7,7 @@ use Rattle.std.proofs.lemmas.List.Sums.{fails_before_first}
 use Rattle.fm_records.specs.Sets.{IsMember}
 use Rattle.fm_coord.specs.StepLaws.{test_failed}
 use Rattle.fm_coord.specs.States.{WithNetwork}
-use Rattle.fm_world.specs.Worlds.{AreDistinct}
+use Rattle.fm_coord.specs.Numbers.{AreDistinct}
 use Rattle.fm_world.specs.Stands.{number_of}
 
 no_member : (cs : List WithNetwork) (n : ℕ) → ((k : ℕ) (d : WithNetwork) → k < length cs → (number_of (get_or cs k d) == n) ≡ false) → IsMember n (map number_of cs) → ⊥

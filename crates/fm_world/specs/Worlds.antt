@@ -4,7 +4,6 @@ use Rattle.std.specs.Prelude.{◌≡◌, ◌==◌, ℕ, cond, take, Result, Ok, 
 use Rattle.fm_records.specs.declared.refusal.Refusal.{Refusal}
 use Rattle.fm_records.specs.declared.refusal.Refusal.TheVariants.{OutOfMemory, NoCoordinator, NoPacket}
 use Rattle.fm_records.specs.Options.{or_else}
-use Rattle.fm_records.specs.Sets.{IsMember}
 use Rattle.fm_coord.specs.Events.{Sent, Event, Told, Merged, Gave, LetGo, Viewed, Committed, Replica, opening, packet_of, happens}
 use Rattle.fm_coord.specs.Causes.{cause, bounds_of}
 use Rattle.fm_coord.specs.Replays.{call_of}
@@ -12,11 +11,6 @@ use Rattle.fm_world.specs.declared.step.Act.{Act}
 use Rattle.fm_world.specs.declared.step.Act.TheVariants as act
 use Rattle.fm_world.specs.declared.step.Step.{Step}
 use Rattle.fm_world.specs.declared.step.RunStop.{RunStop}
-
--- no two of the numbers are equal
-abbrev pub AreDistinct : List ℕ → Type 0
-AreDistinct [] = Unit {0}
-AreDistinct (n ∷ ns) = (IsMember n ns → ⊥) × AreDistinct ns
 
 -- replicas, and the packets that were cut, in the order of their cuts
 pub record WorldOfSets : Type 0 where

@@ -1,7 +1,7 @@
 //! Coordinators by their numbers.
 
 ghost use Rattle.std.specs.Prelude.{◌≡◌, ◌==◌, ◌↔◌, IsTrue, map, position};
-ghost use Rattle.fm_world.specs.Worlds.{AreDistinct};
+ghost use Rattle.fm_coord.specs.Numbers.{AreDistinct};
 ghost use Rattle.fm_world.specs.Stands.{number_of};
 
 use fm_coord::coordinator::Coordinator;

@@ -4,7 +4,8 @@ ghost use Rattle.std.specs.Prelude.{◌≡◌, [], None, Some, IfOk, IfErr, OnOk
 ghost use Rattle.fm_net.specs.Network.{net_of};
 ghost use Rattle.fm_dimacs.specs.Sending.{AppendsPrefix, StopsBy};
 ghost use Rattle.fm_dimacs.specs.Text.{dump_text};
-ghost use Rattle.fm_world.specs.Worlds.{AreDistinct, WorldOfSets, opening_world, with_number, cause_of, refusal_of, step_of, run_of, AreAccepted, taken_by, StopsAt};
+ghost use Rattle.fm_coord.specs.Numbers.{AreDistinct};
+ghost use Rattle.fm_world.specs.Worlds.{WorldOfSets, opening_world, with_number, cause_of, refusal_of, step_of, run_of, AreAccepted, taken_by, StopsAt};
 ghost use Rattle.fm_world.specs.Agreement.{EachKnows, SameAgree, IsDumpOf};
 ghost use Rattle.fm_world.specs.Stands.{state_of, number_of, opening_of, AreUnused, AllStand, WorldStandsFor, state_with, shown};
 

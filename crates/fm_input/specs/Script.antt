@@ -1,0 +1,201 @@
+-- The script that a JSON value spells (this project's profile).
+use Rattle.std.specs.Prelude.{◌≡◌, ℕ, ◌+◌, ◌==◌, ◌&&◌, nat_eq, List, [], ◌∷◌, ◌++◌, map, Bool, true, false, not, cond, codes, Option, Some, None, is_some, is_none, option_map}
+use Rattle.std.specs.List.{list_any, flat_map, position_or_len}
+use Rattle.std.specs.Option.{option_to_list}
+use Rattle.std.specs.Cmp.Lexicographic.{pointwise}
+use Rattle.serde_json.specs.Data.{Data}
+use Rattle.serde_json.specs.Find.{get, as_bool, as_str}
+use Rattle.fm_records.specs.declared.ops.Op.{Op}
+use Rattle.fm_records.specs.declared.ops.Op.TheVariants as op
+use Rattle.fm_records.specs.declared.ops.Phase.{Phase}
+use Rattle.fm_records.specs.declared.ops.Phase.TheVariants as phase
+use Rattle.fm_records.specs.Ids.{is_coordinator}
+use Rattle.fm_records.specs.Options.{when, only_if}
+use Rattle.fm_coord.specs.declared.entry.Range.{Range}
+use Rattle.fm_coord.specs.declared.entry.Range.TheVariants.{Interval, Full}
+use Rattle.fm_input.specs.declared.script.Act.{Act}
+use Rattle.fm_input.specs.declared.script.Act.TheVariants as act
+use Rattle.fm_input.specs.declared.script.Step.{Step}
+use Rattle.fm_input.specs.Json.{given, whole_of, number_at, number_32_at, number_8_at, flag_at, text_at, id_at, has_size, items_at}
+
+-- the fields of each operation
+abbrev pub job_of : Data → Option Op
+job_of d =
+    given (id_at (codes "id") d) (λ id.
+    given (number_at (codes "version") d) (λ version.
+    given (number_8_at (codes "writer") d) (λ writer.
+    given (flag_at (codes "withdrawn") d) (λ withdrawn.
+    given (number_32_at (codes "wait") d) (λ wait.
+    given (number_32_at (codes "preempt") d) (λ preempt.
+    Some (op.Job id version writer withdrawn wait preempt)))))))
+
+abbrev pub spec_of : Data → Option Op
+spec_of d =
+    given (id_at (codes "id") d) (λ id.
+    given (number_at (codes "version") d) (λ version.
+    given (number_8_at (codes "writer") d) (λ writer.
+    given (flag_at (codes "withdrawn") d) (λ withdrawn.
+    given (id_at (codes "job") d) (λ job.
+    given (number_32_at (codes "request") d) (λ request.
+    Some (op.Spec id version writer withdrawn job request)))))))
+
+-- the name spells the text
+abbrev pub is_text : List ℕ → List ℕ → Bool
+is_text = pointwise nat_eq
+
+-- a phase by its name
+abbrev pub phase_named : List ℕ → Option Phase
+phase_named name = cond (is_text name (codes "pending")) (Some phase.Pending) (cond (is_text name (codes "running")) (Some phase.Running) (when (is_text name (codes "done")) phase.Done))
+
+abbrev pub progress_of : Data → Option Op
+progress_of d =
+    given (id_at (codes "id") d) (λ id.
+    given (number_32_at (codes "attempt") d) (λ attempt.
+    given (given (text_at (codes "phase") d) phase_named) (λ phase.
+    Some (op.Progress id attempt phase))))
+
+abbrev pub machine_of : Data → Option Op
+machine_of d =
+    given (id_at (codes "id") d) (λ id.
+    given (number_at (codes "incarnation") d) (λ incarnation.
+    given (number_at (codes "version") d) (λ version.
+    given (number_8_at (codes "writer") d) (λ writer.
+    given (flag_at (codes "up") d) (λ up.
+    given (number_32_at (codes "slots") d) (λ slots.
+    given (number_32_at (codes "nic") d) (λ nic.
+    Some (op.Machine id incarnation version writer up slots nic))))))))
+
+abbrev pub report_of : Data → Option Op
+report_of d =
+    given (id_at (codes "id") d) (λ id.
+    given (number_at (codes "incarnation") d) (λ incarnation.
+    given (number_at (codes "number") d) (λ number.
+    given (number_32_at (codes "used") d) (λ used.
+    Some (op.Report id incarnation number used)))))
+
+abbrev pub propose_of : Data → Option Op
+propose_of d =
+    given (id_at (codes "id") d) (λ id.
+    given (number_32_at (codes "attempt") d) (λ attempt.
+    given (number_8_at (codes "coordinator") d) (λ coordinator.
+    given (id_at (codes "machine") d) (λ machine.
+    given (number_at (codes "incarnation") d) (λ incarnation.
+    Some (op.Propose id attempt coordinator machine incarnation))))))
+
+-- what the first of the members that is there spells
+abbrev pub either : {A : Type 0} → Option Data → (Data → Option A) → Option A → Option A
+either None f other = other
+either (Some d) f other = f d
+
+-- an operation: the one member of an object, named for its kind
+abbrev pub op_of : Data → Option Op
+op_of d = given (when (has_size 1 d) d) (λ d.
+    either (get (codes "job") d) job_of (
+    either (get (codes "spec") d) spec_of (
+    either (get (codes "progress") d) progress_of (
+    either (get (codes "machine") d) machine_of (
+    either (get (codes "report") d) report_of (
+    either (get (codes "propose") d) propose_of None))))))
+
+-- what a cut's packet comes from: an interval where both ends are named, all that is known where neither is
+abbrev pub range_between : Option Data → Option Data → Option Range
+range_between None None = Some Full
+range_between (Some from) (Some to) = given (whole_of from) (λ a. given (whole_of to) (λ b. Some (Interval a b)))
+range_between _ _ = None
+
+abbrev pub range_of : Data → Option Range
+range_of d = range_between (get (codes "from") d) (get (codes "to") d)
+
+-- the name is one of those
+abbrev pub is_named : List (List ℕ) → List ℕ → Bool
+is_named names name = list_any (is_text name) names
+
+-- a cut gives its packet a name that no packet before has
+abbrev pub cut_of : List (List ℕ) → Data → Option Act
+cut_of names d =
+    given (text_at (codes "name") d) (λ name.
+    given (range_of d) (λ range.
+    when (not (is_named names name)) (act.Cut range)))
+
+-- a delivery names a packet by its place among those before; where none has the name, the place is behind them all
+abbrev pub delivery_of : List (List ℕ) → Data → Option Act
+delivery_of names d = option_map (λ name. act.Deliver (position_or_len (is_text name) names)) (as_str d)
+
+-- a round is asked for by true
+abbrev pub round_of : Data → Option Act
+round_of d = given (as_bool d) (λ b. when b act.Round)
+
+-- what happens in a step, where packets of the names were cut before: the one member beside the number of its coordinator
+abbrev pub act_of : List (List ℕ) → Data → Option Act
+act_of names d =
+    either (get (codes "cut") d) (cut_of names) (
+    either (get (codes "tell") d) (λ v. option_map act.Tell (op_of v)) (
+    either (get (codes "deliver") d) (delivery_of names) (
+    either (get (codes "trim") d) (λ v. option_map act.Trim (whole_of v)) (
+    either (get (codes "round") d) round_of None))))
+
+-- a step: an object of two members, the number of its coordinator and what happens there
+abbrev pub step_of : List (List ℕ) → Data → Option Step
+step_of names d = given (when (has_size 2 d) d) (λ d.
+    given (number_8_at (codes "at") d) (λ at.
+    given (act_of names d) (λ act.
+    Some (record { at = at; act = act }))))
+
+-- the name that a step gives a packet, if it cuts one
+abbrev pub names_in : Data → List (List ℕ)
+names_in d = option_to_list (given (get (codes "cut") d) (text_at (codes "name")))
+
+-- what the values spell, one after another, where packets of the names were cut before
+abbrev pub steps_of : List (List ℕ) → List Data → List (Option Step)
+steps_of names [] = []
+steps_of names (d ∷ ds) = step_of names d ∷ steps_of (names ++ names_in d) ds
+
+-- a coordinator's number, from 1 to 64
+abbrev pub coordinator_of : Data → Option ℕ
+coordinator_of d = only_if is_coordinator (whole_of d)
+
+-- all of the values, where each is there
+abbrev pub all_of : {A : Type 0} → List (Option A) → Option (List A)
+all_of [] = Some []
+all_of (o ∷ os) = given o (λ a. option_map (λ rest. a ∷ rest) (all_of os))
+
+-- the number is one of those listed
+abbrev pub is_listed : List ℕ → ℕ → Bool
+is_listed listed n = list_any (λ c. c == n) listed
+
+-- no number comes twice
+abbrev pub are_distinct : List ℕ → Bool
+are_distinct [] = true
+are_distinct (n ∷ ns) = not (is_listed ns n) && are_distinct ns
+
+-- coordinators: at least one number, no two of them equal
+abbrev pub are_coordinators : List ℕ → Bool
+are_coordinators [] = false
+are_coordinators (n ∷ ns) = are_distinct (n ∷ ns)
+
+-- the coordinators that the items list
+abbrev pub listed_of : List Data → Option (List ℕ)
+listed_of ds = only_if are_coordinators (all_of (map coordinator_of ds))
+
+abbrev pub coordinators_of : Data → Option (List ℕ)
+coordinators_of d = given (items_at (codes "coordinators") d) listed_of
+
+-- the value spells a script of these coordinators, these names of packets in the order of their cuts, and these steps
+pub record IsScriptOf (d : Data) (coordinators : List ℕ) (names : List (List ℕ)) (steps : List Step) : Type 0 where
+  pub coordinators_listed : coordinators_of d ≡ Some coordinators
+  pub names_given : option_map (flat_map names_in) (items_at (codes "steps") d) ≡ Some names
+  pub steps_listed : option_map (steps_of []) (items_at (codes "steps") d) ≡ Some (map Some steps)
+
+-- the place of the first value that is no step, the first value of all being at the place given
+abbrev pub first_strange : List (List ℕ) → ℕ → List Data → Option ℕ
+first_strange names place [] = None
+first_strange names place (d ∷ ds) = cond (is_some (step_of names d)) (first_strange (names ++ names_in d) (place + 1) ds) (Some place)
+
+-- the fault of a list of steps, 0 where there is none
+abbrev pub steps_fault : Option (List Data) → Option ℕ
+steps_fault None = Some 0
+steps_fault (Some ds) = first_strange [] 1 ds
+
+-- where a value that is no script breaks a rule: 0 for the whole, and else the first strange step
+abbrev pub script_fault : Data → Option ℕ
+script_fault d = cond (is_none (coordinators_of d)) (Some 0) (steps_fault (items_at (codes "steps") d))
