@@ -1,22 +1,19 @@
 //! One run of the program, over its words, a reader and a writer.
 
-ghost use Rattle.std.specs.Prelude.{◌≡◌, Some, IfOk};
-ghost use Rattle.fm_coord.specs.Numbers.{AreDistinct};
-ghost use Rattle.fm_cli.specs.Endings.{ending_status, asked_of};
+ghost use Rattle.std.specs.Prelude.{◌≡◌, Some, IfSome};
+ghost use Rattle.fm_cli.specs.Endings.{ending_status, ending_text, ending_of};
+ghost use Rattle.fm_cli.specs.Answers.{Serves, IsServed};
+ghost use Rattle.fm_cli.specs.Sending.{IsPrinted};
 
+use crate::answer::answer;
 use crate::fault::Fault;
-use crate::output::{agreement, graph, packet, solution, winners};
-use crate::unpack::unpack;
-use fm_dimacs::out::{Out, Over};
+use crate::sending::send;
 use fm_input::input::read_input;
-use fm_input::reading::read_script;
-use fm_input::script::Script;
-use fm_input::words::{Command, Question, Words, read_words};
-use fm_records::ids::CoordId;
+use fm_input::words::{Command, Words, read_words};
 use fm_records::refusal::Refusal;
 use std::alloc::Global;
 use std::fmt;
-use std::io::{BufWriter, Read, Write};
+use std::io::{Read, Write};
 
 /// How a run ends. Its `Display` is the text for standard error.
 #[derive(Debug, Drop)]
@@ -47,6 +44,8 @@ impl Ending {
 }
 
 impl fmt::Display for Ending {
+    ghost output = { λ e. Some (ending_text e) };
+
     fn fmt<W: fmt::Write>(&self, f: &mut fmt::Formatter<W>) -> fmt::Result {
         match self {
             Ending::Done | Ending::Differ => Ok(()),
@@ -58,12 +57,15 @@ impl fmt::Display for Ending {
 
 /// Runs the program on the words of its command line, its own name first: reads a script, and writes what is asked for.
 /// Faults are found in this order: the words, the script, the coordinator that is asked, the steps in turn, the output.
+/// What is written is made whole first: so either all of it goes out, or nothing, or what the writer took before it failed.
 pub fn serve<R: Read, W: Write>(
     alloc: Global,
     words: &[String],
     reader: &mut R,
     writer: &mut W,
-) -> Ending {
+) -> Ending
+    ensures { IfSome (R.remaining reader.old) (λ text. IsServed text result (W.contents writer.old) (W.contents writer.new)) }
+{
     let done = match read_words(alloc, words) {
         Ok(Words::Run(command)) => run(alloc, command, reader, writer),
         Ok(Words::Help(text)) => print(text.as_str(), writer),
@@ -77,95 +79,35 @@ pub fn serve<R: Read, W: Write>(
 }
 
 // Writes the text.
-fn print<W: Write>(text: &str, writer: &mut W) -> Result<Ending, Fault> {
-    match writer.write_all(text.as_bytes()) {
+fn print<W: Write>(text: &str, writer: &mut W) -> Result<Ending, Fault>
+    ensures { IsPrinted result text.now (W.contents writer.old) (W.contents writer.new) }
+{
+    match send(writer, text.as_bytes()) {
         Ok(()) => Ok(Ending::Done),
-        Err(_) => Err(Fault::from(Refusal::WriteFault)),
+        Err(refusal) => Err(Fault::from(refusal)),
     }
 }
 
-// Runs the command on what the reader gives.
+/// Runs the command on what the reader gives.
 fn run<R: Read, W: Write>(
     alloc: Global,
     command: Command,
     reader: &mut R,
     writer: &mut W,
-) -> Result<Ending, Fault> {
-    let text = read_input(alloc, reader)?;
-    let Ok(mut buffer) = BufWriter::new(alloc, writer) else {
-        return Err(Fault::from(Refusal::OutOfMemory));
+) -> Result<Ending, Fault>
+    ensures { IfSome (R.remaining reader.old) (λ text. Serves command text (ending_of result) (W.contents writer.old) (W.contents writer.new)) }
+{
+    let text = match read_input(alloc, reader) {
+        Ok(text) => text,
+        Err(refusal) => return Err(Fault::from(refusal)),
     };
-    let ending = answer(alloc, command, &text, &mut Over::new(&mut buffer))?;
-    match buffer.flush() {
-        Ok(()) => Ok(ending),
-        Err(_) => Err(Fault::from(Refusal::WriteFault)),
-    }
-}
-
-// Writes what the command asks for of the text.
-fn answer<W: Out>(
-    alloc: Global,
-    command: Command,
-    text: &[u8],
-    out: &mut W,
-) -> Result<Ending, Fault> {
-    match command {
-        Command::Unpack => unpack(alloc, text, out)?,
-        Command::Pack { name } => packet(alloc, &script_in(alloc, text)?, name, out)?,
-        Command::Agree => {
-            if !agreement(alloc, &script_in(alloc, text)?, out)? {
-                return Ok(Ending::Differ);
-            }
-        }
-        Command::Ask { question, at } => {
-            let script = script_in(alloc, text)?;
-            let at = asked(&script.coordinators, at)?;
-            match question {
-                Question::Graph => graph(alloc, &script, at, out)?,
-                Question::Solve => solution(alloc, &script, at, out)?,
-                Question::Winners => winners(alloc, &script, at, out)?,
-            }
-        }
-    }
-    Ok(Ending::Done)
-}
-
-// The script that the text spells.
-fn script_in(alloc: Global, text: &[u8]) -> Result<Script, Fault>
-    ensures { IfOk result (λ script. AreDistinct script.coordinators.items) }
-{
-    match read_script(alloc, text) {
-        Ok(script) => Ok(script),
-        Err(refusal) => Err(Fault::of_script(refusal)),
-    }
-}
-
-// The coordinator that is asked: the one named, or else the first that the script lists.
-fn asked(listed: &[CoordId], at: Option<u8>) -> Result<CoordId, Fault>
-    ensures { result ≡ asked_of listed.now at }
-{
-    match at {
-        Some(number) => named(listed, number),
-        None => match listed {
-            [first, ..] => Ok(*first),
-            [] => Err(Fault::from(Refusal::NoCoordinator)),
-        },
-    }
-}
-
-// The coordinator with the number.
-fn named(listed: &[CoordId], number: u8) -> Result<CoordId, Fault>
-    ensures { result ≡ asked_of listed.now (Some number) }
-{
-    match listed.split_first() {
-        None => Err(Fault::from(Refusal::NoCoordinator)),
-        Some((first, rest)) => {
-            if first.value() == number {
-                Ok(*first)
-            } else {
-                named(rest, number)
-            }
-        }
+    let answer = match answer(alloc, command, &text) {
+        Ok(answer) => answer,
+        Err(fault) => return Err(fault),
+    };
+    match send(writer, &answer.output) {
+        Ok(()) => Ok(answer.ending),
+        Err(refusal) => Err(Fault::from(refusal)),
     }
 }
 

@@ -1,65 +1,81 @@
 //! Packets in hexadecimal digits, and their records as text.
 
-use crate::fault::Fault;
+ghost use Rattle.std.specs.Prelude.{◌≡◌, ◌⊎◌, ◌++◌, Some, Ok, Err, IfOk, IfErr, OnOk, IsOkUnless, string_bytes};
+ghost use Rattle.std.specs.List.{flat_map};
+ghost use Rattle.hex.specs.Hex.{decode_of};
+ghost use Rattle.hex.specs.declared.error.FromHexError.{FromHexError};
+ghost use Rattle.fm_cli.specs.Unpacked.{IsUnpacked, IsNotUnpacked, without_line_feed, unpacked_text, job_line, task_lines, spec_line, machine_lines, state_line, report_line, proposal_line, proposal_lines};
+ghost use Rattle.fm_cli.specs.Unpacked.{phase_text as text_of_phase};
+
 use fm_delta::packet::Packet;
-use fm_dimacs::out::Out;
-use fm_dimacs::pieces::put_all;
 use fm_know::knowledge::Knowledge;
-use fm_records::ids::{JobId, MachineId, TaskId};
+use fm_lattice::map::JoinMap;
+use fm_lattice::plain::{Max, Min, Opt};
+use fm_records::ids::{CoordId, JobId, MachineId, TaskId};
 use fm_records::ops::Phase;
-use fm_records::records::{JobReg, MachineRec, MachineReg, Report, SpecReg, TaskRec};
+use fm_records::records::{JobReg, MachineRec, MachineReg, Report, SpecReg, Spot, TaskRec};
 use fm_records::refusal::Refusal;
 use fm_wire::reading::decode;
 use hex::FromHexError;
 use std::alloc::Global;
 
-/// Writes the records of the packet that the text spells in hexadecimal digits of either case, a line each, in the
-/// packet's order. A text that is no pairs of digits with at most one line feed behind them is `BadScript(0)`, and bytes
-/// that spell no packet are `BadPacket` with the place of the first fault; then nothing is written. O(n log n).
-pub fn unpack<W: Out>(alloc: Global, text: &[u8], out: &mut W) -> Result<(), Fault> {
+/// The records of the packet that the text spells in hexadecimal digits of either case, a line each, in the packet's order.
+/// A text that is no pairs of digits with at most one line feed behind them is `BadScript(0)`, and bytes that spell no
+/// packet are `BadPacket` with the place of the first fault. O(n log n).
+pub fn unpack(alloc: Global, text: &[u8]) -> Result<String, Refusal>
+    ensures ok { IfOk result (λ t. IsUnpacked text.now (string_bytes t)) }
+    ensures err { IfErr result (λ refusal. IsNotUnpacked text.now refusal) }
+{
     let bytes = bytes_of(alloc, text)?;
     let packet = decode(alloc, &bytes)?;
-    put_packet(alloc, &packet, out)?;
-    Ok(())
+    let mut lines = String::new(alloc);
+    write_packet(alloc, &packet, &mut lines)?;
+    Ok(lines)
 }
 
 // The bytes that the digits spell.
-fn bytes_of(alloc: Global, text: &[u8]) -> Result<Vec<u8>, Refusal> {
-    let digits = match text {
-        [digits @ .., b'\n'] => digits,
-        _ => text,
-    };
-    match hex::decode(alloc, digits) {
+fn bytes_of(alloc: Global, text: &[u8]) -> Result<Vec<u8>, Refusal>
+    ensures ok { IfOk result (λ bytes. decode_of (without_line_feed text.now) ≡ Ok bytes.items) }
+    ensures err { IfErr result (λ refusal. (refusal ≡ Refusal.OutOfMemory) ⊎ ((refusal ≡ Refusal.BadScript 0) × (e : FromHexError) × (decode_of (without_line_feed text.now) ≡ Err e))) }
+{
+    match hex::decode(alloc, digits_in(text)) {
         Ok(bytes) => Ok(bytes),
         Err(FromHexError::OutOfMemory) => Err(Refusal::OutOfMemory),
         Err(_) => Err(Refusal::BadScript(0)),
     }
 }
 
-// Writes the packet's line and its records.
-fn put_packet<W: Out>(alloc: Global, packet: &Packet, out: &mut W) -> Result<(), Refusal> {
-    let mut line = String::new(alloc);
-    let sender = packet.sender.value();
-    let number = packet.number;
-    write!(line, "packet {sender} {number}\n")?;
-    put_all(out, line.as_bytes())?;
-    put_jobs(alloc, &packet.value, &mut line, out)?;
-    put_tasks(alloc, &packet.value, &mut line, out)?;
-    put_machines(alloc, &packet.value, &mut line, out)?;
-    put_proposals(alloc, &packet.value, &mut line, out)
+// The text without a line feed at its end.
+fn digits_in(text: &[u8]) -> &[u8]
+    ensures { result.now ≡ without_line_feed text.now }
+{
+    match text.strip_suffix(b"\n".as_slice()) {
+        Some(digits) => digits,
+        None => text,
+    }
 }
 
-// Writes the jobs.
-fn put_jobs<W: Out>(
-    alloc: Global,
-    knowledge: &Knowledge,
-    line: &mut String,
-    out: &mut W,
-) -> Result<(), Refusal> {
+// Appends the packet's line and its records.
+fn write_packet(alloc: Global, packet: &Packet, lines: &mut String) -> Result<(), Refusal>
+    ensures ok { OnOk result (string_bytes lines.new ≡ string_bytes lines.old ++ unpacked_text packet.now) }
+    ensures err { IsOkUnless result Refusal.OutOfMemory }
+{
+    let sender = packet.sender.value();
+    let number = packet.number;
+    write!(lines, "packet {sender} {number}\n")?;
+    write_jobs(alloc, &packet.value, lines)?;
+    write_tasks(alloc, &packet.value, lines)?;
+    write_machines(alloc, &packet.value, lines)?;
+    write_proposals(alloc, &packet.value, lines)
+}
+
+// Appends the jobs.
+fn write_jobs(alloc: Global, knowledge: &Knowledge, lines: &mut String) -> Result<(), Refusal>
+    ensures ok { OnOk result (string_bytes lines.new ≡ string_bytes lines.old ++ flat_map job_line knowledge.now.jobs) }
+    ensures err { IsOkUnless result Refusal.OutOfMemory }
+{
     for (job, register) in knowledge.jobs().iter() {
-        line.clear();
-        write_job(alloc, line, *job, &register.0)?;
-        put_all(out, line.as_bytes())?;
+        write_job(alloc, lines, *job, &register.0)?;
     }
     Ok(())
 }
@@ -67,10 +83,13 @@ fn put_jobs<W: Out>(
 // Appends a job's line.
 fn write_job(
     alloc: Global,
-    line: &mut String,
+    lines: &mut String,
     job: JobId,
     register: &JobReg,
-) -> Result<(), Refusal> {
+) -> Result<(), Refusal>
+    ensures ok { OnOk result (string_bytes lines.new ≡ string_bytes lines.old ++ job_line (job, register.now)) }
+    ensures err { IsOkUnless result Refusal.OutOfMemory }
+{
     let JobReg {
         version,
         writer,
@@ -80,23 +99,19 @@ fn write_job(
     } = *register;
     let job = job.text(alloc)?;
     write!(
-        line,
+        lines,
         "job {job} {version} {writer} {withdrawn} {wait} {preempt}\n"
     )?;
     Ok(())
 }
 
-// Writes the tasks, each with its spec, if known.
-fn put_tasks<W: Out>(
-    alloc: Global,
-    knowledge: &Knowledge,
-    line: &mut String,
-    out: &mut W,
-) -> Result<(), Refusal> {
+// Appends the tasks, each with its spec, if known.
+fn write_tasks(alloc: Global, knowledge: &Knowledge, lines: &mut String) -> Result<(), Refusal>
+    ensures ok { OnOk result (string_bytes lines.new ≡ string_bytes lines.old ++ flat_map task_lines knowledge.now.tasks) }
+    ensures err { IsOkUnless result Refusal.OutOfMemory }
+{
     for (task, known) in knowledge.tasks().iter() {
-        line.clear();
-        write_task(alloc, line, *task, known)?;
-        put_all(out, line.as_bytes())?;
+        write_task(alloc, lines, *task, known)?;
     }
     Ok(())
 }
@@ -104,16 +119,19 @@ fn put_tasks<W: Out>(
 // Appends a task's line, and its spec's, if known.
 fn write_task(
     alloc: Global,
-    line: &mut String,
+    lines: &mut String,
     task: TaskId,
     known: &TaskRec,
-) -> Result<(), Refusal> {
+) -> Result<(), Refusal>
+    ensures ok { OnOk result (string_bytes lines.new ≡ string_bytes lines.old ++ task_lines (task, known.now)) }
+    ensures err { IsOkUnless result Refusal.OutOfMemory }
+{
     let name = task.text(alloc)?;
     let attempt = known.1.0.attempt;
     let phase = phase_text(known.1.0.phase);
-    write!(line, "task {name} {attempt} {phase}\n")?;
+    write!(lines, "task {name} {attempt} {phase}\n")?;
     match &known.0.0 {
-        Some(spec) => write_spec(alloc, line, task, &spec.0),
+        Some(spec) => write_spec(alloc, lines, task, &spec.0),
         None => Ok(()),
     }
 }
@@ -121,10 +139,13 @@ fn write_task(
 // Appends a spec's line.
 fn write_spec(
     alloc: Global,
-    line: &mut String,
+    lines: &mut String,
     task: TaskId,
     spec: &SpecReg,
-) -> Result<(), Refusal> {
+) -> Result<(), Refusal>
+    ensures ok { OnOk result (string_bytes lines.new ≡ string_bytes lines.old ++ spec_line task (Some spec.now)) }
+    ensures err { IsOkUnless result Refusal.OutOfMemory }
+{
     let SpecReg {
         version,
         writer,
@@ -135,13 +156,15 @@ fn write_spec(
     let task = task.text(alloc)?;
     let job = job.text(alloc)?;
     write!(
-        line,
+        lines,
         "spec {task} {version} {writer} {withdrawn} {job} {request}\n"
     )?;
     Ok(())
 }
 
-fn phase_text(phase: Phase) -> &'static str {
+fn phase_text(phase: Phase) -> &'static str
+    ensures { result.now ≡ text_of_phase phase }
+{
     match phase {
         Phase::Pending => "pending",
         Phase::Running => "running",
@@ -149,17 +172,13 @@ fn phase_text(phase: Phase) -> &'static str {
     }
 }
 
-// Writes the machines, each with its state and its report, if known.
-fn put_machines<W: Out>(
-    alloc: Global,
-    knowledge: &Knowledge,
-    line: &mut String,
-    out: &mut W,
-) -> Result<(), Refusal> {
+// Appends the machines, each with its state and its report, if known.
+fn write_machines(alloc: Global, knowledge: &Knowledge, lines: &mut String) -> Result<(), Refusal>
+    ensures ok { OnOk result (string_bytes lines.new ≡ string_bytes lines.old ++ flat_map machine_lines knowledge.now.machines) }
+    ensures err { IsOkUnless result Refusal.OutOfMemory }
+{
     for (machine, known) in knowledge.machines().iter() {
-        line.clear();
-        write_machine(alloc, line, *machine, known)?;
-        put_all(out, line.as_bytes())?;
+        write_machine(alloc, lines, *machine, known)?;
     }
     Ok(())
 }
@@ -167,66 +186,114 @@ fn put_machines<W: Out>(
 // Appends a machine's line, and its state's and its report's, if known.
 fn write_machine(
     alloc: Global,
-    line: &mut String,
+    lines: &mut String,
     machine: MachineId,
     known: &MachineRec,
-) -> Result<(), Refusal> {
+) -> Result<(), Refusal>
+    ensures ok { OnOk result (string_bytes lines.new ≡ string_bytes lines.old ++ machine_lines (machine, known.now)) }
+    ensures err { IsOkUnless result Refusal.OutOfMemory }
+{
     let name = machine.text(alloc)?;
     let incarnation = known.0;
-    write!(line, "machine {name} {incarnation}\n")?;
-    if let Some(state) = &known.1.0.0 {
-        write_state(line, &name, &state.0)?;
-    }
-    if let Some(report) = &known.1.1.0 {
-        write_report(line, &name, &report.0)?;
-    }
-    Ok(())
+    write!(lines, "machine {name} {incarnation}\n")?;
+    write_state(alloc, lines, machine, &known.1.0)?;
+    write_report(alloc, lines, machine, &known.1.1)
 }
 
-// Appends a state's line.
-fn write_state(line: &mut String, machine: &str, state: &MachineReg) -> Result<(), Refusal> {
+// Appends a state's line, if it is known.
+fn write_state(
+    alloc: Global,
+    lines: &mut String,
+    machine: MachineId,
+    state: &Opt<Max<MachineReg>>,
+) -> Result<(), Refusal>
+    ensures ok { OnOk result (string_bytes lines.new ≡ string_bytes lines.old ++ state_line machine state.now) }
+    ensures err { IsOkUnless result Refusal.OutOfMemory }
+{
+    let Some(state) = &state.0 else {
+        return Ok(());
+    };
     let MachineReg {
         version,
         writer,
         up,
         slots,
         nic,
-    } = *state;
+    } = state.0;
+    let machine = machine.text(alloc)?;
     write!(
-        line,
+        lines,
         "state {machine} {version} {writer} {up} {slots} {nic}\n"
     )?;
     Ok(())
 }
 
-// Appends a report's line.
-fn write_report(line: &mut String, machine: &str, report: &Report) -> Result<(), Refusal> {
-    let Report { number, used } = *report;
-    write!(line, "report {machine} {number} {used}\n")?;
+// Appends a report's line, if it is known.
+fn write_report(
+    alloc: Global,
+    lines: &mut String,
+    machine: MachineId,
+    report: &Opt<Max<Report>>,
+) -> Result<(), Refusal>
+    ensures ok { OnOk result (string_bytes lines.new ≡ string_bytes lines.old ++ report_line machine report.now) }
+    ensures err { IsOkUnless result Refusal.OutOfMemory }
+{
+    let Some(report) = &report.0 else {
+        return Ok(());
+    };
+    let Report { number, used } = report.0;
+    let machine = machine.text(alloc)?;
+    write!(lines, "report {machine} {number} {used}\n")?;
     Ok(())
 }
 
-// Writes the proposals.
-fn put_proposals<W: Out>(
-    alloc: Global,
-    knowledge: &Knowledge,
-    line: &mut String,
-    out: &mut W,
-) -> Result<(), Refusal> {
+// Appends the proposals, by task and attempt.
+fn write_proposals(alloc: Global, knowledge: &Knowledge, lines: &mut String) -> Result<(), Refusal>
+    ensures ok { OnOk result (string_bytes lines.new ≡ string_bytes lines.old ++ flat_map proposal_lines knowledge.now.proposals) }
+    ensures err { IsOkUnless result Refusal.OutOfMemory }
+{
     for (at, spots) in knowledge.proposals().iter() {
-        let task = at.0.text(alloc)?;
-        let attempt = at.1;
-        for (coordinator, spot) in spots.iter() {
-            let coordinator = coordinator.value();
-            let machine = spot.0.machine.text(alloc)?;
-            let incarnation = spot.0.incarnation;
-            line.clear();
-            write!(
-                line,
-                "propose {task} {attempt} {coordinator} {machine} {incarnation}\n"
-            )?;
-            put_all(out, line.as_bytes())?;
-        }
+        write_attempt(alloc, lines, at.0, at.1, spots)?;
     }
+    Ok(())
+}
+
+// Appends the proposals for an attempt, by coordinator.
+fn write_attempt(
+    alloc: Global,
+    lines: &mut String,
+    task: TaskId,
+    attempt: u32,
+    spots: &JoinMap<CoordId, Min<Spot>>,
+) -> Result<(), Refusal>
+    ensures ok { OnOk result (string_bytes lines.new ≡ string_bytes lines.old ++ flat_map (proposal_line (task, attempt)) spots.now) }
+    ensures err { IsOkUnless result Refusal.OutOfMemory }
+{
+    for (coordinator, spot) in spots.iter() {
+        write_proposal(alloc, lines, task, attempt, *coordinator, &spot.0)?;
+    }
+    Ok(())
+}
+
+// Appends a proposal's line.
+fn write_proposal(
+    alloc: Global,
+    lines: &mut String,
+    task: TaskId,
+    attempt: u32,
+    coordinator: CoordId,
+    spot: &Spot,
+) -> Result<(), Refusal>
+    ensures ok { OnOk result (string_bytes lines.new ≡ string_bytes lines.old ++ proposal_line (task, attempt) (coordinator, spot.now)) }
+    ensures err { IsOkUnless result Refusal.OutOfMemory }
+{
+    let task = task.text(alloc)?;
+    let coordinator = coordinator.value();
+    let machine = spot.machine.text(alloc)?;
+    let incarnation = spot.incarnation;
+    write!(
+        lines,
+        "propose {task} {attempt} {coordinator} {machine} {incarnation}\n"
+    )?;
     Ok(())
 }
