@@ -1,10 +1,11 @@
 #!/usr/bin/env python3
 """Draws scripts of several coordinators, the same for the same seeds: `gossip`, in which they pass on what they know,
-`refused`, which has a step that is refused, and `rounds`.
+`refused`, which has a step that is refused, `rounds`, and `contended`, of one, in which tasks contend for few slots.
 
     tests/drawn.py gossip SEED
     tests/drawn.py refused SEED KIND
     tests/drawn.py rounds SEED COORDINATORS
+    tests/drawn.py contended SEED
 """
 import json
 import random
@@ -131,6 +132,24 @@ class Drawing:
         for op in told:
             self.add(self.chance.choice(self.numbers), "tell", op)
 
+    def contend(self):
+        """Tasks that wait or are held, on machines that have too few slots for all, or too little bandwidth."""
+        draw, register, at = self.chance.randint, {"version": 1, "writer": 1}, self.numbers[0]
+        jobs, hosts, tasks = (range(first, first + draw(*count)) for first, count in ((1, (1, 3)), (11, (1, 4)), (31, (2, 9))))
+        for job in jobs:
+            self.add(at, "tell", {"job": {"id": unique(job), **register, "withdrawn": False,
+                                          "wait": draw(100, 900), "preempt": draw(0, 900)}})
+        for host in hosts:
+            self.add(at, "tell", {"machine": {"id": unique(host), "incarnation": 1, **register, "up": True,
+                                              "slots": draw(1, 3), "nic": draw(200, 900)}})
+            self.add(at, "tell", {"report": {"id": unique(host), "incarnation": 1, "number": 1, "used": draw(0, 400)}})
+        for task in tasks:
+            self.add(at, "tell", {"spec": {"id": unique(task), **register, "withdrawn": False,
+                                           "job": unique(self.chance.choice(jobs)), "request": 100 * draw(0, 3)}})
+            if draw(1, 3) == 1:
+                self.add(at, "tell", {"propose": {"id": unique(task), "attempt": 0, "coordinator": at,
+                                                  "machine": unique(self.chance.choice(hosts)), "incarnation": 1}})
+
     def rounds(self):
         for at in self.numbers * 2:
             self.add(at, "round", True)
@@ -166,6 +185,13 @@ def rounds(seed, coordinators):
     return drawing.text()
 
 
+def contended(seed):
+    """Tasks that contend for slots and bandwidth, known to one coordinator."""
+    drawing = Drawing(seed, 1)
+    drawing.contend()
+    return drawing.text()
+
+
 if __name__ == "__main__":
     kind, seed, *more = sys.argv[1:]
-    print({"gossip": gossip, "refused": refused, "rounds": lambda s, n: rounds(s, int(n))}[kind](int(seed), *more))
+    print({"gossip": gossip, "refused": refused, "rounds": lambda s, n: rounds(s, int(n)), "contended": contended}[kind](int(seed), *more))

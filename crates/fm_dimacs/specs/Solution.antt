@@ -3,7 +3,7 @@ use Rattle.std.specs.Prelude.{ℕ, cond, ◌==◌, List, [], ◌++◌, codes, de
 use Rattle.std.specs.List.{flat_map}
 use Rattle.fm_net.specs.declared.node.Node.{Node}
 use Rattle.fm_net.specs.Net.{Net}
-use Rattle.fm_flow.specs.Flows.{Units, cost_of}
+use Rattle.fm_certificate.specs.Flows.{Units, cost_of}
 use Rattle.fm_dimacs.specs.Text.{id_in}
 
 -- what the flow costs

@@ -1,7 +1,7 @@
-pub mod Flows
-pub mod Certificates
-pub mod Totals
-pub mod Checks
-pub mod Built
+pub use Rattle.fm_certificate.specs.Flows
+pub use Rattle.fm_certificate.specs.Certificates
+pub use Rattle.fm_certificate.specs.Totals
+pub use Rattle.fm_certificate.specs.Checks
+pub use Rattle.fm_certificate.specs.Built
 pub mod Numbered
 pub mod Found

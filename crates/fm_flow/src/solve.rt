@@ -1,16 +1,16 @@
 //! The solver.
 
 ghost use Rattle.std.specs.Prelude.{◌≡◌, ◌⊎◌, IfOk, IfErr};
-ghost use Rattle.fm_flow.specs.Built.{IsBuilt};
-ghost use Rattle.fm_flow.specs.Flows.{units_in, IsLeast};
-ghost use Rattle.fm_flow.specs.Certificates.{IsCertified};
+ghost use Rattle.fm_certificate.specs.Built.{IsBuilt};
+ghost use Rattle.fm_certificate.specs.Flows.{units_in, IsLeast};
+ghost use Rattle.fm_certificate.specs.Certificates.{IsCertified};
 
 use crate::cancel::improve;
-use crate::check::check;
-use crate::flow::Flow;
 use crate::numbered::Numbered;
-use crate::potentials::Potentials;
 use crate::start::{resume, start};
+use fm_certificate::check::check;
+use fm_certificate::flow::Flow;
+use fm_certificate::potentials::Potentials;
 use fm_lattice::join::OutOfMemory;
 use fm_net::network::Network;
 use fm_records::refusal::Refusal;

@@ -2,12 +2,12 @@
 
 ghost use Rattle.std.specs.Prelude.{◌≡◌, IfOk};
 ghost use Rattle.fm_net.specs.Network.{net_of};
-ghost use Rattle.fm_flow.specs.Flows.{units_in, IsFeasible};
+ghost use Rattle.fm_certificate.specs.Flows.{units_in, IsFeasible};
 ghost use Rattle.fm_round.specs.Planned.{units_over, planned};
 
 use crate::parts::Plan;
 use crate::planning::plan_of;
-use fm_flow::flow::Flow;
+use fm_certificate::flow::Flow;
 use fm_know::knowledge::Knowledge;
 use fm_lattice::join::OutOfMemory;
 use fm_net::network::Network;

@@ -1,7 +1,7 @@
 use Rattle.std.proofs.Common.{◌≡◌, ◌++◌, ℕ, List}
 use Rattle.std.specs.List.{flat_map}
 use Rattle.std.specs.Io.KnownBytes.{Appends}
-use Rattle.fm_flow.specs.Flows.{units_in}
+use Rattle.fm_certificate.specs.Flows.{units_in}
 use Rattle.fm_dimacs.specs.Solution.{flow_line}
 use Rattle.fm_dimacs.proofs.solution.put_flow.Given as goal
 

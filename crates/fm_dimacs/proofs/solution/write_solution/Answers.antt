@@ -1,5 +1,5 @@
 use Rattle.std.proofs.Common.{◌≡◌, ◌∙◌}
-use Rattle.fm_flow.specs.Flows.{units_in}
+use Rattle.fm_certificate.specs.Flows.{units_in}
 use Rattle.fm_dimacs.specs.Sending.{IsSent}
 use Rattle.fm_dimacs.specs.Solution.{solution_text}
 use Rattle.fm_dimacs.proofs.Sent.{prefix_sent}

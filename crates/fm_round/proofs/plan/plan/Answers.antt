@@ -1,7 +1,7 @@
 use Rattle.std.proofs.Common.{◌∙◌, ℕ}
 use Rattle.fm_net.specs.declared.node.Node.{Node}
 use Rattle.fm_net.specs.Nodes.{ends_cmp}
-use Rattle.fm_flow.specs.Flows.{units_in}
+use Rattle.fm_certificate.specs.Flows.{units_in}
 use Rattle.fm_round.proofs.Over.{rising_over}
 use Rattle.fm_round.proofs.plan.plan.Goals as goal
 

@@ -1,7 +1,7 @@
 use Rattle.std.proofs.Common.{◌≡◌, ◌++◌, ℕ}
 use Rattle.std.specs.Prelude.{map}
 use Rattle.fm_net.specs.declared.node.Node.{Node}
-use Rattle.fm_flow.specs.Flows.{units_in}
+use Rattle.fm_certificate.specs.Flows.{units_in}
 use Rattle.fm_round.specs.Planned.{units_over}
 use Rattle.fm_round.proofs.plan.units_over.Given as goal
 

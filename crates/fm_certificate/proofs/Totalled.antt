@@ -1,0 +1,36 @@
+-- Totals after a change at one node.
+use Rattle.std.proofs.Common.{◌≡◌, ◌≤◌, ◌∙◌, ap, sym, refl, ℕ, ◌+◌, ◌-◌, true, false, cond, Some, None, List, arith}
+use Rattle.std.specs.Ordering.{is_eq}
+use Rattle.fm_lattice.specs.Chains.{by_cases}
+use Rattle.fm_lattice.specs.Maps.{lookup}
+use Rattle.fm_records.specs.Options.{or_else}
+use Rattle.fm_net.specs.declared.node.Node.{Node}
+use Rattle.fm_net.specs.Nodes.{node_cmp}
+use Rattle.fm_net.specs.NodeOrder.{node_exact}
+use Rattle.fm_net.specs.Same.{same_node}
+use Rattle.fm_certificate.specs.Totals.{total_in}
+use Rattle.fm_certificate.proofs.Alike.{same_is}
+
+-- the totals are as they were, and the total of one node is set
+abbrev pub IsSet : List (Node × ℕ) → List (Node × ℕ) → Node → ℕ → Type 0
+IsSet old new node total = (n : Node) → lookup node_cmp n new ≡ cond (is_eq (node_cmp node n)) (Some total) (lookup node_cmp n old)
+
+module _ (old new : List (Node × ℕ)) (node : Node) where
+  pub set_is : (total : ℕ) → IsSet old new node total → (n : Node) → total_in new n ≡ cond (is_eq (node_cmp node n)) total (total_in old n)
+  set_is total h n = ap (or_else 0) (h n) ∙ elim (is_eq (node_cmp node n)) as (λ b. or_else 0 (cond b (Some total) (lookup node_cmp n old)) ≡ cond b total (total_in old n)) [ true ↦ refl | false ↦ refl ]
+
+  pub room_made : IsSet old new node 0 → lookup node_cmp node old ≡ None → (n : Node) → total_in new n ≡ total_in old n
+  room_made h none n =
+      set_is 0 h n
+      ∙ by_cases (node_cmp node n) (λ o. cond (is_eq o) 0 (total_in old n) ≡ total_in old n)
+      (λ _. refl)
+      (λ e. let is = node_exact node n e in sym (ap (λ m. total_in old m) (sym is) ∙ ap (or_else 0) none))
+      (λ _. refl)
+
+  pub changed : (less more total : ℕ) → IsSet old new node total → less ≤ total_in old node → total ≡ total_in old node - less + more → (n : Node) → total_in new n + cond (same_node node n) less 0 ≡ total_in old n + cond (same_node node n) more 0
+  changed less more total h part is n =
+      rw (set_is total h n, same_is node n)
+      (by_cases (node_cmp node n) (λ o. cond (is_eq o) total (total_in old n) + cond (is_eq o) less 0 ≡ total_in old n + cond (is_eq o) more 0)
+      (λ _. refl)
+      (λ e. let same : total_in old node ≡ total_in old n = ap (total_in old) (node_exact node n e) in omega arith)
+      (λ _. refl))

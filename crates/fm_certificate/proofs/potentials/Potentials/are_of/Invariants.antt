@@ -1,0 +1,9 @@
+use Rattle.std.proofs.Common.{◌↔◌}
+use Rattle.fm_certificate.specs.Checks.{AreOf}
+use Rattle.fm_certificate.proofs.potentials.Potentials.are_of.Given as goal
+
+abbrev pub invariant-loop-node : goal.invariant-loop-node
+invariant-loop-node l =
+    (goal.iterator-loop-node).can_next l.node-iterator
+    × (goal.iterator-loop-node).is_finite l.node-iterator
+    × (AreOf l.self l.network.nodes ↔ AreOf l.values l.node-iterator)

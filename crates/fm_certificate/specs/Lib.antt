@@ -1,0 +1,5 @@
+pub mod Flows
+pub mod Certificates
+pub mod Totals
+pub mod Checks
+pub mod Built

@@ -1,0 +1,90 @@
+//! The checker of certificates.
+
+ghost use Rattle.std.specs.Prelude.{◌≡◌, ◌↔◌, ◌≤◌, IsTrue};
+ghost use Rattle.std.specs.List.{list_all};
+ghost use Rattle.fm_certificate.specs.Flows.{units_in, IsLeast};
+ghost use Rattle.fm_certificate.specs.Certificates.{potential_in, reduced_cost, AreSmall, IsCertified};
+ghost use Rattle.fm_certificate.specs.Checks.{Fits, FitAll, AreOf, sends};
+
+use crate::flow::Flow;
+use crate::potentials::Potentials;
+use fm_net::network::Network;
+use fm_net::node::Node;
+
+/// Whether the potentials certify that the flow is least: the flow is feasible, the keys of flow and potentials are just the
+/// network's arcs and nodes, no potential is beyond 2^100 in size, and, with potentials p, an arc from u to v of cost c has
+/// c + p(u) - p(v) >= 0 where a further unit fits, and <= 0 where it has a unit. Then no feasible flow costs less.
+/// Takes no memory. O((nodes + arcs) log nodes).
+pub fn check(network: &Network, flow: &Flow, potentials: &Potentials) -> bool
+    ensures exact { IsTrue result ↔ IsCertified network.now flow.now potentials.now }
+    ensures least { IsTrue result → IsLeast network.now (units_in flow.now) }
+{
+    network.known();
+    flow.known();
+    potentials.known();
+    if !potentials.are_of(network) {
+        return false;
+    }
+    if !arcs_fit(network, flow, potentials) {
+        return false;
+    }
+    nodes_send(network, flow)
+}
+
+// Whether the flow's keys are just the arcs, and each arc's units fit it.
+fn arcs_fit(network: &Network, flow: &Flow, potentials: &Potentials) -> bool
+    requires small { AreSmall potentials.now }
+    ensures { IsTrue result ↔ FitAll potentials.now flow.now network.now.arcs }
+{
+    let mut entries = flow.iter();
+    for (from, to, capacity, cost) in network.arcs() {
+        let Some((source, target, units)) = entries.next() else {
+            return false;
+        };
+        if source != from || target != to {
+            return false;
+        }
+        if !fits(units, capacity, reduced(potentials, &from, &to, cost)) {
+            return false;
+        }
+    }
+    entries.next().is_none()
+}
+
+// What a further unit over the arc costs, with the potentials of its ends.
+fn reduced(potentials: &Potentials, from: &Node, to: &Node, cost: u32) -> i128
+    requires small { AreSmall potentials.now }
+    ensures { result ≡ reduced_cost cost (potential_in potentials.now from.now) (potential_in potentials.now to.now) }
+{
+    i128::from(cost) + potentials.or_zero(from) - potentials.or_zero(to)
+}
+
+// Whether the units are within the capacity, a further one saves nothing, and neither does one less.
+fn fits(units: u64, capacity: u64, reduced: i128) -> bool
+    ensures { IsTrue result ↔ Fits units capacity reduced }
+{
+    units <= capacity && (units == capacity || reduced >= 0) && (units == 0 || reduced <= 0)
+}
+
+// Whether each task sends one unit, and each node between tasks and sink what enters it.
+fn nodes_send(network: &Network, flow: &Flow) -> bool
+    ensures { result ≡ list_all (sends flow.now) network.now.nodes }
+{
+    network.nodes().all(|node| sends(flow, &node))
+}
+
+// Whether the node sends what it has to.
+fn sends(flow: &Flow, node: &Node) -> bool
+    ensures { result ≡ sends flow.now node.now }
+{
+    match node {
+        Node::Sink => true,
+        Node::Task(_) => flow.leaving(node) == 1,
+        Node::Unscheduled(_) | Node::Request(_) | Node::Machine(_) => {
+            flow.entering(node) == flow.leaving(node)
+        }
+    }
+}
+
+#[cfg(test)]
+mod tests;

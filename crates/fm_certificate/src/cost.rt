@@ -1,0 +1,34 @@
+//! What a flow costs.
+
+ghost use Rattle.std.specs.Prelude.{◌≡◌, ◌*◌};
+ghost use Rattle.fm_certificate.specs.Built.{IsBuilt};
+ghost use Rattle.fm_certificate.specs.Flows.{units_in, cost_of, IsFeasible};
+
+use crate::flow::Flow;
+use fm_net::network::Network;
+use fm_net::node::Node;
+
+/// The sum of cost times units over all arcs. The caller owes a network that the policy can build, and a feasible flow.
+/// Takes no memory. O(arcs log arcs).
+pub fn cost(network: &Network, flow: &Flow) -> u128
+    requires built { IsBuilt network.now }
+    requires feasible { IsFeasible network.now (units_in flow.now) }
+    ensures { result ≡ cost_of network.now (units_in flow.now) }
+{
+    network.known();
+    let mut sum = 0;
+    for (from, to, _, cost) in network.arcs() {
+        sum += price(flow, from, to, cost);
+    }
+    sum
+}
+
+// What the units on an arc of this cost come to.
+fn price(flow: &Flow, from: Node, to: Node, cost: u32) -> u128
+    ensures { result ≡ cost * units_in flow.now from to }
+{
+    if cost == 0 {
+        return 0;
+    }
+    u128::from(cost) * u128::from(flow.units(from, to).unwrap_or(0))
+}

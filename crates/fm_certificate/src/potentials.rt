@@ -1,0 +1,108 @@
+//! Potentials of nodes.
+
+ghost use Rattle.std.specs.Prelude.{◌≡◌, ◌↔◌, ◌<◌, ◌^◌, [], length, IsTrue, OnOk, OnErr};
+ghost use Rattle.fm_lattice.specs.Maps.{lookup, put, replaced, IsRising};
+ghost use Rattle.fm_net.specs.Nodes.{node_cmp};
+ghost use Rattle.fm_certificate.specs.Certificates.{potential_in};
+ghost use Rattle.fm_certificate.specs.Checks.{AreOf};
+
+use fm_lattice::join::OutOfMemory;
+use fm_net::network::Network;
+use fm_net::node::Node;
+use std::alloc::Global;
+use std::collections::BTreeMap;
+use std::marker::Model;
+
+// The greatest size of a potential that a certificate may have.
+const GREATEST: u128 = 1 << 100;
+
+/// Potentials for nodes: a finite map.
+#[derive(Debug, Drop)]
+pub struct Potentials {
+    values: BTreeMap<Node, i128>,
+}
+
+impl Model for Potentials {
+    ghost use Rattle.std.specs.Prelude.{List, ℤ};
+    ghost use Rattle.fm_lattice.specs.Maps.{IsRising};
+    ghost use Rattle.fm_net.specs.declared.node.Node.{Node as NodeName};
+    ghost use Rattle.fm_net.specs.Nodes.{node_cmp};
+
+    ghost Value = { List (NodeName × ℤ) };
+
+    ghost view = { λ a. a.values.entries };
+
+    ghost invariant = { λ a. IsRising node_cmp a.values.entries };
+}
+
+impl Potentials {
+    /// Potentials of no node.
+    pub fn new(alloc: Global) -> Self
+        ensures { result ≡ [] }
+    {
+        Potentials {
+            values: BTreeMap::new(alloc),
+        }
+    }
+
+    /// Sets the node's potential. After a refusal of memory the potentials are as they were. O(log n).
+    pub fn put(&mut self, node: Node, potential: i128) -> Result<(), OutOfMemory>
+        ensures ok { OnOk result (self.new ≡ put node_cmp replaced node potential self.old) }
+        ensures err { OnErr result (self.new ≡ self.old) }
+    {
+        self.values.insert(node, potential)?;
+        Ok(())
+    }
+
+    /// The node's potential, if it has one. O(log n).
+    pub fn at(&self, node: &Node) -> Option<i128>
+        ensures { result ≡ lookup node_cmp node.now self.now }
+    {
+        self.values.get(node).copied()
+    }
+
+    /// The node's potential; 0 where it has none. O(log n).
+    pub(crate) fn or_zero(&self, node: &Node) -> i128
+        ensures { result ≡ potential_in self.now node.now }
+    {
+        self.at(node).unwrap_or(0)
+    }
+
+    /// What is known of all potentials: their nodes rise.
+    pub fn known(&self)
+        ensures rises { IsRising node_cmp self.now }
+    {
+        let _ = &self.values;
+    }
+
+    /// How many nodes have a potential.
+    pub fn len(&self) -> usize
+        ensures len { result ≡ length self.now }
+        ensures fits { result < 2 ^ 63 }
+    {
+        self.values.len()
+    }
+
+    /// Whether no node has a potential.
+    pub fn is_empty(&self) -> bool
+        ensures { IsTrue result ↔ (length self.now ≡ 0) }
+    {
+        self.values.is_empty()
+    }
+
+    /// Whether these are potentials of just the network's nodes, none beyond 2^100 in size. O(n).
+    pub(crate) fn are_of(&self, network: &Network) -> bool
+        ensures { IsTrue result ↔ AreOf self.now network.now.nodes }
+    {
+        let mut values = self.values.iter();
+        for node in network.nodes() {
+            let Some((name, potential)) = values.next() else {
+                return false;
+            };
+            if *name != node || potential.unsigned_abs() > GREATEST {
+                return false;
+            }
+        }
+        values.next().is_none()
+    }
+}

@@ -1,0 +1,5 @@
+pub mod Dirty
+pub mod KeptLaws
+pub mod LocalLaws
+pub mod Looking
+pub mod LookLaws
