@@ -3,3 +3,4 @@ pub mod Rounds
 pub mod Opening
 pub mod Coming
 pub mod Asking
+pub mod Serving

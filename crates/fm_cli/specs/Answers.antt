@@ -1,45 +1,34 @@
 -- What the program writes for a command and an input, and how it ends (this project's profile).
-use Rattle.std.specs.Prelude.{◌≡◌, ◌⊎◌, ⊤, ℕ, List, [], ◌++◌, cond, is_none, Option, Some, None, option_map, Result, Ok, Err, IsUtf8}
-use Rattle.serde_json.specs.Data.{Data}
-use Rattle.serde_json.specs.Read.{read as read_text}
+use Rattle.std.specs.Prelude.{◌≡◌, ◌⊎◌, ℕ, List, cond, is_none, Option, Some, None, Result, Ok, Err}
+use Rattle.std.specs.Io.KnownBytes.{Appends}
 use Rattle.fm_records.specs.declared.refusal.Refusal.{Refusal}
 use Rattle.fm_records.specs.declared.refusal.Refusal.TheVariants.{OutOfMemory, WriteFault, NoCoordinator, NoPacket, BadScript, Uncertified}
 use Rattle.fm_flow.specs.Flows.{Units, IsLeast}
+use Rattle.fm_dimacs.specs.Sending.{AppendsPrefix}
 use Rattle.fm_dimacs.specs.Solution.{solution_text}
 use Rattle.fm_coord.specs.Events.{Sent, Replica}
 use Rattle.fm_world.specs.Worlds.{WorldOfSets, with_number}
-use Rattle.fm_cli.specs.declared.fault.Fault.{Fault}
+use Rattle.fm_input.specs.declared.script.Script.{Script}
 use Rattle.fm_input.specs.declared.script.Step.{Step}
-use Rattle.fm_cli.specs.declared.serve.Ending.{Ending}
-use Rattle.fm_cli.specs.declared.serve.Ending.TheVariants.{Done, Differ, Wrong, Stopped}
 use Rattle.fm_input.specs.declared.words.Command.{Command}
 use Rattle.fm_input.specs.declared.words.Command.TheVariants as command
 use Rattle.fm_input.specs.declared.words.Question.{Question}
 use Rattle.fm_input.specs.declared.words.Question.TheVariants as question
+use Rattle.fm_input.specs.Texts.{Spells, SpellsNone}
+use Rattle.fm_cli.specs.declared.fault.Fault.{Fault}
+use Rattle.fm_cli.specs.declared.serve.Ending.{Ending}
+use Rattle.fm_cli.specs.declared.serve.Ending.TheVariants.{Done, Differ, Wrong, Stopped}
 use Rattle.fm_cli.specs.Faults.{fault_of, script_fault_of}
-use Rattle.fm_input.specs.Script.{IsScriptOf, script_fault}
 use Rattle.fm_cli.specs.Running.{opened, Come, Stops}
 use Rattle.fm_cli.specs.Output.{After, network_of, graph_of, winners_of, difference, agreement_text, packet_named, packet_line}
 use Rattle.fm_cli.specs.Endings.{asked_of}
-
--- how a run ends that came to this
-abbrev pub ending_of : Result Ending Fault → Ending
-ending_of (Ok ending) = ending
-ending_of (Err fault) = Stopped fault
-
--- the text spells a script of these coordinators, names and steps
-pub record Spells (text : List ℕ) (listed : List ℕ) (names : List (List ℕ)) (steps : List Step) : Type 0 where
-  pub value : Data
-  pub read : read_text text ≡ Some value
-  pub script : IsScriptOf value listed names steps
+use Rattle.fm_cli.specs.Unpacked.{IsUnpacked, IsNotUnpacked}
 
 -- the text was not read as a script, and why
 pub record IsUnread (text : List ℕ) (fault : Fault) : Type 0 where
   pub refusal : Refusal
   pub named : fault ≡ script_fault_of refusal
-  pub cause : (refusal ≡ OutOfMemory)
-      ⊎ (((IsUtf8 text → read_text text ≡ None) × (refusal ≡ BadScript 0))
-      ⊎ ((d : Data) × (read_text text ≡ Some d) × (option_map BadScript (script_fault d) ≡ Some refusal)))
+  pub cause : SpellsNone text refusal
 
 -- the output answers the question about what the replica took in
 abbrev pub AnswersAt : Question → Replica → List ℕ → Type 0
@@ -47,7 +36,7 @@ AnswersAt question.Graph r output = output ≡ graph_of r
 AnswersAt question.Solve r output = (units : Units) × IsLeast (network_of r) units × (output ≡ solution_text (network_of r) units)
 AnswersAt question.Winners r output = output ≡ winners_of r
 
--- the output and the ending answer the command in the world that the script's steps came to
+-- the output and the ending answer the command in the world that the script's steps came to; `unpack` reads no script
 abbrev pub AnswersIn : Command → List ℕ → List (List ℕ) → WorldOfSets → Ending → List ℕ → Type 0
 AnswersIn (command.Ask q at) listed names w ending output =
     (ending ≡ Done) × (n : ℕ) × (asked_of listed at ≡ Ok n) × (r : Replica) × (with_number w.replicas n ≡ Some r) × AnswersAt q r output
@@ -65,9 +54,9 @@ pub record IsOfScript (c : Command) (text : List ℕ) (ending : Ending) (output 
   pub came : Come (opened listed) steps world
   pub answered : AnswersIn c listed names world ending output
 
--- the whole output that the command wants of the text, and the ending; of `unpack` the output is not said yet
+-- the whole output that the command wants of the text, and the ending
 abbrev pub Wants : Command → List ℕ → Ending → List ℕ → Type 0
-Wants command.Unpack text ending output = ending ≡ Done
+Wants command.Unpack text ending output = (ending ≡ Done) × IsUnpacked text output
 Wants c text ending output = IsOfScript c text ending output
 
 -- what was asked for is not there once the steps ran, or was not certified
@@ -91,35 +80,46 @@ pub record IsStopped (c : Command) (text : List ℕ) (fault : Fault) : Type 0 wh
   pub spelled : Spells text listed names steps
   pub cause : IsNotListed c listed fault ⊎ (Stops listed steps fault ⊎ After listed steps (λ w. Lacks c listed names w fault))
 
--- why nothing is written; of `unpack` it is not said yet
+-- why nothing is written
 abbrev pub IsRefused : Command → List ℕ → Fault → Type 0
-IsRefused command.Unpack text fault = ⊤
+IsRefused command.Unpack text fault = (refusal : Refusal) × (fault ≡ fault_of refusal) × IsNotUnpacked text refusal
 IsRefused c text fault = (fault ≡ fault_of OutOfMemory) ⊎ (IsUnread text fault ⊎ IsStopped c text fault)
 
--- a prefix of the whole is written, for want of memory or a fault of the writer
-pub record IsCutOff (c : Command) (text : List ℕ) (fault : Fault) (output : List ℕ) : Type 0 where
-  pub cause : (fault ≡ fault_of OutOfMemory) ⊎ (fault ≡ fault_of WriteFault)
+-- this holds of each text that spells the script, and of each way to ask for its coordinator of the number
+abbrev pub AsksOf : Script → ℕ → (List ℕ → Option ℕ → Type 0) → Type 0
+AsksOf script n Holds =
+    (text : List ℕ) (at : Option ℕ) → Spells text script.coordinators.items script.names script.steps.items → asked_of script.coordinators.items at ≡ Ok n → Holds text at
+
+-- the whole output is written
+pub record IsWritten (c : Command) (text : List ℕ) (ending : Ending) (old new : Option (List ℕ)) : Type 0 where
+  pub output : List ℕ
+  pub wanted : Wants c text ending output
+  pub appended : Appends old new output
+
+-- the writer failed, and a prefix of the whole output is written
+pub record IsCutOff (c : Command) (text : List ℕ) (old new : Option (List ℕ)) : Type 0 where
   pub ending : Ending
-  pub rest : List ℕ
-  pub whole : Wants c text ending (output ++ rest)
+  pub output : List ℕ
+  pub wanted : Wants c text ending output
+  pub prefix : AppendsPrefix old new output
 
--- for a command and a text the program ends so, and that is what it wrote
-abbrev pub IsAnswer : Command → List ℕ → Ending → List ℕ → Type 0
-IsAnswer c text (Stopped fault) output = (IsRefused c text fault × (output ≡ [])) ⊎ IsCutOff c text fault output
-IsAnswer c text ending output = Wants c text ending output
+-- for a command and a text the program ends so, and that is what became of the writer's bytes
+abbrev pub IsAnswer : Command → List ℕ → Ending → Option (List ℕ) → Option (List ℕ) → Type 0
+IsAnswer c text (Stopped fault) old new = (IsRefused c text fault × (new ≡ old)) ⊎ ((fault ≡ fault_of WriteFault) × IsCutOff c text old new)
+IsAnswer c text ending old new = IsWritten c text ending old new
 
--- known bytes grew by such an output
-abbrev pub Grows : Command → List ℕ → Ending → Option (List ℕ) → Option (List ℕ) → Type 0
-Grows c text ending None new = ⊤
-Grows c text ending (Some old) new = (output : List ℕ) × (new ≡ Some (old ++ output)) × IsAnswer c text ending output
+-- the same of what a reader gives; or it could not be read to an end, and nothing is written
+abbrev pub Serves : Command → List ℕ → Ending → Option (List ℕ) → Option (List ℕ) → Type 0
+Serves c text ending old new = IsAnswer c text ending old new ⊎ ((ending ≡ Stopped (fault_of (BadScript 0))) × (new ≡ old))
 
--- the same; of `unpack` and `pack` nothing is said yet
-abbrev pub Answers : Command → List ℕ → Ending → Option (List ℕ) → Option (List ℕ) → Type 0
-Answers command.Unpack text ending old new = ⊤
-Answers (command.Pack name) text ending old new = ⊤
-Answers c text ending old new = Grows c text ending old new
+-- a text that is no answer to a command is written, or what the writer took of it
+abbrev pub IsPrinted : Ending → List ℕ → Option (List ℕ) → Option (List ℕ) → Type 0
+IsPrinted ending text old new =
+    ((ending ≡ Done) × Appends old new text) ⊎ ((ending ≡ Stopped (fault_of WriteFault)) × AppendsPrefix old new text)
 
--- the same of what a reader gives; or it could not be read to an end, or there was no memory, and nothing is written
-abbrev pub AnswersInput : Command → List ℕ → Ending → Option (List ℕ) → Option (List ℕ) → Type 0
-AnswersInput c text ending old new =
-    Answers c text ending old new ⊎ (((ending ≡ Stopped (fault_of OutOfMemory)) ⊎ (ending ≡ Stopped (fault_of (BadScript 0)))) × (new ≡ old))
+-- a run over words and an input: a command that the words ask for was served, or a text of help was printed, or the words are
+-- wrong or there is no memory to read them, and nothing is written
+abbrev pub IsServed : List ℕ → Ending → Option (List ℕ) → Option (List ℕ) → Type 0
+IsServed text (Wrong said) old new = new ≡ old
+IsServed text ending old new =
+    ((c : Command) × Serves c text ending old new) ⊎ (((help : List ℕ) × IsPrinted ending help old new) ⊎ ((ending ≡ Stopped (fault_of OutOfMemory)) × (new ≡ old)))

@@ -1,10 +1,10 @@
 -- How the program ends (this project's profile).
-use Rattle.std.specs.Prelude.{ℕ, List, [], ◌∷◌, cond, Option, Some, None, Result, Ok, Err}
+use Rattle.std.specs.Prelude.{ℕ, String, string_bytes, List, [], ◌∷◌, cond, Option, Some, None, Result, Ok, Err}
 use Rattle.fm_records.specs.declared.refusal.Refusal.TheVariants.{NoCoordinator}
 use Rattle.fm_cli.specs.declared.fault.Fault.{Fault}
 use Rattle.fm_cli.specs.declared.serve.Ending.{Ending}
 use Rattle.fm_cli.specs.declared.serve.Ending.TheVariants.{Done, Differ, Wrong, Stopped}
-use Rattle.fm_cli.specs.Faults.{fault_of, status_of}
+use Rattle.fm_cli.specs.Faults.{fault_of, status_of, fault_text}
 use Rattle.fm_input.specs.Script.{is_listed}
 
 -- 0 where all is done, 5 where coordinators do not know the same, 2 where the words were wrong, and else the fault's status
@@ -13,6 +13,18 @@ ending_status Done = 0
 ending_status Differ = 5
 ending_status (Wrong text) = 2
 ending_status (Stopped fault) = status_of fault.refusal
+
+-- what is said on standard error: nothing where all went well, what is wrong with the words, or the fault's line
+abbrev pub ending_text : Ending → List ℕ
+ending_text Done = []
+ending_text Differ = []
+ending_text (Wrong text) = string_bytes text
+ending_text (Stopped fault) = fault_text fault
+
+-- how a run ends that came to this
+abbrev pub ending_of : Result Ending Fault → Ending
+ending_of (Ok ending) = ending
+ending_of (Err fault) = Stopped fault
 
 -- the coordinator that is asked: the one named, where it is listed, and the first listed where none is named
 abbrev pub asked_of : List ℕ → Option ℕ → Result ℕ Fault

@@ -3,3 +3,5 @@ pub mod Running
 pub mod Winners
 pub mod Output
 pub mod Endings
+pub mod Unpacked
+pub mod Answers

@@ -5,7 +5,8 @@ ghost use Rattle.fm_coord.specs.Numbers.{AreDistinct};
 ghost use Rattle.fm_input.specs.declared.words.Command.TheVariants as command;
 ghost use Rattle.fm_input.specs.declared.words.Question.TheVariants as asks;
 ghost use Rattle.fm_cli.specs.declared.serve.Ending.TheVariants as ending;
-ghost use Rattle.fm_cli.specs.Answers.{Spells, IsUnread, Wants, IsRefused};
+ghost use Rattle.fm_input.specs.Texts.{Spells};
+ghost use Rattle.fm_cli.specs.Answers.{IsUnread, AsksOf, Wants, IsRefused};
 ghost use Rattle.fm_cli.specs.Endings.{asked_of};
 ghost use Rattle.fm_cli.specs.Faults.{in_memory_of};
 
@@ -23,22 +24,159 @@ use std::alloc::Global;
 
 /// What is to be written, and how the run then ends.
 #[derive(Debug, Drop)]
-pub struct Answer {
+pub struct Answered {
     pub ending: Ending,
     pub output: Vec<u8>,
 }
 
 /// What the command answers to the text. Refused where the text, a step of its script or what is asked for is at fault, or
 /// memory is wanted.
-pub fn answer(alloc: Global, command: Command, text: &[u8]) -> Result<Answer, Fault>
-    ensures ok { IfOk result (λ a. Wants command text.now a.ending a.output.items) }
-    ensures err { IfErr result (λ fault. IsRefused command text.now fault) }
+pub fn answer(alloc: Global, command: Command, text: &[u8]) -> Result<Answered, Fault>
+    ensures ok { IfOk result (λ a. Wants command.entry text.now a.ending a.output.items) }
+    ensures err { IfErr result (λ fault. IsRefused command.entry text.now fault) }
 {
     match command {
-        Command::Unpack => done(unpacked(alloc, text)),
+        Command::Unpack => unpacked(alloc, text),
         Command::Pack { name } => packed(alloc, name, text),
         Command::Agree => agreed(alloc, text),
         Command::Ask { question, at } => asked_in(alloc, question, at, text),
+    }
+}
+
+// The lines of the packet that the text spells.
+fn unpacked(alloc: Global, text: &[u8]) -> Result<Answered, Fault>
+    ensures ok { IfOk result (λ a. Wants command.Unpack text.now a.ending a.output.items) }
+    ensures err { IfErr result (λ fault. IsRefused command.Unpack text.now fault) }
+{
+    match unpack(alloc, text) {
+        Ok(lines) => Ok(Answered {
+            ending: Ending::Done,
+            output: lines.into_bytes(),
+        }),
+        Err(refusal) => Err(Fault::from(refusal)),
+    }
+}
+
+// The bytes of the packet of the name.
+fn packed(alloc: Global, name: &str, text: &[u8]) -> Result<Answered, Fault>
+    ensures ok { IfOk result (λ a. Wants (command.Pack name) text.now a.ending a.output.items) }
+    ensures err { IfErr result (λ fault. IsRefused (command.Pack name) text.now fault) }
+{
+    let script = match script_in(alloc, text) {
+        Ok(script) => script,
+        Err(fault) => return Err(fault),
+    };
+    let mut page = Over::new(Vec::new(alloc));
+    match packet(alloc, &script, name, &mut page) {
+        Ok(()) => Ok(Answered {
+            ending: Ending::Done,
+            output: page.into_inner(),
+        }),
+        Err(fault) => Err(in_memory(fault)),
+    }
+}
+
+// Whether all coordinators know the same.
+fn agreed(alloc: Global, text: &[u8]) -> Result<Answered, Fault>
+    ensures ok { IfOk result (λ a. Wants command.Agree text.now a.ending a.output.items) }
+    ensures err { IfErr result (λ fault. IsRefused command.Agree text.now fault) }
+{
+    let script = match script_in(alloc, text) {
+        Ok(script) => script,
+        Err(fault) => return Err(fault),
+    };
+    let mut page = Over::new(Vec::new(alloc));
+    match agreement(alloc, &script, &mut page) {
+        Ok(true) => Ok(Answered {
+            ending: Ending::Done,
+            output: page.into_inner(),
+        }),
+        Ok(false) => Ok(Answered {
+            ending: Ending::Differ,
+            output: page.into_inner(),
+        }),
+        Err(fault) => Err(in_memory(fault)),
+    }
+}
+
+// The answer to the question about the coordinator that is asked.
+fn asked_in(
+    alloc: Global,
+    question: Question,
+    at: Option<u8>,
+    text: &[u8],
+) -> Result<Answered, Fault>
+    ensures ok { IfOk result (λ a. Wants (command.Ask question at) text.now a.ending a.output.items) }
+    ensures err { IfErr result (λ fault. IsRefused (command.Ask question at) text.now fault) }
+{
+    let script = match script_in(alloc, text) {
+        Ok(script) => script,
+        Err(fault) => return Err(fault),
+    };
+    let number = match asked(&script.coordinators, at) {
+        Ok(number) => number,
+        Err(fault) => return Err(fault),
+    };
+    let output = match question {
+        Question::Graph => graphed(alloc, &script, number),
+        Question::Solve => solved(alloc, &script, number),
+        Question::Winners => won(alloc, &script, number),
+    };
+    match output {
+        Ok(output) => Ok(Answered {
+            ending: Ending::Done,
+            output,
+        }),
+        Err(fault) => Err(fault),
+    }
+}
+
+// The network of what the coordinator took in.
+fn graphed(alloc: Global, script: &Script, at: CoordId) -> Result<Vec<u8>, Fault>
+    requires { AreDistinct script.now.coordinators.items }
+    ensures ok { IfOk result (λ output. AsksOf script.now at (λ text a. Wants (command.Ask asks.Graph a) text ending.Done output.items)) }
+    ensures err { IfErr result (λ fault. AsksOf script.now at (λ text a. IsRefused (command.Ask asks.Graph a) text fault)) }
+{
+    let mut page = Over::new(Vec::new(alloc));
+    match graph(alloc, script, at, &mut page) {
+        Ok(()) => Ok(page.into_inner()),
+        Err(fault) => Err(in_memory(fault)),
+    }
+}
+
+// Who won, by what the coordinator took in.
+fn won(alloc: Global, script: &Script, at: CoordId) -> Result<Vec<u8>, Fault>
+    requires { AreDistinct script.now.coordinators.items }
+    ensures ok { IfOk result (λ output. AsksOf script.now at (λ text a. Wants (command.Ask asks.Winners a) text ending.Done output.items)) }
+    ensures err { IfErr result (λ fault. AsksOf script.now at (λ text a. IsRefused (command.Ask asks.Winners a) text fault)) }
+{
+    let mut page = Over::new(Vec::new(alloc));
+    match winners(alloc, script, at, &mut page) {
+        Ok(()) => Ok(page.into_inner()),
+        Err(fault) => Err(in_memory(fault)),
+    }
+}
+
+// A least flow of the network of what the coordinator took in.
+fn solved(alloc: Global, script: &Script, at: CoordId) -> Result<Vec<u8>, Fault>
+    requires { AreDistinct script.now.coordinators.items }
+    ensures ok { IfOk result (λ output. AsksOf script.now at (λ text a. Wants (command.Ask asks.Solve a) text ending.Done output.items)) }
+    ensures err { IfErr result (λ fault. AsksOf script.now at (λ text a. IsRefused (command.Ask asks.Solve a) text fault)) }
+{
+    let mut page = Over::new(Vec::new(alloc));
+    match solution(alloc, script, at, &mut page) {
+        Ok(()) => Ok(page.into_inner()),
+        Err(fault) => Err(in_memory(fault)),
+    }
+}
+
+// The same fault of writing to memory alone, where it is want of memory.
+fn in_memory(fault: Fault) -> Fault
+    ensures { result ≡ in_memory_of fault }
+{
+    match fault.refusal {
+        Refusal::WriteFault => Fault::from(Refusal::OutOfMemory),
+        _ => fault,
     }
 }
 
@@ -82,4 +220,3 @@ fn named(listed: &[CoordId], number: u8) -> Result<CoordId, Fault>
         }
     }
 }
-

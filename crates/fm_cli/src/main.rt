@@ -2,10 +2,12 @@
 #![tactic(auto)]
 
 mod agree;
+mod answer;
 mod fault;
 mod output;
 mod pack;
 mod run;
+mod sending;
 mod serve;
 mod unpack;
 mod winners;

@@ -2,8 +2,7 @@
 
 ghost use Rattle.std.specs.Prelude.{◌≡◌, Some, IfSome};
 ghost use Rattle.fm_cli.specs.Endings.{ending_status, ending_text, ending_of};
-ghost use Rattle.fm_cli.specs.Answers.{Serves, IsServed};
-ghost use Rattle.fm_cli.specs.Sending.{IsPrinted};
+ghost use Rattle.fm_cli.specs.Answers.{Serves, IsServed, IsPrinted};
 
 use crate::answer::answer;
 use crate::fault::Fault;
@@ -80,7 +79,7 @@ pub fn serve<R: Read, W: Write>(
 
 // Writes the text.
 fn print<W: Write>(text: &str, writer: &mut W) -> Result<Ending, Fault>
-    ensures { IsPrinted result text.now (W.contents writer.old) (W.contents writer.new) }
+    ensures { IsPrinted (ending_of result) text.now (W.contents writer.old) (W.contents writer.new) }
 {
     match send(writer, text.as_bytes()) {
         Ok(()) => Ok(Ending::Done),
@@ -101,12 +100,12 @@ fn run<R: Read, W: Write>(
         Ok(text) => text,
         Err(refusal) => return Err(Fault::from(refusal)),
     };
-    let answer = match answer(alloc, command, &text) {
-        Ok(answer) => answer,
+    let answered = match answer(alloc, command, &text) {
+        Ok(answered) => answered,
         Err(fault) => return Err(fault),
     };
-    match send(writer, &answer.output) {
-        Ok(()) => Ok(answer.ending),
+    match send(writer, &answered.output) {
+        Ok(()) => Ok(answered.ending),
         Err(refusal) => Err(Fault::from(refusal)),
     }
 }

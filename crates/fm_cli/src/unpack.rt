@@ -130,7 +130,20 @@ fn write_task(
     let attempt = known.1.0.attempt;
     let phase = phase_text(known.1.0.phase);
     write!(lines, "task {name} {attempt} {phase}\n")?;
-    match &known.0.0 {
+    write_known_spec(alloc, lines, task, &known.0)
+}
+
+// Appends a spec's line, if it is known.
+fn write_known_spec(
+    alloc: Global,
+    lines: &mut String,
+    task: TaskId,
+    spec: &Opt<Max<SpecReg>>,
+) -> Result<(), Refusal>
+    ensures ok { OnOk result (string_bytes lines.new ≡ string_bytes lines.old ++ spec_line task spec.now) }
+    ensures err { IsOkUnless result Refusal.OutOfMemory }
+{
+    match &spec.0 {
         Some(spec) => write_spec(alloc, lines, task, &spec.0),
         None => Ok(()),
     }

@@ -1,5 +1,5 @@
 use Rattle.std.proofs.Common.{length}
-use Rattle.fm_cli.proofs.serve.+named.Given as goal
+use Rattle.fm_cli.proofs.answer.+named.Given as goal
 
 abbrev pub decreases-named : goal.decreases-named
 decreases-named l = length l.listed.now
