@@ -1,23 +1,28 @@
 #!/usr/bin/env python3
-"""What `firmament graph`, `winners`, `agree` and `pack` are to print, worked out from the script by the rules alone, slowly
-and in another way: a coordinator is the set of all operations that it took in, a packet is the set of those that it stands
-for, and every record is the greatest of all that a set tells, found by going over all of them.
+"""What `firmament graph`, `winners`, `agree`, `pack` and `unpack` are to print, worked out by the rules alone, slowly and in
+another way: a coordinator is the set of all operations that it took in, a packet is the set of those that it stands for, and
+every record is the greatest of all that a set tells, found by going over all of them.
 
     tests/reference.py graph [--at N] < SCRIPT
     tests/reference.py winners [--at N] < SCRIPT
     tests/reference.py agree < SCRIPT
     tests/reference.py pack NAME < SCRIPT
+    tests/reference.py unpack < DIGITS
 
-Texts, refusals and statuses are the program's. Rounds are not done: which of several least flows is found is not said, so
-what comes of a round does not follow from the rules alone. The forms of steps are not looked at but for a name that two cuts
-give, and histories have no limit, since no script without rounds is long enough to reach it.
+Texts, refusals and statuses are the program's. A round is done only where nothing can be placed or preempted: which of several
+least flows is found is not said, so what comes of another does not follow from the rules alone. Histories have no limit, since
+no script without rounds is long enough to reach it.
 """
 import argparse
 import collections
+import functools
 import json
+import re
 import struct
 import sys
 import uuid
+
+import strict
 
 PHASES = ["pending", "running", "done"]
 
@@ -46,6 +51,11 @@ def name(n):
 
 def raw(n):
     return n.to_bytes(16, "big")
+
+
+def out_of_range(fields):
+    """Whether a field is beyond its limits."""
+    return any(not LIMITS[field][0] <= fields[field] <= LIMITS[field][1] for field in LIMITS.keys() & fields.keys())
 
 
 class Known:
@@ -120,7 +130,7 @@ class Coordinator:
 
     def take(self, operations):
         self.taken |= operations
-        self.sets.append(operations)
+        self.sets.append(frozenset(operations))
 
 
 Packet = collections.namedtuple("Packet", "sender number operations")
@@ -143,9 +153,8 @@ class World:
 
     def tell(self, at, asked):
         (kind, fields), = asked.items()
-        for field, (least, most) in LIMITS.items():
-            if field in fields and not least <= fields[field] <= most:
-                return 2
+        if out_of_range(fields):
+            return 2
         self.coordinators[at].take({(kind, frozenset(fields.items()))})
 
     def cut(self, at, asked):
@@ -172,16 +181,11 @@ class World:
         self.coordinators[at].floor = asked
 
     def round(self, at, asked):
-        raise NotSaid("which least flow a round finds is not said")
-
-
-def check_names(script):
-    """No two cuts give one name."""
-    names = set()
-    for place, step in enumerate(script["steps"], 1):
-        if "cut" in step and step["cut"]["name"] in names:
-            raise Refused(16, place)
-        names |= {step["cut"]["name"]} if "cut" in step else set()
+        """Nothing comes of it where no arc leads to a machine."""
+        _, arcs = network(Known(self.coordinators[at].taken))
+        if any(target[0] == 3 for _, target in arcs):
+            raise NotSaid("which least flow a round finds is not said")
+        self.coordinators[at].take(frozenset())
 
 
 def winners(known):
@@ -307,19 +311,100 @@ def agree(world):
     return 0, "same\n"
 
 
-def read_words(words):
-    parser = argparse.ArgumentParser(description=__doc__, formatter_class=argparse.RawDescriptionHelpFormatter)
-    commands = parser.add_subparsers(dest="command", required=True)
+def unpacked(text):
+    """The lines of the packet that the digits are of. Its records are read in their order, and spelled again: there is one
+    spelling only."""
+    digits = re.fullmatch(b"((?:[0-9a-fA-F]{2})*)\n?", text)
+    if not digits or len(text) > strict.LIMIT:
+        raise Refused(16)
+    packet = read_packet(bytes.fromhex(digits[1].decode()))
+    lines, spelled = packed(packet) if packet else ("", "")
+    if spelled != digits[1].decode().lower() + "\n":
+        raise Refused(6)
+    return lines
+
+
+def read_packet(spelled):
+    """The packet whose operations the records are, if they are in range."""
+    at = 0
+
+    def take(form):
+        nonlocal at
+        at += struct.calcsize(form)
+        return struct.unpack(form, spelled[at - struct.calcsize(form):at])
+    told = []
+    try:
+        magic, sender, count = take(">4sBQ")
+        for records in (jobs_told, tasks_told, machines_told, proposals_told):
+            for _ in range(take(">Q")[0]):
+                told += records(take)
+    except (struct.error, IndexError):
+        return None
+    if magic != b"FDG1" or at != len(spelled) or not 1 <= sender <= 64 or any(out_of_range(fields) for _, fields in told):
+        return None
+    return Packet(sender, count, {(kind, frozenset(fields.items())) for kind, fields in told})
+
+
+def jobs_told(take):
+    """The operations that a record is of; and so below."""
+    job, version, writer, withdrawn, wait, preempt = take(">16sQBBII")
+    return [("job", {"id": read_raw(job), "version": version, "writer": writer, "withdrawn": (False, True)[withdrawn],
+                     "wait": wait, "preempt": preempt})]
+
+
+def tasks_told(take):
+    task, attempt, phase, has = take(">16sIBB")
+    told = [("progress", {"id": read_raw(task), "attempt": attempt, "phase": PHASES[phase]})]
+    if has:
+        version, writer, withdrawn, job, request = take(">QBB16sI")
+        told.append(("spec", {"id": read_raw(task), "version": version, "writer": writer, "job": read_raw(job),
+                              "withdrawn": (False, True)[withdrawn], "request": request}))
+    return told
+
+
+def machines_told(take):
+    machine, incarnation, parts = take(">16sQB")
+    told = []
+    if parts in (1, 3):
+        version, writer, up, slots, nic = take(">QBBII")
+        told.append(("machine", {"id": read_raw(machine), "incarnation": incarnation, "version": version, "writer": writer,
+                                 "up": (False, True)[up], "slots": slots, "nic": nic}))
+    if parts in (2, 3):
+        count, used = take(">QI")
+        told.append(("report", {"id": read_raw(machine), "incarnation": incarnation, "number": count, "used": used}))
+    return told
+
+
+def proposals_told(take):
+    task, attempt, coordinator, machine, incarnation = take(">16sIB16sQ")
+    return [("propose", {"id": read_raw(task), "attempt": attempt, "coordinator": coordinator, "machine": read_raw(machine),
+                         "incarnation": incarnation})]
+
+
+def read_raw(spelled):
+    return name(int.from_bytes(spelled, "big"))
+
+
+@functools.lru_cache(None)
+def parser():
+    found = argparse.ArgumentParser(description=__doc__, formatter_class=argparse.RawDescriptionHelpFormatter)
+    commands = found.add_subparsers(dest="command", required=True)
     for command in ("graph", "winners"):
         commands.add_parser(command).add_argument("--at", type=int)
     commands.add_parser("agree")
     commands.add_parser("pack").add_argument("name")
-    return parser.parse_args(words)
+    commands.add_parser("unpack")
+    return found
 
 
-def asked(words, script):
+def asked(words, text):
     """The status, and what is printed."""
-    check_names(script)
+    if words.command == "unpack":
+        return 0, unpacked(text)
+    try:
+        script = strict.read_script(text)
+    except strict.Strange as strange:
+        raise Refused(16, strange.step)
     at = getattr(words, "at", None)
     at = script["coordinators"][0] if at is None else at
     if at not in script["coordinators"]:
@@ -334,17 +419,17 @@ def asked(words, script):
     return 0, "".join({"graph": graph, "winners": winners}[words.command](Known(world.coordinators[at].taken)))
 
 
-def answer(words, script):
-    """The status, and the texts on standard output and standard error, of a run with the words on the text of a script."""
+def answer(words, text):
+    """The status, and the texts on standard output and standard error, of a run with the words on the text or bytes."""
     try:
-        return asked(read_words(words), json.loads(script)) + ("",)
+        return asked(parser().parse_args(words), text.encode() if isinstance(text, str) else text) + ("",)
     except Refused as refused:
         return 3, "", "%s\n" % refused
 
 
 if __name__ == "__main__":
     try:
-        status, out, err = answer(sys.argv[1:], sys.stdin.read())
+        status, out, err = answer(sys.argv[1:], sys.stdin.buffer.read())
     except NotSaid as why:
         sys.exit("tests/reference.py: %s" % why)
     sys.stdout.write(out)

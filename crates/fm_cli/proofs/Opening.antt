@@ -1,18 +1,18 @@
 -- The coordinators with which a script begins, one after another.
 use Rattle.std.proofs.Common.{◌≡◌, ◌<◌, ◌≤◌, ◌+◌, ℕ, List, [], ◌∷◌, ◌++◌, length, map, take, get_or, sym, ap, ◌∙◌, subst}
 use Rattle.std.proofs.lemmas.List.{map-append, take_more, take_all}
-use Rattle.fm_coord.specs.States.{WithNetwork, new_state}
+use Rattle.fm_coord.specs.States.{WithKeeper, new_state}
 use Rattle.fm_world.specs.Stands.{number_of, opening_of, AreUnused}
 use Rattle.fm_cli.specs.Running.{history_limit}
 
 abbrev pub limited : ℕ → ℕ × ℕ
 limited n = (n, history_limit)
 
-unused-append : (cs : List WithNetwork) (c : WithNetwork) → AreUnused cs → c.state.history ≡ [] → AreUnused (cs ++ c ∷ [])
+unused-append : {N : Type 0} (cs : List (WithKeeper N)) (c : WithKeeper N) → AreUnused cs → c.state.history ≡ [] → AreUnused (cs ++ c ∷ [])
 unused-append [] c h e = (e, tt)
 unused-append (d ∷ cs) c h e = (h.0, unused-append cs c h.1 e)
 
-module _ (cs : List WithNetwork) (c : WithNetwork) (more : List WithNetwork) (listed : List ℕ) (i n : ℕ) (lt : i < length listed) (is : n ≡ get_or listed i n) (grown : more ≡ cs ++ c ∷ []) (new : c.state ≡ new_state n history_limit) where
+module _ {N : Type 0} (cs : List (WithKeeper N)) (c : WithKeeper N) (more : List (WithKeeper N)) (listed : List ℕ) (i n : ℕ) (lt : i < length listed) (is : n ≡ get_or listed i n) (grown : more ≡ cs ++ c ∷ []) (new : c.state ≡ new_state n history_limit) where
   listed_more : take (i + 1) listed ≡ take i listed ++ n ∷ []
   listed_more = take_more listed i n lt ∙ ap (λ m. take i listed ++ m ∷ []) (sym is)
 

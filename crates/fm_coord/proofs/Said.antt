@@ -10,6 +10,7 @@ use Rattle.fm_records.specs.LookupLaws.{both_true}
 use Rattle.fm_records.specs.Ops.{op_fault}
 use Rattle.fm_records.specs.Ranges.{fits, in_range, all_in_range}
 use Rattle.fm_dimacs.specs.Sending.{AppendsPrefix, IsSent}
+use Rattle.fm_coord.specs.States.{WithKeeper}
 
 -- operations in range have no fault
 pub faultless : (os : List Op) → all_in_range os ≡ true → list_all (λ op. is_none (op_fault op)) os ≡ true
@@ -28,3 +29,6 @@ module _ {T : Type 0} (old new : Option (List ℕ)) (had has : Bool) (text other
   pub sent_part : (r : Result T Refusal) → IsSent r old new had has text → OnErr r (AppendsPrefix old new other)
   sent_part (Ok t) h = tt
   sent_part (Err e) h = subst (λ ts. AppendsPrefix old new ts) same h.0
+
+pub same_state : {N : Type 0} {a b : WithKeeper N} → a ≡ b → a.state ≡ b.state
+same_state e = λ i. (e i).state

@@ -1,12 +1,10 @@
 -- What a coordinator keeps, what calls make of it, and for which replica it stands.
-use Rattle.std.specs.Prelude.{◌≡◌, ◌≤◌, ℕ, ◌+◌, Option, List, [], ◌∷◌, ◌++◌, length, drop, map}
+use Rattle.std.specs.Prelude.{◌≡◌, ◌≤◌, ℕ, ◌+◌, Bool, IsTrue, List, [], ◌∷◌, ◌++◌, length, drop, map}
 use Rattle.fm_records.specs.Table.{Table}
 use Rattle.fm_records.specs.Know.{know}
 use Rattle.fm_records.specs.Joined.{table_join}
 use Rattle.fm_delta.specs.declared.packet.Packet.{Packet}
 use Rattle.fm_delta.specs.Deltas.{Deltas, end_of, pushed, trimmed, between, joined_all}
-use Rattle.fm_net.specs.Net.{Net}
-use Rattle.fm_policy.specs.Keeping.{IsHeldFor}
 use Rattle.fm_round.specs.Admission.{admitted}
 use Rattle.fm_coord.specs.declared.entry.Call.{Call}
 use Rattle.fm_coord.specs.declared.entry.Call.TheVariants as call
@@ -27,10 +25,10 @@ pub record State : Type 0 where
   pub cuts : ℕ
   pub history : List Entry
 
--- with its network, where that is fresh
-pub record WithNetwork : Type 0 where
+-- with the keeper of its network
+pub record WithKeeper (N : Type 0) : Type 0 where
   pub state : State
-  pub held : Option Net
+  pub keeper : N
 
 -- a coordinator to which nothing happened
 abbrev pub new_state : ℕ → ℕ → State
@@ -112,7 +110,7 @@ pub record IsCoordinator (s : State) : Type 0 where
   pub end_within : end_of s.deltas ≤ length s.history
   pub cuts_within : s.cuts ≤ length s.history
 
--- and its network is stale or that of what it knows
-pub record IsKept (k : WithNetwork) : Type 0 where
-  pub coordinator : IsCoordinator k.state
-  pub network : IsHeldFor k.state.knowledge k.held
+-- and its keeper is stale, or for what it knows
+pub record IsKept (s : State) (fresh : Bool) (is_for : Table → Type 0) : Type 0 where
+  pub coordinator : IsCoordinator s
+  pub keeper : IsTrue fresh → is_for s.knowledge

@@ -1,13 +1,13 @@
 //! One coordinator with its history.
 
-ghost use Rattle.std.specs.Prelude.{◌≡◌, ◌≤◌, ◌<◌, ◌+◌, ◌^◌, ◌↔◌, ◌∷◌, ◌++◌, [], length, is_some, is_none, IsTrue, Some, None, IsOk, IsOkUnless, IfOk, IfErr, OnOk, OnErr};
+ghost use Rattle.std.specs.Prelude.{◌≡◌, ◌≤◌, ◌<◌, ◌+◌, ◌^◌, ◌↔◌, ◌∷◌, ◌++◌, [], length, is_none, IsTrue, Some, None, IsOk, IsOkUnless, IfOk, IfErr, OnOk, OnErr};
 ghost use Rattle.std.specs.List.{list_all};
 ghost use Rattle.fm_records.specs.Ops.{op_fault};
 ghost use Rattle.fm_records.specs.Know.{know};
 ghost use Rattle.fm_records.specs.Joined.{table_join};
 ghost use Rattle.fm_delta.specs.Deltas.{end_of, pushed};
 ghost use Rattle.fm_net.specs.Network.{net_of};
-ghost use Rattle.fm_policy.specs.Keeping.{IsHeldFor};
+ghost use Rattle.fm_policy.specs.Changes.{changed_keys};
 ghost use Rattle.std.specs.Io.KnownBytes.{Appends};
 ghost use Rattle.fm_dimacs.specs.Sending.{AppendsPrefix, StopsBy, IsSent};
 ghost use Rattle.fm_dimacs.specs.Text.{dump_text};
@@ -49,22 +49,22 @@ pub struct Coordinator<N: NetKeeper> {
 }
 
 impl<N: NetKeeper> Model for Coordinator<N> {
-    ghost use Rattle.fm_coord.specs.States.{WithNetwork, IsKept};
+    ghost use Rattle.fm_coord.specs.States.{WithKeeper, IsKept};
 
-    ghost Value = { WithNetwork };
+    ghost Value = { WithKeeper N };
 
-    ghost view = { λ a. record { state = record { number = a.number; limit = a.limit; knowledge = a.knowledge; deltas = a.buffer.deltas; cuts = a.cuts; history = a.history.items }; held = N.held a.keeper } };
+    ghost view = { λ a. record { state = record { number = a.number; limit = a.limit; knowledge = a.knowledge; deltas = a.buffer.deltas; cuts = a.cuts; history = a.history.items }; keeper = a.keeper } };
 
-    ghost invariant = { λ a. IsKept (record { state = record { number = a.number; limit = a.limit; knowledge = a.knowledge; deltas = a.buffer.deltas; cuts = a.cuts; history = a.history.items }; held = N.held a.keeper }) };
+    ghost invariant = { λ a. IsKept (record { number = a.number; limit = a.limit; knowledge = a.knowledge; deltas = a.buffer.deltas; cuts = a.cuts; history = a.history.items }) (N.fresh a.keeper) (N.is_for a.keeper) };
 }
 
 impl<N: NetKeeper> Coordinator<N> {
     /// A coordinator to which nothing happened, whose history may have as many entries as the limit. The caller owes a
-    /// keeper whose network, if fresh, is that of nothing known. It takes no memory.
+    /// keeper that, if fresh, is for nothing known. It takes no memory.
     pub fn new(alloc: Global, number: CoordId, limit: usize, keeper: N) -> Coordinator<N>
-        requires { IsHeldFor (know []) (N.held keeper) }
+        requires { IsTrue (N.fresh keeper) → N.is_for keeper (know []) }
         ensures state { result.state ≡ new_state number limit }
-        ensures held { result.held ≡ N.held keeper }
+        ensures keeper { result.keeper ≡ keeper }
     {
         Coordinator {
             alloc,
@@ -79,10 +79,10 @@ impl<N: NetKeeper> Coordinator<N> {
     }
 
     /// What holds of every coordinator: its history is legal, it stands for the replica that its history comes to, and its
-    /// network is stale or that of what it knows.
+    /// keeper is stale or for what it knows.
     pub fn known(&self)
         ensures coordinator { IsCoordinator self.now.state }
-        ensures network { IsHeldFor self.now.state.knowledge self.now.held }
+        ensures keeper { IsTrue (N.fresh self.now.keeper) → N.is_for self.now.keeper self.now.state.knowledge }
     {
         let _ = &self.number;
     }
@@ -108,6 +108,13 @@ impl<N: NetKeeper> Coordinator<N> {
         &self.knowledge
     }
 
+    /// The keeper of its network.
+    pub fn keeper(&self) -> &N
+        ensures { result.now ≡ self.now.keeper }
+    {
+        &self.keeper
+    }
+
     /// The first delta that it keeps.
     pub fn floor(&self) -> u64
         ensures { result ≡ self.now.state.deltas.floor }
@@ -125,7 +132,7 @@ impl<N: NetKeeper> Coordinator<N> {
     /// Whether its network is that of what it knows. It is stale after a want of memory, or where the keeper leaves a delta
     /// to the next build.
     pub fn is_fresh(&self) -> bool
-        ensures { result ≡ is_some self.now.held }
+        ensures { result ≡ N.fresh self.now.keeper }
     {
         self.keeper.is_fresh()
     }
@@ -173,6 +180,7 @@ impl<N: NetKeeper> Coordinator<N> {
     fn take_in(&mut self, delta: Knowledge, entry: Entry) -> Result<(), OutOfMemory>
         requires { IsCoordinator (took self.old.state delta entry) }
         ensures ok { OnOk result (self.new.state ≡ took self.old.state delta entry) }
+        ensures keeper { OnOk result (N.absorbs self.old.keeper (changed_keys delta) self.new.keeper) }
         ensures err { OnErr result (self.new ≡ self.old) }
     {
         let changed = changed_of(self.alloc, &delta)?;
@@ -194,6 +202,7 @@ impl<N: NetKeeper> Coordinator<N> {
     /// BadOp with the first field that is out of its range, HistoryFull, OutOfMemory; then nothing has changed.
     pub fn tell(&mut self, by: u32, op: Op) -> Result<(), Refusal>
         ensures ok { OnOk result (self.new.state ≡ took self.old.state (know (op ∷ [])) (entry by (Call.Tell op) Reply.Nothing)) }
+        ensures keeper { OnOk result (N.absorbs self.old.keeper (changed_keys (know (op ∷ []))) self.new.keeper) }
         ensures within { IsOk result → cause (bounds self.old.state) (Call.Tell op) ≡ None }
         ensures err { IfErr result (λ refusal. refusal ≡ refusal_for (bounds self.old.state) (Call.Tell op)) }
         ensures unchanged { OnErr result (self.new ≡ self.old) }
@@ -215,6 +224,7 @@ impl<N: NetKeeper> Coordinator<N> {
     /// HistoryFull, OutOfMemory; then nothing has changed.
     pub fn merge(&mut self, by: u32, packet: Packet) -> Result<(), Refusal>
         ensures ok { OnOk result (self.new.state ≡ took self.old.state packet.value (entry by (Call.Merge packet) Reply.Nothing)) }
+        ensures keeper { OnOk result (N.absorbs self.old.keeper (changed_keys packet.value) self.new.keeper) }
         ensures within { IsOk result → cause (bounds self.old.state) (Call.Merge packet) ≡ None }
         ensures err { IfErr result (λ refusal. refusal ≡ refusal_for (bounds self.old.state) (Call.Merge packet)) }
         ensures unchanged { OnErr result (self.new ≡ self.old) }
@@ -238,7 +248,7 @@ impl<N: NetKeeper> Coordinator<N> {
     pub fn cut(&mut self, by: u32, range: Range) -> Result<Shared<Packet>, Refusal>
         ensures ok { IfOk result (λ packet. self.new.state ≡ gave self.old.state (entry by (Call.Cut range) (Reply.Packet packet))) }
         ensures packet { IfOk result (λ packet. packet ≡ cut_packet self.old.state range) }
-        ensures network { self.new.held ≡ self.old.held }
+        ensures keeper { self.new.keeper ≡ self.old.keeper }
         ensures within { IsOk result → cause (bounds self.old.state) (Call.Cut range) ≡ None }
         ensures err { IfErr result (λ refusal. refusal ≡ refusal_for (bounds self.old.state) (Call.Cut range)) }
         ensures unchanged { OnErr result (self.new ≡ self.old) }
@@ -289,7 +299,7 @@ impl<N: NetKeeper> Coordinator<N> {
     /// BadInterval where n is below the floor or above the end, HistoryFull, OutOfMemory; then nothing has changed.
     pub fn trim(&mut self, by: u32, n: u64) -> Result<(), Refusal>
         ensures ok { OnOk result (self.new.state ≡ let_go self.old.state n (entry by (Call.Trim n) Reply.Nothing)) }
-        ensures network { self.new.held ≡ self.old.held }
+        ensures keeper { self.new.keeper ≡ self.old.keeper }
         ensures within { IsOk result → cause (bounds self.old.state) (Call.Trim n) ≡ None }
         ensures err { IfErr result (λ refusal. refusal ≡ refusal_for (bounds self.old.state) (Call.Trim n)) }
         ensures unchanged { OnErr result (self.new ≡ self.old) }
@@ -308,13 +318,14 @@ impl<N: NetKeeper> Coordinator<N> {
 
     /// What is known now, with the count of entries before this one's, and the network, which is built first where it is
     /// stale. O(n) in what is known.
-    /// HistoryFull, OutOfMemory; then nothing has changed but for a network that is fresh or stale.
+    /// HistoryFull, OutOfMemory; then nothing has changed, but for a stale network that may be built or not.
     pub fn view(&mut self, by: u32) -> Result<View, Refusal>
         ensures ok { IfOk result (λ view. self.new.state ≡ noted self.old.state (entry by Call.View (Reply.Seen view.at view.knowledge))) }
         ensures at { IfOk result (λ view. view.at ≡ length self.old.state.history) }
         ensures knowledge { IfOk result (λ view. view.knowledge ≡ self.old.state.knowledge) }
         ensures network { IfOk result (λ view. view.network ≡ net_of self.old.state.knowledge) }
-        ensures fresh { OnOk result (self.new.held ≡ Some (net_of self.old.state.knowledge)) }
+        ensures fresh { OnOk result (IsTrue (N.fresh self.new.keeper)) }
+        ensures keeper { IsTrue (N.fresh self.old.keeper) → self.new.keeper ≡ self.old.keeper }
         ensures within { IsOk result → cause (bounds self.old.state) Call.View ≡ None }
         ensures err { IfErr result (λ refusal. refusal ≡ refusal_for (bounds self.old.state) Call.View) }
         ensures unchanged { OnErr result (self.new.state ≡ self.old.state) }
@@ -335,7 +346,8 @@ impl<N: NetKeeper> Coordinator<N> {
     // Builds the network where it is stale.
     fn refresh(&mut self) -> Result<(), OutOfMemory>
         ensures state { self.new.state ≡ self.old.state }
-        ensures fresh { OnOk result (self.new.held ≡ Some (net_of self.old.state.knowledge)) }
+        ensures fresh { OnOk result (IsTrue (N.fresh self.new.keeper)) }
+        ensures keeper { IsTrue (N.fresh self.old.keeper) → self.new.keeper ≡ self.old.keeper }
     {
         if !self.keeper.is_fresh() {
             self.keeper.rebuild(self.alloc, &self.knowledge)?;
@@ -345,7 +357,7 @@ impl<N: NetKeeper> Coordinator<N> {
 
     // What a view hands out.
     fn seen(&self) -> Result<View, OutOfMemory>
-        requires { self.now.held ≡ Some (net_of self.now.state.knowledge) }
+        requires { IsTrue (N.fresh self.now.keeper) }
         ensures at { IfOk result (λ view. view.at ≡ length self.now.state.history) }
         ensures knowledge { IfOk result (λ view. view.knowledge ≡ self.now.state.knowledge) }
         ensures network { IfOk result (λ view. view.network ≡ net_of self.now.state.knowledge) }
@@ -361,7 +373,7 @@ impl<N: NetKeeper> Coordinator<N> {
     fn note(&mut self, entry: Entry) -> Result<(), OutOfMemory>
         requires { IsCoordinator (noted self.old.state entry) }
         ensures ok { OnOk result (self.new.state ≡ noted self.old.state entry) }
-        ensures held { self.new.held ≡ self.old.held }
+        ensures keeper { self.new.keeper ≡ self.old.keeper }
         ensures err { OnErr result (self.new.state ≡ self.old.state) }
     {
         self.history.push(entry)?;
@@ -372,6 +384,7 @@ impl<N: NetKeeper> Coordinator<N> {
     /// HistoryFull, OutOfMemory; then nothing has changed.
     pub fn commit(&mut self, by: u32, plan: Plan) -> Result<Shared<Admitted>, Refusal>
         ensures ok { IfOk result (λ admitted. self.new.state ≡ took self.old.state (know admitted.ops) (entry by (Call.Commit plan) (Reply.Admitted admitted))) }
+        ensures keeper { IfOk result (λ admitted. N.absorbs self.old.keeper (changed_keys (know admitted.ops)) self.new.keeper) }
         ensures admitted { IfOk result (λ a. a ≡ admitted self.old.state.knowledge self.old.state.number plan) }
         ensures within { IsOk result → cause (bounds self.old.state) (Call.Commit plan) ≡ None }
         ensures err { IfErr result (λ refusal. refusal ≡ refusal_for (bounds self.old.state) (Call.Commit plan)) }
@@ -408,6 +421,8 @@ impl<N: NetKeeper> Coordinator<N> {
         ensures err { OnErr result (AppendsPrefix (W.written out.old) (W.written out.new) (dump_text (net_of self.old.state.knowledge))) }
         ensures cause { IfErr result (λ refusal. StopsBy refusal (W.has_failed out.old) (W.has_failed out.new)) }
         ensures state { self.new.state ≡ self.old.state }
+        ensures fresh { OnOk result (IsTrue (N.fresh self.new.keeper)) }
+        ensures keeper { IsTrue (N.fresh self.old.keeper) → self.new.keeper ≡ self.old.keeper }
     {
         self.refresh()?;
         self.write(out)
@@ -415,7 +430,7 @@ impl<N: NetKeeper> Coordinator<N> {
 
     // Writes the text of the network.
     fn write<W: Out>(&self, out: &mut W) -> Result<(), Refusal>
-        requires { self.now.held ≡ Some (net_of self.now.state.knowledge) }
+        requires { IsTrue (N.fresh self.now.keeper) }
         ensures { IsSent result (W.written out.old) (W.written out.new) (W.has_failed out.old) (W.has_failed out.new) (dump_text (net_of self.now.state.knowledge)) }
     {
         dump(self.alloc, self.keeper.network(), out)

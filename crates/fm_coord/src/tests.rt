@@ -1,9 +1,17 @@
+ghost use Rattle.std.specs.Prelude.{◌≡◌, Some, is_some};
+ghost use Rattle.fm_net.specs.Network.{net_of};
+
 use crate::coordinator::Coordinator;
 use crate::entry::Range;
 use crate::shared::Shared;
 use crate::view::View;
 use fm_delta::packet::Packet;
 use fm_dimacs::out::Over;
+use fm_know::knowledge::Knowledge;
+use fm_lattice::join::OutOfMemory;
+use fm_net::network::Network;
+use fm_policy::changed::Changed;
+use fm_policy::keeper::NetKeeper;
 use fm_policy::rebuilder::Rebuilder;
 use fm_records::ids::{CoordId, JobId, MachineId, TaskId};
 use fm_records::ops::{Op, Phase};
@@ -207,5 +215,98 @@ fn a_dump_of_nothing_is_the_sink(rt: HostRuntime) -> Result<(), Fail> {
     let text = dumped(rt.alloc(), &mut node)?;
     assert_eq!(rt; text.as_slice(), b"c 1 S\np min 1 0\n".as_slice());
     assert_eq!(rt; node.history().len(), 0);
+    Ok(())
+}
+
+// A keeper that counts how often it builds, and the keys that it is handed.
+#[derive(Drop)]
+struct Counting {
+    inner: Rebuilder,
+    builds: usize,
+    keys: usize,
+}
+
+impl NetKeeper for Counting {
+    ghost fresh = { λ c. is_some c.inner };
+
+    ghost is_for = { λ c k. c.inner ≡ Some (net_of k) };
+
+    ghost absorbs = { λ old _ new. new.builds ≡ old.builds };
+
+    fn absorb(
+        &mut self,
+        alloc: Global,
+        now: &Knowledge,
+        changed: &Changed,
+    ) -> Result<(), OutOfMemory> {
+        let handed = changed.jobs().len() + changed.tasks().len() + changed.machines().len();
+        self.keys = self.keys.saturating_add(handed);
+        self.inner.absorb(alloc, now, changed)
+    }
+
+    fn rebuild(&mut self, alloc: Global, now: &Knowledge) -> Result<(), OutOfMemory> {
+        self.builds = self.builds.saturating_add(1);
+        self.inner.rebuild(alloc, now)
+    }
+
+    fn is_fresh(&self) -> bool {
+        self.inner.is_fresh()
+    }
+
+    fn network(&self) -> &Network {
+        self.inner.network()
+    }
+}
+
+fn counted(alloc: Global) -> Result<Coordinator<Counting>, Fail> {
+    let number = CoordId::new(1).ok_or("no such number")?;
+    let keeper = Counting {
+        inner: Rebuilder::new(alloc)?,
+        builds: 0,
+        keys: 0,
+    };
+    Ok(Coordinator::new(alloc, number, 1_000, keeper))
+}
+
+// Tells the coordinator of so many tasks, one by one.
+fn tell_tasks(node: &mut Coordinator<Counting>, many: u32) -> Result<(), Fail> {
+    for n in 0..many {
+        node.tell(
+            0,
+            Op::Spec {
+                id: TaskId::new(u128::from(n)),
+                version: 1,
+                writer: 1,
+                withdrawn: false,
+                job: JobId::new(1),
+                request: 100,
+            },
+        )?;
+    }
+    Ok(())
+}
+
+fn see(node: &mut Coordinator<Counting>) -> Result<View, Refusal> {
+    node.view(0)
+}
+
+#[test]
+fn a_keeper_is_handed_what_is_new_alone(rt: HostRuntime) -> Result<(), Fail> {
+    let mut node = counted(rt.alloc())?;
+    tell_tasks(&mut node, 300)?;
+    assert_eq!(rt; node.keeper().keys, 300);
+    assert_eq!(rt; node.keeper().builds, 0);
+    Ok(())
+}
+
+#[test]
+fn a_network_is_built_once_for_two_views(rt: HostRuntime) -> Result<(), Fail> {
+    let mut node = counted(rt.alloc())?;
+    tell_tasks(&mut node, 2)?;
+    see(&mut node)?;
+    see(&mut node)?;
+    assert_eq!(rt; node.keeper().builds, 1);
+    tell_tasks(&mut node, 1)?;
+    assert_eq!(rt; node.keeper().builds, 1);
     Ok(())
 }

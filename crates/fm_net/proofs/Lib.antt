@@ -1,5 +1,7 @@
 pub mod Equal
 mod Examples
+mod Edited
 pub mod Kept
 pub mod Said
 pub mod Touches
+pub mod Made

@@ -8,3 +8,8 @@ pub mod Network
 pub mod ListLaws
 pub mod NetworkLaws
 pub mod BoundLaws
+pub mod Edits
+pub mod Touched
+pub mod KeptLists
+pub mod EditLaws
+pub mod TouchedLaws

@@ -1,10 +1,13 @@
-//! The laws of the network of a table. Each function does nothing: its contract is the law.
+//! The laws of the network of a table, and of edits. Each function does nothing: its contract is the law.
 
-ghost use Rattle.std.specs.Prelude.{◌≡◌, ◌↔◌, ◌<◌, ◌^◌, length};
+ghost use Rattle.std.specs.Prelude.{◌≡◌, ◌↔◌, ◌<◌, ◌^◌, List, length};
 ghost use Rattle.fm_records.specs.Table.{Table};
 ghost use Rattle.fm_records.specs.Ranges.{CanBe};
 ghost use Rattle.fm_net.specs.Net.{CanBeNet, Net};
 ghost use Rattle.fm_net.specs.Network.{IsNetworkOf, net_of};
+ghost use Rattle.fm_net.specs.declared.node.Node.{Node as NodeName};
+ghost use Rattle.fm_net.specs.Edits.{MayEditAll, after, change};
+ghost use Rattle.fm_net.specs.Touched.{Touches, touched_change};
 
 /// A network has exactly the nodes and arcs of a table where it is the one computed from the table, so a table has one.
 pub fn law_network()
@@ -14,4 +17,15 @@ pub fn law_network()
 /// The network of a table that can be, of fewer than 2^64 tasks, is a network that can be.
 pub fn law_can_be_net()
     ensures { (k : Table) → CanBe k → length k.tasks < 2 ^ 64 → CanBeNet (net_of k) }
+{}
+
+/// The change from one network to another may be made on the first, edit by edit, and gives the second.
+pub fn law_change()
+    ensures may { (n m : Net) → CanBeNet n → CanBeNet m → MayEditAll n (change n m) }
+    ensures gives { (n m : Net) → CanBeNet n → CanBeNet m → after (change n m) n ≡ m }
+{}
+
+/// Where the touched nodes and pairs are all that differ, the edits of these are the whole change, in its order.
+pub fn law_touched()
+    ensures { (n m : Net) (nodes : List NodeName) (pairs : List (NodeName × NodeName)) → CanBeNet n → CanBeNet m → Touches n m nodes pairs → touched_change n m nodes pairs ≡ change n m }
 {}

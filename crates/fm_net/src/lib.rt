@@ -1,7 +1,9 @@
 //! The network: nodes, and arcs that have a capacity and a cost.
 #![tactic(auto)]
 
+pub mod edit;
 pub mod laws;
+pub mod making;
 pub mod network;
 pub mod node;
 #[cfg(test)]

@@ -1,5 +1,7 @@
 //! Each call once, with ample memory.
 
+use crate::edit::Edit;
+use crate::making::make_all;
 use crate::network::Network;
 use crate::node::{Node, order};
 use fm_records::ids::{JobId, MachineId, TaskId};
@@ -64,5 +66,19 @@ fn nodes_go_by_kind_then_number(rt: HostRuntime) -> Result<(), Fail> {
     ];
     assert_eq!(rt; nodes.as_slice(), rising.as_slice());
     assert_eq!(rt; order(&Node::Request(7), &Node::Sink), Ordering::Greater);
+    Ok(())
+}
+
+#[test]
+fn edits_are_made_in_order(rt: HostRuntime) -> Result<(), Fail> {
+    let a = Node::Machine(MachineId::new(10));
+    let mut network = Network::new(rt.alloc())?;
+    let comes = [Edit::PutNode(a), Edit::PutArc(a, Node::Sink, 2, 0)];
+    make_all(&mut network, comes.as_slice())?;
+    assert_eq!(rt; network.arc(a, Node::Sink), Some((2, 0)));
+    let goes = [Edit::DropArc(a, Node::Sink), Edit::DropNode(a)];
+    assert!(rt; goes != comes);
+    make_all(&mut network, goes.as_slice())?;
+    assert!(rt; network == Network::new(rt.alloc())?);
     Ok(())
 }

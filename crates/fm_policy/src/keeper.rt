@@ -1,9 +1,10 @@
 //! Keepers of the network of what is known.
 
-ghost use Rattle.std.specs.Prelude.{◌≡◌, Option, Some, None, is_some, IfOk, OnOk, OnErr, IfSome};
-ghost use Rattle.fm_net.specs.Net.{Net};
+ghost use Rattle.std.specs.Prelude.{◌≡◌, Bool, false, IsTrue, OnOk, OnErr};
+ghost use Rattle.fm_records.specs.Table.{Table};
 ghost use Rattle.fm_net.specs.Network.{net_of};
-ghost use Rattle.fm_policy.specs.Keeping.{IsHeldFor, TookIn};
+ghost use Rattle.fm_policy.specs.Changes.{Keys};
+ghost use Rattle.fm_policy.specs.Keeping.{TookIn};
 
 use crate::changed::Changed;
 use fm_know::knowledge::Knowledge;
@@ -14,32 +15,41 @@ use std::alloc::Global;
 /// What holds the network of a knowledge while that grows: it is fresh, and the network is the one that is built from what
 /// is known; or it is stale, and nothing is said of its network.
 pub trait NetKeeper: Drop {
-    /// The network, where it is fresh.
-    ghost held: { Self → Option Net };
+    /// Whether it is fresh.
+    ghost fresh: { Self → Bool };
 
-    /// Follows the knowledge, which took a delta with these keys in. The caller owes that the network, if fresh, was the one
-    /// of what was known before. After a refusal of memory the keeper is stale; a stale one stays stale.
+    /// Whether a fresh one holds the network of the table, and with it all that it needs to follow from there: the network
+    /// alone does not say what the next delta makes of it.
+    ghost is_for: { Self → Table → Type 0 };
+
+    /// What becomes of a keeper that takes in a delta with these keys.
+    ghost absorbs: { Self → Keys → Self → Type 0 };
+
+    /// Follows the knowledge, which took a delta with these keys in. The caller owes that the keeper, if fresh, was for what
+    /// was known before. After a refusal of memory the keeper is stale; a stale one stays stale.
     fn absorb(
         &mut self,
         alloc: Global,
         now: &Knowledge,
         changed: &Changed,
     ) -> Result<(), OutOfMemory>
-        requires { TookIn (held self.old) now.now changed.now }
-        ensures ok { OnOk result (IsHeldFor now.now (held self.new)) }
-        ensures err { OnErr result (held self.new ≡ None) }
-        ensures stale { held self.old ≡ None → held self.new ≡ None };
+        requires { TookIn (fresh self.old) (is_for self.old) now.now changed.now }
+        ensures ok { OnOk result (IsTrue (fresh self.new) → is_for self.new now.now) }
+        ensures err { OnErr result (fresh self.new ≡ false) }
+        ensures stale { fresh self.old ≡ false → fresh self.new ≡ false }
+        ensures absorbs { absorbs self.old changed.now self.new };
 
     /// Builds the network of the knowledge, after which the keeper is fresh. After a refusal of memory it is stale.
     fn rebuild(&mut self, alloc: Global, now: &Knowledge) -> Result<(), OutOfMemory>
-        ensures ok { OnOk result (held self.new ≡ Some (net_of now.now)) }
-        ensures err { OnErr result (held self.new ≡ None) };
+        ensures fresh { OnOk result (IsTrue (fresh self.new)) }
+        ensures given { OnOk result (is_for self.new now.now) }
+        ensures err { OnErr result (fresh self.new ≡ false) };
 
     /// Whether the network is the one that is built from what is known.
     fn is_fresh(&self) -> bool
-        ensures { result ≡ is_some (held self.now) };
+        ensures { result ≡ fresh self.now };
 
     /// The network. Of a stale keeper it may be any.
     fn network(&self) -> &Network
-        ensures { IfSome (held self.now) (λ net. result.now ≡ net) };
+        ensures { IsTrue (fresh self.now) → (k : Table) → is_for self.now k → result.now ≡ net_of k };
 }

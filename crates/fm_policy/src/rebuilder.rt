@@ -1,6 +1,6 @@
 //! A keeper that builds anew.
 
-ghost use Rattle.std.specs.Prelude.{◌≡◌, [], Some, None, IfOk};
+ghost use Rattle.std.specs.Prelude.{◌≡◌, [], Some, false, is_some, IfOk};
 ghost use Rattle.fm_records.specs.Know.{know};
 ghost use Rattle.fm_net.specs.Network.{net_of};
 
@@ -42,7 +42,11 @@ impl Rebuilder {
 }
 
 impl NetKeeper for Rebuilder {
-    ghost held = { λ r. r };
+    ghost fresh = { λ r. is_some r };
+
+    ghost is_for = { λ r k. r ≡ Some (net_of k) };
+
+    ghost absorbs = { λ _ _ new. is_some new ≡ false };
 
     fn absorb(
         &mut self,

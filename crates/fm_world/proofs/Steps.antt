@@ -9,7 +9,7 @@ use Rattle.fm_delta.specs.declared.packet.Packet.{Packet}
 use Rattle.fm_coord.specs.declared.view.View.{View}
 use Rattle.fm_coord.specs.Events.{Sent, Replica, opening}
 use Rattle.fm_coord.specs.Replays.{seen, replay}
-use Rattle.fm_coord.specs.States.{State, WithNetwork, StandsFor, IsCoordinator}
+use Rattle.fm_coord.specs.States.{State, WithKeeper, StandsFor, IsCoordinator}
 use Rattle.fm_world.specs.declared.step.Step.{Step}
 use Rattle.fm_world.specs.Worlds.{WorldOfSets, with_number, event_asked, acted, cause_here, cause_at, cause_of, refusal_of, sent_at, step_of}
 use Rattle.fm_world.specs.Stands.{Kept, state_of, number_of, WorldStandsFor, state_with, shown, IsActed}
@@ -20,17 +20,17 @@ use Rattle.fm_world.proofs.Places.{Stood, stood, absent, put_back, same_states, 
 pub unused : (s : State) → IsCoordinator s → s.history ≡ [] → StandsFor s (opening s.number s.limit)
 unused s is none = subst (λ es. StandsFor s (replay (opening s.number s.limit) es)) none is.stands
 
-abbrev kept : List WithNetwork → List Packet → Kept
+abbrev kept : {N : Type 0} → List (WithKeeper N) → List Packet → Kept
 kept cs ps = record { coordinators = map state_of cs; packets = ps }
 
 -- where no coordinator has the number
-pub nobody : (cs : List WithNetwork) (ps : List Packet) (step : Step) → None ≡ position (λ c. number_of c == step.at) cs → (k : Kept) → kept cs ps ≡ k → (w : WorldOfSets) → WorldStandsFor k w → NoCoordinator ≡ refusal_of w step
+pub nobody : {N : Type 0} (cs : List (WithKeeper N)) (ps : List Packet) (step : Step) → None ≡ position (λ c. number_of c == step.at) cs → (k : Kept) → kept cs ps ≡ k → (w : WorldOfSets) → WorldStandsFor k w → NoCoordinator ≡ refusal_of w step
 nobody cs ps step none k whole w h =
     let stands : WorldStandsFor (kept cs ps) w = subst (λ (l : Kept). WorldStandsFor l w) (sym whole) h in
     ap (λ o. or_else OutOfMemory (cause_at o (event_asked w.packets step.act)))
     (sym (absent step.at (map state_of cs) w.replicas stands.coordinators (missing cs step.at none)))
 
-module _ (cs : List WithNetwork) (ps : List Packet) (step : Step) (i : ℕ) (old new : WithNetwork) (at : Some i ≡ position (λ c. number_of c == step.at) cs) (is : old ≡ get_or cs i old) (k : Kept) (whole : kept cs ps ≡ k) (result : Result (Option View) Refusal) where
+module _ {N : Type 0} (cs : List (WithKeeper N)) (ps : List Packet) (step : Step) (i : ℕ) (old new : WithKeeper N) (at : Some i ≡ position (λ c. number_of c == step.at) cs) (is : old ≡ get_or cs i old) (k : Kept) (whole : kept cs ps ≡ k) (result : Result (Option View) Refusal) where
   here : state_with (map state_of cs) step.at ≡ Some old.state
   here = found_at cs step.at i old at is
 

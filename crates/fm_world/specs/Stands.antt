@@ -5,7 +5,7 @@ use Rattle.fm_net.specs.Network.{net_of}
 use Rattle.fm_coord.specs.declared.view.View.{View}
 use Rattle.fm_coord.specs.Events.{Sent, Replica}
 use Rattle.fm_coord.specs.Replays.{seen}
-use Rattle.fm_coord.specs.States.{State, WithNetwork, StandsFor}
+use Rattle.fm_coord.specs.States.{State, WithKeeper, StandsFor}
 use Rattle.fm_world.specs.declared.step.Act.{Act}
 use Rattle.fm_world.specs.declared.step.Act.TheVariants as act
 use Rattle.fm_world.specs.Worlds.{WorldOfSets, event_asked, acted, cut_by, cause_here}
@@ -15,18 +15,18 @@ pub record Kept : Type 0 where
   pub coordinators : List State
   pub packets : List Packet
 
-abbrev pub state_of : WithNetwork → State
+abbrev pub state_of : {N : Type 0} → WithKeeper N → State
 state_of c = c.state
 
-abbrev pub number_of : WithNetwork → ℕ
+abbrev pub number_of : {N : Type 0} → WithKeeper N → ℕ
 number_of c = c.state.number
 
 -- a coordinator's number, and how many entries its history may have
-abbrev pub opening_of : WithNetwork → ℕ × ℕ
+abbrev pub opening_of : {N : Type 0} → WithKeeper N → ℕ × ℕ
 opening_of c = (c.state.number, c.state.limit)
 
 -- nothing happened to the coordinators
-abbrev pub AreUnused : List WithNetwork → Type 0
+abbrev pub AreUnused : {N : Type 0} → List (WithKeeper N) → Type 0
 AreUnused [] = Unit {0}
 AreUnused (c ∷ cs) = (c.state.history ≡ []) × AreUnused cs
 

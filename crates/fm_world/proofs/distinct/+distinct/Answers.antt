@@ -1,12 +1,11 @@
 use Rattle.std.proofs.Common.{◌≡◌, ◌==◌, ◌∷◌, ◌∙◌, ℕ, is_none, true, false, position, ap, rules}
-use Rattle.fm_coord.specs.States.{WithNetwork}
 use Rattle.fm_world.specs.Stands.{number_of}
 use Rattle.fm_world.proofs.Numbers.{distinct_on, distinct_off}
 use Rattle.fm_world.proofs.distinct.+distinct.Goals as goal
 
 pub returns-then-is_none : goal.returns-then-is_none
 returns-then-is_none g t c =
-    let f : WithNetwork = c.in-Some.first.now in
+    let f = c.in-Some.first.now in
     let split : c.args.coordinators.now ≡ f ∷ c.in-Some.rest.now = search rules in
     let none : is_none c.place_of.result ≡ true = search rules in
     distinct_on c.args.coordinators.now f c.in-Some.rest.now split c.place_of.result
@@ -14,7 +13,7 @@ returns-then-is_none g t c =
 
 pub returns-else-is_none : goal.returns-else-is_none
 returns-else-is_none g t c =
-    let f : WithNetwork = c.in-Some.first.now in
+    let f = c.in-Some.first.now in
     let split : c.args.coordinators.now ≡ f ∷ c.in-Some.rest.now = search rules in
     let some : is_none c.place_of.result ≡ false = search rules in
     distinct_off c.args.coordinators.now f c.in-Some.rest.now split c.place_of.result

@@ -1,10 +1,11 @@
-use Rattle.std.proofs.Common.{◌≡◌, List, None, ap, sym, subst, rules}
+use Rattle.std.proofs.Common.{◌≡◌, List, None, sym, subst, rules}
 use Rattle.fm_delta.specs.Deltas.{trimmed, Deltas}
 use Rattle.fm_coord.specs.declared.entry.Entry.{Entry}
 use Rattle.fm_coord.specs.declared.entry.Call.TheVariants as call
 use Rattle.fm_coord.specs.Causes.{room_fault, floor_fault}
-use Rattle.fm_coord.specs.States.{State, WithNetwork, bounds, IsCoordinator}
+use Rattle.fm_coord.specs.States.{State, bounds, IsCoordinator}
 use Rattle.fm_coord.specs.StepLaws.{no_cause}
+use Rattle.fm_coord.proofs.Said.{same_state}
 use Rattle.fm_coord.proofs.Keeps.{keeps_trim}
 use Rattle.fm_coord.proofs.coordinator.Coordinator.trim.Goals as goal
 
@@ -12,7 +13,7 @@ pub invariant_of-self-2 : goal.invariant_of-self-2
 invariant_of-self-2 g c =
     let a = c.self.inside in
     let s : State = record { number = a.number; limit = a.limit; knowledge = a.knowledge; deltas = a.buffer.deltas; cuts = a.cuts; history = a.history.items } in
-    let is : s ≡ c.args.self.now.state = ap (λ (w : WithNetwork). w.state) c.self.view_is in
+    let is : s ≡ c.args.self.now.state = same_state c.self.view_is in
     let room : room_fault (bounds s) ≡ None = subst (λ (t : State). room_fault (bounds t) ≡ None) (sym is) c.in_ok-check_room.ensures.ok in
     let fault : floor_fault (bounds s) c.args.n ≡ None = subst (λ (t : State). floor_fault (bounds t) c.args.n ≡ None) (sym is) c.in_ok-check_floor.ensures.ok in
     let deltas : c.trim.new.self.deltas ≡ trimmed s.deltas c.args.n = search rules in
@@ -21,5 +22,5 @@ invariant_of-self-2 g c =
       coordinator =
           subst (λ (p : Deltas × List Entry). IsCoordinator (record { number = s.number; limit = s.limit; knowledge = s.knowledge; deltas = p.0; cuts = s.cuts; history = p.1 })) (λ i. (sym deltas i, sym items i))
           (keeps_trim s c.self.invariant.coordinator c.args.by c.args.n (no_cause (bounds s) (call.Trim c.args.n) fault room));
-      network = c.self.invariant.network;
+      keeper = c.self.invariant.keeper;
     }

@@ -1,0 +1,61 @@
+-- What contracts see of an inbox and of its ports (this project's profile).
+use Rattle.std.specs.Prelude.{◌≡◌, ℕ, List, [], ◌∷◌, ◌++◌}
+use Rattle.crossbeam_queue.specs.Passes.{Pass, view}
+use Rattle.atomic_table.specs.Seated.{TableId}
+use Rattle.fm_delta.specs.declared.packet.Packet.{Packet}
+use Rattle.fm_inbox.specs.declared.rule.Account.{Account}
+use Rattle.fm_inbox.specs.Rule.{weigh}
+
+-- which inbox it is, how many ports it has, and how many packets it takes
+pub record InboxSeen : Type 0 where
+  pub id : TableId
+  pub ports : ℕ
+  pub size : ℕ
+
+-- a port's inbox, how many ports that has, and what was put and taken through this one, in order
+pub record PortSeen : Type 0 where
+  pub inbox : TableId
+  pub ports : ℕ
+  pub put : List Packet
+  pub taken : List Packet
+
+abbrev pub seen_inbox : TableId → ℕ → ℕ → InboxSeen
+seen_inbox id ports size = record { id = id; ports = ports; size = size }
+
+abbrev pub seen_port : TableId → Account → PortSeen
+seen_port id v = record { inbox = id; ports = v.whole; put = v.put; taken = v.taken }
+
+-- what a pass stands for
+abbrev pub known : Pass Packet Account → Account
+known p = view p
+
+-- it is a port of this inbox
+abbrev pub IsPortOf : InboxSeen → PortSeen → Type 0
+IsPortOf b p = (p.inbox ≡ b.id) × (p.ports ≡ b.ports)
+
+-- and nothing was put or taken through it
+abbrev pub IsNewPortOf : InboxSeen → PortSeen → Type 0
+IsNewPortOf b p = (p.inbox ≡ b.id) × (p.ports ≡ b.ports) × (p.put ≡ []) × (p.taken ≡ [])
+
+-- the port once a packet was put, or taken, through it
+abbrev pub after_put : PortSeen → Packet → PortSeen
+after_put p x = record { inbox = p.inbox; ports = p.ports; put = p.put ++ x ∷ []; taken = p.taken }
+
+abbrev pub after_take : PortSeen → Packet → PortSeen
+after_take p x = record { inbox = p.inbox; ports = p.ports; put = p.put; taken = p.taken ++ x ∷ [] }
+
+-- all that was put, and all that was taken, through these ports
+abbrev pub all_put : List PortSeen → List Packet
+all_put [] = []
+all_put (p ∷ ps) = p.put ++ all_put ps
+
+abbrev pub all_taken : List PortSeen → List Packet
+all_taken [] = []
+all_taken (p ∷ ps) = p.taken ++ all_taken ps
+
+-- what was put, and taken, through a port, by weight
+abbrev pub put_by : (Packet → ℕ) → PortSeen → ℕ
+put_by h p = weigh h p.put
+
+abbrev pub taken_by : (Packet → ℕ) → PortSeen → ℕ
+taken_by h p = weigh h p.taken

@@ -1,0 +1,196 @@
+//! Inboxes and their ports.
+ghost use Rattle.std.specs.Prelude.{◌≡◌, ◌<◌, ◌≤◌, ◌+◌, ◌++◌, ℕ, [], vec_len, vec_capacity, IfOk, IfErr, OnOk, OnErr, IsOkUnless, All};
+ghost use Rattle.crossbeam_queue.specs.Passes.{IsPassOf, ruled_capacity};
+ghost use Rattle.fm_delta.specs.declared.packet.Packet.{Packet};
+ghost use Rattle.fm_inbox.specs.Rule.{account, weigh, put_of, taken_of, SamePackets};
+ghost use Rattle.fm_inbox.specs.Ports.{IsPortOf, IsNewPortOf, after_put, after_take, all_put, all_taken, put_by, taken_by, known, seen_inbox};
+
+use crate::rule::{OneMore, OnePart, Puts, Queue, QueuePass, Takes};
+use fm_delta::packet::Packet;
+use fm_records::refusal::Refusal;
+use std::alloc::Global;
+use std::marker::Model;
+use std::sync::Wait;
+
+/// The right to put packets into an inbox and to take packets from it. Contracts see which inbox that is, and all that was
+/// put and taken through this port.
+#[derive(Drop)]
+pub struct Port {
+    pass: QueuePass,
+}
+
+impl Model for Port {
+    ghost use Rattle.std.specs.Prelude.{◌≡◌, []};
+    ghost use Rattle.fm_inbox.specs.Ports.{PortSeen, seen_port, known};
+
+    ghost Value = { PortSeen };
+
+    ghost view = { λ p. seen_port p.pass.table_id (known p.pass) };
+
+    ghost invariant = { λ p. (p.pass.me.1 ≡ []) × ((known p.pass).parts ≡ 1) };
+}
+
+/// A bounded queue of packets, which threads share, each by a port of its own. Packets leave in the order in which they came.
+#[derive(Drop)]
+pub struct Inbox {
+    queue: Queue,
+    ports: u32,
+    room: Vec<Packet>,
+}
+
+impl Model for Inbox {
+    ghost use Rattle.std.specs.Prelude.{◌≡◌, ◌≤◌, ◌<◌, [], vec_len, vec_capacity};
+    ghost use Rattle.crossbeam_queue.specs.Passes.{ruled_capacity};
+    ghost use Rattle.fm_inbox.specs.Ports.{InboxSeen, seen_inbox};
+
+    ghost Value = { InboxSeen };
+
+    ghost view = { λ b. seen_inbox b.queue.table.shared.table_id b.ports (ruled_capacity b.queue) };
+
+    ghost invariant = { λ b. (ruled_capacity b.queue ≤ vec_capacity b.room) × (vec_len b.room ≡ 0) × (b.room.items ≡ []) × (0 < b.ports) };
+}
+
+/// Why a packet was not put, with the packet.
+#[derive(Drop)]
+pub struct PutFault {
+    pub refusal: Refusal,
+    pub packet: Packet,
+}
+
+/// Why an inbox was not closed, with the inbox and the ports that were handed in.
+#[derive(Drop)]
+pub struct InboxKept {
+    pub refusal: Refusal,
+    pub inbox: Inbox,
+    pub ports: Vec<Port>,
+}
+
+impl Inbox {
+    /// An inbox for so many packets at a time, and its ports, of which there is at least one, as there is room for at least
+    /// one packet. The room that closing takes is reserved.
+    /// OutOfMemory.
+    pub fn new(alloc: Global, ports: u32, size: usize) -> Result<(Inbox, Vec<Port>), Refusal>
+        requires { (0 < ports) × (0 < size) }
+        ensures inbox { IfOk result (λ r. (r.0.ports ≡ ports) × (r.0.size ≡ size)) }
+        ensures ports { IfOk result (λ r. (vec_len r.1 ≡ ports) × All (IsNewPortOf r.0) r.1.items) }
+        ensures err { IsOkUnless result Refusal.OutOfMemory }
+    {
+        let mut room = Vec::new(alloc);
+        room.reserve(size)?;
+        let mut made = Vec::new(alloc);
+        made.reserve(ports as usize)?;
+        let (queue, mut pass) = Queue::ruled(alloc, size)?;
+        for _i in 1..ports {
+            queue.another::<OneMore>(&mut pass);
+        }
+        for _i in 1..ports {
+            let other = queue.another::<OnePart>(&mut pass);
+            made.push_reserved(Port { pass: other });
+        }
+        made.push_reserved(Port { pass });
+        Ok((Inbox { queue, ports, room }, made))
+    }
+
+    /// Puts a packet behind those that are there. The caller owes a port of this inbox.
+    /// InboxFull, with the packet; then nothing has changed.
+    pub fn put<R: Wait>(&self, rt: &R, port: &mut Port, packet: Packet) -> Result<(), PutFault>
+        requires { IsPortOf self.now port.old }
+        ensures ok { OnOk result (port.new ≡ after_put port.old packet) }
+        ensures err { IfErr result (λ fault. (fault.refusal ≡ Refusal.InboxFull) × (fault.packet ≡ packet)) }
+        ensures unchanged { OnErr result (port.new ≡ port.old) }
+        ensures port { IsPortOf self.now port.new }
+    {
+        match self.queue.push_as::<Puts, R>(rt, &mut port.pass, packet) {
+            Ok(()) => Ok(()),
+            Err(packet) => Err(PutFault {
+                refusal: Refusal::InboxFull,
+                packet,
+            }),
+        }
+    }
+
+    /// Takes the packet that came first. The caller owes a port of this inbox.
+    /// InboxEmpty; then nothing has changed.
+    pub fn take<R: Wait>(&self, rt: &R, port: &mut Port) -> Result<Packet, Refusal>
+        requires { IsPortOf self.now port.old }
+        ensures ok { IfOk result (λ packet. port.new ≡ after_take port.old packet) }
+        ensures err { IfErr result (λ refusal. refusal ≡ Refusal.InboxEmpty) }
+        ensures unchanged { OnErr result (port.new ≡ port.old) }
+        ensures port { IsPortOf self.now port.new }
+    {
+        match self.queue.pop_as::<Takes, R>(rt, &mut port.pass) {
+            Some(packet) => Ok(packet),
+            None => Err(Refusal::InboxEmpty),
+        }
+    }
+
+    /// Ends an inbox with all its ports, and gives the packets that are left. Each packet was put as often as it was taken or
+    /// is left. The caller owes ports of this inbox. It takes no memory.
+    /// NotMine(0) where a port is missing, with all that was handed in.
+    pub fn close<R: Wait>(self, rt: &R, ports: Vec<Port>) -> Result<Vec<Packet>, InboxKept>
+        requires { All (IsPortOf self) ports.items }
+        ensures ok { IfOk result (λ left. SamePackets (all_put ports.items) (all_taken ports.items ++ left.items)) }
+        ensures whole { OnOk result (self.ports ≤ vec_len ports) }
+        ensures err { IfErr result (λ kept. (kept.refusal ≡ Refusal.NotMine 0) × (vec_len ports < self.ports)) }
+        ensures back { IfErr result (λ kept. (kept.inbox ≡ self) × (kept.ports ≡ ports)) }
+    {
+        if (ports.len() as u64) < (self.ports as u64) {
+            return Err(InboxKept {
+                refusal: Refusal::NotMine(0),
+                inbox: self,
+                ports,
+            });
+        }
+        let Inbox {
+            queue,
+            ports: whole,
+            room,
+        } = self;
+        let pass = joined(&queue, ports, whole);
+        Ok(left(rt, &queue, pass, room))
+    }
+}
+
+// The pass of a port.
+fn pass_of(port: Port) -> QueuePass
+    ensures pass { (result.table_id ≡ port.inbox) × (result.me.1 ≡ []) }
+    ensures known { known result ≡ account 1 port.ports port.put port.taken }
+{
+    port.pass
+}
+
+// The one pass that the passes of the ports come to.
+fn joined(queue: &Queue, mut ports: Vec<Port>, whole: u32) -> QueuePass
+    requires some { (0 < whole) × (whole ≤ vec_len ports) }
+    requires ports { All (IsPortOf (seen_inbox queue.now.table.shared.table_id whole (ruled_capacity queue.now))) ports.items }
+    ensures pass { IsPassOf queue.now result }
+    ensures whole { ((known result).whole ≡ whole) × (whole ≤ (known result).parts) }
+    ensures sums { (h : Packet → ℕ) → (put_of h (known result) ≡ weigh (put_by h) ports.items) × (taken_of h (known result) ≡ weigh (taken_by h) ports.items) }
+{
+    let mut pass = match ports.pop() {
+        Some(port) => pass_of(port),
+        None => unreachable!(),
+    };
+    while let Some(port) = ports.pop() {
+        queue.absorb::<OnePart>(&mut pass, pass_of(port));
+    }
+    pass
+}
+
+// What a queue still has, by a pass with every part.
+fn left<R: Wait>(rt: &R, queue: &Queue, mut pass: QueuePass, mut room: Vec<Packet>) -> Vec<Packet>
+    requires pass { IsPassOf queue.now pass }
+    requires whole { (0 < (known pass).parts) × ((known pass).whole ≤ (known pass).parts) }
+    requires room { (vec_len room ≡ 0) × (room.items ≡ []) × (ruled_capacity queue.now ≤ vec_capacity room) }
+    ensures { (h : Packet → ℕ) → put_of h (known pass) ≡ taken_of h (known pass) + weigh h result.items }
+{
+    let count = queue.len_as::<Takes, R>(rt, &mut pass);
+    for _i in 0..count {
+        match queue.pop_as::<Takes, R>(rt, &mut pass) {
+            Some(packet) => room.push_reserved(packet),
+            None => unreachable!(),
+        }
+    }
+    queue.learn_as::<Takes>(&mut pass);
+    room
+}

@@ -1,0 +1,8 @@
+//! Inboxes: bounded queues of packets that threads share.
+#![tactic(auto)]
+
+pub mod door;
+pub mod inbox;
+mod rule;
+#[cfg(test)]
+mod tests;

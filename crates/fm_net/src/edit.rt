@@ -1,0 +1,17 @@
+//! Edits of a network.
+
+use crate::node::Node;
+
+/// One call that changes a network, as data: the nodes that an arc joins or the node, and of an arc that is put its
+/// capacity and cost. What the call's caller owes is owed by whoever makes the edit.
+#[derive(Clone, Copy, Debug, PartialEq, Eq, Drop)]
+pub enum Edit {
+    /// Drops the arc from one node to another.
+    DropArc(Node, Node),
+    /// Drops a node.
+    DropNode(Node),
+    /// Puts a node.
+    PutNode(Node),
+    /// Puts an arc from one node to another, with its capacity and cost, in place of one that stood there.
+    PutArc(Node, Node, u64, u32),
+}

@@ -1,0 +1,47 @@
+//! Making edits.
+
+ghost use Rattle.std.specs.Prelude.{◌≡◌, OnOk, OnErr};
+ghost use Rattle.fm_net.specs.Edits.{edited, after, MayEdit, MayEditAll, IsPartMade};
+
+use crate::edit::Edit;
+use crate::network::Network;
+use fm_lattice::join::OutOfMemory;
+
+// Makes one edit. O(log n).
+fn make(network: &mut Network, edit: &Edit) -> Result<(), OutOfMemory>
+    requires { MayEdit network.old edit.now }
+    ensures ok { OnOk result (network.new ≡ edited edit.now network.old) }
+    ensures err { OnErr result (network.new ≡ network.old) }
+{
+    match *edit {
+        Edit::DropArc(from, to) => {
+            network.drop_arc(from, to);
+            Ok(())
+        }
+        Edit::DropNode(node) => {
+            network.drop_node(&node);
+            Ok(())
+        }
+        Edit::PutNode(node) => {
+            network.put_node(node)?;
+            Ok(())
+        }
+        Edit::PutArc(from, to, capacity, cost) => {
+            network.put_arc(from, to, capacity, cost)?;
+            Ok(())
+        }
+    }
+}
+
+/// Makes the edits one after another. The caller owes for each what the call owes that it stands for, on what the earlier
+/// ones left. After a refusal of memory some of them are made, in order. O(log n) for each.
+pub fn make_all(network: &mut Network, edits: &[Edit]) -> Result<(), OutOfMemory>
+    requires { MayEditAll network.old edits.now }
+    ensures ok { OnOk result (network.new ≡ after edits.now network.old) }
+    ensures err { OnErr result (IsPartMade network.old edits.now network.new) }
+{
+    for edit in edits {
+        make(network, edit)?;
+    }
+    Ok(())
+}
