@@ -1,5 +1,5 @@
 -- What a command's answer comes to, from what its parts write into memory.
-use Rattle.std.proofs.Common.{◌≡◌, ◌⊎◌, ℕ, List, [], ◌++◌, Bool, true, false, cond, is_none, IsTrue, ◌↔◌, Option, Some, None, refl, sym, ap, ◌∙◌, subst, inl, inr}
+use Rattle.std.proofs.Common.{◌≡◌, ◌⊎◌, ℕ, IfSome, List, [], ◌++◌, Bool, true, false, cond, is_none, IsTrue, ◌↔◌, Option, Some, None, String, Global, refl, sym, ap, ◌∙◌, subst, inl, inr}
 use Rattle.std.specs.Io.KnownBytes.{Appends}
 use Rattle.fm_records.specs.declared.refusal.Refusal.{Refusal}
 use Rattle.fm_records.specs.declared.refusal.Refusal.TheVariants as refused
@@ -17,25 +17,12 @@ use Rattle.fm_input.specs.Texts.{Spells}
 use Rattle.fm_cli.specs.declared.agree.Disagreement.{Disagreement}
 use Rattle.fm_cli.specs.declared.fault.Fault.{Fault}
 use Rattle.fm_cli.specs.declared.serve.Ending.{Ending}
-use Rattle.fm_cli.specs.declared.serve.Ending.TheVariants.{Done, Differ}
+use Rattle.fm_cli.specs.declared.serve.Ending.TheVariants.{Done, Differ, Wrong, Stopped}
 use Rattle.fm_cli.specs.Faults.{fault_of, is_write_fault, in_memory_of}
 use Rattle.fm_cli.specs.Endings.{asked_of}
 use Rattle.fm_cli.specs.Running.{opened, Come, Stops}
 use Rattle.fm_cli.specs.Output.{After, Ends, Leaves, LeavesSolution, LeavesUnsolved, IsSolved, IsSolvedAt, network_of, Writes, graph_of, winners_of, difference, agreement_text, packet_named, packet_line}
-use Rattle.fm_cli.specs.Answers.{AnswersIn, Lacks, IsNotListed, IsOfScript, IsStopped}
-
--- what was appended to nothing is the whole
-pub is_whole : (old new : Option (List ℕ)) (bs out : List ℕ) → old ≡ Some [] → new ≡ Some out → Appends old new bs → out ≡ bs
-is_whole None new bs out was now h = let no : None ≡ Some [] = was in let bad : ⊥ = cc in absurd bad
-is_whole (Some xs) None bs out was now h = absurd h
-is_whole (Some xs) (Some ys) bs out was now h =
-    let inner : (o : Option (List ℕ)) → Option (List ℕ) → List ℕ = λ o d. [] in
-    some_same ys out now ∙' h ∙ ap (λ l. l ++ bs) (some_same xs [] was) where
-      some_same : (a b : List ℕ) → Some a ≡ Some b → a ≡ b
-      some_same a b e = cc
-
-      ◌∙'◌ : {a b c : List ℕ} → a ≡ b → a ≡ c → b ≡ c
-      ◌∙'◌ p q = sym p ∙ q
+use Rattle.fm_cli.specs.Answers.{AnswersIn, Wants, Lacks, IsNotListed, IsOfScript, IsStopped, IsAnswer, Serves, IsServed}
 
 -- of a fault of writing to memory only that it is want of memory is said
 pub kept : (P : Fault → Type 0) → P (fault_of refused.OutOfMemory) → (f : Fault) → P f → P (in_memory_of f)
@@ -83,7 +70,7 @@ module _ (text : List ℕ) (listed : List ℕ) (names : List (List ℕ)) (steps 
         → ((w : WorldOfSets) → o w ≡ None → Lacks c listed names w (fault_of absent))
         → Ends listed steps fault old new (λ refusal w. Leaves absent (o w) of refusal old new had has) → Refused (in_memory_of fault)
     ended absent o of old new had has fault lacks (inl h) = kept Refused none fault (from fault (stopped c fault (inr (inl h.0))))
-    ended absent o of old new had has fault lacks (inr (refusal, is, (w, came, later))) = by_asked (o w) refl later where
+    ended {A = A} absent o of old new had has fault lacks (inr (refusal, is, (w, came, later))) = by_asked (o w) refl later where
       by_asked : (a : Option A) → o w ≡ a → Leaves absent a of refusal old new had has → Refused (in_memory_of fault)
       by_asked None e h =
           let named : fault ≡ fault_of absent = is ∙ ap fault_of h.0 in
@@ -138,3 +125,52 @@ agree_ending true None h = refl
 agree_ending true (Some d) h = absurd (let no : Some d ≡ None = h.0 refl in let bad : ⊥ = cc in bad)
 agree_ending false None h = absurd (let no : false ≡ true = h.1 refl in let bad : ⊥ = cc in bad)
 agree_ending false (Some d) h = refl
+
+pub never : {A : Type 0} (a : A) → Some a ≡ None → ⊥
+never a h = cc
+
+-- where an answer was made all is done, or coordinators differ
+ends_well : (c : Command) (text : List ℕ) (ending : Ending) (output : List ℕ) → Wants c text ending output → (ending ≡ Done) ⊎ (ending ≡ Differ)
+ends_well command.Unpack text ending output h = inl h.0
+ends_well (command.Pack name) text ending output h = inl h.answered.0
+ends_well (command.Ask q at) text ending output h = inl h.answered.0
+ends_well command.Agree text ending output h = by_difference (difference h.world.replicas) h.answered.0 where
+  by_difference : (d : Option Disagreement) → ending ≡ cond (is_none d) Done Differ → (ending ≡ Done) ⊎ (ending ≡ Differ)
+  by_difference None e = inl e
+  by_difference (Some d) e = inr e
+
+stopped_not : (fault : Fault) → ((Stopped fault ≡ Done) ⊎ (Stopped fault ≡ Differ)) → ⊥
+stopped_not fault (inl e) = cc
+stopped_not fault (inr e) = cc
+
+wrong_not : (said : String Global) → ((Wrong said ≡ Done) ⊎ (Wrong said ≡ Differ)) → ⊥
+wrong_not said (inl e) = cc
+wrong_not said (inr e) = cc
+
+-- the whole answer went out
+pub written : (c : Command) (text : List ℕ) (ending : Ending) (output : List ℕ) (old new : Option (List ℕ)) → Wants c text ending output → Appends old new output → IsAnswer c text ending old new
+written c text Done output old new h went = record { output = output; wanted = h; appended = went }
+written c text Differ output old new h went = record { output = output; wanted = h; appended = went }
+written c text (Wrong said) output old new h went = record { output = output; wanted = h; appended = went }
+written c text (Stopped fault) output old new h went = absurd (stopped_not fault (ends_well c text (Stopped fault) output h))
+
+-- a run that served a command
+pub served : (c : Command) (text : List ℕ) (ending : Ending) (old new : Option (List ℕ)) → Serves c text ending old new → IsServed text ending old new
+served c text Done old new h = inl (c, h)
+served c text Differ old new h = inl (c, h)
+served c text (Stopped fault) old new h = inl (c, h)
+served c text (Wrong said) old new (inl h) = absurd (wrong_not said (ends_well c text (Wrong said) h.output h.wanted))
+served c text (Wrong said) old new (inr h) = absurd (let no : Wrong said ≡ Stopped (fault_of (refused.BadScript 0)) = h.0 in let bad : ⊥ = cc in bad)
+
+pub for_each : (P Q : List ℕ → Type 0) (remaining : Option (List ℕ)) → ((text : List ℕ) → P text → Q text) → IfSome remaining P → IfSome remaining Q
+for_each P Q None f h = tt
+for_each P Q (Some all) f h = f all h
+
+-- what holds of the bytes that were read holds of all that the reader had
+pub of_bytes : (P : List ℕ → Type 0) (remaining : Option (List ℕ)) (bytes : List ℕ) → IfSome remaining (λ all. bytes ≡ all) → P bytes → IfSome remaining P
+of_bytes P None bytes same h = tt
+of_bytes P (Some all) bytes same h = subst P same h
+
+pub of_any : (P : List ℕ → Type 0) (remaining : Option (List ℕ)) → ((text : List ℕ) → P text) → IfSome remaining P
+of_any P None h = tt
+of_any P (Some all) h = h all

@@ -118,8 +118,8 @@ IsPrinted ending text old new =
     ((ending ≡ Done) × Appends old new text) ⊎ ((ending ≡ Stopped (fault_of WriteFault)) × AppendsPrefix old new text)
 
 -- a run over words and an input: a command that the words ask for was served, or a text of help was printed, or the words are
--- wrong or there is no memory to read them, and nothing is written
+-- wrong or could not be read, and nothing is written
 abbrev pub IsServed : List ℕ → Ending → Option (List ℕ) → Option (List ℕ) → Type 0
 IsServed text (Wrong said) old new = new ≡ old
 IsServed text ending old new =
-    ((c : Command) × Serves c text ending old new) ⊎ (((help : List ℕ) × IsPrinted ending help old new) ⊎ ((ending ≡ Stopped (fault_of OutOfMemory)) × (new ≡ old)))
+    ((c : Command) × Serves c text ending old new) ⊎ (((help : List ℕ) × IsPrinted ending help old new) ⊎ ((refusal : Refusal) × (ending ≡ Stopped (fault_of refusal)) × (new ≡ old)))

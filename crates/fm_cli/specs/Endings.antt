@@ -21,11 +21,6 @@ ending_text Differ = []
 ending_text (Wrong text) = string_bytes text
 ending_text (Stopped fault) = fault_text fault
 
--- how a run ends that came to this
-abbrev pub ending_of : Result Ending Fault → Ending
-ending_of (Ok ending) = ending
-ending_of (Err fault) = Stopped fault
-
 -- the coordinator that is asked: the one named, where it is listed, and the first listed where none is named
 abbrev pub asked_of : List ℕ → Option ℕ → Result ℕ Fault
 asked_of listed (Some number) = cond (is_listed listed number) (Ok number) (Err (fault_of NoCoordinator))

@@ -59,8 +59,8 @@ fn unpacked(alloc: Global, text: &[u8]) -> Result<Answered, Fault>
 
 // The bytes of the packet of the name.
 fn packed(alloc: Global, name: &str, text: &[u8]) -> Result<Answered, Fault>
-    ensures ok { IfOk result (λ a. Wants (command.Pack name) text.now a.ending a.output.items) }
-    ensures err { IfErr result (λ fault. IsRefused (command.Pack name) text.now fault) }
+    ensures ok { IfOk result (λ a. Wants (command.Pack name.entry) text.now a.ending a.output.items) }
+    ensures err { IfErr result (λ fault. IsRefused (command.Pack name.entry) text.now fault) }
 {
     let script = match script_in(alloc, text) {
         Ok(script) => script,

@@ -1,8 +1,8 @@
 //! One run of the program, over its words, a reader and a writer.
 
 ghost use Rattle.std.specs.Prelude.{◌≡◌, Some, IfSome};
-ghost use Rattle.fm_cli.specs.Endings.{ending_status, ending_text, ending_of};
-ghost use Rattle.fm_cli.specs.Answers.{Serves, IsServed, IsPrinted};
+ghost use Rattle.fm_cli.specs.Endings.{ending_status, ending_text};
+ghost use Rattle.fm_cli.specs.Answers.{IsAnswer, Serves, IsServed, IsPrinted};
 
 use crate::answer::answer;
 use crate::fault::Fault;
@@ -65,48 +65,49 @@ pub fn serve<R: Read, W: Write>(
 ) -> Ending
     ensures { IfSome (R.remaining reader.old) (λ text. IsServed text result (W.contents writer.old) (W.contents writer.new)) }
 {
-    let done = match read_words(alloc, words) {
+    match read_words(alloc, words) {
         Ok(Words::Run(command)) => run(alloc, command, reader, writer),
         Ok(Words::Help(text)) => print(text.as_str(), writer),
-        Ok(Words::Wrong(text)) => return Ending::Wrong(text),
-        Err(refusal) => Err(Fault::from(refusal)),
-    };
-    match done {
-        Ok(ending) => ending,
-        Err(fault) => Ending::Stopped(fault),
+        Ok(Words::Wrong(text)) => Ending::Wrong(text),
+        Err(refusal) => Ending::Stopped(Fault::from(refusal)),
     }
 }
 
 // Writes the text.
-fn print<W: Write>(text: &str, writer: &mut W) -> Result<Ending, Fault>
-    ensures { IsPrinted (ending_of result) text.now (W.contents writer.old) (W.contents writer.new) }
+fn print<W: Write>(text: &str, writer: &mut W) -> Ending
+    ensures { IsPrinted result text.now (W.contents writer.old) (W.contents writer.new) }
 {
     match send(writer, text.as_bytes()) {
-        Ok(()) => Ok(Ending::Done),
-        Err(refusal) => Err(Fault::from(refusal)),
+        Ok(()) => Ending::Done,
+        Err(refusal) => Ending::Stopped(Fault::from(refusal)),
     }
 }
 
-/// Runs the command on what the reader gives.
+// Runs the command on what the reader gives.
 fn run<R: Read, W: Write>(
     alloc: Global,
     command: Command,
     reader: &mut R,
     writer: &mut W,
-) -> Result<Ending, Fault>
-    ensures { IfSome (R.remaining reader.old) (λ text. Serves command text (ending_of result) (W.contents writer.old) (W.contents writer.new)) }
+) -> Ending
+    ensures { IfSome (R.remaining reader.old) (λ text. Serves command.entry text result (W.contents writer.old) (W.contents writer.new)) }
 {
-    let text = match read_input(alloc, reader) {
-        Ok(text) => text,
-        Err(refusal) => return Err(Fault::from(refusal)),
-    };
-    let answered = match answer(alloc, command, &text) {
-        Ok(answered) => answered,
-        Err(fault) => return Err(fault),
-    };
-    match send(writer, &answered.output) {
-        Ok(()) => Ok(answered.ending),
-        Err(refusal) => Err(Fault::from(refusal)),
+    match read_input(alloc, reader) {
+        Ok(text) => reply(alloc, command, &text, writer),
+        Err(refusal) => Ending::Stopped(Fault::from(refusal)),
+    }
+}
+
+// Writes what the command answers to the text.
+fn reply<W: Write>(alloc: Global, command: Command, text: &[u8], writer: &mut W) -> Ending
+    ensures { IsAnswer command.entry text.now result (W.contents writer.old) (W.contents writer.new) }
+{
+    match answer(alloc, command, text) {
+        Ok(answered) => match send(writer, &answered.output) {
+            Ok(()) => answered.ending,
+            Err(refusal) => Ending::Stopped(Fault::from(refusal)),
+        },
+        Err(fault) => Ending::Stopped(fault),
     }
 }
 

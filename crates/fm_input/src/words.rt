@@ -46,10 +46,11 @@ pub fn read_words<'a>(alloc: Global, words: &'a [String]) -> Result<Words<'a>, R
             Some(("agree", _)) => Ok(Words::Run(Command::Agree)),
             Some(("pack", inner)) => Ok(packs(alloc, inner)),
             Some(("unpack", _)) => Ok(Words::Run(Command::Unpack)),
+            Some(("graph", inner)) => Ok(asks(Question::Graph, inner)),
             Some(("solve", inner)) => Ok(asks(Question::Solve, inner)),
             Some(("winners", inner)) => Ok(asks(Question::Winners, inner)),
-            Some((_, inner)) => Ok(asks(Question::Graph, inner)),
-            None => Ok(Words::Wrong(String::new(alloc))),
+            // The parser knows no other.
+            _ => Ok(Words::Wrong(String::new(alloc))),
         },
         Err(error) => text_of(alloc, &error),
     }
