@@ -191,6 +191,6 @@ def short_names(names):
 
 
 def tells_some(short):
-    """Whether a shortened id is more than zeros, and neither begins nor ends in a hyphen."""
+    """Whether a shortened id is more than a few zeros, and neither begins nor ends in a hyphen."""
     shown = short.strip("\u2026")
-    return shown.strip("0-") != "" and shown == shown.strip("-")
+    return (shown.strip("0-") != "" or len(shown) > 3) and shown == shown.strip("-")

@@ -117,7 +117,7 @@ class Draw:
                 cut["from"], cut["to"] = sorted(self.chance.randint(0, end + (self.odds() < 0.03)) for _ in range(2))
             names.append(cut["name"])
             return {"cut": cut}
-        if draw < 0.97:
+        if draw < 0.95:
             return {"trim": self.chance.randint(0, end // 2 + (self.odds() < 0.1))}
         return {"round": True}
 

@@ -1,9 +1,11 @@
 """Tests of bin/picture: each node and arc of a dump stands in its picture, alone or in the count of those drawn as one."""
 import collections
 import pathlib
+import random
 import subprocess
 import sys
 import tempfile
+import uuid
 import xml.etree.ElementTree as tree
 
 ROOT = pathlib.Path(__file__).resolve().parent.parent
@@ -74,10 +76,10 @@ def drawn(dump, solution=None):
     return done.returncode, done.stdout.decode(), done.stderr.decode()
 
 
-def shows(name, dump, solution):
+def shows(name, dump, solution=None):
     """Whether the picture has the network, and with a solution its units too."""
     network = networks.read_dump(dump)
-    for given in (None, solution):
+    for given in (None, solution) if solution else (None,):
         status, svg, said = drawn(dump, given)
         units = networks.read_solution(given, network).units if given else None
         wrong = said or "status %d" % status if status else fault(svg, network, units)
@@ -91,6 +93,22 @@ def stored(file, dump):
         return "there is none; examples/draw makes it"
     wrong = fault(picture.read_text(), networks.read_dump(dump))
     return wrong and "%s; examples/draw makes it anew" % wrong
+
+
+def any_network(seed):
+    """The dump of a network that the format has, mostly none that the policy builds."""
+    chance = random.Random(seed)
+    nodes = [("S", "")] + [("U", str(uuid.UUID(int=n))) for n in range(chance.randint(0, 4))]
+    nodes += [("R", str(n * 10 ** 5)) for n in range(chance.randint(0, 6))]
+    nodes += [(kind, name) for kind in "MT" for name in sorted(str(uuid.UUID(int=chance.getrandbits(128)))
+                                                              for _ in range(chance.choice((0, 3, 20, 70))))]
+    lines = ["c %d %s" % (number, (kind + " " + name).strip()) for number, (kind, name) in enumerate(nodes, 1)]
+    arcs = ["a %d %d 0 %d %d" % (source, target, chance.choice((1, 7, 10 ** 6 + 1, 2 ** 64 - 1)), chance.choice((0, 5, 10 ** 9)))
+            for source, (kind, _) in enumerate(nodes, 1) for target, (other, _) in enumerate(nodes, 1)
+            if (kind, other) in networks.JOINED and chance.random() < 0.3]
+    tasks = [number for number, (kind, _) in enumerate(nodes, 1) if kind == "T"]
+    lines += ["p min %d %d" % (len(nodes), len(arcs))] + ["n 1 -%d" % len(tasks)] * bool(tasks) + ["n %d 1" % n for n in tasks]
+    return "".join(line + "\n" for line in lines + arcs)
 
 
 def strange(dump, solution):
@@ -117,6 +135,8 @@ def all_tests(run):
     for tasks, machines in ((20, 5), (40, 9), (43, 15), (300, 4), (3000, 300)):
         script = "".join(scripts.script(tasks, machines)).encode()
         yield from shows("%d tasks" % tasks, run("graph", script), run("solve", script))
+    for seed in range(12):
+        yield from shows("network %d" % seed, any_network(seed))
     script = (ROOT / "examples/waiting.json").read_bytes()
     for name, dump, solution, word in strange(run("graph", script), run("solve", script)):
         status, svg, said = drawn(dump, solution)

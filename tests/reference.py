@@ -9,9 +9,9 @@ every record is the greatest of all that a set tells, found by going over all of
     tests/reference.py pack NAME < SCRIPT
     tests/reference.py unpack < DIGITS
 
-Texts, refusals and statuses are the program's. A round is done only where nothing can be placed or preempted: which of several
-least flows is found is not said, so what comes of another does not follow from the rules alone. Histories have no limit, since
-no script without rounds is long enough to reach it.
+Texts, refusals and statuses are the program's. Which of several least flows a round finds is not said: so `answers` gives each
+answer that may come, for few flows, and there is one `answer` only where nothing turns on that. Histories have no limit, since no
+script without rounds is long enough to reach it.
 """
 import argparse
 import collections
@@ -22,7 +22,10 @@ import struct
 import sys
 import uuid
 
+import rounds
 import strict
+
+MOST_ANSWERS = 64
 
 PHASES = ["pending", "running", "done"]
 
@@ -136,10 +139,30 @@ class Coordinator:
 Packet = collections.namedtuple("Packet", "sender number operations")
 
 
+class Choices:
+    """Which of its outcomes each round has, the first where none is chosen, and how many each had."""
+
+    def __init__(self, path=()):
+        self.path, self.counts = list(path), []
+
+    def pick(self, outcomes):
+        self.counts.append(len(outcomes))
+        place = len(self.counts) - 1
+        return outcomes[self.path[place] if place < len(self.path) else 0]
+
+    def following(self):
+        """The choices after these, or None."""
+        path = self.path + [0] * (len(self.counts) - len(self.path))
+        while path and path[-1] + 1 >= self.counts[len(path) - 1]:
+            path.pop()
+        return Choices(path[:-1] + [path[-1] + 1]) if path else None
+
+
 class World:
     """What the steps of a script come to. Each act answers the number of its refusal, if it is refused."""
 
-    def __init__(self, script):
+    def __init__(self, script, choices=None):
+        self.choices = choices or Choices()
         self.coordinators = {number: Coordinator() for number in script["coordinators"]}
         self.packets = {}
         for place, step in enumerate(script["steps"], 1):
@@ -181,11 +204,12 @@ class World:
         self.coordinators[at].floor = asked
 
     def round(self, at, asked):
-        """Nothing comes of it where no arc leads to a machine."""
-        _, arcs = network(Known(self.coordinators[at].taken))
-        if any(target[0] == 3 for _, target in arcs):
-            raise NotSaid("which least flow a round finds is not said")
-        self.coordinators[at].take(frozenset())
+        taken = frozenset(self.coordinators[at].taken)
+        try:
+            found = rounds.outcomes(Known, name, network(Known(taken)), taken, at)
+        except rounds.TooMany:
+            raise NotSaid("a round has too many flows to go over")
+        self.coordinators[at].take(self.choices.pick(found))
 
 
 def winners(known):
@@ -397,7 +421,7 @@ def parser():
     return found
 
 
-def asked(words, text):
+def asked(words, text, choices):
     """The status, and what is printed."""
     if words.command == "unpack":
         return 0, unpacked(text)
@@ -409,7 +433,7 @@ def asked(words, text):
     at = script["coordinators"][0] if at is None else at
     if at not in script["coordinators"]:
         raise Refused(8)
-    world = World(script)
+    world = World(script, choices)
     if words.command == "agree":
         return agree(world)
     if words.command == "pack":
@@ -419,12 +443,32 @@ def asked(words, text):
     return 0, "".join({"graph": graph, "winners": winners}[words.command](Known(world.coordinators[at].taken)))
 
 
-def answer(words, text):
-    """The status, and the texts on standard output and standard error, of a run with the words on the text or bytes."""
+def one_answer(words, text, choices):
     try:
-        return asked(parser().parse_args(words), text.encode() if isinstance(text, str) else text) + ("",)
+        return asked(words, text, choices) + ("",)
     except Refused as refused:
         return 3, "", "%s\n" % refused
+
+
+def answers(words, text):
+    """The status, and the texts on standard output and standard error, of a run with the words on the text or bytes: each that
+    may come."""
+    words, text = parser().parse_args(words), text.encode() if isinstance(text, str) else text
+    choices, found = Choices(), []
+    while choices is not None:
+        if len(found) == MOST_ANSWERS:
+            raise NotSaid("rounds have too many outcomes")
+        found.append(one_answer(words, text, choices))
+        choices = choices.following()
+    return list(dict.fromkeys(found))
+
+
+def answer(words, text):
+    """The answer, where only one may come."""
+    found = answers(words, text)
+    if len(found) > 1:
+        raise NotSaid("which least flow a round finds is not said")
+    return found[0]
 
 
 if __name__ == "__main__":

@@ -1,0 +1,4 @@
+pub mod Logs
+pub mod May
+pub mod Plans
+pub mod Seating

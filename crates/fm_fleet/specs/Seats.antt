@@ -1,0 +1,49 @@
+-- What contracts see of seats and of a closed node (this project's profile).
+use Rattle.std.specs.Prelude.{◌≡◌, ◌⊎◌, ℕ, ◌+◌, ◌<◌, List, [], ◌∷◌, ◌++◌, length, slice_get, Some}
+use Rattle.fm_records.specs.declared.refusal.Refusal.{Refusal}
+use Rattle.fm_records.specs.declared.refusal.Refusal.TheVariants.{OutOfMemory}
+use Rattle.fm_coord.specs.declared.entry.Call.{Call}
+use Rattle.fm_coord.specs.declared.entry.Reply.{Reply}
+use Rattle.fm_coord.specs.declared.entry.Entry.{Entry}
+use Rattle.fm_coord.specs.Causes.{Bounds, refusal_for}
+use Rattle.fm_coord.specs.States.{entry}
+use Rattle.fm_fleet.specs.declared.seat.SeatLog.{SeatLog}
+
+-- a seat's number, and the entries of its accepted calls
+pub record SeatSeen : Type 0 where
+  pub number : ℕ
+  pub log : List Entry
+
+abbrev pub seen_seat : ℕ → List Entry → SeatSeen
+seen_seat number log = record { number = number; log = log }
+
+-- the seat after one more accepted call, with its answer
+abbrev pub called : SeatSeen → Call → Reply → SeatSeen
+called s call reply = seen_seat s.number (s.log ++ entry s.number call reply ∷ [])
+
+-- a refusal that a coordinator may answer to a call: want of memory, or the call's cause at some bounds
+abbrev pub MayRefuse : Call → Refusal → Type 0
+MayRefuse call refusal = (refusal ≡ OutOfMemory) ⊎ ((b : Bounds) × (refusal ≡ refusal_for b call))
+
+-- so many seats, numbered from 1, that called nothing yet
+abbrev pub AreNew : ℕ → List SeatSeen → Type 0
+AreNew n seats = (length seats ≡ n) × ((i : ℕ) → i < n → slice_get seats i ≡ Some (seen_seat (i + 1) []))
+
+-- a seat of this number is among them
+abbrev pub HasSeat : ℕ → List SeatSeen → Type 0
+HasSeat number seats = (i : ℕ) × (s : SeatSeen) × (slice_get seats i ≡ Some s) × (s.number ≡ number)
+
+-- it is the least number, of those from 1 to n, that no seat has
+abbrev pub IsMissing : ℕ → List SeatSeen → ℕ → Type 0
+IsMissing n seats k = (0 < k) × (k < n + 1) × (¬ (HasSeat k seats)) × ((j : ℕ) → j + 1 < k → HasSeat (j + 1) seats)
+
+-- the seat whose log it is
+abbrev pub seat_of : SeatLog → SeatSeen
+seat_of l = seen_seat l.seat l.entries.items
+
+abbrev pub length_of : SeatLog → ℕ
+length_of l = length l.entries.items
+
+-- the logs stand by the numbers of their seats, from 1
+abbrev pub AreNumbered : List SeatLog → Type 0
+AreNumbered logs = (i : ℕ) (l : SeatLog) → slice_get logs i ≡ Some l → l.seat ≡ i + 1

@@ -1,0 +1,15 @@
+//! Coordinators that threads share: nodes with their seats, rounds, and the audit of what the threads did.
+#![tactic(auto)]
+
+pub mod audit;
+pub mod closing;
+mod desk;
+pub mod node;
+mod owners;
+pub mod round;
+pub mod seat;
+#[cfg(test)]
+mod tests;
+
+// The inboxes by which nodes pass packets on.
+pub use fm_inbox::{door, inbox};

@@ -1,0 +1,277 @@
+//! Nodes: coordinators that threads share, each by a seat of its own.
+ghost use Rattle.std.specs.Prelude.{◌≡◌, ◌<◌, ◌≤◌, ◌+◌, [], length, vec_len, vec_capacity, IfOk, IfErr, OnOk, OnErr};
+ghost use Rattle.fm_net.specs.Network.{net_of};
+ghost use Rattle.fm_fleet.specs.Seats.{called, MayRefuse, AreNew};
+
+use crate::desk::Desk;
+use crate::owners::another;
+use crate::seat::{NodeName, Seat, SeatLog};
+use fm_coord::coordinator::Coordinator;
+use fm_coord::entry::{Call, Entry, Range, Reply};
+use fm_coord::shared::Shared;
+use fm_coord::view::View;
+use fm_delta::packet::Packet;
+use fm_policy::keeper::NetKeeper;
+use fm_records::ops::Op;
+use fm_records::refusal::Refusal;
+use fm_round::parts::{Admitted, Plan};
+use std::alloc::Global;
+use std::marker::Model;
+use std::sync::ledger::{Blank, Share};
+use std::sync::{Mutex, Wait};
+
+/// A coordinator behind a lock, which threads with a seat may call. Contracts see how many seats it has.
+#[derive(Drop)]
+pub struct Node<N: NetKeeper, L: NodeName> {
+    pub(crate) desk: Mutex<Desk<N, L>>,
+    pub(crate) base: usize,
+    pub(crate) count: u32,
+    pub(crate) room: Vec<SeatLog>,
+}
+
+impl<N: NetKeeper, L: NodeName> Model for Node<N, L> {
+    ghost use Rattle.std.specs.Prelude.{ℕ, ◌≡◌, ◌≤◌, vec_len, vec_capacity};
+
+    ghost Value = { ℕ };
+
+    ghost view = { λ n. n.count };
+
+    ghost invariant = { λ n. (n.base ≡ L.base) × (n.count ≡ L.parts) × (n.count ≤ vec_capacity n.room) × (vec_len n.room ≡ 0) };
+}
+
+/// Why a node was not made, with what was handed in.
+#[derive(Drop)]
+pub struct NewFault<N: NetKeeper> {
+    pub refusal: Refusal,
+    pub coordinator: Coordinator<N>,
+    pub blank: Blank,
+}
+
+impl<N: NetKeeper, L: NodeName> Node<N, L> {
+    /// A node of the coordinator, and its seats, of which there is at least one, numbered from 1. The caller owes a blank
+    /// ledger of as many parts, whose name this function's is, and that the name tells how many entries the history has.
+    /// The room that closing takes is reserved.
+    /// OutOfMemory, with the coordinator and the blank.
+    pub fn new(
+        alloc: Global,
+        blank: Blank,
+        coordinator: Coordinator<N>,
+        count: u32,
+    ) -> Result<(Node<N, L>, Vec<Seat<L>>), NewFault<N>>
+        requires name { blank.name ≡ L.name }
+        requires parts { blank.parts ≡ L.parts }
+        requires seats { (count ≡ L.parts) × (0 < count) }
+        requires base { length coordinator.state.history ≡ L.base }
+        ensures ok { IfOk result (λ r. (r.0 ≡ count) × AreNew count r.1.items) }
+        ensures err { IfErr result (λ fault. fault.refusal ≡ Refusal.OutOfMemory) }
+        ensures back { IfErr result (λ fault. (fault.coordinator ≡ coordinator) × (fault.blank.name ≡ blank.name) × (fault.blank.parts ≡ blank.parts)) }
+    {
+        let mut room = Vec::new(alloc);
+        let mut seats = Vec::new(alloc);
+        if room.reserve(count as usize).is_err() || seats.reserve(count as usize).is_err() {
+            return Err(NewFault {
+                refusal: Refusal::OutOfMemory,
+                coordinator,
+                blank,
+            });
+        }
+        let base = coordinator.history().len();
+        let (calls, mut all) = blank.open::<L>();
+        seat_all(alloc, &mut seats, &mut all, count);
+        let desk = Mutex::new(Desk {
+            coordinator,
+            calls,
+            rest: all,
+        });
+        let node = Node {
+            desk,
+            base,
+            count,
+            room,
+        };
+        Ok((node, seats))
+    }
+}
+
+// Splits a part off for each seat.
+fn seat_all<L: NodeName>(alloc: Global, seats: &mut Vec<Seat<L>>, all: &mut Share<L>, count: u32)
+    requires empty { seats.old.items ≡ [] }
+    requires room { count ≤ vec_capacity seats.old }
+    requires parts { all.old.parts ≡ count }
+    requires amount { all.old.amount ≡ 0 }
+    ensures made { AreNew count seats.new.items }
+    ensures rest { (all.new.parts ≡ 0) × (all.new.amount ≡ 0) }
+{
+    for i in 0..count {
+        let share = all.split_off(1, 0);
+        seats.push_reserved(Seat {
+            number: i + 1,
+            log: Vec::new(alloc),
+            share,
+        });
+    }
+}
+
+// Each call is that of the coordinator by the seat's number, with the lock held for that call alone. The seat's list grows
+// by one place, and what goes into it is copied, before the lock is asked for, so nothing can fail behind it.
+impl<N: NetKeeper, L: NodeName> Node<N, L> {
+    /// Takes an operation in, as the coordinator's `tell`.
+    /// What that refuses, and OutOfMemory; then the seat is as it was.
+    pub fn tell<R: Wait>(&self, rt: &R, seat: &mut Seat<L>, op: Op) -> Result<(), Refusal>
+        ensures ok { OnOk result (seat.new ≡ called seat.old (Call.Tell op) Reply.Nothing) }
+        ensures cause { IfErr result (λ refusal. MayRefuse (Call.Tell op) refusal) }
+        ensures err { OnErr result (seat.new ≡ seat.old) }
+    {
+        if seat.log.reserve(1).is_err() {
+            return Err(Refusal::OutOfMemory);
+        }
+        let Seat { number, log, share } = seat;
+        let answer = self.desk.lock(rt).tell(*number, &op, share);
+        if let Err(refusal) = answer {
+            return Err(refusal);
+        }
+        log.push_reserved(Entry {
+            by: *number,
+            call: Call::Tell(op),
+            reply: Reply::Nothing,
+        });
+        Ok(())
+    }
+
+    /// Takes a packet's value in, as the coordinator's `merge`.
+    /// What that refuses, and OutOfMemory; then the seat is as it was.
+    pub fn merge<R: Wait>(&self, rt: &R, seat: &mut Seat<L>, packet: Packet) -> Result<(), Refusal>
+        ensures ok { OnOk result (seat.new ≡ called seat.old (Call.Merge packet) Reply.Nothing) }
+        ensures cause { IfErr result (λ refusal. MayRefuse (Call.Merge packet) refusal) }
+        ensures err { OnErr result (seat.new ≡ seat.old) }
+    {
+        if seat.log.reserve(1).is_err() {
+            return Err(Refusal::OutOfMemory);
+        }
+        let Ok(merged) = packet.copy() else {
+            return Err(Refusal::OutOfMemory);
+        };
+        let Seat { number, log, share } = seat;
+        let answer = self.desk.lock(rt).merge(*number, packet, share);
+        if let Err(refusal) = answer {
+            return Err(refusal);
+        }
+        log.push_reserved(Entry {
+            by: *number,
+            call: Call::Merge(merged),
+            reply: Reply::Nothing,
+        });
+        Ok(())
+    }
+
+    /// Cuts a packet, as the coordinator's `cut`.
+    /// What that refuses, and OutOfMemory; then the seat is as it was.
+    pub fn cut<R: Wait>(
+        &self,
+        rt: &R,
+        seat: &mut Seat<L>,
+        range: Range,
+    ) -> Result<Shared<Packet>, Refusal>
+        ensures ok { IfOk result (λ packet. seat.new ≡ called seat.old (Call.Cut range) (Reply.Packet packet)) }
+        ensures cause { IfErr result (λ refusal. MayRefuse (Call.Cut range) refusal) }
+        ensures err { OnErr result (seat.new ≡ seat.old) }
+    {
+        if seat.log.reserve(1).is_err() {
+            return Err(Refusal::OutOfMemory);
+        }
+        let Seat { number, log, share } = seat;
+        let answer = self.desk.lock(rt).cut(*number, range, share);
+        let packet = match answer {
+            Ok(packet) => packet,
+            Err(refusal) => return Err(refusal),
+        };
+        log.push_reserved(Entry {
+            by: *number,
+            call: Call::Cut(range),
+            reply: Reply::Packet(another(rt, &packet)),
+        });
+        Ok(packet)
+    }
+
+    /// Lets the deltas below n go, as the coordinator's `trim`.
+    /// What that refuses, and OutOfMemory; then the seat is as it was.
+    pub fn trim<R: Wait>(&self, rt: &R, seat: &mut Seat<L>, n: u64) -> Result<(), Refusal>
+        ensures ok { OnOk result (seat.new ≡ called seat.old (Call.Trim n) Reply.Nothing) }
+        ensures cause { IfErr result (λ refusal. MayRefuse (Call.Trim n) refusal) }
+        ensures err { OnErr result (seat.new ≡ seat.old) }
+    {
+        if seat.log.reserve(1).is_err() {
+            return Err(Refusal::OutOfMemory);
+        }
+        let Seat { number, log, share } = seat;
+        let answer = self.desk.lock(rt).trim(*number, n, share);
+        if let Err(refusal) = answer {
+            return Err(refusal);
+        }
+        log.push_reserved(Entry {
+            by: *number,
+            call: Call::Trim(n),
+            reply: Reply::Nothing,
+        });
+        Ok(())
+    }
+
+    /// What is known, as the coordinator's `view`. There are at least as many entries before it as there were at the node's
+    /// start and are in the seat's list, and the network is that of the knowledge.
+    /// What that refuses, and OutOfMemory; then the seat is as it was.
+    pub fn view<R: Wait>(&self, rt: &R, seat: &mut Seat<L>) -> Result<View, Refusal>
+        ensures ok { IfOk result (λ view. seat.new ≡ called seat.old Call.View (Reply.Seen view.at view.knowledge)) }
+        ensures later { IfOk result (λ view. L.base + length seat.old.log ≤ view.at) }
+        ensures network { IfOk result (λ view. view.network ≡ net_of view.knowledge) }
+        ensures cause { IfErr result (λ refusal. MayRefuse Call.View refusal) }
+        ensures err { OnErr result (seat.new ≡ seat.old) }
+    {
+        if seat.log.reserve(1).is_err() {
+            return Err(Refusal::OutOfMemory);
+        }
+        let Seat { number, log, share } = seat;
+        let answer = self.desk.lock(rt).view(*number, share);
+        let view = match answer {
+            Ok(view) => view,
+            Err(refusal) => return Err(refusal),
+        };
+        log.push_reserved(Entry {
+            by: *number,
+            call: Call::View,
+            reply: Reply::Seen(view.at, another(rt, &view.knowledge)),
+        });
+        Ok(view)
+    }
+
+    /// Admits a plan and takes in what it comes to, as the coordinator's `commit`.
+    /// What that refuses, and OutOfMemory; then the seat is as it was.
+    pub fn commit<R: Wait>(
+        &self,
+        rt: &R,
+        seat: &mut Seat<L>,
+        plan: Plan,
+    ) -> Result<Shared<Admitted>, Refusal>
+        ensures ok { IfOk result (λ admitted. seat.new ≡ called seat.old (Call.Commit plan) (Reply.Admitted admitted)) }
+        ensures cause { IfErr result (λ refusal. MayRefuse (Call.Commit plan) refusal) }
+        ensures err { OnErr result (seat.new ≡ seat.old) }
+    {
+        if seat.log.reserve(1).is_err() {
+            return Err(Refusal::OutOfMemory);
+        }
+        let Ok(committed) = plan.copy() else {
+            return Err(Refusal::OutOfMemory);
+        };
+        let Seat { number, log, share } = seat;
+        let answer = self.desk.lock(rt).commit(*number, plan, share);
+        let admitted = match answer {
+            Ok(admitted) => admitted,
+            Err(refusal) => return Err(refusal),
+        };
+        log.push_reserved(Entry {
+            by: *number,
+            call: Call::Commit(committed),
+            reply: Reply::Admitted(another(rt, &admitted)),
+        });
+        Ok(admitted)
+    }
+}

@@ -1,0 +1,69 @@
+//! Rounds in threads: what is seen is planned for with the node unlocked, and the plan is committed.
+ghost use Rattle.std.specs.Prelude.{◌≡◌, ◌⊎◌, IfOk, IfErr};
+ghost use Rattle.fm_net.specs.Network.{net_of};
+ghost use Rattle.fm_round.specs.Schedules.{IsPlanOf};
+ghost use Rattle.fm_fleet.specs.Rounds.{IsRound, IsRefusedRound};
+
+use crate::node::Node;
+use crate::seat::{NodeName, Seat};
+use fm_coord::shared::Shared;
+use fm_coord::view::View;
+use fm_flow::solve::solve;
+use fm_know::laws::law_can_be;
+use fm_policy::keeper::NetKeeper;
+use fm_records::refusal::Refusal;
+use fm_round::parts::{Admitted, Plan};
+use fm_round::plan::plan;
+use std::alloc::Global;
+use std::sync::Wait;
+
+/// What is called between the two calls of a round, when the node is unlocked.
+pub trait Gate {
+    fn hold(&mut self);
+}
+
+/// A gate that holds nothing up.
+#[derive(Drop)]
+pub struct NoGate;
+
+impl Gate for NoGate {
+    fn hold(&mut self) {}
+}
+
+/// A view, the gate, a plan of a least flow of the network that was seen, and the commit of that plan, whose answer this is.
+/// OutOfMemory, HistoryFull, Uncertified; then the seat is as it was, or has the view alone.
+pub fn run_round<N: NetKeeper, L: NodeName, G: Gate, R: Wait>(
+    rt: &R,
+    alloc: Global,
+    node: &Node<N, L>,
+    seat: &mut Seat<L>,
+    gate: &mut G,
+) -> Result<Shared<Admitted>, Refusal>
+    ensures ok { IfOk result (λ admitted. IsRound L.base seat.old seat.new admitted) }
+    ensures err { IfErr result (λ refusal. IsRefusedRound L.base seat.old seat.new refusal) }
+{
+    let view = match node.view(rt, seat) {
+        Ok(view) => view,
+        Err(refusal) => return Err(refusal),
+    };
+    gate.hold();
+    let plan = match plan_for(alloc, &view) {
+        Ok(plan) => plan,
+        Err(refusal) => return Err(refusal),
+    };
+    node.commit(rt, seat, plan)
+}
+
+/// The plan of a least flow of the network that was seen. The caller owes that the network is that of the knowledge, as in
+/// each view that is answered.
+/// OutOfMemory, Uncertified.
+pub fn plan_for(alloc: Global, view: &View) -> Result<Plan, Refusal>
+    requires { view.now.network ≡ net_of view.now.knowledge }
+    ensures ok { IfOk result (λ plan. IsPlanOf view.now.knowledge plan) }
+    ensures err { IfErr result (λ refusal. (refusal ≡ Refusal.OutOfMemory) ⊎ (refusal ≡ Refusal.Uncertified)) }
+{
+    let knowledge = view.knowledge.get();
+    law_can_be(knowledge);
+    let (flow, _) = solve(alloc, &view.network)?;
+    Ok(plan(alloc, &view.network, &flow, knowledge)?)
+}
