@@ -84,12 +84,7 @@ fn print<W: Write>(text: &str, writer: &mut W) -> Ending
 }
 
 // Runs the command on what the reader gives.
-fn run<R: Read, W: Write>(
-    alloc: Global,
-    command: Command,
-    reader: &mut R,
-    writer: &mut W,
-) -> Ending
+fn run<R: Read, W: Write>(alloc: Global, command: Command, reader: &mut R, writer: &mut W) -> Ending
     ensures { IfSome (R.remaining reader.old) (λ text. Serves command.entry text result (W.contents writer.old) (W.contents writer.new)) }
 {
     match read_input(alloc, reader) {
