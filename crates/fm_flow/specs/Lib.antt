@@ -3,5 +3,3 @@ pub use Rattle.fm_certificate.specs.Certificates
 pub use Rattle.fm_certificate.specs.Totals
 pub use Rattle.fm_certificate.specs.Checks
 pub use Rattle.fm_certificate.specs.Built
-pub mod Numbered
-pub mod Found

@@ -2,8 +2,10 @@
 
 use crate::lanes::Lanes;
 use crate::loading::Loading;
-use crate::numbered::{Kind, Numbered, at};
 use fm_lattice::join::OutOfMemory;
+use fm_numbered::numbered::Numbered;
+use fm_numbered::places::Kind;
+use fm_numbered::sums::at;
 use std::alloc::Global;
 
 /// The units of the earlier flow that no task has taken up yet.

@@ -2,14 +2,11 @@
 #![tactic(auto)]
 
 mod bits;
-mod cancel;
 mod groups;
 mod kept;
 mod lanes;
 mod loading;
-mod numbered;
 mod paths;
-mod search;
 pub mod solve;
 mod start;
 

@@ -2,8 +2,10 @@
 
 use crate::bits::Bits;
 use crate::lanes::{Lanes, machine_of, price_at, request_of};
-use crate::numbered::{Kind, Numbered, at};
 use fm_lattice::join::OutOfMemory;
+use fm_numbered::numbered::Numbered;
+use fm_numbered::places::Kind;
+use fm_numbered::sums::at;
 use std::alloc::Global;
 
 /// More than any price.

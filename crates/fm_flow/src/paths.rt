@@ -3,8 +3,9 @@
 use crate::bits::Bits;
 use crate::lanes::Lanes;
 use crate::loading::{Hop, Loading};
-use crate::numbered::{Kind, Numbered};
 use fm_lattice::join::OutOfMemory;
+use fm_numbered::numbered::Numbered;
+use fm_numbered::places::Kind;
 use std::alloc::Global;
 
 /// A search between requests: one reaches a full machine to which its arc has room, and so the requests with units there,

@@ -1,14 +1,19 @@
 //! A first flow: all tasks unscheduled, or placed by falling worth, or as an earlier flow had them.
 
-ghost use Rattle.std.specs.Prelude.{◌≡◌, length, vec_len, IsTrue, IfOk};
+ghost use Rattle.std.specs.Prelude.{◌≡◌, ◌⊎◌, vec_len, IsTrue, IfOk, IfErr};
+ghost use Rattle.fm_numbered.specs.Feasible.{IsFlowOf};
 
 use crate::kept::Kept;
 use crate::lanes::{Lanes, bandwidth, machine_of, price_at};
 use crate::loading::{FAR, Loading};
-use crate::numbered::{Kind, Numbered, at, inflow, is_feasible};
 use crate::paths::Paths;
-use crate::search::{Found, search};
+use fm_cycles::search::{Found, search};
 use fm_lattice::join::OutOfMemory;
+use fm_numbered::feasible::is_feasible;
+use fm_numbered::numbered::Numbered;
+use fm_numbered::places::Kind;
+use fm_numbered::sums::{at, inflow, sum_at};
+use fm_records::refusal::Refusal;
 use std::alloc::Global;
 
 // A task's two arcs, and what its place is worth, from which the price of the slot is still to be taken.
@@ -210,7 +215,8 @@ fn drain(alloc: Global, numbered: &Numbered, units: &mut [u64]) -> Result<(), Ou
     let entered = inflow(alloc, numbered, units)?;
     for (place, arc) in numbered.arcs.iter().enumerate() {
         if let Kind::Sink = numbered.places.kind(arc.to) {
-            put(units, place, at(&entered, arc.from));
+            let sent = u64::try_from(sum_at(&entered, arc.from));
+            put(units, place, sent.unwrap_or(u64::MAX));
         }
     }
     Ok(())
@@ -277,46 +283,53 @@ fn placed(alloc: Global, numbered: &Numbered, given: &[u64]) -> Result<Vec<u64>,
 
 /// Tasks placed by falling worth; all unscheduled where that is no flow. Where each arc into a machine costs the request
 /// and the machine's load, and no waiting task has an arc to a machine, this is a least flow: no clause says so, a search
-/// for cycles does. O(arcs log arcs), and for each class of tasks at most some searches between requests.
-pub(crate) fn start(alloc: Global, numbered: &Numbered) -> Result<Vec<u64>, OutOfMemory>
-    ensures { IfOk result (λ units. vec_len units ≡ vec_len numbered.now.arcs) }
+/// for cycles does. O(arcs log arcs), and for each class of tasks at most some searches between requests. Refused memory,
+/// or Uncertified where neither is a flow.
+pub(crate) fn start(alloc: Global, numbered: &Numbered) -> Result<Vec<u64>, Refusal>
+    ensures flow { IfOk result (λ units. IsFlowOf numbered.now.places numbered.now.arcs.items units.items) }
+    ensures cause { IfErr result (λ refusal. (refusal ≡ Refusal.OutOfMemory) ⊎ (refusal ≡ Refusal.Uncertified)) }
 {
     let units = placed(alloc, numbered, &[])?;
     if is_feasible(alloc, numbered, &units)? {
-        Ok(units)
-    } else {
-        unscheduled(alloc, numbered)
+        return Ok(units);
     }
+    let units = unscheduled(alloc, numbered)?;
+    if !is_feasible(alloc, numbered, &units)? {
+        return Err(Refusal::Uncertified);
+    }
+    Ok(units)
 }
 
 // Whether the units are a least flow.
 fn is_least(alloc: Global, numbered: &Numbered, units: &[u64]) -> Result<bool, OutOfMemory>
-    ensures { IfOk result (λ least. IsTrue least → length units.now ≡ vec_len numbered.now.arcs) }
+    ensures { IfOk result (λ least. IsTrue least → IsFlowOf numbered.now.places numbered.now.arcs.items units.now) }
 {
     if !is_feasible(alloc, numbered, units)? {
         return Ok(false);
     }
-    match search(alloc, numbered, units)? {
+    let nodes = numbered.places.end;
+    let first = vec![in alloc; 0i128; nodes]?;
+    match search(alloc, nodes, &numbered.arcs, units, first)? {
         Found::Potentials(_) => Ok(true),
         Found::Cycle(_) => Ok(false),
     }
 }
 
 /// A flow with the task paths of the given units that are still whole and fit, the other tasks placed by falling worth,
-/// if that is a least flow; else the one that is made without them.
+/// if that is a least flow; else the one that is made without them. Refused as `start` is.
 pub(crate) fn resume(
     alloc: Global,
     numbered: &Numbered,
     given: &[u64],
-) -> Result<Vec<u64>, OutOfMemory>
-    ensures { IfOk result (λ units. vec_len units ≡ vec_len numbered.now.arcs) }
+) -> Result<Vec<u64>, Refusal>
+    ensures flow { IfOk result (λ units. IsFlowOf numbered.now.places numbered.now.arcs.items units.items) }
+    ensures cause { IfErr result (λ refusal. (refusal ≡ Refusal.OutOfMemory) ⊎ (refusal ≡ Refusal.Uncertified)) }
 {
     let units = placed(alloc, numbered, given)?;
     if is_least(alloc, numbered, &units)? {
-        Ok(units)
-    } else {
-        start(alloc, numbered)
+        return Ok(units);
     }
+    start(alloc, numbered)
 }
 
 #[cfg(test)]

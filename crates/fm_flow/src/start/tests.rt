@@ -1,12 +1,12 @@
 //! Small networks, and drawn ones: the first flow is least, and cancelling from all tasks unscheduled ends at its cost.
 
-use crate::cancel::improve;
-use crate::numbered::{Numbered, is_feasible, total};
-use crate::search::{Found, search};
-use crate::start::{resume, start, unscheduled};
+use crate::start::{is_least, resume, start, unscheduled};
 use fm_lattice::join::OutOfMemory;
 use fm_net::network::Network;
 use fm_net::node::Node;
+use fm_numbered::feasible::is_feasible;
+use fm_numbered::improved::improved;
+use fm_numbered::numbered::Numbered;
 use fm_records::ids::{JobId, MachineId, TaskId};
 use fm_records::refusal::Refusal;
 use std::alloc::Global;
@@ -91,24 +91,33 @@ fn held(network: &mut Network, task: u128, machine: u128) -> Result<(), OutOfMem
     Ok(())
 }
 
+// What the units cost.
+fn total(numbered: &Numbered, units: &[u64]) -> u128 {
+    let mut sum = 0u128;
+    for (arc, sent) in numbered.arcs.iter().zip(units) {
+        let part = u128::from(arc.cost).saturating_mul(u128::from(*sent));
+        sum = sum.saturating_add(part);
+    }
+    sum
+}
+
 // What the first flow costs, where it is a least flow.
-fn started(alloc: Global, network: &Network) -> Result<Option<u128>, OutOfMemory> {
+fn started(alloc: Global, network: &Network) -> Result<Option<u128>, Refusal> {
     let numbered = Numbered::of(alloc, network)?;
     let units = start(alloc, &numbered)?;
-    let is_least = match search(alloc, &numbered, &units)? {
-        Found::Potentials(_) => is_feasible(alloc, &numbered, &units)?,
-        Found::Cycle(_) => false,
-    };
-    Ok(is_least.then_some(total(&numbered.arcs, &units)))
+    let is_least = is_least(alloc, &numbered, &units)?;
+    Ok(is_least.then_some(total(&numbered, &units)))
 }
 
 // What the flow costs that cancelling makes of all tasks unscheduled.
-fn cancelled(alloc: Global, network: &Network) -> Result<Option<u128>, Refusal> {
+fn cancelled(alloc: Global, network: &Network) -> Result<Option<u128>, OutOfMemory> {
     let numbered = Numbered::of(alloc, network)?;
     let units = unscheduled(alloc, &numbered)?;
-    let (units, _) = improve(alloc, &numbered, units)?;
-    let is_flow = is_feasible(alloc, &numbered, &units)?;
-    Ok(is_flow.then_some(total(&numbered.arcs, &units)))
+    if !is_feasible(alloc, &numbered, &units)? {
+        return Ok(None);
+    }
+    let (units, _) = improved(alloc, &numbered, units)?;
+    Ok(Some(total(&numbered, &units)))
 }
 
 // Whether both ways end at this cost, or at any one where none is given.
@@ -277,13 +286,13 @@ fn the_search_finds_no_cycle_after_the_start(rt: HostRuntime) -> Result<(), Fail
 }
 
 // Whether an earlier flow that is least is kept as it is, and one of other units ends at the same cost.
-fn is_taken_over(alloc: Global, network: &Network) -> Result<bool, OutOfMemory> {
+fn is_taken_over(alloc: Global, network: &Network) -> Result<bool, Refusal> {
     let numbered = Numbered::of(alloc, network)?;
     let first = start(alloc, &numbered)?;
     let kept = resume(alloc, &numbered, &first)?;
     let strange = vec![in alloc; 1u64; numbered.arcs.len()]?;
     let other = resume(alloc, &numbered, &strange)?;
-    let costs = (total(&numbered.arcs, &first), total(&numbered.arcs, &other));
+    let costs = (total(&numbered, &first), total(&numbered, &other));
     Ok(kept.as_slice() == first.as_slice() && costs.0 == costs.1)
 }
 

@@ -1,0 +1,10 @@
+-- The sums so far, with what is still to come, are the whole.
+use Rattle.std.proofs.Common.{◌≡◌, vec_len}
+use Rattle.fm_numbered.proofs.Summed.{AddUp}
+use Rattle.fm_numbered.proofs.sums.inflow.Given as goal
+
+abbrev pub invariant-loop-place : goal.invariant-loop-place
+invariant-loop-place l = record {
+  sized : vec_len l.sums ≡ l.numbered.places.end;
+  add_up : AddUp (λ a. a.to) l.numbered.places.end l.numbered.arcs.items l.units l.place l.sums.items;
+}

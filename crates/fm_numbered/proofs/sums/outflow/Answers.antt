@@ -1,0 +1,45 @@
+use Rattle.std.proofs.Common.{◌≡◌, ◌∙◌, ◌<◌, ◌+◌, ◌^◌, ℕ, List, Some, ap, subst, length, get_or, rules, arith}
+use Rattle.std.specs.Prelude.{slice_get, slice_index, slice_set}
+use Rattle.std.proofs.lemmas.List.{get_or_default}
+use Rattle.std.proofs.lemmas.Option.{slice_get-get_or}
+use Rattle.fm_cycles.specs.declared.arcs.Arc.{Arc}
+use Rattle.fm_numbered.proofs.Summed.{add_one, add_fits}
+use Rattle.fm_numbered.proofs.sums.outflow.Goals as goal
+
+abbrev none : Arc
+none = record { from = 0; to = 0; capacity = 0; cost = 0 }
+
+pub overflow_add-index_mut : goal.overflow_add-index_mut
+overflow_add-index_mut c =
+    let arcs = c.args.numbered.now.arcs.items in
+    let i = c.loop-place.place in
+    let a = get_or c.deref-arc-items.result.now i none in
+    let is : c.deref-arc-items.result.now ≡ c.args.numbered.now.arcs.items = search rules in
+    let there : slice_get c.args.numbered.now.arcs.items i ≡ Some a = subst (λ (bs : List Arc). slice_get bs i ≡ Some a) is (slice_get-get_or c.deref-arc-items.result.now i none (omega arith)) in
+    let known = c.args.numbered.now.formed.ends i a there in
+    let sent : c.from.result ≡ slice_index c.args.units.now i = search rules in
+    let within : a.from < length c.loop-place.sums.items = search (rules, known) in
+    let read : c.index_mut.result.now ≡ get_or c.loop-place.sums.items a.from c.index_mut.result.now = search rules in
+    let value : c.index_mut.result.now ≡ slice_index c.loop-place.sums.items a.from = read ∙ get_or_default c.loop-place.sums.items a.from c.index_mut.result.now 0 within in
+    let few : length c.args.numbered.now.arcs.items < 2 ^ 63 = search rules in
+    let each : (k : ℕ) → slice_index c.args.units.now k < 2 ^ 64 = λ k. let h = c.type_inv.units k in omega arith in
+    let fits = add_fits (λ (b : Arc). b.from) c.args.numbered.now.places.end arcs c.args.units.now i a c.from.result c.loop-place.sums.items there sent known.0 few each c.loop-place.invariant.add_up in
+    omega arith
+
+pub loop-place-preserved : goal.loop-place-preserved
+loop-place-preserved c =
+    let arcs = c.args.numbered.now.arcs.items in
+    let sums = c.loop-place.sums.items in
+    let i = c.loop-place.place in
+    let a = get_or c.deref-arc-items.result.now i none in
+    let is : c.deref-arc-items.result.now ≡ c.args.numbered.now.arcs.items = search rules in
+    let there : slice_get c.args.numbered.now.arcs.items i ≡ Some a = subst (λ (bs : List Arc). slice_get bs i ≡ Some a) is (slice_get-get_or c.deref-arc-items.result.now i none (omega arith)) in
+    let known = c.args.numbered.now.formed.ends i a there in
+    let sent : c.from.result ≡ slice_index c.args.units.now i = search rules in
+    let within : a.from < length c.loop-place.sums.items = search (rules, known) in
+    let read : c.index_mut.result.now ≡ get_or c.loop-place.sums.items a.from c.index_mut.result.now = search rules in
+    let value : c.index_mut.result.now ≡ slice_index c.loop-place.sums.items a.from = read ∙ get_or_default c.loop-place.sums.items a.from c.index_mut.result.now 0 within in
+    record {
+      sized = c.loop-place.invariant.sized;
+      add_up = add_one (λ (b : Arc). b.from) c.args.numbered.now.places.end arcs c.args.units.now i a c.from.result sums (slice_set sums a.from (c.index_mut.result.now + c.from.result)) there sent within (ap (λ n. slice_set sums a.from (n + c.from.result)) value) c.loop-place.invariant.add_up;
+    }

@@ -1,0 +1,4 @@
+pub mod Places
+pub mod Numbered
+pub mod Feasible
+pub mod Named

@@ -1,0 +1,60 @@
+//! The arcs and requests of a network by numbers.
+
+ghost use Rattle.std.specs.Prelude.{◌≡◌, IfOk};
+ghost use Rattle.fm_numbered.specs.Places.{ArePlacesOf};
+ghost use Rattle.fm_numbered.specs.Numbered.{AreArcsOf};
+
+use crate::places::Places;
+use crate::placing::place_of;
+use fm_cycles::arcs::Arc;
+use fm_lattice::join::OutOfMemory;
+use fm_net::network::Network;
+use fm_net::node::Node;
+use std::alloc::Global;
+
+/// The nodes, in order.
+pub(crate) fn nodes_of(alloc: Global, network: &Network) -> Result<Vec<Node>, OutOfMemory>
+    ensures { IfOk result (λ nodes. nodes.items ≡ network.now.nodes) }
+{
+    let nodes = network.nodes().collect(alloc)?;
+    Ok(nodes)
+}
+
+/// The arcs by places of nodes, in the network's order.
+pub(crate) fn arcs_of(
+    alloc: Global,
+    network: &Network,
+    nodes: &[Node],
+    places: &Places,
+) -> Result<Vec<Arc>, OutOfMemory>
+    requires nodes { nodes.now ≡ network.now.nodes }
+    requires places { ArePlacesOf nodes.now places.now }
+    ensures { IfOk result (λ arcs. AreArcsOf nodes.now network.now.arcs arcs.items) }
+{
+    network.known();
+    let mut arcs = Vec::with_capacity(alloc, network.arcs_len())?;
+    let mut from = 0;
+    let mut to = 0;
+    for (source, target, capacity, cost) in network.arcs() {
+        from = place_of(nodes, places, from, &source);
+        to = place_of(nodes, places, to, &target);
+        arcs.push(Arc {
+            from,
+            to,
+            capacity,
+            cost,
+        })?;
+    }
+    Ok(arcs)
+}
+
+/// The bandwidths of the requests, in order.
+pub(crate) fn requests_of(alloc: Global, nodes: &[Node]) -> Result<Vec<u32>, OutOfMemory> {
+    let mut requests = Vec::new(alloc);
+    for node in nodes {
+        if let Node::Request(bandwidth) = node {
+            requests.push(*bandwidth)?;
+        }
+    }
+    Ok(requests)
+}

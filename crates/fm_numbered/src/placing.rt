@@ -1,0 +1,54 @@
+//! The place of a node.
+
+ghost use Rattle.std.specs.Prelude.{◌≡◌, ◌↔◌, IsTrue, Some, slice_get};
+ghost use Rattle.fm_records.specs.Sets.{IsMember};
+ghost use Rattle.fm_records.specs.TableLaws.{Rises};
+ghost use Rattle.fm_net.specs.Nodes.{node_cmp};
+ghost use Rattle.fm_numbered.specs.Places.{ArePlacesOf};
+
+use crate::places::{Places, range_of};
+use fm_net::node::Node;
+
+// Whether the node stands at the place.
+fn stands_at(nodes: &[Node], place: usize, node: &Node) -> bool
+    ensures { IsTrue result ↔ (slice_get nodes.now place ≡ Some node.now) }
+{
+    match nodes.get(place) {
+        Some(there) => *there == *node,
+        None => false,
+    }
+}
+
+// The place of a node, looked for among its kind.
+fn search(nodes: &[Node], places: &Places, node: &Node) -> usize
+    requires rises { Rises node_cmp nodes.now }
+    requires places { ArePlacesOf nodes.now places.now }
+    requires stands { IsMember node.now nodes.now }
+    ensures { slice_get nodes.now result ≡ Some node.now }
+{
+    let (first, end) = range_of(places, node);
+    let Some(of_kind) = nodes.get(first..end) else {
+        unreachable!()
+    };
+    match of_kind.binary_search(node) {
+        Ok(place) => first + place,
+        Err(_) => unreachable!(),
+    }
+}
+
+/// The place of a node, looked for at the guess, behind it, and then among its kind.
+pub(crate) fn place_of(nodes: &[Node], places: &Places, guess: usize, node: &Node) -> usize
+    requires rises { Rises node_cmp nodes.now }
+    requires places { ArePlacesOf nodes.now places.now }
+    requires stands { IsMember node.now nodes.now }
+    ensures { slice_get nodes.now result ≡ Some node.now }
+{
+    let behind = guess.saturating_add(1);
+    if stands_at(nodes, guess, node) {
+        return guess;
+    }
+    if stands_at(nodes, behind, node) {
+        return behind;
+    }
+    search(nodes, places, node)
+}

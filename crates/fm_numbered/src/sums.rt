@@ -1,0 +1,46 @@
+//! What enters and leaves each node.
+
+ghost use Rattle.std.specs.Prelude.{◌≡◌, ◌<◌, ℕ, vec_len, slice_index, IfOk};
+ghost use Rattle.fm_cycles.specs.Units.{entering, leaving};
+
+use crate::numbered::Numbered;
+use fm_lattice::join::OutOfMemory;
+use std::alloc::Global;
+
+/// The number at a place, 0 behind the end.
+pub fn at(numbers: &[u64], place: usize) -> u64
+    ensures { result ≡ slice_index numbers.now place }
+{
+    numbers.get(place).copied().unwrap_or(0)
+}
+
+/// The sum at a place, 0 behind the end.
+pub fn sum_at(sums: &[u128], place: usize) -> u128
+    ensures { result ≡ slice_index sums.now place }
+{
+    sums.get(place).copied().unwrap_or(0)
+}
+
+/// The units that enter each node. O(arcs).
+pub fn inflow(alloc: Global, numbered: &Numbered, units: &[u64]) -> Result<Vec<u128>, OutOfMemory>
+    ensures sized { IfOk result (λ sums. vec_len sums ≡ numbered.now.places.end) }
+    ensures sums { IfOk result (λ sums. (v : ℕ) → v < numbered.now.places.end → slice_index sums.items v ≡ entering numbered.now.arcs.items units.now v) }
+{
+    let mut sums = vec![in alloc; 0u128; numbered.places.end]?;
+    for (place, arc) in numbered.arcs.iter().enumerate() {
+        sums[arc.to] += u128::from(at(units, place));
+    }
+    Ok(sums)
+}
+
+/// The units that leave each node. O(arcs).
+pub fn outflow(alloc: Global, numbered: &Numbered, units: &[u64]) -> Result<Vec<u128>, OutOfMemory>
+    ensures sized { IfOk result (λ sums. vec_len sums ≡ numbered.now.places.end) }
+    ensures sums { IfOk result (λ sums. (v : ℕ) → v < numbered.now.places.end → slice_index sums.items v ≡ leaving numbered.now.arcs.items units.now v) }
+{
+    let mut sums = vec![in alloc; 0u128; numbered.places.end]?;
+    for (place, arc) in numbered.arcs.iter().enumerate() {
+        sums[arc.from] += u128::from(at(units, place));
+    }
+    Ok(sums)
+}
