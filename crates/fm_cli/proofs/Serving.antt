@@ -79,19 +79,15 @@ module _ (text : List ℕ) (listed : List ℕ) (names : List (List ℕ)) (steps 
 
     pub solve_ended : (o : WorldOfSets → Option Replica) (old new : Option (List ℕ)) (had has : Bool) (fault : Fault)
         → ((w : WorldOfSets) → o w ≡ None → Lacks c listed names w (fault_of refused.NoCoordinator))
-        → ((w : WorldOfSets) → Lacks c listed names w (fault_of refused.Uncertified))
         → Ends listed steps fault old new (λ refusal w. LeavesSolution (o w) refusal old new had has) → Refused (in_memory_of fault)
-    solve_ended o old new had has fault lacks uncertified (inl h) = kept Refused none fault (from fault (stopped c fault (inr (inl h.0))))
-    solve_ended o old new had has fault lacks uncertified (inr (refusal, is, (w, came, later))) = by_asked (o w) refl later where
+    solve_ended o old new had has fault lacks (inl h) = kept Refused none fault (from fault (stopped c fault (inr (inl h.0))))
+    solve_ended o old new had has fault lacks (inr (refusal, is, (w, came, later))) = by_asked (o w) refl later where
       lacking : (r : Refusal) → refusal ≡ r → Lacks c listed names w (fault_of r) → Refused (in_memory_of fault)
       lacking r e h =
           kept Refused none fault (subst Refused (sym (is ∙ ap fault_of e)) (from (fault_of r) (stopped c (fault_of r) (inr (inr (w, came, h))))))
 
       by_flow : (r : Replica) → LeavesUnsolved refusal old new had has (network_of r) → Refused (in_memory_of fault)
-      by_flow r (inl u) = elim u.cause [
-        | inl oom ↦ kept Refused none fault (subst Refused (sym (is ∙ ap fault_of oom)) none)
-        | inr not ↦ lacking refused.Uncertified not (uncertified w)
-      ]
+      by_flow r (inl u) = kept Refused none fault (subst Refused (sym (is ∙ ap fault_of u.cause)) none)
       by_flow r (inr u) = cut_off fault refusal had has is u.cause
 
       by_asked : (a : Option Replica) → o w ≡ a → LeavesSolution a refusal old new had has → Refused (in_memory_of fault)

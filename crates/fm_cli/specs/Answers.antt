@@ -2,7 +2,7 @@
 use Rattle.std.specs.Prelude.{◌≡◌, ◌⊎◌, ℕ, List, cond, is_none, Option, Some, None, Result, Ok, Err}
 use Rattle.std.specs.Io.KnownBytes.{Appends}
 use Rattle.fm_records.specs.declared.refusal.Refusal.{Refusal}
-use Rattle.fm_records.specs.declared.refusal.Refusal.TheVariants.{OutOfMemory, WriteFault, NoCoordinator, NoPacket, BadScript, Uncertified}
+use Rattle.fm_records.specs.declared.refusal.Refusal.TheVariants.{OutOfMemory, WriteFault, NoCoordinator, NoPacket, BadScript}
 use Rattle.fm_flow.specs.Flows.{Units, IsLeast}
 use Rattle.fm_dimacs.specs.Sending.{AppendsPrefix}
 use Rattle.fm_dimacs.specs.Solution.{solution_text}
@@ -59,10 +59,10 @@ abbrev pub Wants : Command → List ℕ → Ending → List ℕ → Type 0
 Wants command.Unpack text ending output = (ending ≡ Done) × IsUnpacked text output
 Wants c text ending output = IsOfScript c text ending output
 
--- what was asked for is not there once the steps ran, or was not certified
+-- what was asked for is not there once the steps ran
 abbrev pub Lacks : Command → List ℕ → List (List ℕ) → WorldOfSets → Fault → Type 0
 Lacks (command.Ask q at) listed names w fault =
-    ((n : ℕ) × (asked_of listed at ≡ Ok n) × (with_number w.replicas n ≡ None) × (fault ≡ fault_of NoCoordinator)) ⊎ ((q ≡ question.Solve) × (fault ≡ fault_of Uncertified))
+    (n : ℕ) × (asked_of listed at ≡ Ok n) × (with_number w.replicas n ≡ None) × (fault ≡ fault_of NoCoordinator)
 Lacks (command.Pack name) listed names w fault = (packet_named names name.now w ≡ None) × (fault ≡ fault_of NoPacket)
 Lacks command.Agree listed names w fault = ⊥
 Lacks command.Unpack listed names w fault = ⊥

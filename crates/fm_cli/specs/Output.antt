@@ -3,7 +3,7 @@ use Rattle.std.specs.Prelude.{◌≡◌, ◌⊎◌, ℕ, List, [], ◌∷◌, �
 use Rattle.std.specs.Io.KnownBytes.{Appends}
 use Rattle.hex.specs.Hex.{encode_lower}
 use Rattle.fm_records.specs.declared.refusal.Refusal.{Refusal}
-use Rattle.fm_records.specs.declared.refusal.Refusal.TheVariants.{OutOfMemory, NoCoordinator, Uncertified}
+use Rattle.fm_records.specs.declared.refusal.Refusal.TheVariants.{OutOfMemory, NoCoordinator}
 use Rattle.fm_records.specs.Options.{and_then}
 use Rattle.fm_records.specs.Table.{Table}
 use Rattle.fm_records.specs.Know.{know}
@@ -85,9 +85,9 @@ pub record IsSolved (net : Net) (old new : Option (List ℕ)) : Type 0 where
   pub least : IsLeast net units
   pub written : Appends old new (solution_text net units)
 
--- no flow was certified, or memory was wanted before one was, and nothing is written
+-- memory was wanted before a least flow was found, and nothing is written
 pub record IsUnsolved (refusal : Refusal) (old new : Option (List ℕ)) : Type 0 where
-  pub cause : (refusal ≡ OutOfMemory) ⊎ (refusal ≡ Uncertified)
+  pub cause : refusal ≡ OutOfMemory
   pub nothing : new ≡ old
 
 -- of the text of a least flow a prefix is written

@@ -1,7 +1,7 @@
 -- What the steps of a script make of a world, and why one is refused (this project's profile).
 use Rattle.std.specs.Prelude.{◌≡◌, ◌⊎◌, ℕ, ◌+◌, List, [], ◌∷◌, map, take, slice_get, Some, None}
 use Rattle.fm_records.specs.declared.refusal.Refusal.{Refusal}
-use Rattle.fm_records.specs.declared.refusal.Refusal.TheVariants.{OutOfMemory, Uncertified}
+use Rattle.fm_records.specs.declared.refusal.Refusal.TheVariants.{OutOfMemory}
 use Rattle.fm_records.specs.Table.{Table}
 use Rattle.fm_records.specs.Know.{know}
 use Rattle.fm_net.specs.Network.{net_of}
@@ -76,11 +76,11 @@ abbrev pub Come : WorldOfSets → List Step → WorldOfSets → Type 0
 Come w [] v = w ≡ v
 Come w (s ∷ ss) v = (u : WorldOfSets) × Acts w s.at s.act u × Come u ss v
 
--- after its view a round is refused: no flow was certified or memory was wanted for one, or the commit is
+-- after its view a round is refused: memory was wanted for a plan, or the commit is
 pub record StopsAfterView (w : WorldOfSets) (at : ℕ) (refusal : Refusal) : Type 0 where
   pub seen : WorldOfSets
   pub view : Takes w (step_at at world.View) seen
-  pub stopped : ((refusal ≡ OutOfMemory) ⊎ (refusal ≡ Uncertified)) ⊎ ((plan : Plan) × IsPlanAt w at plan × (refusal ≡ refusal_of seen (step_at at (world.Commit plan))))
+  pub stopped : (refusal ≡ OutOfMemory) ⊎ ((plan : Plan) × IsPlanAt w at plan × (refusal ≡ refusal_of seen (step_at at (world.Commit plan))))
 
 -- what happens in a step of the script is refused, and why
 abbrev pub Refuses : WorldOfSets → ℕ → Act → Refusal → Type 0

@@ -74,7 +74,7 @@ fn put_winners<W: Out>(
 }
 
 /// Runs the script's steps, and writes a least flow of the network of all that the coordinator took in, its cost first.
-/// Refused as `graph` is, or by Uncertified where the solver's result did not pass its check; then nothing is written.
+/// Refused as `graph` is: before anything is written, or in the middle by the writer or for want of memory.
 pub fn solution<W: Out>(
     alloc: Global,
     script: &Script,

@@ -1,6 +1,6 @@
 //! Running a script's steps on a world of its coordinators.
 
-ghost use Rattle.std.specs.Prelude.{◌≡◌, ◌⊎◌, ℕ, IfOk, IfErr, OnOk};
+ghost use Rattle.std.specs.Prelude.{◌≡◌, ℕ, IfOk, IfErr, OnOk};
 ghost use Rattle.fm_net.specs.Network.{net_of};
 ghost use Rattle.fm_world.specs.declared.step.Act.TheVariants as world_act;
 ghost use Rattle.fm_coord.specs.Numbers.{AreDistinct};
@@ -29,8 +29,8 @@ use std::alloc::Global;
 pub const HISTORY_LIMIT: usize = 1_000_000;
 
 /// The world that the script's steps come to. A step that is refused is named: by NoCoordinator where its coordinator is not
-/// listed, by NoPacket where no packet of the name was cut, else as the coordinator's call, and a round also by Uncertified.
-/// Else only memory is wanted. The caller owes that no two coordinators have one number.
+/// listed, by NoPacket where no packet of the name was cut, else as the coordinator's call, and a round also where memory is
+/// wanted for its plan. Else only memory is wanted. The caller owes that no two coordinators have one number.
 pub fn run(alloc: Global, script: &Script) -> Result<World<Rebuilder>, Fault>
     requires { AreDistinct script.now.coordinators.items }
     ensures ok { IfOk result (λ world. IsRun script.now.coordinators.items script.now.steps.items world) }
@@ -112,11 +112,11 @@ fn round(alloc: Global, world: &mut World<Rebuilder>, at: u8) -> Result<(), Refu
     ask(world, at, WorldAct::Commit(plan))
 }
 
-// The plan of a least flow of the network that is seen. Refused memory, or Uncertified as `solve` is.
+// The plan of a least flow of the network that is seen. Refused memory and nothing else.
 fn plan_for(alloc: Global, view: &View) -> Result<Plan, Refusal>
     requires { view.now.network ≡ net_of view.now.knowledge }
     ensures ok { IfOk result (λ plan. IsPlanOf view.now.knowledge plan) }
-    ensures err { IfErr result (λ refusal. (refusal ≡ Refusal.OutOfMemory) ⊎ (refusal ≡ Refusal.Uncertified)) }
+    ensures err { IfErr result (λ refusal. refusal ≡ Refusal.OutOfMemory) }
 {
     let knowledge = view.knowledge.get();
     law_can_be(knowledge);

@@ -1,7 +1,7 @@
 -- What a round in a thread adds to its seat's list (Firmament's rounds).
 use Rattle.std.specs.Prelude.{◌≡◌, ◌⊎◌, ◌≤◌, ℕ, ◌+◌, length}
 use Rattle.fm_records.specs.declared.refusal.Refusal.{Refusal}
-use Rattle.fm_records.specs.declared.refusal.Refusal.TheVariants.{OutOfMemory, Uncertified}
+use Rattle.fm_records.specs.declared.refusal.Refusal.TheVariants.{OutOfMemory}
 use Rattle.fm_records.specs.Table.{Table}
 use Rattle.fm_round.specs.declared.parts.Plan.{Plan}
 use Rattle.fm_round.specs.declared.parts.Admitted.{Admitted}
@@ -23,13 +23,13 @@ pub record IsRound (base : ℕ) (s : SeatSeen) (t : SeatSeen) (admitted : Admitt
   pub planned : IsPlanOf known plan
   pub listed : t ≡ called (viewed s at known) (call.Commit plan) (reply.Admitted admitted)
 
--- the view alone, since memory was wanted for a plan, no flow was certified, or the commit of a plan was refused
+-- the view alone, since memory was wanted for a plan, or the commit of a plan was refused
 pub record IsHalfRound (base : ℕ) (s : SeatSeen) (t : SeatSeen) (refusal : Refusal) : Type 0 where
   pub at : ℕ
   pub known : Table
   pub later : base + length s.log ≤ at
   pub listed : t ≡ viewed s at known
-  pub cause : ((refusal ≡ OutOfMemory) ⊎ (refusal ≡ Uncertified)) ⊎ ((plan : Plan) × IsPlanOf known plan × MayRefuse (call.Commit plan) refusal)
+  pub cause : (refusal ≡ OutOfMemory) ⊎ ((plan : Plan) × IsPlanOf known plan × MayRefuse (call.Commit plan) refusal)
 
 -- a round that is refused: before its view was answered, or after it
 abbrev pub IsRefusedRound : ℕ → SeatSeen → SeatSeen → Refusal → Type 0

@@ -1,5 +1,5 @@
 //! Rounds in threads: what is seen is planned for with the node unlocked, and the plan is committed.
-ghost use Rattle.std.specs.Prelude.{◌≡◌, ◌⊎◌, IfOk, IfErr};
+ghost use Rattle.std.specs.Prelude.{◌≡◌, IfOk, IfErr};
 ghost use Rattle.fm_net.specs.Network.{net_of};
 ghost use Rattle.fm_round.specs.Schedules.{IsPlanOf};
 ghost use Rattle.fm_fleet.specs.Rounds.{IsRound, IsRefusedRound};
@@ -31,7 +31,7 @@ impl Gate for NoGate {
 }
 
 /// A view, the gate, a plan of a least flow of the network that was seen, and the commit of that plan, whose answer this is.
-/// OutOfMemory, HistoryFull, Uncertified; then the seat is as it was, or has the view alone.
+/// OutOfMemory, HistoryFull; then the seat is as it was, or has the view alone.
 pub fn run_round<N: NetKeeper, L: NodeName, G: Gate, R: Wait>(
     rt: &R,
     alloc: Global,
@@ -56,11 +56,11 @@ pub fn run_round<N: NetKeeper, L: NodeName, G: Gate, R: Wait>(
 
 /// The plan of a least flow of the network that was seen. The caller owes that the network is that of the knowledge, as in
 /// each view that is answered.
-/// OutOfMemory, Uncertified.
+/// OutOfMemory alone.
 pub fn plan_for(alloc: Global, view: &View) -> Result<Plan, Refusal>
     requires { view.now.network ≡ net_of view.now.knowledge }
     ensures ok { IfOk result (λ plan. IsPlanOf view.now.knowledge plan) }
-    ensures err { IfErr result (λ refusal. (refusal ≡ Refusal.OutOfMemory) ⊎ (refusal ≡ Refusal.Uncertified)) }
+    ensures err { IfErr result (λ refusal. refusal ≡ Refusal.OutOfMemory) }
 {
     let knowledge = view.knowledge.get();
     law_can_be(knowledge);

@@ -1,6 +1,6 @@
 //! The solver.
 
-ghost use Rattle.std.specs.Prelude.{◌≡◌, ◌⊎◌, IfOk, IfErr};
+ghost use Rattle.std.specs.Prelude.{◌≡◌, IfOk, IfErr};
 ghost use Rattle.fm_certificate.specs.Built.{IsBuilt};
 ghost use Rattle.fm_certificate.specs.Flows.{units_in, IsLeast};
 ghost use Rattle.fm_certificate.specs.Certificates.{IsCertified};
@@ -16,18 +16,21 @@ use fm_net::network::Network;
 use fm_numbered::improved::improved;
 use fm_numbered::named::{certified, units_of};
 use fm_numbered::numbered::Numbered;
+use fm_numbered::unscheduled::law_unscheduled;
 use fm_records::refusal::Refusal;
 use std::alloc::Global;
 
 /// A least flow of the network, and potentials that certify it. The caller owes a network that the policy can build.
-/// Refused memory, or Uncertified where neither the fast start nor all tasks unscheduled is a flow. A fast start places the
-/// tasks; then cycles of negative cost are cancelled until none is left.
+/// Refused memory and nothing else. A fast start places the tasks; then cycles of negative cost are cancelled until none is
+/// left.
 pub fn solve(alloc: Global, network: &Network) -> Result<(Flow, Potentials), Refusal>
     requires built { IsBuilt network.now }
     ensures certified { IfOk result (λ found. IsCertified network.now found.0 found.1) }
     ensures least { IfOk result (λ found. IsLeast network.now (units_in found.0)) }
-    ensures cause { IfErr result (λ refusal. (refusal ≡ Refusal.OutOfMemory) ⊎ (refusal ≡ Refusal.Uncertified)) }
+    ensures cause { IfErr result (λ refusal. refusal ≡ Refusal.OutOfMemory) }
 {
+    network.known();
+    law_unscheduled();
     let numbered = Numbered::of(alloc, network)?;
     let first = start(alloc, &numbered)?;
     let found = least(alloc, network, &numbered, first)?;
@@ -44,8 +47,10 @@ pub fn solve_from(
     requires built { IsBuilt network.now }
     ensures certified { IfOk result (λ found. IsCertified network.now found.0 found.1) }
     ensures least { IfOk result (λ found. IsLeast network.now (units_in found.0)) }
-    ensures cause { IfErr result (λ refusal. (refusal ≡ Refusal.OutOfMemory) ⊎ (refusal ≡ Refusal.Uncertified)) }
+    ensures cause { IfErr result (λ refusal. refusal ≡ Refusal.OutOfMemory) }
 {
+    network.known();
+    law_unscheduled();
     let numbered = Numbered::of(alloc, network)?;
     let given = units_of(alloc, network, flow)?;
     let first = resume(alloc, &numbered, &given)?;

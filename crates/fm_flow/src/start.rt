@@ -1,7 +1,8 @@
 //! A first flow: all tasks unscheduled, or placed by falling worth, or as an earlier flow had them.
 
-ghost use Rattle.std.specs.Prelude.{◌≡◌, ◌⊎◌, vec_len, IsTrue, IfOk, IfErr};
+ghost use Rattle.std.specs.Prelude.{IsTrue, IfOk};
 ghost use Rattle.fm_numbered.specs.Feasible.{IsFlowOf};
+ghost use Rattle.fm_numbered.specs.Unscheduled.{all_unscheduled};
 
 use crate::kept::Kept;
 use crate::lanes::{Lanes, bandwidth, machine_of, price_at};
@@ -13,7 +14,7 @@ use fm_numbered::feasible::is_feasible;
 use fm_numbered::numbered::Numbered;
 use fm_numbered::places::Kind;
 use fm_numbered::sums::{at, inflow, sum_at};
-use fm_records::refusal::Refusal;
+use fm_numbered::unscheduled::unscheduled;
 use std::alloc::Global;
 
 // A task's two arcs, and what its place is worth, from which the price of the slot is still to be taken.
@@ -222,20 +223,6 @@ fn drain(alloc: Global, numbered: &Numbered, units: &mut [u64]) -> Result<(), Ou
     Ok(())
 }
 
-/// The flow with all tasks unscheduled.
-pub(crate) fn unscheduled(alloc: Global, numbered: &Numbered) -> Result<Vec<u64>, OutOfMemory>
-    ensures { IfOk result (λ units. vec_len units ≡ vec_len numbered.now.arcs) }
-{
-    let mut units = vec![in alloc; 0u64; numbered.arcs.len()]?;
-    for (place, arc) in numbered.arcs.iter().enumerate() {
-        if let Kind::Unscheduled(_) = numbered.places.kind(arc.to) {
-            put(&mut units, place, 1);
-        }
-    }
-    drain(alloc, numbered, &mut units)?;
-    Ok(units)
-}
-
 // Places the tasks that the given units place, where their paths are still whole and fit, and answers the others.
 fn keep_given(
     alloc: Global,
@@ -283,20 +270,17 @@ fn placed(alloc: Global, numbered: &Numbered, given: &[u64]) -> Result<Vec<u64>,
 
 /// Tasks placed by falling worth; all unscheduled where that is no flow. Where each arc into a machine costs the request
 /// and the machine's load, and no waiting task has an arc to a machine, this is a least flow: no clause says so, a search
-/// for cycles does. O(arcs log arcs), and for each class of tasks at most some searches between requests. Refused memory,
-/// or Uncertified where neither is a flow.
-pub(crate) fn start(alloc: Global, numbered: &Numbered) -> Result<Vec<u64>, Refusal>
-    ensures flow { IfOk result (λ units. IsFlowOf numbered.now.places numbered.now.arcs.items units.items) }
-    ensures cause { IfErr result (λ refusal. (refusal ≡ Refusal.OutOfMemory) ⊎ (refusal ≡ Refusal.Uncertified)) }
+/// for cycles does. The caller owes a network where all tasks can be unscheduled. O(arcs log arcs), and for each class of
+/// tasks at most some searches between requests.
+pub(crate) fn start(alloc: Global, numbered: &Numbered) -> Result<Vec<u64>, OutOfMemory>
+    requires unscheduled { IsFlowOf numbered.now.places numbered.now.arcs.items (all_unscheduled numbered.now.places numbered.now.arcs.items) }
+    ensures { IfOk result (λ units. IsFlowOf numbered.now.places numbered.now.arcs.items units.items) }
 {
     let units = placed(alloc, numbered, &[])?;
     if is_feasible(alloc, numbered, &units)? {
         return Ok(units);
     }
     let units = unscheduled(alloc, numbered)?;
-    if !is_feasible(alloc, numbered, &units)? {
-        return Err(Refusal::Uncertified);
-    }
     Ok(units)
 }
 
@@ -316,20 +300,21 @@ fn is_least(alloc: Global, numbered: &Numbered, units: &[u64]) -> Result<bool, O
 }
 
 /// A flow with the task paths of the given units that are still whole and fit, the other tasks placed by falling worth,
-/// if that is a least flow; else the one that is made without them. Refused as `start` is.
+/// if that is a least flow; else the one that is made without them. The caller owes what `start` is owed.
 pub(crate) fn resume(
     alloc: Global,
     numbered: &Numbered,
     given: &[u64],
-) -> Result<Vec<u64>, Refusal>
-    ensures flow { IfOk result (λ units. IsFlowOf numbered.now.places numbered.now.arcs.items units.items) }
-    ensures cause { IfErr result (λ refusal. (refusal ≡ Refusal.OutOfMemory) ⊎ (refusal ≡ Refusal.Uncertified)) }
+) -> Result<Vec<u64>, OutOfMemory>
+    requires unscheduled { IsFlowOf numbered.now.places numbered.now.arcs.items (all_unscheduled numbered.now.places numbered.now.arcs.items) }
+    ensures { IfOk result (λ units. IsFlowOf numbered.now.places numbered.now.arcs.items units.items) }
 {
     let units = placed(alloc, numbered, given)?;
     if is_least(alloc, numbered, &units)? {
         return Ok(units);
     }
-    start(alloc, numbered)
+    let units = start(alloc, numbered)?;
+    Ok(units)
 }
 
 #[cfg(test)]

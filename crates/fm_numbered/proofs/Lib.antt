@@ -6,3 +6,5 @@ pub mod Summed
 pub mod Naming
 pub mod Kept
 pub mod Certify
+pub mod Waiting
+pub mod Unscheduling

@@ -2,3 +2,4 @@ pub mod Places
 pub mod Numbered
 pub mod Feasible
 pub mod Named
+pub mod Unscheduled

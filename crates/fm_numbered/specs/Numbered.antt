@@ -1,6 +1,7 @@
 -- A network by numbers: nodes by their place, and arcs in the network's order, their ends as places.
-use Rattle.std.specs.Prelude.{◌≡◌, ℕ, ◌<◌, ◌^◌, List, [], ◌∷◌, Some, false, slice_get}
+use Rattle.std.specs.Prelude.{◌≡◌, ℕ, ◌<◌, ◌^◌, List, [], ◌∷◌, Option, Some, None, false, slice_get}
 use Rattle.fm_net.specs.declared.node.Node.{Node}
+use Rattle.fm_net.specs.declared.node.Node.TheVariants as node
 use Rattle.fm_net.specs.Net.{Net}
 use Rattle.fm_cycles.specs.declared.arcs.Arc.{Arc}
 use Rattle.fm_cycles.specs.Residual.{AreArcs}
@@ -29,6 +30,14 @@ AreArcsOf nodes _ _ = ⊥
 pub record IsNumbered (net : Net) (places : Places) (arcs : List Arc) : Type 0 where
   pub at_places : ArePlacesOf net.nodes places
   pub of_arcs : AreArcsOf net.nodes net.arcs arcs
+
+-- the bandwidth of a request's node
+abbrev pub bandwidth_in : Node → Option ℕ
+bandwidth_in (node.Request r) = Some r
+bandwidth_in (node.Sink) = None
+bandwidth_in (node.Unscheduled j) = None
+bandwidth_in (node.Machine m) = None
+bandwidth_in (node.Task t) = None
 
 -- what is known of all networks by numbers: both ends of an arc are places of nodes, its numbers fit, and none leads to a task
 pub record IsFormed (places : Places) (arcs : List Arc) : Type 0 where

@@ -10,3 +10,4 @@ mod numbering;
 pub mod places;
 mod placing;
 pub mod sums;
+pub mod unscheduled;

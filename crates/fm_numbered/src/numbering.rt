@@ -1,8 +1,9 @@
 //! The arcs and requests of a network by numbers.
 
 ghost use Rattle.std.specs.Prelude.{◌≡◌, IfOk};
+ghost use Rattle.std.specs.List.{filter_map};
 ghost use Rattle.fm_numbered.specs.Places.{ArePlacesOf};
-ghost use Rattle.fm_numbered.specs.Numbered.{AreArcsOf};
+ghost use Rattle.fm_numbered.specs.Numbered.{AreArcsOf, bandwidth_in};
 
 use crate::places::Places;
 use crate::placing::place_of;
@@ -48,13 +49,20 @@ pub(crate) fn arcs_of(
     Ok(arcs)
 }
 
-/// The bandwidths of the requests, in order.
-pub(crate) fn requests_of(alloc: Global, nodes: &[Node]) -> Result<Vec<u32>, OutOfMemory> {
-    let mut requests = Vec::new(alloc);
-    for node in nodes {
-        if let Node::Request(bandwidth) = node {
-            requests.push(*bandwidth)?;
-        }
+// The bandwidth of a request's node.
+fn bandwidth(node: &Node) -> Option<u32>
+    ensures { result ≡ bandwidth_in node.now }
+{
+    match node {
+        Node::Request(bandwidth) => Some(*bandwidth),
+        Node::Sink | Node::Unscheduled(_) | Node::Machine(_) | Node::Task(_) => None,
     }
+}
+
+/// The bandwidths of the requests, in order.
+pub(crate) fn requests_of(alloc: Global, nodes: &[Node]) -> Result<Vec<u32>, OutOfMemory>
+    ensures { IfOk result (λ requests. requests.items ≡ filter_map bandwidth_in nodes.now) }
+{
+    let requests = nodes.iter().filter_map(bandwidth).collect(alloc)?;
     Ok(requests)
 }

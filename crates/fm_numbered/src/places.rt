@@ -1,6 +1,6 @@
 //! Places of nodes in node order, and the kinds that stand there.
 
-ghost use Rattle.std.specs.Prelude.{◌≡◌};
+ghost use Rattle.std.specs.Prelude.{◌≡◌, ◌-◌};
 ghost use Rattle.fm_net.specs.Nodes.{kind};
 ghost use Rattle.fm_numbered.specs.Places.{ArePlacesOf, count_below, end_of, first_of, kind_at};
 
@@ -45,12 +45,16 @@ impl Places {
     }
 
     /// How many requests there are.
-    pub fn requests_len(&self) -> usize {
+    pub fn requests_len(&self) -> usize
+        ensures { result ≡ self.now.machines - self.now.requests }
+    {
         self.machines.saturating_sub(self.requests)
     }
 
     /// How many machines there are.
-    pub fn machines_len(&self) -> usize {
+    pub fn machines_len(&self) -> usize
+        ensures { result ≡ self.now.tasks - self.now.machines }
+    {
         self.tasks.saturating_sub(self.machines)
     }
 }

@@ -1,14 +1,18 @@
 //! Small networks, and drawn ones: the first flow is least, and cancelling from all tasks unscheduled ends at its cost.
 
-use crate::start::{is_least, resume, start, unscheduled};
+ghost use Rattle.std.specs.Prelude.{IsTrue, IfOk};
+ghost use Rattle.fm_numbered.specs.Feasible.{IsFlowOf};
+ghost use Rattle.fm_numbered.specs.Unscheduled.{all_unscheduled};
+
+use crate::start::{is_least, resume, start};
 use fm_lattice::join::OutOfMemory;
 use fm_net::network::Network;
 use fm_net::node::Node;
 use fm_numbered::feasible::is_feasible;
 use fm_numbered::improved::improved;
 use fm_numbered::numbered::Numbered;
+use fm_numbered::unscheduled::unscheduled;
 use fm_records::ids::{JobId, MachineId, TaskId};
-use fm_records::refusal::Refusal;
 use std::alloc::Global;
 use std::test::Fail;
 
@@ -101,9 +105,21 @@ fn total(numbered: &Numbered, units: &[u64]) -> u128 {
     sum
 }
 
+// Whether all tasks can be unscheduled.
+fn can_wait(alloc: Global, numbered: &Numbered) -> Result<bool, OutOfMemory>
+    ensures { IfOk result (λ can. IsTrue can → IsFlowOf numbered.now.places numbered.now.arcs.items (all_unscheduled numbered.now.places numbered.now.arcs.items)) }
+{
+    let units = unscheduled(alloc, numbered)?;
+    let can = is_feasible(alloc, numbered, &units)?;
+    Ok(can)
+}
+
 // What the first flow costs, where it is a least flow.
-fn started(alloc: Global, network: &Network) -> Result<Option<u128>, Refusal> {
+fn started(alloc: Global, network: &Network) -> Result<Option<u128>, OutOfMemory> {
     let numbered = Numbered::of(alloc, network)?;
+    if !can_wait(alloc, &numbered)? {
+        return Ok(None);
+    }
     let units = start(alloc, &numbered)?;
     let is_least = is_least(alloc, &numbered, &units)?;
     Ok(is_least.then_some(total(&numbered, &units)))
@@ -121,7 +137,7 @@ fn cancelled(alloc: Global, network: &Network) -> Result<Option<u128>, OutOfMemo
 }
 
 // Whether both ways end at this cost, or at any one where none is given.
-fn both_cost(alloc: Global, network: &Network, want: Option<u128>) -> Result<bool, Refusal> {
+fn both_cost(alloc: Global, network: &Network, want: Option<u128>) -> Result<bool, OutOfMemory> {
     let first = started(alloc, network)?;
     let last = cancelled(alloc, network)?;
     Ok(first.is_some() && first == last && (want.is_none() || first == want))
@@ -286,8 +302,11 @@ fn the_search_finds_no_cycle_after_the_start(rt: HostRuntime) -> Result<(), Fail
 }
 
 // Whether an earlier flow that is least is kept as it is, and one of other units ends at the same cost.
-fn is_taken_over(alloc: Global, network: &Network) -> Result<bool, Refusal> {
+fn is_taken_over(alloc: Global, network: &Network) -> Result<bool, OutOfMemory> {
     let numbered = Numbered::of(alloc, network)?;
+    if !can_wait(alloc, &numbered)? {
+        return Ok(false);
+    }
     let first = start(alloc, &numbered)?;
     let kept = resume(alloc, &numbered, &first)?;
     let strange = vec![in alloc; 1u64; numbered.arcs.len()]?;

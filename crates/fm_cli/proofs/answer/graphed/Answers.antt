@@ -12,4 +12,4 @@ pub returns-in-Err-clause-err : goal.returns-in-Err-clause-err
 returns-in-Err-clause-err c = λ text at s e.
     subst (IsRefused (Ask Graph at) text) (sym c.in_memory.ensures)
     (ended text _ _ _ s (Ask Graph at) (IsRefused (Ask Graph at) text) (inl refl) (λ f h. inr (inr h)) NoCoordinator (λ w. with_number w.replicas c.args.at) graph_of _ _ _ _ c.in-Err.fault
-    (λ w none. inl (c.args.at, e, none, refl)) c.in-Err.ensures.err)
+    (λ w none. (c.args.at, e, none, refl)) c.in-Err.ensures.err)

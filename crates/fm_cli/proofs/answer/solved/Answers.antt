@@ -10,4 +10,4 @@ pub returns-in-Err-clause-err : goal.returns-in-Err-clause-err
 returns-in-Err-clause-err c = λ text at s e.
     subst (IsRefused (Ask Solve at) text) (sym c.in_memory.ensures)
     (solve_ended text _ _ _ s (Ask Solve at) (IsRefused (Ask Solve at) text) (inl refl) (λ f h. inr (inr h)) (λ w. with_number w.replicas c.args.at) _ _ _ _ c.in-Err.fault
-    (λ w none. inl (c.args.at, e, none, refl)) (λ w. inr (refl, refl)) c.in-Err.ensures.err)
+    (λ w none. (c.args.at, e, none, refl)) c.in-Err.ensures.err)
