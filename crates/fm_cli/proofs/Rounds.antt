@@ -17,7 +17,8 @@ use Rattle.fm_world.specs.Worlds.{WorldOfSets, with_number, cause_at, cause_of, 
 use Rattle.fm_world.specs.Stands.{Kept, WorldStandsFor, state_with, shown}
 use Rattle.fm_world.proofs.Places.{Stood, stood, absent}
 use Rattle.fm_world.proofs.Runs.{if_err}
-use Rattle.fm_cli.specs.Running.{step_at, IsPlanOf, IsPlanAt, Takes, Rounds, StopsAfterView}
+use Rattle.fm_round.specs.Schedules.{IsPlanOf}
+use Rattle.fm_cli.specs.Running.{step_at, IsPlanAt, Takes, Rounds, StopsAfterView}
 
 -- the plan of a least flow of the network of one table is one of the same table
 pub plan_is : (k l : Table) (net : Net) (units : Units) (plan : Plan) → l ≡ k → net ≡ net_of k → IsLeast net units → plan ≡ planned (units_over net units) l → IsPlanOf k plan

@@ -2,12 +2,9 @@
 use Rattle.std.specs.Prelude.{◌≡◌, ◌⊎◌, ℕ, ◌+◌, List, [], ◌∷◌, map, take, slice_get, Some, None}
 use Rattle.fm_records.specs.declared.refusal.Refusal.{Refusal}
 use Rattle.fm_records.specs.declared.refusal.Refusal.TheVariants.{OutOfMemory}
-use Rattle.fm_records.specs.Table.{Table}
 use Rattle.fm_records.specs.Know.{know}
-use Rattle.fm_net.specs.Network.{net_of}
-use Rattle.fm_flow.specs.Flows.{Units, IsLeast}
 use Rattle.fm_round.specs.declared.parts.Plan.{Plan}
-use Rattle.fm_round.specs.Planned.{units_over, planned}
+use Rattle.fm_round.specs.Schedules.{IsPlanOf}
 use Rattle.fm_coord.specs.Events.{Replica}
 use Rattle.fm_world.specs.declared.step.Act.{Act as WorldAct}
 use Rattle.fm_world.specs.declared.step.Act.TheVariants as world
@@ -40,12 +37,6 @@ asked act.Round = world.View
 -- a step of the world at the coordinator with the number
 abbrev pub step_at : ℕ → WorldAct → WorldStep
 step_at at act = record { at = at; by = 0; act = act }
-
--- the plan of a least flow of the network of what is known
-pub record IsPlanOf (k : Table) (plan : Plan) : Type 0 where
-  pub units : Units
-  pub least : IsLeast (net_of k) units
-  pub planned : plan ≡ planned (units_over (net_of k) units) k
 
 -- such a plan for the coordinator with the number, by what it took in
 pub record IsPlanAt (w : WorldOfSets) (at : ℕ) (plan : Plan) : Type 0 where

@@ -19,10 +19,10 @@ use fm_dimacs::out::Out;
 use fm_dimacs::solution::write_solution;
 use fm_flow::solve::solve;
 use fm_input::script::Script;
+use fm_edit::keepers::Keeper;
 use fm_know::knowledge::Knowledge;
 use fm_know::laws::law_can_be;
 use fm_policy::build::build;
-use fm_policy::rebuilder::Rebuilder;
 use fm_records::ids::CoordId;
 use fm_records::refusal::Refusal;
 use fm_world::world::World;
@@ -60,7 +60,7 @@ pub fn winners<W: Out>(
 // Writes who won by what the coordinator knows.
 fn put_winners<W: Out>(
     alloc: Global,
-    world: &World<Rebuilder>,
+    world: &World<Keeper>,
     at: CoordId,
     out: &mut W,
 ) -> Result<(), Refusal>
@@ -93,7 +93,7 @@ pub fn solution<W: Out>(
 // Writes a least flow of the network of what the coordinator knows.
 fn put_solution<W: Out>(
     alloc: Global,
-    world: &World<Rebuilder>,
+    world: &World<Keeper>,
     at: CoordId,
     out: &mut W,
 ) -> Result<(), Refusal>
@@ -145,7 +145,7 @@ pub fn packet<W: Out>(alloc: Global, script: &Script, name: &str, out: &mut W) -
 // Writes the packet that was cut as the one with the number.
 fn put_packet<W: Out>(
     alloc: Global,
-    world: &World<Rebuilder>,
+    world: &World<Keeper>,
     number: Option<usize>,
     out: &mut W,
 ) -> Result<(), Refusal>

@@ -1,17 +1,22 @@
 //! Running a script's steps on a world of its coordinators.
 
-ghost use Rattle.std.specs.Prelude.{◌≡◌, ℕ, IfOk, IfErr, OnOk};
+ghost use Rattle.std.specs.Prelude.{◌≡◌, ℕ, [], IsTrue, IfOk, IfErr, OnOk};
+ghost use Rattle.fm_records.specs.Know.{know};
+ghost use Rattle.fm_edit.specs.Keepers.{is_fresh_keeper, KeeperIsFor};
 ghost use Rattle.fm_net.specs.Network.{net_of};
 ghost use Rattle.fm_world.specs.declared.step.Act.TheVariants as world_act;
 ghost use Rattle.fm_coord.specs.Numbers.{AreDistinct};
 ghost use Rattle.fm_world.specs.Worlds.{WorldOfSets, refusal_of};
 ghost use Rattle.fm_world.specs.Stands.{WorldStandsFor};
 ghost use Rattle.fm_input.specs.declared.script.Act.TheVariants as script_act;
-ghost use Rattle.fm_cli.specs.Running.{opened, step_at, IsPlanOf, Takes, Acts, Come, Refuses, StopsIn, Stops, IsRun};
+ghost use Rattle.fm_round.specs.Schedules.{IsPlanOf};
+ghost use Rattle.fm_cli.specs.Running.{opened, step_at, Takes, Acts, Come, Refuses, StopsIn, Stops, IsRun};
 
 use crate::fault::Fault;
 use fm_coord::coordinator::Coordinator;
 use fm_coord::view::View;
+use fm_edit::editor::Editor;
+use fm_edit::keepers::Keeper;
 use fm_flow::solve::solve;
 use fm_input::script::{Act, Script, Step};
 use fm_know::laws::law_can_be;
@@ -31,7 +36,7 @@ pub const HISTORY_LIMIT: usize = 1_000_000;
 /// The world that the script's steps come to. A step that is refused is named: by NoCoordinator where its coordinator is not
 /// listed, by NoPacket where no packet of the name was cut, else as the coordinator's call, and a round also where memory is
 /// wanted for its plan. Else only memory is wanted. The caller owes that no two coordinators have one number.
-pub fn run(alloc: Global, script: &Script) -> Result<World<Rebuilder>, Fault>
+pub fn run(alloc: Global, script: &Script) -> Result<World<Keeper>, Fault>
     requires { AreDistinct script.now.coordinators.items }
     ensures ok { IfOk result (λ world. IsRun script.now.coordinators.items script.now.steps.items world) }
     ensures err { IfErr result (λ fault. Stops script.now.coordinators.items script.now.steps.items fault) }
@@ -42,20 +47,32 @@ pub fn run(alloc: Global, script: &Script) -> Result<World<Rebuilder>, Fault>
 }
 
 // The world in which a script begins.
-fn open(alloc: Global, listed: &[CoordId]) -> Result<World<Rebuilder>, OutOfMemory>
+fn open(alloc: Global, listed: &[CoordId]) -> Result<World<Keeper>, OutOfMemory>
     requires { AreDistinct listed.now }
     ensures { IfOk result (λ world. WorldStandsFor world (opened listed.now)) }
 {
     let mut coordinators = Vec::with_capacity(alloc, listed.len())?;
     for number in listed {
-        let keeper = Rebuilder::new(alloc)?;
+        let keeper = keeper_at(alloc, coordinators.len())?;
         coordinators.push(Coordinator::new(alloc, *number, HISTORY_LIMIT, keeper))?;
     }
     Ok(World::new(coordinators))
 }
 
+// The keeper of the coordinator that is listed at the place, counted from 0: the first, the third and so on edit their
+// networks, the others build them anew.
+fn keeper_at(alloc: Global, place: usize) -> Result<Keeper, OutOfMemory>
+    ensures { IfOk result (λ keeper. IsTrue (is_fresh_keeper keeper) → KeeperIsFor keeper (know [])) }
+{
+    if place % 2 == 0 {
+        Ok(Keeper::Edits(Editor::new(alloc)?))
+    } else {
+        Ok(Keeper::Builds(Rebuilder::new(alloc)?))
+    }
+}
+
 // Takes the steps in order, up to the first that is refused.
-fn take_all(alloc: Global, world: &mut World<Rebuilder>, steps: &[Step]) -> Result<(), Fault>
+fn take_all(alloc: Global, world: &mut World<Keeper>, steps: &[Step]) -> Result<(), Fault>
     ensures ok { (w : WorldOfSets) → WorldStandsFor world.old w → OnOk result ((v : WorldOfSets) × Come w steps.now v × WorldStandsFor world.new v) }
     ensures err { (w : WorldOfSets) → WorldStandsFor world.old w → IfErr result (λ fault. StopsIn w steps.now fault) }
 {
@@ -71,7 +88,7 @@ fn take_all(alloc: Global, world: &mut World<Rebuilder>, steps: &[Step]) -> Resu
 }
 
 // What happens in a step.
-fn take(alloc: Global, world: &mut World<Rebuilder>, at: u8, act: Act) -> Result<(), Refusal>
+fn take(alloc: Global, world: &mut World<Keeper>, at: u8, act: Act) -> Result<(), Refusal>
     ensures ok { (w : WorldOfSets) → WorldStandsFor world.old w → OnOk result ((v : WorldOfSets) × Acts w at act v × WorldStandsFor world.new v) }
     ensures err { (w : WorldOfSets) → WorldStandsFor world.old w → IfErr result (λ refusal. Refuses w at act refusal) }
 {
@@ -85,7 +102,7 @@ fn take(alloc: Global, world: &mut World<Rebuilder>, at: u8, act: Act) -> Result
 }
 
 // One step of the world.
-fn ask(world: &mut World<Rebuilder>, at: u8, act: WorldAct) -> Result<(), Refusal>
+fn ask(world: &mut World<Keeper>, at: u8, act: WorldAct) -> Result<(), Refusal>
     ensures ok { (w : WorldOfSets) → WorldStandsFor world.old w → OnOk result ((v : WorldOfSets) × Takes w (step_at at act) v × WorldStandsFor world.new v) }
     ensures err { (w : WorldOfSets) → WorldStandsFor world.old w → IfErr result (λ refusal. refusal ≡ refusal_of w (step_at at act)) }
 {
@@ -96,7 +113,7 @@ fn ask(world: &mut World<Rebuilder>, at: u8, act: WorldAct) -> Result<(), Refusa
 }
 
 // A round: what the coordinator sees is planned for, and the plan is committed.
-fn round(alloc: Global, world: &mut World<Rebuilder>, at: u8) -> Result<(), Refusal>
+fn round(alloc: Global, world: &mut World<Keeper>, at: u8) -> Result<(), Refusal>
     ensures ok { (w : WorldOfSets) → WorldStandsFor world.old w → OnOk result ((v : WorldOfSets) × Acts w at script_act.Round v × WorldStandsFor world.new v) }
     ensures err { (w : WorldOfSets) → WorldStandsFor world.old w → IfErr result (λ refusal. Refuses w at script_act.Round refusal) }
 {
