@@ -1,1 +1,10 @@
+pub mod Apart
+pub mod Completed
+pub mod Covered
+pub mod Edited
 mod Examples
+pub mod Followed
+pub mod Ranges
+pub mod ShownLaws
+pub mod Sums
+pub mod Values

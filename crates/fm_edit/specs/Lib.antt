@@ -1,5 +1,15 @@
+pub mod Completing
 pub mod Dirty
-pub mod KeptLaws
+pub mod Editing
+pub mod Index
 pub mod LocalLaws
+pub mod Keepers
+pub mod Listed
+pub mod Listing
 pub mod Looking
 pub mod LookLaws
+pub mod Memory
+pub mod Seeing
+pub mod Shown
+pub mod Sight
+pub mod Touched

@@ -29,7 +29,7 @@ use Rattle.fm_net.specs.declared.node.Node.TheVariants.{Sink, Unscheduled, Reque
 use Rattle.fm_net.specs.ListLaws.{entry_member, member_before, member_behind, member_mapped, has_member}
 use Rattle.fm_net.specs.Network.{is_held, is_live_of, waits_for, some_task, live_tasks, is_node, places, place_arc, arc_of}
 use Rattle.fm_policy.specs.Changes.{Keys, changed_tasks, changed_keys}
-use Rattle.fm_edit.specs.KeptLaws.{lookup_kept, rising_kept}
+use Rattle.fm_net.specs.KeptLists.{lookup_kept, rising_kept}
 use Rattle.fm_edit.specs.Dirty.{SameBeyond, has_id, job_of_task, request_of_task, won_machine, dirty_task, IsDirtyJob, IsDirtyMachine, IsDirtyRequest, MayTurn, MayDiffer}
 
 -- What a delta does not name, it does not change.

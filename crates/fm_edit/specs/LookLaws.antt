@@ -1,5 +1,5 @@
 -- What a delta calls to be looked up is dirty.
-use Rattle.std.specs.Prelude.{◌≡◌, ℕ, true, ◌||◌, List, [], ◌∷◌, ◌++◌, map, flat_map, refl}
+use Rattle.std.specs.Prelude.{◌≡◌, ℕ, true, ◌||◌, List, [], ◌∷◌, ◌++◌, map, refl}
 use Rattle.std.specs.Ordering.{nat_cmp}
 use Rattle.std.specs.Cmp.{nat_cmp_total}
 use Rattle.std.proofs.Common.{ap, inl, inr, subst}
@@ -7,12 +7,13 @@ use Rattle.fm_lattice.specs.Chains.{nat_same}
 use Rattle.fm_records.specs.Options.{passes}
 use Rattle.fm_records.specs.Sets.{IsMember}
 use Rattle.fm_records.specs.Table.{Table}
+use Rattle.fm_records.specs.Facts.{attempt_of}
 use Rattle.fm_net.specs.ListLaws.{has_member}
 use Rattle.fm_policy.specs.Changes.{Keys}
 use Rattle.fm_edit.specs.declared.look.Key.{Key}
-use Rattle.fm_edit.specs.declared.look.Key.TheVariants.{Job, Machine}
+use Rattle.fm_edit.specs.declared.look.Key.TheVariants.{Job, Task, Machine, Winner}
 use Rattle.fm_edit.specs.Dirty.{has_id, job_of_task, won_machine, dirty_task}
-use Rattle.fm_edit.specs.Looking.{looks_of_task, looks_of, IsDirtyKey}
+use Rattle.fm_edit.specs.Looking.{looks_of, IsDirtyKey}
 
 -- a fact of each of the first and of each of the second is one of each of both
 each_of_both : {Y : Type 0} (P : Y → Type 0) (xs ys : List Y) → ((y : Y) → IsMember y xs → P y) → ((y : Y) → IsMember y ys → P y) → (y : Y) → IsMember y (xs ++ ys) → P y
@@ -23,10 +24,6 @@ module _ {X Y : Type 0} (P : Y → Type 0) where
   each_mapped : (f : X → Y) (xs : List X) → ((x : X) → IsMember x xs → P (f x)) → (y : Y) → IsMember y (map f xs) → P y
   each_mapped f [] p y h = absurd h
   each_mapped f (x ∷ xs) p y h = elim h [ inl is ↦ subst P is (p x (inl refl)) | inr later ↦ each_mapped f xs (λ z g. p z (inr g)) y later ]
-
-  each_listed : (f : X → List Y) (xs : List X) → ((x : X) → IsMember x xs → (y : Y) → IsMember y (f x) → P y) → (y : Y) → IsMember y (flat_map f xs) → P y
-  each_listed f [] p y h = absurd h
-  each_listed f (x ∷ xs) p y h = each_of_both P (f x) (flat_map f xs) (p x (inl refl)) (each_listed f xs (λ z g. p z (inr g))) y h
 
 module _ (k after : Table) (keys : Keys) (turned : List ℕ) where
   told : (keys : List ℕ) (q : ℕ) → IsMember q keys → has_id keys q ≡ true
@@ -39,12 +36,10 @@ module _ (k after : Table) (keys : Keys) (turned : List ℕ) where
 
   pub looks_are_dirty : (x : Key) → IsMember x (looks_of after keys) → IsDirtyKey k after keys turned x
   looks_are_dirty =
-      each_of_both (IsDirtyKey k after keys turned) (map Job keys.jobs) _
-      (each_mapped (IsDirtyKey k after keys turned) Job keys.jobs (λ j h. inl (told keys.jobs j h)))
-      (each_of_both (IsDirtyKey k after keys turned) (map Machine keys.machines) _
+      each_of_both (IsDirtyKey k after keys turned) (map Machine keys.machines) _
       (each_mapped (IsDirtyKey k after keys turned) Machine keys.machines (λ m h. inl (told keys.machines m h)))
-      (each_listed (IsDirtyKey k after keys turned) (looks_of_task after) keys.tasks
-      (λ t h x g. elim g [
-        | inl is ↦ subst (IsDirtyKey k after keys turned) is (told_is_dirty t h)
-        | inr later ↦ elim later [ inl is ↦ subst (IsDirtyKey k after keys turned) is (told_is_dirty t h) | inr none ↦ absurd none ]
-      ])))
+      (each_of_both (IsDirtyKey k after keys turned) (map Job keys.jobs) _
+      (each_mapped (IsDirtyKey k after keys turned) Job keys.jobs (λ j h. inl (told keys.jobs j h)))
+      (each_of_both (IsDirtyKey k after keys turned) (map Task keys.tasks) _
+      (each_mapped (IsDirtyKey k after keys turned) Task keys.tasks told_is_dirty)
+      (each_mapped (IsDirtyKey k after keys turned) (λ t. Winner t (attempt_of after t)) keys.tasks told_is_dirty)))

@@ -1,5 +1,5 @@
 -- What is looked into, the keys that are looked up, and which keys a delta calls for. Own.
-use Rattle.std.specs.Prelude.{ℕ, List, [], ◌∷◌, ◌++◌, map, flat_map, IsTrue}
+use Rattle.std.specs.Prelude.{ℕ, List, ◌++◌, map, IsTrue}
 use Rattle.fm_records.specs.Table.{Table}
 use Rattle.fm_records.specs.Facts.{attempt_of}
 use Rattle.fm_policy.specs.Changes.{Keys}
@@ -12,13 +12,14 @@ pub record Looked : Type 0 where
   pub table : Table
   pub keys : List Key
 
--- a task's record, and the winner of its present attempt
-abbrev pub looks_of_task : Table → ℕ → List Key
-looks_of_task k t = Task t ∷ Winner t (attempt_of k t) ∷ []
-
--- the records that a delta with these keys tells of, looked up in the table after it
+-- the records that a delta with these keys tells of, and the winners of the present attempts of its tasks, looked up in the
+-- table after it
 abbrev pub looks_of : Table → Keys → List Key
-looks_of after keys = map Job keys.jobs ++ (map Machine keys.machines ++ flat_map (looks_of_task after) keys.tasks)
+looks_of after keys =
+    map Machine keys.machines
+    ++ (map Job keys.jobs
+    ++ (map Task keys.tasks
+    ++ map (λ t. Winner t (attempt_of after t)) keys.tasks))
 
 -- the key is of a job, task, machine or winner of a task that the delta can have changed
 abbrev pub IsDirtyKey : Table → Table → Keys → List ℕ → Key → Type 0

@@ -1,7 +1,18 @@
 //! Networks edited instead of rebuilt: what a delta can change, and records looked up one by one.
 #![tactic(auto)]
 
+mod completing;
+mod dirty;
+pub mod editor;
+mod index;
+pub mod keepers;
 pub mod laws;
+mod listing;
 pub mod look;
+mod memory;
+mod seeing;
+mod seen;
+mod shown;
 #[cfg(test)]
 mod tests;
+mod touched;

@@ -1,0 +1,86 @@
+-- The steps by which pairs are touched, put together.
+use Rattle.std.proofs.Common.{◌≡◌, ◌∙◌, ℕ, Bool, true, false, cond, List, [], ◌∷◌, Option, Some, None, refl, sym, ap}
+use Rattle.std.specs.Prelude.{◌&&◌, ◌||◌, ◌==◌, not, filter, map, is_some, unwrap_or}
+use Rattle.std.specs.Ordering.{nat_cmp, is_eq, is_le}
+use Rattle.std.specs.Cmp.{Equal-is, nat_cmp_total}
+use Rattle.std.specs.declared.ops.Bound.TheVariants.{Included, Excluded}
+use Rattle.std.specs.BTreeMap.{get}
+use Rattle.std.specs.BTreeMap.Range.{range_contains}
+use Rattle.fm_lattice.specs.Chains.{by_cases, greater_less}
+use Rattle.fm_lattice.specs.Maps.{lookup}
+use Rattle.fm_net.specs.declared.node.Node.{Node}
+use Rattle.fm_net.specs.declared.node.Node.TheVariants.{Sink, Request, Machine}
+use Rattle.fm_net.specs.Nodes.{node_cmp}
+use Rattle.fm_net.specs.NodeOrder.{node_exact, node_total}
+use Rattle.fm_net.specs.Net.{Net, has_node}
+use Rattle.fm_net.specs.KeptLists.{has_kept}
+use Rattle.fm_net.specs.Touched.{is_among}
+use Rattle.fm_edit.specs.declared.index.Index.{Index}
+use Rattle.fm_edit.specs.declared.touched.Touched.{Touched}
+use Rattle.fm_edit.specs.Sight.{Sight}
+use Rattle.fm_edit.specs.Index.{sum_in}
+use Rattle.fm_edit.specs.Shown.{node_shown}
+use Rattle.fm_edit.specs.Touched.{has_touched, has_pair, Grows}
+use Rattle.fm_edit.specs.Completing.{Completes, is_request, is_machine, leads_to_sink, waiting_in}
+use Rattle.fm_edit.proofs.Ranges.{less_said, below_zero}
+
+pub grows_then : (x y z : Touched) → Grows x y → Grows y z → Grows x z
+grows_then x y z p q = record { nodes = λ n h. q.nodes n (p.nodes n h); pairs = λ a b h. q.pairs a b (p.pairs a b h) }
+
+or_right : (a b : Bool) → b ≡ true → (a || b) ≡ true
+or_right true b h = refl
+or_right false b h = h
+
+pub both_ways : {P : Type 0} (b : Bool) → b ≡ true → b ≡ false → P
+both_ways true e f = absurd (let no : ⊥ = cc in no)
+both_ways false e f = absurd (let no : ⊥ = cc in no)
+
+in_requests : (q : ℕ) → range_contains node_cmp (Included (Request 0)) (Excluded (Machine 0)) (Request q) ≡ true
+in_requests q = ap (λ b. b && true) (by_cases (nat_cmp 0 q) (λ o. nat_cmp 0 q ≡ o → is_le o ≡ true) (λ _ _. refl) (λ _ _. refl) (λ _ e. absurd (below_zero q (less_said q 0 (greater_less nat_cmp nat_cmp_total 0 q e)))) refl)
+
+module _ {V : Type 0} (q : ℕ) where
+  abbrev kept : Node × V → Bool
+  kept e = range_contains node_cmp (Included (Request 0)) (Excluded (Machine 0)) e.0
+
+  among_kept : (es : List (Node × V)) → is_some (lookup node_cmp (Request q) es) ≡ true → is_among node_cmp (map (λ e. e.0) (filter kept es)) (Request q) ≡ true
+  among_kept [] h = absurd (let no : ⊥ = cc in no)
+  among_kept (e ∷ es) h =
+      let rest = among_kept es in
+      elim (is_eq (node_cmp (Request q) e.0)) as (λ b. is_eq (node_cmp (Request q) e.0) ≡ b → is_some (cond b (Some e.1) (lookup node_cmp (Request q) es)) ≡ true → is_among node_cmp (map (λ e. e.0) (filter kept (e ∷ es))) (Request q) ≡ true) [
+        | true ↦ λ t _.
+            let is : Request q ≡ e.0 = node_exact (Request q) e.0 ((Equal-is (node_cmp (Request q) e.0)).0 t) in
+            let here : kept e ≡ true = ap (λ n. range_contains node_cmp (Included (Request 0)) (Excluded (Machine 0)) n) (sym is) ∙ in_requests q in
+            ap (λ b. is_among node_cmp (map (λ (e : Node × V). e.0) (cond b (e ∷ filter kept es) (filter kept es))) (Request q)) here ∙ ap (λ b. b || is_among node_cmp (map (λ (e : Node × V). e.0) (filter kept es)) (Request q)) t
+        | false ↦ λ _ g. elim (kept e) as (λ b. is_among node_cmp (map (λ (e : Node × V). e.0) (cond b (e ∷ filter kept es) (filter kept es))) (Request q) ≡ true) [
+          | true ↦ or_right (is_eq (node_cmp (Request q) e.0)) _ (rest g)
+          | false ↦ rest g
+        ]
+      ] refl h
+
+some_there : (o : Option ℕ) → not (unwrap_or o 0 == 0) ≡ true → is_some o ≡ true
+some_there None h = h
+some_there (Some v) h = refl
+
+waits_among : (x : Index) (q : ℕ) → not (sum_in x (Request q) == 0) ≡ true → is_among node_cmp (waiting_in x) (Request q) ≡ true
+waits_among x q h = among_kept q x.sums.entries (some_there (get node_cmp x.sums (Request q)) h)
+
+module _ (s : Sight) (index : Index) (net : Net) (x0 x1 x2 x3 x4 : Touched) (n1 n2 n3 n4 rs ws : List Node) where
+  pub completes : n1 ≡ x0.nodes.keys → n2 ≡ x0.nodes.keys → n3 ≡ x0.nodes.keys → n4 ≡ x0.nodes.keys → rs ≡ filter is_request x0.nodes.keys → ws ≡ waiting_in index
+      → Grows x0 x1 → Grows x1 x2 → Grows x2 x3 → Grows x3 x4
+      → x1.nodes ≡ x0.nodes → x2.nodes ≡ x1.nodes → x3.nodes ≡ x2.nodes → x4.nodes ≡ x3.nodes
+      → ((n : Node) → is_among node_cmp n1 n ≡ true → leads_to_sink n ≡ true → has_pair x1 n Sink ≡ true)
+      → ((n : Node) → is_among node_cmp n2 n ≡ true → is_machine n ≡ true → (r : Node) → is_among node_cmp rs r ≡ true → has_pair x2 r n ≡ true)
+      → ((n : Node) → is_among node_cmp n3 n ≡ true → is_machine n ≡ true → (r : Node) → is_among node_cmp ws r ≡ true → has_pair x3 r n ≡ true)
+      → ((n : Node) → is_among node_cmp n4 n ≡ true → is_request n ≡ true → (has_node net n ≡ node_shown s (sum_in index) n → ⊥) → (m : ℕ) → is_some (s.machine m) ≡ true → has_pair x4 n (Machine m) ≡ true)
+      → Completes s (sum_in index) net x0 x4
+  completes e1 e2 e3 e4 r_is w_is g1 g2 g3 g4 s1 s2 s3 s4 sinks places waits turns =
+      let among : (ns : List Node) → ns ≡ x0.nodes.keys → (n : Node) → has_touched x0 n ≡ true → is_among node_cmp ns n ≡ true = λ ns e n h. ap (λ ks. is_among node_cmp ks n) e ∙ h in
+      record {
+        nodes = s4 ∙ s3 ∙ s2 ∙ s1;
+        grows = grows_then x0 x1 x4 g1 (grows_then x1 x2 x4 g2 (grows_then x2 x3 x4 g3 g4));
+        sinks = λ n h l. g4.pairs n Sink (g3.pairs n Sink (g2.pairs n Sink (sinks n (among n1 e1 n h) l)));
+        touched_places = λ q m hq hm. g4.pairs (Request q) (Machine m) (g3.pairs (Request q) (Machine m) (places (Machine m) (among n2 e2 (Machine m) hm) refl (Request q)
+            (ap (λ ks. is_among node_cmp ks (Request q)) r_is ∙ has_kept node_cmp node_total node_exact is_request (Request q) x0.nodes.keys ∙ hq)));
+        waiting_places = λ q m w hm. g4.pairs (Request q) (Machine m) (waits (Machine m) (among n3 e3 (Machine m) hm) refl (Request q) (ap (λ ks. is_among node_cmp ks (Request q)) w_is ∙ waits_among index q w));
+        turned_places = λ q m hq apart there. turns (Request q) (among n4 e4 (Request q) hq) refl apart m there;
+      }

@@ -1,0 +1,19 @@
+use Rattle.std.proofs.Common.{◌∙◌, ap}
+use Rattle.std.specs.Prelude.{filter}
+use Rattle.fm_edit.specs.Sight.{seen_in}
+use Rattle.fm_edit.specs.Completing.{is_request}
+use Rattle.fm_edit.proofs.Completed.{completes}
+use Rattle.fm_edit.proofs.completing.touch_pairs.Goals as goal
+
+pub returns : goal.returns
+returns c =
+    let nodes = c.in_ok-nodes.ensures in
+    completes (seen_in c.args.seen.now) c.args.index.now c.args.network.now
+    c.args.touched.now c.touch_sinks.new.touched c.touch_machines.new.touched c.touch_machines-2.new.touched c.touch_requests.new.touched
+    c.as_slice-2.result.now c.as_slice-3.result.now c.as_slice-5.result.now c.as_slice-7.result.now c.as_slice-4.result.now c.as_slice-6.result.now
+    (c.as_slice-2.ensures.value ∙ nodes) (c.as_slice-3.ensures.value ∙ nodes) (c.as_slice-5.ensures.value ∙ nodes) (c.as_slice-7.ensures.value ∙ nodes)
+    (c.as_slice-4.ensures.value ∙ c.in_ok-requests.ensures ∙ ap (filter is_request) (c.as_slice.ensures.value ∙ nodes))
+    (c.as_slice-6.ensures.value ∙ c.in_ok-waiting.ensures)
+    c.in_ok-touch_sinks.ensures.grows c.in_ok-touch_machines.ensures.grows c.in_ok-touch_machines-2.ensures.grows c.in_ok-touch_requests.ensures.grows
+    c.in_ok-touch_sinks.ensures.same c.in_ok-touch_machines.ensures.same c.in_ok-touch_machines-2.ensures.same c.in_ok-touch_requests.ensures.same
+    c.in_ok-touch_sinks.ensures.has c.in_ok-touch_machines.ensures.has c.in_ok-touch_machines-2.ensures.has c.in_ok-touch_requests.ensures.has

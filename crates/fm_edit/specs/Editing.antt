@@ -1,0 +1,12 @@
+-- What an Editor is: fresh or stale, and for which table. Own.
+use Rattle.std.specs.Prelude.{Bool}
+use Rattle.fm_records.specs.Table.{Table}
+use Rattle.fm_edit.specs.declared.editor.Editor.{Editor}
+use Rattle.fm_edit.specs.Memory.{IsAt}
+
+abbrev pub is_fresh_editor : Editor → Bool
+is_fresh_editor e = e.fresh
+
+-- it holds the network of the table, and remembers the table
+abbrev pub IsFor : Editor → Table → Type 0
+IsFor e k = IsAt e.memory e.network k

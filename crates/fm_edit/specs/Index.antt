@@ -1,0 +1,46 @@
+-- Where tasks are listed, and where they count for how much. Own.
+use Rattle.std.specs.Prelude.{ℕ, Bool, false, cond, not, ◌==◌, ◌&&◌, Option, true, unwrap_or}
+use Rattle.std.specs.BTreeMap.{get}
+use Rattle.std.specs.List.{list_any}
+use Rattle.std.specs.Ordering.{nat_cmp, is_eq, on, then_cmp}
+use Rattle.std.specs.declared.cmp.Ordering.{Ordering}
+use Rattle.fm_records.specs.declared.records.SpecReg.{SpecReg}
+use Rattle.fm_records.specs.Options.{passes}
+use Rattle.fm_records.specs.Facts.{request_of}
+use Rattle.fm_net.specs.declared.node.Node.{Node}
+use Rattle.fm_net.specs.declared.node.Node.TheVariants.{Unscheduled, Request, Machine}
+use Rattle.fm_net.specs.Nodes.{node_cmp}
+use Rattle.fm_edit.specs.declared.index.Index.{Index}
+use Rattle.fm_edit.specs.Sight.{Sight, spec_in, live_in, holder_in}
+
+-- a task is listed at the job that its spec names, and at the machine that the winner of its present attempt names
+abbrev pub is_listed : Sight → Node → ℕ → Bool
+is_listed s (Unscheduled j) t = passes (λ r. r.job == j) (spec_in s t)
+is_listed s (Machine m) t = passes (λ p. p.machine == m) (s.spot t)
+is_listed s _ t = false
+
+-- a task counts at its job while it is live, at its request while it waits, and at the machine that holds it
+abbrev pub counts_at : Sight → Node → ℕ → Bool
+counts_at s (Unscheduled j) t = passes (λ r. r.job == j) (live_in s t)
+counts_at s (Request q) t = passes (λ r. r.request == q) (live_in s t) && not (passes (λ m. true) (holder_in s t))
+counts_at s (Machine m) t = passes (λ h. h == m) (holder_in s t)
+counts_at s _ t = false
+
+-- at a machine for its request, elsewhere for one
+abbrev pub weight_at : Node → Option SpecReg → ℕ
+weight_at (Machine m) spec = request_of spec
+weight_at _ spec = 1
+
+abbrev pub amount_at : Sight → Node → ℕ → ℕ
+amount_at s n t = cond (counts_at s n t) (weight_at n (spec_in s t)) 0
+
+-- the order of the pairs in the list of tasks by node
+abbrev pub listed_cmp : Node × ℕ → Node × ℕ → Ordering
+listed_cmp = then_cmp (on (λ p. p.0) node_cmp) (on (λ p. p.1) nat_cmp)
+
+-- what an index says of a task at a node, and of a node
+abbrev pub lists : Index → Node → ℕ → Bool
+lists x n t = list_any (λ p. is_eq (listed_cmp (n, t) p)) x.listed.keys
+
+abbrev pub sum_in : Index → Node → ℕ
+sum_in x n = unwrap_or (get node_cmp x.sums n) 0

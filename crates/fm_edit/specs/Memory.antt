@@ -1,0 +1,38 @@
+-- What an Editor remembers of a table: a line for each index, which function of the table it is. Own.
+use Rattle.std.specs.Prelude.{◌≡◌, ℕ, Bool, false, not, ◌&&◌, ◌||◌, filter, sum_by}
+use Rattle.std.specs.Ordering.{nat_cmp, is_eq}
+use Rattle.fm_records.specs.Table.{Table}
+use Rattle.fm_net.specs.declared.node.Node.{Node}
+use Rattle.fm_edit.specs.declared.index.Index.{Index}
+use Rattle.fm_edit.specs.declared.memory.Memory.{Memory}
+use Rattle.fm_net.specs.Net.{Net}
+use Rattle.fm_net.specs.Network.{net_of}
+use Rattle.fm_edit.specs.Sight.{sight_of, seen_in}
+use Rattle.fm_edit.specs.Index.{is_listed, counts_at, weight_at, lists, sum_in}
+
+-- what the tasks that are not out add up to at a node
+abbrev pub sum_over : (ℕ → Bool) → Table → Node → ℕ
+sum_over out k n = sum_by (λ e. weight_at n e.1.0) (filter (λ e. counts_at (sight_of k) n e.0 && not (out e.0)) k.tasks)
+
+-- no task is out, and one more is
+abbrev pub none_out : ℕ → Bool
+none_out t = false
+
+abbrev pub also_out : ℕ → (ℕ → Bool) → ℕ → Bool
+also_out t out q = is_eq (nat_cmp q t) || out q
+
+-- the tasks that are not out are listed where they are to be, and count
+pub record Counts (out : ℕ → Bool) (k : Table) (x : Index) : Type 0 where
+  pub listed : (n : Node) (t : ℕ) → lists x n t ≡ (is_listed (sight_of k) n t && not (out t))
+  pub sums : (n : Node) → sum_in x n ≡ sum_over out k n
+
+-- A memory is of a table where its records are those of the table, with the spots that the winners of the present attempts name,
+-- and where all tasks of the table are listed and count.
+pub record Remembers (k : Table) (m : Memory) : Type 0 where
+  pub sees : seen_in m.seen ≡ sight_of k
+  pub counts : Counts none_out k m.index
+
+-- the memory is of the table, and the network is the table's
+pub record IsAt (m : Memory) (net : Net) (k : Table) : Type 0 where
+  pub network : net ≡ net_of k
+  pub remembers : Remembers k m

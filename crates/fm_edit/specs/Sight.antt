@@ -1,0 +1,72 @@
+-- What an Editor has in sight of a table: its records, and of each task the spot that the winner of its present attempt names.
+-- The facts on these are those of the table. Own.
+use Rattle.std.specs.Prelude.{ℕ, Bool, true, cond, not, ◌==◌, ◌&&◌, Option, None, option_map}
+use Rattle.std.specs.Ordering.{nat_cmp}
+use Rattle.std.specs.BTreeMap.{get}
+use Rattle.fm_lattice.specs.Maps.{lookup}
+use Rattle.fm_records.specs.declared.records.JobReg.{JobReg}
+use Rattle.fm_records.specs.declared.records.SpecReg.{SpecReg}
+use Rattle.fm_records.specs.declared.records.Progress.{Progress}
+use Rattle.fm_records.specs.declared.records.MachineReg.{MachineReg}
+use Rattle.fm_records.specs.declared.records.Spot.{Spot}
+use Rattle.fm_records.specs.Options.{and_then, only_if, passes, or_else}
+use Rattle.fm_records.specs.Know.{none_begun}
+use Rattle.fm_records.specs.Table.{Table, TaskValue, MachineValue}
+use Rattle.fm_records.specs.Facts.{job_of, won_spot, is_done}
+use Rattle.fm_net.specs.declared.node.Node.{Node}
+use Rattle.fm_net.specs.declared.node.Node.TheVariants.{Unscheduled, Request, Machine}
+use Rattle.fm_edit.specs.declared.seen.Seen.{Seen}
+
+pub record Sight : Type 0 where
+  pub job : ℕ → Option JobReg
+  pub task : ℕ → Option TaskValue
+  pub machine : ℕ → Option MachineValue
+  pub spot : ℕ → Option Spot
+
+-- what there is to see of a table
+abbrev pub sight_of : Table → Sight
+sight_of k = record { job = job_of k; task = λ t. lookup nat_cmp t k.tasks; machine = λ m. lookup nat_cmp m k.machines; spot = won_spot k }
+
+-- what was seen
+abbrev pub seen_in : Seen → Sight
+seen_in s = record { job = get nat_cmp s.jobs; task = get nat_cmp s.tasks; machine = get nat_cmp s.machines; spot = get nat_cmp s.spots }
+
+abbrev pub spec_in : Sight → ℕ → Option SpecReg
+spec_in s t = and_then (λ v. v.0) (s.task t)
+
+-- the nodes of the job that a task's spec names, and of the machine that the winner of its present attempt names
+abbrev pub job_node_in : Sight → ℕ → Option Node
+job_node_in s t = option_map (λ r. Unscheduled r.job) (spec_in s t)
+
+abbrev pub spot_node_in : Sight → ℕ → Option Node
+spot_node_in s t = option_map (λ p. Machine p.machine) (s.spot t)
+
+abbrev pub progress_in : Sight → ℕ → Progress
+progress_in s t = or_else none_begun (option_map (λ v. v.1) (s.task t))
+
+-- the spec of a live task
+abbrev pub live_in : Sight → ℕ → Option SpecReg
+live_in s t = only_if (λ r. not r.withdrawn && passes (λ j. not j.withdrawn) (s.job r.job) && not (is_done (progress_in s t).phase)) (spec_in s t)
+
+-- the state of an open machine
+abbrev pub open_in : Sight → ℕ → Option MachineReg
+open_in s m = only_if (λ r. r.up) (and_then (λ v. v.1.0) (s.machine m))
+
+-- the machine at the spot is open and at its present incarnation
+abbrev pub present_in : Sight → Spot → Bool
+present_in s p = passes (λ r. true) (open_in s p.machine) && passes (λ i. i == p.incarnation) (option_map (λ v. v.0) (s.machine p.machine))
+
+-- the machine that holds a live task
+abbrev pub holder_in : Sight → ℕ → Option ℕ
+holder_in s t = cond (passes (λ r. true) (live_in s t)) (option_map (λ p. p.machine) (only_if (present_in s) (s.spot t))) None
+
+-- the reported use
+abbrev pub used_in : Sight → ℕ → ℕ
+used_in s m = or_else 0 (option_map (λ r. r.used) (and_then (λ v. v.1.1) (s.machine m)))
+
+-- the nodes of the request of a task's spec, and of the machine that holds it
+abbrev pub request_node_in : Sight → ℕ → Option Node
+request_node_in s t = option_map (λ r. Request r.request) (spec_in s t)
+
+abbrev pub holder_node_in : Sight → ℕ → Option Node
+holder_node_in s t = option_map Machine (holder_in s t)

@@ -1,0 +1,31 @@
+-- What was touched: nodes, and pairs of nodes. Own.
+use Rattle.std.specs.Prelude.{◌≡◌, ℕ, Bool, true, Option, Some}
+use Rattle.std.specs.List.{list_any}
+use Rattle.std.specs.Ordering.{is_eq}
+use Rattle.fm_net.specs.declared.node.Node.{Node}
+use Rattle.fm_net.specs.declared.node.Node.TheVariants.{Task}
+use Rattle.fm_net.specs.Nodes.{node_cmp, ends_cmp}
+use Rattle.fm_edit.specs.declared.touched.Touched.{Touched}
+use Rattle.fm_edit.specs.Sight.{Sight, job_node_in, request_node_in, holder_node_in}
+
+abbrev pub has_touched : Touched → Node → Bool
+has_touched x n = list_any (λ m. is_eq (node_cmp n m)) x.nodes.keys
+
+abbrev pub has_pair : Touched → Node → Node → Bool
+has_pair x a b = list_any (λ p. is_eq (ends_cmp (a, b) p)) x.pairs.keys
+
+-- what was touched is touched
+pub record Grows (old new : Touched) : Type 0 where
+  pub nodes : (n : Node) → has_touched old n ≡ true → has_touched new n ≡ true
+  pub pairs : (a b : Node) → has_pair old a b ≡ true → has_pair new a b ≡ true
+
+-- the node, if there is one, is touched, and the pair of the task and it
+abbrev pub Leads : Touched → ℕ → Option Node → Type 0
+Leads x t o = (n : Node) → o ≡ Some n → (has_touched x n ≡ true) × (has_pair x (Task t) n ≡ true)
+
+-- the task's node, and where its arcs can lead
+pub record TouchesTask (s : Sight) (t : ℕ) (x : Touched) : Type 0 where
+  pub node : has_touched x (Task t) ≡ true
+  pub job : Leads x t (job_node_in s t)
+  pub request : Leads x t (request_node_in s t)
+  pub holder : Leads x t (holder_node_in s t)

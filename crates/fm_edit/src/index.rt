@@ -1,0 +1,173 @@
+//! Where tasks are listed, and what they add up to.
+
+ghost use Rattle.std.specs.Prelude.{◌≡◌, ℕ, ◌+◌, ◌-◌, ◌<◌, ◌^◌, ◌&&◌, true, false, [], cond, length, OnOk};
+ghost use Rattle.fm_records.specs.Know.{know};
+ghost use Rattle.std.specs.Ordering.{is_eq, nat_cmp};
+ghost use Rattle.fm_records.specs.Options.{passes};
+ghost use Rattle.fm_records.specs.TableLaws.{Rises};
+ghost use Rattle.fm_records.specs.Table.{Table};
+ghost use Rattle.fm_records.specs.Ranges.{CanBe};
+ghost use Rattle.fm_net.specs.declared.node.Node.{Node as NodeName};
+ghost use Rattle.fm_net.specs.Nodes.{node_cmp};
+ghost use Rattle.fm_edit.specs.Sight.{sight_of, seen_in};
+ghost use Rattle.fm_edit.specs.Dirty.{has_id};
+ghost use Rattle.fm_edit.specs.Memory.{none_out, Counts};
+ghost use Rattle.fm_edit.specs.Index.{is_listed, listed_cmp, lists, sum_in, amount_at};
+
+use crate::seen::Seen;
+use fm_lattice::join::OutOfMemory;
+use fm_net::node::Node;
+use fm_records::ids::TaskId;
+use std::alloc::Global;
+use std::collections::{BTreeMap, BTreeSet};
+
+/// The tasks by job and by their winner's machine; and of each job how many live tasks it has, of each request how many
+/// wait for it, and of each machine the sum of the requests of the tasks that it holds, where these are not 0.
+#[derive(Drop)]
+pub(crate) struct Index {
+    pub(crate) listed: BTreeSet<(Node, TaskId)>,
+    pub(crate) sums: BTreeMap<Node, u128>,
+}
+
+impl Index {
+    /// Of no tasks.
+    pub(crate) fn new(alloc: Global) -> Index
+        ensures { Counts none_out (know []) result }
+    {
+        Index {
+            listed: BTreeSet::new(alloc),
+            sums: BTreeMap::new(alloc),
+        }
+    }
+
+    /// The sum at the node. O(log n).
+    pub(crate) fn sum(&self, node: &Node) -> u128
+        ensures { result ≡ sum_in self.now node.now }
+    {
+        self.sums.get(node).copied().unwrap_or(0)
+    }
+
+    // Sets the sum at the node.
+    fn set_sum(&mut self, node: Node, sum: u128) -> Result<(), OutOfMemory>
+        ensures sums { OnOk result ((n : NodeName) → sum_in self.new n ≡ cond (is_eq (node_cmp node n)) sum (sum_in self.old n)) }
+        ensures lists { self.new.listed ≡ self.old.listed }
+    {
+        if sum == 0 {
+            self.sums.remove(&node);
+        } else {
+            self.sums.insert(node, sum)?;
+        }
+        Ok(())
+    }
+
+    // Adds to the sum at the node. It fits: tasks in memory are fewer than 2^64, and each adds less than 2^32.
+    fn raise(&mut self, node: Node, by: u128) -> Result<(), OutOfMemory>
+        ensures sums { OnOk result ((n : NodeName) → sum_in self.old n + cond (is_eq (node_cmp node n)) by 0 < 2 ^ 128 → sum_in self.new n ≡ sum_in self.old n + cond (is_eq (node_cmp node n)) by 0) }
+        ensures lists { self.new.listed ≡ self.old.listed }
+    {
+        let sum = self.sum(&node).saturating_add(by);
+        self.set_sum(node, sum)
+    }
+
+    // Takes from the sum at the node.
+    fn lower(&mut self, node: Node, by: u128) -> Result<(), OutOfMemory>
+        ensures sums { OnOk result ((n : NodeName) → sum_in self.new n ≡ sum_in self.old n - cond (is_eq (node_cmp node n)) by 0) }
+        ensures lists { self.new.listed ≡ self.old.listed }
+    {
+        let sum = self.sum(&node).saturating_sub(by);
+        self.set_sum(node, sum)
+    }
+
+    // Puts the task into the list at the node, if there is one.
+    fn list_at(&mut self, node: Option<Node>, task: TaskId) -> Result<(), OutOfMemory>
+        ensures lists { OnOk result ((n : NodeName) (t : ℕ) → lists self.new n t ≡ cond (passes (λ x. is_eq (listed_cmp (x, task) (n, t))) node) true (lists self.old n t)) }
+        ensures sums { self.new.sums ≡ self.old.sums }
+    {
+        if let Some(node) = node {
+            self.listed.insert((node, task))?;
+        }
+        Ok(())
+    }
+
+    // Takes the task from the list at the node, if there is one.
+    fn unlist_at(&mut self, node: Option<Node>, task: TaskId)
+        ensures lists { (n : NodeName) (t : ℕ) → lists self.new n t ≡ cond (passes (λ x. is_eq (listed_cmp (x, task) (n, t))) node) false (lists self.old n t) }
+        ensures sums { self.new.sums ≡ self.old.sums }
+    {
+        if let Some(node) = node {
+            self.listed.remove(&(node, task));
+        }
+    }
+
+    // Lets the task count at its job, and at its request or the machine that holds it, if it is live.
+    fn count(&mut self, seen: &Seen, task: TaskId) -> Result<(), OutOfMemory>
+        ensures sums { OnOk result ((n : NodeName) → sum_in self.old n + amount_at (seen_in seen.now) n task < 2 ^ 128 → sum_in self.new n ≡ sum_in self.old n + amount_at (seen_in seen.now) n task) }
+        ensures lists { self.new.listed ≡ self.old.listed }
+    {
+        let Some(spec) = seen.live_spec(task) else {
+            return Ok(());
+        };
+        self.raise(Node::Unscheduled(spec.job), 1)?;
+        match seen.holder(task) {
+            Some(machine) => self.raise(Node::Machine(machine), u128::from(spec.request)),
+            None => self.raise(Node::Request(spec.request), 1),
+        }
+    }
+
+    // Lets the task count no more.
+    fn uncount(&mut self, seen: &Seen, task: TaskId) -> Result<(), OutOfMemory>
+        ensures sums { OnOk result ((n : NodeName) → sum_in self.new n ≡ sum_in self.old n - amount_at (seen_in seen.now) n task) }
+        ensures lists { self.new.listed ≡ self.old.listed }
+    {
+        let Some(spec) = seen.live_spec(task) else {
+            return Ok(());
+        };
+        self.lower(Node::Unscheduled(spec.job), 1)?;
+        match seen.holder(task) {
+            Some(machine) => self.lower(Node::Machine(machine), u128::from(spec.request)),
+            None => self.lower(Node::Request(spec.request), 1),
+        }
+    }
+
+    /// Lists the task and lets it count, as it was seen. O(log n).
+    fn put_back(&mut self, seen: &Seen, task: TaskId) -> Result<(), OutOfMemory>
+        ensures lists { OnOk result ((n : NodeName) (t : ℕ) → lists self.new n t ≡ cond (is_eq (nat_cmp task t) && is_listed (seen_in seen.now) n t) true (lists self.old n t)) }
+        ensures sums { OnOk result ((n : NodeName) → sum_in self.old n + amount_at (seen_in seen.now) n task < 2 ^ 128 → sum_in self.new n ≡ sum_in self.old n + amount_at (seen_in seen.now) n task) }
+    {
+        self.list_at(seen.job_node(task), task)?;
+        self.list_at(seen.spot_node(task), task)?;
+        self.count(seen, task)
+    }
+
+    /// Lists the task no more and lets it count no more, as it was seen. O(log n).
+    fn take_out(&mut self, seen: &Seen, task: TaskId) -> Result<(), OutOfMemory>
+        ensures lists { OnOk result ((n : NodeName) (t : ℕ) → lists self.new n t ≡ cond (is_eq (nat_cmp task t) && is_listed (seen_in seen.now) n t) false (lists self.old n t)) }
+        ensures sums { OnOk result ((n : NodeName) → sum_in self.new n ≡ sum_in self.old n - amount_at (seen_in seen.now) n task) }
+    {
+        self.unlist_at(seen.job_node(task), task);
+        self.unlist_at(seen.spot_node(task), task);
+        self.uncount(seen, task)
+    }
+
+    /// Takes the tasks out, which rise. O(m log n).
+    pub(crate) fn take_out_all(&mut self, seen: &Seen, tasks: &[TaskId]) -> Result<(), OutOfMemory>
+        requires { Rises nat_cmp tasks.now }
+        ensures { OnOk result ((k : Table) → CanBe k → seen_in seen.now ≡ sight_of k → Counts none_out k self.old → Counts (has_id tasks.now) k self.new) }
+    {
+        for task in tasks {
+            self.take_out(seen, *task)?;
+        }
+        Ok(())
+    }
+
+    /// Puts the tasks back, which rise and are all that is out. O(m log n).
+    pub(crate) fn put_back_all(&mut self, seen: &Seen, tasks: &[TaskId]) -> Result<(), OutOfMemory>
+        requires { Rises nat_cmp tasks.now }
+        ensures { OnOk result ((k : Table) → CanBe k → length k.tasks < 2 ^ 63 → seen_in seen.now ≡ sight_of k → Counts (has_id tasks.now) k self.old → Counts none_out k self.new) }
+    {
+        for task in tasks {
+            self.put_back(seen, *task)?;
+        }
+        Ok(())
+    }
+}

@@ -1,0 +1,74 @@
+//! What an Editor remembers.
+
+ghost use Rattle.std.specs.Prelude.{◌≡◌, ◌<◌, ◌^◌, ◌++◌, [], true, length, IfOk, OnOk};
+ghost use Rattle.fm_records.specs.Know.{know};
+ghost use Rattle.fm_net.specs.Network.{net_of};
+ghost use Rattle.fm_net.specs.Touched.{Touches};
+ghost use Rattle.fm_policy.specs.Keeping.{TookIn};
+ghost use Rattle.fm_edit.specs.Looking.{looks_of};
+ghost use Rattle.fm_edit.specs.Memory.{Remembers, IsAt};
+
+use crate::completing::touch_pairs;
+use crate::dirty::{dirty_tasks, turned};
+use crate::index::Index;
+use crate::look::Look;
+use crate::seeing::{machines_now, see};
+use crate::seen::Seen;
+use crate::touched::Touched;
+use fm_lattice::join::OutOfMemory;
+use fm_net::network::Network;
+use fm_policy::changed::Changed;
+use std::alloc::Global;
+
+/// The records that were seen last, and where their tasks are listed and count.
+#[derive(Drop)]
+pub(crate) struct Memory {
+    pub(crate) seen: Seen,
+    pub(crate) index: Index,
+}
+
+impl Memory {
+    /// Of nothing known. It takes no memory.
+    pub(crate) fn new(alloc: Global) -> Memory
+        ensures { Remembers (know []) result }
+    {
+        Memory {
+            seen: Seen::new(alloc),
+            index: Index::new(alloc),
+        }
+    }
+
+    /// Follows the table into which a delta was taken, and answers the nodes and pairs of nodes that it touched: nothing else
+    /// differs between the network of what was known before and that of what is known now. It looks up just what the delta
+    /// tells of. After a refusal nothing is said of the memory.
+    pub(crate) fn follow<L: Look>(
+        &mut self,
+        alloc: Global,
+        network: &Network,
+        look: &mut L,
+        changed: &Changed,
+    ) -> Result<Touched, OutOfMemory>
+        requires { TookIn true (IsAt self.old network.now) (L.table look.old) changed.now }
+        ensures remembers { OnOk result (Remembers (L.table look.old) self.new) }
+        ensures touches { IfOk result (λ x. Touches network.now (net_of (L.table look.old)) x.nodes.keys x.pairs.keys) }
+        ensures small { OnOk result (length (L.table look.old).tasks < 2 ^ 63) }
+        ensures keys { OnOk result (L.keys look.new ≡ L.keys look.old ++ looks_of (L.table look.old) changed.now) }
+        ensures same { L.table look.new ≡ L.table look.old }
+    {
+        let machines = machines_now(alloc, look, changed.machines())?;
+        let turned = turned(alloc, &self.seen, machines.as_slice())?;
+        let dirty = dirty_tasks(alloc, &self.index, changed, turned.as_slice())?;
+        let mut touched = Touched::new(alloc);
+        touched.jobs(changed.jobs())?;
+        touched.machines(changed.machines())?;
+        touched.tasks(&self.seen, dirty.as_slice())?;
+        self.index.take_out_all(&self.seen, dirty.as_slice())?;
+        see(&mut self.seen, look, changed, machines.as_slice())?;
+        self.seen.known();
+        self.index.put_back_all(&self.seen, dirty.as_slice())?;
+        touched.tasks(&self.seen, dirty.as_slice())?;
+        touch_pairs(alloc, &mut touched, &self.seen, &self.index, network)?;
+        touched.known();
+        Ok(touched)
+    }
+}

@@ -1,0 +1,138 @@
+//! The nodes and arcs of the network of what was seen, one by one.
+
+ghost use Rattle.std.specs.Prelude.{◌≡◌, ◌+◌, Some, None, cond, IfSome};
+ghost use Rattle.fm_records.specs.Options.{and_then, when};
+ghost use Rattle.fm_net.specs.declared.node.Node.{Node as NodeName};
+ghost use Rattle.fm_net.specs.Network.{places};
+ghost use Rattle.fm_edit.specs.Sight.{seen_in};
+ghost use Rattle.fm_edit.specs.Index.{sum_in, counts_at};
+ghost use Rattle.fm_edit.specs.Shown.{node_shown, load_shown, spare_shown, arc_shown};
+
+use crate::index::Index;
+use crate::seen::Seen;
+use fm_net::node::Node;
+use fm_records::ids::{JobId, MachineId, TaskId};
+use fm_records::records::MachineReg;
+
+/// Whether the node stands. O(log n), as each call here.
+pub(crate) fn stands(seen: &Seen, index: &Index, node: &Node) -> bool
+    ensures { result ≡ node_shown (seen_in seen.now) (sum_in index.now) node.now }
+{
+    match node {
+        Node::Sink => true,
+        Node::Unscheduled(_) | Node::Request(_) => index.sum(node) != 0,
+        Node::Machine(machine) => seen.open_state(*machine).is_some(),
+        Node::Task(task) => seen.live_spec(*task).is_some(),
+    }
+}
+
+/// The capacity and cost of the arc from one node to the other, if there is one.
+pub(crate) fn arc(seen: &Seen, index: &Index, from: &Node, to: &Node) -> Option<(u64, u32)>
+    ensures { result ≡ arc_shown (seen_in seen.now) (sum_in index.now) from.now to.now }
+{
+    match (from, to) {
+        (Node::Task(task), Node::Request(request)) => waiting_arc(seen, *task, *request),
+        (Node::Request(request), Node::Machine(machine)) => place_arc(
+            seen, index, *request, *machine,
+        ),
+        (Node::Task(task), Node::Machine(machine)) => held_arc(seen, *task, *machine),
+        (Node::Task(task), Node::Unscheduled(job)) => job_arc(seen, *task, *job),
+        (Node::Machine(machine), Node::Sink) => slots_arc(seen, *machine),
+        (Node::Unscheduled(job), Node::Sink) => live_arc(index, *job),
+        _ => None,
+    }
+}
+
+// A live task that is not held, to its request.
+fn waiting_arc(seen: &Seen, task: TaskId, request: u32) -> Option<(u64, u32)>
+    ensures { result ≡ when (counts_at (seen_in seen.now) (NodeName.Request request) task) (1, 0) }
+{
+    let spec = seen.live_spec(task)?;
+    if spec.request == request && seen.holder(task).is_none() {
+        Some((1, 0))
+    } else {
+        None
+    }
+}
+
+// A task to the machine that holds it.
+fn held_arc(seen: &Seen, task: TaskId, machine: MachineId) -> Option<(u64, u32)>
+    ensures { result ≡ when (counts_at (seen_in seen.now) (NodeName.Machine machine) task) (1, 0) }
+{
+    if seen.holder(task)? == machine {
+        Some((1, 0))
+    } else {
+        None
+    }
+}
+
+// A live task to its job, for the price of waiting, or of a preemption where it is held.
+fn job_arc(seen: &Seen, task: TaskId, job: JobId) -> Option<(u64, u32)>
+    ensures { result ≡ arc_shown (seen_in seen.now) (λ n. 0) (NodeName.Task task) (NodeName.Unscheduled job) }
+{
+    let spec = seen.live_spec(task)?;
+    if spec.job != job {
+        return None;
+    }
+    let register = seen.jobs.get(&job)?;
+    match seen.holder(task) {
+        Some(_) => Some((1, register.preempt)),
+        None => Some((1, register.wait)),
+    }
+}
+
+// An open machine to the sink.
+fn slots_arc(seen: &Seen, machine: MachineId) -> Option<(u64, u32)>
+    ensures { result ≡ arc_shown (seen_in seen.now) (λ n. 0) (NodeName.Machine machine) NodeName.Sink }
+{
+    let state = seen.open_state(machine)?;
+    Some((u64::from(state.slots), 0))
+}
+
+// A job to the sink. The count fits: tasks in memory are fewer than 2^64.
+fn live_arc(index: &Index, job: JobId) -> Option<(u64, u32)>
+    ensures { result ≡ arc_shown (record { job = λ j. None; task = λ t. None; machine = λ m. None; spot = λ t. None }) (sum_in index.now) (NodeName.Unscheduled job) NodeName.Sink }
+{
+    let live = index.sum(&Node::Unscheduled(job));
+    if live == 0 {
+        return None;
+    }
+    Some((live.min(u128::from(u64::MAX)) as u64, 0))
+}
+
+// A request to a machine that has room for it.
+fn place_arc(seen: &Seen, index: &Index, request: u32, machine: MachineId) -> Option<(u64, u32)>
+    ensures { result ≡ arc_shown (seen_in seen.now) (sum_in index.now) (NodeName.Request request) (NodeName.Machine machine) }
+{
+    if index.sum(&Node::Request(request)) == 0 {
+        return None;
+    }
+    let state = seen.open_state(machine)?;
+    let load = load(seen, index, machine);
+    if load > u128::from(state.nic) {
+        return None;
+    }
+    let load = load as u32;
+    let spare = state.nic - load;
+    if request > spare {
+        return None;
+    }
+    Some((places(&state, spare, request), request + load))
+}
+
+// The load of a machine.
+fn load(seen: &Seen, index: &Index, machine: MachineId) -> u128
+    ensures { result ≡ load_shown (seen_in seen.now) (sum_in index.now) machine }
+{
+    u128::from(seen.used(machine)).max(index.sum(&Node::Machine(machine)))
+}
+
+// How many tasks of the request fit.
+fn places(state: &MachineReg, spare: u32, request: u32) -> u64
+    ensures { result ≡ places state.now spare request }
+{
+    if request == 0 {
+        return u64::from(state.slots);
+    }
+    u64::from(state.slots.min(spare / request))
+}

@@ -1,0 +1,117 @@
+//! The nodes and pairs of nodes that a delta touches.
+
+ghost use Rattle.std.specs.Prelude.{◌≡◌, ℕ, true, OnOk};
+ghost use Rattle.fm_records.specs.TableLaws.{Rises};
+ghost use Rattle.fm_net.specs.Nodes.{node_cmp, ends_cmp};
+ghost use Rattle.fm_net.specs.declared.node.Node.{Node as NodeName};
+ghost use Rattle.fm_edit.specs.Dirty.{has_id};
+ghost use Rattle.fm_edit.specs.Sight.{seen_in};
+ghost use Rattle.fm_edit.specs.Touched.{has_touched, has_pair, Grows, Leads, TouchesTask};
+
+use crate::seen::Seen;
+use fm_lattice::join::OutOfMemory;
+use fm_net::node::Node;
+use fm_records::ids::{JobId, MachineId, TaskId};
+use std::alloc::Global;
+use std::collections::BTreeSet;
+
+/// Nodes that may come or go, and pairs of nodes of which the arc may come, go or differ; each in order.
+#[derive(Drop)]
+pub(crate) struct Touched {
+    pub(crate) nodes: BTreeSet<Node>,
+    pub(crate) pairs: BTreeSet<(Node, Node)>,
+}
+
+impl Touched {
+    /// Nothing is touched.
+    pub(crate) fn new(alloc: Global) -> Touched {
+        Touched {
+            nodes: BTreeSet::new(alloc),
+            pairs: BTreeSet::new(alloc),
+        }
+    }
+
+    /// What is known of what was touched: nodes and pairs rise.
+    pub(crate) fn known(&self)
+        ensures nodes { Rises node_cmp self.now.nodes.keys }
+        ensures pairs { Rises ends_cmp self.now.pairs.keys }
+    {
+        let _nodes = self.nodes.len();
+        let _pairs = self.pairs.len();
+    }
+
+    /// Touches a node. O(log n).
+    pub(crate) fn node(&mut self, node: &Node) -> Result<(), OutOfMemory>
+        ensures grows { OnOk result (Grows self.old self.new) }
+        ensures has { OnOk result (has_touched self.new node.now ≡ true) }
+    {
+        self.nodes.insert(*node)?;
+        Ok(())
+    }
+
+    /// Touches a pair. O(log n).
+    pub(crate) fn pair(&mut self, from: &Node, to: &Node) -> Result<(), OutOfMemory>
+        ensures grows { OnOk result (Grows self.old self.new) }
+        ensures has { OnOk result (has_pair self.new from.now to.now ≡ true) }
+        ensures nodes { self.new.nodes ≡ self.old.nodes }
+    {
+        self.pairs.insert((*from, *to))?;
+        Ok(())
+    }
+
+    // Touches the node, if there is one, and the pair of the task and it.
+    fn lead(&mut self, task: TaskId, end: Option<Node>) -> Result<(), OutOfMemory>
+        ensures grows { OnOk result (Grows self.old self.new) }
+        ensures leads { OnOk result (Leads self.new task end) }
+    {
+        if let Some(end) = end {
+            self.node(&end)?;
+            self.pair(&Node::Task(task), &end)?;
+        }
+        Ok(())
+    }
+
+    // Touches the task, and where its arcs can lead as it was seen.
+    fn task(&mut self, seen: &Seen, task: TaskId) -> Result<(), OutOfMemory>
+        ensures grows { OnOk result (Grows self.old self.new) }
+        ensures touches { OnOk result (TouchesTask (seen_in seen.now) task self.new) }
+    {
+        self.node(&Node::Task(task))?;
+        self.lead(task, seen.job_node(task))?;
+        self.lead(task, seen.request_node(task))?;
+        self.lead(task, seen.holder_node(task))
+    }
+
+    /// Touches the tasks, and where their arcs can lead as they were seen. O(m log m + m log n).
+    pub(crate) fn tasks(&mut self, seen: &Seen, tasks: &[TaskId]) -> Result<(), OutOfMemory>
+        ensures grows { OnOk result (Grows self.old self.new) }
+        ensures touches { OnOk result ((t : ℕ) → has_id tasks.now t ≡ true → TouchesTask (seen_in seen.now) t self.new) }
+    {
+        for task in tasks {
+            self.task(seen, *task)?;
+        }
+        Ok(())
+    }
+
+    /// Touches the jobs.
+    pub(crate) fn jobs(&mut self, jobs: &[JobId]) -> Result<(), OutOfMemory>
+        ensures grows { OnOk result (Grows self.old self.new) }
+        ensures touches { OnOk result ((j : ℕ) → has_id jobs.now j ≡ true → has_touched self.new (NodeName.Unscheduled j) ≡ true) }
+    {
+        for job in jobs {
+            self.node(&Node::Unscheduled(*job))?;
+        }
+        Ok(())
+    }
+
+    /// Touches the machines.
+    pub(crate) fn machines(&mut self, machines: &[MachineId]) -> Result<(), OutOfMemory>
+        ensures grows { OnOk result (Grows self.old self.new) }
+        ensures touches { OnOk result ((m : ℕ) → has_id machines.now m ≡ true → has_touched self.new (NodeName.Machine m) ≡ true) }
+    {
+        for machine in machines {
+            self.node(&Node::Machine(*machine))?;
+        }
+        Ok(())
+    }
+}
