@@ -1,0 +1,4 @@
+pub mod Listings
+pub mod Names
+pub mod Sweeps
+pub mod Examples
