@@ -144,10 +144,10 @@ module _ (k : Table) (net : Net) (can : CanBeNet net) (of : IsNetworkOf k net) w
       let v = job_arc t s.0 s.1 in
       let a : NetArc = ((Task t, Unscheduled s.0.job), v.0) in
       single (λ (b : NetArc). cond (same_node b.0.0 (Task t)) (units_of b) 0) net.arcs a can.arcs_rise (stands (Task t) (Unscheduled s.0.job) v.0 v.1)
-          (λ b m other. nothing (same_node b.0.0 (Task t)) (units_of b) (λ same.
-          let from = (node_Decides b.0.0 (Task t)).0 same in
-          let arc : arc_of k (Task t) b.0.1 ≡ Some b.1 = subst (λ n. arc_of k n b.0.1 ≡ Some b.1) from (arc_there b m) in
-          task_other t s.0 s.1 b.0.1 (units_by target waits b.0.0) b.1 arc (λ to. other (same_ends b (Task t) (Unscheduled s.0.job) from to))))
+      (λ b m other. nothing (same_node b.0.0 (Task t)) (units_of b) (λ same.
+      let from = (node_Decides b.0.0 (Task t)).0 same in
+      let arc : arc_of k (Task t) b.0.1 ≡ Some b.1 = subst (λ n. arc_of k n b.0.1 ≡ Some b.1) from (arc_there b m) in
+      task_other t s.0 s.1 b.0.1 (units_by target waits b.0.0) b.1 arc (λ to. other (same_ends b (Task t) (Unscheduled s.0.job) from to))))
       ∙ ap (λ t2. cond {A = ℕ} t2 1 0) (same_itself (Task t))
 
   -- A job sends on what enters it.
@@ -169,10 +169,10 @@ module _ (k : Table) (net : Net) (can : CanBeNet net) (of : IsNetworkOf k net) w
       let arc : arc_of k (Unscheduled j) Sink ≡ Some v = rw node refl in
       let a : NetArc = ((Unscheduled j, Sink), v) in
       single (λ (b : NetArc). cond (same_node b.0.0 (Unscheduled j)) (units_of b) 0) net.arcs a can.arcs_rise (stands (Unscheduled j) Sink v arc)
-          (λ b m other. nothing (same_node b.0.0 (Unscheduled j)) (units_of b) (λ same.
-          let from = (node_Decides b.0.0 (Unscheduled j)).0 same in
-          let there : arc_of k (Unscheduled j) b.0.1 ≡ Some b.1 = subst (λ n. arc_of k n b.0.1 ≡ Some b.1) from (arc_there b m) in
-          job_other j b.0.1 (units_by target waits b.0.0) b.1 there (λ to. other (same_ends b (Unscheduled j) Sink from to))))
+      (λ b m other. nothing (same_node b.0.0 (Unscheduled j)) (units_of b) (λ same.
+      let from = (node_Decides b.0.0 (Unscheduled j)).0 same in
+      let there : arc_of k (Unscheduled j) b.0.1 ≡ Some b.1 = subst (λ n. arc_of k n b.0.1 ≡ Some b.1) from (arc_there b m) in
+      job_other j b.0.1 (units_by target waits b.0.0) b.1 there (λ to. other (same_ends b (Unscheduled j) Sink from to))))
       ∙ ap (λ t2. cond t2 (units_by target waits (Unscheduled j)) 0) (same_itself (Unscheduled j))
 
   pub job_keeps : (j : ℕ) → IsTrue (has_node net (Unscheduled j)) → units_by target units_of (Unscheduled j) ≡ units_by source units_of (Unscheduled j)
