@@ -21,7 +21,7 @@ loop-number-preserved c =
     let n = c.number-item.result in
     let lt : i < length listed = omega arith in
     let grown = c.in_ok-push.ensures.items in
-    let new = c.new-in-loop-number.ensures.state in
+    let new = c.new.ensures.state in
     let before = c.loop-number.invariant in
     record {
       numbers = numbers_more _ _ _ listed i n lt c.number-item.is grown new before.numbers;
