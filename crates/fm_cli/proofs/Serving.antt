@@ -1,27 +1,23 @@
 -- What a command's answer comes to, from what its parts write into memory.
-use Rattle.std.proofs.Common.{◌≡◌, ◌⊎◌, ℕ, IfSome, List, [], ◌++◌, Bool, true, false, cond, is_none, IsTrue, ◌↔◌, Option, Some, None, String, Global, refl, sym, ap, ◌∙◌, subst, inl, inr}
+use Rattle.std.proofs.Common.{◌≡◌, ◌⊎◌, ℕ, IfSome, List, Bool, true, false, cond, is_none, IsTrue, ◌↔◌, Option, Some, None, String, Global, refl, sym, ap, ◌∙◌, subst, inl, inr}
 use Rattle.std.specs.Io.KnownBytes.{Appends}
 use Rattle.fm_records.specs.declared.refusal.Refusal.{Refusal}
 use Rattle.fm_records.specs.declared.refusal.Refusal.TheVariants as refused
-use Rattle.fm_dimacs.specs.Sending.{AppendsPrefix, StopsBy}
-use Rattle.fm_dimacs.specs.Solution.{solution_text}
-use Rattle.fm_coord.specs.Events.{Sent, Replica}
+use Rattle.fm_dimacs.specs.Sending.{StopsBy}
+use Rattle.fm_coord.specs.Events.{Replica}
 use Rattle.fm_world.specs.Agreement.{IsDumpOf}
-use Rattle.fm_world.specs.Worlds.{WorldOfSets, with_number}
+use Rattle.fm_world.specs.Worlds.{WorldOfSets}
 use Rattle.fm_input.specs.declared.script.Step.{Step}
 use Rattle.fm_input.specs.declared.words.Command.{Command}
 use Rattle.fm_input.specs.declared.words.Command.TheVariants as command
-use Rattle.fm_input.specs.declared.words.Question.{Question}
-use Rattle.fm_input.specs.declared.words.Question.TheVariants as asks
 use Rattle.fm_input.specs.Texts.{Spells}
 use Rattle.fm_cli.specs.declared.agree.Disagreement.{Disagreement}
 use Rattle.fm_cli.specs.declared.fault.Fault.{Fault}
 use Rattle.fm_cli.specs.declared.serve.Ending.{Ending}
 use Rattle.fm_cli.specs.declared.serve.Ending.TheVariants.{Done, Differ, Wrong, Stopped}
 use Rattle.fm_cli.specs.Faults.{fault_of, is_write_fault, in_memory_of}
-use Rattle.fm_cli.specs.Endings.{asked_of}
 use Rattle.fm_cli.specs.Running.{opened, Come, Stops}
-use Rattle.fm_cli.specs.Output.{After, Ends, Leaves, LeavesSolution, LeavesUnsolved, IsSolved, IsSolvedAt, network_of, Writes, graph_of, winners_of, difference, agreement_text, packet_named, packet_line}
+use Rattle.fm_cli.specs.Output.{After, Ends, Leaves, LeavesSolution, LeavesUnsolved, IsSolved, IsSolvedAt, network_of, Writes, graph_of, difference}
 use Rattle.fm_cli.specs.Answers.{AnswersIn, Wants, Lacks, IsNotListed, IsOfScript, IsStopped, IsAnswer, Serves, IsServed}
 
 -- of a fault of writing to memory only that it is want of memory is said

@@ -1,5 +1,5 @@
 -- How the program ends (this project's profile).
-use Rattle.std.specs.Prelude.{ℕ, String, string_bytes, List, [], ◌∷◌, cond, Option, Some, None, Result, Ok, Err}
+use Rattle.std.specs.Prelude.{ℕ, string_bytes, List, [], ◌∷◌, cond, Option, Some, None, Result, Ok, Err}
 use Rattle.fm_records.specs.declared.refusal.Refusal.TheVariants.{NoCoordinator}
 use Rattle.fm_cli.specs.declared.fault.Fault.{Fault}
 use Rattle.fm_cli.specs.declared.serve.Ending.{Ending}

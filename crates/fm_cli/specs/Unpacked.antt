@@ -1,5 +1,5 @@
 -- The records of a packet as lines of text (this project's profile).
-use Rattle.std.specs.Prelude.{◌≡◌, ◌⊎◌, ℕ, ◌-◌, nat_eq, List, [], ◌∷◌, ◌++◌, length, take, drop, Bool, if◌then◌else◌, codes, decimal, Option, Some, None, option_map, Ok, Err}
+use Rattle.std.specs.Prelude.{◌≡◌, ◌⊎◌, ℕ, ◌-◌, nat_eq, List, [], ◌++◌, length, take, drop, Bool, if◌then◌else◌, codes, decimal, Option, Some, None, option_map, Ok, Err}
 use Rattle.std.specs.List.{flat_map}
 use Rattle.std.specs.Cmp.Lexicographic.{pointwise}
 use Rattle.hex.specs.declared.error.FromHexError.{FromHexError}

@@ -1,6 +1,5 @@
-use Rattle.std.proofs.Common.{◌≡◌, Some, None, refl, sym, subst, inl, inr}
+use Rattle.std.proofs.Common.{Some, refl, sym, subst, inl, inr}
 use Rattle.fm_records.specs.declared.refusal.Refusal.TheVariants.{NoCoordinator}
-use Rattle.fm_world.specs.Worlds.{WorldOfSets}
 use Rattle.fm_input.specs.declared.words.Command.TheVariants.{Agree}
 use Rattle.fm_cli.specs.Answers.{IsRefused}
 use Rattle.fm_cli.specs.Output.{agreement_text, difference}

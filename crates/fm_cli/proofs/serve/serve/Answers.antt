@@ -1,4 +1,3 @@
-use Rattle.std.proofs.Common.{List, ℕ}
 use Rattle.fm_cli.specs.Answers.{Serves, IsServed}
 use Rattle.fm_cli.proofs.Serving.{for_each, served}
 use Rattle.fm_cli.proofs.serve.serve.Goals as goal
