@@ -6,3 +6,5 @@ mod gathered;
 pub mod laws;
 mod packets;
 mod sweeping;
+#[cfg(test)]
+mod tests;
