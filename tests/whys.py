@@ -16,7 +16,8 @@ import witness
 
 UUID = "[0-9a-f-]{36}"
 HEAD = re.compile(r"task (%s) (waits|is preempted|runs on machine|stays on machine)(?: (%s))?, which costs (\d+)" % (UUID, UUID))
-OTHER = re.compile(r"  (?:on machine (%s) it|waiting|its preemption) costs (\d+).*?(?:, (\d+) more than|, just as much as) " % UUID)
+OTHER = re.compile(r"  (?:on machine (%s) it|waiting|its preemption) costs (\d+)" % UUID)
+MORE = re.compile(r"    (?:.* in all: )?(?:(\d+) more than|just as much as) ")
 SLOTS = re.compile(r"    (full|not full): (\d+) of (\d+) slots")
 
 
@@ -29,14 +30,15 @@ class Claims:
 
 
 def read(text):
-    found, machine = {}, None
+    found, machine, cost = {}, None, 0
     for line in text.splitlines():
-        head, other, slots = HEAD.match(line), OTHER.match(line), SLOTS.match(line)
+        head, other, more, slots = HEAD.match(line), OTHER.match(line), MORE.match(line), SLOTS.match(line)
         if head:
             claims = found[head[1]] = Claims(head[3], head[4])
         elif other:
-            machine = other[1]
-            claims.others[machine] = int(other[2]), int(other[3] or 0)
+            machine, cost = other[1], int(other[2])
+        elif more:
+            claims.others[machine] = cost, int(more[1] or 0)
         elif slots:
             claims.slots[machine] = slots[1] == "full", int(slots[2]), int(slots[3])
     return found
@@ -127,6 +129,9 @@ def all_tests(program, run):
         yield from explained("contended %d" % seed, program, run, drawn.contended(seed).encode())
     yield from explained("300 tasks", program, run, "".join(scripts.script(300, 6)).encode(), 100)
     script = (ROOT / "examples/waiting.json").read_bytes()
+    status, text, _ = why(program, script, ["15"])
+    shown = "".join("    " + line if line.strip() else line for line in text.splitlines(keepends=True))
+    yield "why of the README's example", status == 0 and shown in (ROOT / "README.md").read_text()
     status, text, _ = why(program, script, ["\u202615"])
     yield "why by an end of an id", status == 0 and "50 more than waiting" in text and "-000000000015 waits" in text
     for name, tasks, wanted in (("a task that is unknown", ["77"], "no task"), ("a text that fits many", ["0000"], "5 tasks")):
