@@ -6,6 +6,10 @@
     tests/drawn.py refused SEED KIND
     tests/drawn.py rounds SEED COORDINATORS
     tests/drawn.py contended SEED
+    tests/drawn.py corners SEED
+
+`corners` is of one coordinator too: few tasks and machines, with requests, prices, uses and slots at the ends of their ranges,
+ids of 128 bits, held tasks on full machines, and now and then no machine.
 """
 import json
 import random
@@ -192,6 +196,33 @@ def contended(seed):
     return drawing.text()
 
 
+def corners(seed):
+    """A script of one coordinator that is told of few tasks, machines and jobs, with costs and capacities at the corners."""
+    chance = random.Random("corners %d" % seed)
+    far = lambda: unique(chance.choice((chance.randint(1, 50), chance.getrandbits(64), 2**128 - 1 - chance.randint(0, 50))))
+    prices = (0, 0, 1, 100, 500, 1_000_000, 1_000_000_000)
+    jobs = [far() for _ in range(chance.randint(1, 3))]
+    machines = [far() for _ in range(chance.choice((0, 1, 2, 3, 4)))]
+    told = [{"job": {"id": job, "version": 1, "writer": 1, "withdrawn": False, "wait": chance.choice(prices),
+                     "preempt": chance.choice(prices)}} for job in jobs]
+    for machine in machines:
+        told.append({"machine": {"id": machine, "incarnation": 1, "version": 1, "writer": 1, "up": chance.random() < 0.9,
+                                 "slots": chance.choice((1, 1, 2, 3, 1000)), "nic": chance.choice((0, 1, 100, 1000, 1_000_000))}})
+        if chance.random() < 0.6:
+            told.append({"report": {"id": machine, "incarnation": 1, "number": 1,
+                                    "used": chance.choice((0, 1, 99, 100, 1000, 1_000_000_000))}})
+    for _ in range(chance.randint(1, 9)):
+        task = far()
+        told.append({"spec": {"id": task, "version": 1, "writer": 1, "withdrawn": False, "job": chance.choice(jobs),
+                              "request": chance.choice((0, 0, 1, 50, 100, 1_000_000))}})
+        if machines and chance.random() < 0.4:
+            told.append({"propose": {"id": task, "attempt": 0, "coordinator": 1, "machine": chance.choice(machines),
+                                     "incarnation": 1}})
+    chance.shuffle(told)
+    return json.dumps({"coordinators": [1], "steps": [{"at": 1, "tell": op} for op in told]})
+
+
 if __name__ == "__main__":
     kind, seed, *more = sys.argv[1:]
-    print({"gossip": gossip, "refused": refused, "rounds": lambda s, n: rounds(s, int(n)), "contended": contended}[kind](int(seed), *more))
+    kinds = {"gossip": gossip, "refused": refused, "rounds": lambda s, n: rounds(s, int(n)), "contended": contended, "corners": corners}
+    print(kinds[kind](int(seed), *more))
