@@ -2,10 +2,15 @@
 """Writes the script of a cluster, the same for the same numbers.
 
     bench/scripts.py --tasks N [--machines N] [--requests N] [--seed N] [--gossip]
+    bench/scripts.py --tasks N --rounds N [--at 1|2] [--share N] [--quiet]
 
 A tenth as many machines as tasks, a job for each fifty tasks, 20 to 50 sizes of requests. Every tenth task is held by a
 proposal, and every fourth machine has reported a use. Ids are random, so that they do not come in order. All is told to
 coordinator 1; with --gossip there is a second, which is delivered all of that in one packet.
+
+With --rounds so many rounds come behind, each after one task in 100 (--share) changed: of those a third are done, a third
+are new, and for each of the others a machine reports. Nothing is held at first. Coordinator 1 edits its network; --at 2 tells
+and asks one that builds it anew. With --quiet the rounds themselves are left out.
 """
 import argparse
 import json
@@ -14,28 +19,36 @@ import sys
 import uuid
 
 
+def ids(chance, count):
+    return [str(uuid.UUID(int=chance.getrandbits(128), version=4)) for _ in range(count)]
+
+
+def spec(task, jobs, sizes, chance):
+    return {"spec": {"id": task, "version": 1, "writer": 1, "withdrawn": False,
+                     "job": chance.choice(jobs), "request": chance.choice(sizes)}}
+
+
+def told_before(chance, jobs, hosts, names, sizes):
+    """Jobs, machines and tasks."""
+    for job in jobs:
+        wait = chance.randint(500, 20000)
+        yield {"job": {"id": job, "version": 1, "writer": 1, "withdrawn": False,
+                       "wait": wait, "preempt": wait + chance.randint(0, 5000)}}
+    for host in hosts:
+        yield {"machine": {"id": host, "incarnation": 1, "version": 1, "writer": 1, "up": True,
+                           "slots": chance.randint(5, 20), "nic": chance.randint(2000, 20000)}}
+    for task in names:
+        yield spec(task, jobs, sizes, chance)
+
+
 def script(tasks, machines=None, requests=None, seed=1, gossip=False):
     """The lines of the script."""
     chance = random.Random("%d %s %s %d" % (tasks, machines, requests, seed))
     machines = machines or max(1, tasks // 10)
     requests = requests or chance.randint(20, 50)
-
-    def ids(count):
-        return [str(uuid.UUID(int=chance.getrandbits(128), version=4)) for _ in range(count)]
-
     sizes = chance.sample(range(1, 1001), requests)
-    jobs, hosts, names = ids(max(1, tasks // 50)), ids(machines), ids(tasks)
-    told = []
-    for job in jobs:
-        wait = chance.randint(500, 20000)
-        told.append({"job": {"id": job, "version": 1, "writer": 1, "withdrawn": False,
-                             "wait": wait, "preempt": wait + chance.randint(0, 5000)}})
-    for host in hosts:
-        told.append({"machine": {"id": host, "incarnation": 1, "version": 1, "writer": 1, "up": True,
-                                 "slots": chance.randint(5, 20), "nic": chance.randint(2000, 20000)}})
-    for task in names:
-        told.append({"spec": {"id": task, "version": 1, "writer": 1, "withdrawn": False,
-                              "job": chance.choice(jobs), "request": chance.choice(sizes)}})
+    jobs, hosts, names = ids(chance, max(1, tasks // 50)), ids(chance, machines), ids(chance, tasks)
+    told = list(told_before(chance, jobs, hosts, names, sizes))
     for task in names[::10]:
         told.append({"propose": {"id": task, "attempt": 0, "coordinator": 1,
                                  "machine": chance.choice(hosts), "incarnation": 1}})
@@ -44,7 +57,37 @@ def script(tasks, machines=None, requests=None, seed=1, gossip=False):
     steps = [{"at": 1, "tell": op} for op in told]
     if gossip:
         steps += [{"at": 1, "cut": {"name": "all"}}, {"at": 2, "deliver": "all"}]
-    yield '{"coordinators":%s,"steps":[\n' % ("[1,2]" if gossip else "[1]")
+    return lines(steps, "[1,2]" if gossip else "[1]")
+
+
+def rounds(tasks, count, at=1, share=100, quiet=False, seed=1):
+    """The lines of a script of rounds, each after a part of the tasks changed."""
+    chance = random.Random("rounds %d %d %d" % (tasks, share, seed))
+    sizes = chance.sample(range(1, 1001), chance.randint(20, 50))
+    jobs, hosts, names = ids(chance, max(1, tasks // 50)), ids(chance, max(1, tasks // 10)), ids(chance, tasks)
+    told = list(told_before(chance, jobs, hosts, names, sizes))
+    reported = 0
+    for number in range(count):
+        for change in range(max(1, tasks // share)):
+            if change % 3 == 0:
+                gone = chance.randrange(len(names))
+                names[gone], names[-1] = names[-1], names[gone]
+                told.append({"progress": {"id": names.pop(), "attempt": 0, "phase": "done"}})
+            elif change % 3 == 1:
+                names += ids(chance, 1)
+                told.append(spec(names[-1], jobs, sizes, chance))
+            else:
+                reported += 1
+                told.append({"report": {"id": chance.choice(hosts), "incarnation": 1, "number": reported,
+                                        "used": chance.randint(0, 5000)}})
+        if not quiet:
+            told.append(None)
+    steps = [{"at": at, "round": True} if op is None else {"at": at, "tell": op} for op in told]
+    return lines(steps, "[1]" if at == 1 else "[1,2]")
+
+
+def lines(steps, coordinators):
+    yield '{"coordinators":%s,"steps":[\n' % coordinators
     for place, step in enumerate(steps):
         yield json.dumps(step, separators=(",", ":")) + ("\n" if place + 1 == len(steps) else ",\n")
     yield "]}\n"
@@ -57,4 +100,12 @@ if __name__ == "__main__":
     words.add_argument("--requests", type=int)
     words.add_argument("--seed", type=int, default=1)
     words.add_argument("--gossip", action="store_true")
-    sys.stdout.writelines(script(**vars(words.parse_args())))
+    words.add_argument("--rounds", type=int)
+    words.add_argument("--at", type=int, choices=(1, 2), default=1)
+    words.add_argument("--share", type=int, default=100)
+    words.add_argument("--quiet", action="store_true")
+    words = words.parse_args()
+    if words.rounds is None:
+        sys.stdout.writelines(script(words.tasks, words.machines, words.requests, words.seed, words.gossip))
+    else:
+        sys.stdout.writelines(rounds(words.tasks, words.rounds, words.at, words.share, words.quiet, words.seed))

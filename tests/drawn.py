@@ -1,16 +1,19 @@
 #!/usr/bin/env python3
 """Draws scripts of several coordinators, the same for the same seeds: `gossip`, in which they pass on what they know,
-`refused`, which has a step that is refused, `rounds`, and `contended`, of one, in which tasks contend for few slots.
+`refused`, which has a step that is refused, `rounds`, `contended`, of one, in which tasks contend for few slots, and `grouped`,
+in which one is told all and the others are given that in groups of neighbouring deltas, each in other groups.
 
     tests/drawn.py gossip SEED
     tests/drawn.py refused SEED KIND
     tests/drawn.py rounds SEED COORDINATORS
     tests/drawn.py contended SEED
     tests/drawn.py corners SEED
+    tests/drawn.py grouped SEED
 
 `corners` is of one coordinator too: few tasks and machines, with requests, prices, uses and slots at the ends of their ranges,
 ids of 128 bits, held tasks on full machines, and now and then no machine.
 """
+import collections
 import json
 import random
 import sys
@@ -162,6 +165,105 @@ class Drawing:
         return json.dumps({"coordinators": self.numbers, "steps": self.steps})
 
 
+class Lives:
+    """Operations on one small cluster as it lives: what is told mostly follows what was told before it."""
+
+    def __init__(self, chance):
+        self.chance, self.told, self.versions, self.attempts = chance, [], collections.Counter(), collections.Counter()
+        self.incarnations, self.numbers = collections.Counter({n: 1 for n in range(11, 15)}), collections.Counter()
+        self.jobs, self.machines, self.tasks = range(1, 4), range(11, 15), range(21, 30)
+
+    def register(self, of):
+        """A version, mostly the next one and now and then the last one again, with a writer."""
+        self.versions[of] += self.chance.random() < 0.85
+        return {"version": self.versions[of], "writer": self.chance.randint(1, 3)}
+
+    def job(self):
+        """Prices change; some jobs are withdrawn, and come back."""
+        job = self.chance.choice(self.jobs)
+        return {"job": {"id": unique(job), **self.register(job), "withdrawn": self.chance.random() < 0.25,
+                        "wait": self.chance.randint(0, 900), "preempt": self.chance.randint(0, 900)}}
+
+    def spec(self):
+        """Some tasks are withdrawn and come back, and some go to another job or get another request."""
+        task = self.chance.choice(self.tasks)
+        return {"spec": {"id": unique(task), **self.register(task), "withdrawn": self.chance.random() < 0.2,
+                         "job": unique(self.chance.choice(self.jobs)), "request": self.chance.choice((0, 100, 300, 700))}}
+
+    def progress(self):
+        """A task gets on, or gets a later attempt, also after it was done."""
+        task = self.chance.choice(self.tasks)
+        later = self.chance.random() < 0.4
+        self.attempts[task] += later
+        phase = "pending" if later else self.chance.choice(PHASES[1:])
+        return {"progress": {"id": unique(task), "attempt": self.attempts[task], "phase": phase}}
+
+    def machine(self):
+        """A machine goes down or comes back, or has other slots and bandwidth; some news are of an old incarnation."""
+        machine = self.chance.choice(self.machines)
+        late = self.chance.random() < 0.1 and self.incarnations[machine] > 1
+        return {"machine": {"id": unique(machine), "incarnation": self.incarnations[machine] - late, **self.register(machine),
+                            "up": self.chance.random() < 0.8, "slots": self.chance.randint(1, 3),
+                            "nic": self.chance.choice((0, 600, 1000))}}
+
+    def report(self):
+        """A use; now and then of the next incarnation, whose state is not known yet: so the machine is lost."""
+        machine = self.chance.choice(self.machines)
+        self.incarnations[machine] += self.chance.random() < 0.15
+        self.numbers[machine] += self.chance.random() < 0.85
+        return {"report": {"id": unique(machine), "incarnation": self.incarnations[machine], "number": self.numbers[machine],
+                           "used": self.chance.choice((0, 0, 200, 450, 900, 1001))}}
+
+    def propose(self):
+        """An attempt of a task, mostly the present one, gets a proposal: several coordinators contend for it."""
+        task, machine = self.chance.choice(self.tasks), self.chance.choice((*self.machines, 15))
+        attempt = self.attempts[task] + self.chance.choice((0, 0, 0, 0, 1))
+        return {"propose": {"id": unique(task), "attempt": attempt, "coordinator": self.chance.randint(1, 4),
+                            "machine": unique(machine), "incarnation": max(1, self.incarnations[machine])}}
+
+    def again(self):
+        return self.chance.choice(self.told) if self.told else self.job()
+
+    def operations(self, count):
+        for _ in range(count):
+            kinds = (self.job, self.spec, self.spec, self.spec, self.progress, self.progress, self.machine, self.machine,
+                     self.report, self.report, self.propose, self.propose, self.propose, self.propose, self.again)
+            self.told.append(self.chance.choice(kinds)())
+        return self.told
+
+
+def groups_of(chance, count, most):
+    """Neighbouring intervals that cover 0 to count, none longer than most."""
+    ends = [0]
+    while ends[-1] < count:
+        ends.append(min(count, ends[-1] + chance.randint(1, most)))
+    return list(zip(ends, ends[1:]))
+
+
+def deliveries(told, groupings):
+    """A script in which the last coordinator is told the operations, and each of the others, two for each grouping, is given
+    them by packets of its intervals, in their order. So of each two the first edits its network and the second builds it."""
+    steps, source, cut = [{"at": 64, "tell": op} for op in told], 64, set()
+    for place, groups in enumerate(groupings):
+        for start, end in groups:
+            name = "%d to %d" % (start, end)
+            if name not in cut:
+                cut.add(name)
+                steps.append({"at": source, "cut": {"name": name, "from": start, "to": end}})
+            steps += [{"at": 2 * place + at, "deliver": name} for at in (1, 2)]
+    return {"coordinators": [*range(1, 2 * len(groupings) + 1), source], "steps": steps}
+
+
+def grouped(seed, count=240):
+    """A life in some groupings: delta by delta, in small and in large groups, with groups that come again, and all at once."""
+    chance = random.Random("grouped %d" % seed)
+    told = Lives(chance).operations(count)
+    groupings = [groups_of(chance, count, most) for most in (1, 3, 12, 60, count)]
+    groupings[1] = [group for place, one in enumerate(groupings[1])
+                    for group in (one, chance.choice(groupings[1][:place + 1]))[:1 + (chance.random() < 0.2)]]
+    return json.dumps(deliveries(told, groupings))
+
+
 def gossip(seed):
     """Coordinators that pass on some of what they know; those of every third seed then exchange all."""
     drawing = Drawing(seed)
@@ -224,5 +326,5 @@ def corners(seed):
 
 if __name__ == "__main__":
     kind, seed, *more = sys.argv[1:]
-    kinds = {"gossip": gossip, "refused": refused, "rounds": lambda s, n: rounds(s, int(n)), "contended": contended, "corners": corners}
+    kinds = {"gossip": gossip, "refused": refused, "rounds": lambda s, n: rounds(s, int(n)), "contended": contended, "corners": corners, "grouped": grouped}
     print(kinds[kind](int(seed), *more))

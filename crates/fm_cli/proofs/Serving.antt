@@ -1,5 +1,5 @@
 -- What a command's answer comes to, from what its parts write into memory.
-use Rattle.std.proofs.Common.{◌≡◌, ◌⊎◌, ℕ, IfSome, List, Bool, true, false, cond, is_none, IsTrue, ◌↔◌, Option, Some, None, String, Global, refl, sym, ap, ◌∙◌, subst, inl, inr}
+use Rattle.std.proofs.Common.{◌≡◌, ◌⊎◌, ℕ, IfSome, List, Bool, true, false, cond, is_none, IsTrue, ◌↔◌, Option, Some, None, refl, sym, ap, ◌∙◌, subst, inl, inr}
 use Rattle.std.specs.Io.KnownBytes.{Appends}
 use Rattle.fm_records.specs.declared.refusal.Refusal.{Refusal}
 use Rattle.fm_records.specs.declared.refusal.Refusal.TheVariants as refused
@@ -18,7 +18,10 @@ use Rattle.fm_cli.specs.declared.serve.Ending.TheVariants.{Done, Differ, Wrong, 
 use Rattle.fm_cli.specs.Faults.{fault_of, is_write_fault, in_memory_of}
 use Rattle.fm_cli.specs.Running.{opened, Come, Stops}
 use Rattle.fm_cli.specs.Output.{After, Ends, Leaves, LeavesSolution, LeavesUnsolved, IsSolved, IsSolvedAt, network_of, Writes, graph_of, difference}
-use Rattle.fm_cli.specs.Answers.{AnswersIn, Wants, Lacks, IsNotListed, IsOfScript, IsStopped, IsAnswer, Serves, IsServed}
+use Rattle.fm_input.specs.declared.words.Words.{Words}
+use Rattle.fm_input.specs.declared.words.Words.TheVariants as words
+use Rattle.fm_cli.specs.Refused.{refusals_text}
+use Rattle.fm_cli.specs.Answers.{AnswersIn, Wants, Lacks, IsNotListed, IsOfScript, IsStopped, IsAnswer, IsPrinted, Obeys}
 
 -- of a fault of writing to memory only that it is want of memory is said
 pub kept : (P : Fault → Type 0) → P (fault_of refused.OutOfMemory) → (f : Fault) → P f → P (in_memory_of f)
@@ -135,28 +138,12 @@ stopped_not : (fault : Fault) → ((Stopped fault ≡ Done) ⊎ (Stopped fault �
 stopped_not fault (inl e) = cc
 stopped_not fault (inr e) = cc
 
-wrong_not : (said : String Global) → ((Wrong said ≡ Done) ⊎ (Wrong said ≡ Differ)) → ⊥
-wrong_not said (inl e) = cc
-wrong_not said (inr e) = cc
-
 -- the whole answer went out
 pub written : (c : Command) (text : List ℕ) (ending : Ending) (output : List ℕ) (old new : Option (List ℕ)) → Wants c text ending output → Appends old new output → IsAnswer c text ending old new
 written c text Done output old new h went = record { output = output; wanted = h; appended = went }
 written c text Differ output old new h went = record { output = output; wanted = h; appended = went }
 written c text (Wrong said) output old new h went = record { output = output; wanted = h; appended = went }
 written c text (Stopped fault) output old new h went = absurd (stopped_not fault (ends_well c text (Stopped fault) output h))
-
--- a run that served a command
-pub served : (c : Command) (text : List ℕ) (ending : Ending) (old new : Option (List ℕ)) → Serves c text ending old new → IsServed text ending old new
-served c text Done old new h = inl (c, h)
-served c text Differ old new h = inl (c, h)
-served c text (Stopped fault) old new h = inl (c, h)
-served c text (Wrong said) old new (inl h) = absurd (wrong_not said (ends_well c text (Wrong said) h.output h.wanted))
-served c text (Wrong said) old new (inr h) = absurd (let no : Wrong said ≡ Stopped (fault_of (refused.BadScript 0)) = h.0 in let bad : ⊥ = cc in bad)
-
-pub for_each : (P Q : List ℕ → Type 0) (remaining : Option (List ℕ)) → ((text : List ℕ) → P text → Q text) → IfSome remaining P → IfSome remaining Q
-for_each P Q None f h = tt
-for_each P Q (Some all) f h = f all h
 
 -- what holds of the bytes that were read holds of all that the reader had
 pub of_bytes : (P : List ℕ → Type 0) (remaining : Option (List ℕ)) (bytes : List ℕ) → IfSome remaining (λ all. bytes ≡ all) → P bytes → IfSome remaining P
@@ -166,3 +153,7 @@ of_bytes P (Some all) bytes same h = subst P same h
 pub of_any : (P : List ℕ → Type 0) (remaining : Option (List ℕ)) → ((text : List ℕ) → P text) → IfSome remaining P
 of_any P None h = tt
 of_any P (Some all) h = h all
+
+-- words that ask for the page are obeyed by printing it
+pub page_obeyed : (given : Words) (text : List ℕ) (ending : Ending) (old new : Option (List ℕ)) → given ≡ words.Refusals → IsPrinted ending refusals_text old new → Obeys given text ending old new
+page_obeyed given text ending old new is printed = subst (λ w. Obeys w text ending old new) (sym is) printed

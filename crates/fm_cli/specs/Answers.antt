@@ -1,5 +1,5 @@
 -- What the program writes for a command and an input, and how it ends (this project's profile).
-use Rattle.std.specs.Prelude.{◌≡◌, ◌⊎◌, ℕ, List, cond, is_none, Option, Some, None, Ok, Err}
+use Rattle.std.specs.Prelude.{◌≡◌, ◌⊎◌, ℕ, List, string_bytes, cond, is_none, Option, Some, None, Ok, Err}
 use Rattle.std.specs.Io.KnownBytes.{Appends}
 use Rattle.fm_records.specs.declared.refusal.Refusal.{Refusal}
 use Rattle.fm_records.specs.declared.refusal.Refusal.TheVariants.{OutOfMemory, WriteFault, NoCoordinator, NoPacket, BadScript}
@@ -14,6 +14,8 @@ use Rattle.fm_input.specs.declared.words.Command.{Command}
 use Rattle.fm_input.specs.declared.words.Command.TheVariants as command
 use Rattle.fm_input.specs.declared.words.Question.{Question}
 use Rattle.fm_input.specs.declared.words.Question.TheVariants as question
+use Rattle.fm_input.specs.declared.words.Words.{Words}
+use Rattle.fm_input.specs.declared.words.Words.TheVariants as words
 use Rattle.fm_input.specs.Texts.{Spells, SpellsNone}
 use Rattle.fm_cli.specs.declared.fault.Fault.{Fault}
 use Rattle.fm_cli.specs.declared.serve.Ending.{Ending}
@@ -23,6 +25,7 @@ use Rattle.fm_cli.specs.Running.{opened, Come, Stops}
 use Rattle.fm_cli.specs.Output.{After, network_of, graph_of, winners_of, difference, agreement_text, packet_named, packet_line}
 use Rattle.fm_cli.specs.Endings.{asked_of}
 use Rattle.fm_cli.specs.Unpacked.{IsUnpacked, IsNotUnpacked}
+use Rattle.fm_cli.specs.Refused.{refusals_text}
 
 -- the text was not read as a script, and why
 pub record IsUnread (text : List ℕ) (fault : Fault) : Type 0 where
@@ -117,9 +120,14 @@ abbrev pub IsPrinted : Ending → List ℕ → Option (List ℕ) → Option (Lis
 IsPrinted ending text old new =
     ((ending ≡ Done) × Appends old new text) ⊎ ((ending ≡ Stopped (fault_of WriteFault)) × AppendsPrefix old new text)
 
--- a run over words and an input: a command that the words ask for was served, or a text of help was printed, or the words are
--- wrong or could not be read, and nothing is written
+-- what the words came to was done: the command was served, or the text that was asked for, or the page of refusals, printed; or
+-- the words are wrong, which is said as they have it, and nothing is written
+abbrev pub Obeys : Words → List ℕ → Ending → Option (List ℕ) → Option (List ℕ) → Type 0
+Obeys (words.Run c) text ending old new = Serves c text ending old new
+Obeys (words.Help help) text ending old new = IsPrinted ending (string_bytes help) old new
+Obeys words.Refusals text ending old new = IsPrinted ending refusals_text old new
+Obeys (words.Wrong said) text ending old new = (ending ≡ Wrong said) × (new ≡ old)
+
+-- a run over words and an input: what the words came to was done; or memory was wanted for them, and nothing is written
 abbrev pub IsServed : List ℕ → Ending → Option (List ℕ) → Option (List ℕ) → Type 0
-IsServed text (Wrong said) old new = new ≡ old
-IsServed text ending old new =
-    ((c : Command) × Serves c text ending old new) ⊎ (((help : List ℕ) × IsPrinted ending help old new) ⊎ ((refusal : Refusal) × (ending ≡ Stopped (fault_of refusal)) × (new ≡ old)))
+IsServed text ending old new = ((given : Words) × Obeys given text ending old new) ⊎ ((ending ≡ Stopped (fault_of OutOfMemory)) × (new ≡ old))

@@ -4,4 +4,5 @@ pub mod Winners
 pub mod Output
 pub mod Endings
 pub mod Unpacked
+pub mod Refused
 pub mod Answers

@@ -6,6 +6,7 @@ mod answer;
 mod fault;
 mod output;
 mod pack;
+mod refusals;
 mod run;
 mod sending;
 mod serve;

@@ -4,6 +4,7 @@ ghost use Rattle.std.specs.Prelude.{◌≡◌, ℕ, [], IsTrue, IfOk, IfErr, OnO
 ghost use Rattle.fm_records.specs.Know.{know};
 ghost use Rattle.fm_edit.specs.Keepers.{is_fresh_keeper, KeeperIsFor};
 ghost use Rattle.fm_net.specs.Network.{net_of};
+ghost use Rattle.fm_flow.specs.Flows.{units_in, IsLeast};
 ghost use Rattle.fm_world.specs.declared.step.Act.TheVariants as world_act;
 ghost use Rattle.fm_coord.specs.Numbers.{AreDistinct};
 ghost use Rattle.fm_world.specs.Worlds.{WorldOfSets, refusal_of};
@@ -17,7 +18,8 @@ use fm_coord::coordinator::Coordinator;
 use fm_coord::view::View;
 use fm_edit::editor::Editor;
 use fm_edit::keepers::Keeper;
-use fm_flow::solve::solve;
+use fm_flow::flow::Flow;
+use fm_flow::solve::{solve, solve_from};
 use fm_input::script::{Act, Script, Step};
 use fm_know::laws::law_can_be;
 use fm_lattice::join::OutOfMemory;
@@ -29,6 +31,7 @@ use fm_round::plan::plan;
 use fm_world::step::{Act as WorldAct, Step as WorldStep};
 use fm_world::world::World;
 use std::alloc::Global;
+use std::collections::BTreeMap;
 
 /// How many entries a coordinator's history may have.
 pub const HISTORY_LIMIT: usize = 1_000_000;
@@ -42,7 +45,8 @@ pub fn run(alloc: Global, script: &Script) -> Result<World<Keeper>, Fault>
     ensures err { IfErr result (λ fault. Stops script.now.coordinators.items script.now.steps.items fault) }
 {
     let mut world = open(alloc, &script.coordinators)?;
-    take_all(alloc, &mut world, &script.steps)?;
+    let mut flows = BTreeMap::new(alloc);
+    take_all(alloc, &mut world, &mut flows, &script.steps)?;
     Ok(world)
 }
 
@@ -72,12 +76,17 @@ fn keeper_at(alloc: Global, place: usize) -> Result<Keeper, OutOfMemory>
 }
 
 // Takes the steps in order, up to the first that is refused.
-fn take_all(alloc: Global, world: &mut World<Keeper>, steps: &[Step]) -> Result<(), Fault>
+fn take_all(
+    alloc: Global,
+    world: &mut World<Keeper>,
+    flows: &mut BTreeMap<u8, Flow>,
+    steps: &[Step],
+) -> Result<(), Fault>
     ensures ok { (w : WorldOfSets) → WorldStandsFor world.old w → OnOk result ((v : WorldOfSets) × Come w steps.now v × WorldStandsFor world.new v) }
     ensures err { (w : WorldOfSets) → WorldStandsFor world.old w → IfErr result (λ fault. StopsIn w steps.now fault) }
 {
     for (place, step) in steps.iter().enumerate() {
-        if let Err(refusal) = take(alloc, world, step.at, step.act) {
+        if let Err(refusal) = take(alloc, world, flows, step.at, step.act) {
             return Err(Fault {
                 refusal,
                 step: Some(place + 1),
@@ -88,7 +97,13 @@ fn take_all(alloc: Global, world: &mut World<Keeper>, steps: &[Step]) -> Result<
 }
 
 // What happens in a step.
-fn take(alloc: Global, world: &mut World<Keeper>, at: u8, act: Act) -> Result<(), Refusal>
+fn take(
+    alloc: Global,
+    world: &mut World<Keeper>,
+    flows: &mut BTreeMap<u8, Flow>,
+    at: u8,
+    act: Act,
+) -> Result<(), Refusal>
     ensures ok { (w : WorldOfSets) → WorldStandsFor world.old w → OnOk result ((v : WorldOfSets) × Acts w at act v × WorldStandsFor world.new v) }
     ensures err { (w : WorldOfSets) → WorldStandsFor world.old w → IfErr result (λ refusal. Refuses w at act refusal) }
 {
@@ -97,7 +112,7 @@ fn take(alloc: Global, world: &mut World<Keeper>, at: u8, act: Act) -> Result<()
         Act::Cut(range) => ask(world, at, WorldAct::Cut(range)),
         Act::Deliver(packet) => ask(world, at, WorldAct::Deliver(packet)),
         Act::Trim(n) => ask(world, at, WorldAct::Trim(n)),
-        Act::Round => round(alloc, world, at),
+        Act::Round => round(alloc, world, flows, at),
     }
 }
 
@@ -112,8 +127,13 @@ fn ask(world: &mut World<Keeper>, at: u8, act: WorldAct) -> Result<(), Refusal>
     }
 }
 
-// A round: what the coordinator sees is planned for, and the plan is committed.
-fn round(alloc: Global, world: &mut World<Keeper>, at: u8) -> Result<(), Refusal>
+// A round: what the coordinator sees is planned for, from the flow of its last round if it had one, and the plan is committed.
+fn round(
+    alloc: Global,
+    world: &mut World<Keeper>,
+    flows: &mut BTreeMap<u8, Flow>,
+    at: u8,
+) -> Result<(), Refusal>
     ensures ok { (w : WorldOfSets) → WorldStandsFor world.old w → OnOk result ((v : WorldOfSets) × Acts w at script_act.Round v × WorldStandsFor world.new v) }
     ensures err { (w : WorldOfSets) → WorldStandsFor world.old w → IfErr result (λ refusal. Refuses w at script_act.Round refusal) }
 {
@@ -125,18 +145,36 @@ fn round(alloc: Global, world: &mut World<Keeper>, at: u8) -> Result<(), Refusal
     let Some(view) = world.step(&look)? else {
         return Err(Refusal::NoCoordinator);
     };
-    let plan = plan_for(alloc, &view)?;
+    let flow = least_flow(alloc, &view, flows.get(&at))?;
+    let plan = plan_of(alloc, &view, &flow)?;
+    flows.insert(at, flow)?;
     ask(world, at, WorldAct::Commit(plan))
 }
 
-// The plan of a least flow of the network that is seen. Refused memory and nothing else.
-fn plan_for(alloc: Global, view: &View) -> Result<Plan, Refusal>
+// A least flow of the network that is seen, from the earlier one, if there is one. Refused memory and nothing else.
+fn least_flow(alloc: Global, view: &View, earlier: Option<&Flow>) -> Result<Flow, Refusal>
     requires { view.now.network ≡ net_of view.now.knowledge }
-    ensures ok { IfOk result (λ plan. IsPlanOf view.now.knowledge plan) }
+    ensures ok { IfOk result (λ flow. IsLeast view.now.network (units_in flow)) }
     ensures err { IfErr result (λ refusal. refusal ≡ Refusal.OutOfMemory) }
 {
     let knowledge = view.knowledge.get();
     law_can_be(knowledge);
-    let (flow, _) = solve(alloc, &view.network)?;
-    Ok(plan(alloc, &view.network, &flow, knowledge)?)
+    let Some(earlier) = earlier else {
+        let (flow, _) = solve(alloc, &view.network)?;
+        return Ok(flow);
+    };
+    let (flow, _) = solve_from(alloc, &view.network, earlier)?;
+    Ok(flow)
+}
+
+// The plan of a least flow of the network that is seen. Refused memory and nothing else.
+fn plan_of(alloc: Global, view: &View, flow: &Flow) -> Result<Plan, Refusal>
+    requires network { view.now.network ≡ net_of view.now.knowledge }
+    requires least { IsLeast view.now.network (units_in flow.now) }
+    ensures ok { IfOk result (λ plan. IsPlanOf view.now.knowledge plan) }
+    ensures err { IfErr result (λ refusal. refusal ≡ Refusal.OutOfMemory) }
+{
+    let knowledge = view.knowledge.get();
+    let plan = plan(alloc, &view.network, flow, knowledge)?;
+    Ok(plan)
 }

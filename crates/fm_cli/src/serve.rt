@@ -2,10 +2,11 @@
 
 ghost use Rattle.std.specs.Prelude.{◌≡◌, Some, IfSome};
 ghost use Rattle.fm_cli.specs.Endings.{ending_status, ending_text};
-ghost use Rattle.fm_cli.specs.Answers.{IsAnswer, Serves, IsServed, IsPrinted};
+ghost use Rattle.fm_cli.specs.Answers.{IsAnswer, Serves, Obeys, IsServed, IsPrinted};
 
 use crate::answer::answer;
 use crate::fault::Fault;
+use crate::refusals::REFUSALS;
 use crate::sending::send;
 use fm_input::input::read_input;
 use fm_input::words::{Command, Words, read_words};
@@ -66,10 +67,26 @@ pub fn serve<R: Read, W: Write>(
     ensures { IfSome (R.remaining reader.old) (λ text. IsServed text result (W.contents writer.old) (W.contents writer.new)) }
 {
     match read_words(alloc, words) {
-        Ok(Words::Run(command)) => run(alloc, command, reader, writer),
-        Ok(Words::Help(text)) => print(text.as_str(), writer),
-        Ok(Words::Wrong(text)) => Ending::Wrong(text),
+        Ok(words) => obey(alloc, words, reader, writer),
         Err(refusal) => Ending::Stopped(Fault::from(refusal)),
+    }
+}
+
+/// Does what the words come to: runs the command on what the reader gives, prints the text or the page of refusals that was
+/// asked for, or says what is wrong with the words. Nothing is read for a text, and nothing is written where the words are wrong.
+pub fn obey<R: Read, W: Write>(
+    alloc: Global,
+    words: Words,
+    reader: &mut R,
+    writer: &mut W,
+) -> Ending
+    ensures { IfSome (R.remaining reader.old) (λ text. Obeys words.entry text result (W.contents writer.old) (W.contents writer.new)) }
+{
+    match words {
+        Words::Run(command) => run(alloc, command, reader, writer),
+        Words::Help(text) => print(text.as_str(), writer),
+        Words::Refusals => print(REFUSALS, writer),
+        Words::Wrong(text) => Ending::Wrong(text),
     }
 }
 

@@ -1,3 +1,4 @@
 pub mod Keeps
+pub mod Happens
 pub mod Said
 mod Examples

@@ -3,8 +3,8 @@
 use Rattle.std.specs.Prelude.{ℕ, ◌+◌, List, [], ◌∷◌, ◌++◌}
 use Rattle.std.specs.List.{slice_range}
 use Rattle.fm_records.specs.declared.ops.Op.{Op}
+use Rattle.fm_records.specs.Sets.{union}
 use Rattle.fm_records.specs.Know.{know}
-use Rattle.fm_delta.specs.Deltas.{union_of}
 use Rattle.fm_round.specs.declared.parts.Plan.{Plan}
 use Rattle.fm_round.specs.declared.parts.Admitted.{Admitted}
 use Rattle.fm_round.specs.Admission.{admitted}
@@ -52,7 +52,7 @@ opening number limit = record { number = number; limit = limit; taken = []; buff
 
 -- what a range comes to: the sets of an interval together, or all that was taken in
 abbrev pub set_of : Replica → Range → List Op
-set_of r (Interval from to) = union_of (slice_range r.buffer from to)
+set_of r (Interval from to) = union (slice_range r.buffer from to)
 set_of r Full = r.taken
 
 -- the packet of a cut: its number is one more than the cuts before

@@ -3,11 +3,9 @@ use Rattle.std.specs.Prelude.{◌≡◌, ℕ, Bool, ◌==◌, ◌&&◌}
 use Rattle.std.specs.Bool.{Decides}
 use Rattle.std.proofs.Common.{ap, eq-eqb, rules}
 use Rattle.std.proofs.lemmas.Bool.{eqb-true}
-use Rattle.fm_records.specs.declared.ops.Op.{Op}
-use Rattle.fm_records.specs.declared.ops.Op.TheVariants as op
 use Rattle.fm_records.specs.LookupLaws.{both_true}
 use Rattle.fm_records.specs.Table.{Table}
-use Rattle.fm_records.specs.contracts.ops.OpPartialEq.TheImpl as op_eq
+use Rattle.fm_records.specs.Decided.{op_Decides}
 use Rattle.fm_know.specs.Same.{same_table, table_Decides}
 use Rattle.fm_delta.specs.PacketLaws.{packet_Decides}
 use Rattle.fm_round.specs.SameLaws.{plan_Decides, admitted_Decides}
@@ -34,15 +32,6 @@ same_reply = (reply_eq.ghosts).eq
 
 abbrev pub same_entry : Entry → Entry → Bool
 same_entry = (entry_eq.ghosts).eq
-
-op_Decides : (a b : Op) → Decides ((op_eq.ghosts).eq a b) (a ≡ b)
-op_Decides (op.Job i v w d x y) (op.Job j v2 w2 d2 x2 y2) = search rules
-op_Decides (op.Spec i v w d j r) (op.Spec i2 v2 w2 d2 j2 r2) = search rules
-op_Decides (op.Progress i a p) (op.Progress i2 a2 p2) = search rules
-op_Decides (op.Machine i n v w u s x) (op.Machine i2 n2 v2 w2 u2 s2 x2) = search rules
-op_Decides (op.Report i n r u) (op.Report i2 n2 r2 u2) = search rules
-op_Decides (op.Propose i a x m n) (op.Propose i2 a2 x2 m2 n2) = search rules
-op_Decides a b = search rules
 
 pub range_Decides : (a b : Range) → Decides (same_range a b) (a ≡ b)
 range_Decides (Interval a b) (Interval c d) = search rules

@@ -1,5 +1,5 @@
 -- What a coordinator keeps, what calls make of it, and for which replica it stands.
-use Rattle.std.specs.Prelude.{◌≡◌, ◌≤◌, ℕ, ◌+◌, Bool, IsTrue, List, [], ◌∷◌, ◌++◌, length, drop, map}
+use Rattle.std.specs.Prelude.{◌≡◌, ◌≤◌, ℕ, ◌+◌, Bool, IsTrue, List, [], ◌∷◌, ◌++◌, length, drop, map, None}
 use Rattle.fm_records.specs.Table.{Table}
 use Rattle.fm_records.specs.Know.{know}
 use Rattle.fm_records.specs.Joined.{table_join}
@@ -12,9 +12,9 @@ use Rattle.fm_coord.specs.declared.entry.Reply.{Reply}
 use Rattle.fm_coord.specs.declared.entry.Entry.{Entry}
 use Rattle.fm_coord.specs.declared.entry.Range.{Range}
 use Rattle.fm_coord.specs.declared.entry.Range.TheVariants.{Interval, Full}
-use Rattle.fm_coord.specs.Events.{Event, Replica, opening}
-use Rattle.fm_coord.specs.Causes.{Bounds}
-use Rattle.fm_coord.specs.Replays.{call_of, replay, IsLegal}
+use Rattle.fm_coord.specs.Events.{Event, Replica, opening, happens}
+use Rattle.fm_coord.specs.Causes.{Bounds, cause, bounds_of}
+use Rattle.fm_coord.specs.Replays.{call_of, reply_of, replay, IsLegal}
 
 -- what a coordinator keeps
 pub record State : Type 0 where
@@ -95,6 +95,13 @@ pub record StandsFor (s : State) (r : Replica) : Type 0 where
   pub cuts : s.cuts ≡ r.cuts
   -- its history is just what happened
   pub history : map asked s.history ≡ map step_asked r.steps
+
+-- an accepted call was the event at the replica: there was no cause to refuse it, the reply is the event's, and what is kept now
+-- stands for the replica after it
+pub record IsEventAt (r : Replica) (by : ℕ) (event : Event) (reply : Reply) (s : State) : Type 0 where
+  pub accepted : cause (bounds_of r) (call_of event) ≡ None
+  pub answered : reply ≡ reply_of r event
+  pub stands : StandsFor s (happens r by event)
 
 -- the replica that a coordinator's history comes to
 abbrev pub replayed : State → Replica

@@ -12,8 +12,10 @@ ghost use Rattle.std.specs.Io.KnownBytes.{Appends};
 ghost use Rattle.fm_dimacs.specs.Sending.{AppendsPrefix, StopsBy, IsSent};
 ghost use Rattle.fm_dimacs.specs.Text.{dump_text};
 ghost use Rattle.fm_round.specs.Admission.{admitted};
+ghost use Rattle.fm_coord.specs.Events.{Sent, Told, Merged, Gave, LetGo, Viewed, Committed, Replica};
 ghost use Rattle.fm_coord.specs.Causes.{cause, refusal_for, room_fault, range_fault, floor_fault};
-ghost use Rattle.fm_coord.specs.States.{new_state, bounds, entry, took, gave, let_go, noted, cut_packet, range_value, IsCoordinator};
+ghost use Rattle.fm_coord.specs.Replays.{seen};
+ghost use Rattle.fm_coord.specs.States.{new_state, bounds, entry, took, gave, let_go, noted, cut_packet, range_value, StandsFor, IsEventAt, IsCoordinator};
 
 use crate::entry::{Call, Entry, Range, Reply};
 use crate::shared::Shared;
@@ -204,6 +206,7 @@ impl<N: NetKeeper> Coordinator<N> {
         ensures ok { OnOk result (self.new.state ≡ took self.old.state (know (op ∷ [])) (entry by (Call.Tell op) Reply.Nothing)) }
         ensures keeper { OnOk result (N.absorbs self.old.keeper (changed_keys (know (op ∷ []))) self.new.keeper) }
         ensures within { IsOk result → cause (bounds self.old.state) (Call.Tell op) ≡ None }
+        ensures event { (r : Replica) → StandsFor self.old.state r → OnOk result (IsEventAt r by (Told op) Reply.Nothing self.new.state) }
         ensures err { IfErr result (λ refusal. refusal ≡ refusal_for (bounds self.old.state) (Call.Tell op)) }
         ensures unchanged { OnErr result (self.new ≡ self.old) }
     {
@@ -226,6 +229,7 @@ impl<N: NetKeeper> Coordinator<N> {
         ensures ok { OnOk result (self.new.state ≡ took self.old.state packet.value (entry by (Call.Merge packet) Reply.Nothing)) }
         ensures keeper { OnOk result (N.absorbs self.old.keeper (changed_keys packet.value) self.new.keeper) }
         ensures within { IsOk result → cause (bounds self.old.state) (Call.Merge packet) ≡ None }
+        ensures event { (r : Replica) (sent : Sent) → StandsFor self.old.state r → packet ≡ seen sent → OnOk result (IsEventAt r by (Merged sent) Reply.Nothing self.new.state) }
         ensures err { IfErr result (λ refusal. refusal ≡ refusal_for (bounds self.old.state) (Call.Merge packet)) }
         ensures unchanged { OnErr result (self.new ≡ self.old) }
     {
@@ -250,6 +254,7 @@ impl<N: NetKeeper> Coordinator<N> {
         ensures packet { IfOk result (λ packet. packet ≡ cut_packet self.old.state range) }
         ensures keeper { self.new.keeper ≡ self.old.keeper }
         ensures within { IsOk result → cause (bounds self.old.state) (Call.Cut range) ≡ None }
+        ensures event { (r : Replica) → StandsFor self.old.state r → IfOk result (λ packet. IsEventAt r by (Gave range) (Reply.Packet packet) self.new.state) }
         ensures err { IfErr result (λ refusal. refusal ≡ refusal_for (bounds self.old.state) (Call.Cut range)) }
         ensures unchanged { OnErr result (self.new ≡ self.old) }
     {
@@ -301,6 +306,7 @@ impl<N: NetKeeper> Coordinator<N> {
         ensures ok { OnOk result (self.new.state ≡ let_go self.old.state n (entry by (Call.Trim n) Reply.Nothing)) }
         ensures keeper { self.new.keeper ≡ self.old.keeper }
         ensures within { IsOk result → cause (bounds self.old.state) (Call.Trim n) ≡ None }
+        ensures event { (r : Replica) → StandsFor self.old.state r → OnOk result (IsEventAt r by (LetGo n) Reply.Nothing self.new.state) }
         ensures err { IfErr result (λ refusal. refusal ≡ refusal_for (bounds self.old.state) (Call.Trim n)) }
         ensures unchanged { OnErr result (self.new ≡ self.old) }
     {
@@ -327,6 +333,7 @@ impl<N: NetKeeper> Coordinator<N> {
         ensures fresh { OnOk result (IsTrue (N.fresh self.new.keeper)) }
         ensures keeper { IsTrue (N.fresh self.old.keeper) → self.new.keeper ≡ self.old.keeper }
         ensures within { IsOk result → cause (bounds self.old.state) Call.View ≡ None }
+        ensures event { (r : Replica) → StandsFor self.old.state r → IfOk result (λ view. IsEventAt r by Viewed (Reply.Seen view.at view.knowledge) self.new.state) }
         ensures err { IfErr result (λ refusal. refusal ≡ refusal_for (bounds self.old.state) Call.View) }
         ensures unchanged { OnErr result (self.new.state ≡ self.old.state) }
     {
@@ -387,6 +394,7 @@ impl<N: NetKeeper> Coordinator<N> {
         ensures keeper { IfOk result (λ admitted. N.absorbs self.old.keeper (changed_keys (know admitted.ops)) self.new.keeper) }
         ensures admitted { IfOk result (λ a. a ≡ admitted self.old.state.knowledge self.old.state.number plan) }
         ensures within { IsOk result → cause (bounds self.old.state) (Call.Commit plan) ≡ None }
+        ensures event { (r : Replica) → StandsFor self.old.state r → IfOk result (λ admitted. IsEventAt r by (Committed plan) (Reply.Admitted admitted) self.new.state) }
         ensures err { IfErr result (λ refusal. refusal ≡ refusal_for (bounds self.old.state) (Call.Commit plan)) }
         ensures unchanged { OnErr result (self.new ≡ self.old) }
     {

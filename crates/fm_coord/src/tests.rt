@@ -310,3 +310,20 @@ fn a_network_is_built_once_for_two_views(rt: HostRuntime) -> Result<(), Fail> {
     assert_eq!(rt; node.keeper().builds, 1);
     Ok(())
 }
+
+fn dump_again(alloc: Global, node: &mut Coordinator<Counting>) -> Result<(), Refusal> {
+    let mut out = Over::new(Vec::new(alloc));
+    node.dump(&mut out)
+}
+
+#[test]
+fn a_network_is_built_once_for_two_dumps_and_a_view(rt: HostRuntime) -> Result<(), Fail> {
+    let mut node = counted(rt.alloc())?;
+    tell_tasks(&mut node, 2)?;
+    dump_again(rt.alloc(), &mut node)?;
+    assert!(rt; node.is_fresh());
+    dump_again(rt.alloc(), &mut node)?;
+    see(&mut node)?;
+    assert_eq!(rt; node.keeper().builds, 1);
+    Ok(())
+}

@@ -6,6 +6,7 @@ use Rattle.std.proofs.Math.Seq.{take-add}
 use Rattle.std.proofs.lemmas.List.{append-nil, drop-drop}
 use Rattle.fm_lattice.specs.Joins.{JoinLaws}
 use Rattle.fm_records.specs.declared.ops.Op.{Op}
+use Rattle.fm_records.specs.Sets.{union}
 use Rattle.fm_records.specs.Table.{Table}
 use Rattle.fm_records.specs.Know.{know}
 use Rattle.fm_records.specs.Spelled.{ops}
@@ -15,7 +16,7 @@ use Rattle.fm_records.specs.JoinedLaws.{join_can_be, table_laws}
 use Rattle.fm_records.specs.UnionLaws.{know_append}
 use Rattle.fm_records.specs.SpelledLaws.{know_ops}
 use Rattle.fm_records.specs.RangeLaws.{know_can_be}
-use Rattle.fm_delta.specs.Deltas.{joined_from, joined_all, union_of}
+use Rattle.fm_delta.specs.Deltas.{joined_from, joined_all}
 
 -- each of the deltas can be
 abbrev pub AllCanBe : List Table → Type 0
@@ -83,9 +84,9 @@ split_between xs from middle to low high =
     ∙ ap (λ ys. take (middle - from) (drop from xs) ++ take (to - middle) ys) (drop-drop (middle - from) from xs ∙ ap (λ n. drop n xs) there)
 
 -- the join of what sets come to is what all of them together come to
-union_from : (S : List Op) (Ss : List (List Op)) → joined_from (know S) (map know Ss) ≡ know (S ++ union_of Ss)
+union_from : (S : List Op) (Ss : List (List Op)) → joined_from (know S) (map know Ss) ≡ know (S ++ union Ss)
 union_from S [] = ap know (sym (append-nil S))
-union_from S (T ∷ Ss) = ap (λ k. joined_from k (map know Ss)) (sym (know_append S T)) ∙ union_from (S ++ T) Ss ∙ ap know (append_assoc S T (union_of Ss))
+union_from S (T ∷ Ss) = ap (λ k. joined_from k (map know Ss)) (sym (know_append S T)) ∙ union_from (S ++ T) Ss ∙ ap know (append_assoc S T (union Ss))
 
-pub joined_union : (Ss : List (List Op)) → joined_all (map know Ss) ≡ know (union_of Ss)
+pub joined_union : (Ss : List (List Op)) → joined_all (map know Ss) ≡ know (union Ss)
 joined_union Ss = union_from [] Ss

@@ -1,8 +1,7 @@
 -- Buffers of deltas, and what a cut of one is. Delta-state CRDTs (Almeida, Shoker and Baquero): the delta group of a
 -- delta-interval is the join of its deltas.
 use Rattle.std.specs.Prelude.{ℕ, ◌+◌, ◌-◌, Bool, cond, nat_lt, nat_le, ◌||◌, ◌&&◌, List, [], ◌∷◌, ◌++◌, length, drop, Option, Some}
-use Rattle.std.specs.List.{slice_range, flat_map}
-use Rattle.fm_records.specs.declared.ops.Op.{Op}
+use Rattle.std.specs.List.{slice_range}
 use Rattle.fm_records.specs.declared.refusal.Refusal.{Refusal}
 use Rattle.fm_records.specs.declared.refusal.Refusal.TheVariants.{BadInterval, Trimmed}
 use Rattle.fm_records.specs.Options.{when}
@@ -44,10 +43,6 @@ joined_from k (delta ∷ deltas) = joined_from (table_join k delta) deltas
 -- the join of all deltas
 abbrev pub joined_all : List Table → Table
 joined_all = joined_from (know [])
-
--- the operations of all sets
-abbrev pub union_of : List (List Op) → List Op
-union_of = flat_map (λ S. S)
 
 -- why a cut is refused, where it is not for want of memory: it ends before it starts or beyond the end, or it starts
 -- below the floor

@@ -1,10 +1,11 @@
 -- The test of packets for equality is exact.
 use Rattle.std.specs.Prelude.{◌≡◌, Bool, true, ◌==◌, ◌&&◌}
-use Rattle.std.specs.Bool.{Decides, one_answer}
+use Rattle.std.specs.Bool.{Decides}
 use Rattle.std.specs.Cmp.{IsPartialEquivalence}
-use Rattle.std.proofs.Common.{sym, ap, ◌∙◌, eq-eqb}
+use Rattle.std.proofs.Common.{ap, eq-eqb}
 use Rattle.std.proofs.lemmas.Bool.{eqb-true}
 use Rattle.fm_records.specs.LookupLaws.{both_true}
+use Rattle.fm_records.specs.Decided.{equivalence}
 use Rattle.fm_know.specs.Same.{same_table, table_Decides}
 use Rattle.fm_delta.specs.declared.packet.Packet.{Packet}
 use Rattle.fm_delta.specs.Packets.{same_packet}
@@ -25,7 +26,4 @@ packet_Decides p q = (
 )
 
 pub packet_equivalence : IsPartialEquivalence same_packet
-packet_equivalence = record {
-  symm = λ p q. one_answer (same_packet p q) (same_packet q p) (packet_Decides p q) (λ h. sym ((packet_Decides q p).0 h), λ e. (packet_Decides q p).1 (sym e));
-  trans = λ p q r h k. (packet_Decides p r).1 ((packet_Decides p q).0 h ∙ (packet_Decides q r).0 k);
-}
+packet_equivalence = equivalence same_packet packet_Decides

@@ -5,8 +5,9 @@ ghost use Rattle.std.specs.List.{slice_range};
 ghost use Rattle.std.specs.VecDeque.{deque_len, deque_capacity};
 ghost use Rattle.fm_records.specs.declared.ops.Op.{Op};
 ghost use Rattle.fm_records.specs.Options.{or_else};
+ghost use Rattle.fm_records.specs.Sets.{union};
 ghost use Rattle.fm_records.specs.Know.{know};
-ghost use Rattle.fm_delta.specs.Deltas.{end_of, pushed, trimmed, between, joined_all, union_of, cut_fault, can_trim};
+ghost use Rattle.fm_delta.specs.Deltas.{end_of, pushed, trimmed, between, joined_all, cut_fault, can_trim};
 ghost use Rattle.fm_delta.specs.DeltaLaws.{IsJoinOf};
 
 use fm_know::knowledge::Knowledge;
@@ -88,7 +89,7 @@ impl Buffer {
     /// BadInterval where `from` is above `to` or `to` is above the end, else Trimmed where `from` is below the floor.
     pub fn cut(&self, from: u64, to: u64) -> Result<Knowledge, Refusal>
         ensures ok { IfOk result (λ k. k ≡ joined_all (between self.now.deltas from to)) }
-        ensures union { (Ss : List (List Op)) → between self.now.deltas from to ≡ map know Ss → IfOk result (λ k. k ≡ know (union_of Ss)) }
+        ensures union { (Ss : List (List Op)) → between self.now.deltas from to ≡ map know Ss → IfOk result (λ k. k ≡ know (union Ss)) }
         ensures within { IsOk result → cut_fault self.now.deltas from to ≡ None }
         ensures err { IfErr result (λ e. e ≡ or_else Refusal.OutOfMemory (cut_fault self.now.deltas from to)) }
     {

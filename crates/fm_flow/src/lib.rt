@@ -2,12 +2,13 @@
 #![tactic(auto)]
 
 mod bits;
+mod given;
 mod groups;
 mod kept;
 mod lanes;
 mod loading;
 mod paths;
 pub mod solve;
-mod start;
+pub mod start;
 
 pub use fm_certificate::{check, cost, entries, flow, laws, potentials};

@@ -5,8 +5,8 @@ ghost use Rattle.fm_certificate.specs.Built.{IsBuilt};
 ghost use Rattle.fm_certificate.specs.Flows.{units_in, IsLeast};
 ghost use Rattle.fm_certificate.specs.Certificates.{IsCertified};
 ghost use Rattle.fm_numbered.specs.Numbered.{IsNumbered};
-ghost use Rattle.fm_numbered.specs.Feasible.{IsFlowOf};
 
+use crate::given::given_units;
 use crate::start::{resume, start};
 use fm_certificate::flow::Flow;
 use fm_certificate::laws::law_least;
@@ -14,7 +14,7 @@ use fm_certificate::potentials::Potentials;
 use fm_lattice::join::OutOfMemory;
 use fm_net::network::Network;
 use fm_numbered::improved::improved;
-use fm_numbered::named::{certified, units_of};
+use fm_numbered::named::certified;
 use fm_numbered::numbered::Numbered;
 use fm_numbered::unscheduled::law_unscheduled;
 use fm_records::refusal::Refusal;
@@ -29,16 +29,14 @@ pub fn solve(alloc: Global, network: &Network) -> Result<(Flow, Potentials), Ref
     ensures least { IfOk result (λ found. IsLeast network.now (units_in found.0)) }
     ensures cause { IfErr result (λ refusal. refusal ≡ Refusal.OutOfMemory) }
 {
-    network.known();
-    law_unscheduled();
-    let numbered = Numbered::of(alloc, network)?;
-    let first = start(alloc, &numbered)?;
-    let found = least(alloc, network, &numbered, first)?;
+    let by_number = Numbered::of(alloc, network)?;
+    let found = anew(alloc, network, &by_number)?;
     Ok(found)
 }
 
 /// As `solve`, and starts with the task paths of the flow, of this network or an earlier one, that are still whole and
-/// fit. The caller owes a network that the policy can build. Refused as `solve` is.
+/// fit; where that comes to no least flow, it starts anew. The caller owes a network that the policy can build. Refused as
+/// `solve` is.
 pub fn solve_from(
     alloc: Global,
     network: &Network,
@@ -50,28 +48,32 @@ pub fn solve_from(
     ensures cause { IfErr result (λ refusal. refusal ≡ Refusal.OutOfMemory) }
 {
     network.known();
-    law_unscheduled();
+    law_least();
     let numbered = Numbered::of(alloc, network)?;
-    let given = units_of(alloc, network, flow)?;
-    let first = resume(alloc, &numbered, &given)?;
-    let found = least(alloc, network, &numbered, first)?;
+    let given = given_units(alloc, network, &numbered, flow)?;
+    if let Some((units, values)) = resume(alloc, &numbered, &given)? {
+        let found = certified(alloc, network, &numbered, &units, &values)?;
+        return Ok(found);
+    }
+    let found = anew(alloc, network, &numbered)?;
     Ok(found)
 }
 
-// The least flow that cancelling makes of the first one, and potentials that certify it. Refused memory alone.
-fn least(
+// The least flow that cancelling makes of the start's, and potentials that certify it. Refused memory alone.
+fn anew(
     alloc: Global,
     network: &Network,
     numbered: &Numbered,
-    first: Vec<u64>,
 ) -> Result<(Flow, Potentials), OutOfMemory>
+    requires built { IsBuilt network.now }
     requires numbered { IsNumbered network.now numbered.now.places numbered.now.arcs.items }
-    requires flow { IsFlowOf numbered.now.places numbered.now.arcs.items first.items }
     ensures certified { IfOk result (λ found. IsCertified network.now found.0 found.1) }
     ensures least { IfOk result (λ found. IsLeast network.now (units_in found.0)) }
 {
     network.known();
+    law_unscheduled();
     law_least();
+    let first = start(alloc, numbered)?;
     let (units, values) = improved(alloc, numbered, first)?;
     let found = certified(alloc, network, numbered, &units, &values)?;
     Ok(found)

@@ -1,6 +1,9 @@
 //! A first flow: all tasks unscheduled, or placed by falling worth, or as an earlier flow had them.
 
-ghost use Rattle.std.specs.Prelude.{IsTrue, IfOk};
+ghost use Rattle.std.specs.Prelude.{IfOk, IfSome};
+ghost use Rattle.fm_cycles.specs.Walks.{ArePotentials};
+ghost use Rattle.fm_cycles.specs.Residual.{residual};
+ghost use Rattle.fm_cycles.specs.Found.{costs_in};
 ghost use Rattle.fm_numbered.specs.Feasible.{IsFlowOf};
 ghost use Rattle.fm_numbered.specs.Unscheduled.{all_unscheduled};
 
@@ -249,11 +252,12 @@ fn keep_given(
     Ok(others)
 }
 
-// The units of tasks placed by falling worth, each class where its slots are cheapest, behind those of the given units.
-fn placed(alloc: Global, numbered: &Numbered, given: &[u64]) -> Result<Vec<u64>, OutOfMemory> {
-    let mut placing = Placing::new(alloc, numbered)?;
-    let all = choices(alloc, numbered, &placing.lanes.prices)?;
-    let mut choices = keep_given(alloc, &mut placing, &all, given)?;
+// The units so far, and those of tasks placed by falling worth, each class where its slots are cheapest.
+fn place_all(
+    alloc: Global,
+    mut placing: Placing<'_>,
+    mut choices: Vec<Choice>,
+) -> Result<Vec<u64>, OutOfMemory> {
     choices.sort()?;
     let classes = classes(alloc, &choices)?;
     for class in classes.iter().rev() {
@@ -264,19 +268,52 @@ fn placed(alloc: Global, numbered: &Numbered, given: &[u64]) -> Result<Vec<u64>,
         }
     }
     let mut units = placing.loading.into_units();
-    drain(alloc, numbered, &mut units)?;
+    drain(alloc, placing.numbered, &mut units)?;
     Ok(units)
+}
+
+// The units of all tasks placed by falling worth.
+fn placed(alloc: Global, numbered: &Numbered) -> Result<Vec<u64>, OutOfMemory> {
+    let placing = Placing::new(alloc, numbered)?;
+    let choices = choices(alloc, numbered, &placing.lanes.prices)?;
+    place_all(alloc, placing, choices)
+}
+
+// The units of the tasks that the given ones place, and of the others placed by falling worth behind them.
+fn placed_behind(
+    alloc: Global,
+    numbered: &Numbered,
+    given: &[u64],
+) -> Result<Vec<u64>, OutOfMemory> {
+    let mut placing = Placing::new(alloc, numbered)?;
+    let all = choices(alloc, numbered, &placing.lanes.prices)?;
+    let others = keep_given(alloc, &mut placing, &all, given)?;
+    place_all(alloc, placing, others)
+}
+
+// Whether the given units place three quarters of the tasks, or more.
+fn places_most(numbered: &Numbered, given: &[u64]) -> bool {
+    let mut tasks = 0usize;
+    let mut placed = 0usize;
+    for (arc, units) in numbered.arcs.iter().zip(given) {
+        match (numbered.places.kind(arc.from), numbered.places.kind(arc.to)) {
+            (Kind::Task(_), Kind::Unscheduled(_)) => tasks = tasks.saturating_add(1),
+            (Kind::Task(_), _) if *units > 0 => placed = placed.saturating_add(1),
+            _ => {}
+        }
+    }
+    placed >= tasks.saturating_sub(tasks / 4)
 }
 
 /// Tasks placed by falling worth; all unscheduled where that is no flow. Where each arc into a machine costs the request
 /// and the machine's load, and no waiting task has an arc to a machine, this is a least flow: no clause says so, a search
 /// for cycles does. The caller owes a network where all tasks can be unscheduled. O(arcs log arcs), and for each class of
 /// tasks at most some searches between requests.
-pub(crate) fn start(alloc: Global, numbered: &Numbered) -> Result<Vec<u64>, OutOfMemory>
+pub fn start(alloc: Global, numbered: &Numbered) -> Result<Vec<u64>, OutOfMemory>
     requires unscheduled { IsFlowOf numbered.now.places numbered.now.arcs.items (all_unscheduled numbered.now.places numbered.now.arcs.items) }
     ensures { IfOk result (λ units. IsFlowOf numbered.now.places numbered.now.arcs.items units.items) }
 {
-    let units = placed(alloc, numbered, &[])?;
+    let units = placed(alloc, numbered)?;
     if is_feasible(alloc, numbered, &units)? {
         return Ok(units);
     }
@@ -284,37 +321,30 @@ pub(crate) fn start(alloc: Global, numbered: &Numbered) -> Result<Vec<u64>, OutO
     Ok(units)
 }
 
-// Whether the units are a least flow.
-fn is_least(alloc: Global, numbered: &Numbered, units: &[u64]) -> Result<bool, OutOfMemory>
-    ensures { IfOk result (λ least. IsTrue least → IsFlowOf numbered.now.places numbered.now.arcs.items units.now) }
-{
-    if !is_feasible(alloc, numbered, units)? {
-        return Ok(false);
-    }
-    let nodes = numbered.places.end;
-    let first = vec![in alloc; 0i128; nodes]?;
-    match search(alloc, nodes, &numbered.arcs, units, first)? {
-        Found::Potentials(_) => Ok(true),
-        Found::Cycle(_) => Ok(false),
-    }
-}
-
-/// A flow with the task paths of the given units that are still whole and fit, the other tasks placed by falling worth,
-/// if that is a least flow; else the one that is made without them. The caller owes what `start` is owed.
+/// The flow with the task paths of the given units that are still whole and fit, the other tasks placed by falling worth,
+/// and potentials that show it to be least. None where it is not least, and where the given units place too few of the tasks
+/// for that to be likely: those that stay would be in the way of others. It is searched once.
 pub(crate) fn resume(
     alloc: Global,
     numbered: &Numbered,
     given: &[u64],
-) -> Result<Vec<u64>, OutOfMemory>
-    requires unscheduled { IsFlowOf numbered.now.places numbered.now.arcs.items (all_unscheduled numbered.now.places numbered.now.arcs.items) }
-    ensures { IfOk result (λ units. IsFlowOf numbered.now.places numbered.now.arcs.items units.items) }
+) -> Result<Option<(Vec<u64>, Vec<i128>)>, OutOfMemory>
+    ensures flow { IfOk result (λ kept. IfSome kept (λ r. IsFlowOf numbered.now.places numbered.now.arcs.items r.0.items)) }
+    ensures potentials { IfOk result (λ kept. IfSome kept (λ r. ArePotentials (residual numbered.now.arcs.items r.0.items) (costs_in r.1.items))) }
 {
-    let units = placed(alloc, numbered, given)?;
-    if is_least(alloc, numbered, &units)? {
-        return Ok(units);
+    if !places_most(numbered, given) {
+        return Ok(None);
     }
-    let units = start(alloc, numbered)?;
-    Ok(units)
+    let units = placed_behind(alloc, numbered, given)?;
+    if !is_feasible(alloc, numbered, &units)? {
+        return Ok(None);
+    }
+    let nodes = numbered.places.end;
+    let first = vec![in alloc; 0i128; nodes]?;
+    match search(alloc, nodes, &numbered.arcs, &units, first)? {
+        Found::Potentials(potentials) => Ok(Some((units, potentials))),
+        Found::Cycle(_) => Ok(None),
+    }
 }
 
 #[cfg(test)]

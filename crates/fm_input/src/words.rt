@@ -1,7 +1,12 @@
 //! The words of a command line.
 
+ghost use Rattle.std.specs.Prelude.{◌≡◌, IsTrue, IsOkUnless, Ok, map, string_bytes};
+ghost use Rattle.fm_input.specs.Words.{ask_for_refusals};
+ghost use Rattle.fm_input.specs.declared.words.Words.TheVariants as asked;
+
 use clap::error::ErrorKind;
 use clap::{Arg, ArgAction, ArgMatches, Error, value_parser};
+use fm_lattice::join::OutOfMemory;
 use fm_records::refusal::Refusal;
 use std::alloc::Global;
 
@@ -35,12 +40,29 @@ pub enum Words<'a> {
     Run(Command<'a>),
     /// A text that was asked for.
     Help(String),
+    /// The page of refusals was asked for.
+    Refusals,
     /// What is wrong with the words.
     Wrong(String),
 }
 
-/// Reads the words of a command line, the program's own name first. Only want of memory is refused.
-pub fn read_words<'a>(alloc: Global, words: &'a [String]) -> Result<Words<'a>, Refusal> {
+/// Reads the words of a command line, the program's own name first: `help refusals` asks for the page of refusals. Only want
+/// of memory is refused.
+pub fn read_words<'a>(alloc: Global, words: &'a [String]) -> Result<Words<'a>, Refusal>
+    ensures refusals { IsTrue (ask_for_refusals (map string_bytes words.entry.now)) → result ≡ Ok asked.Refusals }
+    ensures err { IsOkUnless result Refusal.OutOfMemory }
+{
+    if ask_for_refusals(words) {
+        return Ok(Words::Refusals);
+    }
+    match parsed(alloc, words) {
+        Ok(words) => Ok(words),
+        Err(OutOfMemory) => Err(Refusal::OutOfMemory),
+    }
+}
+
+// What the parser makes of the words.
+fn parsed<'a>(alloc: Global, words: &'a [String]) -> Result<Words<'a>, OutOfMemory> {
     match parser(alloc)?.try_get_matches_from(words) {
         Ok(matches) => match matches.subcommand() {
             Some(("agree", _)) => Ok(Words::Run(Command::Agree)),
@@ -53,6 +75,16 @@ pub fn read_words<'a>(alloc: Global, words: &'a [String]) -> Result<Words<'a>, R
             _ => Ok(Words::Wrong(String::new(alloc))),
         },
         Err(error) => text_of(alloc, &error),
+    }
+}
+
+// Whether the words are `help refusals`, behind the program's name.
+fn ask_for_refusals(words: &[String]) -> bool
+    ensures { result ≡ ask_for_refusals (map string_bytes words.now) }
+{
+    match words {
+        [_, first, second] => first.as_str() == "help" && second.as_str() == "refusals",
+        _ => false,
     }
 }
 
@@ -71,9 +103,9 @@ fn packs<'a>(alloc: Global, matches: &ArgMatches<'a>) -> Words<'a> {
 }
 
 // The text of what is no command.
-fn text_of<'a>(alloc: Global, error: &Error) -> Result<Words<'a>, Refusal> {
+fn text_of<'a>(alloc: Global, error: &Error) -> Result<Words<'a>, OutOfMemory> {
     if error.kind() == ErrorKind::OutOfMemory {
-        return Err(Refusal::OutOfMemory);
+        return Err(OutOfMemory);
     }
     let text = error.to_string(alloc)?;
     if error.use_stderr() {
@@ -84,7 +116,7 @@ fn text_of<'a>(alloc: Global, error: &Error) -> Result<Words<'a>, Refusal> {
 }
 
 // The commands that there are.
-fn parser<'a>(alloc: Global) -> Result<clap::Command<'a>, Refusal> {
+fn parser<'a>(alloc: Global) -> Result<clap::Command<'a>, OutOfMemory> {
     let agree = clap::Command::new(alloc, "agree")
         .about(
             "Prints `same` where all coordinators know the same, and else `differ A B`: the first listed, and the first that knows something else; then the status is 5",
@@ -128,7 +160,9 @@ fn parser<'a>(alloc: Global) -> Result<clap::Command<'a>, Refusal> {
             .about(
                 "Schedules tasks over a network of bandwidths: runs the script on standard input, and prints what is asked for",
             )
-            .after_help("Example: firmament graph < examples/first.json")
+            .after_help(
+                "Example: firmament graph < examples/first.json\n\nRefusals by their numbers: firmament help refusals",
+            )
             .subcommand_required(true)
             .arg_required_else_help(true)
             .subcommand(agree)?

@@ -1,11 +1,12 @@
 -- Equality of tables, as a test that computes: entry by entry, where two values are one if their order says so.
 use Rattle.std.specs.Prelude.{◌≡◌, ℕ, Bool, true, false, ◌&&◌, List, Option, Some, None, refl}
-use Rattle.std.specs.Bool.{Decides, one_answer}
+use Rattle.std.specs.Bool.{Decides}
 use Rattle.std.specs.Cmp.{IsTotalOrder, IsPartialEquivalence, nat_cmp_total, Equal-is}
 use Rattle.std.specs.Cmp.Lexicographic.{pointwise}
 use Rattle.std.specs.Ordering.{nat_cmp, is_eq}
 use Rattle.std.specs.declared.cmp.Ordering.{Ordering}
-use Rattle.std.proofs.Common.{sym, ap, ◌∙◌, true≢false}
+use Rattle.std.proofs.Common.{sym, ap, ◌∙◌}
+use Rattle.std.proofs.lemmas.Bool.Decides.{Decides-and}
 use Rattle.std.proofs.lemmas.Cmp.{tied_itself}
 use Rattle.std.proofs.lemmas.Slice.Eq.{slice_eq-Decides}
 use Rattle.fm_lattice.specs.Chains.{TellsApart, nat_same}
@@ -14,10 +15,11 @@ use Rattle.fm_records.specs.declared.records.Spot.{Spot}
 use Rattle.fm_records.specs.Orders.{job_cmp, spec_cmp, progress_cmp, machine_cmp, report_cmp, spot_cmp, attempt_cmp}
 use Rattle.fm_records.specs.OrderLaws.{total_job, same_job, total_spec, same_spec, total_progress, same_progress, total_machine, same_machine, total_report, same_report, total_spot, same_spot, total_attempt, same_attempt}
 use Rattle.fm_records.specs.Table.{Table, TaskValue, MachineValue}
+use Rattle.fm_records.specs.Decided.{apart, pair_Decides, equivalence}
 
 -- whether the order says that two values are one
-abbrev pub by_order : {A : Type 0} → (A → A → Ordering) → A → A → Bool
-by_order cmp a b = is_eq (cmp a b)
+abbrev pub same_by : {A : Type 0} → (A → A → Ordering) → A → A → Bool
+same_by cmp a b = is_eq (cmp a b)
 
 -- whether both parts are one
 abbrev pub by_parts : {A B : Type 0} → (A → A → Bool) → (B → B → Bool) → A × B → A × B → Bool
@@ -31,36 +33,24 @@ by_value same (Some a) None = false
 by_value same (Some a) (Some b) = same a b
 
 abbrev pub same_jobs : List (ℕ × JobReg) → List (ℕ × JobReg) → Bool
-same_jobs = pointwise (by_parts (by_order nat_cmp) (by_order job_cmp))
+same_jobs = pointwise (by_parts (same_by nat_cmp) (same_by job_cmp))
 
 abbrev pub same_tasks : List (ℕ × TaskValue) → List (ℕ × TaskValue) → Bool
-same_tasks = pointwise (by_parts (by_order nat_cmp) (by_parts (by_value (by_order spec_cmp)) (by_order progress_cmp)))
+same_tasks = pointwise (by_parts (same_by nat_cmp) (by_parts (by_value (same_by spec_cmp)) (same_by progress_cmp)))
 
 abbrev pub same_machines : List (ℕ × MachineValue) → List (ℕ × MachineValue) → Bool
-same_machines = pointwise (by_parts (by_order nat_cmp) (by_parts (by_order nat_cmp) (by_parts (by_value (by_order machine_cmp)) (by_value (by_order report_cmp)))))
+same_machines = pointwise (by_parts (same_by nat_cmp) (by_parts (same_by nat_cmp) (by_parts (by_value (same_by machine_cmp)) (by_value (same_by report_cmp)))))
 
 abbrev pub same_proposals : List ((ℕ × ℕ) × List (ℕ × Spot)) → List ((ℕ × ℕ) × List (ℕ × Spot)) → Bool
-same_proposals = pointwise (by_parts (by_order attempt_cmp) (pointwise (by_parts (by_order nat_cmp) (by_order spot_cmp))))
+same_proposals = pointwise (by_parts (same_by attempt_cmp) (pointwise (by_parts (same_by nat_cmp) (same_by spot_cmp))))
 
 abbrev pub same_table : Table → Table → Bool
 same_table k l = (same_jobs k.jobs l.jobs && same_tasks k.tasks l.tasks) && (same_machines k.machines l.machines && same_proposals k.proposals l.proposals)
 
 -- That it is the equality of tables.
 
-apart : {P : Type 0} → false ≡ true → P
-apart h = absurd (true≢false (sym h))
-
-order_Decides : {A : Type 0} (cmp : A → A → Ordering) → IsTotalOrder cmp → TellsApart cmp → (a b : A) → Decides (by_order cmp a b) (a ≡ b)
+order_Decides : {A : Type 0} (cmp : A → A → Ordering) → IsTotalOrder cmp → TellsApart cmp → (a b : A) → Decides (same_by cmp a b) (a ≡ b)
 order_Decides cmp total same a b = (λ h. same a b ((Equal-is (cmp a b)).0 h), λ e. ap (λ z. is_eq (cmp a z)) (sym e) ∙ ap is_eq (tied_itself total a))
-
-and_Decides : (a b : Bool) (P Q : Type 0) → Decides a P → Decides b Q → Decides (a && b) (P × Q)
-and_Decides true b P Q d e = (λ h. (d.0 refl, e.0 h), λ pq. e.1 pq.1)
-and_Decides false b P Q d e = (λ h. apart h, λ pq. d.1 pq.0)
-
-parts_Decides : {A B : Type 0} (E : A → A → Bool) (F : B → B → Bool) → ((a b : A) → Decides (E a b) (a ≡ b)) → ((a b : B) → Decides (F a b) (a ≡ b)) → (x y : A × B) → Decides (by_parts E F x y) (x ≡ y)
-parts_Decides E F d e x y =
-    let both = and_Decides (E x.0 y.0) (F x.1 y.1) (x.0 ≡ y.0) (x.1 ≡ y.1) (d x.0 y.0) (e x.1 y.1) in
-    (λ h. let p = both.0 h in λ i. (p.0 i, p.1 i), λ q. both.1 (ap (λ z. z.0) q, ap (λ z. z.1) q))
 
 value_Decides : {A : Type 0} (E : A → A → Bool) → ((a b : A) → Decides (E a b) (a ≡ b)) → (x y : Option A) → Decides (by_value E x y) (x ≡ y)
 value_Decides E d None None = (λ _. refl, λ _. refl)
@@ -68,44 +58,41 @@ value_Decides E d None (Some b) = (λ h. apart h, λ e. absurd (cc))
 value_Decides E d (Some a) None = (λ h. apart h, λ e. absurd (cc))
 value_Decides E d (Some a) (Some b) = (λ h. ap Some ((d a b).0 h), λ e. (d a b).1 (let same : a ≡ b = cc in same))
 
-nats : (a b : ℕ) → Decides (by_order nat_cmp a b) (a ≡ b)
+nats : (a b : ℕ) → Decides (same_by nat_cmp a b) (a ≡ b)
 nats = order_Decides nat_cmp nat_cmp_total nat_same
 
 jobs_Decides : (x y : List (ℕ × JobReg)) → Decides (same_jobs x y) (x ≡ y)
-jobs_Decides x y = slice_eq-Decides (parts_Decides (by_order nat_cmp) (by_order job_cmp) nats (order_Decides job_cmp total_job same_job)) x y _ refl
+jobs_Decides x y = slice_eq-Decides (pair_Decides (same_by nat_cmp) (same_by job_cmp) nats (order_Decides job_cmp total_job same_job)) x y _ refl
 
 tasks_Decides : (x y : List (ℕ × TaskValue)) → Decides (same_tasks x y) (x ≡ y)
 tasks_Decides x y =
     slice_eq-Decides
-    (parts_Decides (by_order nat_cmp) (by_parts (by_value (by_order spec_cmp)) (by_order progress_cmp)) nats
-    (parts_Decides (by_value (by_order spec_cmp)) (by_order progress_cmp) (value_Decides (by_order spec_cmp) (order_Decides spec_cmp total_spec same_spec)) (order_Decides progress_cmp total_progress same_progress)))
+    (pair_Decides (same_by nat_cmp) (by_parts (by_value (same_by spec_cmp)) (same_by progress_cmp)) nats
+    (pair_Decides (by_value (same_by spec_cmp)) (same_by progress_cmp) (value_Decides (same_by spec_cmp) (order_Decides spec_cmp total_spec same_spec)) (order_Decides progress_cmp total_progress same_progress)))
     x y _ refl
 
 machines_Decides : (x y : List (ℕ × MachineValue)) → Decides (same_machines x y) (x ≡ y)
 machines_Decides x y =
     slice_eq-Decides
-    (parts_Decides (by_order nat_cmp) (by_parts (by_order nat_cmp) (by_parts (by_value (by_order machine_cmp)) (by_value (by_order report_cmp)))) nats
-    (parts_Decides (by_order nat_cmp) (by_parts (by_value (by_order machine_cmp)) (by_value (by_order report_cmp))) nats
-    (parts_Decides (by_value (by_order machine_cmp)) (by_value (by_order report_cmp)) (value_Decides (by_order machine_cmp) (order_Decides machine_cmp total_machine same_machine)) (value_Decides (by_order report_cmp) (order_Decides report_cmp total_report same_report)))))
+    (pair_Decides (same_by nat_cmp) (by_parts (same_by nat_cmp) (by_parts (by_value (same_by machine_cmp)) (by_value (same_by report_cmp)))) nats
+    (pair_Decides (same_by nat_cmp) (by_parts (by_value (same_by machine_cmp)) (by_value (same_by report_cmp))) nats
+    (pair_Decides (by_value (same_by machine_cmp)) (by_value (same_by report_cmp)) (value_Decides (same_by machine_cmp) (order_Decides machine_cmp total_machine same_machine)) (value_Decides (same_by report_cmp) (order_Decides report_cmp total_report same_report)))))
     x y _ refl
 
-spots_Decides : (x y : List (ℕ × Spot)) → Decides (pointwise (by_parts (by_order nat_cmp) (by_order spot_cmp)) x y) (x ≡ y)
-spots_Decides x y = slice_eq-Decides (parts_Decides (by_order nat_cmp) (by_order spot_cmp) nats (order_Decides spot_cmp total_spot same_spot)) x y _ refl
+spots_Decides : (x y : List (ℕ × Spot)) → Decides (pointwise (by_parts (same_by nat_cmp) (same_by spot_cmp)) x y) (x ≡ y)
+spots_Decides x y = slice_eq-Decides (pair_Decides (same_by nat_cmp) (same_by spot_cmp) nats (order_Decides spot_cmp total_spot same_spot)) x y _ refl
 
 proposals_Decides : (x y : List ((ℕ × ℕ) × List (ℕ × Spot))) → Decides (same_proposals x y) (x ≡ y)
-proposals_Decides x y = slice_eq-Decides (parts_Decides (by_order attempt_cmp) (pointwise (by_parts (by_order nat_cmp) (by_order spot_cmp))) (order_Decides attempt_cmp total_attempt same_attempt) spots_Decides) x y _ refl
+proposals_Decides x y = slice_eq-Decides (pair_Decides (same_by attempt_cmp) (pointwise (by_parts (same_by nat_cmp) (same_by spot_cmp))) (order_Decides attempt_cmp total_attempt same_attempt) spots_Decides) x y _ refl
 
 pub table_Decides : (k l : Table) → Decides (same_table k l) (k ≡ l)
 table_Decides k l =
-    let front = and_Decides _ _ (k.jobs ≡ l.jobs) (k.tasks ≡ l.tasks) (jobs_Decides k.jobs l.jobs) (tasks_Decides k.tasks l.tasks) in
-    let back = and_Decides _ _ (k.machines ≡ l.machines) (k.proposals ≡ l.proposals) (machines_Decides k.machines l.machines) (proposals_Decides k.proposals l.proposals) in
-    let all = and_Decides _ _ ((k.jobs ≡ l.jobs) × (k.tasks ≡ l.tasks)) ((k.machines ≡ l.machines) × (k.proposals ≡ l.proposals)) front back in (
+    let front = Decides-and _ _ (jobs_Decides k.jobs l.jobs) (tasks_Decides k.tasks l.tasks) in
+    let back = Decides-and _ _ (machines_Decides k.machines l.machines) (proposals_Decides k.proposals l.proposals) in
+    let all = Decides-and _ _ front back in (
       λ h. let p = all.0 h in λ i. record { jobs = p.0.0 i; tasks = p.0.1 i; machines = p.1.0 i; proposals = p.1.1 i },
       λ q. all.1 ((ap (λ t. t.jobs) q, ap (λ t. t.tasks) q), (ap (λ t. t.machines) q, ap (λ t. t.proposals) q)),
     )
 
 pub table_equivalence : IsPartialEquivalence same_table
-table_equivalence = record {
-  symm = λ x y. one_answer (same_table x y) (same_table y x) (table_Decides x y) (λ h. sym ((table_Decides y x).0 h), λ e. (table_Decides y x).1 (sym e));
-  trans = λ x y z h k. (table_Decides x z).1 ((table_Decides x y).0 h ∙ (table_Decides y z).0 k);
-}
+table_equivalence = equivalence same_table table_Decides

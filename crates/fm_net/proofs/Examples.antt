@@ -1,11 +1,12 @@
 -- The networks of small tables, computed.
-use Rattle.std.proofs.Common.{◌≡◌, ℕ, ◌+◌, true, false, List, [], ◌∷◌, ◌++◌, refl}
+use Rattle.std.proofs.Common.{◌≡◌, ℕ, ◌+◌, true, false, List, [], ◌∷◌, ◌++◌, Some, refl}
 use Rattle.fm_records.specs.declared.ops.Op.{Op}
 use Rattle.fm_records.specs.declared.ops.Op.TheVariants as op
 use Rattle.fm_records.specs.Know.{know}
 use Rattle.fm_net.specs.declared.node.Node.TheVariants.{Sink, Unscheduled, Request, Machine, Task}
 use Rattle.fm_net.specs.Net.{Net, sink_alone}
 use Rattle.fm_net.specs.Network.{net_of}
+use Rattle.fm_net.specs.SetNetwork.{is_node_in, arc_in}
 
 -- ids near the greatest that there are
 abbrev big : ℕ
@@ -94,6 +95,35 @@ machine_closed : net_of (know (held ++ op.Report A 2 1 0 ∷ [])) ≡ record {
   arcs = ((Unscheduled J, Sink), (1, 0)) ∷ ((Task t1, Unscheduled J), (1, 500)) ∷ ((Task t1, Request 100), (1, 0)) ∷ [];
 }
 machine_closed = refl
+
+-- A machine that is down is no node; what a withdrawn job or a withdrawn spec had standing is gone.
+machine_down : net_of (know (held ++ op.Machine A 1 2 1 false 2 1000 ∷ [])) ≡ net_of (know (held ++ op.Report A 2 1 0 ∷ []))
+machine_down = refl
+
+abbrev machine_alone : Net
+machine_alone = record { nodes = Sink ∷ Machine A ∷ []; arcs = ((Machine A, Sink), (2, 0)) ∷ [] }
+
+job_withdrawn : net_of (know (held ++ op.Job J 2 1 true 500 800 ∷ [])) ≡ machine_alone
+job_withdrawn = refl
+
+spec_withdrawn : net_of (know (op.Spec t1 2 1 true J 100 ∷ held)) ≡ machine_alone
+spec_withdrawn = refl
+
+-- The arcs of the sets themselves, with no table between.
+of_set_waiting : arc_in one_task (Request 100) (Machine A) ≡ Some (2, 100)
+of_set_waiting = refl
+
+of_set_held : arc_in held (Task t1) (Machine A) ≡ Some (1, 0)
+of_set_held = refl
+
+of_set_preempt : arc_in held (Task t1) (Unscheduled J) ≡ Some (1, 800)
+of_set_preempt = refl
+
+of_set_job : arc_in (task_of t2 0 ∷ one_task) (Unscheduled J) Sink ≡ Some (2, 0)
+of_set_job = refl
+
+of_set_request : is_node_in held (Request 100) ≡ false
+of_set_request = refl
 
 -- A request of 0 fits as often as there are slots, and not where the use is above the nic.
 

@@ -5,3 +5,5 @@ pub mod Kept
 pub mod Said
 pub mod Touches
 pub mod Made
+pub mod Shown
+pub mod Copied

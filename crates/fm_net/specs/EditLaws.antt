@@ -9,7 +9,7 @@ use Rattle.std.proofs.lemmas.Bool.{eqb-true}
 use Rattle.std.proofs.lemmas.Cmp.{tied_itself}
 use Rattle.fm_lattice.specs.Chains.{TellsApart, by_cases, less_greater, greater_less}
 use Rattle.fm_lattice.specs.Joins.{option_join}
-use Rattle.fm_lattice.specs.Maps.{lookup, IsBelow, IsRising, put}
+use Rattle.fm_lattice.specs.Maps.{lookup, IsBelow, IsRising, put, replaced}
 use Rattle.fm_lattice.specs.MapLaws.{lookup_below, same_map, rising_put, lookup_put}
 use Rattle.fm_records.specs.Options.{when, and_then, passes}
 use Rattle.fm_records.specs.Sets.{IsMember}
@@ -18,7 +18,7 @@ use Rattle.fm_net.specs.declared.node.Node.{Node}
 use Rattle.fm_net.specs.declared.node.Node.TheVariants.{Sink, Unscheduled, Request, Machine, Task}
 use Rattle.fm_net.specs.Nodes.{node_cmp, ends_cmp, IsInRange, IsRequestInRange}
 use Rattle.fm_net.specs.NodeOrder.{node_exact, node_total, ends_exact, ends_total}
-use Rattle.fm_net.specs.Net.{Net, has_node, arc_at, IsTouched, CanBeNet, with_node, without_node, with_arc, without_arc, remove_node, remove_arc, later}
+use Rattle.fm_net.specs.Net.{Net, has_node, arc_at, IsTouched, CanBeNet, with_node, without_node, with_arc, without_arc, remove_node, remove_arc}
 use Rattle.fm_net.specs.ListLaws.{same_rising, has_member, passes_kept}
 use Rattle.fm_net.specs.declared.edit.Edit.{Edit}
 use Rattle.fm_net.specs.declared.edit.Edit.TheVariants.{DropNode, PutNode}
@@ -34,7 +34,7 @@ below_removed_node : (k n : Node) (ns : List Node) → IsBelowAll node_cmp k ns 
 below_removed_node k n [] b = tt
 below_removed_node k n (m ∷ ns) b = elim (is_eq (node_cmp n m)) as (λ c. IsBelowAll node_cmp k (cond c ns (m ∷ remove_node n ns))) [ true ↦ b.1 | false ↦ (b.0, below_removed_node k n ns b.1) ]
 
-rises_removed : (n : Node) (ns : List Node) → Rises node_cmp ns → Rises node_cmp (remove_node n ns)
+pub rises_removed : (n : Node) (ns : List Node) → Rises node_cmp ns → Rises node_cmp (remove_node n ns)
 rises_removed n [] r = tt
 rises_removed n (m ∷ ns) r = elim (is_eq (node_cmp n m)) as (λ c. Rises node_cmp (cond c ns (m ∷ remove_node n ns))) [ true ↦ r.1 | false ↦ (below_removed_node m n ns r.0, rises_removed n ns r.1) ]
 
@@ -114,14 +114,14 @@ abbrev over : Option (ℕ × ℕ) → Option (ℕ × ℕ) → Option (ℕ × ℕ
 over None o = o
 over (Some v) o = Some v
 
-joined_later : (o : Option (ℕ × ℕ)) (b : Bool) (v : ℕ × ℕ) → option_join later o (cond b (Some v) None) ≡ cond b (Some v) o
-joined_later None true v = refl
-joined_later None false v = refl
-joined_later (Some w) true v = refl
-joined_later (Some w) false v = refl
+joined_replaced : (o : Option (ℕ × ℕ)) (b : Bool) (v : ℕ × ℕ) → option_join replaced o (cond b (Some v) None) ≡ cond b (Some v) o
+joined_replaced None true v = refl
+joined_replaced None false v = refl
+joined_replaced (Some w) true v = refl
+joined_replaced (Some w) false v = refl
 
-pub at_put : (e q : Node × Node) (v : ℕ × ℕ) (arcs : List Arc) → IsRising ends_cmp arcs → at q (put ends_cmp later e v arcs) ≡ cond (is_eq (ends_cmp q e)) (Some v) (at q arcs)
-at_put e q v arcs r = lookup_put ends_cmp ends_total ends_exact later q e v arcs r ∙ joined_later (at q arcs) (is_eq (ends_cmp q e)) v
+pub at_put : (e q : Node × Node) (v : ℕ × ℕ) (arcs : List Arc) → IsRising ends_cmp arcs → at q (put ends_cmp replaced e v arcs) ≡ cond (is_eq (ends_cmp q e)) (Some v) (at q arcs)
+at_put e q v arcs r = lookup_put ends_cmp ends_total ends_exact replaced q e v arcs r ∙ joined_replaced (at q arcs) (is_eq (ends_cmp q e)) v
 
 -- Edits one list after another.
 
@@ -238,7 +238,7 @@ put_twice e q v bs o b =
 placed : (bs : List Arc) (net : Net) → IsRising ends_cmp bs → IsRising ends_cmp net.arcs → ((a : Arc) → IsMember a bs → MayPutArc net a.0.0 a.0.1 a.1.0 a.1.1) → Put bs net
 placed [] net s r fine = record { nodes = refl; rise = r; arcs = λ q. refl; may = tt }
 placed (a ∷ bs) net s r fine =
-    let rest = placed bs (with_arc a.0.0 a.0.1 a.1 net) s.1 (rising_put ends_cmp ends_total ends_exact later a.0 a.1 net.arcs r)
+    let rest = placed bs (with_arc a.0.0 a.0.1 a.1 net) s.1 (rising_put ends_cmp ends_total ends_exact replaced a.0 a.1 net.arcs r)
     (λ b h. let f = fine b (inr h) in record { from_stands = f.from_stands; to_stands = f.to_stands; kinds = f.kinds; capacity_above = f.capacity_above; cost_within = f.cost_within }) in
     record {
       nodes = rest.nodes;

@@ -1,12 +1,15 @@
 pub mod Nodes
 pub mod NodeOrder
 pub mod Net
+pub mod Cells
 pub mod Walks
 pub mod Same
 pub mod Ends
 pub mod Network
+pub mod SetNetwork
 pub mod ListLaws
 pub mod NetworkLaws
+pub mod SetNetworkLaws
 pub mod BoundLaws
 pub mod Edits
 pub mod Touched

@@ -2,7 +2,7 @@
 use Rattle.std.specs.Prelude.{◌≡◌, ℕ, ◌<◌, ◌≤◌, ◌^◌, ◌⊎◌, Bool, cond, List, [], ◌∷◌, Option, Some, IsTrue, IsSome}
 use Rattle.std.specs.List.{list_any}
 use Rattle.std.specs.Ordering.{is_eq}
-use Rattle.fm_lattice.specs.Maps.{lookup, put, IsRising}
+use Rattle.fm_lattice.specs.Maps.{lookup, put, replaced, IsRising}
 use Rattle.fm_records.specs.Sets.{insert_once}
 use Rattle.fm_records.specs.TableLaws.{Rises}
 use Rattle.fm_net.specs.declared.node.Node.{Node}
@@ -75,13 +75,9 @@ remove_node n (m ∷ ms) = cond (is_eq (node_cmp n m)) ms (m ∷ remove_node n m
 abbrev pub without_node : Node → Net → Net
 without_node n net = record { nodes = remove_node n net.nodes; arcs = net.arcs }
 
--- the later of two
-abbrev pub later : ℕ × ℕ → ℕ × ℕ → ℕ × ℕ
-later old new = new
-
 -- the network with the arc in its place, in place of one that stood there
 abbrev pub with_arc : Node → Node → ℕ × ℕ → Net → Net
-with_arc from to arc net = record { nodes = net.nodes; arcs = put ends_cmp later (from, to) arc net.arcs }
+with_arc from to arc net = record { nodes = net.nodes; arcs = put ends_cmp replaced (from, to) arc net.arcs }
 
 -- the arcs without the one between these ends
 abbrev pub remove_arc : Node × Node → List ((Node × Node) × (ℕ × ℕ)) → List ((Node × Node) × (ℕ × ℕ))

@@ -1,10 +1,13 @@
 //! The laws of the network of a table, and of edits. Each function does nothing: its contract is the law.
 
 ghost use Rattle.std.specs.Prelude.{◌≡◌, ◌↔◌, ◌<◌, ◌^◌, List, length};
+ghost use Rattle.fm_records.specs.declared.ops.Op.{Op};
+ghost use Rattle.fm_records.specs.Know.{know};
 ghost use Rattle.fm_records.specs.Table.{Table};
 ghost use Rattle.fm_records.specs.Ranges.{CanBe};
 ghost use Rattle.fm_net.specs.Net.{CanBeNet, Net};
 ghost use Rattle.fm_net.specs.Network.{IsNetworkOf, net_of};
+ghost use Rattle.fm_net.specs.SetNetwork.{IsNetworkOfSet};
 ghost use Rattle.fm_net.specs.declared.node.Node.{Node as NodeName};
 ghost use Rattle.fm_net.specs.Edits.{MayEditAll, after, change};
 ghost use Rattle.fm_net.specs.Touched.{Touches, touched_change};
@@ -12,6 +15,12 @@ ghost use Rattle.fm_net.specs.Touched.{Touches, touched_change};
 /// A network has exactly the nodes and arcs of a table where it is the one computed from the table, so a table has one.
 pub fn law_network()
     ensures { (k : Table) (net : Net) → (IsNetworkOf k net ↔ (net ≡ net_of k)) }
+{}
+
+/// A network has exactly the nodes and arcs of a set of operations, by the facts of the set, where it is the one that is
+/// computed from the table of the set.
+pub fn law_network_of_sets()
+    ensures { (S : List Op) (net : Net) → (IsNetworkOfSet S net ↔ (net ≡ net_of (know S))) }
 {}
 
 /// The network of a table that can be, of fewer than 2^64 tasks, is a network that can be.

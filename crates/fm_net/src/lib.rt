@@ -1,6 +1,7 @@
 //! The network: nodes, and arcs that have a capacity and a cost.
 #![tactic(auto)]
 
+mod cells;
 pub mod edit;
 pub mod laws;
 pub mod making;

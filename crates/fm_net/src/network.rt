@@ -4,32 +4,33 @@ ghost use Rattle.std.specs.Prelude.{◌≡◌, ◌≤◌, ◌<◌, ◌^◌, ◌�
 ghost use Rattle.fm_net.specs.declared.node.Node.{Node as NodeName};
 ghost use Rattle.fm_net.specs.Nodes.{IsRequestInRange};
 ghost use Rattle.fm_net.specs.Net.{CanBeNet, IsArcKind, IsTouched, has_node, arc_at, sink_alone, with_node, without_node, with_arc, without_arc, are_ends};
-ghost use Rattle.std.specs.BTreeMap.{keys};
+ghost use Rattle.std.specs.Map.{keys_of};
 ghost use Rattle.std.specs.List.{list_any};
 ghost use Rattle.fm_net.specs.Ends.{is_end};
 
+use crate::cells::Cells;
 use crate::node::Node;
 use crate::walks::{Arcs, Nodes};
 use fm_lattice::join::OutOfMemory;
 use std::alloc::Global;
-use std::collections::{BTreeMap, BTreeSet};
 use std::marker::Model;
 
 /// A network: a set of nodes with the sink, and at most one arc from one of them to another, with a capacity and a cost.
 #[derive(Debug, Drop)]
 pub struct Network {
-    nodes: BTreeSet<Node>,
-    arcs: BTreeMap<(Node, Node), (u64, u32)>,
+    nodes: Cells<Node, ()>,
+    arcs: Cells<(Node, Node), (u64, u32)>,
 }
 
 impl Model for Network {
     ghost use Rattle.fm_net.specs.Net.{Net, CanBeNet};
+    ghost use Rattle.std.specs.Map.{keys_of};
 
     ghost Value = { Net };
 
-    ghost view = { λ a. record { nodes = a.nodes.keys; arcs = a.arcs.entries } };
+    ghost view = { λ a. record { nodes = keys_of a.nodes; arcs = a.arcs } };
 
-    ghost invariant = { λ a. CanBeNet (record { nodes = a.nodes.keys; arcs = a.arcs.entries }) };
+    ghost invariant = { λ a. CanBeNet (record { nodes = keys_of a.nodes; arcs = a.arcs }) };
 }
 
 impl Network {
@@ -37,11 +38,11 @@ impl Network {
     pub fn new(alloc: Global) -> Result<Self, OutOfMemory>
         ensures { IfOk result (λ net. net ≡ sink_alone) }
     {
-        let mut nodes = BTreeSet::new(alloc);
-        nodes.insert(Node::Sink)?;
+        let mut nodes = Cells::new(alloc);
+        nodes.put(Node::Sink, ())?;
         Ok(Network {
             nodes,
-            arcs: BTreeMap::new(alloc),
+            arcs: Cells::new(alloc),
         })
     }
 
@@ -63,7 +64,8 @@ impl Network {
         ensures err { OnErr result (self.new ≡ self.old) }
     {
         node.known();
-        Ok(self.nodes.insert(node)?)
+        let stood = self.nodes.put(node, ())?;
+        Ok(stood.is_none())
     }
 
     /// Drops a node, and tells whether it was there. The caller owes that it is not the sink and that no arc touches it.
@@ -76,7 +78,7 @@ impl Network {
         ensures has { (k : NodeName) → IsTrue (has_node self.new k) ↔ (¬ (k ≡ node.now) × IsTrue (has_node self.old k)) }
         ensures arc { (a b : NodeName) → arc_at self.new a b ≡ arc_at self.old a b }
     {
-        self.nodes.remove(node)
+        self.nodes.remove(node).is_some()
     }
 
     /// Puts an arc in place of one that stood there, and answers what stood there: capacity and cost.
@@ -100,7 +102,7 @@ impl Network {
         ensures arc { OnOk result ((a b : NodeName) → arc_at self.new a b ≡ (if are_ends from to a b then Some (capacity, cost) else arc_at self.old a b)) }
         ensures err { OnErr result (self.new ≡ self.old) }
     {
-        Ok(self.arcs.insert((from, to), (capacity, cost))?)
+        Ok(self.arcs.put((from, to), (capacity, cost))?)
     }
 
     /// Drops an arc, and answers its capacity and cost, if it was there. O(log n).
@@ -117,14 +119,14 @@ impl Network {
     pub fn arc(&self, from: Node, to: Node) -> Option<(u64, u32)>
         ensures { result ≡ arc_at self.now from to }
     {
-        self.arcs.get(&(from, to)).copied()
+        self.arcs.get(&(from, to))
     }
 
     /// Whether the node is there. O(log n).
     pub fn has(&self, node: &Node) -> bool
         ensures { result ≡ has_node self.now node.now }
     {
-        self.nodes.contains(node)
+        self.nodes.has(node)
     }
 
     /// Whether an arc leaves or enters the node. O(arcs).
@@ -170,8 +172,8 @@ impl Network {
     pub fn copy(&self) -> Result<Self, OutOfMemory>
         ensures { IfOk result (λ net. net ≡ self.now) }
     {
-        let nodes = self.nodes.clone()?;
-        let arcs = self.arcs.clone()?;
+        let nodes = self.nodes.copy()?;
+        let arcs = self.arcs.copy()?;
         Ok(Network { nodes, arcs })
     }
 }
@@ -193,8 +195,14 @@ impl PartialEq for Network {
 }
 
 // Whether an arc leaves or enters the node.
-fn touches(arcs: &BTreeMap<(Node, Node), (u64, u32)>, node: &Node) -> bool
-    ensures { result ≡ list_any (is_end node.now) (keys arcs.now) }
+fn touches(arcs: &Cells<(Node, Node), (u64, u32)>, node: &Node) -> bool
+    ensures { result ≡ list_any (λ arc. is_end node.now arc.0) arcs.now }
 {
-    arcs.keys().any(|ends| ends.0 == *node || ends.1 == *node)
+    let mut rest = arcs.iter();
+    while let Some((ends, _)) = rest.next() {
+        if ends.0 == *node || ends.1 == *node {
+            return true;
+        }
+    }
+    false
 }

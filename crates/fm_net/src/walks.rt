@@ -2,31 +2,33 @@
 
 ghost use Rattle.std.specs.Prelude.{◌≡◌, length, ◌<◌, ◌^◌};
 ghost use Rattle.std.specs.Iterator.{YieldsFirst, YieldsFirstBy, item_count};
+ghost use Rattle.std.specs.Map.{keys_of};
 ghost use Rattle.fm_net.specs.Walks.{arc_entry};
 
+use crate::cells::{Cells, Pairs};
 use crate::node::Node;
-use std::collections::{BTreeMap, BTreeSet, btree_map, btree_set};
 use std::marker::Model;
 
 /// The nodes that are left of a walk, in node order.
 #[derive(Drop)]
 pub struct Nodes<'a> {
-    rest: btree_set::Iter<'a, Node>,
+    rest: Pairs<'a, Node, ()>,
 }
 
 impl<'a> Model for Nodes<'a> {
     ghost use Rattle.std.specs.Prelude.{List};
     ghost use Rattle.fm_net.specs.declared.node.Node.{Node as NodeName};
+    ghost use Rattle.std.specs.Map.{keys_of};
 
     ghost Value = { List NodeName };
 
-    ghost view = { λ s. s.rest };
+    ghost view = { λ s. keys_of s.rest };
 }
 
 impl<'a> Nodes<'a> {
-    pub(crate) fn of(nodes: &'a BTreeSet<Node>) -> Self
-        ensures all { result ≡ nodes.now.keys }
-        ensures fits { length nodes.now.keys < 2 ^ 63 }
+    pub(crate) fn of(nodes: &'a Cells<Node, ()>) -> Self
+        ensures all { result ≡ keys_of nodes.now }
+        ensures fits { length (keys_of nodes.now) < 2 ^ 63 }
     {
         Nodes { rest: nodes.iter() }
     }
@@ -40,14 +42,17 @@ impl<'a> Iterator for Nodes<'a> {
     ghost remaining = { item_count (λ s. s) };
 
     fn next(&mut self) -> Option<Node> {
-        self.rest.next().copied()
+        match self.rest.next() {
+            Some((node, ())) => Some(node),
+            None => None,
+        }
     }
 }
 
 /// The arcs that are left of a walk, as (from, to, capacity, cost), by (from, to).
 #[derive(Drop)]
 pub struct Arcs<'a> {
-    rest: btree_map::Iter<'a, (Node, Node), (u64, u32)>,
+    rest: Pairs<'a, (Node, Node), (u64, u32)>,
 }
 
 impl<'a> Model for Arcs<'a> {
@@ -60,9 +65,9 @@ impl<'a> Model for Arcs<'a> {
 }
 
 impl<'a> Arcs<'a> {
-    pub(crate) fn of(arcs: &'a BTreeMap<(Node, Node), (u64, u32)>) -> Self
-        ensures all { result ≡ arcs.now.entries }
-        ensures fits { length arcs.now.entries < 2 ^ 63 }
+    pub(crate) fn of(arcs: &'a Cells<(Node, Node), (u64, u32)>) -> Self
+        ensures all { result ≡ arcs.now }
+        ensures fits { length arcs.now < 2 ^ 63 }
     {
         Arcs { rest: arcs.iter() }
     }
@@ -77,7 +82,7 @@ impl<'a> Iterator for Arcs<'a> {
 
     fn next(&mut self) -> Option<(Node, Node, u64, u32)> {
         match self.rest.next() {
-            Some((&(from, to), &(capacity, cost))) => Some((from, to, capacity, cost)),
+            Some(((from, to), (capacity, cost))) => Some((from, to, capacity, cost)),
             None => None,
         }
     }

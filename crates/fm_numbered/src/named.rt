@@ -1,7 +1,6 @@
 //! From numbers back to the network's flows and potentials.
 
-ghost use Rattle.std.specs.Prelude.{◌≡◌, IfOk, map};
-ghost use Rattle.fm_certificate.specs.Flows.{units_in};
+ghost use Rattle.std.specs.Prelude.{◌≡◌, IfOk};
 ghost use Rattle.fm_cycles.specs.Walks.{ArePotentials};
 ghost use Rattle.fm_cycles.specs.Residual.{residual};
 ghost use Rattle.fm_cycles.specs.Found.{costs_in};
@@ -17,17 +16,6 @@ use fm_certificate::potentials::Potentials;
 use fm_lattice::join::OutOfMemory;
 use fm_net::network::Network;
 use std::alloc::Global;
-
-/// The flow's units on the network's arcs, in order; 0 on an arc that it has no key for.
-pub fn units_of(alloc: Global, network: &Network, flow: &Flow) -> Result<Vec<u64>, OutOfMemory>
-    ensures { IfOk result (λ units. units.items ≡ map (λ a. units_in flow.now a.0.0 a.0.1) network.now.arcs) }
-{
-    let mut units = Vec::new(alloc);
-    for (from, to, _, _) in network.arcs() {
-        units.push(flow.units(from, to).unwrap_or(0))?;
-    }
-    Ok(units)
-}
 
 // The units of the arcs, in order, as a flow.
 fn flow_of(alloc: Global, network: &Network, units: &[u64]) -> Result<Flow, OutOfMemory>

@@ -10,7 +10,8 @@ use Rattle.fm_records.specs.Know.{know, winner}
 use Rattle.fm_records.specs.Spelled.{ops}
 use Rattle.fm_records.specs.Ranges.{all_in_range}
 use Rattle.fm_records.specs.Joined.{table_join}
-use Rattle.fm_records.specs.Facts.{job_of, progress_of, attempt_of, used_of, is_live, is_open, winner_of, holder_of, held_tasks, load_of, spare_of, has_room}
+use Rattle.fm_records.specs.Facts.{job_of, spec_of, progress_of, attempt_of, state_of, used_of, job_stands, is_live, is_open, winner_of, holder_of, held_tasks, load_of, spare_of, request_of, has_room}
+use Rattle.fm_records.specs.SetFacts.{live, holder, load, spare, room}
 
 -- ids near the greatest that there are
 abbrev big : ℕ
@@ -237,6 +238,119 @@ done-live = refl
 
 done-again : is_live (know (op.Progress t1 1 Pending ∷ op.Progress t1 0 Done ∷ one_task)) t1 ≡ true
 done-again = refl
+
+-- A job that is withdrawn makes its task not live, and so held by nobody; the machine has all of its nic again. Of two
+-- registers of one version and one writer, the one that is withdrawn counts. A newer version brings the job back.
+
+abbrev job_withdrawn : List Op
+job_withdrawn = held ++ op.Job J 1 1 true 500 800 ∷ []
+
+job_withdrawn-register : job_of (know job_withdrawn) J ≡ Some (record { version = 1; writer = 1; withdrawn = true; wait = 500; preempt = 800 })
+job_withdrawn-register = refl
+
+job_withdrawn-stands : job_stands (know job_withdrawn) J ≡ false
+job_withdrawn-stands = refl
+
+job_withdrawn-live : is_live (know job_withdrawn) t1 ≡ false
+job_withdrawn-live = refl
+
+job_withdrawn-winner : winner_of (know job_withdrawn) t1 0 ≡ Some (1, record { machine = A; incarnation = 1 })
+job_withdrawn-winner = refl
+
+job_withdrawn-holder : holder_of (know job_withdrawn) t1 ≡ None
+job_withdrawn-holder = refl
+
+job_withdrawn-spare : spare_of (know job_withdrawn) A ≡ Some 1000
+job_withdrawn-spare = refl
+
+job_withdrawn-other_order : know (op.Job J 1 1 true 500 800 ∷ held) ≡ know job_withdrawn
+job_withdrawn-other_order = refl
+
+job_withdrawn-again : holder_of (know (job_withdrawn ++ op.Job J 2 1 false 500 800 ∷ [])) t1 ≡ Some A
+job_withdrawn-again = refl
+
+-- A spec that is withdrawn makes that task not live, and no other.
+
+abbrev spec_withdrawn : List Op
+spec_withdrawn = held ++ task_of t2 200 ∷ op.Propose t2 0 1 A 1 ∷ op.Spec t1 2 1 true J 100 ∷ []
+
+spec_withdrawn-spec : spec_of (know spec_withdrawn) t1 ≡ Some (record { version = 2; writer = 1; withdrawn = true; job = J; request = 100 })
+spec_withdrawn-spec = refl
+
+spec_withdrawn-live : is_live (know spec_withdrawn) t1 ≡ false
+spec_withdrawn-live = refl
+
+spec_withdrawn-other_live : is_live (know spec_withdrawn) t2 ≡ true
+spec_withdrawn-other_live = refl
+
+spec_withdrawn-holder : holder_of (know spec_withdrawn) t1 ≡ None
+spec_withdrawn-holder = refl
+
+spec_withdrawn-held : map (λ e. e.0) (held_tasks (know spec_withdrawn) A) ≡ t2 ∷ []
+spec_withdrawn-held = refl
+
+spec_withdrawn-load : load_of (know spec_withdrawn) A ≡ 200
+spec_withdrawn-load = refl
+
+-- A machine that is down is not open: it holds nothing, has no spare and no room, and what it reported still loads it.
+
+abbrev down : List Op
+down = held ++ op.Report A 1 1 40 ∷ op.Machine A 1 2 1 false 2 1000 ∷ []
+
+down-state : state_of (know down) A ≡ Some (record { version = 2; writer = 1; up = false; slots = 2; nic = 1000 })
+down-state = refl
+
+down-open : is_open (know down) A ≡ false
+down-open = refl
+
+down-live : is_live (know down) t1 ≡ true
+down-live = refl
+
+down-holder : holder_of (know down) t1 ≡ None
+down-holder = refl
+
+down-load : load_of (know down) A ≡ 40
+down-load = refl
+
+down-spare : spare_of (know down) A ≡ None
+down-spare = refl
+
+down-no_room : has_room (know down) A 0 ≡ false
+down-no_room = refl
+
+down-other_order : know (op.Machine A 1 2 1 false 2 1000 ∷ op.Report A 1 1 40 ∷ held) ≡ know down
+down-other_order = refl
+
+-- Of two states of one version and one writer the one that is up counts; in a later version the machine is up again.
+
+down-up : is_open (know (op.Machine A 1 1 1 false 2 1000 ∷ machine_a ∷ [])) A ≡ true
+down-up = refl
+
+down-again : holder_of (know (down ++ op.Machine A 1 3 1 true 2 1000 ∷ [])) t1 ≡ Some A
+down-again = refl
+
+-- The facts of the sets themselves, with no table between.
+
+of_set-held : holder held t1 ≡ Some A
+of_set-held = refl
+
+of_set-load : load spec_withdrawn A ≡ 200
+of_set-load = refl
+
+of_set-two : map (λ o. request_of o) (live two_tasks t1 ∷ live two_tasks t2 ∷ []) ≡ 600 ∷ 500 ∷ []
+of_set-two = refl
+
+of_set-spare : spare two_proposals A ≡ Some 900
+of_set-spare = refl
+
+of_set-restarted : spare restarted A ≡ None
+of_set-restarted = refl
+
+of_set-job_withdrawn : live job_withdrawn t1 ≡ None
+of_set-job_withdrawn = refl
+
+of_set-down : room down A 0 ≡ false
+of_set-down = refl
 
 -- A proposal alone makes a row of proposals and no task.
 

@@ -27,7 +27,7 @@ use Rattle.fm_lattice.specs.Joins.{min_join}
 use Rattle.fm_lattice.specs.Maps.{lookup, IsRising}
 use Rattle.fm_lattice.specs.MapLaws.{lookup_below, same_map, below_trans}
 
-spec_part : (a : Option SpecReg) (b : Option Progress) → and_then (λ v. v.0) (task_value a b) ≡ a
+pub spec_part : (a : Option SpecReg) (b : Option Progress) → and_then (λ v. v.0) (task_value a b) ≡ a
 spec_part None None = refl
 spec_part None (Some p) = refl
 spec_part (Some s) b = refl

@@ -11,6 +11,7 @@ pub mod Spelled
 pub mod Ranges
 pub mod Joined
 pub mod Facts
+pub mod SetFacts
 pub mod Characterized
 pub mod OrderLaws
 pub mod SetLaws
@@ -23,5 +24,7 @@ pub mod UnionLaws
 pub mod SpelledLaws
 pub mod RangeLaws
 pub mod FactLaws
+pub mod SetFactLaws
 pub mod JoinedLaws
 pub mod IdLaws
+pub mod Decided

@@ -1,4 +1,5 @@
-//! The laws of what a set of operations means. Each function does nothing: its contract is the law.
+//! The laws of what a set of operations means. Each function does nothing: its contract is the law. `equal` and `order` have
+//! the laws of `==` and `cmp`, whose functions do that one call.
 
 ghost use Rattle.std.specs.Prelude.{◌≡◌, ◌↔◌, ◌++◌, ℕ, List, IsTrue};
 ghost use Rattle.std.specs.Ordering.{nat_cmp};
@@ -12,8 +13,12 @@ ghost use Rattle.fm_records.specs.Spelled.{ops, IsTable};
 ghost use Rattle.fm_records.specs.Ranges.{all_in_range, CanBe};
 ghost use Rattle.fm_records.specs.Table.{Table};
 ghost use Rattle.fm_records.specs.Joined.{machines_join, proposals_join, table_join};
-ghost use Rattle.fm_records.specs.Facts.{job_of, spec_of, progress_of, incarnation_of, state_of, report_of, entries_of, winner_of};
+ghost use Rattle.fm_records.specs.Facts.{job_of, spec_of, progress_of, incarnation_of, state_of, report_of, entries_of, winner_of, job_stands, live_spec, open_state, holder_of, load_of, spare_of, has_room};
+ghost use Rattle.fm_records.specs.SetFacts.{stands, live, opened, holder, load, spare, room};
 ghost use Rattle.fm_records.specs.Characterized.{IsGreatestOf, IsLeastOf, IsKnow};
+
+pub mod equal;
+pub mod order;
 
 use crate::ids::{CoordId, MachineId, TaskId};
 use crate::records::{MachineRec, Spot};
@@ -54,6 +59,17 @@ pub fn law_facts()
     ensures report { (S : List Op) (m : ℕ) → report_of (know S) m ≡ report S m }
     ensures entry { (S : List Op) (at : ℕ × ℕ) (c : ℕ) → lookup nat_cmp c (entries_of (know S) at) ≡ entry S at c }
     ensures winner { (S : List Op) (at : ℕ × ℕ) → winner_of (know S) at.0 at.1 ≡ winner S at }
+{}
+
+/// What is live, open and held, and what a machine has left, on the table of a set is so of the set itself.
+pub fn law_facts_of_sets()
+    ensures stands { (S : List Op) (j : ℕ) → job_stands (know S) j ≡ stands S j }
+    ensures live { (S : List Op) (t : ℕ) → live_spec (know S) t ≡ live S t }
+    ensures opened { (S : List Op) (m : ℕ) → open_state (know S) m ≡ opened S m }
+    ensures holder { (S : List Op) (t : ℕ) → holder_of (know S) t ≡ holder S t }
+    ensures load { (S : List Op) (m : ℕ) → load_of (know S) m ≡ load S m }
+    ensures spare { (S : List Op) (m : ℕ) → spare_of (know S) m ≡ spare S m }
+    ensures room { (S : List Op) (m request : ℕ) → has_room (know S) m request ≡ room S m request }
 {}
 
 /// Sets with the same members have one table, whatever the order and the repeats.

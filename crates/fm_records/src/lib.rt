@@ -1,11 +1,9 @@
 //! Ids, operations, records and refusals, and what a set of operations means.
 #![tactic(auto)]
 
-pub mod equal;
 pub mod ids;
 pub mod laws;
 pub mod ops;
-pub mod order;
 pub mod records;
 pub mod refusal;
 #[cfg(test)]

@@ -2,7 +2,7 @@ use crate::ids::{CoordId, JobId, MachineId, TaskId};
 use crate::ops::{Field, Op, Phase};
 use crate::records::{JobReg, MachineReg, Progress, Report, SpecReg, Spot};
 use crate::refusal::Refusal;
-use crate::{equal, laws, order};
+use crate::laws::{self, equal, order};
 use fm_lattice::join::{Join, OutOfMemory};
 use fm_lattice::map::JoinMap;
 use fm_lattice::plain::{Both, Lex, Max, Min, Opt};

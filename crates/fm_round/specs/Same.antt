@@ -1,8 +1,7 @@
 -- Equality of plans and of what they come to: item by item.
 use Rattle.std.specs.Prelude.{Bool, ◌&&◌}
 use Rattle.std.specs.Cmp.Lexicographic.{pointwise}
-use Rattle.fm_records.specs.declared.ops.Op.{Op}
-use Rattle.fm_records.specs.contracts.ops.OpPartialEq.TheImpl as op_eq
+use Rattle.fm_records.specs.Decided.{same_op}
 use Rattle.fm_round.specs.declared.parts.Place.{Place}
 use Rattle.fm_round.specs.declared.parts.Preempt.{Preempt}
 use Rattle.fm_round.specs.declared.parts.Answer.{Answer}
@@ -21,9 +20,6 @@ same_preempt = (preempt_eq.ghosts).eq
 
 abbrev pub same_answer : Answer → Answer → Bool
 same_answer = (answer_eq.ghosts).eq
-
-abbrev pub same_op : Op → Op → Bool
-same_op = (op_eq.ghosts).eq
 
 abbrev pub same_plan : Plan → Plan → Bool
 same_plan p q = pointwise same_place p.places q.places && pointwise same_preempt p.preempts q.preempts

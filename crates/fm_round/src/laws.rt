@@ -1,4 +1,5 @@
-//! Laws of rounds. Each function does nothing: its contract is the law.
+//! Laws of rounds. Each function does nothing: its contract is the law. `equal` has the laws of `==`, whose functions do that
+//! one call.
 
 ghost use Rattle.std.specs.Prelude.{◌≡◌, ◌↔◌, ◌<◌, ◌==◌, ◌++◌, ℕ, List, count_by};
 ghost use Rattle.fm_records.specs.declared.ops.Op.{Op};
@@ -11,6 +12,8 @@ ghost use Rattle.fm_round.specs.Planned.{Units, units, waits, seats, tasks_of, m
 ghost use Rattle.fm_round.specs.declared.parts.Plan.{Plan};
 ghost use Rattle.fm_round.specs.Admission.{told, admitted};
 ghost use Rattle.fm_round.specs.Stopping.{stops_of};
+
+pub mod equal;
 
 /// What a set comes to, told more operations, is what the set with these comes to.
 pub fn law_told()

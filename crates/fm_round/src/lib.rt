@@ -2,7 +2,6 @@
 #![tactic(auto)]
 
 pub mod admission;
-pub mod equal;
 mod holdings;
 pub mod laws;
 pub mod listed;

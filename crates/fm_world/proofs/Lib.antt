@@ -3,3 +3,4 @@ pub mod Places
 pub mod Steps
 pub mod Numbers
 pub mod Runs
+pub mod Reached

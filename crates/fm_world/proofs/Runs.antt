@@ -18,11 +18,11 @@ use Rattle.fm_world.specs.Stands.{Kept, WorldStandsFor, state_with}
 use Rattle.fm_world.specs.Agreement.{IsAt, EachKnows, SameAgree, IsDumpOf}
 use Rattle.fm_world.proofs.Places.{Stood, stood}
 
-run_more : (w : WorldOfSets) (ss : List Step) (s : Step) → run_of w (ss ++ s ∷ []) ≡ step_of (run_of w ss) s
+pub run_more : (w : WorldOfSets) (ss : List Step) (s : Step) → run_of w (ss ++ s ∷ []) ≡ step_of (run_of w ss) s
 run_more w [] s = refl
 run_more w (t ∷ ss) s = run_more (step_of w t) ss s
 
-accept_more : (w : WorldOfSets) (ss : List Step) (s : Step) → AreAccepted w ss → cause_of (run_of w ss) s ≡ None → AreAccepted w (ss ++ s ∷ [])
+pub accept_more : (w : WorldOfSets) (ss : List Step) (s : Step) → AreAccepted w ss → cause_of (run_of w ss) s ≡ None → AreAccepted w (ss ++ s ∷ [])
 accept_more w [] s h e = (e, tt)
 accept_more w (t ∷ ss) s h e = (h.0, accept_more (step_of w t) ss s h.1 e)
 

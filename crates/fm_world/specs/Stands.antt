@@ -5,10 +5,12 @@ use Rattle.fm_net.specs.Network.{net_of}
 use Rattle.fm_coord.specs.declared.view.View.{View}
 use Rattle.fm_coord.specs.Events.{Sent, Replica}
 use Rattle.fm_coord.specs.Replays.{seen}
+use Rattle.fm_coord.specs.Numbers.{AreDistinct}
 use Rattle.fm_coord.specs.States.{State, WithKeeper, StandsFor}
 use Rattle.fm_world.specs.declared.step.Act.{Act}
 use Rattle.fm_world.specs.declared.step.Act.TheVariants as act
-use Rattle.fm_world.specs.Worlds.{WorldOfSets, event_asked, acted, cut_by, cause_here}
+use Rattle.fm_world.specs.declared.step.Step.{Step}
+use Rattle.fm_world.specs.Worlds.{WorldOfSets, opening_world, run_of, AreAccepted, event_asked, acted, cut_by, cause_here}
 
 -- what the coordinators keep, and the packets that were cut, in the order of their cuts
 pub record Kept : Type 0 where
@@ -41,6 +43,15 @@ AllStand (s ∷ ss) [] = ⊥
 pub record WorldStandsFor (k : Kept) (w : WorldOfSets) : Type 0 where
   pub coordinators : AllStand k.coordinators w.replicas
   pub packets : k.packets ≡ map seen w.packets
+
+-- accepted steps lead here, from coordinators of distinct numbers to which nothing had happened
+pub record IsReached (k : Kept) : Type 0 where
+  -- the numbers of the coordinators, and how many entries their histories may have
+  pub openings : List (ℕ × ℕ)
+  pub distinct : AreDistinct (map (λ c. c.0) openings)
+  pub steps : List Step
+  pub accepted : AreAccepted (opening_world openings) steps
+  pub stands : WorldStandsFor k (run_of (opening_world openings) steps)
 
 -- what the coordinator with the number keeps
 abbrev pub state_with : List State → ℕ → Option State

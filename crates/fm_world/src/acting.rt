@@ -1,13 +1,11 @@
 //! Acts at one coordinator.
 
-ghost use Rattle.std.specs.Prelude.{◌≡◌, ◌≤◌, ◌∷◌, ◌++◌, [], List, None, Some, IsOk, IfOk, IfErr, OnOk, OnErr, map, vec_len};
+ghost use Rattle.std.specs.Prelude.{◌≡◌, ◌∷◌, ◌++◌, [], List, Some, IfOk, IfErr, OnOk, OnErr, map};
 ghost use Rattle.fm_records.specs.Options.{or_else};
-ghost use Rattle.fm_records.specs.Know.{know};
-ghost use Rattle.fm_round.specs.Admission.{admitted};
-ghost use Rattle.fm_coord.specs.Events.{Sent, Replica};
-ghost use Rattle.fm_coord.specs.Causes.{cause, refusal_for};
+ghost use Rattle.fm_coord.specs.Events.{Sent, Merged, Gave, Committed, Replica, packet_of, admitted_by};
+ghost use Rattle.fm_coord.specs.Causes.{refusal_for};
 ghost use Rattle.fm_coord.specs.Replays.{seen};
-ghost use Rattle.fm_coord.specs.States.{bounds, entry, took, gave, cut_packet, StandsFor};
+ghost use Rattle.fm_coord.specs.States.{bounds, StandsFor, IsEventAt};
 ghost use Rattle.fm_world.specs.Worlds.{event_asked, cause_here};
 ghost use Rattle.fm_world.specs.Stands.{shown, IsActed};
 
@@ -73,9 +71,8 @@ fn cut_at<N: NetKeeper>(
     by: u32,
     range: Range,
 ) -> Result<(), Refusal>
-    ensures state { OnOk result (coordinator.new.state ≡ gave coordinator.old.state (entry by (Call.Cut range) (Reply.Packet (cut_packet coordinator.old.state range)))) }
-    ensures packets { OnOk result (packets.new.items ≡ packets.old.items ++ cut_packet coordinator.old.state range ∷ []) }
-    ensures within { IsOk result → cause (bounds coordinator.old.state) (Call.Cut range) ≡ None }
+    ensures event { (r : Replica) → StandsFor coordinator.old.state r → OnOk result (IsEventAt r by (Gave range) (Reply.Packet (seen (packet_of r range))) coordinator.new.state) }
+    ensures packets { (r : Replica) → StandsFor coordinator.old.state r → OnOk result (packets.new.items ≡ packets.old.items ++ seen (packet_of r range) ∷ []) }
     ensures err { IfErr result (λ refusal. refusal ≡ refusal_for (bounds coordinator.old.state) (Call.Cut range)) }
     ensures same_state { OnErr result (coordinator.new.state ≡ coordinator.old.state) }
     ensures same_packets { OnErr result (packets.new.items ≡ packets.old.items) }
@@ -94,8 +91,7 @@ fn deliver_at<N: NetKeeper>(
     packet: &Packet,
     by: u32,
 ) -> Result<(), Refusal>
-    ensures state { OnOk result (coordinator.new.state ≡ took coordinator.old.state packet.now.value (entry by (Call.Merge packet.now) Reply.Nothing)) }
-    ensures within { IsOk result → cause (bounds coordinator.old.state) (Call.Merge packet.now) ≡ None }
+    ensures event { (r : Replica) (sent : Sent) → StandsFor coordinator.old.state r → packet.now ≡ seen sent → OnOk result (IsEventAt r by (Merged sent) Reply.Nothing coordinator.new.state) }
     ensures err { IfErr result (λ refusal. refusal ≡ refusal_for (bounds coordinator.old.state) (Call.Merge packet.now)) }
     ensures same_state { OnErr result (coordinator.new.state ≡ coordinator.old.state) }
 {
@@ -111,8 +107,7 @@ fn commit_at<N: NetKeeper>(
     by: u32,
     plan: &Plan,
 ) -> Result<(), Refusal>
-    ensures state { OnOk result (coordinator.new.state ≡ took coordinator.old.state (know (admitted coordinator.old.state.knowledge coordinator.old.state.number plan.now).ops) (entry by (Call.Commit plan.now) (Reply.Admitted (admitted coordinator.old.state.knowledge coordinator.old.state.number plan.now)))) }
-    ensures within { IsOk result → cause (bounds coordinator.old.state) (Call.Commit plan.now) ≡ None }
+    ensures event { (r : Replica) → StandsFor coordinator.old.state r → OnOk result (IsEventAt r by (Committed plan.now) (Reply.Admitted (admitted_by r plan.now)) coordinator.new.state) }
     ensures err { IfErr result (λ refusal. refusal ≡ refusal_for (bounds coordinator.old.state) (Call.Commit plan.now)) }
     ensures same_state { OnErr result (coordinator.new.state ≡ coordinator.old.state) }
 {

@@ -7,7 +7,7 @@ ghost use Rattle.fm_dimacs.specs.Text.{dump_text};
 ghost use Rattle.fm_coord.specs.Numbers.{AreDistinct};
 ghost use Rattle.fm_world.specs.Worlds.{WorldOfSets, opening_world, with_number, cause_of, refusal_of, step_of, run_of, AreAccepted, taken_by, StopsAt};
 ghost use Rattle.fm_world.specs.Agreement.{EachKnows, SameAgree, IsDumpOf};
-ghost use Rattle.fm_world.specs.Stands.{state_of, number_of, opening_of, AreUnused, AllStand, WorldStandsFor, state_with, shown};
+ghost use Rattle.fm_world.specs.Stands.{state_of, number_of, opening_of, AreUnused, AllStand, WorldStandsFor, IsReached, state_with, shown};
 
 use crate::acting::act_at;
 use crate::distinct::place_of;
@@ -23,7 +23,8 @@ use fm_records::refusal::Refusal;
 use std::alloc::Global;
 use std::marker::Model;
 
-/// Coordinators, and every packet that they cut. Contracts see what the coordinators keep, without their networks.
+/// Coordinators, and every packet that they cut. Contracts see what the coordinators keep, without their networks. Each world
+/// was reached by accepted steps.
 #[derive(Drop)]
 pub struct World<N: NetKeeper> {
     alloc: Global,
@@ -33,11 +34,13 @@ pub struct World<N: NetKeeper> {
 
 impl<N: NetKeeper> Model for World<N> {
     ghost use Rattle.std.specs.Prelude.{map};
-    ghost use Rattle.fm_world.specs.Stands.{Kept, state_of};
+    ghost use Rattle.fm_world.specs.Stands.{Kept, IsReached, state_of};
 
     ghost Value = { Kept };
 
     ghost view = { λ a. record { coordinators = map state_of a.coordinators.items; packets = a.packets.items } };
+
+    ghost invariant = { λ a. IsReached (record { coordinators = map state_of a.coordinators.items; packets = a.packets.items }) };
 }
 
 impl<N: NetKeeper> World<N> {
@@ -56,6 +59,17 @@ impl<N: NetKeeper> World<N> {
             coordinators,
             packets: Vec::new(alloc),
         }
+    }
+
+    /// What holds of every world: accepted steps led to it from coordinators to which nothing had happened. For whatever world
+    /// of sets the coordinators stand, as for the one to which those steps lead, each knows what it took in, and those that took
+    /// in the same operations, in whatever order, as often and by whatever packets, agree.
+    pub fn known(&self)
+        ensures reached { IsReached self.now }
+        ensures each_knows { (w : WorldOfSets) → WorldStandsFor self.now w → EachKnows self.now w }
+        ensures same_agree { (w : WorldOfSets) → WorldStandsFor self.now w → SameAgree self.now w }
+    {
+        let _ = &self.coordinators;
     }
 
     /// The coordinator with the number, if there is one.

@@ -4,7 +4,8 @@ ghost use Rattle.std.specs.Prelude.{IsTrue, IfOk};
 ghost use Rattle.fm_numbered.specs.Feasible.{IsFlowOf};
 ghost use Rattle.fm_numbered.specs.Unscheduled.{all_unscheduled};
 
-use crate::start::{is_least, resume, start};
+use crate::start::{resume, start};
+use fm_cycles::search::{Found, search};
 use fm_lattice::join::OutOfMemory;
 use fm_net::network::Network;
 use fm_net::node::Node;
@@ -112,6 +113,16 @@ fn can_wait(alloc: Global, numbered: &Numbered) -> Result<bool, OutOfMemory>
     let units = unscheduled(alloc, numbered)?;
     let can = is_feasible(alloc, numbered, &units)?;
     Ok(can)
+}
+
+// Whether the search finds no cycle.
+fn is_least(alloc: Global, numbered: &Numbered, units: &[u64]) -> Result<bool, OutOfMemory> {
+    let nodes = numbered.places.end;
+    let first = vec![in alloc; 0i128; nodes]?;
+    match search(alloc, nodes, &numbered.arcs, units, first)? {
+        Found::Potentials(_) => Ok(true),
+        Found::Cycle(_) => Ok(false),
+    }
 }
 
 // What the first flow costs, where it is a least flow.
@@ -301,25 +312,40 @@ fn the_search_finds_no_cycle_after_the_start(rt: HostRuntime) -> Result<(), Fail
     Ok(())
 }
 
-// Whether an earlier flow that is least is kept as it is, and one of other units ends at the same cost.
+// Whether an earlier flow that is least is kept as it is, and one of other units comes to no other cost.
 fn is_taken_over(alloc: Global, network: &Network) -> Result<bool, OutOfMemory> {
     let numbered = Numbered::of(alloc, network)?;
     if !can_wait(alloc, &numbered)? {
         return Ok(false);
     }
     let first = start(alloc, &numbered)?;
-    let kept = resume(alloc, &numbered, &first)?;
     let strange = vec![in alloc; 1u64; numbered.arcs.len()]?;
-    let other = resume(alloc, &numbered, &strange)?;
-    let costs = (total(&numbered, &first), total(&numbered, &other));
-    Ok(kept.as_slice() == first.as_slice() && costs.0 == costs.1)
+    if let Some((other, _)) = resume(alloc, &numbered, &strange)? {
+        if total(&numbered, &other) != total(&numbered, &first) {
+            return Ok(false);
+        }
+    }
+    match resume(alloc, &numbered, &first)? {
+        Some((kept, _)) => Ok(kept.as_slice() == first.as_slice()),
+        None => Ok(false),
+    }
 }
 
 #[test]
 fn earlier_flows_are_taken_over(rt: HostRuntime) -> Result<(), Fail> {
     for seed in 1..=6u64 {
-        let network = drawn(rt.alloc(), seed, 8, 40)?;
+        let network = drawn(rt.alloc(), seed, 60, 40)?;
         assert!(rt; is_taken_over(rt.alloc(), &network)?);
     }
+    Ok(())
+}
+
+// Whether a flow that places few of the tasks is not taken over.
+#[test]
+fn a_flow_of_few_tasks_is_not_taken_over(rt: HostRuntime) -> Result<(), Fail> {
+    let alloc = rt.alloc();
+    let numbered = Numbered::of(alloc, &drawn(alloc, 1, 60, 40)?)?;
+    let none = vec![in alloc; 0u64; numbered.arcs.len()]?;
+    assert!(rt; resume(alloc, &numbered, &none)?.is_none());
     Ok(())
 }

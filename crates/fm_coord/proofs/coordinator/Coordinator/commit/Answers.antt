@@ -8,6 +8,7 @@ use Rattle.fm_coord.specs.declared.entry.Reply.TheVariants as reply
 use Rattle.fm_coord.specs.Causes.{room_fault}
 use Rattle.fm_coord.specs.States.{State, bounds, entry, took, IsCoordinator}
 use Rattle.fm_coord.proofs.Keeps.{keeps_commit}
+use Rattle.fm_coord.proofs.Happens.{committed}
 use Rattle.fm_coord.proofs.coordinator.Coordinator.commit.Goals as goal
 
 pub take_in-requires : goal.take_in-requires
@@ -20,3 +21,12 @@ take_in-requires g c =
     let told : c.in_ok-delta.delta ≡ know (admitted s.knowledge s.number c.args.plan).ops = delta ∙ ap (λ (a : Admitted). know a.ops) came in
     subst (λ (p : Table × Admitted). IsCoordinator (took s p.0 (entry c.args.by (call.Commit c.args.plan) (reply.Admitted p.1)))) (λ i. (sym told i, sym shared i))
     (keeps_commit s c.known.ensures.coordinator c.args.by c.args.plan room)
+
+pub returns-clause-event : goal.returns-clause-event
+returns-clause-event g c =
+    let s : State = c.args.self.now.state in
+    let room : room_fault (bounds s) ≡ None = search rules in
+    let a : Admitted = c.in_ok-admitted.admitted in
+    let came : a ≡ admitted s.knowledge s.number c.args.plan = c.in_ok-admitted.ensures.admitted in
+    let made : c.take_in.new.self.state ≡ took s (know a.ops) (entry c.args.by (call.Commit c.args.plan) (reply.Admitted a)) = search rules in
+    λ r st. committed s r st c.args.by c.take_in.new.self.state c.args.plan a came room made

@@ -8,6 +8,7 @@ use Rattle.fm_coord.specs.States.{State, bounds, entry, gave, cut_packet, IsCoor
 use Rattle.fm_coord.specs.StepLaws.{no_cause}
 use Rattle.fm_coord.proofs.Said.{same_state}
 use Rattle.fm_coord.proofs.Keeps.{keeps_cut}
+use Rattle.fm_coord.proofs.Happens.{gave_packet}
 use Rattle.fm_coord.proofs.coordinator.Coordinator.cut.Goals as goal
 
 pub invariant_of-self-2 : goal.invariant_of-self-2
@@ -26,3 +27,20 @@ invariant_of-self-2 g c =
           (keeps_cut s c.self.invariant.coordinator c.args.by c.args.range (no_cause (bounds s) (call.Cut c.args.range) fault room)));
       keeper = c.self.invariant.keeper;
     }
+
+pub returns-clause-event : goal.returns-clause-event
+returns-clause-event g c =
+    let a = c.self.inside in
+    let s : State = c.args.self.now.state in
+    let t : State = record { number = a.number; limit = a.limit; knowledge = a.knowledge; deltas = a.buffer.deltas; cuts = a.cuts; history = a.history.items } in
+    let is : t ≡ s = same_state c.self.view_is in
+    let none = no_cause (bounds s) (call.Cut c.args.range) c.in_ok-check_range.ensures.ok c.in_ok-check_room.ensures.ok in
+    let p : Packet = c.in_ok-packet.packet in
+    let shared : c.in_ok-share.field-0 ≡ p = c.in_ok-share.ensures in
+    let items = c.in_ok-push.ensures.items in
+    let new : State = record { number = t.number; limit = t.limit; knowledge = t.knowledge; deltas = t.deltas; cuts = t.cuts + 1; history = c.push.new.self.items } in
+    let made : new ≡ gave s (entry c.args.by (call.Cut c.args.range) (reply.Packet p)) =
+    ap (λ (es : List Entry). record { number = t.number; limit = t.limit; knowledge = t.knowledge; deltas = t.deltas; cuts = t.cuts + 1; history = es }) items
+    ∙ ap (λ (q : Packet). gave t (entry c.args.by (call.Cut c.args.range) (reply.Packet q))) shared
+    ∙ ap (λ (u : State). gave u (entry c.args.by (call.Cut c.args.range) (reply.Packet p))) is in
+    λ r st. gave_packet s r st c.args.by new c.args.range p c.in_ok-packet.ensures.ok none made

@@ -7,6 +7,7 @@ use Rattle.fm_coord.specs.declared.entry.Reply.TheVariants as reply
 use Rattle.fm_coord.specs.Causes.{room_fault}
 use Rattle.fm_coord.specs.States.{State, bounds, entry, took, IsCoordinator}
 use Rattle.fm_coord.proofs.Keeps.{keeps_merge}
+use Rattle.fm_coord.proofs.Happens.{merged}
 use Rattle.fm_coord.proofs.coordinator.Coordinator.merge.Goals as goal
 
 pub take_in-requires : goal.take_in-requires
@@ -18,3 +19,10 @@ take_in-requires g c =
     let merged : Entry = entry c.args.by (call.Merge c.args.packet) reply.Nothing in
     subst (λ (d : Table). IsCoordinator (took s d merged)) (sym delta)
     (keeps_merge s c.known.ensures.coordinator c.args.by c.args.packet can.table room)
+
+pub returns-clause-event : goal.returns-clause-event
+returns-clause-event g c =
+    let s : State = c.args.self.now.state in
+    let room : room_fault (bounds s) ≡ None = search rules in
+    let made : c.take_in.new.self.state ≡ took s c.args.packet.value (entry c.args.by (call.Merge c.args.packet) reply.Nothing) = search rules in
+    λ r sent st is. merged s r st c.args.by c.take_in.new.self.state c.args.packet sent is room made

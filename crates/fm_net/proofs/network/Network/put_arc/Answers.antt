@@ -1,20 +1,28 @@
-use Rattle.std.proofs.Common.{◌∙◌, ap, refl, arith}
-use Rattle.fm_net.specs.Net.{has_node}
+use Rattle.std.proofs.Common.{◌∙◌, ap, refl, sym, subst, arith}
+use Rattle.std.specs.Map.{keys_of}
+use Rattle.fm_lattice.specs.Maps.{lookup, replaced, IsRising}
+use Rattle.fm_lattice.specs.MapLaws.{rising_put}
+use Rattle.fm_net.specs.Nodes.{ends_cmp}
+use Rattle.fm_net.specs.NodeOrder.{ends_exact, ends_total}
+use Rattle.fm_net.specs.Net.{Net, has_node}
 use Rattle.fm_net.proofs.Kept.{after_put_arc}
-use Rattle.fm_net.proofs.Said.{same_lists, rising_said, insert_entry_is}
+use Rattle.fm_net.proofs.Said.{arc_with}
 use Rattle.fm_net.proofs.network.Network.put_arc.Goals as goal
+
+pub put-requires : goal.put-requires
+put-requires c = ends_exact
 
 pub invariant_of-self-2 : goal.invariant_of-self-2
 invariant_of-self-2 c =
-    after_put_arc _ _ c.self.invariant c.args.from c.args.to refl (rising_said _ c.in_ok-insert.ensures.ordered) (c.args.capacity, c.args.cost)
+    let old : Net = record { nodes = keys_of c.self.inside.nodes; arcs = c.self.inside.arcs } in
+    let new : Net = record { nodes = keys_of c.self.inside.nodes; arcs = c.put.new.self } in
+    after_put_arc old new c.self.invariant c.args.from c.args.to refl
+    (subst (IsRising ends_cmp) (sym c.in_ok-put.ensures.ok) (rising_put ends_cmp ends_total ends_exact replaced (c.args.from, c.args.to) (c.args.capacity, c.args.cost) c.self.inside.arcs c.self.invariant.arcs_rise))
+    (c.args.capacity, c.args.cost)
     (record { from_stands = ap (λ net. has_node net c.args.from) c.self.view_is ∙ c.requires.from_stands; to_stands = ap (λ net. has_node net c.args.to) c.self.view_is ∙ c.requires.to_stands; kinds = c.requires.kinds; capacity_above = c.requires.capacity_above; capacity_fits = omega arith; cost_within = c.requires.cost_within })
-    (λ a b. c.in_ok-insert.ensures.updates.0 (a, b))
-
-pub returns-clause-ok : goal.returns-clause-ok
-returns-clause-ok c = rw (← c.self.view_is) (same_lists _ _ refl (c.in_ok-insert.ensures.entries ∙ insert_entry_is (c.args.from, c.args.to) (c.args.capacity, c.args.cost) c.self.inside.arcs.entries))
-
-pub returns-clause-stood : goal.returns-clause-stood
-returns-clause-stood c = rw (← c.self.view_is) c.in_ok-insert.ensures.old
+    (λ a b. ap (lookup ends_cmp (a, b)) c.in_ok-put.ensures.ok ∙ arc_with c.args.from c.args.to (c.args.capacity, c.args.cost) old c.self.invariant.arcs_rise a b)
 
 pub returns-clause-arc : goal.returns-clause-arc
-returns-clause-arc c = rw (← c.self.view_is) (λ a b. c.in_ok-insert.ensures.updates.0 (a, b))
+returns-clause-arc c =
+    let old : Net = record { nodes = keys_of c.self.inside.nodes; arcs = c.self.inside.arcs } in
+    rw (← c.self.view_is) (λ a b. ap (lookup ends_cmp (a, b)) c.in_ok-put.ensures.ok ∙ arc_with c.args.from c.args.to (c.args.capacity, c.args.cost) old c.self.invariant.arcs_rise a b)

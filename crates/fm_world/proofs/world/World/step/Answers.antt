@@ -1,5 +1,6 @@
-use Rattle.std.proofs.Common.{◌==◌, position, ap, ◌∙◌}
-use Rattle.fm_world.specs.Stands.{number_of}
+use Rattle.std.proofs.Common.{◌==◌, position, ap, ◌∙◌, subst}
+use Rattle.fm_world.specs.Stands.{number_of, IsReached}
+use Rattle.fm_world.proofs.Reached.{reached_by}
 use Rattle.fm_world.proofs.Steps.{nobody, refuses, shows, stands_on, accepts, stays}
 use Rattle.fm_world.proofs.world.World.step.Goals as goal
 
@@ -31,3 +32,13 @@ pub returns-in-Some-clause-unchanged : goal.returns-in-Some-clause-unchanged
 returns-in-Some-clause-unchanged g c =
     stays c.self.inside.coordinators.items c.self.inside.packets.items c.args.step.now c.in-Some.place c.index_mut.result.now c.act_at.new.coordinator
     (c.in-Some.ensures ∙ ap (position (λ d. number_of d == c.args.step.now.at)) c.as_slice.ensures.value) c.index_mut.ensures.value c.args.self.now c.self.view_is c.act_at.result c.act_at.new.packets.items c.act_at.ensures.same_state c.act_at.ensures.same_packets
+
+pub invariant_of-self : goal.invariant_of-self
+invariant_of-self g c =
+    reached_by c.act_at.result c.args.self.now _ c.args.step.now (subst IsReached c.self.view_is c.self.invariant)
+    (stands_on c.self.inside.coordinators.items c.self.inside.packets.items c.args.step.now c.in-Some.place c.index_mut.result.now c.act_at.new.coordinator
+    (c.in-Some.ensures ∙ ap (position (λ d. number_of d == c.args.step.now.at)) c.as_slice.ensures.value) c.index_mut.ensures.value c.args.self.now c.self.view_is c.act_at.result c.act_at.new.packets.items c.act_at.ensures.acted)
+    (accepts c.self.inside.coordinators.items c.self.inside.packets.items c.args.step.now c.in-Some.place c.index_mut.result.now c.act_at.new.coordinator
+    (c.in-Some.ensures ∙ ap (position (λ d. number_of d == c.args.step.now.at)) c.as_slice.ensures.value) c.index_mut.ensures.value c.args.self.now c.self.view_is c.act_at.result c.act_at.new.packets.items c.act_at.ensures.acted)
+    (stays c.self.inside.coordinators.items c.self.inside.packets.items c.args.step.now c.in-Some.place c.index_mut.result.now c.act_at.new.coordinator
+    (c.in-Some.ensures ∙ ap (position (λ d. number_of d == c.args.step.now.at)) c.as_slice.ensures.value) c.index_mut.ensures.value c.args.self.now c.self.view_is c.act_at.result c.act_at.new.packets.items c.act_at.ensures.same_state c.act_at.ensures.same_packets)

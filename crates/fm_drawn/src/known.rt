@@ -1,0 +1,145 @@
+//! Small clusters whose least cost is known, solved from flows of all kinds.
+
+use crate::solving::{anew, from, network_of};
+use fm_flow::flow::Flow;
+use fm_know::knowledge::Knowledge;
+use fm_lattice::join::Join;
+use fm_net::node::Node;
+use fm_records::ids::{JobId, MachineId, TaskId};
+use fm_records::ops::Op;
+use fm_records::refusal::Refusal;
+use std::alloc::Global;
+
+fn job(id: u128, wait: u32, preempt: u32) -> Op {
+    Op::Job {
+        id: JobId::new(id),
+        version: 1,
+        writer: 1,
+        withdrawn: false,
+        wait,
+        preempt,
+    }
+}
+
+fn machine(id: u128, nic: u32) -> Op {
+    Op::Machine {
+        id: MachineId::new(id),
+        incarnation: 1,
+        version: 1,
+        writer: 1,
+        up: true,
+        slots: 2,
+        nic,
+    }
+}
+
+fn report(id: u128, used: u32) -> Op {
+    Op::Report {
+        id: MachineId::new(id),
+        incarnation: 1,
+        number: 1,
+        used,
+    }
+}
+
+fn task(id: u128, job: u128, request: u32) -> Op {
+    Op::Spec {
+        id: TaskId::new(id),
+        version: 1,
+        writer: 1,
+        withdrawn: false,
+        job: JobId::new(job),
+        request,
+    }
+}
+
+fn proposal(id: u128, machine: u128) -> Op {
+    Op::Propose {
+        id: TaskId::new(id),
+        attempt: 0,
+        coordinator: 1,
+        machine: MachineId::new(machine),
+        incarnation: 1,
+    }
+}
+
+// What the operations come to.
+fn told(alloc: Global, ops: &[Op]) -> Result<Knowledge, Refusal> {
+    let mut known = Knowledge::empty(alloc);
+    for op in ops {
+        op.check()?;
+        let delta = Knowledge::delta_of(alloc, op)?;
+        known.join_into(&delta)?;
+    }
+    Ok(known)
+}
+
+fn machine_node(id: u128) -> Node {
+    Node::Machine(MachineId::new(id))
+}
+
+fn task_node(id: u128) -> Node {
+    Node::Task(TaskId::new(id))
+}
+
+// A flow of keys that are no arcs, of units above capacities, and of units from nowhere.
+fn strange(alloc: Global) -> Result<Flow, Refusal> {
+    let mut flow = Flow::new(alloc);
+    flow.put(task_node(17), machine_node(11), 5)?;
+    flow.put(task_node(17), Node::Request(100), 7)?;
+    flow.put(task_node(18), Node::Request(100), 3)?;
+    flow.put(task_node(19), Node::Request(100), 1)?;
+    flow.put(task_node(20), Node::Request(100), 1)?;
+    flow.put(task_node(21), Node::Request(300), u64::MAX)?;
+    flow.put(task_node(99), machine_node(10), 1)?;
+    flow.put(Node::Request(100), machine_node(10), 9)?;
+    flow.put(Node::Request(300), machine_node(11), 2)?;
+    flow.put(Node::Request(300), machine_node(10), u64::MAX)?;
+    flow.put(machine_node(10), Node::Sink, u64::MAX)?;
+    flow.put(Node::Sink, task_node(17), 4)?;
+    Ok(flow)
+}
+
+// Prints what solving costs anew, from that flow, from no flow, and from a strange one.
+fn print_costs(
+    rt: &HostRuntime,
+    alloc: Global,
+    name: &str,
+    ops: &[Op],
+) -> Result<(), anyhow::Error> {
+    let network = network_of(alloc, &told(alloc, ops)?)?;
+    let (flow, cost) = anew(alloc, &network)?;
+    let (_, own) = from(alloc, &network, &flow)?;
+    let (_, none) = from(alloc, &network, &Flow::new(alloc))?;
+    let (_, other) = from(alloc, &network, &strange(alloc)?)?;
+    println!(rt; "{name} {cost} {own} {none} {other}")?;
+    Ok(())
+}
+
+/// One task and a machine with room for it; the same where the machine has no bandwidth to spare; and five tasks, of which
+/// one has to wait.
+pub(crate) fn print(rt: &HostRuntime, alloc: Global) -> Result<(), anyhow::Error> {
+    let first = [job(1, 500, 800), machine(10, 1000), task(17, 1, 100)];
+    print_costs(rt, alloc, "first", &first)?;
+    let crowded = [
+        job(1, 500, 800),
+        machine(10, 1000),
+        task(17, 1, 100),
+        report(10, 950),
+    ];
+    print_costs(rt, alloc, "crowded", &crowded)?;
+    let waiting = [
+        job(1, 600, 800),
+        job(2, 450, 100),
+        machine(10, 1000),
+        machine(11, 500),
+        report(11, 300),
+        task(17, 1, 200),
+        proposal(17, 10),
+        task(18, 1, 100),
+        task(19, 1, 100),
+        task(20, 2, 100),
+        task(21, 1, 300),
+    ];
+    print_costs(rt, alloc, "waiting", &waiting)
+}

@@ -1,0 +1,13 @@
+//! Fleets: coordinators that run at the same time, tell one another what they know, and run rounds meanwhile.
+#![tactic(auto)]
+
+pub mod exchange;
+pub mod fleet;
+mod halt;
+mod intake;
+pub mod member;
+mod rounds;
+mod serving;
+#[cfg(test)]
+mod tests;
+mod work;

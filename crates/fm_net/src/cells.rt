@@ -1,0 +1,202 @@
+//! Pairs in cells, with an index by their keys.
+
+ghost use Rattle.std.specs.Prelude.{◌≡◌, ◌<◌, ◌^◌, ◌&&◌, [], length, is_some, IfOk, OnOk, OnErr};
+ghost use Rattle.std.specs.Iterator.{YieldsFirst, item_count};
+ghost use Rattle.std.specs.Map.{remove_entry};
+ghost use Rattle.std.specs.BTreeMap.{is_at};
+ghost use Rattle.std.specs.Cmp.Lexicographic.{pointwise};
+ghost use Rattle.fm_lattice.specs.Chains.{TellsApart};
+ghost use Rattle.fm_lattice.specs.Maps.{lookup, put, replaced, IsRising};
+ghost use Rattle.fm_net.specs.Cells.{IsPlainClone};
+
+use fm_lattice::join::OutOfMemory;
+use slab::Slab;
+use std::alloc::Global;
+use std::collections::{BTreeMap, btree_map};
+use std::fmt;
+use std::marker::Model;
+
+/// A map whose pairs lie in cells of a slab; the index keeps the keys in order, each with the place of its cell.
+#[derive(Drop)]
+pub(crate) struct Cells<K: Ord + Copy, V: Copy> {
+    cells: Slab<(K, V)>,
+    places: BTreeMap<K, usize>,
+}
+
+impl<K: Ord + Copy, V: Copy> Model for Cells<K, V> {
+    ghost use Rattle.std.specs.Prelude.{List};
+    ghost use Rattle.slab.specs.Slab.{get};
+    ghost use Rattle.fm_net.specs.Cells.{shown, AreKept};
+
+    ghost Value = { List (K × V) };
+
+    ghost view = { λ c. shown (get c.cells) c.places.entries };
+
+    ghost invariant = { λ c. AreKept K.cmp c.cells c.places.entries };
+}
+
+impl<K: Ord + Copy, V: Copy> Cells<K, V> {
+    /// No pairs. It takes no memory.
+    pub(crate) fn new(alloc: Global) -> Self
+        ensures { result ≡ [] }
+    {
+        Cells {
+            cells: Slab::new(alloc),
+            places: BTreeMap::new(alloc),
+        }
+    }
+
+    /// The value at the key, if it is there. O(log n).
+    pub(crate) fn get(&self, key: &K) -> Option<V>
+        ensures { result ≡ lookup K.cmp key.now self.now }
+    {
+        match self.places.get(key) {
+            Some(place) => Some(self.cells[*place].1),
+            None => None,
+        }
+    }
+
+    /// Whether the key is there. O(log n).
+    pub(crate) fn has(&self, key: &K) -> bool
+        ensures { result ≡ is_some (lookup K.cmp key.now self.now) }
+    {
+        self.places.contains_key(key)
+    }
+
+    /// Puts the value at the key in place of one that stood there, and answers what stood there. The index is searched once:
+    /// the pair gets a cell of its own, and a cell that the key had before is emptied then.
+    /// After a refusal of memory all is as it was. O(log n).
+    pub(crate) fn put(&mut self, key: K, value: V) -> Result<Option<V>, OutOfMemory>
+        requires { TellsApart K.cmp }
+        ensures ok { OnOk result (self.new ≡ put K.cmp replaced key value self.old) }
+        ensures stood { IfOk result (λ old. old ≡ lookup K.cmp key self.old) }
+        ensures err { OnErr result (self.new ≡ self.old) }
+    {
+        let place = self.cells.insert((key, value))?;
+        match self.places.insert(key, place) {
+            Ok(Some(former)) => Ok(Some(self.cells.remove(former).1)),
+            Ok(None) => Ok(None),
+            Err(_) => {
+                self.cells.remove(place);
+                Err(OutOfMemory)
+            }
+        }
+    }
+
+    /// Takes the pair at the key out, and answers its value, if it was there. O(log n).
+    pub(crate) fn remove(&mut self, key: &K) -> Option<V>
+        ensures without { self.new ≡ remove_entry (is_at (K.cmp key.now)) self.old }
+        ensures stood { result ≡ lookup K.cmp key.now self.old }
+    {
+        match self.places.remove(key) {
+            Some(place) => Some(self.cells.remove(place).1),
+            None => None,
+        }
+    }
+
+    /// How many pairs there are: fewer than 2^63.
+    pub(crate) fn len(&self) -> usize
+        ensures len { result ≡ length self.now }
+        ensures fits { result < 2 ^ 63 }
+    {
+        self.places.len()
+    }
+
+    /// The pairs, by rising key.
+    pub(crate) fn iter(&self) -> Pairs<'_, K, V>
+        ensures all { result ≡ self.now }
+        ensures fits { length self.now < 2 ^ 63 }
+    {
+        Pairs {
+            cells: &self.cells,
+            places: self.places.iter(),
+        }
+    }
+
+    /// The same pairs, in memory of their own.
+    pub(crate) fn copy(&self) -> Result<Self, OutOfMemory>
+        requires key { IsPlainClone K.is_clone }
+        requires value { IsPlainClone V.is_clone }
+        ensures { IfOk result (λ copy. copy ≡ self.now) }
+    {
+        let cells = self.cells.clone()?;
+        let places = self.places.clone()?;
+        Ok(Cells { cells, places })
+    }
+}
+
+impl<K: Ord + Copy, V: PartialEq + Copy> PartialEq for Cells<K, V> {
+    ghost use Rattle.std.specs.Cmp.{on_per, and_per};
+    ghost use Rattle.std.specs.Cmp.Lexicographic.{lists_per};
+
+    ghost eq = { λ a b. pointwise (λ p q. K.eq p.0 q.0 && V.eq p.1 q.1) a b };
+
+    ghost laws = { lists_per (and_per (on_per (λ p. p.0) K.PartialEq.laws) (on_per (λ p. p.1) V.laws)) };
+
+    /// Whether the pairs are the same.
+    fn eq(&self, other: &Self) -> bool {
+        same_pairs(self.iter(), other.iter())
+    }
+}
+
+impl<K: Ord + Copy + fmt::Debug, V: Copy + fmt::Debug> fmt::Debug for Cells<K, V> {
+    fn fmt<W: fmt::Write>(&self, f: &mut fmt::Formatter<W>) -> fmt::Result {
+        f.debug_map().entries(self.iter()).finish()
+    }
+}
+
+/// The pairs that are left of a walk, by rising key.
+#[derive(Drop)]
+pub(crate) struct Pairs<'a, K: Copy, V: Copy> {
+    cells: &'a Slab<(K, V)>,
+    places: btree_map::Iter<'a, K, usize>,
+}
+
+impl<'a, K: Copy, V: Copy> Model for Pairs<'a, K, V> {
+    ghost use Rattle.std.specs.Prelude.{List};
+    ghost use Rattle.slab.specs.Slab.{get};
+    ghost use Rattle.fm_net.specs.Cells.{shown, EachHasCell};
+
+    ghost Value = { List (K × V) };
+
+    ghost view = { λ s. shown (get s.cells.now) s.places };
+
+    ghost invariant = { λ s. EachHasCell (get s.cells.now) s.places };
+}
+
+impl<'a, K: Copy, V: Copy> Iterator for Pairs<'a, K, V> {
+    type Item = (K, V);
+
+    ghost next_gives = { YieldsFirst (λ s. s) };
+
+    ghost remaining = { item_count (λ s. s) };
+
+    fn next(&mut self) -> Option<(K, V)> {
+        match self.places.next() {
+            Some((_, place)) => Some(self.cells[*place]),
+            None => None,
+        }
+    }
+}
+
+// Whether two walks give the same pairs.
+fn same_pairs<K: Ord + Copy, V: PartialEq + Copy>(
+    left: Pairs<'_, K, V>,
+    right: Pairs<'_, K, V>,
+) -> bool
+    ensures { result ≡ pointwise (λ p q. K.eq p.0 q.0 && V.eq p.1 q.1) left.entry right.entry }
+{
+    let mut left = left;
+    let mut right = right;
+    while let Some((key, value)) = left.next() {
+        match right.next() {
+            Some((other_key, other_value)) => {
+                if !(key == other_key && value == other_value) {
+                    return false;
+                }
+            }
+            None => return false,
+        }
+    }
+    right.next().is_none()
+}

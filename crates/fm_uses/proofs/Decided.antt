@@ -1,0 +1,15 @@
+-- What was admitted is that of the plan of a least flow.
+use Rattle.std.proofs.Common.{◌≡◌, ℕ, subst, ◌∙◌}
+use Rattle.fm_records.specs.Table.{Table}
+use Rattle.fm_net.specs.Net.{Net}
+use Rattle.fm_net.specs.Network.{net_of}
+use Rattle.fm_certificate.specs.Flows.{Units, IsLeast}
+use Rattle.fm_round.specs.declared.parts.Plan.{Plan}
+use Rattle.fm_round.specs.declared.parts.Admitted.{Admitted}
+use Rattle.fm_round.specs.Admission.{admitted}
+use Rattle.fm_round.specs.Planned.{units_over, planned}
+use Rattle.fm_round.specs.Schedules.{IsPlanOf}
+
+pub decided : (k : Table) (net : Net) (units : Units) (plan : Plan) (n : ℕ) (a : Admitted) → net ≡ net_of k → IsLeast net units → plan ≡ planned (units_over net units) k → a ≡ admitted k n plan → (x : Plan) × IsPlanOf k x × a ≡ admitted k n x
+decided k net units plan n a is least made comes =
+    (plan, record { units = units; least = subst (λ m. IsLeast m units) is least; planned = made ∙ (λ i. planned (units_over (is i) units) k) }, comes)

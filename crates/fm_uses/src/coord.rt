@@ -1,0 +1,22 @@
+//! Coordinators alone: one passes on all that it knows.
+
+ghost use Rattle.std.specs.Prelude.{◌≡◌, OnOk};
+ghost use Rattle.fm_records.specs.Joined.{table_join};
+
+use fm_coord::coordinator::Coordinator;
+use fm_coord::entry::Range;
+use fm_policy::keeper::NetKeeper;
+use fm_records::refusal::Refusal;
+
+/// Hands all that `from` knows to `to`, which then knows what both did. Seat 0 asks for it at both.
+/// HistoryFull, PacketsSpent and the like where one of them is full, and want of memory: then `to` is as it was.
+pub fn hand_over<N: NetKeeper>(
+    from: &mut Coordinator<N>,
+    to: &mut Coordinator<N>,
+) -> Result<(), Refusal>
+    ensures knows { OnOk result (to.new.state.knowledge ≡ table_join to.old.state.knowledge from.old.state.knowledge) }
+    ensures keeps { from.new.state.knowledge ≡ from.old.state.knowledge }
+{
+    let packet = from.cut(0, Range::Full)?;
+    to.merge(0, packet.get().copy()?)
+}

@@ -1,0 +1,19 @@
+//! Deltas alone: what a peer still lacks.
+
+ghost use Rattle.std.specs.Prelude.{◌≡◌, List, map, IfOk};
+ghost use Rattle.fm_records.specs.declared.ops.Op.{Op};
+ghost use Rattle.fm_records.specs.Know.{know};
+ghost use Rattle.fm_records.specs.Sets.{union};
+ghost use Rattle.fm_delta.specs.Deltas.{between, end_of};
+
+use fm_delta::buffer::Buffer;
+use fm_know::knowledge::Knowledge;
+use fm_records::refusal::Refusal;
+
+/// All that was kept from place `from` on, as one delta: what the operations of these places come to together. Refused for
+/// BadInterval where nothing lies from there on, for Trimmed where it was let go, or for want of memory.
+pub fn since(buffer: &Buffer, from: u64) -> Result<Knowledge, Refusal>
+    ensures { (Ss : List (List Op)) → between buffer.now.deltas from (end_of buffer.now.deltas) ≡ map know Ss → IfOk result (λ k. k ≡ know (union Ss)) }
+{
+    buffer.cut(from, buffer.end())
+}

@@ -1,0 +1,24 @@
+//! Packets as bytes alone: a relay that lets nothing through but packets.
+
+ghost use Rattle.std.specs.Prelude.{◌≡◌, IfOk, IfErr, option_map};
+ghost use Rattle.fm_records.specs.Options.{or_else};
+ghost use Rattle.fm_records.specs.declared.refusal.Refusal.{Refusal};
+ghost use Rattle.fm_wire.specs.Grammar.{fault};
+
+use fm_records::refusal::Refusal;
+use fm_wire::reading::decode;
+use fm_wire::writing::encode;
+use std::alloc::Global;
+
+/// The bytes again, written anew from the packet that they spell, so that they are the very same. Refused at the first byte
+/// that no packet has there, or for want of memory.
+pub fn relayed(alloc: Global, bytes: &[u8]) -> Result<Vec<u8>, Refusal>
+    ensures same { IfOk result (λ out. out.items ≡ bytes.now) }
+    ensures err { IfErr result (λ refusal. refusal ≡ or_else Refusal.OutOfMemory (option_map Refusal.BadPacket (fault bytes.now))) }
+{
+    let packet = decode(alloc, bytes)?;
+    match encode(alloc, &packet) {
+        Ok(out) => Ok(out),
+        Err(_) => Err(Refusal::OutOfMemory),
+    }
+}

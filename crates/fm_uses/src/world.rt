@@ -1,0 +1,29 @@
+//! A world alone: steps that were written down are run, and what comes of them is dumped.
+
+ghost use Rattle.std.specs.Prelude.{◌≡◌, OnOk};
+ghost use Rattle.fm_world.specs.Worlds.{WorldOfSets, with_number, run_of};
+ghost use Rattle.fm_world.specs.Agreement.{IsDumpOf};
+ghost use Rattle.fm_world.specs.Stands.{WorldStandsFor};
+
+use fm_dimacs::out::Out;
+use fm_policy::keeper::NetKeeper;
+use fm_records::ids::CoordId;
+use fm_records::refusal::Refusal;
+use fm_world::step::Step;
+use fm_world::world::World;
+
+/// Runs the steps, and writes the network of the coordinator: that of the operations which its replica took in, in a world that
+/// is nothing but sets of operations. Stops at the first refused step, with its cause, and then writes nothing.
+pub fn run_and_dump<N: NetKeeper, W: Out>(
+    world: &mut World<N>,
+    steps: &[Step],
+    number: CoordId,
+    out: &mut W,
+) -> Result<(), Refusal>
+    ensures { (w : WorldOfSets) → WorldStandsFor world.old w → OnOk result (IsDumpOf (with_number (run_of w steps.now).replicas number) (W.written out.old) (W.written out.new)) }
+{
+    if let Err(stop) = world.run(steps) {
+        return Err(stop.refusal);
+    }
+    world.dump(number, out)
+}

@@ -1,0 +1,122 @@
+/* Stands before the C library's allocator in a process (LD_PRELOAD), counts what is asked of it, and refuses some of it.
+ *
+ * The file that REFUSING names has room for seven numbers of 64 bits and is shared with who started the process:
+ *   0  which allocation is refused, counted from 1; 0 refuses none
+ *   1  how many are refused from there on; 0 is all of them
+ *   2  how many there were
+ *   3  how many were refused
+ *   4  the most bytes that one of them asked for, refused ones too
+ *   5  the bytes that are held
+ *   6  the most bytes that were held at once
+ * A block that is to have another size is an allocation. Only for one thread.
+ *
+ * A process can also say itself which of its next allocations is refused: by asking for ARM bytes and that number, and for ASK
+ * bytes whether it was; both are refused themselves, ASK only where an allocation was refused since. Neither is counted. Where
+ * this library is not loaded, as many bytes as ARM are refused by any C library, and ASK bytes are given.
+ *
+ * No headers, so that any C compiler can make it: cc -shared -fPIC -nostdlib. */
+typedef unsigned long size;
+typedef unsigned long long number;
+
+extern void *__libc_malloc(size);
+extern void *__libc_calloc(size, size);
+extern void *__libc_realloc(void *, size);
+extern void *__libc_memalign(size, size);
+extern void __libc_free(void *);
+extern size malloc_usable_size(void *);
+extern char *getenv(const char *);
+extern int open(const char *, int, ...);
+extern void *mmap(void *, size, int, int, int, long);
+
+#define ARM 0x7ee0000000000000ul
+#define MOST_ARMED 0xfffffffful
+#define ASK 1234567ul
+
+static number none[7];
+static number *numbers = none;
+static int begun;
+static number armed, since;
+
+static void begin(void) {
+    begun = 1;
+    const char *name = getenv("REFUSING");
+    if (!name) return;
+    int file = open(name, 2);
+    if (file < 0) return;
+    void *shared = mmap(0, 4096, 3, 1, file, 0);
+    if (shared != (void *)-1) numbers = shared;
+}
+
+/* Whether this allocation is refused. */
+static int refused(size asked) {
+    if (!begun) begin();
+    number place = ++numbers[2];
+    if (asked > numbers[4]) numbers[4] = asked;
+    int now = numbers[0] && place >= numbers[0] && (!numbers[1] || place < numbers[0] + numbers[1]);
+    if (armed && !--armed) {
+        now = 1;
+        since = 1;
+    }
+    numbers[3] += now;
+    return now;
+}
+
+static void *given(void *block) {
+    if (block) {
+        numbers[5] += malloc_usable_size(block);
+        if (numbers[5] > numbers[6]) numbers[6] = numbers[5];
+    }
+    return block;
+}
+
+static void taken(void *block) {
+    if (block) numbers[5] -= malloc_usable_size(block);
+}
+
+void *malloc(size asked) {
+    if (asked >= ARM && asked <= ARM + MOST_ARMED) {
+        armed = asked - ARM;
+        since = 0;
+        return 0;
+    }
+    if (asked == ASK) {
+        armed = 0;
+        return since ? 0 : given(__libc_malloc(asked));
+    }
+    return refused(asked) ? 0 : given(__libc_malloc(asked));
+}
+
+void *calloc(size count, size each) {
+    return refused(count * each) ? 0 : given(__libc_calloc(count, each));
+}
+
+void *realloc(void *block, size asked) {
+    if (refused(asked)) return 0;
+    size before = block ? malloc_usable_size(block) : 0;
+    void *found = __libc_realloc(block, asked);
+    if (found) {
+        numbers[5] -= before;
+        given(found);
+    }
+    return found;
+}
+
+void *memalign(size alignment, size asked) {
+    return refused(asked) ? 0 : given(__libc_memalign(alignment, asked));
+}
+
+void *aligned_alloc(size alignment, size asked) {
+    return memalign(alignment, asked);
+}
+
+int posix_memalign(void **block, size alignment, size asked) {
+    void *found = memalign(alignment, asked);
+    if (!found) return 12;
+    *block = found;
+    return 0;
+}
+
+void free(void *block) {
+    taken(block);
+    __libc_free(block);
+}
