@@ -85,6 +85,3 @@ fn sends(flow: &Flow, node: &Node) -> bool
         }
     }
 }
-
-#[cfg(test)]
-mod tests;

@@ -6,6 +6,4 @@ pub mod entry;
 pub mod equal;
 pub mod laws;
 pub mod shared;
-#[cfg(test)]
-mod tests;
 pub mod view;

@@ -3,5 +3,3 @@
 
 pub mod buffer;
 pub mod packet;
-#[cfg(test)]
-mod tests;

@@ -9,5 +9,3 @@ pub mod pieces;
 pub mod read;
 mod scan;
 pub mod solution;
-#[cfg(test)]
-mod tests;

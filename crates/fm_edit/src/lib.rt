@@ -13,6 +13,4 @@ mod memory;
 mod seeing;
 mod seen;
 mod shown;
-#[cfg(test)]
-mod tests;
 mod touched;

@@ -8,8 +8,6 @@ pub mod node;
 mod owners;
 pub mod round;
 pub mod seat;
-#[cfg(test)]
-mod tests;
 
 // The inboxes by which nodes pass packets on.
 pub use fm_inbox::{door, inbox};

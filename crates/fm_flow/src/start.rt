@@ -324,7 +324,7 @@ pub fn start(alloc: Global, numbered: &Numbered) -> Result<Vec<u64>, OutOfMemory
 /// The flow with the task paths of the given units that are still whole and fit, the other tasks placed by falling worth,
 /// and potentials that show it to be least. None where it is not least, and where the given units place too few of the tasks
 /// for that to be likely: those that stay would be in the way of others. It is searched once.
-pub(crate) fn resume(
+pub fn resume(
     alloc: Global,
     numbered: &Numbered,
     given: &[u64],
@@ -346,6 +346,3 @@ pub(crate) fn resume(
         Found::Cycle(_) => Ok(None),
     }
 }
-
-#[cfg(test)]
-mod tests;

@@ -6,5 +6,3 @@ mod gathered;
 pub mod laws;
 mod packets;
 mod sweeping;
-#[cfg(test)]
-mod tests;

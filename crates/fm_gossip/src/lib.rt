@@ -8,6 +8,4 @@ mod intake;
 pub mod member;
 mod rounds;
 mod serving;
-#[cfg(test)]
-mod tests;
 mod work;

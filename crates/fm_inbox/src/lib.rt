@@ -4,5 +4,3 @@
 pub mod door;
 pub mod inbox;
 mod rule;
-#[cfg(test)]
-mod tests;

@@ -355,6 +355,3 @@ fn items_in<'a>(value: &'a Value, name: &str) -> Option<&'a [Value]>
     let items = value.get(name)?.as_array()?;
     Some(items.as_slice())
 }
-
-#[cfg(test)]
-mod tests;

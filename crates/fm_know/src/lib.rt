@@ -6,6 +6,4 @@ pub mod knowledge;
 pub mod laws;
 pub mod mutators;
 pub mod parts;
-#[cfg(test)]
-mod tests;
 pub mod told;

@@ -10,5 +10,3 @@ mod pairs;
 pub mod plain;
 mod plan;
 mod rising;
-#[cfg(test)]
-mod tests;

@@ -7,6 +7,4 @@ pub mod laws;
 pub mod making;
 pub mod network;
 pub mod node;
-#[cfg(test)]
-mod tests;
 pub mod walks;

@@ -6,5 +6,3 @@ pub mod changed;
 pub mod keeper;
 pub mod rebuilder;
 mod tallies;
-#[cfg(test)]
-mod tests;

@@ -6,5 +6,3 @@ pub mod laws;
 pub mod ops;
 pub mod records;
 pub mod refusal;
-#[cfg(test)]
-mod tests;

@@ -10,5 +10,3 @@ pub mod plan;
 pub mod planning;
 mod rules;
 pub mod stopping;
-#[cfg(test)]
-mod tests;

@@ -9,6 +9,4 @@ mod numbers;
 pub mod reading;
 mod records;
 mod spelled;
-#[cfg(test)]
-mod tests;
 pub mod writing;

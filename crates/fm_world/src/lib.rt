@@ -4,6 +4,4 @@
 mod acting;
 pub mod distinct;
 pub mod step;
-#[cfg(test)]
-mod tests;
 pub mod world;

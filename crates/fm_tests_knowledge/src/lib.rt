@@ -1,0 +1,15 @@
+//! Tests of the lattice, of operations, of what is known, of deltas and of packets in bytes, by public calls alone.
+#![tactic(auto)]
+
+#[cfg(test)]
+mod delta;
+#[cfg(test)]
+mod know;
+#[cfg(test)]
+mod lattice;
+#[cfg(test)]
+mod records;
+#[cfg(test)]
+mod versions;
+#[cfg(test)]
+mod wire;

@@ -1,0 +1,17 @@
+//! Tests of networks, of what builds, edits, solves and writes them, and of plans, by public calls alone.
+#![tactic(auto)]
+
+#[cfg(test)]
+mod certificate;
+#[cfg(test)]
+mod dimacs;
+#[cfg(test)]
+mod edit;
+#[cfg(test)]
+mod flow;
+#[cfg(test)]
+mod net;
+#[cfg(test)]
+mod policy;
+#[cfg(test)]
+mod round;

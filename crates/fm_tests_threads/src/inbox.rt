@@ -1,0 +1,99 @@
+use fm_delta::packet::Packet;
+use fm_inbox::door::{Door, Doors};
+use fm_inbox::inbox::Inbox;
+use fm_know::knowledge::Knowledge;
+use fm_records::ids::CoordId;
+use fm_records::refusal::Refusal;
+use std::alloc::Global;
+use std::sync::Wait;
+use std::test::Fail;
+use std::thread;
+use std::thread::Threads;
+
+fn packet(alloc: Global, number: u64) -> Result<Packet, Fail> {
+    Ok(Packet {
+        sender: CoordId::new(1).ok_or("no such number")?,
+        number,
+        value: Knowledge::empty(alloc),
+    })
+}
+
+#[test]
+fn an_inbox_of_one(rt: HostRuntime) -> Result<(), Fail> {
+    let (inbox, mut ports) = Inbox::new(rt.alloc(), 1, 1)?;
+    let Some(mut port) = ports.pop() else {
+        return Err("no port".into());
+    };
+    assert!(rt; inbox.put(&rt, &mut port, packet(rt.alloc(), 1)?).is_ok());
+    match inbox.put(&rt, &mut port, packet(rt.alloc(), 2)?) {
+        Ok(()) => assert!(rt; false, "room for a second packet"),
+        Err(fault) => {
+            assert_eq!(rt; fault.refusal.number(), 10);
+            assert_eq!(rt; fault.packet.number, 2);
+        }
+    }
+    assert_eq!(rt; inbox.take(&rt, &mut port)?.number, 1);
+    assert_eq!(rt; inbox.take(&rt, &mut port).err(), Some(Refusal::InboxEmpty));
+    let (inbox, mut ports) = match inbox.close(&rt, ports) {
+        Ok(_) => return Err("closed without its port".into()),
+        Err(kept) => {
+            assert_eq!(rt; kept.refusal, Refusal::NotMine(0));
+            (kept.inbox, kept.ports)
+        }
+    };
+    ports.push(port)?;
+    match inbox.close(&rt, ports) {
+        Ok(left) => assert_eq!(rt; left.len(), 0),
+        Err(_) => assert!(rt; false, "its port is there"),
+    }
+    Ok(())
+}
+
+// Puts packets with the numbers below the count, each once there is room.
+fn put_all<R: Wait>(rt: &R, alloc: Global, door: &mut Door, count: u64) -> Result<(), Fail> {
+    for number in 0..count {
+        let mut waiting = packet(alloc, number)?;
+        for _ in rt.forever() {
+            match door.put(rt, waiting) {
+                Ok(()) => break,
+                Err(fault) => waiting = fault.packet,
+            }
+            thread::yield_now();
+        }
+    }
+    Ok(())
+}
+
+// Takes so many packets, each once there is one. Whether their numbers rise from 0.
+fn take_all<R: Wait>(rt: &R, door: &mut Door, count: u64) -> bool {
+    let mut rise = true;
+    for number in 0..count {
+        for _ in rt.forever() {
+            if let Ok(packet) = door.take(rt) {
+                rise = rise && packet.number == number;
+                break;
+            }
+            thread::yield_now();
+        }
+    }
+    rise
+}
+
+fn exchange<R: Threads + Wait + Sync>(rt: &R, alloc: Global) -> Result<bool, Fail> {
+    let mut doors = Doors::new(alloc, 2, 4)?;
+    let mut one = doors.open()?.ok_or("a door")?;
+    let mut two = doors.open()?.ok_or("another")?;
+    let (sent, rise) = thread::join(
+        rt,
+        move || put_all(rt, alloc, &mut one, 100),
+        move || take_all(rt, &mut two, 100),
+    );
+    sent?;
+    Ok(rise && doors.open()?.is_none())
+}
+
+#[test]
+fn two_threads_and_a_small_inbox(rt: HostRuntime) -> Result<(), Fail> {
+    assert!(rt; exchange(&rt, rt.alloc())?);
+    Ok(())
+}

@@ -1,0 +1,11 @@
+//! Tests of coordinators, of worlds, of scripts, and of gathering, by public calls alone.
+#![tactic(auto)]
+
+#[cfg(test)]
+mod coord;
+#[cfg(test)]
+mod gather;
+#[cfg(test)]
+mod input;
+#[cfg(test)]
+mod world;
