@@ -4,6 +4,8 @@
 #[cfg(test)]
 mod coord;
 #[cfg(test)]
+mod exchanges;
+#[cfg(test)]
 mod gather;
 #[cfg(test)]
 mod input;
