@@ -25,96 +25,12 @@ impl Knowledge {
         ensures { IfOk result (λ k. k ≡ know (op.now ∷ [])) }
     {
         law_fits(op);
-        match *op {
-            Op::Job {
-                id,
-                version,
-                writer,
-                withdrawn,
-                wait,
-                preempt,
-            } => {
-                let register = JobReg {
-                    version,
-                    writer,
-                    withdrawn,
-                    wait,
-                    preempt,
-                };
-                Ok(of_jobs(alloc, one(alloc, id, Max(register))?))
-            }
-            Op::Spec {
-                id,
-                version,
-                writer,
-                withdrawn,
-                job,
-                request,
-            } => {
-                let register = SpecReg {
-                    version,
-                    writer,
-                    withdrawn,
-                    job,
-                    request,
-                };
-                let begun = Progress {
-                    attempt: 0,
-                    phase: Phase::Pending,
-                };
-                let record = Both(Opt(Some(Max(register))), Max(begun));
-                Ok(of_tasks(alloc, one(alloc, id, record)?))
-            }
-            Op::Progress { id, attempt, phase } => {
-                let progress = Progress { attempt, phase };
-                let record = Both(Opt(None), Max(progress));
-                Ok(of_tasks(alloc, one(alloc, id, record)?))
-            }
-            Op::Machine {
-                id,
-                incarnation,
-                version,
-                writer,
-                up,
-                slots,
-                nic,
-            } => {
-                let register = MachineReg {
-                    version,
-                    writer,
-                    up,
-                    slots,
-                    nic,
-                };
-                let record = Lex(incarnation, Both(Opt(Some(Max(register))), Opt(None)));
-                Ok(of_machines(alloc, one(alloc, id, record)?))
-            }
-            Op::Report {
-                id,
-                incarnation,
-                number,
-                used,
-            } => {
-                let report = Report { number, used };
-                let record = Lex(incarnation, Both(Opt(None), Opt(Some(Max(report)))));
-                Ok(of_machines(alloc, one(alloc, id, record)?))
-            }
-            Op::Propose {
-                id,
-                attempt,
-                coordinator,
-                machine,
-                incarnation,
-            } => {
-                let spot = Spot {
-                    machine,
-                    incarnation,
-                };
-                let coordinator = CoordId::new(coordinator).unwrap();
-                let spots = one(alloc, coordinator, Min(spot))?;
-                Ok(of_proposals(alloc, one(alloc, (id, attempt), spots)?))
-            }
-        }
+        Ok(Knowledge {
+            jobs: jobs_of(alloc, op)?,
+            tasks: tasks_of(alloc, op)?,
+            machines: machines_of(alloc, op)?,
+            proposals: proposals_of(alloc, op)?,
+        })
     }
 
     /// What the operations come to. The caller has seen that the `check` of each is Ok.
@@ -140,58 +56,76 @@ fn one<K: Chain, V: Join>(alloc: Global, key: K, value: V) -> Result<JoinMap<K, 
     Ok(map)
 }
 
-// The knowledge of nothing but the jobs.
-fn of_jobs(alloc: Global, jobs: JoinMap<JobId, Max<JobReg>>) -> Knowledge
-    requires { CanBe (record { jobs = jobs; tasks = []; machines = []; proposals = [] }) }
-    ensures { result ≡ record { jobs = jobs; tasks = []; machines = []; proposals = [] } }
+// What the operation tells of a job.
+fn jobs_of(alloc: Global, op: &Op) -> Result<JoinMap<JobId, Max<JobReg>>, OutOfMemory>
+    requires { op_fault op.now ≡ None }
+    ensures { IfOk result (λ jobs. jobs ≡ (know (op.now ∷ [])).jobs) }
 {
-    Knowledge {
-        jobs,
-        tasks: JoinMap::new(alloc),
-        machines: JoinMap::new(alloc),
-        proposals: JoinMap::new(alloc),
+    match *op {
+        Op::Job { id, .. } => one(alloc, id, Max(JobReg::of(op).unwrap())),
+        _ => Ok(JoinMap::new(alloc)),
     }
 }
 
-// The knowledge of nothing but the tasks.
-fn of_tasks(alloc: Global, tasks: JoinMap<TaskId, TaskRec>) -> Knowledge
-    requires { CanBe (record { jobs = []; tasks = tasks; machines = []; proposals = [] }) }
-    ensures { result ≡ record { jobs = []; tasks = tasks; machines = []; proposals = [] } }
+// What the operation tells of a task: where it is a spec, the task is at attempt 0, pending.
+fn tasks_of(alloc: Global, op: &Op) -> Result<JoinMap<TaskId, TaskRec>, OutOfMemory>
+    requires { op_fault op.now ≡ None }
+    ensures { IfOk result (λ tasks. tasks ≡ (know (op.now ∷ [])).tasks) }
 {
-    Knowledge {
-        jobs: JoinMap::new(alloc),
-        tasks,
-        machines: JoinMap::new(alloc),
-        proposals: JoinMap::new(alloc),
+    match *op {
+        Op::Spec { id, .. } | Op::Progress { id, .. } => {
+            let spec = SpecReg::of(op).map(|spec| Max(spec));
+            let progress = Progress::of(op).unwrap_or(Progress::new(0, Phase::Pending));
+            one(alloc, id, Both(Opt(spec), Max(progress)))
+        }
+        _ => Ok(JoinMap::new(alloc)),
     }
 }
 
-// The knowledge of nothing but the machines.
-fn of_machines(alloc: Global, machines: JoinMap<MachineId, MachineRec>) -> Knowledge
-    requires { CanBe (record { jobs = []; tasks = []; machines = machines; proposals = [] }) }
-    ensures { result ≡ record { jobs = []; tasks = []; machines = machines; proposals = [] } }
+// What the operation tells of a machine at an incarnation.
+fn machines_of(alloc: Global, op: &Op) -> Result<JoinMap<MachineId, MachineRec>, OutOfMemory>
+    requires { op_fault op.now ≡ None }
+    ensures { IfOk result (λ machines. machines ≡ (know (op.now ∷ [])).machines) }
 {
-    Knowledge {
-        jobs: JoinMap::new(alloc),
-        tasks: JoinMap::new(alloc),
-        machines,
-        proposals: JoinMap::new(alloc),
+    match *op {
+        Op::Machine {
+            id,
+            incarnation,
+            ..
+        }
+        | Op::Report {
+            id,
+            incarnation,
+            ..
+        } => {
+            let state = MachineReg::of(op).map(|state| Max(state));
+            let report = Report::of(op).map(|report| Max(report));
+            one(alloc, id, Lex(incarnation, Both(Opt(state), Opt(report))))
+        }
+        _ => Ok(JoinMap::new(alloc)),
     }
 }
 
-// The knowledge of nothing but the proposals.
-fn of_proposals(
+// What the operation tells of where a coordinator would run an attempt.
+fn proposals_of(
     alloc: Global,
-    proposals: JoinMap<(TaskId, u32), JoinMap<CoordId, Min<Spot>>>,
-) -> Knowledge
-    requires { CanBe (record { jobs = []; tasks = []; machines = []; proposals = proposals }) }
-    ensures { result ≡ record { jobs = []; tasks = []; machines = []; proposals = proposals } }
+    op: &Op,
+) -> Result<JoinMap<(TaskId, u32), JoinMap<CoordId, Min<Spot>>>, OutOfMemory>
+    requires { op_fault op.now ≡ None }
+    ensures { IfOk result (λ proposals. proposals ≡ (know (op.now ∷ [])).proposals) }
 {
-    Knowledge {
-        jobs: JoinMap::new(alloc),
-        tasks: JoinMap::new(alloc),
-        machines: JoinMap::new(alloc),
-        proposals,
+    match *op {
+        Op::Propose {
+            id,
+            attempt,
+            coordinator,
+            ..
+        } => {
+            let coordinator = CoordId::new(coordinator).unwrap();
+            let spots = one(alloc, coordinator, Min(Spot::of(op).unwrap()))?;
+            one(alloc, (id, attempt), spots)
+        }
+        _ => Ok(JoinMap::new(alloc)),
     }
 }
 
@@ -221,14 +155,10 @@ fn law_fits(op: &Op)
         Op::Machine {
             id,
             incarnation,
-            version,
+            version: number,
             ..
-        } => {
-            law_u128(id.value());
-            law_u64(incarnation);
-            law_u64(version);
         }
-        Op::Report {
+        | Op::Report {
             id,
             incarnation,
             number,
