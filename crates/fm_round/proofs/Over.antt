@@ -1,5 +1,5 @@
 -- The units over a network's arcs rise as the arcs do.
-use Rattle.std.proofs.Common.{◌≡◌, ℕ, List, [], ◌∷◌}
+use Rattle.std.proofs.Common.{List, [], ◌∷◌}
 use Rattle.std.specs.Prelude.{map}
 use Rattle.std.specs.declared.cmp.Ordering.{Ordering}
 use Rattle.fm_lattice.specs.Maps.{IsBelow, IsRising}

@@ -1,11 +1,10 @@
 -- Tasks and seats of a request, paired by number.
-use Rattle.std.proofs.Common.{◌≡◌, ℕ, ◌+◌, zero, suc, Bool, true, false, cond, List, [], ◌∷◌, ◌++◌, Option, Some, None, refl, sym, ◌∙◌, ap, subst, arith, length, append-nil, inl, inr, eq-eqb, length-append}
-use Rattle.std.specs.Prelude.{◌==◌, ◌&&◌, zip, option_to_list}
+use Rattle.std.proofs.Common.{◌≡◌, ℕ, ◌+◌, zero, suc, Bool, true, false, cond, List, [], ◌∷◌, ◌++◌, Option, Some, None, refl, sym, ◌∙◌, ap, subst, arith, length, drop, append-nil, inl, inr, eq-eqb, length-append}
+use Rattle.std.specs.Prelude.{◌==◌, zip, option_to_list}
 use Rattle.std.specs.List.{filter_map, cons_option, slice_get}
-use Rattle.std.specs.Ordering.{nat_cmp, is_eq, ordering_then}
+use Rattle.std.specs.Ordering.{nat_cmp, is_eq}
 use Rattle.std.specs.Cmp.{nat_cmp_total, Equal-is}
-use Rattle.std.specs.declared.cmp.Ordering.{Ordering}
-use Rattle.std.specs.declared.cmp.Ordering.TheVariants.{Less, Equal, Greater}
+use Rattle.std.specs.declared.cmp.Ordering.TheVariants.{Less, Equal}
 use Rattle.std.proofs.lemmas.Bool.{eqb-true}
 use Rattle.std.proofs.lemmas.Cmp.{tied_itself}
 use Rattle.fm_lattice.specs.Chains.{nat_same}
@@ -17,69 +16,19 @@ use Rattle.fm_net.specs.NodeOrder.{ends_total}
 use Rattle.fm_records.specs.Options.{when}
 use Rattle.fm_records.specs.Sets.{IsMember}
 use Rattle.fm_round.specs.declared.planning.Wait.{Wait}
-use Rattle.fm_round.specs.declared.planning.Seat.{Seat}
-use Rattle.fm_round.specs.declared.planning.Seating.{Seating}
-use Rattle.fm_round.specs.Planned.{Units, wait_in, waits, tasks_of, machines_of}
-use Rattle.fm_round.specs.Seating.{count_of, pair_cmp, seat_at, SeatsAre, AreApart}
+use Rattle.fm_round.specs.Planned.{Units, wait_in, waits, tasks_of}
+use Rattle.fm_round.specs.Seating.{AreApart}
 
 -- one more
 pub mapped_more : {A B : Type 0} (f : A → Option B) (xs : List A) (x : A) → filter_map f (xs ++ x ∷ []) ≡ filter_map f xs ++ option_to_list (f x)
 mapped_more f [] x = elim (f x) as (λ o. cons_option o [] ≡ option_to_list o) [ None ↦ refl | Some b ↦ refl ]
 mapped_more f (y ∷ xs) x = let rest = mapped_more f xs x in elim (f y) as (λ o. cons_option o (filter_map f (xs ++ x ∷ [])) ≡ cons_option o (filter_map f xs) ++ option_to_list (f x)) [ None ↦ rest | Some b ↦ ap (λ z. b ∷ z) rest ]
 
-same_test : (a b c d : ℕ) → (a ≡ b → c ≡ d) → (c ≡ d → a ≡ b) → (a == b) ≡ (c == d)
-same_test a b c d there back =
-    elim (a == b) as (λ t. (a == b) ≡ t → t ≡ (c == d)) [
-      | true ↦ λ e. sym (eq-eqb c d (there (eqb-true a b e)))
-      | false ↦ λ e. elim (c == d) as (λ t. (c == d) ≡ t → false ≡ t) [ true ↦ λ g. let same : (a == b) ≡ true = eq-eqb a b (back (eqb-true c d g)) in let no : ⊥ = cc in absurd no | false ↦ λ _. refl ] refl
-    ] refl
-
-differ : (a b : ℕ) → (a ≡ b → ⊥) → (a == b) ≡ false
-differ a b other = elim (a == b) as (λ t. (a == b) ≡ t → t ≡ false) [ true ↦ λ e. absurd (other (eqb-true a b e)) | false ↦ λ _. refl ] refl
-
-at_more : {A : Type 0} (xs : List A) (x : A) (i : ℕ) → slice_get (xs ++ x ∷ []) i ≡ cond (length xs == i) (Some x) (slice_get xs i)
-at_more [] x zero = refl
-at_more [] x (suc i) = ap (λ b. cond b (Some x) None) (sym (differ 0 (suc i) (λ e. let no : ⊥ = omega (arith, e) in no)))
-at_more (y ∷ xs) x zero = ap (λ b. cond b (Some x) (Some y)) (sym (differ (suc (length xs)) 0 (λ e. let no : ⊥ = omega (arith, e) in no)))
-at_more (y ∷ xs) x (suc i) = at_more xs x i ∙ ap (λ b. cond b (Some x) (slice_get xs i)) (same_test (length xs) i (suc (length xs)) (suc i) (λ e. omega (arith, e)) (λ e. omega (arith, e)))
-
--- equal numbers, as an order and as a test
-tied : (a b : ℕ) → is_eq (nat_cmp a b) ≡ (a == b)
-tied a b = elim (a == b) as (λ t. (a == b) ≡ t → is_eq (nat_cmp a b) ≡ t) [
-  | true ↦ λ e. subst (λ z. is_eq (nat_cmp a z) ≡ true) (eqb-true a b e) (ap is_eq (tied_itself nat_cmp_total a))
-  | false ↦ λ e. elim (is_eq (nat_cmp a b)) as (λ t. is_eq (nat_cmp a b) ≡ t → t ≡ false) [ true ↦ λ g. let same : (a == b) ≡ true = eq-eqb a b (nat_same a b ((Equal-is (nat_cmp a b)).0 g)) in let no : ⊥ = cc in absurd no | false ↦ λ _. refl ] refl
-] refl
-
-both_tied : (o p : Ordering) → is_eq (ordering_then o p) ≡ (is_eq o && is_eq p)
-both_tied Less p = refl
-both_tied Equal p = refl
-both_tied Greater p = refl
-
-pair_tied : (a n b j : ℕ) → is_eq (pair_cmp (a, n) (b, j)) ≡ (a == b && n == j)
-pair_tied a n b j = both_tied (nat_cmp a b) (nat_cmp n j) ∙ (λ i. tied a b i && tied n j i)
-
--- a seat behind the others
-pub seats_more : (ss : List Seat) (s : Seat) (old new : Seating) → SeatsAre ss old → ((q : ℕ) → count_of new.counts q ≡ count_of old.counts q + cond (s.request == q) 1 0) → ((q i : ℕ) → seat_at new q i ≡ cond (is_eq (pair_cmp (s.request, count_of old.counts s.request) (q, i))) (Some s.machine) (seat_at old q i)) → SeatsAre (ss ++ s ∷ []) new
-seats_more ss s old new are counts machines = record {
-  at = λ r i.
-      machines r i
-      ∙ ap (λ b. cond b (Some s.machine) (seat_at old r i)) (pair_tied s.request (count_of old.counts s.request) r i)
-      ∙ (elim (s.request == r) as (λ b. (s.request == r) ≡ b → cond (b && count_of old.counts s.request == i) (Some s.machine) (seat_at old r i) ≡ slice_get (machines_of r ss ++ option_to_list (when b s.machine)) i) [
-        | true ↦ λ e.
-            let count : count_of old.counts s.request ≡ length (machines_of r ss) = ap (count_of old.counts) (eqb-true s.request r e) ∙ are.counts r in
-            (λ j. cond (count j == i) (Some s.machine) (are.at r i j)) ∙ sym (at_more (machines_of r ss) s.machine i)
-        | false ↦ λ _. are.at r i ∙ ap (λ xs. slice_get xs i) (sym (append-nil (machines_of r ss)))
-      ] refl)
-      ∙ ap (λ xs. slice_get xs i) (sym (mapped_more (λ x. when (x.request == r) x.machine) ss s));
-  counts = λ r.
-      counts r
-      ∙ ap (λ n. n + cond (s.request == r) 1 0) (are.counts r)
-      ∙ (elim (s.request == r) as (λ b. length (machines_of r ss) + cond b 1 0 ≡ length (machines_of r ss ++ option_to_list (when b s.machine))) [
-        | true ↦ sym (length-append (machines_of r ss) (s.machine ∷ []))
-        | false ↦ omega arith ∙ ap length (sym (append-nil (machines_of r ss)))
-      ])
-      ∙ ap length (sym (mapped_more (λ x. when (x.request == r) x.machine) ss s));
-}
+-- the first that is left behind so many
+pub first_left : {A : Type 0} (n : ℕ) (xs : List A) → slice_get (drop n xs) 0 ≡ slice_get xs n
+first_left zero xs = refl
+first_left (suc n) [] = refl
+first_left (suc n) (x ∷ xs) = first_left n xs
 
 pub tasks_more : (ws : List Wait) (w : Wait) (r : ℕ) → length (tasks_of r (ws ++ w ∷ [])) ≡ length (tasks_of r ws) + cond (w.request == r) 1 0
 tasks_more ws w r =

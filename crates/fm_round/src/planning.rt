@@ -1,13 +1,12 @@
 //! The plan that a flow comes to.
 
-ghost use Rattle.std.specs.Prelude.{◌≡◌, ◌<◌, ◌+◌, ◌^◌, ◌==◌, ◌++◌, ◌∷◌, [], ℕ, Some, cond, replicate, option_to_list, IfOk, OnOk};
-ghost use Rattle.std.specs.Ordering.{is_eq};
-ghost use Rattle.std.specs.List.{filter_map};
+ghost use Rattle.std.specs.Prelude.{◌≡◌, ◌==◌, ◌++◌, ℕ, cond, drop, replicate, option_to_list, IfOk, OnOk};
+ghost use Rattle.std.specs.List.{filter_map, slice_get};
 ghost use Rattle.fm_lattice.specs.Maps.{IsRising};
 ghost use Rattle.fm_net.specs.Nodes.{ends_cmp};
-ghost use Rattle.fm_round.specs.Planned.{wait_in, seats_in, unscheduled_in, waits, seats, place_at, place_of, preempt_of, planned};
-ghost use Rattle.fm_round.specs.Seating.{count_of, pair_cmp, seat_at, SeatsAre, AreApart};
-ghost use Rattle.fm_records.specs.Options.{and_then};
+ghost use Rattle.fm_round.specs.Planned.{wait_in, seats_in, unscheduled_in, waits, seats, machines_of, place_at, place_of, preempt_of, planned};
+ghost use Rattle.fm_round.specs.Seating.{queue_of, AreApart};
+ghost use Rattle.fm_records.specs.Options.{and_then, when};
 
 use crate::listed::Listed;
 use crate::parts::{Place, Plan, Preempt};
@@ -16,7 +15,7 @@ use fm_lattice::join::OutOfMemory;
 use fm_net::node::Node;
 use fm_records::ids::{MachineId, TaskId};
 use std::alloc::Global;
-use std::collections::BTreeMap;
+use std::collections::{BTreeMap, VecDeque};
 
 /// The plan of a flow, which is given as its arcs with their units, in the order of their ends: within an aggregator of a
 /// request the i-th task that has a unit to it goes to the i-th machine, where a machine stands as often as there are units
@@ -129,75 +128,48 @@ fn push_times(seats: &mut Vec<Seat>, seat: &Seat, times: u64) -> Result<(), OutO
     Ok(())
 }
 
-/// How many items of each request there were so far.
+/// The machines of seats that no task took yet, by request, in the order of the seats.
 #[derive(Drop)]
-pub(crate) struct Counts {
-    pub(crate) by_request: BTreeMap<u32, u64>,
+pub(crate) struct Queues {
+    pub(crate) by_request: BTreeMap<u32, VecDeque<MachineId>>,
 }
 
-impl Counts {
-    // How many items of the request there were.
-    fn of(&self, request: u32) -> u64
-        ensures { result ≡ count_of self.now request }
+impl Queues {
+    // The machines of all seats.
+    fn of(alloc: Global, seats: &[Seat]) -> Result<Queues, OutOfMemory>
+        ensures { IfOk result (λ queues. (r : ℕ) → queue_of queues r ≡ machines_of r seats.now) }
     {
-        self.by_request.get(&request).copied().unwrap_or(0)
-    }
-
-    // Counts one more.
-    fn add_one(&mut self, request: u32) -> Result<(), OutOfMemory>
-        requires { count_of self.old request + 1 < 2 ^ 64 }
-        ensures { OnOk result ((q : ℕ) → count_of self.new q ≡ count_of self.old q + cond (request == q) 1 0) }
-    {
-        let count = self.of(request);
-        self.by_request.insert(request, count + 1)?;
-        Ok(())
-    }
-}
-
-/// The machines of seats, by request, and by number among the seats of that.
-#[derive(Drop)]
-pub(crate) struct Seating {
-    pub(crate) machines: BTreeMap<(u32, u64), MachineId>,
-    pub(crate) counts: Counts,
-}
-
-impl Seating {
-    // The seats, numbered.
-    fn of(alloc: Global, seats: &[Seat]) -> Result<Seating, OutOfMemory>
-        ensures { IfOk result (SeatsAre seats.now) }
-    {
-        let mut seating = Seating {
-            machines: BTreeMap::new(alloc),
-            counts: Counts {
-                by_request: BTreeMap::new(alloc),
-            },
+        let mut queues = Queues {
+            by_request: BTreeMap::new(alloc),
         };
         for seat in seats {
-            seating.add(seat)?;
+            queues.add(alloc, seat)?;
         }
-        Ok(seating)
+        Ok(queues)
     }
 
-    // Adds a seat behind those of its request.
-    fn add(&mut self, seat: &Seat) -> Result<(), OutOfMemory>
-        requires { count_of self.old.counts seat.now.request + 1 < 2 ^ 64 }
-        ensures counts { OnOk result ((q : ℕ) → count_of self.new.counts q ≡ count_of self.old.counts q + cond (seat.now.request == q) 1 0) }
-        ensures machines { OnOk result ((q i : ℕ) → seat_at self.new q i ≡ cond (is_eq (pair_cmp (seat.now.request, count_of self.old.counts seat.now.request) (q, i))) (Some seat.now.machine) (seat_at self.old q i)) }
+    // Adds the machine of a seat behind those of its request.
+    fn add(&mut self, alloc: Global, seat: &Seat) -> Result<(), OutOfMemory>
+        ensures { OnOk result ((r : ℕ) → queue_of self.new r ≡ queue_of self.old r ++ option_to_list (when (seat.now.request == r) seat.now.machine)) }
     {
-        let number = self.counts.of(seat.request);
-        self.machines.insert((seat.request, number), seat.machine)?;
-        self.counts.add_one(seat.request)
+        let queue = self
+            .by_request
+            .entry(seat.request)?
+            .or_insert(VecDeque::new(alloc));
+        queue.push_back(seat.machine)?;
+        Ok(())
     }
 
-    // The machine of the seat with the number among those of the request.
-    fn machine(&self, request: u32, number: u64) -> Option<MachineId>
-        ensures { result ≡ seat_at self.now request number }
+    // Takes the first machine of the request that is left.
+    fn take(&mut self, request: u32) -> Option<MachineId>
+        ensures first { result ≡ slice_get (queue_of self.old request) 0 }
+        ensures rest { (r : ℕ) → queue_of self.new r ≡ drop (cond (request == r) 1 0) (queue_of self.old r) }
     {
-        self.machines.get(&(request, number)).copied()
+        self.by_request.get_mut(&request)?.pop_front()
     }
 }
 
-// The places of the tasks: the i-th of those with a unit to a request goes to the i-th seat of that.
+// The places of the tasks: each takes the first machine that is left of its request, so the i-th task goes to the i-th seat.
 fn places_of(
     alloc: Global,
     waits: &[Wait],
@@ -207,16 +179,11 @@ fn places_of(
     requires { AreApart waits.now }
     ensures { IfOk result (λ found. found.items ≡ filter_map (place_of waits.now seats.now knowledge.now) waits.now) }
 {
-    let seating = Seating::of(alloc, seats)?;
+    let mut queues = Queues::of(alloc, seats)?;
     let mut found = Vec::new(alloc);
-    let mut seen = Counts {
-        by_request: BTreeMap::new(alloc),
-    };
     for wait in waits {
-        let number = seen.of(wait.request);
-        let machine = seating.machine(wait.request, number);
+        let machine = queues.take(wait.request);
         push_some(&mut found, place_of(knowledge, wait.task, machine))?;
-        seen.add_one(wait.request)?;
     }
     Ok(found)
 }

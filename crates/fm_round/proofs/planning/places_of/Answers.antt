@@ -1,11 +1,11 @@
-use Rattle.std.proofs.Common.{◌≡◌, ◌+◌, ◌≤◌, true, false, cond, [], ◌∷◌, ◌++◌, sym, ◌∙◌, ap, subst, take, drop, length, arith}
+use Rattle.std.proofs.Common.{◌≡◌, ◌+◌, cond, [], ◌∷◌, ◌++◌, sym, ◌∙◌, ap, subst, take, drop, length}
 use Rattle.std.specs.Prelude.{◌==◌, option_to_list}
 use Rattle.std.specs.List.{slice_get, filter_map}
-use Rattle.std.proofs.lemmas.List.{take_more, drop_more, take-append-drop}
+use Rattle.std.proofs.lemmas.List.{take_more, drop_more, take-append-drop, drop-drop}
 use Rattle.fm_records.specs.Options.{and_then}
 use Rattle.fm_round.specs.Planned.{tasks_of, machines_of, machine_for, place_at, place_of}
-use Rattle.fm_round.specs.Seating.{seat_at, AreApart}
-use Rattle.fm_round.proofs.Pairing.{mapped_more, tasks_more, paired}
+use Rattle.fm_round.specs.Seating.{AreApart}
+use Rattle.fm_round.proofs.Pairing.{mapped_more, tasks_more, paired, first_left}
 use Rattle.fm_round.proofs.planning.places_of.Goals as goal
 
 pub loop-wait-preserved : goal.loop-wait-preserved
@@ -22,11 +22,13 @@ loop-wait-preserved c =
     let apart = subst AreApart (sym all) c.requires in
     let pair : machine_for xs c.args.seats.now w ≡ slice_get (machines_of r c.args.seats.now) (length (tasks_of r (take i xs))) =
     subst (λ z. machine_for z c.args.seats.now w ≡ slice_get (machines_of r c.args.seats.now) (length (tasks_of r (take i xs)))) all (paired w (take i xs) (drop (i + 1) xs) (machines_of r c.args.seats.now) apart) in
-    let number : c.of-number.result ≡ length (tasks_of r (take i xs)) = c.of-number.ensures ∙ so_far.seen r in
-    let machine : c.machine-machine.result ≡ machine_for xs c.args.seats.now w = c.machine-machine.ensures ∙ ap (seat_at c.in_ok-seating.seating r) number ∙ c.in_ok-seating.ensures.at r (length (tasks_of r (take i xs))) ∙ sym pair in
+    let machine : c.take-machine.result ≡ machine_for xs c.args.seats.now w = c.take-machine.ensures.first ∙ ap (λ q. slice_get q 0) (so_far.left r) ∙ first_left (length (tasks_of r (take i xs))) (machines_of r c.args.seats.now) ∙ sym pair in
     let place : c.place_of.result ≡ place_of xs c.args.seats.now k w = c.place_of.ensures ∙ ap (and_then (place_at k w.task)) machine in
     record {
       found = c.in_ok-push_some.ensures ∙ (λ j. so_far.found j ++ option_to_list (place j)) ∙ sym (mapped_more (place_of xs c.args.seats.now k) (take i xs) w) ∙ ap (λ z. filter_map (place_of xs c.args.seats.now k) z) (sym more);
-      seen = λ q. c.in_ok-add_one.ensures q ∙ ap (λ n. n + cond (r == q) 1 0) (so_far.seen q) ∙ sym (tasks_more (take i xs) w q) ∙ ap (λ z. length (tasks_of q z)) (sym more);
-      fits = λ q. let a = c.in_ok-add_one.ensures q in let b = so_far.fits q in let one : cond (r == q) 1 0 ≤ 1 = elim (r == q) as (λ t. cond t 1 0 ≤ 1) [ true ↦ omega arith | false ↦ omega arith ] in omega (arith, a, b, one);
+      left = λ q.
+          c.take-machine.ensures.rest q
+          ∙ ap (drop (cond (r == q) 1 0)) (so_far.left q)
+          ∙ drop-drop (cond (r == q) 1 0) (length (tasks_of q (take i xs))) (machines_of q c.args.seats.now)
+          ∙ ap (λ n. drop n (machines_of q c.args.seats.now)) (sym (tasks_more (take i xs) w q) ∙ ap (λ z. length (tasks_of q z)) (sym more));
     }
