@@ -1,6 +1,6 @@
 //! Reading a text from its front.
 
-ghost use Rattle.std.specs.Prelude.{◌≡◌, ◌<◌, ◌^◌, ◌+◌, ◌-◌, ◌*◌, true, SomeIff, IfOk, IfSome};
+ghost use Rattle.std.specs.Prelude.{◌≡◌, ℕ, ◌<◌, ◌^◌, ◌+◌, ◌-◌, ◌*◌, true, SomeIff, IfOk, IfSome};
 ghost use Rattle.std.specs.Char.{is_ascii_digit};
 ghost use Rattle.fm_net.specs.declared.node.Node.{Node as NodeName};
 ghost use Rattle.fm_net.specs.Nodes.{IsInRange};
@@ -137,49 +137,16 @@ fn id(alloc: Global, bytes: &[u8]) -> Result<Option<(u128, &[u8])>, Refusal>
     }
 }
 
-// A job's id, and the line's end.
+// The id that a node is named by, and the line's end.
 #[tactic(auto, unfolding(crate::specs::Scan::named_at))]
-fn unscheduled(alloc: Global, bytes: &[u8]) -> Result<Option<(Node, &[u8])>, Refusal>
-    ensures reads { ReadsWithin (λ x. (x.0, x.1.now)) result (named_at NodeName.Unscheduled bytes.now) }
-    ensures in_range { IfOk result (λ found. IfSome found (λ x. IsInRange x.0)) }
+fn named(alloc: Global, bytes: &[u8]) -> Result<Option<(u128, &[u8])>, Refusal>
+    ensures reads { (node : ℕ → NodeName) → ReadsWithin (λ x. (node x.0, x.1.now)) result (named_at node bytes.now) }
+    ensures fits { IfOk result (λ found. IfSome found (λ x. x.0 < 2 ^ 128)) }
 {
     let Some((id, rest)) = id(alloc, bytes)? else {
         return Ok(None);
     };
-    let Some(rest) = after(rest, b"\n") else {
-        return Ok(None);
-    };
-    Ok(Some((Node::Unscheduled(JobId::new(id)), rest)))
-}
-
-// A machine's id, and the line's end.
-#[tactic(auto, unfolding(crate::specs::Scan::named_at))]
-fn machine(alloc: Global, bytes: &[u8]) -> Result<Option<(Node, &[u8])>, Refusal>
-    ensures reads { ReadsWithin (λ x. (x.0, x.1.now)) result (named_at NodeName.Machine bytes.now) }
-    ensures in_range { IfOk result (λ found. IfSome found (λ x. IsInRange x.0)) }
-{
-    let Some((id, rest)) = id(alloc, bytes)? else {
-        return Ok(None);
-    };
-    let Some(rest) = after(rest, b"\n") else {
-        return Ok(None);
-    };
-    Ok(Some((Node::Machine(MachineId::new(id)), rest)))
-}
-
-// A task's id, and the line's end.
-#[tactic(auto, unfolding(crate::specs::Scan::named_at))]
-fn task(alloc: Global, bytes: &[u8]) -> Result<Option<(Node, &[u8])>, Refusal>
-    ensures reads { ReadsWithin (λ x. (x.0, x.1.now)) result (named_at NodeName.Task bytes.now) }
-    ensures in_range { IfOk result (λ found. IfSome found (λ x. IsInRange x.0)) }
-{
-    let Some((id, rest)) = id(alloc, bytes)? else {
-        return Ok(None);
-    };
-    let Some(rest) = after(rest, b"\n") else {
-        return Ok(None);
-    };
-    Ok(Some((Node::Task(TaskId::new(id)), rest)))
+    Ok(after(rest, b"\n").map(|behind| (id, behind)))
 }
 
 // A node's kind and name, and the line's end.
@@ -192,18 +159,21 @@ fn kind(alloc: Global, bytes: &[u8]) -> Result<Option<(Node, &[u8])>, Refusal>
         return Ok(Some((Node::Sink, rest)));
     }
     if let Some(rest) = after(bytes, b" U ") {
-        return unscheduled(alloc, rest);
+        let found = named(alloc, rest)?;
+        return Ok(found.map(|(id, rest)| (Node::Unscheduled(JobId::new(id)), rest)));
     }
     if let Some(rest) = after(bytes, b" R ") {
         return Ok(request(rest));
     }
     if let Some(rest) = after(bytes, b" M ") {
-        return machine(alloc, rest);
+        let found = named(alloc, rest)?;
+        return Ok(found.map(|(id, rest)| (Node::Machine(MachineId::new(id)), rest)));
     }
-    match after(bytes, b" T ") {
-        Some(rest) => task(alloc, rest),
-        None => Ok(None),
+    if let Some(rest) = after(bytes, b" T ") {
+        let found = named(alloc, rest)?;
+        return Ok(found.map(|(id, rest)| (Node::Task(TaskId::new(id)), rest)));
     }
+    Ok(None)
 }
 
 // The comment of the node with the ID.

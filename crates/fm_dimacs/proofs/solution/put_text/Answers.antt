@@ -1,7 +1,6 @@
-use Rattle.std.proofs.Common.{◌≡◌, ◌++◌, ℕ, List, [], refl, sym, subst}
+use Rattle.std.proofs.Common.{ℕ, List, [], refl}
 use Rattle.std.specs.List.{flat_map}
-use Rattle.fm_certificate.specs.Flows.{units_in, cost_of}
-use Rattle.fm_dimacs.specs.Sending.{IsSent}
+use Rattle.fm_certificate.specs.Flows.{units_in}
 use Rattle.fm_dimacs.specs.Solution.{cost_line, flow_line}
 use Rattle.fm_dimacs.proofs.Sent.{appends_nothing, sent_last, stopped_later}
 use Rattle.fm_dimacs.proofs.solution.put_text.Goals as goal

@@ -1,7 +1,4 @@
 use Rattle.std.proofs.Common.{◌≡◌, ◌∙◌}
-use Rattle.fm_certificate.specs.Flows.{units_in}
-use Rattle.fm_dimacs.specs.Sending.{IsSent}
-use Rattle.fm_dimacs.specs.Solution.{solution_text}
 use Rattle.fm_dimacs.proofs.Sent.{prefix_sent}
 use Rattle.fm_dimacs.proofs.solution.write_solution.Goals as goal
 
