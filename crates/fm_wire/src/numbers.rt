@@ -27,11 +27,8 @@ pub(crate) fn u8_at(bytes: &[u8], least: u8, greatest: u8) -> Result<(u8, &[u8])
 pub(crate) fn u32_at(bytes: &[u8], least: u32, greatest: u32) -> Result<(u32, &[u8]), usize>
     ensures { Gives (λ x. (x.0, x.1.now)) result (number_at w32 least greatest bytes.now) }
 {
-    if bytes.len() < 4 {
-        return Err(0);
-    }
-    let (front, rest) = bytes.split_at(4);
-    let number = u32::from_be_bytes([front[0], front[1], front[2], front[3]]);
+    let (front, rest) = bytes.split_first_chunk::<4>().ok_or(0usize)?;
+    let number = u32::from_be_bytes(*front);
     if number < least || number > greatest {
         return Err(bytes.len());
     }
@@ -43,14 +40,8 @@ pub(crate) fn u32_at(bytes: &[u8], least: u32, greatest: u32) -> Result<(u32, &[
 pub(crate) fn u64_at(bytes: &[u8]) -> Result<(u64, &[u8]), usize>
     ensures { Gives (λ x. (x.0, x.1.now)) result (number_at w64 0 (2 ^ 64 - 1) bytes.now) }
 {
-    if bytes.len() < 8 {
-        return Err(0);
-    }
-    let (front, rest) = bytes.split_at(8);
-    let number = u64::from_be_bytes([
-        front[0], front[1], front[2], front[3], front[4], front[5], front[6], front[7],
-    ]);
-    Ok((number, rest))
+    let (front, rest) = bytes.split_first_chunk::<8>().ok_or(0usize)?;
+    Ok((u64::from_be_bytes(*front), rest))
 }
 
 // The number of sixteen bytes.
@@ -58,15 +49,8 @@ pub(crate) fn u64_at(bytes: &[u8]) -> Result<(u64, &[u8]), usize>
 pub(crate) fn u128_at(bytes: &[u8]) -> Result<(u128, &[u8]), usize>
     ensures { Gives (λ x. (x.0, x.1.now)) result (number_at w128 0 (2 ^ 128 - 1) bytes.now) }
 {
-    if bytes.len() < 16 {
-        return Err(0);
-    }
-    let (front, rest) = bytes.split_at(16);
-    let number = u128::from_be_bytes([
-        front[0], front[1], front[2], front[3], front[4], front[5], front[6], front[7], front[8],
-        front[9], front[10], front[11], front[12], front[13], front[14], front[15],
-    ]);
-    Ok((number, rest))
+    let (front, rest) = bytes.split_first_chunk::<16>().ok_or(0usize)?;
+    Ok((u128::from_be_bytes(*front), rest))
 }
 
 // Adds the number at the end, as one byte.
