@@ -1,3 +1,4 @@
+pub mod Each
 pub mod Apart
 pub mod Completed
 pub mod Covered

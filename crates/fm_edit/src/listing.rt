@@ -1,6 +1,9 @@
 //! The edits of what was touched, in order.
 
-ghost use Rattle.std.specs.Prelude.{◌≡◌, ◌++◌, ◌∷◌, [], IfOk, OnOk};
+ghost use Rattle.std.specs.Prelude.{◌≡◌, ◌++◌, ◌∷◌, [], Option, option_to_list, IfOk, OnOk};
+ghost use Rattle.std.specs.List.{filter_map};
+ghost use Rattle.std.specs.Fn.{FnReturnsAt};
+ghost use Rattle.fm_net.specs.declared.edit.Edit.{Edit as EditValue};
 ghost use Rattle.fm_records.specs.Options.{passes};
 ghost use Rattle.fm_net.specs.Edits.{same_value};
 ghost use Rattle.fm_edit.specs.Sight.{seen_in};
@@ -31,135 +34,77 @@ pub(crate) fn list(
     ensures { IfOk result (λ es. es.items ≡ edits_of network.now (node_shown (seen_in seen.now) (sum_in index.now)) (arc_shown (seen_in seen.now) (sum_in index.now)) touched.now.nodes.keys touched.now.pairs.keys) }
 {
     let mut edits = Vec::new(alloc);
-    drop_arcs(&mut edits, network, seen, index, &touched.pairs)?;
-    drop_nodes(&mut edits, network, seen, index, &touched.nodes)?;
-    put_nodes(&mut edits, network, seen, index, &touched.nodes)?;
-    put_arcs(&mut edits, network, seen, index, &touched.pairs)?;
+    add_each(&mut edits, &touched.pairs, |pair| {
+        drop_arc(network, seen, index, pair)
+    })?;
+    add_each(&mut edits, &touched.nodes, |node| {
+        drop_node(network, seen, index, node)
+    })?;
+    add_each(&mut edits, &touched.nodes, |node| {
+        put_node(network, seen, index, node)
+    })?;
+    add_each(&mut edits, &touched.pairs, |pair| {
+        put_arc(network, seen, index, pair)
+    })?;
     Ok(edits)
 }
 
-fn drop_arcs(
+// Adds the edit of each item that has one.
+fn add_each<T: Ord, F: Fn(&T) -> Option<Edit>>(
     edits: &mut Vec<Edit>,
-    network: &Network,
-    seen: &Seen,
-    index: &Index,
-    pairs: &BTreeSet<(Node, Node)>,
+    items: &BTreeSet<T>,
+    edit_of: F,
 ) -> Result<(), OutOfMemory>
-    ensures { OnOk result (edits.new.items ≡ edits.old.items ++ arcs_that_go network.now (node_shown (seen_in seen.now) (sum_in index.now)) (arc_shown (seen_in seen.now) (sum_in index.now)) pairs.now.keys) }
+    requires { F.IsAlwaysCallable edit_of }
+    ensures { (h : T → Option EditValue) → ((x : T) (r : _) → FnReturnsAt F.Fn edit_of x r → r ≡ h x) → OnOk result (edits.new.items ≡ edits.old.items ++ filter_map h items.now.keys) }
 {
-    for pair in pairs.iter() {
-        drop_arc(edits, network, seen, index, pair)?;
+    for item in items.iter() {
+        if let Some(edit) = edit_of(item) {
+            edits.push(edit)?;
+        }
     }
     Ok(())
 }
 
-fn drop_arc(
-    edits: &mut Vec<Edit>,
-    network: &Network,
-    seen: &Seen,
-    index: &Index,
-    pair: &(Node, Node),
-) -> Result<(), OutOfMemory>
-    ensures { OnOk result (edits.new.items ≡ edits.old.items ++ arcs_that_go network.now (node_shown (seen_in seen.now) (sum_in index.now)) (arc_shown (seen_in seen.now) (sum_in index.now)) (pair.now ∷ [])) }
+// The edit that drops the pair's arc, where one goes.
+fn drop_arc(network: &Network, seen: &Seen, index: &Index, pair: &(Node, Node)) -> Option<Edit>
+    ensures { option_to_list result ≡ arcs_that_go network.now (node_shown (seen_in seen.now) (sum_in index.now)) (arc_shown (seen_in seen.now) (sum_in index.now)) (pair.now ∷ []) }
 {
     if network.arc(pair.0, pair.1).is_some() && arc(seen, index, &pair.0, &pair.1).is_none() {
-        edits.push(Edit::DropArc(pair.0, pair.1))?;
+        return Some(Edit::DropArc(pair.0, pair.1));
     }
-    Ok(())
+    None
 }
 
-fn drop_nodes(
-    edits: &mut Vec<Edit>,
-    network: &Network,
-    seen: &Seen,
-    index: &Index,
-    nodes: &BTreeSet<Node>,
-) -> Result<(), OutOfMemory>
-    ensures { OnOk result (edits.new.items ≡ edits.old.items ++ nodes_that_go network.now (node_shown (seen_in seen.now) (sum_in index.now)) (arc_shown (seen_in seen.now) (sum_in index.now)) nodes.now.keys) }
-{
-    for node in nodes.iter() {
-        drop_node(edits, network, seen, index, node)?;
-    }
-    Ok(())
-}
-
-fn drop_node(
-    edits: &mut Vec<Edit>,
-    network: &Network,
-    seen: &Seen,
-    index: &Index,
-    node: &Node,
-) -> Result<(), OutOfMemory>
-    ensures { OnOk result (edits.new.items ≡ edits.old.items ++ nodes_that_go network.now (node_shown (seen_in seen.now) (sum_in index.now)) (arc_shown (seen_in seen.now) (sum_in index.now)) (node.now ∷ [])) }
+// The edit that drops the node, where it goes.
+fn drop_node(network: &Network, seen: &Seen, index: &Index, node: &Node) -> Option<Edit>
+    ensures { option_to_list result ≡ nodes_that_go network.now (node_shown (seen_in seen.now) (sum_in index.now)) (arc_shown (seen_in seen.now) (sum_in index.now)) (node.now ∷ []) }
 {
     if network.has(node) && !stands(seen, index, node) {
-        edits.push(Edit::DropNode(*node))?;
+        return Some(Edit::DropNode(*node));
     }
-    Ok(())
+    None
 }
 
-fn put_nodes(
-    edits: &mut Vec<Edit>,
-    network: &Network,
-    seen: &Seen,
-    index: &Index,
-    nodes: &BTreeSet<Node>,
-) -> Result<(), OutOfMemory>
-    ensures { OnOk result (edits.new.items ≡ edits.old.items ++ nodes_that_come network.now (node_shown (seen_in seen.now) (sum_in index.now)) (arc_shown (seen_in seen.now) (sum_in index.now)) nodes.now.keys) }
-{
-    for node in nodes.iter() {
-        put_node(edits, network, seen, index, node)?;
-    }
-    Ok(())
-}
-
-fn put_node(
-    edits: &mut Vec<Edit>,
-    network: &Network,
-    seen: &Seen,
-    index: &Index,
-    node: &Node,
-) -> Result<(), OutOfMemory>
-    ensures { OnOk result (edits.new.items ≡ edits.old.items ++ nodes_that_come network.now (node_shown (seen_in seen.now) (sum_in index.now)) (arc_shown (seen_in seen.now) (sum_in index.now)) (node.now ∷ [])) }
+// The edit that puts the node, where it comes.
+fn put_node(network: &Network, seen: &Seen, index: &Index, node: &Node) -> Option<Edit>
+    ensures { option_to_list result ≡ nodes_that_come network.now (node_shown (seen_in seen.now) (sum_in index.now)) (arc_shown (seen_in seen.now) (sum_in index.now)) (node.now ∷ []) }
 {
     if stands(seen, index, node) && !network.has(node) {
-        edits.push(Edit::PutNode(*node))?;
+        return Some(Edit::PutNode(*node));
     }
-    Ok(())
+    None
 }
 
-fn put_arcs(
-    edits: &mut Vec<Edit>,
-    network: &Network,
-    seen: &Seen,
-    index: &Index,
-    pairs: &BTreeSet<(Node, Node)>,
-) -> Result<(), OutOfMemory>
-    ensures { OnOk result (edits.new.items ≡ edits.old.items ++ arcs_that_come network.now (node_shown (seen_in seen.now) (sum_in index.now)) (arc_shown (seen_in seen.now) (sum_in index.now)) pairs.now.keys) }
+// The edit that puts the pair's arc, where it comes or differs.
+fn put_arc(network: &Network, seen: &Seen, index: &Index, pair: &(Node, Node)) -> Option<Edit>
+    ensures { option_to_list result ≡ arcs_that_come network.now (node_shown (seen_in seen.now) (sum_in index.now)) (arc_shown (seen_in seen.now) (sum_in index.now)) (pair.now ∷ []) }
 {
-    for pair in pairs.iter() {
-        put_arc(edits, network, seen, index, pair)?;
-    }
-    Ok(())
-}
-
-fn put_arc(
-    edits: &mut Vec<Edit>,
-    network: &Network,
-    seen: &Seen,
-    index: &Index,
-    pair: &(Node, Node),
-) -> Result<(), OutOfMemory>
-    ensures { OnOk result (edits.new.items ≡ edits.old.items ++ arcs_that_come network.now (node_shown (seen_in seen.now) (sum_in index.now)) (arc_shown (seen_in seen.now) (sum_in index.now)) (pair.now ∷ [])) }
-{
-    let Some((capacity, cost)) = arc(seen, index, &pair.0, &pair.1) else {
-        return Ok(());
-    };
+    let (capacity, cost) = arc(seen, index, &pair.0, &pair.1)?;
     if is_same(network.arc(pair.0, pair.1), capacity, cost) {
-        return Ok(());
+        return None;
     }
-    edits.push(Edit::PutArc(pair.0, pair.1, capacity, cost))?;
-    Ok(())
+    Some(Edit::PutArc(pair.0, pair.1, capacity, cost))
 }
 
 // Whether what stands is this arc.
