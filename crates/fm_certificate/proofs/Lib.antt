@@ -8,3 +8,4 @@ pub mod Units
 pub mod Small
 pub mod Certified
 pub mod Priced
+pub mod Behind

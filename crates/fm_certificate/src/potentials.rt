@@ -6,20 +6,20 @@ ghost use Rattle.fm_net.specs.Nodes.{node_cmp};
 ghost use Rattle.fm_certificate.specs.Certificates.{potential_in};
 ghost use Rattle.fm_certificate.specs.Checks.{AreOf};
 
+use crate::rising::{set, value_at};
 use fm_lattice::join::OutOfMemory;
 use fm_net::network::Network;
 use fm_net::node::Node;
 use std::alloc::Global;
-use std::collections::BTreeMap;
 use std::marker::Model;
 
 // The greatest size of a potential that a certificate may have.
 const GREATEST: u128 = 1 << 100;
 
-/// Potentials for nodes: a finite map.
+/// Potentials for nodes: a finite map, as pairs in order of their nodes.
 #[derive(Debug, Drop)]
 pub struct Potentials {
-    values: BTreeMap<Node, i128>,
+    values: Vec<(Node, i128)>,
 }
 
 impl Model for Potentials {
@@ -30,9 +30,9 @@ impl Model for Potentials {
 
     ghost Value = { List (NodeName × ℤ) };
 
-    ghost view = { λ a. a.values.entries };
+    ghost view = { λ a. a.values.items };
 
-    ghost invariant = { λ a. IsRising node_cmp a.values.entries };
+    ghost invariant = { λ a. IsRising node_cmp a.values.items };
 }
 
 impl Potentials {
@@ -41,16 +41,17 @@ impl Potentials {
         ensures { result ≡ [] }
     {
         Potentials {
-            values: BTreeMap::new(alloc),
+            values: Vec::new(alloc),
         }
     }
 
-    /// Sets the node's potential. After a refusal of memory the potentials are as they were. O(log n).
+    /// Sets the node's potential. After a refusal of memory the potentials are as they were. Amortised O(1) for a node behind
+    /// the last, and O(log n) for one that has a potential; for any other, those behind it move, in O(n).
     pub fn put(&mut self, node: Node, potential: i128) -> Result<(), OutOfMemory>
         ensures ok { OnOk result (self.new ≡ put node_cmp replaced node potential self.old) }
         ensures err { OnErr result (self.new ≡ self.old) }
     {
-        self.values.insert(node, potential)?;
+        set(&mut self.values, node, potential)?;
         Ok(())
     }
 
@@ -58,7 +59,7 @@ impl Potentials {
     pub fn at(&self, node: &Node) -> Option<i128>
         ensures { result ≡ lookup node_cmp node.now self.now }
     {
-        self.values.get(node).copied()
+        value_at(&self.values, node)
     }
 
     /// The node's potential; 0 where it has none. O(log n).

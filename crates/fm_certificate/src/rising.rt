@@ -1,0 +1,64 @@
+//! Pairs in order of their keys: finding a key, and setting the value at one.
+
+ghost use Rattle.std.specs.Prelude.{◌≡◌, IfOk, IfErr, OnOk, OnErr};
+ghost use Rattle.fm_lattice.specs.Chains.{TellsApart};
+ghost use Rattle.fm_lattice.specs.Maps.{IsRising, lookup, put, replaced};
+ghost use Rattle.fm_lattice.specs.Places.{IsAt, IsGap};
+
+use fm_lattice::join::OutOfMemory;
+
+// Where the key is, or where it would go. O(log n), and one comparison for a key behind the last.
+fn place<K: Ord + Copy, V>(pairs: &[(K, V)], key: &K) -> Result<usize, usize>
+    requires exact { TellsApart K.cmp }
+    requires rising { IsRising K.cmp pairs.now }
+    ensures found { IfOk result (IsAt K.cmp pairs.now key.now) }
+    ensures absent { IfErr result (IsGap K.cmp pairs.now key.now) }
+{
+    let count = pairs.len();
+    if count == 0 {
+        return Err(0);
+    }
+    if pairs[count - 1].0.cmp(key).is_lt() {
+        return Err(count);
+    }
+    pairs.binary_search_by_key(key, |pair| pair.0)
+}
+
+/// The value at the key, if the key is there. O(log n).
+pub(crate) fn value_at<K: Ord + Copy, V: Copy>(pairs: &[(K, V)], key: &K) -> Option<V>
+    requires exact { TellsApart K.cmp }
+    requires rising { IsRising K.cmp pairs.now }
+    ensures { result ≡ lookup K.cmp key.now pairs.now }
+{
+    match place(pairs, key) {
+        Ok(at) => Some(pairs[at].1),
+        Err(_) => None,
+    }
+}
+
+/// Sets the value at the key, and gives the one that was there. After a refusal of memory the pairs are as they were.
+/// A key behind the last is pushed, in amortised O(1); a key that is there is found in O(log n); before any other new key the
+/// pairs behind it move, in O(n).
+pub(crate) fn set<K: Ord + Copy, V: Copy>(
+    pairs: &mut Vec<(K, V)>,
+    key: K,
+    value: V,
+) -> Result<Option<V>, OutOfMemory>
+    requires exact { TellsApart K.cmp }
+    requires rising { IsRising K.cmp pairs.old.items }
+    ensures ok { OnOk result (pairs.new.items ≡ put K.cmp replaced key value pairs.old.items) }
+    ensures old { IfOk result (λ old. old ≡ lookup K.cmp key pairs.old.items) }
+    ensures err { OnErr result (pairs.new.items ≡ pairs.old.items) }
+{
+    match place(pairs, &key) {
+        Ok(at) => {
+            let old = pairs[at].1;
+            pairs[at].1 = value;
+            Ok(Some(old))
+        }
+        Err(at) => {
+            pairs.insert(at, (key, value))?;
+            Ok(None)
+        }
+    }
+}
