@@ -1,11 +1,13 @@
 #!/usr/bin/env python3
 """Draws scripts of several coordinators, the same for the same seeds: `gossip`, in which they pass on what they know,
-`refused`, which has a step that is refused, `rounds`, `contended`, of one, in which tasks contend for few slots, and `grouped`,
-in which one is told all and the others are given that in groups of neighbouring deltas, each in other groups.
+`refused`, which has a step that is refused, `rounds`, `tells`, of tells alone, `contended`, of one, in which tasks contend for
+few slots, and `grouped`, in which one is told all and the others are given that in groups of neighbouring deltas, each in other
+groups.
 
     tests/drawn.py gossip SEED
     tests/drawn.py refused SEED KIND
     tests/drawn.py rounds SEED COORDINATORS
+    tests/drawn.py tells SEED COORDINATORS STEPS
     tests/drawn.py contended SEED
     tests/drawn.py corners SEED
     tests/drawn.py grouped SEED
@@ -291,6 +293,14 @@ def rounds(seed, coordinators):
     return drawing.text()
 
 
+def tells(seed, coordinators, steps):
+    """Operations told to each of the coordinators, and nothing else."""
+    drawing = Drawing(seed, coordinators)
+    for _ in range(steps):
+        drawing.tell()
+    return drawing.text()
+
+
 def contended(seed):
     """Tasks that contend for slots and bandwidth, known to one coordinator."""
     drawing = Drawing(seed, 1)
@@ -326,5 +336,6 @@ def corners(seed):
 
 if __name__ == "__main__":
     kind, seed, *more = sys.argv[1:]
-    kinds = {"gossip": gossip, "refused": refused, "rounds": lambda s, n: rounds(s, int(n)), "contended": contended, "corners": corners, "grouped": grouped}
+    kinds = {"gossip": gossip, "refused": refused, "rounds": lambda s, n: rounds(s, int(n)), "tells": lambda s, n, m: tells(s, int(n), int(m)),
+             "contended": contended, "corners": corners, "grouped": grouped}
     print(kinds[kind](int(seed), *more))

@@ -26,6 +26,7 @@ use Rattle.fm_cli.specs.Output.{After, network_of, graph_of, winners_of, differe
 use Rattle.fm_cli.specs.Endings.{asked_of}
 use Rattle.fm_cli.specs.Unpacked.{IsUnpacked, IsNotUnpacked}
 use Rattle.fm_cli.specs.Refused.{refusals_text}
+use Rattle.fm_cli.specs.Fleets.{ServesFleet}
 
 -- the text was not read as a script, and why
 pub record IsUnread (text : List ℕ) (fault : Fault) : Type 0 where
@@ -120,10 +121,11 @@ abbrev pub IsPrinted : Ending → List ℕ → Option (List ℕ) → Option (Lis
 IsPrinted ending text old new =
     ((ending ≡ Done) × Appends old new text) ⊎ ((ending ≡ Stopped (fault_of WriteFault)) × AppendsPrefix old new text)
 
--- what the words came to was done: the command was served, or the text that was asked for, or the page of refusals, printed; or
+-- what the words came to was done: the command or the fleet was served, or the text that was asked for, or the page of refusals, printed; or
 -- the words are wrong, which is said as they have it, and nothing is written
 abbrev pub Obeys : Words → List ℕ → Ending → Option (List ℕ) → Option (List ℕ) → Type 0
 Obeys (words.Run c) text ending old new = Serves c text ending old new
+Obeys (words.Fleet rounds) text ending old new = ServesFleet rounds text ending old new
 Obeys (words.Help help) text ending old new = IsPrinted ending (string_bytes help) old new
 Obeys words.Refusals text ending old new = IsPrinted ending refusals_text old new
 Obeys (words.Wrong said) text ending old new = (ending ≡ Wrong said) × (new ≡ old)

@@ -5,4 +5,5 @@ pub mod Output
 pub mod Endings
 pub mod Unpacked
 pub mod Refused
+pub mod Fleets
 pub mod Answers

@@ -4,6 +4,7 @@
 mod agree;
 mod answer;
 mod fault;
+mod fleet;
 mod output;
 mod pack;
 mod refusals;
@@ -23,6 +24,7 @@ use std::{env, io};
 fn main(rt: HostRuntime) -> ExitCode {
     let ending = match given_words(&rt) {
         Ok(words) => serve(
+            &rt,
             rt.alloc(),
             words.as_slice(),
             &mut rt.reader(),

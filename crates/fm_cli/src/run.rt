@@ -1,8 +1,6 @@
 //! Running a script's steps on a world of its coordinators.
 
-ghost use Rattle.std.specs.Prelude.{◌≡◌, ℕ, [], IsTrue, IfOk, IfErr, OnOk};
-ghost use Rattle.fm_records.specs.Know.{know};
-ghost use Rattle.fm_edit.specs.Keepers.{is_fresh_keeper, KeeperIsFor};
+ghost use Rattle.std.specs.Prelude.{◌≡◌, ℕ, IfOk, IfErr, OnOk};
 ghost use Rattle.fm_net.specs.Network.{net_of};
 ghost use Rattle.fm_flow.specs.Flows.{units_in, IsLeast};
 ghost use Rattle.fm_world.specs.declared.step.Act.TheVariants as world_act;
@@ -14,16 +12,14 @@ ghost use Rattle.fm_round.specs.Schedules.{IsPlanOf};
 ghost use Rattle.fm_cli.specs.Running.{opened, step_at, Takes, Acts, Come, Refuses, StopsIn, Stops, IsRun};
 
 use crate::fault::Fault;
-use fm_coord::coordinator::Coordinator;
 use fm_coord::view::View;
-use fm_edit::editor::Editor;
 use fm_edit::keepers::Keeper;
 use fm_flow::flow::Flow;
 use fm_flow::solve::{solve, solve_from};
 use fm_input::script::{Act, Script, Step};
 use fm_know::laws::law_can_be;
 use fm_lattice::join::OutOfMemory;
-use fm_policy::rebuilder::Rebuilder;
+use fm_muster::coordinators::coordinator_at;
 use fm_records::ids::CoordId;
 use fm_records::refusal::Refusal;
 use fm_round::parts::Plan;
@@ -32,9 +28,6 @@ use fm_world::step::{Act as WorldAct, Step as WorldStep};
 use fm_world::world::World;
 use std::alloc::Global;
 use std::collections::BTreeMap;
-
-/// How many entries a coordinator's history may have.
-pub const HISTORY_LIMIT: usize = 1_000_000;
 
 /// The world that the script's steps come to. A step that is refused is named: by NoCoordinator where its coordinator is not
 /// listed, by NoPacket where no packet of the name was cut, else as the coordinator's call, and a round also where memory is
@@ -57,22 +50,10 @@ fn open(alloc: Global, listed: &[CoordId]) -> Result<World<Keeper>, OutOfMemory>
 {
     let mut coordinators = Vec::with_capacity(alloc, listed.len())?;
     for number in listed {
-        let keeper = keeper_at(alloc, coordinators.len())?;
-        coordinators.push(Coordinator::new(alloc, *number, HISTORY_LIMIT, keeper))?;
+        let coordinator = coordinator_at(alloc, *number, coordinators.len())?;
+        coordinators.push(coordinator)?;
     }
     Ok(World::new(coordinators))
-}
-
-// The keeper of the coordinator that is listed at the place, counted from 0: the first, the third and so on edit their
-// networks, the others build them anew.
-fn keeper_at(alloc: Global, place: usize) -> Result<Keeper, OutOfMemory>
-    ensures { IfOk result (λ keeper. IsTrue (is_fresh_keeper keeper) → KeeperIsFor keeper (know [])) }
-{
-    if place % 2 == 0 {
-        Ok(Keeper::Edits(Editor::new(alloc)?))
-    } else {
-        Ok(Keeper::Builds(Rebuilder::new(alloc)?))
-    }
 }
 
 // Takes the steps in order, up to the first that is refused.

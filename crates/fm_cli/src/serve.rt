@@ -6,6 +6,7 @@ ghost use Rattle.fm_cli.specs.Answers.{IsAnswer, Serves, Obeys, IsServed, IsPrin
 
 use crate::answer::answer;
 use crate::fault::Fault;
+use crate::fleet::run_fleet;
 use crate::refusals::REFUSALS;
 use crate::sending::send;
 use fm_input::input::read_input;
@@ -14,6 +15,8 @@ use fm_records::refusal::Refusal;
 use std::alloc::Global;
 use std::fmt;
 use std::io::{Read, Write};
+use std::sync::Wait;
+use std::thread::Threads;
 
 /// How a run ends. Its `Display` is the text for standard error.
 #[derive(Debug, Drop)]
@@ -58,7 +61,9 @@ impl fmt::Display for Ending {
 /// Runs the program on the words of its command line, its own name first: reads a script, and writes what is asked for.
 /// Faults are found in this order: the words, the script, the coordinator that is asked, the steps in turn, the output.
 /// What is written is made whole first: so either all of it goes out, or nothing, or what the writer took before it failed.
-pub fn serve<R: Read, W: Write>(
+/// Only a fleet starts threads, and waits.
+pub fn serve<T: Threads + Wait + Sync, R: Read, W: Write>(
+    rt: &T,
     alloc: Global,
     words: &[String],
     reader: &mut R,
@@ -67,14 +72,16 @@ pub fn serve<R: Read, W: Write>(
     ensures { IfSome (R.remaining reader.old) (λ text. IsServed text result (W.contents writer.old) (W.contents writer.new)) }
 {
     match read_words(alloc, words) {
-        Ok(words) => obey(alloc, words, reader, writer),
+        Ok(words) => obey(rt, alloc, words, reader, writer),
         Err(refusal) => Ending::Stopped(Fault::from(refusal)),
     }
 }
 
-/// Does what the words come to: runs the command on what the reader gives, prints the text or the page of refusals that was
-/// asked for, or says what is wrong with the words. Nothing is read for a text, and nothing is written where the words are wrong.
-pub fn obey<R: Read, W: Write>(
+/// Does what the words come to: runs the command or a fleet on what the reader gives, prints the text or the page of refusals
+/// that was asked for, or says what is wrong with the words. Nothing is read for a text, and nothing is written where the words
+/// are wrong. Only a fleet starts threads, and waits.
+pub fn obey<T: Threads + Wait + Sync, R: Read, W: Write>(
+    rt: &T,
     alloc: Global,
     words: Words,
     reader: &mut R,
@@ -84,6 +91,7 @@ pub fn obey<R: Read, W: Write>(
 {
     match words {
         Words::Run(command) => run(alloc, command, reader, writer),
+        Words::Fleet { rounds } => run_fleet(rt, alloc, rounds, reader, writer),
         Words::Help(text) => print(text.as_str(), writer),
         Words::Refusals => print(REFUSALS, writer),
         Words::Wrong(text) => Ending::Wrong(text),

@@ -16,6 +16,7 @@ use Rattle.fm_coord.specs.declared.entry.Range.TheVariants.{Interval, Full}
 use Rattle.fm_input.specs.declared.script.Act.{Act}
 use Rattle.fm_input.specs.declared.script.Act.TheVariants as act
 use Rattle.fm_input.specs.declared.script.Step.{Step}
+use Rattle.fm_input.specs.declared.script.Tell.{Tell}
 use Rattle.fm_input.specs.Json.{given, whole_of, number_at, number_32_at, number_8_at, flag_at, text_at, id_at, has_size, items_at}
 
 -- the fields of each operation
@@ -199,3 +200,33 @@ steps_fault (Some ds) = first_strange [] 1 ds
 -- where a value that is no script breaks a rule: 0 for the whole, and else the first strange step
 abbrev pub script_fault : Data → Option ℕ
 script_fault d = cond (is_none (coordinators_of d)) (Some 0) (steps_fault (items_at (codes "steps") d))
+
+-- what a step tells, where it does
+abbrev pub told_by : ℕ → Act → Option Tell
+told_by at (act.Tell op) = Some (record { at = at; op = op })
+told_by at _ = None
+
+abbrev pub told_in : Step → Option Tell
+told_in step = told_by step.at step.act
+
+-- what a value tells, where it spells a step that does; no packet has a name where all steps tell
+abbrev pub tell_of : Data → Option Tell
+tell_of d = given (step_of [] d) told_in
+
+-- the value spells a script of these coordinators and these tells alone
+pub record AreTellsOf (d : Data) (coordinators : List ℕ) (tells : List Tell) : Type 0 where
+  pub coordinators_listed : coordinators_of d ≡ Some coordinators
+  pub tells_listed : option_map (map tell_of) (items_at (codes "steps") d) ≡ Some (map Some tells)
+
+-- the place of the first value that tells nothing, the first value of all being at the place given
+abbrev pub first_untold : ℕ → List Data → Option ℕ
+first_untold place [] = None
+first_untold place (d ∷ ds) = cond (is_some (tell_of d)) (first_untold (place + 1) ds) (Some place)
+
+abbrev pub untold_fault : Option (List Data) → Option ℕ
+untold_fault None = Some 0
+untold_fault (Some ds) = first_untold 1 ds
+
+-- where a value that is no script of tells alone breaks a rule: 0 for the whole, and else the first step that tells nothing
+abbrev pub tells_fault : Data → Option ℕ
+tells_fault d = cond (is_none (coordinators_of d)) (Some 0) (untold_fault (items_at (codes "steps") d))

@@ -5,4 +5,5 @@ pub mod input;
 pub mod names;
 pub mod reading;
 pub mod script;
+pub mod telling;
 pub mod words;

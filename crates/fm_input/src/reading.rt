@@ -63,7 +63,10 @@ fn script_in(alloc: Global, value: &Value) -> Result<Script, Refusal>
 }
 
 // The coordinators that the items list.
-fn coordinators_in(alloc: Global, items: &[Value]) -> Result<Option<Vec<CoordId>>, OutOfMemory>
+pub(crate) fn coordinators_in(
+    alloc: Global,
+    items: &[Value],
+) -> Result<Option<Vec<CoordId>>, OutOfMemory>
     ensures { IfOk result (λ listed. option_map (λ v. v.items) listed ≡ listed_of (map view items.now)) }
 {
     let mut listed = Vec::new(alloc);
@@ -118,7 +121,7 @@ fn keep_name(item: &Value, names: &mut Names) -> Result<(), OutOfMemory>
 }
 
 // The step that an object of two members spells, where packets of the names were cut before.
-fn step_in(value: &Value, names: &Names) -> Option<Step>
+pub(crate) fn step_in(value: &Value, names: &Names) -> Option<Step>
     ensures { result ≡ step_of names.now (view value.now) }
 {
     if !is_object_of(value, 2) {
@@ -349,7 +352,7 @@ fn text_in<'a>(fields: &'a Value, name: &str) -> Option<&'a str>
 }
 
 // The items of the array in the member of the name.
-fn items_in<'a>(value: &'a Value, name: &str) -> Option<&'a [Value]>
+pub(crate) fn items_in<'a>(value: &'a Value, name: &str) -> Option<&'a [Value]>
     ensures { option_map (λ items. map view items.now) result ≡ items_at name.now (view value.now) }
 {
     let items = value.get(name)?.as_array()?;

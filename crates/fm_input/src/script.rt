@@ -38,3 +38,20 @@ pub struct Script {
     pub names: Names,
     pub steps: Vec<Step>,
 }
+
+/// A step of a script that tells a coordinator an operation.
+#[derive(Debug, Clone, Copy, PartialEq, Eq, Drop)]
+pub struct Tell {
+    /// The number of the coordinator, which need not be one of the script's.
+    pub at: u8,
+    /// The operation, whose ranges are not yet checked.
+    pub op: Op,
+}
+
+/// A script of tells alone that has been read.
+#[derive(Debug, Drop)]
+pub struct Tells {
+    /// The numbers of the coordinators, as listed.
+    pub coordinators: Vec<CoordId>,
+    pub tells: Vec<Tell>,
+}

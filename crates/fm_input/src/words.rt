@@ -10,6 +10,9 @@ use fm_lattice::join::OutOfMemory;
 use fm_records::refusal::Refusal;
 use std::alloc::Global;
 
+/// The most rounds that a fleet may be asked for.
+pub const MOST_ROUNDS: i64 = 1_000;
+
 /// What the program is asked to do.
 #[derive(Debug, Clone, Copy, PartialEq, Eq, Drop)]
 pub enum Command<'a> {
@@ -38,6 +41,8 @@ pub enum Question {
 #[derive(Debug, Drop)]
 pub enum Words<'a> {
     Run(Command<'a>),
+    /// Run the coordinators of a script of tells in threads, each with so many rounds.
+    Fleet { rounds: u32 },
     /// A text that was asked for.
     Help(String),
     /// The page of refusals was asked for.
@@ -66,6 +71,7 @@ fn parsed<'a>(alloc: Global, words: &'a [String]) -> Result<Words<'a>, OutOfMemo
     match parser(alloc)?.try_get_matches_from(words) {
         Ok(matches) => match matches.subcommand() {
             Some(("agree", _)) => Ok(Words::Run(Command::Agree)),
+            Some(("fleet", inner)) => Ok(runs(inner)),
             Some(("pack", inner)) => Ok(packs(alloc, inner)),
             Some(("unpack", _)) => Ok(Words::Run(Command::Unpack)),
             Some(("graph", inner)) => Ok(asks(Question::Graph, inner)),
@@ -92,6 +98,12 @@ fn ask_for_refusals(words: &[String]) -> bool
 fn asks<'a>(question: Question, matches: &ArgMatches<'a>) -> Words<'a> {
     let at = matches.get_one::<u8>("at");
     Words::Run(Command::Ask { question, at })
+}
+
+// A fleet, with as many rounds as are named.
+fn runs<'a>(matches: &ArgMatches<'a>) -> Words<'a> {
+    let rounds = matches.get_one::<u32>("rounds").unwrap_or(0);
+    Words::Fleet { rounds }
 }
 
 // The name of a packet, which the command requires.
@@ -122,6 +134,12 @@ fn parser<'a>(alloc: Global) -> Result<clap::Command<'a>, OutOfMemory> {
             "Prints `same` where all coordinators know the same, and else `differ A B`: the first listed, and the first that knows something else; then the status is 5",
         )
         .after_help("Example: firmament agree < examples/gossip.json");
+    let fleet = clap::Command::new(alloc, "fleet")
+        .about(
+            "Runs the coordinators of a script that only tells, each in threads of its own, and has them tell one another all that they know; prints `calls C K` for each, `audit ok`, `gather L`, and what `agree` would",
+        )
+        .after_help("Example: firmament fleet --rounds 1 < examples/fleet.json")
+        .arg(rounds(alloc))?;
     let graph = clap::Command::new(alloc, "graph")
         .about(
             "Prints the network of what a coordinator knows, as a minimum-cost flow problem in DIMACS lines",
@@ -166,12 +184,23 @@ fn parser<'a>(alloc: Global) -> Result<clap::Command<'a>, OutOfMemory> {
             .subcommand_required(true)
             .arg_required_else_help(true)
             .subcommand(agree)?
+            .subcommand(fleet)?
             .subcommand(graph)?
             .subcommand(pack)?
             .subcommand(solve)?
             .subcommand(unpack)?
             .subcommand(winners)?,
     )
+}
+
+// How many rounds each coordinator of a fleet runs.
+fn rounds<'a>(alloc: Global) -> Arg<'a> {
+    Arg::new(alloc, "rounds")
+        .long("rounds")
+        .value_name("N")
+        .help("How many rounds each coordinator runs, from 0 to 1000; none where it is left out")
+        .action(ArgAction::Set)
+        .value_parser(value_parser!(u32).range(0..=MOST_ROUNDS))
 }
 
 // The coordinator that is asked.

@@ -1,7 +1,9 @@
 use super::serve;
 use std::alloc::{AllocError, Global};
 use std::io::{self, Read, Write};
+use std::sync::Wait;
 use std::test::Fail;
+use std::thread::Threads;
 
 // Steps by name; `2:J` is the step J at coordinator 2. In all texts here `..` stands for the zeros with which an id begins.
 static STEPS: [(&str, &str); 53] = [
@@ -812,17 +814,27 @@ fn words_of(alloc: Global, words: &str) -> Result<Vec<String>, AllocError> {
 }
 
 // Runs the words on the steps, and answers the status, what was written, and the text for standard error.
-fn run(alloc: Global, words: &str, steps: &str) -> Result<(u8, Vec<u8>, String), AllocError> {
+fn run<T: Threads + Wait + Sync>(
+    rt: &T,
+    alloc: Global,
+    words: &str,
+    steps: &str,
+) -> Result<(u8, Vec<u8>, String), AllocError> {
     let script = script_of(alloc, steps)?;
-    run_on(alloc, words, script.as_str())
+    run_on(rt, alloc, words, script.as_str())
 }
 
 // Runs the words on the input.
-fn run_on(alloc: Global, words: &str, input: &str) -> Result<(u8, Vec<u8>, String), AllocError> {
+fn run_on<T: Threads + Wait + Sync>(
+    rt: &T,
+    alloc: Global,
+    words: &str,
+    input: &str,
+) -> Result<(u8, Vec<u8>, String), AllocError> {
     let words = words_of(alloc, words)?;
     let mut reader = input.as_bytes();
     let mut writer = Vec::new(alloc);
-    let ending = serve(alloc, words.as_slice(), &mut reader, &mut writer);
+    let ending = serve(rt, alloc, words.as_slice(), &mut reader, &mut writer);
     let text = ending.to_string(alloc)?;
     Ok((ending.status(), writer, text))
 }
@@ -831,7 +843,7 @@ fn run_on(alloc: Global, words: &str, input: &str) -> Result<(u8, Vec<u8>, Strin
 fn each_run_writes_and_says_what_it_should(rt: HostRuntime) -> Result<(), Fail> {
     let alloc = rt.alloc();
     for (words, steps, status, out, err) in &RUNS {
-        let (ended, written, said) = run(alloc, *words, *steps)?;
+        let (ended, written, said) = run(&rt, alloc, *words, *steps)?;
         let out = expanded(alloc, *out)?;
         let err = expanded(alloc, *err)?;
         assert_eq!(rt; ended, *status, "{words}: {steps}");
@@ -845,7 +857,7 @@ fn each_run_writes_and_says_what_it_should(rt: HostRuntime) -> Result<(), Fail> 
 fn packets_are_unpacked(rt: HostRuntime) -> Result<(), Fail> {
     let alloc = rt.alloc();
     for (input, status, out, err) in &PACKETS {
-        let (ended, written, said) = run_on(alloc, "unpack", *input)?;
+        let (ended, written, said) = run_on(&rt, alloc, "unpack", *input)?;
         let out = expanded(alloc, *out)?;
         assert_eq!(rt; ended, *status, "{input}");
         assert!(rt; written.as_slice() == out.as_bytes(), "{input}");
@@ -859,7 +871,7 @@ fn each_world_writes_and_says_what_it_should(rt: HostRuntime) -> Result<(), Fail
     let alloc = rt.alloc();
     for (words, coordinators, steps, status, out, err) in &WORLDS {
         let script = script_at(alloc, *coordinators, *steps)?;
-        let (ended, written, said) = run_on(alloc, *words, script.as_str())?;
+        let (ended, written, said) = run_on(&rt, alloc, *words, script.as_str())?;
         let out = expanded(alloc, *out)?;
         assert_eq!(rt; ended, *status, "{words}: {steps}: {said}");
         assert!(rt; written.as_slice() == out.as_bytes(), "{words}: {steps}");
@@ -871,7 +883,7 @@ fn each_world_writes_and_says_what_it_should(rt: HostRuntime) -> Result<(), Fail
 // A packet of all that is known after a held task's four operations has two digits for each of its bytes, and a line feed.
 #[test]
 fn a_packet_has_its_size(rt: HostRuntime) -> Result<(), Fail> {
-    let (status, written, _) = run(rt.alloc(), "pack a", "J A T OnA CutA")?;
+    let (status, written, _) = run(&rt, rt.alloc(), "pack a", "J A T OnA CutA")?;
     assert_eq!(rt; status, 0);
     assert_eq!(rt; written.len(), 439);
     Ok(())
@@ -893,11 +905,11 @@ fn packets_in_every_order_come_to_one_network(rt: HostRuntime) -> Result<(), Fai
     for order in &ORDERS {
         let steps = exchange(alloc, *order)?;
         let script = script_at(alloc, "1,2,3", steps.as_str())?;
-        let (status, written, _) = run_on(alloc, "agree", script.as_str())?;
+        let (status, written, _) = run_on(&rt, alloc, "agree", script.as_str())?;
         assert_eq!(rt; status, 0, "{order}");
         assert!(rt; written.as_slice() == b"same\n".as_slice(), "{order}");
         for words in ["graph --at 1", "graph --at 2", "graph --at 3"] {
-            let (_, written, _) = run_on(alloc, words, script.as_str())?;
+            let (_, written, _) = run_on(&rt, alloc, words, script.as_str())?;
             assert!(rt; written.as_slice() == wanted.as_bytes(), "{order}");
         }
     }
@@ -907,7 +919,7 @@ fn packets_in_every_order_come_to_one_network(rt: HostRuntime) -> Result<(), Fai
 // A task is placed or left where both cost the same.
 #[test]
 fn equal_costs_are_solved(rt: HostRuntime) -> Result<(), Fail> {
-    let (status, written, _) = run(rt.alloc(), "solve", "JWait100 A T")?;
+    let (status, written, _) = run(&rt, rt.alloc(), "solve", "JWait100 A T")?;
     assert_eq!(rt; status, 0);
     assert!(rt; written.starts_with(b"s 100\n"));
     Ok(())
@@ -925,7 +937,7 @@ fn help_is_written(rt: HostRuntime) -> Result<(), Fail> {
         "agree --help",
         "pack --help",
     ] {
-        let (status, written, said) = run(alloc, words, "Strange")?;
+        let (status, written, said) = run(&rt, alloc, words, "Strange")?;
         assert_eq!(rt; status, 0, "{words}");
         assert!(rt; !written.is_empty() && said.is_empty(), "{words}");
     }
@@ -995,10 +1007,14 @@ impl Write for Full {
 }
 
 // What the text for standard error is after a run of `graph` that reads from the reader.
-fn said_of<R: Read>(alloc: Global, reader: &mut R) -> Result<String, AllocError> {
+fn said_of<T: Threads + Wait + Sync, R: Read>(
+    rt: &T,
+    alloc: Global,
+    reader: &mut R,
+) -> Result<String, AllocError> {
     let words = words_of(alloc, "graph")?;
     let mut writer = Vec::new(alloc);
-    serve(alloc, words.as_slice(), reader, &mut writer).to_string(alloc)
+    serve(rt, alloc, words.as_slice(), reader, &mut writer).to_string(alloc)
 }
 
 #[test]
@@ -1011,16 +1027,16 @@ fn a_reader_is_read_to_its_end_or_its_fault(rt: HostRuntime) -> Result<(), Fail>
             at_a_time,
             fails: false,
         };
-        assert!(rt; said_of(alloc, &mut whole)?.is_empty());
+        assert!(rt; said_of(&rt, alloc, &mut whole)?.is_empty());
         let mut fails = Narrow {
             bytes: script.as_bytes(),
             at_a_time,
             fails: true,
         };
-        assert!(rt; said_of(alloc, &mut fails)?.as_str() == "firmament: refusal 16\n");
+        assert!(rt; said_of(&rt, alloc, &mut fails)?.as_str() == "firmament: refusal 16\n");
     }
     let mut spaces = Spaces { reads: 0 };
-    assert!(rt; said_of(alloc, &mut spaces)?.as_str() == "firmament: refusal 16\n");
+    assert!(rt; said_of(&rt, alloc, &mut spaces)?.as_str() == "firmament: refusal 16\n");
     assert_eq!(rt; spaces.reads, 16_777_217);
     Ok(())
 }
@@ -1052,7 +1068,13 @@ fn a_writer_that_fails_has_a_prefix(rt: HostRuntime) -> Result<(), Fail> {
             at_a_time,
             room,
         };
-        let ending = serve(alloc, words.as_slice(), &mut script.as_bytes(), &mut writer);
+        let ending = serve(
+            &rt,
+            alloc,
+            words.as_slice(),
+            &mut script.as_bytes(),
+            &mut writer,
+        );
         assert_eq!(rt; ending.status(), status);
         assert!(rt; ending.to_string(alloc)?.as_str() == said);
         assert!(rt; wanted.as_bytes().starts_with(&writer.bytes));
@@ -1076,7 +1098,13 @@ fn a_solution_that_fails_has_a_prefix(rt: HostRuntime) -> Result<(), Fail> {
             at_a_time: 3,
             room,
         };
-        let ending = serve(alloc, words.as_slice(), &mut script.as_bytes(), &mut writer);
+        let ending = serve(
+            &rt,
+            alloc,
+            words.as_slice(),
+            &mut script.as_bytes(),
+            &mut writer,
+        );
         assert_eq!(rt; ending.status(), 6);
         assert!(rt; ending.to_string(alloc)?.as_str() == "firmament: refusal 17\n");
         assert!(rt; PLACED.as_bytes().starts_with(&writer.bytes));

@@ -21,7 +21,7 @@ loop-number-preserved c =
     let n = c.number-item.result in
     let lt : i < length listed = omega arith in
     let grown = c.in_ok-push.ensures.items in
-    let new = c.new.ensures.state in
+    let new = c.in_ok-coordinator.ensures in
     let before = c.loop-number.invariant in
     record {
       numbers = numbers_more _ _ _ listed i n lt c.number-item.is grown new before.numbers;
@@ -29,13 +29,13 @@ loop-number-preserved c =
       unused = unused_more _ _ _ listed i n lt c.number-item.is grown new before.unused;
     }
 
-pub new-requires-2-clause-distinct : goal.new-requires-2-clause-distinct
-new-requires-2-clause-distinct c = subst AreDistinct (sym (c.loop-number.invariant.numbers ∙ all_taken c.args.listed.now c.loop-number.number-index c.loop-number-test.false)) c.requires
+pub new-requires-clause-distinct : goal.new-requires-clause-distinct
+new-requires-clause-distinct c = subst AreDistinct (sym (c.loop-number.invariant.numbers ∙ all_taken c.args.listed.now c.loop-number.number-index c.loop-number-test.false)) c.requires
 
-pub new-requires-2-clause-unused : goal.new-requires-2-clause-unused
-new-requires-2-clause-unused c = c.loop-number.invariant.unused
+pub new-requires-clause-unused : goal.new-requires-clause-unused
+new-requires-clause-unused c = c.loop-number.invariant.unused
 
 pub returns : goal.returns
 returns c =
-    subst (λ cs. WorldStandsFor c.new-2.result (opening_world cs))
-    (c.loop-number.invariant.openings ∙ ap (map limited) (all_taken c.args.listed.now c.loop-number.number-index c.loop-number-test.false)) c.new-2.ensures.stands
+    subst (λ cs. WorldStandsFor c.new.result (opening_world cs))
+    (c.loop-number.invariant.openings ∙ ap (map limited) (all_taken c.args.listed.now c.loop-number.number-index c.loop-number-test.false)) c.new.ensures.stands

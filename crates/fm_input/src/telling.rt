@@ -1,0 +1,88 @@
+//! Reading a script of tells alone from JSON.
+
+ghost use Rattle.std.specs.Prelude.{◌≡◌, ◌⊎◌, [], Some, None, IfOk, IfErr, map, option_map};
+ghost use Rattle.serde_json.specs.Data.{Data};
+ghost use Rattle.serde_json.specs.View.{view};
+ghost use Rattle.fm_coord.specs.Numbers.{AreDistinct};
+ghost use Rattle.fm_input.specs.Script.{told_in, tell_of, first_untold, tells_fault, AreTellsOf};
+ghost use Rattle.fm_input.specs.Texts.{SpellsTells, SpellsNoTells};
+
+use crate::names::Names;
+use crate::reading::{coordinators_in, items_in, step_in};
+use crate::script::{Act, Step, Tell, Tells};
+use fm_records::refusal::Refusal;
+use serde_json::Value;
+use std::alloc::Global;
+
+/// The script of tells alone that a JSON text spells: a script, as `read_script` reads it, each step of which tells.
+/// `BadScript(0)` where the text is no JSON or the whole breaks a rule, else `BadScript(K)` for the first step K, counted from
+/// 1, that is strange or does something else.
+pub fn read_tells(alloc: Global, text: &[u8]) -> Result<Tells, Refusal>
+    ensures ok { IfOk result (λ s. SpellsTells text.now s.coordinators.items s.tells.items) }
+    ensures err { IfErr result (λ e. SpellsNoTells text.now e) }
+    ensures distinct { IfOk result (λ s. AreDistinct s.coordinators.items) }
+{
+    match Value::from_slice(alloc, text) {
+        Ok(value) => tells_in(alloc, &value),
+        Err(error) if error.is_memory() => Err(Refusal::OutOfMemory),
+        Err(_) => Err(Refusal::BadScript(0)),
+    }
+}
+
+// The script of tells that a value spells.
+fn tells_in(alloc: Global, value: &Value) -> Result<Tells, Refusal>
+    ensures ok { IfOk result (λ s. AreTellsOf (view value.now) s.coordinators.items s.tells.items) }
+    ensures err { IfErr result (λ e. (e ≡ Refusal.OutOfMemory) ⊎ (option_map Refusal.BadScript (tells_fault (view value.now)) ≡ Some e)) }
+    ensures distinct { IfOk result (λ s. AreDistinct s.coordinators.items) }
+{
+    let Some(listed) = items_in(value, "coordinators") else {
+        return Err(Refusal::BadScript(0));
+    };
+    let Some(coordinators) = coordinators_in(alloc, listed)? else {
+        return Err(Refusal::BadScript(0));
+    };
+    let Some(items) = items_in(value, "steps") else {
+        return Err(Refusal::BadScript(0));
+    };
+    let tells = all_in(alloc, items)?;
+    Ok(Tells {
+        coordinators,
+        tells,
+    })
+}
+
+// What the items tell, each one.
+fn all_in(alloc: Global, items: &[Value]) -> Result<Vec<Tell>, Refusal>
+    ensures ok { IfOk result (λ v. map tell_of (map view items.now) ≡ map Some v.items) }
+    ensures err { IfErr result (λ e. (e ≡ Refusal.OutOfMemory) ⊎ (option_map Refusal.BadScript (first_untold 1 (map view items.now)) ≡ Some e)) }
+{
+    let names = Names::new(alloc);
+    let mut tells = Vec::with_capacity(alloc, items.len())?;
+    for (place, item) in items.iter().enumerate() {
+        let tell = tell_in(item, &names).ok_or(Refusal::BadScript(place + 1))?;
+        tells.extend_from_slice(&[tell])?;
+    }
+    Ok(tells)
+}
+
+// What an item tells, where it is a step that does. No packet has a name where all steps tell.
+fn tell_in(item: &Value, names: &Names) -> Option<Tell>
+    requires { names.now ≡ [] }
+    ensures { result ≡ tell_of (view item.now) }
+{
+    match step_in(item, names) {
+        Some(step) => told_in(step),
+        None => None,
+    }
+}
+
+// What a step tells, where it does.
+fn told_in(step: Step) -> Option<Tell>
+    ensures { result ≡ told_in step }
+{
+    let Step { at, act } = step;
+    match act {
+        Act::Tell(op) => Some(Tell { at, op }),
+        _ => None,
+    }
+}

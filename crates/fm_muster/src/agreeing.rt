@@ -1,0 +1,30 @@
+//! What coordinators know once they told one another all.
+
+ghost use Rattle.std.specs.Prelude.{◌≡◌, map};
+ghost use Rattle.fm_coord.specs.Numbers.{AreDistinct};
+ghost use Rattle.fm_coord.specs.States.{State};
+ghost use Rattle.fm_world.specs.Stands.{state_of, number_of};
+ghost use Rattle.fm_gather.specs.Listings.{AreCoordinators};
+ghost use Rattle.fm_gossip.specs.Exchanges.{exchanged};
+ghost use Rattle.fm_muster.specs.Musters.{KnowSame};
+
+use fm_coord::coordinator::Coordinator;
+use fm_policy::keeper::NetKeeper;
+
+/// Once coordinators of distinct numbers told one another all that they know, they know the same.
+pub(crate) fn law_exchanged<N: NetKeeper>(coordinators: &[Coordinator<N>])
+    requires { AreDistinct (map number_of coordinators.now) }
+    ensures { KnowSame (exchanged (map state_of coordinators.now)) }
+{
+    see_known(coordinators);
+}
+
+// What holds of every coordinator holds of each of these.
+fn see_known<N: NetKeeper>(coordinators: &[Coordinator<N>])
+    ensures { AreCoordinators (map state_of coordinators.now) }
+{
+    if let Some((first, rest)) = coordinators.split_first() {
+        first.known();
+        see_known(rest);
+    }
+}

@@ -1,0 +1,41 @@
+//! The coordinators with which a run of the program begins.
+
+ghost use Rattle.std.specs.Prelude.{◌≡◌, [], IsTrue, IfOk};
+ghost use Rattle.fm_records.specs.Know.{know};
+ghost use Rattle.fm_edit.specs.Keepers.{is_fresh_keeper, KeeperIsFor};
+ghost use Rattle.fm_coord.specs.States.{new_state};
+
+use fm_coord::coordinator::Coordinator;
+use fm_edit::editor::Editor;
+use fm_edit::keepers::Keeper;
+use fm_lattice::join::OutOfMemory;
+use fm_policy::rebuilder::Rebuilder;
+use fm_records::ids::CoordId;
+use std::alloc::Global;
+
+/// How many entries a coordinator's history may have.
+pub const HISTORY_LIMIT: usize = 1_000_000;
+
+/// A coordinator to which nothing happened, which is listed at the place, counted from 0: the first, the third and so on edit
+/// their networks, the others build them anew. Only memory is refused.
+pub fn coordinator_at(
+    alloc: Global,
+    number: CoordId,
+    place: usize,
+) -> Result<Coordinator<Keeper>, OutOfMemory>
+    ensures { IfOk result (λ coordinator. coordinator.state ≡ new_state number HISTORY_LIMIT) }
+{
+    let keeper = keeper_at(alloc, place)?;
+    Ok(Coordinator::new(alloc, number, HISTORY_LIMIT, keeper))
+}
+
+// The keeper of the coordinator that is listed at the place.
+fn keeper_at(alloc: Global, place: usize) -> Result<Keeper, OutOfMemory>
+    ensures { IfOk result (λ keeper. IsTrue (is_fresh_keeper keeper) → KeeperIsFor keeper (know [])) }
+{
+    if place % 2 == 0 {
+        Ok(Keeper::Edits(Editor::new(alloc)?))
+    } else {
+        Ok(Keeper::Builds(Rebuilder::new(alloc)?))
+    }
+}

@@ -1,0 +1,8 @@
+//! Musters: the coordinators of a script of tells run in threads, tell one another all that they know, and are counted.
+#![tactic(auto)]
+
+mod agreeing;
+pub mod coordinators;
+pub mod counts;
+mod members;
+pub mod muster;
