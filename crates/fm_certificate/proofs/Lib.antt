@@ -9,3 +9,4 @@ pub mod Small
 pub mod Certified
 pub mod Priced
 pub mod Behind
+pub mod Leaving

@@ -1,13 +1,12 @@
--- Lists with rising keys: what stands in one is what is looked up, and std's insertion is a put.
-use Rattle.std.specs.Prelude.{◌≡◌, List, [], ◌∷◌, Some, refl}
+-- Lists with rising keys: what stands in one is what is looked up.
+use Rattle.std.specs.Prelude.{◌≡◌, List, [], ◌∷◌, Some}
 use Rattle.std.proofs.Common.{sym, ap, ◌∙◌, inl, inr}
-use Rattle.std.specs.BTreeMap.{insert_entry}
 use Rattle.std.specs.Cmp.{IsTotalOrder}
 use Rattle.std.specs.declared.cmp.Ordering.{Ordering}
 use Rattle.std.specs.declared.cmp.Ordering.TheVariants.{Less, Equal, Greater}
 use Rattle.std.proofs.lemmas.Cmp.{tied_itself}
-use Rattle.fm_lattice.specs.Chains.{TellsApart, by_order, less_greater}
-use Rattle.fm_lattice.specs.Maps.{lookup, put, replaced, IsBelow, IsRising}
+use Rattle.fm_lattice.specs.Chains.{TellsApart, less_greater}
+use Rattle.fm_lattice.specs.Maps.{lookup, IsBelow, IsRising}
 use Rattle.fm_records.specs.Sets.{IsMember}
 
 module _ {K V : Type 0} (cmp : K → K → Ordering) (total : IsTotalOrder cmp) (same : TellsApart cmp) where
@@ -26,7 +25,3 @@ module _ {K V : Type 0} (cmp : K → K → Ordering) (total : IsTotalOrder cmp) 
         let greater : cmp e.0 x.0 ≡ Greater = less_greater cmp total x.0 e.0 less in
         rw greater (member_lookup e es r.1 later)
   ]
-
-pub insert_is : {K V : Type 0} (cmp : K → K → Ordering) (k : K) (v : V) (es : List (K × V)) → insert_entry cmp es k v ≡ put cmp replaced k v es
-insert_is cmp k v [] = refl
-insert_is cmp k v (e ∷ es) = ap (λ rest. by_order (cmp k e.0) ((k, v) ∷ e ∷ es) ((e.0, v) ∷ es) (e ∷ rest)) (insert_is cmp k v es)

@@ -11,7 +11,7 @@ use Rattle.fm_net.specs.declared.node.Node.{Node}
 use Rattle.fm_net.specs.Nodes.{ends_cmp}
 use Rattle.fm_net.specs.NodeOrder.{ends_exact, ends_total}
 use Rattle.fm_net.specs.Same.{same_node}
-use Rattle.fm_certificate.specs.Totals.{Entry, source, target, units_at, total_in, IsFlow}
+use Rattle.fm_certificate.specs.Totals.{Entry, target, units_at, total_in, IsTotalled}
 use Rattle.fm_certificate.proofs.Alike.{same_itself}
 
 abbrev fits : ℕ → Type 0
@@ -78,17 +78,14 @@ units_part end k (e ∷ es) =
     (λ _. omega arith)
 
 -- a flow's totals after a put
-module _ (es : List Entry) (leaving entering : List (Node × ℕ)) (k : Node × Node) (units : ℕ) (old : ℕ) where
-  pub flow_put : (leaving2 entering2 : List (Node × ℕ)) → IsFlow es leaving entering → units < 2 ^ 64 → old ≡ units_on k es
-      → ((n : Node) → total_in leaving2 n + cond (same_node k.0 n) old 0 ≡ total_in leaving n + cond (same_node k.0 n) units 0)
-      → ((n : Node) → total_in entering2 n + cond (same_node k.1 n) old 0 ≡ total_in entering n + cond (same_node k.1 n) units 0)
-      → IsFlow (with_units k units es) leaving2 entering2
-  flow_put leaving2 entering2 flow u was left came = record {
-    rises = rising_put ends_cmp ends_total ends_exact replaced k units es flow.rises;
-    fits = fits_put k units es u flow.fits;
-    leaves = λ n. let change = rw was at left n in let before = flow.leaves n in omega (arith, units_put source n k units es flow.rises);
-    enters = λ n. let change = rw was at came n in let before = flow.enters n in omega (arith, units_put target n k units es flow.rises);
-  }
+pub flow_put : (es : List Entry) (entering entering2 : List (Node × ℕ)) (k : Node × Node) (units old : ℕ) → IsTotalled es entering → units < 2 ^ 64 → old ≡ units_on k es
+    → ((n : Node) → total_in entering2 n + cond (same_node k.1 n) old 0 ≡ total_in entering n + cond (same_node k.1 n) units 0)
+    → IsTotalled (with_units k units es) entering2
+flow_put es entering entering2 k units old flow u was came = record {
+  rises = rising_put ends_cmp ends_total ends_exact replaced k units es flow.rises;
+  fits = fits_put k units es u flow.fits;
+  enters = λ n. let change = rw was at came n in let before = flow.enters n in omega (arith, units_put target n k units es flow.rises);
+}
 
 -- what `unwrap_or` gives
 pub or_zero : (o : Option ℕ) → unwrap_or o 0 ≡ or_else 0 o

@@ -35,3 +35,9 @@ pub record IsFlow (flow : List Entry) (leaving entering : List (Node × ℕ)) : 
   pub fits : AreValues (λ units. units < 2 ^ 64) flow
   pub leaves : (n : Node) → total_in leaving n ≡ units_at source flow n
   pub enters : (n : Node) → total_in entering n ≡ units_at target flow n
+
+-- the units rise by their ends and fit, and the totals are what enters
+pub record IsTotalled (flow : List Entry) (entering : List (Node × ℕ)) : Type 0 where
+  pub rises : IsRising ends_cmp flow
+  pub fits : AreValues (λ units. units < 2 ^ 64) flow
+  pub enters : (n : Node) → total_in entering n ≡ units_at target flow n

@@ -6,6 +6,8 @@ ghost use Rattle.fm_net.specs.Nodes.{ends_cmp};
 ghost use Rattle.fm_certificate.specs.Totals.{source, target, units_at};
 
 use crate::entries::Entries;
+use crate::rising::{set, value_at};
+use crate::sources::sum_from;
 use crate::totals::{change, make_room, total_of};
 use fm_lattice::join::OutOfMemory;
 use fm_net::node::Node;
@@ -13,23 +15,23 @@ use std::alloc::Global;
 use std::collections::BTreeMap;
 use std::marker::Model;
 
-/// Units for arcs: a finite map from (from, to). It keeps what leaves and what enters each node as running totals.
+/// Units for arcs: a finite map from (from, to), as pairs in order of their keys, so that the arcs that leave a node lie side
+/// by side. What enters each node it keeps as running totals, which arcs without units do not touch.
 #[derive(Debug, Drop)]
 pub struct Flow {
-    units: BTreeMap<(Node, Node), u64>,
-    leaving: BTreeMap<Node, u128>,
+    units: Vec<((Node, Node), u64)>,
     entering: BTreeMap<Node, u128>,
 }
 
 impl Model for Flow {
     ghost use Rattle.std.specs.Prelude.{List};
-    ghost use Rattle.fm_certificate.specs.Totals.{Entry, IsFlow};
+    ghost use Rattle.fm_certificate.specs.Totals.{Entry, IsTotalled};
 
     ghost Value = { List Entry };
 
-    ghost view = { λ a. a.units.entries };
+    ghost view = { λ a. a.units.items };
 
-    ghost invariant = { λ a. IsFlow a.units.entries a.leaving.entries a.entering.entries };
+    ghost invariant = { λ a. IsTotalled a.units.items a.entering.entries };
 }
 
 impl Flow {
@@ -38,22 +40,20 @@ impl Flow {
         ensures { result ≡ [] }
     {
         Flow {
-            units: BTreeMap::new(alloc),
-            leaving: BTreeMap::new(alloc),
+            units: Vec::new(alloc),
             entering: BTreeMap::new(alloc),
         }
     }
 
-    /// Sets the units from one node to the other. After a refusal of memory the flow is as it was. O(log n).
+    /// Sets the units from one node to the other. After a refusal of memory the flow is as it was. Amortised O(1) for no units
+    /// on a key behind the last, and O(log n) for units there or for a key that the flow has; before any other new key the keys
+    /// behind it move, in O(n).
     pub fn put(&mut self, from: Node, to: Node, units: u64) -> Result<(), OutOfMemory>
         ensures ok { OnOk result (self.new ≡ put ends_cmp replaced (from, to) units self.old) }
         ensures err { OnErr result (self.new ≡ self.old) }
     {
-        let _bound = self.units.len();
-        make_room(&mut self.leaving, from, units)?;
         make_room(&mut self.entering, to, units)?;
-        let old = self.units.insert((from, to), units)?.unwrap_or(0);
-        change(&mut self.leaving, from, old, units);
+        let old = set(&mut self.units, (from, to), units)?.unwrap_or(0);
         change(&mut self.entering, to, old, units);
         Ok(())
     }
@@ -62,7 +62,7 @@ impl Flow {
     pub fn units(&self, from: Node, to: Node) -> Option<u64>
         ensures { result ≡ lookup ends_cmp (from, to) self.now }
     {
-        self.units.get(&(from, to)).copied()
+        value_at(&self.units, &(from, to))
     }
 
     /// The units, as (from, to, units), by (from, to).
@@ -95,11 +95,11 @@ impl Flow {
         self.units.is_empty()
     }
 
-    /// What leaves the node. O(log n).
+    /// What leaves the node. O(log n), and the arcs that leave it.
     pub fn leaving(&self, node: &Node) -> u128
         ensures { result ≡ units_at source self.now node.now }
     {
-        total_of(&self.leaving, node)
+        sum_from(&self.units, node)
     }
 
     /// What enters the node. O(log n).

@@ -8,4 +8,5 @@ pub mod flow;
 pub mod laws;
 pub mod potentials;
 mod rising;
+mod sources;
 mod totals;
