@@ -4,12 +4,16 @@ counts that no packet has room for, and more than is usual of all. What is drawn
     tests/hostile.py PROGRAM    changes each byte of the packets to every other value, which takes some minutes
 """
 import json
+import os
 import random
 import resource
+import struct
 import subprocess
 import sys
+import tempfile
 
 import reference
+import refusing
 import strict
 
 LIMIT = 16777216
@@ -172,6 +176,15 @@ def counts(program, allocator):
             yield "a packet that says %d %s: %s %s" % (count, name, answer, counted), fine
 
 
+def spaces(program):
+    """An input that is a space at each read, for ever: it ends with one read more than an input may have bytes."""
+    with tempfile.TemporaryDirectory() as folder, open(os.path.join(folder, "reads"), "wb+") as reads:
+        reads.truncate(4096)
+        env = {"LD_PRELOAD": refusing.library(folder, "spaces"), "SPACES": reads.name}
+        yield "spaces for ever", seen(program, ["graph"], b"", env=env) == BROKEN
+        yield "%d reads of spaces" % (LIMIT + 1), struct.unpack("Q", reads.read(8)) == (LIMIT + 1,)
+
+
 def sizes(program, entries=100000, machines=10000, jobs=31000):
     """More than is usual: each is answered, and not for want of memory."""
     one = reference.answer(["graph"], script(tell("machine")))[1].encode()
@@ -197,7 +210,8 @@ def compact(steps, numbers=(1,)):
 
 
 def all_tests(program, allocator):
-    for tests in (numbers(program), texts(program), broken_packets(program), counts(program, allocator), sizes(program)):
+    for tests in (numbers(program), texts(program), broken_packets(program), counts(program, allocator), spaces(program),
+                  sizes(program)):
         yield from tests
 
 

@@ -16,9 +16,7 @@ class Refusing:
 
     def __init__(self):
         self.folder = tempfile.TemporaryDirectory()
-        self.library = os.path.join(self.folder.name, "refusing.so")
-        subprocess.run([compiler(), "-O1", "-shared", "-fPIC", "-nostdlib", *linker(), "-o", self.library, HERE / "refusing.c"],
-                       check=True)
+        self.library = library(self.folder.name, "refusing")
         self.file = open(os.path.join(self.folder.name, "numbers"), "wb+")
         self.file.truncate(4096)
         self.numbers = mmap.mmap(self.file.fileno(), 4096)
@@ -34,6 +32,14 @@ class Refusing:
                                   **how)
         counted = dict(zip(FIELDS, struct.unpack("7Q", self.numbers[:56])))
         return (done.returncode, done.stdout, done.stderr), counted
+
+
+def library(folder, name):
+    """The library of a C file beside this one, made in the folder."""
+    made = os.path.join(folder, name + ".so")
+    source = HERE / (name + ".c")
+    subprocess.run([compiler(), "-O1", "-shared", "-fPIC", "-nostdlib", *linker(), "-o", made, source], check=True)
+    return made
 
 
 def compiler():

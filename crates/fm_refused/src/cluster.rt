@@ -1,0 +1,146 @@
+//! What is known of a cluster.
+//!
+//! Calls with long contracts stand by themselves here and elsewhere, in functions without one: so the proofs of what goes through
+//! many of them are short.
+
+use fm_delta::packet::Packet;
+use fm_know::knowledge::Knowledge;
+use fm_lattice::join::Join;
+use fm_records::ids::{CoordId, JobId, MachineId, TaskId};
+use fm_records::ops::{Op, Phase};
+use fm_records::refusal::Refusal;
+use std::alloc::Global;
+
+const JOBS: u32 = 5;
+
+const MACHINES: u32 = 20;
+
+// The number of a record, by which ids come in no order.
+fn scattered(number: u32) -> u128 {
+    u128::from(number).wrapping_mul(0x9e37_79b9_7f4a_7c15_f39c_c060_5ced_c835)
+}
+
+fn job(number: u32) -> Op {
+    let wait = number.wrapping_mul(7919) % 3000;
+    Op::Job {
+        id: JobId::new(scattered(number % JOBS)),
+        version: u64::from(number),
+        writer: 1,
+        withdrawn: false,
+        wait,
+        preempt: wait / 2,
+    }
+}
+
+fn machine(number: u32) -> Op {
+    Op::Machine {
+        id: MachineId::new(scattered(number % MACHINES)),
+        incarnation: 1,
+        version: u64::from(number),
+        writer: 1,
+        up: true,
+        slots: 2,
+        nic: 1000,
+    }
+}
+
+fn report(number: u32) -> Op {
+    Op::Report {
+        id: MachineId::new(scattered(number % MACHINES)),
+        incarnation: 1,
+        number: u64::from(number),
+        used: number % 3 * 100,
+    }
+}
+
+fn task(number: u32) -> Op {
+    Op::Spec {
+        id: TaskId::new(scattered(number)),
+        version: 1,
+        writer: 1,
+        withdrawn: false,
+        job: JobId::new(scattered(number % JOBS)),
+        request: number % 7 * 50,
+    }
+}
+
+fn progress(number: u32) -> Op {
+    Op::Progress {
+        id: TaskId::new(scattered(number)),
+        attempt: 1,
+        phase: Phase::Running,
+    }
+}
+
+fn proposal(number: u32) -> Op {
+    Op::Propose {
+        id: TaskId::new(scattered(number)),
+        attempt: 0,
+        coordinator: 1,
+        machine: MachineId::new(scattered(number % MACHINES)),
+        incarnation: 1,
+    }
+}
+
+/// One operation of many, of which every eight are a job, a machine, a report, three tasks, a further attempt of one of
+/// these, and where that one or another was to run.
+pub(crate) fn op(number: u32) -> Op {
+    let group = number / 8;
+    match number % 8 {
+        0 => job(group),
+        1 => machine(group),
+        2 => report(group),
+        6 => progress(number.wrapping_sub(1)),
+        7 => proposal(number.wrapping_sub(2 + group % 2)),
+        _ => task(number),
+    }
+}
+
+/// What these operations come to, the second number's not among them.
+pub(crate) fn known(alloc: Global, from: u32, to: u32) -> Result<Knowledge, Refusal> {
+    let mut known = Knowledge::empty(alloc);
+    for number in from..to {
+        tell(alloc, &mut known, &op(number))?;
+    }
+    Ok(known)
+}
+
+/// Takes the operation in.
+pub(crate) fn tell(alloc: Global, known: &mut Knowledge, op: &Op) -> Result<(), Refusal> {
+    op.check()?;
+    let delta = Knowledge::delta_of(alloc, op)?;
+    join(known, &delta)
+}
+
+/// Takes the other in.
+pub(crate) fn join(known: &mut Knowledge, other: &Knowledge) -> Result<(), Refusal> {
+    known.join_into(other)?;
+    Ok(())
+}
+
+/// Another that is the same.
+pub(crate) fn copied(known: &Knowledge) -> Result<Knowledge, Refusal> {
+    Ok(known.copy()?)
+}
+
+/// Whether both are the same.
+pub(crate) fn are_same(one: &Knowledge, other: &Knowledge) -> bool {
+    one == other
+}
+
+/// A packet of what these operations come to.
+pub(crate) fn packet(alloc: Global, from: u32, to: u32) -> Result<Packet, Refusal> {
+    Ok(Packet {
+        sender: numbered(2)?,
+        number: 1,
+        value: known(alloc, from, to)?,
+    })
+}
+
+/// The number of a coordinator.
+pub(crate) fn numbered(number: u8) -> Result<CoordId, Refusal> {
+    match CoordId::new(number) {
+        Some(number) => Ok(number),
+        None => Err(Refusal::NoCoordinator),
+    }
+}
