@@ -8,7 +8,8 @@
  *   4  the most bytes that one of them asked for, refused ones too
  *   5  the bytes that are held
  *   6  the most bytes that were held at once
- * A block that is to have another size is an allocation. Only for one thread.
+ * A block that is to have another size is an allocation. Several threads are counted together: whose allocation is the n-th is then
+ * theirs to say, and the most bytes held are about so many. ARM and ASK are for one thread.
  *
  * A process can also say itself which of its next allocations is refused: by asking for ARM bytes and that number, and for ASK
  * bytes whether it was; both are refused themselves, ASK only where an allocation was refused since. Neither is counted. Where
@@ -26,11 +27,13 @@ extern void __libc_free(void *);
 extern size malloc_usable_size(void *);
 extern char *getenv(const char *);
 extern int open(const char *, int, ...);
+extern int *__errno_location(void);
 extern void *mmap(void *, size, int, int, int, long);
 
 #define ARM 0x7ee0000000000000ul
 #define MOST_ARMED 0xfffffffful
 #define ASK 1234567ul
+#define NO_MEMORY 12
 
 static number none[7];
 static number *numbers = none;
@@ -50,27 +53,30 @@ static void begin(void) {
 /* Whether this allocation is refused. */
 static int refused(size asked) {
     if (!begun) begin();
-    number place = ++numbers[2];
+    number place = __atomic_add_fetch(&numbers[2], 1, __ATOMIC_SEQ_CST);
     if (asked > numbers[4]) numbers[4] = asked;
     int now = numbers[0] && place >= numbers[0] && (!numbers[1] || place < numbers[0] + numbers[1]);
     if (armed && !--armed) {
         now = 1;
         since = 1;
     }
-    numbers[3] += now;
+    if (now) {
+        __atomic_add_fetch(&numbers[3], 1, __ATOMIC_SEQ_CST);
+        *__errno_location() = NO_MEMORY;
+    }
     return now;
 }
 
 static void *given(void *block) {
     if (block) {
-        numbers[5] += malloc_usable_size(block);
-        if (numbers[5] > numbers[6]) numbers[6] = numbers[5];
+        number held = __atomic_add_fetch(&numbers[5], malloc_usable_size(block), __ATOMIC_SEQ_CST);
+        if (held > numbers[6]) numbers[6] = held;
     }
     return block;
 }
 
 static void taken(void *block) {
-    if (block) numbers[5] -= malloc_usable_size(block);
+    if (block) __atomic_sub_fetch(&numbers[5], malloc_usable_size(block), __ATOMIC_SEQ_CST);
 }
 
 void *malloc(size asked) {
@@ -95,7 +101,7 @@ void *realloc(void *block, size asked) {
     size before = block ? malloc_usable_size(block) : 0;
     void *found = __libc_realloc(block, asked);
     if (found) {
-        numbers[5] -= before;
+        __atomic_sub_fetch(&numbers[5], before, __ATOMIC_SEQ_CST);
         given(found);
     }
     return found;
@@ -111,7 +117,7 @@ void *aligned_alloc(size alignment, size asked) {
 
 int posix_memalign(void **block, size alignment, size asked) {
     void *found = memalign(alignment, asked);
-    if (!found) return 12;
+    if (!found) return NO_MEMORY;
     *block = found;
     return 0;
 }

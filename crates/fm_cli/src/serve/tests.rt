@@ -269,7 +269,7 @@ a 5 3 0 1 0
 const PLACED: &str = "s 100\nf 3 4 1\nf 4 1 1\nf 5 3 1\n";
 
 // Runs: the words, the steps by name, and then the status, what is written, and the text for standard error.
-static RUNS: [(&str, &str, u8, &str, &str); 52] = [
+static RUNS: [(&str, &str, u8, &str, &str); 54] = [
     ("graph", "", 0, NOTHING, ""),
     ("graph", "J A T", 0, WAITING, ""),
     ("graph --at 1", "A T J", 0, WAITING, ""),
@@ -430,10 +430,24 @@ static RUNS: [(&str, &str, u8, &str, &str); 52] = [
     ),
     (
         "fleet",
+        "J A T",
+        0,
+        "calls 1 4\naudit ok\ngather 5\nsame\n",
+        "",
+    ),
+    (
+        "fleet --rounds 2",
+        "J NoSlots T",
+        3,
+        "",
+        "firmament: refusal 2 at step 2\n",
+    ),
+    (
+        "xyz",
         "",
         2,
         "",
-        "error: unrecognized subcommand 'fleet'\n\nUsage: firmament <COMMAND>\n\nFor more information, try '--help'.\n",
+        "error: unrecognized subcommand 'xyz'\n\nUsage: firmament <COMMAND>\n\nFor more information, try '--help'.\n",
     ),
     (
         "pack",
@@ -445,9 +459,17 @@ static RUNS: [(&str, &str, u8, &str, &str); 52] = [
 ];
 
 // Runs of several coordinators: the words, the coordinators, the steps by name, and then as above.
-static WORLDS: [(&str, &str, &str, u8, &str, &str); 38] = [
+static WORLDS: [(&str, &str, &str, u8, &str, &str); 39] = [
     ("agree", "1", "", 0, "same\n", ""),
     ("agree", "3,1", "", 0, "same\n", ""),
+    (
+        "fleet --rounds 1",
+        "1,2",
+        "J A T",
+        0,
+        "calls 1 7\ncalls 2 4\naudit ok\ngather 15\nsame\n",
+        "",
+    ),
     ("agree", "1,2", "J", 5, "differ 1 2\n", ""),
     (
         "agree",
