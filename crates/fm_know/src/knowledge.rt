@@ -134,7 +134,7 @@ impl Join for Knowledge {
         })
     }
 
-    /// Whether the other knows all of this. O(n log m).
+    /// Whether the other knows all of this. One walk along both, O(n + m).
     fn leq(&self, other: &Knowledge) -> bool {
         self.jobs.leq(&other.jobs)
             && self.tasks.leq(&other.tasks)
@@ -152,7 +152,7 @@ impl PartialEq for Knowledge {
 
     ghost laws = { table_equivalence };
 
-    /// Whether both know the same. O(n log n).
+    /// Whether both know the same. O(n + m).
     fn eq(&self, other: &Self) -> bool
         ensures value { result ≡ same_table self.now other.now }
         ensures exact { IsTrue result ↔ (self.now ≡ other.now) }

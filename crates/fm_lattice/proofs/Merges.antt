@@ -1,29 +1,25 @@
 -- Steps of a merge from the front, and what it is for one map to be below another.
-use Rattle.std.proofs.Common.{◌≡◌, ℕ, zero, suc, ◌<◌, List, [], ◌∷◌, ◌++◌, length, get_or, drop, Some, refl, sym, ◌∙◌, ap, subst, arith, append_assoc, append-nil}
+use Rattle.std.proofs.Common.{◌≡◌, ℕ, zero, suc, List, [], ◌∷◌, ◌++◌, drop, sym, ◌∙◌, ap, subst, append_assoc, append-nil}
 use Rattle.std.specs.Cmp.{IsTotalOrder}
-use Rattle.std.specs.Ordering.{is_eq}
-use Rattle.std.specs.Prelude.{cond}
 use Rattle.std.specs.declared.cmp.Ordering.{Ordering}
 use Rattle.std.specs.declared.cmp.Ordering.TheVariants.{Less, Equal, Greater}
 use Rattle.std.proofs.lemmas.Cmp.{tied_itself}
-use Rattle.std.proofs.lemmas.List.{get_or_default}
-use Rattle.fm_lattice.specs.Chains.{TellsApart, by_cases}
-use Rattle.fm_lattice.specs.Joins.{option_join}
-use Rattle.fm_lattice.specs.Maps.{lookup, IsRising, map_join}
-use Rattle.fm_lattice.specs.MapLaws.{same_map, lookup_join, rising_join, join_less, join_equal, join_greater, join_from_none}
-use Rattle.fm_lattice.proofs.Places.{lookup_at}
+use Rattle.fm_lattice.specs.Chains.{TellsApart}
+use Rattle.fm_lattice.specs.Maps.{IsRising, map_join}
+use Rattle.fm_lattice.specs.MapLaws.{join_less, join_equal, join_greater, join_from_none}
 
 -- the head of what is left moves to the end of what is done
 pub moved : {X : Type 0} (out now rest whole : List X) (head : X) → now ≡ head ∷ rest → out ++ now ≡ whole → (out ++ head ∷ []) ++ rest ≡ whole
 moved out now rest whole head e f = rw append_assoc (rw e at f)
 
-seam_at : {X : Type 0} (xs ys : List X) (x d : X) → get_or (xs ++ x ∷ ys) (length xs) d ≡ x
-seam_at [] ys x d = refl
-seam_at (z ∷ xs) ys x d = seam_at xs ys x d
+less_equal_apart : Less ≡ Equal → ⊥
+less_equal_apart e = cc
 
-seam_inside : {X : Type 0} (xs ys : List X) (x : X) → length xs < length (xs ++ x ∷ ys)
-seam_inside [] ys x = omega arith
-seam_inside (z ∷ xs) ys x = let rest = seam_inside xs ys x in omega arith
+pub some_none : {X : Type 0} (x : X) (xs : List X) → x ∷ xs ≡ [] → ⊥
+some_none x xs e = cc
+
+first_key : {K V : Type 0} (x y : K × V) (xs ys : List (K × V)) → x ∷ xs ≡ y ∷ ys → x.0 ≡ y.0
+first_key x y xs ys e = cc
 
 module _ {K V : Type 0} (cmp : K → K → Ordering) (total : IsTotalOrder cmp) (same : TellsApart cmp) (join : V → V → V) where
   pub rising_drop : (i : ℕ) (es : List (K × V)) → IsRising cmp es → IsRising cmp (drop i es)
@@ -56,37 +52,48 @@ module _ {K V : Type 0} (cmp : K → K → Ordering) (total : IsTotalOrder cmp) 
   pub ended_right : (a b out whole : List (K × V)) → b ≡ [] → out ++ map_join cmp join a b ≡ whole → (out ++ a) ++ b ≡ whole
   ended_right a b out whole e so_far = rw (append_assoc, e, append-nil) (rw e at so_far)
 
-  -- the pair adds nothing to the map
-  abbrev pub IsUnder : List (K × V) → K × V → Type 0
-  IsUnder b e = option_join join (Some e.1) (lookup cmp e.0 b) ≡ lookup cmp e.0 b
+  -- Whether a join is its right side, from the front.
+  inside_pair : (x y : K × V) (v : V) (xs ys : List (K × V)) → (x.0, v) ∷ xs ≡ y ∷ ys → (v ≡ y.1) × (xs ≡ ys)
+  inside_pair x y v xs ys e = (cc, cc)
 
-  under_by : (a b : List (K × V)) → ((k : ℕ) (d : K × V) → k < length a → IsUnder b (get_or a k d)) → (q : K) → option_join join (lookup cmp q a) (lookup cmp q b) ≡ lookup cmp q b
-  under_by [] b under q = refl
-  under_by (e ∷ es) b under q =
-      by_cases (cmp q e.0) (λ o. option_join join (cond (is_eq o) (Some e.1) (lookup cmp q es)) (lookup cmp q b) ≡ lookup cmp q b)
-      (λ _. under_by es b (λ k d h. under (suc k) d (omega arith)) q)
-      (λ t. let is : e.0 ≡ q = sym (same q e.0 t) in subst (λ z. option_join join (Some e.1) (lookup cmp z b) ≡ lookup cmp z b) is (under 0 e (omega arith)))
-      (λ _. under_by es b (λ k d h. under (suc k) d (omega arith)) q)
+  abbrev pub IsUnder : List (K × V) → List (K × V) → Type 0
+  IsUnder a b = map_join cmp join a b ≡ b
 
-  pub under_all : (a b : List (K × V)) → IsRising cmp a → IsRising cmp b → ((k : ℕ) (d : K × V) → k < length a → IsUnder b (get_or a k d)) → map_join cmp join a b ≡ b
-  under_all a b ra rb under = same_map cmp total same _ _ (rising_join cmp total same join a b ra) rb (λ q. lookup_join cmp total same join q a b ra rb ∙ under_by a b under q)
+  module _ (a b : List (K × V)) (x y : K × V) (rb : IsRising cmp b) (ea : a ≡ x ∷ drop 1 a) (eb : b ≡ y ∷ drop 1 b) where
+    behind_rises : IsRising cmp (y ∷ drop 1 b)
+    behind_rises = subst (IsRising cmp) eb rb
 
-  pub under_one : (a b : List (K × V)) (k : ℕ) (e : K × V) → IsRising cmp a → IsRising cmp b → k < length a → e ≡ get_or a k e → map_join cmp join a b ≡ b → IsUnder b e
-  under_one a b k e ra rb h is joined =
-      let key : (d : K × V) → cmp (get_or a k d).0 e.0 ≡ Equal = λ d. rw (get_or_default a k d e h, sym is) (tied_itself total e.0) in
-      let found : lookup cmp e.0 a ≡ Some (get_or a k e).1 = lookup_at cmp total same a e.0 k e ra (record { in_range = h; has_key = key }) in
-      let found2 : lookup cmp e.0 a ≡ Some e.1 = rw (sym is) at found in
-      ap (λ o. option_join join o (lookup cmp e.0 b)) (sym found2) ∙ sym (lookup_join cmp total same join e.0 a b ra rb) ∙ ap (lookup cmp e.0) joined
+    opened : IsUnder a b → IsUnder (x ∷ drop 1 a) (y ∷ drop 1 b)
+    opened e = subst (λ z. IsUnder z (y ∷ drop 1 b)) ea (subst (λ z. IsUnder a z) eb e)
 
-  -- the pairs in turn: those that were seen are under the map, and this is the next
-  pub under_next : (a b done rest : List (K × V)) (e : K × V) → IsRising cmp a → IsRising cmp b → done ++ e ∷ rest ≡ a → map_join cmp join a b ≡ b → IsUnder b e
-  under_next a b done rest e ra rb parts joined =
-      let seam : e ≡ get_or a (length done) e = sym (ap (λ z. get_or z (length done) e) (sym parts) ∙ seam_at done rest e e) in
-      let inside : length done < length a = subst (λ z. length done < length z) parts (seam_inside done rest e) in
-      under_one a b (length done) e ra rb inside seam joined
+    closed : IsUnder (x ∷ drop 1 a) (y ∷ drop 1 b) → IsUnder a b
+    closed e = subst (λ z. IsUnder z b) (sym ea) (subst (λ z. IsUnder (x ∷ drop 1 a) z) (sym eb) e)
 
-  pub under_more : (b done : List (K × V)) (e : K × V) → ((k : ℕ) (d : K × V) → k < length done → IsUnder b (get_or done k d)) → IsUnder b e → (k : ℕ) (d : K × V) → k < length (done ++ e ∷ []) → IsUnder b (get_or (done ++ e ∷ []) k d)
-  under_more b [] e seen now zero d lt = now
-  under_more b [] e seen now (suc k) d lt = absurd (omega arith)
-  under_more b (x ∷ done) e seen now zero d lt = seen 0 d (omega arith)
-  under_more b (x ∷ done) e seen now (suc k) d lt = under_more b done e (λ j f h. seen (suc j) f (omega arith)) now k d (omega arith)
+    pub under_less : cmp x.0 y.0 ≡ Less → IsUnder a b → ⊥
+    under_less e under =
+        let heads : x ∷ map_join cmp join (drop 1 a) (y ∷ drop 1 b) ≡ y ∷ drop 1 b = sym (join_less cmp total same join x y _ _ behind_rises e) ∙ opened under in
+        let key : x.0 ≡ y.0 = first_key x y _ _ heads in
+        less_equal_apart (sym e ∙ ap (cmp x.0) (sym key) ∙ tied_itself total x.0)
+
+    pub under_equal : cmp x.0 y.0 ≡ Equal → IsUnder a b → (join x.1 y.1 ≡ y.1) × IsUnder (drop 1 a) (drop 1 b)
+    under_equal e under = inside_pair x y (join x.1 y.1) _ _ (sym (join_equal cmp total same join x y _ _ behind_rises e) ∙ opened under)
+
+    pub under_both : cmp x.0 y.0 ≡ Equal → join x.1 y.1 ≡ y.1 → IsUnder (drop 1 a) (drop 1 b) → IsUnder a b
+    under_both e value rest =
+        let key : x.0 ≡ y.0 = same x.0 y.0 e in
+        let pair : (x.0, join x.1 y.1) ≡ y = λ i. (key i, value i) in
+        closed (join_equal cmp total same join x y _ _ behind_rises e ∙ (λ i. pair i ∷ rest i))
+
+    pub under_behind : cmp x.0 y.0 ≡ Greater → IsUnder a b → IsUnder a (drop 1 b)
+    under_behind e under =
+        let tails : map_join cmp join (x ∷ drop 1 a) (drop 1 b) ≡ drop 1 b = ap (drop 1) (sym (join_greater cmp total same join x y _ _ behind_rises e) ∙ opened under) in
+        subst (λ z. IsUnder z (drop 1 b)) (sym ea) tails
+
+    pub under_later : cmp x.0 y.0 ≡ Greater → IsUnder a (drop 1 b) → IsUnder a b
+    under_later e under = closed (join_greater cmp total same join x y _ _ behind_rises e ∙ ap (λ z. y ∷ z) (subst (λ z. IsUnder z (drop 1 b)) ea under))
+
+  pub under_none : (a b : List (K × V)) → IsRising cmp b → a ≡ [] → IsUnder a b
+  under_none a b rb e = rw e (join_from_none cmp total same join b rb)
+
+  pub none_under : (a b : List (K × V)) → b ≡ [] → IsUnder a b → a ≡ []
+  none_under a b e under = subst (λ z. map_join cmp join a z ≡ z) e under

@@ -7,7 +7,7 @@ ghost use Rattle.fm_lattice.specs.MapLaws.{map_laws};
 use crate::blocks::{make_room, value_at, write};
 use crate::chain::Chain;
 use crate::join::{Join, OutOfMemory, copied};
-use crate::merging::{counted, joined_at, merged};
+use crate::merging::{counted, is_below, joined_at, merged};
 pub use crate::pairs::Pairs;
 use crate::plan::{carry_out, plan_join};
 use std::alloc::Global;
@@ -140,20 +140,10 @@ impl<K: Chain, V: Join> Join for JoinMap<K, V> {
         Ok(JoinMap { blocks, len })
     }
 
-    /// Whether each key here is in the other, with a value that is above the one here. O(n log m).
+    /// Whether each key here is in the other, with a value that is above the one here. One walk along both, O(n + m).
     fn leq(&self, other: &JoinMap<K, V>) -> bool {
         other.known();
-        for (key, here) in self.iter() {
-            match other.get(key) {
-                Some(value) => {
-                    if !here.leq(value) {
-                        return false;
-                    }
-                }
-                None => return false,
-            }
-        }
-        true
+        is_below(&self.blocks, &other.blocks)
     }
 
     ghost laws = { map_laws K.cmp K.total K.same V.join V.is_value V.laws };

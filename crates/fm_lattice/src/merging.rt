@@ -1,6 +1,6 @@
 //! Joins of two maps kept in blocks: a merge aside, and changes in place.
 
-ghost use Rattle.std.specs.Prelude.{◌≡◌, ◌+◌, ◌≤◌, ◌<◌, ◌++◌, ◌∷◌, [], List, None, IfOk, OnOk, map, length, vec_len, vec_capacity};
+ghost use Rattle.std.specs.Prelude.{◌≡◌, ◌↔◌, IsTrue, ◌+◌, ◌≤◌, ◌<◌, ◌++◌, ◌∷◌, [], List, None, IfOk, OnOk, map, length, vec_len, vec_capacity};
 ghost use Rattle.fm_lattice.specs.Maps.{IsRising, lookup, put, map_join, replaced, joined_onto, joined_pair};
 ghost use Rattle.fm_lattice.specs.Blocks.{pairs_of, AreHeaded, HaveSpares};
 
@@ -46,6 +46,37 @@ pub(crate) fn merged<K: Chain, V: Join>(
     append_rest(&mut done, lefts)?;
     append_rest(&mut done, rights)?;
     Ok(done)
+}
+
+// Whether the join of both is the right one: each pair of the left has its key there, with a value above its own. O(n + m).
+pub(crate) fn is_below<K: Chain, V: Join>(
+    left: &[(K, Vec<(K, V)>)],
+    right: &[(K, Vec<(K, V)>)],
+) -> bool
+    requires left_headed { AreHeaded left.now }
+    requires right_headed { AreHeaded right.now }
+    requires right_rises { IsRising K.cmp (pairs_of right.now) }
+    ensures { IsTrue result ↔ map_join K.cmp V.join (pairs_of left.now) (pairs_of right.now) ≡ pairs_of right.now }
+{
+    let mut lefts = Pairs::of(left);
+    let mut rights = Pairs::of(right);
+    'both: while let (Some(here), Some(there)) = (lefts.first(), rights.first()) {
+        match here.0.cmp(&there.0) {
+            Ordering::Less => return false,
+            Ordering::Equal => {
+                if !here.1.leq(&there.1) {
+                    return false;
+                }
+                lefts.skip_first();
+                rights.skip_first();
+            }
+            Ordering::Greater => rights.skip_first(),
+        }
+    }
+    match lefts.first() {
+        Some(_) => false,
+        None => true,
+    }
 }
 
 // Adds a copy of each.
