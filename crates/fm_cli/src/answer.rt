@@ -12,6 +12,7 @@ ghost use Rattle.fm_cli.specs.Faults.{in_memory_of};
 
 use crate::fault::Fault;
 use crate::output::{agreement, graph, packet, solution, winners};
+use crate::progress::Progress;
 use crate::serve::Ending;
 use crate::unpack::unpack;
 use fm_dimacs::out::Over;
@@ -31,15 +32,20 @@ pub struct Answered {
 
 /// What the command answers to the text. Refused where the text, a step of its script or what is asked for is at fault, or
 /// memory is wanted.
-pub fn answer(alloc: Global, command: Command, text: &[u8]) -> Result<Answered, Fault>
+pub fn answer(
+    alloc: Global,
+    progress: &Progress,
+    command: Command,
+    text: &[u8],
+) -> Result<Answered, Fault>
     ensures ok { IfOk result (λ a. Wants command.entry text.now a.ending a.output.items) }
     ensures err { IfErr result (λ fault. IsRefused command.entry text.now fault) }
 {
     match command {
         Command::Unpack => unpacked(alloc, text),
-        Command::Pack { name } => packed(alloc, name, text),
-        Command::Agree => agreed(alloc, text),
-        Command::Ask { question, at } => asked_in(alloc, question, at, text),
+        Command::Pack { name } => packed(alloc, progress, name, text),
+        Command::Agree => agreed(alloc, progress, text),
+        Command::Ask { question, at } => asked_in(alloc, progress, question, at, text),
     }
 }
 
@@ -58,7 +64,7 @@ fn unpacked(alloc: Global, text: &[u8]) -> Result<Answered, Fault>
 }
 
 // The bytes of the packet of the name.
-fn packed(alloc: Global, name: &str, text: &[u8]) -> Result<Answered, Fault>
+fn packed(alloc: Global, progress: &Progress, name: &str, text: &[u8]) -> Result<Answered, Fault>
     ensures ok { IfOk result (λ a. Wants (command.Pack name.entry) text.now a.ending a.output.items) }
     ensures err { IfErr result (λ fault. IsRefused (command.Pack name.entry) text.now fault) }
 {
@@ -67,7 +73,7 @@ fn packed(alloc: Global, name: &str, text: &[u8]) -> Result<Answered, Fault>
         Err(fault) => return Err(fault),
     };
     let mut page = Over::new(Vec::new(alloc));
-    match packet(alloc, &script, name, &mut page) {
+    match packet(alloc, progress, &script, name, &mut page) {
         Ok(()) => Ok(Answered {
             ending: Ending::Done,
             output: page.into_inner(),
@@ -77,7 +83,7 @@ fn packed(alloc: Global, name: &str, text: &[u8]) -> Result<Answered, Fault>
 }
 
 // Whether all coordinators know the same.
-fn agreed(alloc: Global, text: &[u8]) -> Result<Answered, Fault>
+fn agreed(alloc: Global, progress: &Progress, text: &[u8]) -> Result<Answered, Fault>
     ensures ok { IfOk result (λ a. Wants command.Agree text.now a.ending a.output.items) }
     ensures err { IfErr result (λ fault. IsRefused command.Agree text.now fault) }
 {
@@ -86,7 +92,7 @@ fn agreed(alloc: Global, text: &[u8]) -> Result<Answered, Fault>
         Err(fault) => return Err(fault),
     };
     let mut page = Over::new(Vec::new(alloc));
-    match agreement(alloc, &script, &mut page) {
+    match agreement(alloc, progress, &script, &mut page) {
         Ok(true) => Ok(Answered {
             ending: Ending::Done,
             output: page.into_inner(),
@@ -102,6 +108,7 @@ fn agreed(alloc: Global, text: &[u8]) -> Result<Answered, Fault>
 // The answer to the question about the coordinator that is asked.
 fn asked_in(
     alloc: Global,
+    progress: &Progress,
     question: Question,
     at: Option<u8>,
     text: &[u8],
@@ -118,9 +125,9 @@ fn asked_in(
         Err(fault) => return Err(fault),
     };
     let output = match question {
-        Question::Graph => graphed(alloc, &script, number),
-        Question::Solve => solved(alloc, &script, number),
-        Question::Winners => won(alloc, &script, number),
+        Question::Graph => graphed(alloc, progress, &script, number),
+        Question::Solve => solved(alloc, progress, &script, number),
+        Question::Winners => won(alloc, progress, &script, number),
     };
     match output {
         Ok(output) => Ok(Answered {
@@ -132,39 +139,49 @@ fn asked_in(
 }
 
 // The network of what the coordinator took in.
-fn graphed(alloc: Global, script: &Script, at: CoordId) -> Result<Vec<u8>, Fault>
+fn graphed(
+    alloc: Global,
+    progress: &Progress,
+    script: &Script,
+    at: CoordId,
+) -> Result<Vec<u8>, Fault>
     requires { AreDistinct script.now.coordinators.items }
     ensures ok { IfOk result (λ output. AsksOf script.now at (λ text a. Wants (command.Ask asks.Graph a) text ending.Done output.items)) }
     ensures err { IfErr result (λ fault. AsksOf script.now at (λ text a. IsRefused (command.Ask asks.Graph a) text fault)) }
 {
     let mut page = Over::new(Vec::new(alloc));
-    match graph(alloc, script, at, &mut page) {
+    match graph(alloc, progress, script, at, &mut page) {
         Ok(()) => Ok(page.into_inner()),
         Err(fault) => Err(in_memory(fault)),
     }
 }
 
 // Who won, by what the coordinator took in.
-fn won(alloc: Global, script: &Script, at: CoordId) -> Result<Vec<u8>, Fault>
+fn won(alloc: Global, progress: &Progress, script: &Script, at: CoordId) -> Result<Vec<u8>, Fault>
     requires { AreDistinct script.now.coordinators.items }
     ensures ok { IfOk result (λ output. AsksOf script.now at (λ text a. Wants (command.Ask asks.Winners a) text ending.Done output.items)) }
     ensures err { IfErr result (λ fault. AsksOf script.now at (λ text a. IsRefused (command.Ask asks.Winners a) text fault)) }
 {
     let mut page = Over::new(Vec::new(alloc));
-    match winners(alloc, script, at, &mut page) {
+    match winners(alloc, progress, script, at, &mut page) {
         Ok(()) => Ok(page.into_inner()),
         Err(fault) => Err(in_memory(fault)),
     }
 }
 
 // A least flow of the network of what the coordinator took in.
-fn solved(alloc: Global, script: &Script, at: CoordId) -> Result<Vec<u8>, Fault>
+fn solved(
+    alloc: Global,
+    progress: &Progress,
+    script: &Script,
+    at: CoordId,
+) -> Result<Vec<u8>, Fault>
     requires { AreDistinct script.now.coordinators.items }
     ensures ok { IfOk result (λ output. AsksOf script.now at (λ text a. Wants (command.Ask asks.Solve a) text ending.Done output.items)) }
     ensures err { IfErr result (λ fault. AsksOf script.now at (λ text a. IsRefused (command.Ask asks.Solve a) text fault)) }
 {
     let mut page = Over::new(Vec::new(alloc));
-    match solution(alloc, script, at, &mut page) {
+    match solution(alloc, progress, script, at, &mut page) {
         Ok(()) => Ok(page.into_inner()),
         Err(fault) => Err(in_memory(fault)),
     }

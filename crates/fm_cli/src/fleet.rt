@@ -6,6 +6,7 @@ ghost use Rattle.fm_input.specs.Texts.{SpellsTells};
 ghost use Rattle.fm_cli.specs.Fleets.{IsUntold, IsCounted, IsNotCounted, IsFleetAnswer, ServesFleet};
 
 use crate::fault::Fault;
+use crate::progress::Progress;
 use crate::sending::send;
 use crate::serve::Ending;
 use fm_input::input::read_input;
@@ -22,6 +23,7 @@ use std::thread::Threads;
 pub fn run_fleet<T: Threads + Wait + Sync, R: Read, W: Write>(
     rt: &T,
     alloc: Global,
+    progress: &Progress,
     rounds: u32,
     reader: &mut R,
     writer: &mut W,
@@ -29,7 +31,7 @@ pub fn run_fleet<T: Threads + Wait + Sync, R: Read, W: Write>(
     ensures { IfSome (R.remaining reader.old) (λ text. ServesFleet rounds text result (W.contents writer.old) (W.contents writer.new)) }
 {
     match read_input(alloc, reader) {
-        Ok(text) => reply(rt, alloc, rounds, &text, writer),
+        Ok(text) => reply(rt, alloc, progress, rounds, &text, writer),
         Err(refusal) => Ending::Stopped(Fault::from(refusal)),
     }
 }
@@ -38,13 +40,14 @@ pub fn run_fleet<T: Threads + Wait + Sync, R: Read, W: Write>(
 fn reply<T: Threads + Wait + Sync, W: Write>(
     rt: &T,
     alloc: Global,
+    progress: &Progress,
     rounds: u32,
     text: &[u8],
     writer: &mut W,
 ) -> Ending
     ensures { IsFleetAnswer rounds text.now result (W.contents writer.old) (W.contents writer.new) }
 {
-    match lines(rt, alloc, rounds, text) {
+    match lines(rt, alloc, progress, rounds, text) {
         Ok(lines) => match send(writer, lines.as_bytes()) {
             Ok(()) => Ending::Done,
             Err(refusal) => Ending::Stopped(Fault::from(refusal)),
@@ -57,6 +60,7 @@ fn reply<T: Threads + Wait + Sync, W: Write>(
 fn lines<T: Threads + Wait + Sync>(
     rt: &T,
     alloc: Global,
+    progress: &Progress,
     rounds: u32,
     text: &[u8],
 ) -> Result<String, Fault>
@@ -67,7 +71,7 @@ fn lines<T: Threads + Wait + Sync>(
         Ok(script) => script,
         Err(fault) => return Err(fault),
     };
-    let counts = match muster(rt, alloc, &script, rounds) {
+    let counts = match muster(rt, alloc, &script, rounds, progress.rounds()) {
         Ok(counts) => counts,
         Err(stop) => {
             return Err(Fault {

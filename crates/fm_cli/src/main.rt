@@ -7,29 +7,38 @@ mod fault;
 mod fleet;
 mod output;
 mod pack;
+mod progress;
 mod refusals;
 mod run;
 mod sending;
 mod serve;
 mod unpack;
+mod watch;
 mod winners;
 
 use fault::Fault;
 use fm_records::refusal::Refusal;
+use progress::Progress;
 use serve::{Ending, serve};
 use std::alloc::Global;
+use std::io::IsTerminal;
 use std::process::ExitCode;
 use std::{env, io};
+use watch::serve_watched;
 
 fn main(rt: HostRuntime) -> ExitCode {
     let ending = match given_words(&rt) {
-        Ok(words) => serve(
-            &rt,
-            rt.alloc(),
-            words.as_slice(),
-            &mut rt.reader(),
-            &mut io::writer(&rt),
-        ),
+        Ok(words) => {
+            let alloc = rt.alloc();
+            let mut reader = rt.reader();
+            let mut writer = io::writer(&rt);
+            if rt.stderr().is_terminal() {
+                serve_watched(&rt, alloc, &words, &mut reader, &mut writer)
+            } else {
+                let progress = Progress::new();
+                serve(&rt, alloc, &progress, &words, &mut reader, &mut writer)
+            }
+        }
         Err(ending) => ending,
     };
     let status = ending.status();

@@ -13,6 +13,7 @@ ghost use Rattle.fm_cli.specs.Output.{After, Writes, Leaves, LeavesSolution, Lea
 use crate::agree::{difference, write_agreement};
 use crate::fault::Fault;
 use crate::pack::write_packet;
+use crate::progress::Progress;
 use crate::run::run;
 use crate::winners::write_winners;
 use fm_dimacs::out::Out;
@@ -30,12 +31,18 @@ use std::alloc::Global;
 
 /// Runs the script's steps, and writes the network of all that the coordinator took in. A step that is refused is named, and
 /// then nothing is written; a refusal after them all is want of memory or a writer's fault, and then a prefix is.
-pub fn graph<W: Out>(alloc: Global, script: &Script, at: CoordId, out: &mut W) -> Result<(), Fault>
+pub fn graph<W: Out>(
+    alloc: Global,
+    progress: &Progress,
+    script: &Script,
+    at: CoordId,
+    out: &mut W,
+) -> Result<(), Fault>
     requires { AreDistinct script.now.coordinators.items }
     ensures ok { OnOk result (After script.now.coordinators.items script.now.steps.items (λ w. IsDumpOf (with_number w.replicas at) (W.written out.old) (W.written out.new))) }
     ensures err { IfErr result (λ fault. Ends script.now.coordinators.items script.now.steps.items fault (W.written out.old) (W.written out.new) (λ refusal w. Leaves refused.NoCoordinator (with_number w.replicas at) graph_of refusal (W.written out.old) (W.written out.new) (W.has_failed out.old) (W.has_failed out.new))) }
 {
-    let mut world = run(alloc, script)?;
+    let mut world = run(alloc, progress, script)?;
     world.dump(at, out)?;
     Ok(())
 }
@@ -44,6 +51,7 @@ pub fn graph<W: Out>(alloc: Global, script: &Script, at: CoordId, out: &mut W) -
 /// Refused as `graph` is.
 pub fn winners<W: Out>(
     alloc: Global,
+    progress: &Progress,
     script: &Script,
     at: CoordId,
     out: &mut W,
@@ -52,7 +60,7 @@ pub fn winners<W: Out>(
     ensures ok { OnOk result (After script.now.coordinators.items script.now.steps.items (λ w. Writes (with_number w.replicas at) winners_of (W.written out.old) (W.written out.new))) }
     ensures err { IfErr result (λ fault. Ends script.now.coordinators.items script.now.steps.items fault (W.written out.old) (W.written out.new) (λ refusal w. Leaves refused.NoCoordinator (with_number w.replicas at) winners_of refusal (W.written out.old) (W.written out.new) (W.has_failed out.old) (W.has_failed out.new))) }
 {
-    let world = run(alloc, script)?;
+    let world = run(alloc, progress, script)?;
     put_winners(alloc, &world, at, out)?;
     Ok(())
 }
@@ -77,6 +85,7 @@ fn put_winners<W: Out>(
 /// Refused as `graph` is: before anything is written, or in the middle by the writer or for want of memory.
 pub fn solution<W: Out>(
     alloc: Global,
+    progress: &Progress,
     script: &Script,
     at: CoordId,
     out: &mut W,
@@ -85,7 +94,7 @@ pub fn solution<W: Out>(
     ensures ok { OnOk result (After script.now.coordinators.items script.now.steps.items (λ w. IsSolvedAt (with_number w.replicas at) (W.written out.old) (W.written out.new))) }
     ensures err { IfErr result (λ fault. Ends script.now.coordinators.items script.now.steps.items fault (W.written out.old) (W.written out.new) (λ refusal w. LeavesSolution (with_number w.replicas at) refusal (W.written out.old) (W.written out.new) (W.has_failed out.old) (W.has_failed out.new))) }
 {
-    let world = run(alloc, script)?;
+    let world = run(alloc, progress, script)?;
     put_solution(alloc, &world, at, out)?;
     Ok(())
 }
@@ -119,12 +128,17 @@ fn write_least<W: Out>(alloc: Global, knowledge: &Knowledge, out: &mut W) -> Res
 
 /// Runs the script's steps, writes `same` where all coordinators know the same, and else `differ A B`: the first listed and
 /// the first that knows something else; and answers whether they know the same. Refused as `graph` is.
-pub fn agreement<W: Out>(alloc: Global, script: &Script, out: &mut W) -> Result<bool, Fault>
+pub fn agreement<W: Out>(
+    alloc: Global,
+    progress: &Progress,
+    script: &Script,
+    out: &mut W,
+) -> Result<bool, Fault>
     requires { AreDistinct script.now.coordinators.items }
     ensures ok { IfOk result (λ same. After script.now.coordinators.items script.now.steps.items (λ w. (IsTrue same ↔ (difference w.replicas ≡ None)) × Appends (W.written out.old) (W.written out.new) (agreement_text (difference w.replicas)))) }
     ensures err { IfErr result (λ fault. Ends script.now.coordinators.items script.now.steps.items fault (W.written out.old) (W.written out.new) (λ refusal w. Leaves refused.NoCoordinator (Some w) (λ v. agreement_text (difference v.replicas)) refusal (W.written out.old) (W.written out.new) (W.has_failed out.old) (W.has_failed out.new))) }
 {
-    let world = run(alloc, script)?;
+    let world = run(alloc, progress, script)?;
     let found = difference(&world);
     write_agreement(alloc, found, out)?;
     Ok(found.is_none())
@@ -132,12 +146,18 @@ pub fn agreement<W: Out>(alloc: Global, script: &Script, out: &mut W) -> Result<
 
 /// Runs the script's steps, and writes the bytes of the packet that was cut under the name in hexadecimal digits, as a line.
 /// Refused as `graph` is, or by NoPacket where no packet has the name; then nothing is written.
-pub fn packet<W: Out>(alloc: Global, script: &Script, name: &str, out: &mut W) -> Result<(), Fault>
+pub fn packet<W: Out>(
+    alloc: Global,
+    progress: &Progress,
+    script: &Script,
+    name: &str,
+    out: &mut W,
+) -> Result<(), Fault>
     requires { AreDistinct script.now.coordinators.items }
     ensures ok { OnOk result (After script.now.coordinators.items script.now.steps.items (λ w. Writes (packet_named script.now.names name.now w) packet_line (W.written out.old) (W.written out.new))) }
     ensures err { IfErr result (λ fault. Ends script.now.coordinators.items script.now.steps.items fault (W.written out.old) (W.written out.new) (λ refusal w. Leaves refused.NoPacket (packet_named script.now.names name.now w) packet_line refusal (W.written out.old) (W.written out.new) (W.has_failed out.old) (W.has_failed out.new))) }
 {
-    let world = run(alloc, script)?;
+    let world = run(alloc, progress, script)?;
     put_packet(alloc, &world, script.names.place(name), out)?;
     Ok(())
 }

@@ -12,6 +12,7 @@ ghost use Rattle.fm_round.specs.Schedules.{IsPlanOf};
 ghost use Rattle.fm_cli.specs.Running.{opened, step_at, Takes, Acts, Come, Refuses, StopsIn, Stops, IsRun};
 
 use crate::fault::Fault;
+use crate::progress::Progress;
 use fm_coord::view::View;
 use fm_edit::keepers::Keeper;
 use fm_flow::flow::Flow;
@@ -32,14 +33,14 @@ use std::collections::BTreeMap;
 /// The world that the script's steps come to. A step that is refused is named: by NoCoordinator where its coordinator is not
 /// listed, by NoPacket where no packet of the name was cut, else as the coordinator's call, and a round also where memory is
 /// wanted for its plan. Else only memory is wanted. The caller owes that no two coordinators have one number.
-pub fn run(alloc: Global, script: &Script) -> Result<World<Keeper>, Fault>
+pub fn run(alloc: Global, progress: &Progress, script: &Script) -> Result<World<Keeper>, Fault>
     requires { AreDistinct script.now.coordinators.items }
     ensures ok { IfOk result (λ world. IsRun script.now.coordinators.items script.now.steps.items world) }
     ensures err { IfErr result (λ fault. Stops script.now.coordinators.items script.now.steps.items fault) }
 {
     let mut world = open(alloc, &script.coordinators)?;
     let mut flows = BTreeMap::new(alloc);
-    take_all(alloc, &mut world, &mut flows, &script.steps)?;
+    take_all(alloc, progress, &mut world, &mut flows, &script.steps)?;
     Ok(world)
 }
 
@@ -56,9 +57,10 @@ fn open(alloc: Global, listed: &[CoordId]) -> Result<World<Keeper>, OutOfMemory>
     Ok(World::new(coordinators))
 }
 
-// Takes the steps in order, up to the first that is refused.
+// Takes the steps in order, up to the first that is refused, and counts them.
 fn take_all(
     alloc: Global,
+    progress: &Progress,
     world: &mut World<Keeper>,
     flows: &mut BTreeMap<u8, Flow>,
     steps: &[Step],
@@ -73,6 +75,7 @@ fn take_all(
                 step: Some(place + 1),
             });
         }
+        progress.count_step();
     }
     Ok(())
 }

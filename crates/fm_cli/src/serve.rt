@@ -7,6 +7,7 @@ ghost use Rattle.fm_cli.specs.Answers.{IsAnswer, Serves, Obeys, IsServed, IsPrin
 use crate::answer::answer;
 use crate::fault::Fault;
 use crate::fleet::run_fleet;
+use crate::progress::Progress;
 use crate::refusals::REFUSALS;
 use crate::sending::send;
 use fm_input::input::read_input;
@@ -61,10 +62,11 @@ impl fmt::Display for Ending {
 /// Runs the program on the words of its command line, its own name first: reads a script, and writes what is asked for.
 /// Faults are found in this order: the words, the script, the coordinator that is asked, the steps in turn, the output.
 /// What is written is made whole first: so either all of it goes out, or nothing, or what the writer took before it failed.
-/// Only a fleet starts threads, and waits.
+/// Only a fleet starts threads, and waits. How far the run is, is counted as it goes.
 pub fn serve<T: Threads + Wait + Sync, R: Read, W: Write>(
     rt: &T,
     alloc: Global,
+    progress: &Progress,
     words: &[String],
     reader: &mut R,
     writer: &mut W,
@@ -72,7 +74,7 @@ pub fn serve<T: Threads + Wait + Sync, R: Read, W: Write>(
     ensures { IfSome (R.remaining reader.old) (λ text. IsServed text result (W.contents writer.old) (W.contents writer.new)) }
 {
     match read_words(alloc, words) {
-        Ok(words) => obey(rt, alloc, words, reader, writer),
+        Ok(words) => obey(rt, alloc, progress, words, reader, writer),
         Err(refusal) => Ending::Stopped(Fault::from(refusal)),
     }
 }
@@ -83,6 +85,7 @@ pub fn serve<T: Threads + Wait + Sync, R: Read, W: Write>(
 pub fn obey<T: Threads + Wait + Sync, R: Read, W: Write>(
     rt: &T,
     alloc: Global,
+    progress: &Progress,
     words: Words,
     reader: &mut R,
     writer: &mut W,
@@ -90,8 +93,8 @@ pub fn obey<T: Threads + Wait + Sync, R: Read, W: Write>(
     ensures { IfSome (R.remaining reader.old) (λ text. Obeys words.entry text result (W.contents writer.old) (W.contents writer.new)) }
 {
     match words {
-        Words::Run(command) => run(alloc, command, reader, writer),
-        Words::Fleet { rounds } => run_fleet(rt, alloc, rounds, reader, writer),
+        Words::Run(command) => run(alloc, progress, command, reader, writer),
+        Words::Fleet { rounds } => run_fleet(rt, alloc, progress, rounds, reader, writer),
         Words::Help(text) => print(text.as_str(), writer),
         Words::Refusals => print(REFUSALS, writer),
         Words::Wrong(text) => Ending::Wrong(text),
@@ -109,20 +112,32 @@ fn print<W: Write>(text: &str, writer: &mut W) -> Ending
 }
 
 // Runs the command on what the reader gives.
-fn run<R: Read, W: Write>(alloc: Global, command: Command, reader: &mut R, writer: &mut W) -> Ending
+fn run<R: Read, W: Write>(
+    alloc: Global,
+    progress: &Progress,
+    command: Command,
+    reader: &mut R,
+    writer: &mut W,
+) -> Ending
     ensures { IfSome (R.remaining reader.old) (λ text. Serves command.entry text result (W.contents writer.old) (W.contents writer.new)) }
 {
     match read_input(alloc, reader) {
-        Ok(text) => reply(alloc, command, &text, writer),
+        Ok(text) => reply(alloc, progress, command, &text, writer),
         Err(refusal) => Ending::Stopped(Fault::from(refusal)),
     }
 }
 
 // Writes what the command answers to the text.
-fn reply<W: Write>(alloc: Global, command: Command, text: &[u8], writer: &mut W) -> Ending
+fn reply<W: Write>(
+    alloc: Global,
+    progress: &Progress,
+    command: Command,
+    text: &[u8],
+    writer: &mut W,
+) -> Ending
     ensures { IsAnswer command.entry text.now result (W.contents writer.old) (W.contents writer.new) }
 {
-    match answer(alloc, command, text) {
+    match answer(alloc, progress, command, text) {
         Ok(answered) => match send(writer, &answered.output) {
             Ok(()) => answered.ending,
             Err(refusal) => Ending::Stopped(Fault::from(refusal)),

@@ -3,6 +3,7 @@
 
 mod agreeing;
 pub mod coordinators;
+mod counter;
 pub mod counts;
 mod members;
 pub mod muster;

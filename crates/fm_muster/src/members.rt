@@ -5,9 +5,9 @@ ghost use Rattle.fm_input.specs.Script.{is_listed};
 ghost use Rattle.fm_muster.specs.Musters.{tell_fault, first_refused, told_at, members_of};
 
 use crate::coordinators::coordinator_at;
+use crate::counter::RoundCounter;
 use crate::muster::Stop;
 use fm_edit::keepers::Keeper;
-use fm_fleet::round::NoGate;
 use fm_gossip::member::Member;
 use fm_input::script::Tell;
 use fm_lattice::join::OutOfMemory;
@@ -15,6 +15,7 @@ use fm_records::ids::CoordId;
 use fm_records::ops::Op;
 use fm_records::refusal::Refusal;
 use std::alloc::Global;
+use std::sync::atomic::AtomicU64;
 
 /// The first tell that is refused, if one is: no coordinator of its number is listed, or else a field of its operation is out
 /// of range.
@@ -54,19 +55,20 @@ fn is_listed(listed: &[CoordId], number: u8) -> bool
     }
 }
 
-/// A member for each coordinator that is listed, with what it is to be told.
-pub(crate) fn members(
+/// A member for each coordinator that is listed, with what it is to be told. Their rounds are counted.
+pub(crate) fn members<'a>(
     alloc: Global,
     listed: &[CoordId],
     tells: &[Tell],
-) -> Result<Vec<Member<Keeper, NoGate>>, OutOfMemory>
+    rounds_done: &'a AtomicU64,
+) -> Result<Vec<Member<Keeper, RoundCounter<'a>>>, OutOfMemory>
     ensures { IfOk result (λ members. members.items ≡ members_of listed.now tells.now) }
 {
     let mut members = Vec::with_capacity(alloc, listed.len())?;
     for number in listed {
         let coordinator = coordinator_at(alloc, *number, members.len())?;
         let told = told_at(alloc, *number, tells)?;
-        members.push(Member::new(coordinator, told, NoGate))?;
+        members.push(Member::new(coordinator, told, RoundCounter::new(rounds_done)))?;
     }
     Ok(members)
 }

@@ -18,6 +18,7 @@ use fm_lattice::join::OutOfMemory;
 use fm_records::refusal::Refusal;
 use std::alloc::Global;
 use std::sync::Wait;
+use std::sync::atomic::AtomicU64;
 use std::thread::Threads;
 
 /// Why a fleet was not counted: a refusal, and the step of the script at fault, counted from 1, where one is.
@@ -29,7 +30,8 @@ pub struct Stop {
 
 /// Runs the coordinators that the script lists at the same time: each is told its tells and runs so many rounds, in two threads,
 /// and merges what the others knew once they were told theirs. Then they are closed and audited, tell one another all that they
-/// know, and their histories are gathered into one list of steps. The caller owes that no two of them have one number.
+/// know, and their histories are gathered into one list of steps. The caller owes that no two of them have one number. Each
+/// round that is done adds 1 to the counter, for whoever looks on.
 /// The first tell whose coordinator is not listed, or a field of which is out of range, is named, and then no thread was
 /// started: NoCoordinator, BadOp. Else no step is named: OutOfMemory, also where a thread cannot be made; HistoryFull;
 /// InboxFull; NotMine where an audit fails; Stuck.
@@ -38,6 +40,7 @@ pub fn muster<R: Threads + Wait + Sync>(
     alloc: Global,
     script: &Tells,
     rounds: u32,
+    rounds_done: &AtomicU64,
 ) -> Result<Counts, Stop>
     requires { AreDistinct script.now.coordinators.items }
     ensures ok { IfOk result (λ counts. IsMustered script.now.coordinators.items script.now.tells.items rounds counts) }
@@ -46,7 +49,7 @@ pub fn muster<R: Threads + Wait + Sync>(
     if let Some(stop) = first_refused(&script.coordinators, &script.tells) {
         return Err(stop);
     }
-    match run(rt, alloc, script, rounds) {
+    match run(rt, alloc, script, rounds, rounds_done) {
         Ok(counts) => Ok(counts),
         Err(refusal) => Err(Stop {
             refusal,
@@ -61,11 +64,12 @@ fn run<R: Threads + Wait + Sync>(
     alloc: Global,
     script: &Tells,
     rounds: u32,
+    rounds_done: &AtomicU64,
 ) -> Result<Counts, Refusal>
     requires { AreDistinct script.now.coordinators.items }
     ensures { IfOk result (λ counts. IsMustered script.now.coordinators.items script.now.tells.items rounds counts) }
 {
-    let members = members(alloc, &script.coordinators, &script.tells)?;
+    let members = members(alloc, &script.coordinators, &script.tells, rounds_done)?;
     let closed = run_fleet(rt, alloc, members, rounds)?;
     let calls = calls_of(alloc, &closed)?;
     law_exchanged(&closed);

@@ -1,4 +1,5 @@
 use super::serve;
+use crate::progress::Progress;
 use std::alloc::{AllocError, Global};
 use std::io::{self, Read, Write};
 use std::sync::Wait;
@@ -856,7 +857,14 @@ fn run_on<T: Threads + Wait + Sync>(
     let words = words_of(alloc, words)?;
     let mut reader = input.as_bytes();
     let mut writer = Vec::new(alloc);
-    let ending = serve(rt, alloc, words.as_slice(), &mut reader, &mut writer);
+    let ending = serve(
+        rt,
+        alloc,
+        &Progress::new(),
+        words.as_slice(),
+        &mut reader,
+        &mut writer,
+    );
     let text = ending.to_string(alloc)?;
     Ok((ending.status(), writer, text))
 }
@@ -1036,7 +1044,15 @@ fn said_of<T: Threads + Wait + Sync, R: Read>(
 ) -> Result<String, AllocError> {
     let words = words_of(alloc, "graph")?;
     let mut writer = Vec::new(alloc);
-    serve(rt, alloc, words.as_slice(), reader, &mut writer).to_string(alloc)
+    serve(
+        rt,
+        alloc,
+        &Progress::new(),
+        words.as_slice(),
+        reader,
+        &mut writer,
+    )
+    .to_string(alloc)
 }
 
 #[test]
@@ -1082,6 +1098,14 @@ fn a_writer_that_fails_has_a_prefix(rt: HostRuntime) -> Result<(), Fail> {
             "firmament: refusal 2 at step 4\n",
         ),
         ("--help", "", 0, 1, 6, "firmament: refusal 17\n"),
+        (
+            "pack p1",
+            "J CutFirst",
+            0,
+            100,
+            6,
+            "firmament: refusal 17\n",
+        ),
     ] {
         let words = words_of(alloc, words)?;
         let script = script_of(alloc, steps)?;
@@ -1093,6 +1117,7 @@ fn a_writer_that_fails_has_a_prefix(rt: HostRuntime) -> Result<(), Fail> {
         let ending = serve(
             &rt,
             alloc,
+            &Progress::new(),
             words.as_slice(),
             &mut script.as_bytes(),
             &mut writer,
@@ -1123,6 +1148,7 @@ fn a_solution_that_fails_has_a_prefix(rt: HostRuntime) -> Result<(), Fail> {
         let ending = serve(
             &rt,
             alloc,
+            &Progress::new(),
             words.as_slice(),
             &mut script.as_bytes(),
             &mut writer,

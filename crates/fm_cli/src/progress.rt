@@ -1,0 +1,46 @@
+//! How far a run is, for whoever looks on.
+
+use std::fmt;
+use std::sync::atomic::{AtomicBool, AtomicU64, Ordering};
+
+/// How many steps of a script are done, or how many rounds of a fleet. Whoever does them counts, and any thread may read: no
+/// contract says more of it, and nothing that is answered turns on it. Its `Display` says what was counted.
+#[derive(Drop)]
+pub struct Progress {
+    done: AtomicU64,
+    is_fleet: AtomicBool,
+}
+
+impl Progress {
+    /// Nothing is done.
+    pub fn new() -> Progress {
+        Progress {
+            done: AtomicU64::new(0),
+            is_fleet: AtomicBool::new(false),
+        }
+    }
+
+    /// One step more is done.
+    pub fn count_step(&self) {
+        self.done.fetch_add(1, Ordering::SeqCst);
+    }
+
+    /// Where a fleet's rounds are counted. From now on they are what is counted.
+    pub fn rounds(&self) -> &AtomicU64 {
+        self.is_fleet.store(true, Ordering::SeqCst);
+        &self.done
+    }
+
+    /// Whether rounds of a fleet are counted.
+    pub fn is_fleet(&self) -> bool {
+        self.is_fleet.load(Ordering::SeqCst)
+    }
+}
+
+impl fmt::Display for Progress {
+    fn fmt<W: fmt::Write>(&self, f: &mut fmt::Formatter<W>) -> fmt::Result {
+        let done = self.done.load(Ordering::SeqCst);
+        let things = if self.is_fleet() { "rounds" } else { "steps" };
+        write!(f, "{done} {things} done")
+    }
+}
