@@ -270,7 +270,7 @@ a 5 3 0 1 0
 const PLACED: &str = "s 100\nf 3 4 1\nf 4 1 1\nf 5 3 1\n";
 
 // Runs: the words, the steps by name, and then the status, what is written, and the text for standard error.
-static RUNS: [(&str, &str, u8, &str, &str); 54] = [
+static RUNS: [(&str, &str, u8, &str, &str); 65] = [
     ("graph", "", 0, NOTHING, ""),
     ("graph", "J A T", 0, WAITING, ""),
     ("graph --at 1", "A T J", 0, WAITING, ""),
@@ -442,6 +442,83 @@ static RUNS: [(&str, &str, u8, &str, &str); 54] = [
         3,
         "",
         "firmament: refusal 2 at step 2\n",
+    ),
+    (
+        "winners",
+        "J Strange",
+        3,
+        "",
+        "firmament: refusal 16 at step 2\n",
+    ),
+    (
+        "solve",
+        "J Strange",
+        3,
+        "",
+        "firmament: refusal 16 at step 2\n",
+    ),
+    (
+        "agree",
+        "J Strange",
+        3,
+        "",
+        "firmament: refusal 16 at step 2\n",
+    ),
+    (
+        "pack p1",
+        "J Strange",
+        3,
+        "",
+        "firmament: refusal 16 at step 2\n",
+    ),
+    (
+        "fleet",
+        "J Strange",
+        3,
+        "",
+        "firmament: refusal 16 at step 2\n",
+    ),
+    (
+        "fleet",
+        "J CutFirst",
+        3,
+        "",
+        "firmament: refusal 16 at step 2\n",
+    ),
+    (
+        "winners",
+        "J Elsewhere",
+        3,
+        "",
+        "firmament: refusal 8 at step 2\n",
+    ),
+    (
+        "solve",
+        "J CutSecond",
+        3,
+        "",
+        "firmament: refusal 4 at step 2\n",
+    ),
+    (
+        "agree",
+        "J NoSlots",
+        3,
+        "",
+        "firmament: refusal 2 at step 2\n",
+    ),
+    (
+        "pack p1",
+        "J CutFirst Elsewhere",
+        3,
+        "",
+        "firmament: refusal 8 at step 3\n",
+    ),
+    (
+        "fleet",
+        "J Elsewhere NoSlots",
+        3,
+        "",
+        "firmament: refusal 8 at step 2\n",
     ),
     (
         "xyz",
@@ -1098,6 +1175,9 @@ fn a_writer_that_fails_has_a_prefix(rt: HostRuntime) -> Result<(), Fail> {
             "firmament: refusal 2 at step 4\n",
         ),
         ("--help", "", 0, 1, 6, "firmament: refusal 17\n"),
+        ("winners", "J A T OnA", 0, 100, 6, "firmament: refusal 17\n"),
+        ("solve", "J A T", 0, 100, 6, "firmament: refusal 17\n"),
+        ("agree", "J", 0, 100, 6, "firmament: refusal 17\n"),
         (
             "pack p1",
             "J CutFirst",
@@ -1106,6 +1186,8 @@ fn a_writer_that_fails_has_a_prefix(rt: HostRuntime) -> Result<(), Fail> {
             6,
             "firmament: refusal 17\n",
         ),
+        ("fleet", "J A T", 0, 100, 6, "firmament: refusal 17\n"),
+        ("help refusals", "", 0, 100, 6, "firmament: refusal 17\n"),
     ] {
         let words = words_of(alloc, words)?;
         let script = script_of(alloc, steps)?;
