@@ -1,9 +1,10 @@
 -- A node's ID is its place among nodes that rise.
-use Rattle.std.proofs.Common.{◌≡◌, ℕ, zero, suc, ◌+◌, ◌<◌, ◌≤◌, List, [], ◌∷◌, length, get_or, Ok, Err, refl, sym, ◌∙◌, subst, inl, inr, arith}
+use Rattle.std.proofs.Common.{◌≡◌, ℕ, zero, suc, ◌+◌, ◌<◌, ◌≤◌, List, [], ◌∷◌, length, get_or, Ok, Err, refl, sym, ◌∙◌, ap, subst, inl, inr, arith}
 use Rattle.std.specs.List.Sorted.{IsSearchInRange, IsBinarySearchResult, IsNonDecreasingBy}
 use Rattle.std.specs.Ordering.{ordering_index}
 use Rattle.std.specs.declared.cmp.Ordering.{Ordering}
 use Rattle.std.specs.declared.cmp.Ordering.TheVariants.{Less, Equal, Greater}
+use Rattle.std.proofs.lemmas.List.{get_or_default}
 use Rattle.std.proofs.lemmas.Cmp.{alike_right}
 use Rattle.std.proofs.lemmas.Bool.{cases_order}
 use Rattle.fm_lattice.specs.Chains.{by_cases}
@@ -57,6 +58,10 @@ id_absent id (m ∷ ns) n none =
     let rest = id_absent (id + 1) ns n (λ j d h e. none (suc j) d (omega arith) e) in
     by_cases (node_cmp m n) (λ o. node_cmp m n ≡ o → id_from id (m ∷ ns) n ≡ 0)
     (λ _ e. rw e rest) (λ _ e. absurd (none 0 m (omega arith) e)) (λ _ e. rw e rest) refl
+
+-- the place of the node gives its ID
+pub at_place : (ns : List Node) (n m : Node) (i : ℕ) → Rises node_cmp ns → i < length ns → m ≡ get_or ns i m → node_cmp m n ≡ Equal → i + 1 ≡ id_from 1 ns n
+at_place ns n m i r h is e = sym (id_at 1 ns n i r h (λ d. ap (λ x. node_cmp x n) (get_or_default ns i d m h ∙ sym is) ∙ e) ∙ omega arith)
 
 -- what a search finds gives the ID
 pub found : (ns : List Node) (n : Node) (i : ℕ) → Rises node_cmp ns → IsSearchInRange (Ok i) (length ns) → IsBinarySearchResult (λ m. node_cmp m n) ns (Ok i) → i + 1 ≡ id_from 1 ns n

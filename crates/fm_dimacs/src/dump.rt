@@ -1,6 +1,6 @@
 //! The text of a network.
 
-ghost use Rattle.std.specs.Prelude.{◌≡◌, ◌++◌, ◌∷◌, [], OnOk, OnErr, IfErr, IsOkUnless, count_by, length, string_bytes};
+ghost use Rattle.std.specs.Prelude.{◌≡◌, ◌++◌, ◌∷◌, [], OnOk, OnErr, IfErr, IfSome, IsOkUnless, count_by, length, string_bytes};
 ghost use Rattle.std.specs.List.{flat_map};
 ghost use Rattle.std.specs.Io.KnownBytes.{Appends};
 ghost use Rattle.fm_records.specs.TableLaws.{Rises};
@@ -12,9 +12,10 @@ ghost use Rattle.fm_dimacs.specs.Text.{node_line, problem_line, is_task, demand_
 use crate::out::Out;
 use crate::pieces::put_all;
 use fm_net::network::Network;
-use fm_net::node::Node;
+use fm_net::node::{Node, order};
 use fm_records::refusal::Refusal;
 use std::alloc::Global;
+use std::cmp::Ordering;
 
 /// Writes the network's text. After a refusal a prefix of it is written: refused by the writer, which then has failed, in
 /// this call unless it had before; or refused memory. O(arcs log nodes).
@@ -190,16 +191,29 @@ fn put_arcs<W: Out>(
     requires { Rises node_cmp nodes.now }
     ensures { IsSent result (W.written out.old) (W.written out.new) (W.has_failed out.old) (W.has_failed out.new) (flat_map (arc_line nodes.now) network.now.arcs) }
 {
+    let mut last = Ends {
+        source: 1,
+        target: 1,
+    };
     for arc in network.arcs() {
-        put_arc(nodes, arc, line, out)?;
+        put_arc(nodes, arc, &mut last, line, out)?;
     }
     Ok(())
 }
 
-// Writes an arc, given as (from, to, capacity, cost).
+// The IDs of an arc's ends.
+#[derive(Clone, Copy, Drop)]
+struct Ends {
+    source: usize,
+    target: usize,
+}
+
+// Writes an arc, given as (from, to, capacity, cost), and keeps the IDs of its ends, since those of the next arc are mostly
+// the same or next ones.
 fn put_arc<W: Out>(
     nodes: &[Node],
     arc: (Node, Node, u64, u32),
+    last: &mut Ends,
     line: &mut String,
     out: &mut W,
 ) -> Result<(), Refusal>
@@ -207,11 +221,37 @@ fn put_arc<W: Out>(
     ensures { IsSent result (W.written out.old) (W.written out.new) (W.has_failed out.old) (W.has_failed out.new) (arc_line nodes.now (arc_entry arc)) }
 {
     let (from, to, capacity, cost) = arc;
-    let source = id_of(nodes, &from);
-    let target = id_of(nodes, &to);
+    let source = id_near(nodes, &from, last.source);
+    let target = id_near(nodes, &to, last.target);
+    *last = Ends { source, target };
     line.clear();
     write!(line, "a {source} {target} 0 {capacity} {cost}\n")?;
     put_all(out, line.as_bytes())
+}
+
+// The node's ID, which is found at once where it is the ID or the next one. O(log n) else.
+fn id_near(nodes: &[Node], node: &Node, id: usize) -> usize
+    requires { Rises node_cmp nodes.now }
+    ensures { result ≡ id_in nodes.now node.now }
+{
+    if let Some(same) = id_at(nodes, node, id.saturating_sub(1)) {
+        return same;
+    }
+    if let Some(next) = id_at(nodes, node, id) {
+        return next;
+    }
+    id_of(nodes, node)
+}
+
+// The node's ID, where it stands at the place.
+fn id_at(nodes: &[Node], node: &Node, place: usize) -> Option<usize>
+    requires { Rises node_cmp nodes.now }
+    ensures { IfSome result (λ id. id ≡ id_in nodes.now node.now) }
+{
+    match nodes.get(place) {
+        Some(there) if matches!(order(there, node), Ordering::Equal) => Some(place + 1),
+        _ => None,
+    }
 }
 
 /// The node's ID: its place, counted from 1. O(log n).
