@@ -1,6 +1,7 @@
 -- The steps by which pairs are touched, put together.
 use Rattle.std.proofs.Common.{◌≡◌, ◌∙◌, ℕ, Bool, true, false, cond, List, [], ◌∷◌, Option, Some, None, refl, sym, ap}
-use Rattle.std.specs.Prelude.{◌&&◌, ◌||◌, ◌==◌, not, filter, map, is_some, unwrap_or}
+use Rattle.std.specs.Prelude.{◌&&◌, ◌||◌, ◌==◌, not, filter, map, is_some, unwrap_or, IsTrue}
+use Rattle.std.specs.List.{list_any}
 use Rattle.std.specs.Ordering.{nat_cmp, is_eq, is_le}
 use Rattle.std.specs.Cmp.{Equal-is, nat_cmp_total}
 use Rattle.std.specs.declared.ops.Bound.TheVariants.{Included, Excluded}
@@ -64,8 +65,20 @@ some_there (Some v) h = refl
 waits_among : (x : Index) (q : ℕ) → not (sum_in x (Request q) == 0) ≡ true → is_among node_cmp (waiting_in x) (Request q) ≡ true
 waits_among x q h = among_kept q x.sums.entries (some_there (get node_cmp x.sums (Request q)) h)
 
+-- a machine among nodes is one of the machines among them
+machine_among : (m : ℕ) (ns : List Node) → is_among node_cmp ns (Machine m) ≡ true → list_any is_machine ns ≡ true
+machine_among m [] h = absurd (let no : ⊥ = cc in no)
+machine_among m (n ∷ ns) h =
+    let rest = machine_among m ns in
+    elim (is_eq (node_cmp (Machine m) n)) as (λ b. is_eq (node_cmp (Machine m) n) ≡ b → (b || is_among node_cmp ns (Machine m)) ≡ true → (is_machine n || list_any is_machine ns) ≡ true) [
+      | true ↦ λ t _.
+          let is : Machine m ≡ n = node_exact (Machine m) n ((Equal-is (node_cmp (Machine m) n)).0 t) in
+          ap (λ x. is_machine x || list_any is_machine ns) (sym is)
+      | false ↦ λ _ g. or_right (is_machine n) (list_any is_machine ns) (rest g)
+    ] refl h
+
 module _ (s : Sight) (index : Index) (net : Net) (x0 x1 x2 x3 x4 : Touched) (n1 n2 n3 n4 rs ws : List Node) where
-  pub completes : n1 ≡ x0.nodes.keys → n2 ≡ x0.nodes.keys → n3 ≡ x0.nodes.keys → n4 ≡ x0.nodes.keys → rs ≡ filter is_request x0.nodes.keys → ws ≡ waiting_in index
+  pub completes : n1 ≡ x0.nodes.keys → n2 ≡ x0.nodes.keys → n3 ≡ x0.nodes.keys → n4 ≡ x0.nodes.keys → rs ≡ filter is_request x0.nodes.keys → (IsTrue (list_any is_machine x0.nodes.keys) → ws ≡ waiting_in index)
       → Grows x0 x1 → Grows x1 x2 → Grows x2 x3 → Grows x3 x4
       → x1.nodes ≡ x0.nodes → x2.nodes ≡ x1.nodes → x3.nodes ≡ x2.nodes → x4.nodes ≡ x3.nodes
       → ((n : Node) → is_among node_cmp n1 n ≡ true → leads_to_sink n ≡ true → has_pair x1 n Sink ≡ true)
@@ -81,6 +94,6 @@ module _ (s : Sight) (index : Index) (net : Net) (x0 x1 x2 x3 x4 : Touched) (n1 
         sinks = λ n h l. g4.pairs n Sink (g3.pairs n Sink (g2.pairs n Sink (sinks n (among n1 e1 n h) l)));
         touched_places = λ q m hq hm. g4.pairs (Request q) (Machine m) (g3.pairs (Request q) (Machine m) (places (Machine m) (among n2 e2 (Machine m) hm) refl (Request q)
             (ap (λ ks. is_among node_cmp ks (Request q)) r_is ∙ has_kept node_cmp node_total node_exact is_request (Request q) x0.nodes.keys ∙ hq)));
-        waiting_places = λ q m w hm. g4.pairs (Request q) (Machine m) (waits (Machine m) (among n3 e3 (Machine m) hm) refl (Request q) (ap (λ ks. is_among node_cmp ks (Request q)) w_is ∙ waits_among index q w));
+        waiting_places = λ q m w hm. g4.pairs (Request q) (Machine m) (waits (Machine m) (among n3 e3 (Machine m) hm) refl (Request q) (ap (λ ks. is_among node_cmp ks (Request q)) (w_is (machine_among m x0.nodes.keys hm)) ∙ waits_among index q w));
         turned_places = λ q m hq apart there. turns (Request q) (among n4 e4 (Request q) hq) refl apart m there;
       }

@@ -1,6 +1,7 @@
 //! The pairs that touched nodes bring with them.
 
-ghost use Rattle.std.specs.Prelude.{◌≡◌, ℕ, true, false, filter, is_some, IfOk, OnOk};
+ghost use Rattle.std.specs.Prelude.{◌≡◌, ℕ, true, false, filter, is_some, IsTrue, IfOk, OnOk};
+ghost use Rattle.std.specs.List.{list_any};
 ghost use Rattle.std.specs.Ordering.{nat_cmp};
 ghost use Rattle.std.specs.BTreeMap.{get};
 ghost use Rattle.fm_net.specs.declared.node.Node.{Node as NodeName};
@@ -37,7 +38,7 @@ pub(crate) fn touch_pairs(
 {
     let nodes = nodes_of(alloc, touched)?;
     let requests = requests_of(alloc, nodes.as_slice())?;
-    let waiting = waiting(alloc, index)?;
+    let waiting = waiting(alloc, index, nodes.as_slice())?;
     touch_sinks(touched, nodes.as_slice())?;
     touch_machines(touched, nodes.as_slice(), requests.as_slice())?;
     touch_machines(touched, nodes.as_slice(), waiting.as_slice())?;
@@ -71,8 +72,32 @@ fn is_request(node: &Node) -> bool
     matches!(node, Node::Request(_))
 }
 
+// The requests at which tasks wait, if a machine is among the nodes: they are wanted for machines alone.
+fn waiting(alloc: Global, index: &Index, nodes: &[Node]) -> Result<Vec<Node>, OutOfMemory>
+    ensures { IfOk result (λ ns. IsTrue (list_any is_machine nodes.now) → ns.items ≡ waiting_in index.now) }
+{
+    if has_machine(nodes) {
+        all_waiting(alloc, index)
+    } else {
+        Ok(Vec::new(alloc))
+    }
+}
+
+// Whether a machine is among the nodes.
+fn has_machine(nodes: &[Node]) -> bool
+    ensures { result ≡ list_any is_machine nodes.now }
+{
+    nodes.iter().any(|node| is_machine(node))
+}
+
+fn is_machine(node: &Node) -> bool
+    ensures { result ≡ is_machine node.now }
+{
+    matches!(node, Node::Machine(_))
+}
+
 // The requests at which tasks wait. O(log n) for each.
-fn waiting(alloc: Global, index: &Index) -> Result<Vec<Node>, OutOfMemory>
+fn all_waiting(alloc: Global, index: &Index) -> Result<Vec<Node>, OutOfMemory>
     ensures { IfOk result (λ ns. ns.items ≡ waiting_in index.now) }
 {
     let first = Node::Request(0);

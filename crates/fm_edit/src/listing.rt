@@ -1,11 +1,12 @@
 //! The edits of what was touched, in order.
 
-ghost use Rattle.std.specs.Prelude.{◌≡◌, ◌++◌, ◌∷◌, [], Option, option_to_list, IfOk, OnOk};
+ghost use Rattle.std.specs.Prelude.{◌≡◌, ◌++◌, ◌∷◌, [], not, Option, option_to_list, option_map, IfOk, OnOk};
 ghost use Rattle.std.specs.List.{filter_map};
 ghost use Rattle.std.specs.Fn.{FnReturnsAt};
 ghost use Rattle.fm_net.specs.declared.edit.Edit.{Edit as EditValue};
-ghost use Rattle.fm_records.specs.Options.{passes};
-ghost use Rattle.fm_net.specs.Edits.{same_value};
+ghost use Rattle.fm_records.specs.Options.{passes, when};
+ghost use Rattle.fm_net.specs.Edits.{same_value, has_arc};
+ghost use Rattle.fm_net.specs.Touched.{put_at};
 ghost use Rattle.fm_edit.specs.Sight.{seen_in};
 ghost use Rattle.fm_edit.specs.Index.{sum_in};
 ghost use Rattle.fm_edit.specs.Shown.{node_shown, arc_shown};
@@ -34,19 +35,69 @@ pub(crate) fn list(
     ensures { IfOk result (λ es. es.items ≡ edits_of network.now (node_shown (seen_in seen.now) (sum_in index.now)) (arc_shown (seen_in seen.now) (sum_in index.now)) touched.now.nodes.keys touched.now.pairs.keys) }
 {
     let mut edits = Vec::new(alloc);
-    add_each(&mut edits, &touched.pairs, |pair| {
-        drop_arc(network, seen, index, pair)
-    })?;
+    let mut coming = Vec::new(alloc);
+    add_arcs(
+        &mut edits,
+        &mut coming,
+        network,
+        seen,
+        index,
+        &touched.pairs,
+    )?;
     add_each(&mut edits, &touched.nodes, |node| {
         drop_node(network, seen, index, node)
     })?;
     add_each(&mut edits, &touched.nodes, |node| {
         put_node(network, seen, index, node)
     })?;
-    add_each(&mut edits, &touched.pairs, |pair| {
-        put_arc(network, seen, index, pair)
-    })?;
+    edits.append(&mut coming)?;
     Ok(edits)
+}
+
+// Adds the edits of the pairs' arcs, to one list where they go, and to the other where they come or differ: one walk, since
+// to work out what is to stand between two nodes is dear.
+fn add_arcs(
+    going: &mut Vec<Edit>,
+    coming: &mut Vec<Edit>,
+    network: &Network,
+    seen: &Seen,
+    index: &Index,
+    pairs: &BTreeSet<(Node, Node)>,
+) -> Result<(), OutOfMemory>
+    ensures going { OnOk result (going.new.items ≡ going.old.items ++ arcs_that_go network.now (node_shown (seen_in seen.now) (sum_in index.now)) (arc_shown (seen_in seen.now) (sum_in index.now)) pairs.now.keys) }
+    ensures coming { OnOk result (coming.new.items ≡ coming.old.items ++ arcs_that_come network.now (node_shown (seen_in seen.now) (sum_in index.now)) (arc_shown (seen_in seen.now) (sum_in index.now)) pairs.now.keys) }
+{
+    for pair in pairs.iter() {
+        add_arc(going, coming, network, seen, index, pair)?;
+    }
+    Ok(())
+}
+
+// Adds the edit of the pair's arc, if it has one.
+fn add_arc(
+    going: &mut Vec<Edit>,
+    coming: &mut Vec<Edit>,
+    network: &Network,
+    seen: &Seen,
+    index: &Index,
+    pair: &(Node, Node),
+) -> Result<(), OutOfMemory>
+    ensures going { OnOk result (going.new.items ≡ going.old.items ++ arcs_that_go network.now (node_shown (seen_in seen.now) (sum_in index.now)) (arc_shown (seen_in seen.now) (sum_in index.now)) (pair.now ∷ [])) }
+    ensures coming { OnOk result (coming.new.items ≡ coming.old.items ++ arcs_that_come network.now (node_shown (seen_in seen.now) (sum_in index.now)) (arc_shown (seen_in seen.now) (sum_in index.now)) (pair.now ∷ [])) }
+{
+    match arc(seen, index, &pair.0, &pair.1) {
+        None => {
+            if let Some(edit) = drop_arc(network, seen, index, pair) {
+                going.push(edit)?;
+            }
+        }
+        Some(wanted) => {
+            if let Some(edit) = put_arc(network, pair, wanted) {
+                coming.push(edit)?;
+            }
+        }
+    }
+    Ok(())
 }
 
 // Adds the edit of each item that has one.
@@ -96,11 +147,11 @@ fn put_node(network: &Network, seen: &Seen, index: &Index, node: &Node) -> Optio
     None
 }
 
-// The edit that puts the pair's arc, where it comes or differs.
-fn put_arc(network: &Network, seen: &Seen, index: &Index, pair: &(Node, Node)) -> Option<Edit>
-    ensures { option_to_list result ≡ arcs_that_come network.now (node_shown (seen_in seen.now) (sum_in index.now)) (arc_shown (seen_in seen.now) (sum_in index.now)) (pair.now ∷ []) }
+// The edit that puts the pair's arc with the capacity and cost that are wanted, where it comes or differs.
+fn put_arc(network: &Network, pair: &(Node, Node), wanted: (u64, u32)) -> Option<Edit>
+    ensures { result ≡ option_map (put_at pair.now) (when (not (has_arc network.now (pair.now, wanted))) wanted) }
 {
-    let (capacity, cost) = arc(seen, index, &pair.0, &pair.1)?;
+    let (capacity, cost) = wanted;
     if is_same(network.arc(pair.0, pair.1), capacity, cost) {
         return None;
     }
