@@ -16,6 +16,7 @@ use crate::pack::write_packet;
 use crate::progress::Progress;
 use crate::run::run;
 use crate::winners::write_winners;
+use fm_coord::coordinator::Coordinator;
 use fm_dimacs::out::Out;
 use fm_dimacs::solution::write_solution;
 use fm_edit::keepers::Keeper;
@@ -23,7 +24,9 @@ use fm_flow::solve::solve;
 use fm_input::script::Script;
 use fm_know::knowledge::Knowledge;
 use fm_know::laws::law_can_be;
+use fm_net::network::Network;
 use fm_policy::build::build;
+use fm_policy::keeper::NetKeeper;
 use fm_records::ids::CoordId;
 use fm_records::refusal::Refusal;
 use fm_world::world::World;
@@ -111,19 +114,43 @@ fn put_solution<W: Out>(
 {
     match world.coordinator(at) {
         None => Err(Refusal::NoCoordinator),
-        Some(coordinator) => write_least(alloc, coordinator.knowledge(), out),
+        Some(coordinator) => write_least(alloc, coordinator, out),
     }
 }
 
-// Writes a least flow of the network of what is known.
-fn write_least<W: Out>(alloc: Global, knowledge: &Knowledge, out: &mut W) -> Result<(), Refusal>
+// Writes a least flow of the network of what the coordinator knows. A fresh keeper has that network already.
+fn write_least<W: Out>(
+    alloc: Global,
+    coordinator: &Coordinator<Keeper>,
+    out: &mut W,
+) -> Result<(), Refusal>
+    ensures ok { OnOk result (IsSolved (net_of coordinator.now.state.knowledge) (W.written out.old) (W.written out.new)) }
+    ensures err { IfErr result (λ refusal. LeavesUnsolved refusal (W.written out.old) (W.written out.new) (W.has_failed out.old) (W.has_failed out.new) (net_of coordinator.now.state.knowledge)) }
+{
+    let knowledge = coordinator.knowledge();
+    if coordinator.is_fresh() {
+        coordinator.known();
+        let network = coordinator.keeper().network();
+        return write_solved(alloc, knowledge, network, out);
+    }
+    let network = build(alloc, knowledge)?;
+    write_solved(alloc, knowledge, &network, out)
+}
+
+// Writes a least flow of the network, which is that of what is known.
+fn write_solved<W: Out>(
+    alloc: Global,
+    knowledge: &Knowledge,
+    network: &Network,
+    out: &mut W,
+) -> Result<(), Refusal>
+    requires { network.now ≡ net_of knowledge.now }
     ensures ok { OnOk result (IsSolved (net_of knowledge.now) (W.written out.old) (W.written out.new)) }
     ensures err { IfErr result (λ refusal. LeavesUnsolved refusal (W.written out.old) (W.written out.new) (W.has_failed out.old) (W.has_failed out.new) (net_of knowledge.now)) }
 {
     law_can_be(knowledge);
-    let network = build(alloc, knowledge)?;
-    let (flow, _) = solve(alloc, &network)?;
-    write_solution(alloc, &network, &flow, out)
+    let (flow, _) = solve(alloc, network)?;
+    write_solution(alloc, network, &flow, out)
 }
 
 /// Runs the script's steps, writes `same` where all coordinators know the same, and else `differ A B`: the first listed and
