@@ -30,6 +30,15 @@ def unique(n):
     return str(uuid.UUID(int=n))
 
 
+def prefer(chance, machines):
+    """What a spec says of some of the machines that it prefers, or nothing."""
+    if chance.random() < 0.6:
+        return {}
+    machines = sorted(set(machines), key=lambda machine: uuid.UUID(machine).int)
+    liked = sorted(chance.sample(machines, chance.randint(0, min(len(machines), 4))), key=machines.index)
+    return {"prefer": [{"machine": machine, "credit": chance.choice((0, 10, 100, 400, 900, 10 ** 9))} for machine in liked]}
+
+
 def operation(chance):
     """Of few jobs, machines and tasks, so that operations meet."""
     job, machine, task = unique(chance.randint(1, 3)), unique(chance.randint(11, 14)), unique(chance.randint(21, 26))
@@ -38,7 +47,8 @@ def operation(chance):
     return chance.choice((
         {"job": {"id": job, **register, "withdrawn": gone, "wait": chance.randint(0, 900), "preempt": chance.randint(0, 900)}},
         {"spec": {"id": task, **register, "withdrawn": gone, "job": job, "request": chance.choice((0, 100, 300, 700))}},
-        {"spec": {"id": task, **register, "withdrawn": gone, "job": job, "request": chance.choice((0, 100, 300, 700))}},
+        {"spec": {"id": task, **register, "withdrawn": gone, "job": job, "request": chance.choice((0, 100, 300, 700)),
+                  **prefer(chance, [unique(n) for n in range(11, 15)])}},
         {"progress": {"id": task, "attempt": chance.choice((0, 0, 1, 2)), "phase": chance.choice(PHASES)}},
         {"machine": {"id": machine, "incarnation": chance.choice((1, 1, 2)), **register, "up": not gone,
                      "slots": chance.randint(1, 3), "nic": chance.randint(0, 1000)}},
@@ -136,7 +146,7 @@ class Drawing:
                  for host in hosts]
         told += [{"report": {"id": host, "incarnation": 1, "number": 1, "used": draw(0, 400)}} for host in hosts[::2]]
         told += [{"spec": {"id": task, **register, "withdrawn": False, "job": self.chance.choice(jobs),
-                           "request": 100 * draw(0, 4)}} for task in tasks]
+                           "request": 100 * draw(0, 4), **prefer(self.chance, hosts)}} for task in tasks]
         self.chance.shuffle(told)
         for op in told:
             self.add(self.chance.choice(self.numbers), "tell", op)
@@ -154,7 +164,8 @@ class Drawing:
             self.add(at, "tell", {"report": {"id": unique(host), "incarnation": 1, "number": 1, "used": draw(0, 400)}})
         for task in tasks:
             self.add(at, "tell", {"spec": {"id": unique(task), **register, "withdrawn": False,
-                                           "job": unique(self.chance.choice(jobs)), "request": 100 * draw(0, 3)}})
+                                           "job": unique(self.chance.choice(jobs)), "request": 100 * draw(0, 3),
+                                           **prefer(self.chance, [unique(host) for host in hosts])}})
             if draw(1, 3) == 1:
                 self.add(at, "tell", {"propose": {"id": unique(task), "attempt": 0, "coordinator": at,
                                                   "machine": unique(self.chance.choice(hosts)), "incarnation": 1}})
@@ -187,10 +198,11 @@ class Lives:
                         "wait": self.chance.randint(0, 900), "preempt": self.chance.randint(0, 900)}}
 
     def spec(self):
-        """Some tasks are withdrawn and come back, and some go to another job or get another request."""
+        """Some tasks are withdrawn and come back, and some go to another job, get another request, or prefer other machines."""
         task = self.chance.choice(self.tasks)
         return {"spec": {"id": unique(task), **self.register(task), "withdrawn": self.chance.random() < 0.2,
-                         "job": unique(self.chance.choice(self.jobs)), "request": self.chance.choice((0, 100, 300, 700))}}
+                         "job": unique(self.chance.choice(self.jobs)), "request": self.chance.choice((0, 100, 300, 700)),
+                         **prefer(self.chance, [unique(machine) for machine in self.machines])}}
 
     def progress(self):
         """A task gets on, or gets a later attempt, also after it was done."""
@@ -326,7 +338,7 @@ def corners(seed):
     for _ in range(chance.randint(1, 9)):
         task = far()
         told.append({"spec": {"id": task, "version": 1, "writer": 1, "withdrawn": False, "job": chance.choice(jobs),
-                              "request": chance.choice((0, 0, 1, 50, 100, 1_000_000))}})
+                              "request": chance.choice((0, 0, 1, 50, 100, 1_000_000)), **prefer(chance, machines)}})
         if machines and chance.random() < 0.4:
             told.append({"propose": {"id": task, "attempt": 0, "coordinator": 1, "machine": chance.choice(machines),
                                      "incarnation": 1}})

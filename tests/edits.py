@@ -87,7 +87,7 @@ def script(groups):
 
 
 def operations(group):
-    return {(kind, frozenset(fields.items())) for op in group for kind, fields in op.items()}
+    return {reference.operation(kind, fields) for op in group for kind, fields in op.items()}
 
 
 def is_followed(program, groups):

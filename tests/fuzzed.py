@@ -67,7 +67,8 @@ class Draw:
         return self.one_of((
             {"job": {"id": job, **register, "withdrawn": gone, "wait": self.number(0, 10 ** 9), "preempt": self.number(0, 10 ** 9)}},
             {"spec": {"id": task, **register, "withdrawn": gone, "job": job, "request": self.number(0, 10 ** 6)}},
-            {"spec": {"id": task, **register, "withdrawn": gone, "job": job, "request": self.chance.randint(0, 500)}},
+            {"spec": {"id": task, **register, "withdrawn": gone, "job": job, "request": self.chance.randint(0, 500),
+                      "prefer": self.prefer()}},
             {"progress": {"id": task, "attempt": attempt, "phase": self.one_of(PHASES)}},
             {"machine": {"id": machine, "incarnation": incarnation, **register, "up": not gone, "slots": self.number(1, 1000),
                          "nic": self.number(0, 10 ** 6)}},
@@ -75,6 +76,11 @@ class Draw:
             {"report": {"id": machine, "incarnation": incarnation, "number": self.whole(64), "used": self.number(0, 10 ** 9)}},
             {"propose": {"id": task, "attempt": attempt, "coordinator": self.number(1, 64), "machine": machine,
                          "incarnation": incarnation}}))
+
+    def prefer(self):
+        """Machines that are preferred, mostly rising and four at most."""
+        listed = [{"machine": self.id(2), "credit": self.number(0, 10 ** 9)} for _ in range(self.one_of((0, 1, 1, 2, 3, 4, 5)))]
+        return sorted(listed, key=lambda entry: str(entry["machine"])) if self.odds() < 0.8 else listed
 
     def cluster(self):
         """Operations by which tasks are live and machines open, of the ids that others have too."""
@@ -85,7 +91,8 @@ class Draw:
                                "nic": self.chance.randint(0, 1500)}}
         for task in range(49, 49 + self.one_of((1, 2, 3, 6))):
             task = str(uuid.UUID(int=task))
-            yield {"spec": {"id": task, **register, "withdrawn": False, "job": job, "request": 100 * self.chance.randint(0, 5)}}
+            yield {"spec": {"id": task, **register, "withdrawn": False, "job": job, "request": 100 * self.chance.randint(0, 5),
+                            "prefer": [{"machine": machine, "credit": self.number(0, 900)} for machine in machines if self.odds() < 0.3]}}
             if self.odds() < 0.3:
                 yield {"propose": {"id": task, "attempt": 0, "coordinator": 1, "machine": self.one_of(machines), "incarnation": 1}}
 
@@ -243,11 +250,12 @@ class Draw:
         """A packet's bytes."""
         told = set()
         for _ in range(self.one_of((0, 1, 2, 5, 12))):
-            (kind, fields), = self.operation().items()
-            fields = {field: strict.canonical(value, strict.FIELDS[kind][field]) for field, value in fields.items()}
-            if not reference.out_of_range(fields):
-                told.add((kind, frozenset(fields.items())))
-        return bytes.fromhex(reference.packed(reference.Packet(self.number(1, 64) % 65 or 1, self.whole(64), told))[1])
+            read = strict.read_told(self.operation())
+            op = read and reference.operation(*next(iter(read.items())))
+            if op and not reference.out_of_range(dict(op[1])):
+                told.add(op)
+        packet = reference.Packet(self.number(1, 64) % 65 or 1, self.whole(64), told)
+        return bytes.fromhex(reference.packed(packet, self.one_of((b"FDG1", b"FDG2", b"FDG2")))[1])
 
     def packet_case(self):
         packet = self.packet()
@@ -273,9 +281,9 @@ class Draw:
         if draw < 0.55:
             return packet[:place]
         if draw < 0.65:
-            return packet[:place] + packet[place + self.one_of((1, 8, 18, 22, 25, 34, 45, 52)):]
+            return packet[:place] + packet[place + self.one_of((1, 8, 18, 20, 22, 25, 34, 45, 52, 53)):]
         if draw < 0.75:
-            size = self.one_of((1, 8, 12, 18, 22, 34, 45, 52))
+            size = self.one_of((1, 8, 12, 18, 20, 22, 34, 45, 52, 53))
             return packet[:place] + packet[max(0, place - size):place] + packet[place:]
         if draw < 0.85:
             other = self.packet()
@@ -284,7 +292,7 @@ class Draw:
             at = self.one_of((13, 21, len(packet) - 8, len(packet) - 16, len(packet) - 24))
             count = self.one_of((0, 1, 2, 3, 255, 2 ** 32, 2 ** 60, 2 ** 63, 2 ** 64 - 1)).to_bytes(8, "big")
             return packet[:max(0, at)] + count + packet[max(0, at) + 8:]
-        return packet + self.one_of((b"\x00", b"FDG1", packet))
+        return packet + self.one_of((b"\x00", b"FDG2", packet))
 
 
 def walk(tree):

@@ -20,8 +20,10 @@ def machine(of=0xA, slots=2, **more):
     return op("machine", of, **{"incarnation": 1, "version": 1, "writer": 1, "up": True, "slots": slots, "nic": 1000, **more})
 
 
-def spec(of=0x11, request=100):
-    return op("spec", of, version=1, writer=1, withdrawn=False, job=drawn.unique(0x1), request=request)
+def spec(of=0x11, request=100, version=1, prefer=()):
+    """Of the task, which prefers machines (number, credit)."""
+    return op("spec", of, version=version, writer=1, withdrawn=False, job=drawn.unique(0x1), request=request,
+              prefer=[{"machine": drawn.unique(on), "credit": credit} for on, credit in prefer])
 
 
 def report(used, number=1, incarnation=1):
@@ -41,6 +43,10 @@ ROWS = {
     "a request of 0": [job(), machine(), spec(request=0), report(40), report(1001, number=2)],
     "a full machine": [job(preempt=80), machine(slots=1), spec(), propose(), spec(0x12, request=0), report(0)],
     "a task that is held": [job(), machine(), spec(), spec(0x12, request=50), propose()],
+    "a machine that is preferred": [job(), machine(), spec(prefer=[(0xA, 30)]), report(500), report(950, number=2)],
+    "a machine that is preferred before it is known": [spec(prefer=[(0xA, 200), (0xB, 1)]), job(), machine(0xB), machine(), report(10)],
+    "a task that is held where it prefers to be": [job(), machine(), spec(prefer=[(0xA, 30)]), spec(0x12, prefer=[(0xA, 30)]), propose()],
+    "other machines preferred": [job(), machine(), machine(0xB), spec(prefer=[(0xA, 30)]), spec(version=2, prefer=[(0xB, 9)]), report(50)],
 }
 
 

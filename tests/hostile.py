@@ -33,7 +33,7 @@ RANGES = {"writer": (1, 64), "coordinator": (1, 64), "wait": (0, 10 ** 9), "pree
 TYPES = {"version": 64, "incarnation": 64, "number": 64, "attempt": 32, "wait": 32, "preempt": 32, "request": 32, "slots": 32,
          "nic": 32, "used": 32, "writer": 8, "coordinator": 8}
 # job 1 at version 2 of writer 1, wait 600, preempt 800, as packet 3 of coordinator 1
-PACKET = bytes.fromhex("46444731 01 0000000000000003 0000000000000001 00000000000000000000000000000001 0000000000000002 01 00"
+PACKET = bytes.fromhex("46444732 01 0000000000000003 0000000000000001 00000000000000000000000000000001 0000000000000002 01 00"
                        "00000258 00000320 0000000000000000 0000000000000000 0000000000000000")
 DONE, BROKEN = (0, b"same\n", b""), (3, b"", b"firmament: refusal 16\n")
 BROKEN_STEP = (3, b"", b"firmament: refusal 16 at step 1\n")
@@ -122,11 +122,30 @@ def texts(program):
             ("steps twice", b'{"coordinators":[1],"steps":[7],"steps":[]}', DONE),
             ("coordinators twice", b'{"coordinators":[],"coordinators":[1],"steps":[]}', DONE),
             ("at twice", b'{"coordinators":[1],"steps":[{"at":9,"at":1,"trim":0}]}', DONE),
+            ("four machines preferred", prefers([entry(n) for n in range(1, 5)]), DONE),
+            ("five machines preferred", prefers([entry(n) for n in range(1, 6)]), BROKEN_STEP),
+            ("machines preferred by no list", prefers({}), BROKEN_STEP), ("by null", prefers(None), BROKEN_STEP),
+            ("an entry that is none", prefers([7]), BROKEN_STEP), ("no credit", prefers([{"machine": MACHINE}]), BROKEN_STEP),
+            ("no machine", prefers([{"credit": 1}]), BROKEN_STEP), ("a machine that is none", prefers([entry(1, machine="x")]), BROKEN_STEP),
+            ("more of an entry", prefers([entry(1, more=1)]), DONE), ("a machine twice", prefers([entry(1), entry(1)]), BEYOND),
+            ("machines that fall", prefers([entry(2), entry(1)]), BEYOND), ("a credit below", prefers([entry(1, credit=-1)]), BROKEN_STEP),
+            ("the greatest credit", prefers([entry(1, credit=10 ** 9)]), DONE),
+            ("a credit beyond its range", prefers([entry(1, credit=10 ** 9 + 1)]), BEYOND),
+            ("a credit beyond its type", prefers([entry(1, credit=2 ** 32)]), BROKEN_STEP),
+            ("a credit that is no number", prefers([entry(1, credit="1")]), BROKEN_STEP),
             ("two operations", script({"at": 1, "tell": {**tell("job")["tell"], **tell("spec")["tell"]}}), BROKEN_STEP),
             ("as many bytes as may be", EMPTY.ljust(LIMIT), DONE), ("one byte more", EMPTY.ljust(LIMIT + 1), BROKEN),
             ("64 coordinators", script(*everywhere, numbers=range(64, 0, -1)), (5, b"differ 64 63\n", b"")),
             ("65 coordinators", script(numbers=range(1, 66)), BROKEN), ("a coordinator twice", script(numbers=(1, 2, 1)), BROKEN)):
         yield name, seen(program, ["agree"], text) == answer
+
+
+def entry(n, **other):
+    return {"machine": "%032x" % n, "credit": 1, **other}
+
+
+def prefers(listed):
+    return script(tell("spec", prefer=listed))
 
 
 def packets():
@@ -141,7 +160,7 @@ def packets():
 def broken_packets(program, every_byte=False):
     """Packets that end early at each byte, and with each byte changed, to some others or to every other."""
     chance = random.Random(3)
-    for text, length in zip(packets(), (79, 219, 213)):
+    for text, length in zip(packets(), (79, 220, 214)):
         spelled = bytes.fromhex(seen(program, ["pack", "news"], text)[1].decode())
         yield "a packet of %d bytes" % length, len(spelled) == length and (length != 79 or spelled == PACKET)
         early = {seen(program, ["unpack"], spelled[:end].hex().encode()) for end in range(length)}

@@ -57,8 +57,24 @@ def raw(n):
 
 
 def out_of_range(fields):
-    """Whether a field is beyond its limits."""
-    return any(not LIMITS[field][0] <= fields[field] <= LIMITS[field][1] for field in LIMITS.keys() & fields.keys())
+    """Whether a field is beyond its limits, or machines that are preferred do not rise."""
+    prefer = preferred(fields) if "prefer" in fields else ()
+    machines = [machine for machine, _ in prefer]
+    return (any(not LIMITS[field][0] <= fields[field] <= LIMITS[field][1] for field in LIMITS.keys() & fields.keys())
+            or machines != sorted(set(machines)) or any(credit > 10 ** 9 for _, credit in prefer))
+
+
+def preferred(fields):
+    """The machines that a spec prefers, each with its credit."""
+    return tuple((number(machine), credit) for machine, credit in fields["prefer"])
+
+
+def operation(kind, fields):
+    """An operation as a member of a set: a spec's preferences, where a script has them, as pairs."""
+    fields = dict(fields)
+    if kind == "spec":
+        fields["prefer"] = tuple((entry["machine"], entry["credit"]) for entry in fields.get("prefer", ()))
+    return kind, frozenset(fields.items())
 
 
 class Known:
@@ -71,7 +87,7 @@ class Known:
         self.jobs = self.greatest(
             (number(o["id"]), (o["version"], o["writer"], o["withdrawn"], o["wait"], o["preempt"])) for o in told["job"])
         self.specs = self.greatest(
-            (number(o["id"]), (o["version"], o["writer"], o["withdrawn"], number(o["job"]), o["request"]))
+            (number(o["id"]), (o["version"], o["writer"], o["withdrawn"], number(o["job"]), o["request"], preferred(o)))
             for o in told["spec"])
         self.progress = {task: (0, 0) for task in self.specs}
         self.progress.update(self.greatest(
@@ -176,9 +192,10 @@ class World:
 
     def tell(self, at, asked):
         (kind, fields), = asked.items()
-        if out_of_range(fields):
+        op = operation(kind, fields)
+        if out_of_range(dict(op[1])):
             return 2
-        self.coordinators[at].take({(kind, frozenset(fields.items()))})
+        self.coordinators[at].take({op})
 
     def cut(self, at, asked):
         sender = self.coordinators[at]
@@ -243,10 +260,18 @@ def network(known):
             arcs[(4, task), (3, holders[task])] = (1, 0)
             arcs[(4, task), (1, job)] = (1, preempt)
     requests = {known.specs[task][4] for task in live if holders[task] is None}
+    credits = collections.defaultdict(list)
+    for task in live:
+        for machine, credit in known.specs[task][5] if holders[task] is None else ():
+            credits[machine].append((task, credit))
     for machine in machines:
         _, _, _, slots, nic = known.states[machine]
         arcs[(3, machine), (0, 0)] = (slots, 0)
         load = max(known.reports.get(machine, (0, 0))[1], sums[machine])
+        for task, credit in credits[machine]:
+            request = known.specs[task][4]
+            if load <= nic and nic - load >= request:
+                arcs[(4, task), (3, machine)] = (1, max(0, request + load - credit))
         for request in requests:
             if load <= nic and nic - load >= request:
                 capacity = slots if request == 0 else min(slots, (nic - load) // request)
@@ -279,14 +304,18 @@ def job_record(known, job):
     return line, struct.pack(">16sQBBII", raw(job), version, writer, withdrawn, wait, preempt)
 
 
-def task_record(known, task):
+def task_record(known, task, version):
     attempt, phase = known.progress[task]
     lines = "task %s %d %s\n" % (name(task), attempt, PHASES[phase])
     spelled = struct.pack(">16sIBB", raw(task), attempt, phase, task in known.specs)
     if task in known.specs:
-        version, writer, withdrawn, job, request = known.specs[task]
-        lines += "spec %s %d %d %s %s %d\n" % (name(task), version, writer, json.dumps(withdrawn), name(job), request)
-        spelled += struct.pack(">QBB16sI", version, writer, withdrawn, raw(job), request)
+        count, writer, withdrawn, job, request, prefer = known.specs[task]
+        lines += "spec %s %d %d %s %s %d" % (name(task), count, writer, json.dumps(withdrawn), name(job), request)
+        lines += "".join(" %s %d" % (name(machine), credit) for machine, credit in prefer) + "\n"
+        spelled += struct.pack(">QBB16sI", count, writer, withdrawn, raw(job), request)
+        if version == b"FDG2":
+            spelled += struct.pack(">B", len(prefer))
+            spelled += b"".join(struct.pack(">16sI", raw(machine), credit) for machine, credit in prefer)
     return lines, spelled
 
 
@@ -312,11 +341,11 @@ def proposal_record(known, at):
     return line, struct.pack(">16sIB16sQ", raw(task), attempt, coordinator, raw(machine), incarnation)
 
 
-def packed(packet):
-    """The packet's lines, as `unpack` prints them, and its bytes in hexadecimal digits, as `pack` does."""
+def packed(packet, version=b"FDG2"):
+    """The packet's lines, as `unpack` prints them, and its bytes in hexadecimal digits, as `pack` does in the later version."""
     known = Known(packet.operations)
-    lines, spelled = "packet %d %d\n" % packet[:2], struct.pack(">4sBQ", b"FDG1", *packet[:2])
-    for keys, record in ((known.jobs, job_record), (known.progress, task_record),
+    lines, spelled = "packet %d %d\n" % packet[:2], struct.pack(">4sBQ", version, *packet[:2])
+    for keys, record in ((known.jobs, job_record), (known.progress, functools.partial(task_record, version=version)),
                          (known.incarnations, machine_record), (known.spots, proposal_record)):
         spelled += struct.pack(">Q", len(keys))
         for key in sorted(keys):
@@ -337,12 +366,13 @@ def agree(world):
 
 def unpacked(text):
     """The lines of the packet that the digits are of. Its records are read in their order, and spelled again: there is one
-    spelling only."""
+    spelling only in each version."""
     digits = re.fullmatch(b"((?:[0-9a-fA-F]{2})*)\n?", text)
     if not digits or len(text) > strict.LIMIT:
         raise Refused(16)
-    packet = read_packet(bytes.fromhex(digits[1].decode()))
-    lines, spelled = packed(packet) if packet else ("", "")
+    bytes_given = bytes.fromhex(digits[1].decode())
+    packet = read_packet(bytes_given)
+    lines, spelled = packed(packet, bytes_given[:4]) if packet else ("", "")
     if spelled != digits[1].decode().lower() + "\n":
         raise Refused(6)
     return lines
@@ -356,17 +386,18 @@ def read_packet(spelled):
         nonlocal at
         at += struct.calcsize(form)
         return struct.unpack(form, spelled[at - struct.calcsize(form):at])
-    told = []
+    ops = []
     try:
         magic, sender, count = take(">4sBQ")
-        for records in (jobs_told, tasks_told, machines_told, proposals_told):
+        for records in (jobs_told, functools.partial(tasks_told, version=magic), machines_told, proposals_told):
             for _ in range(take(">Q")[0]):
-                told += records(take)
+                ops += records(take)
     except (struct.error, IndexError):
         return None
-    if magic != b"FDG1" or at != len(spelled) or not 1 <= sender <= 64 or any(out_of_range(fields) for _, fields in told):
+    ops = {operation(kind, fields) for kind, fields in ops}
+    if magic not in (b"FDG1", b"FDG2") or at != len(spelled) or not 1 <= sender <= 64 or any(out_of_range(dict(op[1])) for op in ops):
         return None
-    return Packet(sender, count, {(kind, frozenset(fields.items())) for kind, fields in told})
+    return Packet(sender, count, ops)
 
 
 def jobs_told(take):
@@ -376,14 +407,23 @@ def jobs_told(take):
                      "wait": wait, "preempt": preempt})]
 
 
-def tasks_told(take):
+def tasks_told(take, version):
     task, attempt, phase, has = take(">16sIBB")
     told = [("progress", {"id": read_raw(task), "attempt": attempt, "phase": PHASES[phase]})]
     if has:
-        version, writer, withdrawn, job, request = take(">QBB16sI")
-        told.append(("spec", {"id": read_raw(task), "version": version, "writer": writer, "job": read_raw(job),
-                              "withdrawn": (False, True)[withdrawn], "request": request}))
+        count, writer, withdrawn, job, request = take(">QBB16sI")
+        prefer = [{"machine": read_raw(machine), "credit": credit} for machine, credit in preferences_told(take, version)]
+        told.append(("spec", {"id": read_raw(task), "version": count, "writer": writer, "job": read_raw(job),
+                              "withdrawn": (False, True)[withdrawn], "request": request, "prefer": prefer}))
     return told
+
+
+def preferences_told(take, version):
+    """The machines that a spec prefers, as they stand; IndexError where there are more than four."""
+    count = take(">B")[0] if version == b"FDG2" else 0
+    if count > 4:
+        raise IndexError
+    return [take(">16sI") for _ in range(count)]
 
 
 def machines_told(take):

@@ -56,6 +56,8 @@ def plan_of(known, chosen, seats):
         tasks = sorted(task for task, node in chosen.items() if node == request)
         hosts = sorted(machine for (source, machine), units in seats.items() if source == request for _ in range(units))
         places += [(task[1], host[1], known.incarnations[host[1]]) for task, host in zip(tasks, hosts)]
+    places += [(task[1], node[1], known.incarnations[node[1]]) for task, node in chosen.items()
+               if node[0] == 3 and known.holder(task[1]) is None]
     preempts = [(task[1], known.attempt(task[1])) for task, node in chosen.items()
                 if node[0] == 1 and known.holder(task[1]) is not None]
     return sorted(places), sorted(preempts)

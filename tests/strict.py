@@ -159,7 +159,21 @@ def read_told(told):
     (kind, given), = told.items()
     if kind not in FIELDS or type(given) is not dict or not all(fits(given.get(field), FIELDS[kind][field]) for field in FIELDS[kind]):
         return None
-    return {kind: {field: canonical(given[field], form) for field, form in FIELDS[kind].items()}}
+    fields = {field: canonical(given[field], form) for field, form in FIELDS[kind].items()}
+    if kind == "spec":
+        fields["prefer"] = read_prefer(given.get("prefer", []))
+        if fields["prefer"] is None:
+            return None
+    return {kind: fields}
+
+
+def read_prefer(listed):
+    """The machines that a spec prefers, each with its credit: four at most."""
+    if type(listed) is not list or len(listed) > 4:
+        return None
+    if any(type(entry) is not dict or not fits(entry.get("machine"), "id") or not fits(entry.get("credit"), U32) for entry in listed):
+        return None
+    return [{"machine": canonical(entry["machine"], "id"), "credit": entry["credit"]} for entry in listed]
 
 
 def read_cut(cut, names):

@@ -4,17 +4,17 @@ use Rattle.std.specs.List.{sum_by}
 use Rattle.std.proofs.lemmas.List.Sums.{sum_by-cons}
 use Rattle.std.proofs.Math.Nat.{mul-le-mul, mul-suc, zero-mul}
 use Rattle.fm_records.specs.declared.records.MachineReg.{MachineReg}
-use Rattle.fm_records.specs.Options.{and_then}
+use Rattle.fm_records.specs.Options.{when, and_then}
 use Rattle.fm_records.specs.RangeLaws.{when_value}
 use Rattle.fm_records.specs.Sets.{IsMember}
 use Rattle.fm_records.specs.Table.{Table}
 use Rattle.fm_records.specs.Ranges.{CanBe}
-use Rattle.fm_records.specs.Facts.{job_of, open_state, spare_of, holds}
+use Rattle.fm_records.specs.Facts.{job_of, live_spec, open_state, spare_of, holds}
 use Rattle.fm_net.specs.declared.node.Node.{Node}
 use Rattle.fm_net.specs.declared.node.Node.TheVariants.{Sink, Unscheduled, Request, Machine, Task}
 use Rattle.fm_net.specs.Net.{Net, CanBeNet, arc_at}
-use Rattle.fm_net.specs.Network.{is_live_of, waits_for, is_node, places, place_arc, arc_of}
-use Rattle.fm_net.specs.NetworkLaws.{came_from, mapped_from, where_true, is_network_of}
+use Rattle.fm_net.specs.Network.{is_held, is_live_of, waits_for, is_node, places, place_arc, preferred_arc, arc_of}
+use Rattle.fm_net.specs.NetworkLaws.{came_from, mapped_from, where_true, preferred_from, is_network_of}
 use Rattle.fm_net.specs.BoundLaws.{state_ranges}
 use Rattle.fm_certificate.specs.Flows.{Units, cost_of, IsFeasible}
 use Rattle.fm_certificate.specs.Built.{IsBuilt}
@@ -40,7 +40,10 @@ few_places state spare r = elim (r == 0) as (λ b. cond b state.slots (min state
 module _ (k : Table) (is : CanBe k) where
   modest : (a b : Node) (v : ℕ × ℕ) → arc_of k a b ≡ Some v → IsModest v
   modest (Task t) (Request r) v e = free 1 v (when_value (waits_for k r t) (1, 0) v e)
-  modest (Task t) (Machine m) v e = free 1 v (when_value (holds k m t) (1, 0) v e)
+  modest (Task t) (Machine m) v e = elim (is_held k t) as (λ b. cond b (when (holds k m t) (1, 0)) (and_then (λ s. preferred_arc k s m) (live_spec k t)) ≡ Some v → IsModest v) [
+    | true ↦ λ f. free 1 v (when_value (holds k m t) (1, 0) v f)
+    | false ↦ λ f. small _ v (preferred_from k t m v f).1.value (omega arith)
+  ] e
   modest (Task t) (Unscheduled j) v e =
       let job = mapped_from _ (job_of k j) v (where_true (is_live_of k j t) _ v e).1 in
       small _ v job.2 (omega arith)

@@ -16,7 +16,7 @@ use Rattle.fm_records.specs.declared.refusal.Refusal.TheVariants.{OutOfMemory, B
 use Rattle.fm_records.specs.Ids.{id_text}
 use Rattle.fm_records.specs.Table.{TaskValue, MachineValue}
 use Rattle.fm_delta.specs.declared.packet.Packet.{Packet}
-use Rattle.fm_wire.specs.Grammar.{spelling, fault}
+use Rattle.fm_wire.specs.Grammar.{Spells, fault}
 
 abbrev pub flag_text : Bool → List ℕ
 flag_text b = if b then codes "true" else codes "false"
@@ -32,12 +32,16 @@ job_line e =
     codes "job " ++ (id_text e.0 ++ (codes " " ++ (decimal e.1.version ++ (codes " " ++ (decimal e.1.writer ++ (codes " "
     ++ (flag_text e.1.withdrawn ++ (codes " " ++ (decimal e.1.wait ++ (codes " " ++ (decimal e.1.preempt ++ codes "\n")))))))))))
 
--- spec ID VERSION WRITER WITHDRAWN JOB REQUEST, where a spec is known
+-- MACHINE CREDIT for each machine that is preferred
+abbrev pub preferred_text : ℕ × ℕ → List ℕ
+preferred_text e = codes " " ++ (id_text e.0 ++ (codes " " ++ decimal e.1))
+
+-- spec ID VERSION WRITER WITHDRAWN JOB REQUEST and the machines that are preferred, where a spec is known
 abbrev pub spec_line : ℕ → Option SpecReg → List ℕ
 spec_line task None = []
 spec_line task (Some r) =
     codes "spec " ++ (id_text task ++ (codes " " ++ (decimal r.version ++ (codes " " ++ (decimal r.writer ++ (codes " "
-    ++ (flag_text r.withdrawn ++ (codes " " ++ (id_text r.job ++ (codes " " ++ (decimal r.request ++ codes "\n")))))))))))
+    ++ (flag_text r.withdrawn ++ (codes " " ++ (id_text r.job ++ (codes " " ++ (decimal r.request ++ (flat_map preferred_text r.prefer ++ codes "\n"))))))))))))
 
 -- task ID ATTEMPT PHASE, and its spec's line
 abbrev pub task_lines : ℕ × TaskValue → List ℕ
@@ -86,12 +90,13 @@ ends_line text = pointwise nat_eq (drop (length text - 1) text) (codes "\n")
 abbrev pub without_line_feed : List ℕ → List ℕ
 without_line_feed text = if ends_line text then take (length text - 1) text else text
 
--- the text is the lines of a packet, whose bytes the input spells in hexadecimal digits, with at most one line feed behind them
+-- the text is the lines of a packet, whose bytes, of either version, the input spells in hexadecimal digits, with at most one
+-- line feed behind them
 pub record IsUnpacked (input text : List ℕ) : Type 0 where
   pub bytes : List ℕ
   pub digits : decode_of (without_line_feed input) ≡ Ok bytes
   pub packet : Packet
-  pub spelled : bytes ≡ spelling packet
+  pub spelled : Spells bytes packet
   pub lines : text ≡ unpacked_text packet
 
 -- the input is no digits, or its bytes are no packet's and the refusal names the first fault; or memory was wanted

@@ -4,7 +4,7 @@ ghost use Rattle.std.specs.Prelude.{◌≡◌, ◌⊎◌, ◌++◌, Some, Ok, Er
 ghost use Rattle.std.specs.List.{flat_map};
 ghost use Rattle.hex.specs.Hex.{decode_of};
 ghost use Rattle.hex.specs.declared.error.FromHexError.{FromHexError};
-ghost use Rattle.fm_cli.specs.Unpacked.{IsUnpacked, IsNotUnpacked, without_line_feed, unpacked_text, job_line, task_lines, spec_line, machine_lines, state_line, report_line, proposal_line, proposal_lines};
+ghost use Rattle.fm_cli.specs.Unpacked.{IsUnpacked, IsNotUnpacked, without_line_feed, unpacked_text, job_line, task_lines, preferred_text, spec_line, machine_lines, state_line, report_line, proposal_line, proposal_lines};
 ghost use Rattle.fm_cli.specs.Unpacked.{phase_text as text_of_phase};
 
 use fm_delta::packet::Packet;
@@ -13,6 +13,7 @@ use fm_lattice::map::JoinMap;
 use fm_lattice::plain::{Max, Min, Opt};
 use fm_records::ids::{CoordId, JobId, MachineId, TaskId};
 use fm_records::ops::Phase;
+use fm_records::prefer::Prefer;
 use fm_records::records::{JobReg, MachineRec, MachineReg, Report, SpecReg, Spot, TaskRec};
 use fm_records::refusal::Refusal;
 use fm_wire::reading::decode;
@@ -165,13 +166,42 @@ fn write_spec(
         withdrawn,
         job,
         request,
+        prefer,
     } = *spec;
     let task = task.text(alloc)?;
     let job = job.text(alloc)?;
     write!(
         lines,
-        "spec {task} {version} {writer} {withdrawn} {job} {request}\n"
+        "spec {task} {version} {writer} {withdrawn} {job} {request}"
     )?;
+    write_preferred(alloc, lines, &prefer)?;
+    write!(lines, "\n")?;
+    Ok(())
+}
+
+// Appends the machines that are preferred, each with its credit.
+fn write_preferred(alloc: Global, lines: &mut String, prefer: &Prefer) -> Result<(), Refusal>
+    ensures ok { OnOk result (string_bytes lines.new ≡ string_bytes lines.old ++ flat_map preferred_text prefer.now) }
+    ensures err { IsOkUnless result Refusal.OutOfMemory }
+{
+    for entry in prefer.entries() {
+        write_entry(alloc, lines, entry.0, entry.1)?;
+    }
+    Ok(())
+}
+
+// Appends a machine and its credit.
+fn write_entry(
+    alloc: Global,
+    lines: &mut String,
+    machine: MachineId,
+    credit: u32,
+) -> Result<(), Refusal>
+    ensures ok { OnOk result (string_bytes lines.new ≡ string_bytes lines.old ++ preferred_text (machine, credit)) }
+    ensures err { IsOkUnless result Refusal.OutOfMemory }
+{
+    let machine = machine.text(alloc)?;
+    write!(lines, " {machine} {credit}")?;
     Ok(())
 }
 

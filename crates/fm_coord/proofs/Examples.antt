@@ -26,7 +26,7 @@ abbrev machine : Op
 machine = op.Machine 10 1 1 1 true 2 1000
 
 abbrev task : Op
-task = op.Spec 17 1 1 false 1 100
+task = op.Spec 17 1 1 false 1 100 []
 
 abbrev tells : Op → Entry
 tells o = entry 0 (call.Tell o) reply.Nothing

@@ -5,6 +5,7 @@ use fm_know::knowledge::Knowledge;
 use fm_lattice::join::Join;
 use fm_records::ids::{JobId, MachineId, TaskId};
 use fm_records::ops::{Op, Phase};
+use fm_records::prefer::Prefer;
 use fm_records::refusal::Refusal;
 use std::alloc::Global;
 
@@ -108,6 +109,7 @@ impl Cluster {
             request: one_of(draw, self.sizes.requests).saturating_mul(
                 1000 / self.sizes.requests.max(1),
             ),
+            prefer: Prefer::default(),
         })
     }
 

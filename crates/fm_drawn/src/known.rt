@@ -7,6 +7,7 @@ use fm_lattice::join::Join;
 use fm_net::node::Node;
 use fm_records::ids::{JobId, MachineId, TaskId};
 use fm_records::ops::Op;
+use fm_records::prefer::Prefer;
 use fm_records::refusal::Refusal;
 use std::alloc::Global;
 
@@ -50,6 +51,7 @@ fn task(id: u128, job: u128, request: u32) -> Op {
         withdrawn: false,
         job: JobId::new(job),
         request,
+        prefer: Prefer::default(),
     }
 }
 

@@ -1,5 +1,5 @@
 -- The steps by which pairs are touched, put together.
-use Rattle.std.proofs.Common.{◌≡◌, ◌∙◌, ℕ, Bool, true, false, cond, List, [], ◌∷◌, Option, Some, None, refl, sym, ap}
+use Rattle.std.proofs.Common.{◌≡◌, ◌∙◌, ◌<◌, ◌^◌, ℕ, Bool, true, false, cond, List, [], ◌∷◌, Option, Some, None, refl, sym, ap}
 use Rattle.std.specs.Prelude.{◌&&◌, ◌||◌, ◌==◌, not, filter, map, is_some, unwrap_or, IsTrue}
 use Rattle.std.specs.List.{list_any}
 use Rattle.std.specs.Ordering.{nat_cmp, is_eq, is_le}
@@ -10,7 +10,7 @@ use Rattle.std.specs.BTreeMap.Range.{range_contains}
 use Rattle.fm_lattice.specs.Chains.{by_cases, greater_less}
 use Rattle.fm_lattice.specs.Maps.{lookup}
 use Rattle.fm_net.specs.declared.node.Node.{Node}
-use Rattle.fm_net.specs.declared.node.Node.TheVariants.{Sink, Request, Machine}
+use Rattle.fm_net.specs.declared.node.Node.TheVariants.{Sink, Request, Machine, Task}
 use Rattle.fm_net.specs.Nodes.{node_cmp}
 use Rattle.fm_net.specs.NodeOrder.{node_exact, node_total}
 use Rattle.fm_net.specs.Net.{Net, has_node}
@@ -19,7 +19,7 @@ use Rattle.fm_net.specs.Touched.{is_among}
 use Rattle.fm_edit.specs.declared.index.Index.{Index}
 use Rattle.fm_edit.specs.declared.touched.Touched.{Touched}
 use Rattle.fm_edit.specs.Sight.{Sight}
-use Rattle.fm_edit.specs.Index.{sum_in}
+use Rattle.fm_edit.specs.Index.{sum_in, lists_preferred}
 use Rattle.fm_edit.specs.Shown.{node_shown}
 use Rattle.fm_edit.specs.Touched.{has_touched, has_pair, Grows}
 use Rattle.fm_edit.specs.Completing.{Completes, is_request, is_machine, leads_to_sink, waiting_in}
@@ -65,6 +65,16 @@ some_there (Some v) h = refl
 waits_among : (x : Index) (q : ℕ) → not (sum_in x (Request q) == 0) ≡ true → is_among node_cmp (waiting_in x) (Request q) ≡ true
 waits_among x q h = among_kept q x.sums.entries (some_there (get node_cmp x.sums (Request q)) h)
 
+-- what is touched or still to come, one step on, and in the end
+pub walked_on : (e old now c : Bool) → (old ≡ true → now ≡ true) → (e ≡ true → now ≡ true) → (old || (e || c)) ≡ true → (now || c) ≡ true
+walked_on e true now c keep new h = ap (λ b. b || c) (keep refl)
+walked_on true false now c keep new h = ap (λ b. b || c) (new refl)
+walked_on false false now c keep new h = or_right now c h
+
+pub none_to_come : (now rest : Bool) → (now || rest) ≡ true → rest ≡ false → now ≡ true
+none_to_come true rest h e = refl
+none_to_come false rest h e = sym e ∙ h
+
 -- a machine among nodes is one of the machines among them
 machine_among : (m : ℕ) (ns : List Node) → is_among node_cmp ns (Machine m) ≡ true → list_any is_machine ns ≡ true
 machine_among m [] h = absurd (let no : ⊥ = cc in no)
@@ -77,23 +87,25 @@ machine_among m (n ∷ ns) h =
       | false ↦ λ _ g. or_right (is_machine n) (list_any is_machine ns) (rest g)
     ] refl h
 
-module _ (s : Sight) (index : Index) (net : Net) (x0 x1 x2 x3 x4 : Touched) (n1 n2 n3 n4 rs ws : List Node) where
-  pub completes : n1 ≡ x0.nodes.keys → n2 ≡ x0.nodes.keys → n3 ≡ x0.nodes.keys → n4 ≡ x0.nodes.keys → rs ≡ filter is_request x0.nodes.keys → (IsTrue (list_any is_machine x0.nodes.keys) → ws ≡ waiting_in index)
-      → Grows x0 x1 → Grows x1 x2 → Grows x2 x3 → Grows x3 x4
-      → x1.nodes ≡ x0.nodes → x2.nodes ≡ x1.nodes → x3.nodes ≡ x2.nodes → x4.nodes ≡ x3.nodes
+module _ (s : Sight) (index : Index) (net : Net) (x0 x1 x2 x3 x4 x5 : Touched) (n1 n2 n3 n4 n5 rs ws : List Node) where
+  pub completes : n1 ≡ x0.nodes.keys → n2 ≡ x0.nodes.keys → n3 ≡ x0.nodes.keys → n4 ≡ x0.nodes.keys → n5 ≡ x0.nodes.keys → rs ≡ filter is_request x0.nodes.keys → (IsTrue (list_any is_machine x0.nodes.keys) → ws ≡ waiting_in index)
+      → Grows x0 x1 → Grows x1 x2 → Grows x2 x3 → Grows x3 x4 → Grows x4 x5
+      → x1.nodes ≡ x0.nodes → x2.nodes ≡ x1.nodes → x3.nodes ≡ x2.nodes → x4.nodes ≡ x3.nodes → x5.nodes ≡ x4.nodes
       → ((n : Node) → is_among node_cmp n1 n ≡ true → leads_to_sink n ≡ true → has_pair x1 n Sink ≡ true)
       → ((n : Node) → is_among node_cmp n2 n ≡ true → is_machine n ≡ true → (r : Node) → is_among node_cmp rs r ≡ true → has_pair x2 r n ≡ true)
       → ((n : Node) → is_among node_cmp n3 n ≡ true → is_machine n ≡ true → (r : Node) → is_among node_cmp ws r ≡ true → has_pair x3 r n ≡ true)
       → ((n : Node) → is_among node_cmp n4 n ≡ true → is_request n ≡ true → (has_node net n ≡ node_shown s (sum_in index) n → ⊥) → (m : ℕ) → is_some (s.machine m) ≡ true → has_pair x4 n (Machine m) ≡ true)
-      → Completes s (sum_in index) net x0 x4
-  completes e1 e2 e3 e4 r_is w_is g1 g2 g3 g4 s1 s2 s3 s4 sinks places waits turns =
+      → ((n : Node) → is_among node_cmp n5 n ≡ true → (m t : ℕ) → n ≡ Machine m → t < 2 ^ 128 → lists_preferred index m t ≡ true → has_pair x5 (Task t) n ≡ true)
+      → Completes s index net x0 x5
+  completes e1 e2 e3 e4 e5 r_is w_is g1 g2 g3 g4 g5 s1 s2 s3 s4 s5 sinks places waits turns preferring =
       let among : (ns : List Node) → ns ≡ x0.nodes.keys → (n : Node) → has_touched x0 n ≡ true → is_among node_cmp ns n ≡ true = λ ns e n h. ap (λ ks. is_among node_cmp ks n) e ∙ h in
       record {
-        nodes = s4 ∙ s3 ∙ s2 ∙ s1;
-        grows = grows_then x0 x1 x4 g1 (grows_then x1 x2 x4 g2 (grows_then x2 x3 x4 g3 g4));
-        sinks = λ n h l. g4.pairs n Sink (g3.pairs n Sink (g2.pairs n Sink (sinks n (among n1 e1 n h) l)));
-        touched_places = λ q m hq hm. g4.pairs (Request q) (Machine m) (g3.pairs (Request q) (Machine m) (places (Machine m) (among n2 e2 (Machine m) hm) refl (Request q)
-            (ap (λ ks. is_among node_cmp ks (Request q)) r_is ∙ has_kept node_cmp node_total node_exact is_request (Request q) x0.nodes.keys ∙ hq)));
-        waiting_places = λ q m w hm. g4.pairs (Request q) (Machine m) (waits (Machine m) (among n3 e3 (Machine m) hm) refl (Request q) (ap (λ ks. is_among node_cmp ks (Request q)) (w_is (machine_among m x0.nodes.keys hm)) ∙ waits_among index q w));
-        turned_places = λ q m hq apart there. turns (Request q) (among n4 e4 (Request q) hq) refl apart m there;
+        nodes = s5 ∙ s4 ∙ s3 ∙ s2 ∙ s1;
+        grows = grows_then x0 x1 x5 g1 (grows_then x1 x2 x5 g2 (grows_then x2 x3 x5 g3 (grows_then x3 x4 x5 g4 g5)));
+        sinks = λ n h l. g5.pairs n Sink (g4.pairs n Sink (g3.pairs n Sink (g2.pairs n Sink (sinks n (among n1 e1 n h) l))));
+        touched_places = λ q m hq hm. g5.pairs (Request q) (Machine m) (g4.pairs (Request q) (Machine m) (g3.pairs (Request q) (Machine m) (places (Machine m) (among n2 e2 (Machine m) hm) refl (Request q)
+            (ap (λ ks. is_among node_cmp ks (Request q)) r_is ∙ has_kept node_cmp node_total node_exact is_request (Request q) x0.nodes.keys ∙ hq))));
+        waiting_places = λ q m w hm. g5.pairs (Request q) (Machine m) (g4.pairs (Request q) (Machine m) (waits (Machine m) (among n3 e3 (Machine m) hm) refl (Request q) (ap (λ ks. is_among node_cmp ks (Request q)) (w_is (machine_among m x0.nodes.keys hm)) ∙ waits_among index q w)));
+        preferring = λ m t small h hm. preferring (Machine m) (among n5 e5 (Machine m) hm) m t refl small h;
+        turned_places = λ q m hq apart there. g5.pairs (Request q) (Machine m) (turns (Request q) (among n4 e4 (Request q) hq) refl apart m there);
       }

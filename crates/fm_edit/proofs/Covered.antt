@@ -1,6 +1,6 @@
 -- The nodes and pairs that are touched are all that a delta can change.
-use Rattle.std.proofs.Common.{◌≡◌, ◌∙◌, ◌⊎◌, ℕ, Bool, true, false, cond, List, Option, Some, None, refl, sym, ap, inl, inr}
-use Rattle.std.specs.Prelude.{◌==◌, not, is_some, IsSome, option_map}
+use Rattle.std.proofs.Common.{◌≡◌, ◌∙◌, ◌⊎◌, ℕ, Bool, true, false, cond, List, Option, Some, None, refl, sym, ap, subst, inl, inr}
+use Rattle.std.specs.Prelude.{◌==◌, ◌&&◌, ◌-◌, not, is_some, IsSome, option_map}
 use Rattle.std.proofs.lemmas.Bool.{eqb-true}
 use Rattle.fm_lattice.specs.Maps.{lookup}
 use Rattle.std.specs.Ordering.{nat_cmp}
@@ -14,19 +14,22 @@ use Rattle.fm_records.specs.Facts.{spec_of, live_spec, holder_of, holds, open_st
 use Rattle.fm_net.specs.declared.node.Node.{Node}
 use Rattle.fm_net.specs.declared.node.Node.TheVariants.{Sink, Unscheduled, Request, Machine, Task}
 use Rattle.fm_net.specs.Nodes.{node_cmp, ends_cmp}
-use Rattle.fm_net.specs.Network.{is_held, is_live_of, waits_for, is_node, place_arc, arc_of, net_of}
+use Rattle.fm_net.specs.Network.{is_held, is_live_of, waits_for, is_node, place_arc, room_arc, preferred_arc, arc_of, net_of}
 use Rattle.fm_net.specs.NetworkLaws.{passed, kept, is_network_of}
 use Rattle.fm_net.specs.Touched.{Touches}
 use Rattle.fm_policy.specs.Changes.{Keys}
 use Rattle.fm_edit.specs.declared.touched.Touched.{Touched}
-use Rattle.fm_edit.specs.Dirty.{SameBeyond, has_id, dirty_task, IsDirtyMachine, job_of_task, request_of_task, MayTurn}
-use Rattle.fm_edit.specs.LocalLaws.{node_same, arc_same, request_arc_same, state_same}
+use Rattle.fm_edit.specs.Dirty.{SameBeyond, has_id, dirty_task, IsDirtyMachine, job_of_task, request_of_task, prefers, MayTurn, MayDiffer}
+use Rattle.fm_edit.specs.LocalLaws.{node_same, arc_same, request_arc_same, state_same, prefers_same}
 use Rattle.fm_edit.specs.Sight.{sight_of}
 use Rattle.fm_edit.specs.Touched.{has_touched, has_pair, TouchesTask}
 use Rattle.fm_edit.proofs.Completed.{both_ways}
 
 none_some : {A P : Type 0} (a : A) → is_some {T = A} None ≡ true → P
 none_some a h = absurd (let no : ⊥ = cc in no)
+
+abbrev less : ℕ → ℕ × ℕ → ℕ × ℕ
+less credit a = (1, a.1 - credit)
 
 -- Where an arc of a task leads.
 module _ (l : Table) (t : ℕ) (x : Touched) (touches : TouchesTask (sight_of l) t x) where
@@ -50,14 +53,27 @@ module _ (l : Table) (t : ℕ) (x : Touched) (touches : TouchesTask (sight_of l)
   cond_some true o h = refl
   cond_some false o h = h
 
+  -- a task with an arc into a machine that does not hold it prefers that
+  preferring : (m : ℕ) → is_held l t ≡ false → is_some (and_then (λ s. preferred_arc l s m) (live_spec l t)) ≡ true → prefers l m t ≡ true
+  preferring m e h =
+      ap (λ b. passes (λ s. is_some (lookup nat_cmp m s.prefer)) (live_spec l t) && not b) e
+      ∙ (elim (live_spec l t) as (λ o. is_some (and_then (λ s. preferred_arc l s m) o) ≡ true → (passes (λ s. is_some (lookup nat_cmp m s.prefer)) o && true) ≡ true) [
+        | None ↦ λ no. none_some {A = ℕ × ℕ} (0, 0) no
+        | Some s ↦ λ g. elim (lookup nat_cmp m s.prefer) as (λ c. is_some (and_then (λ credit. option_map (less credit) (room_arc l s.request m)) c) ≡ true → (is_some c && true) ≡ true) [ None ↦ λ no. none_some {A = ℕ × ℕ} (0, 0) no | Some c ↦ λ _. refl ] g
+      ] h)
+
   pub leads : (b : Node) → is_some (arc_of l (Task t) b) ≡ true → has_pair x (Task t) b ≡ true
   leads (Request q) h =
       let waits = both_true (passes (λ s. s.request == q) (live_spec l t)) (not (is_held l t)) (when_some (waits_for l q t) (1, 0) h) in
       let s = passed (λ s. s.request == q) (live_spec l t) waits.0 in
       (to_request q (ap (option_map (λ s. s.request)) (spec_live s.0 s.1) ∙ ap Some (eqb-true s.0.request q s.2))).1
   leads (Machine m) h =
-      let held = passed (λ x. x == m) (holder_of l t) (when_some (holds l m t) (1, 0) h) in
-      (to_holder m (held.1 ∙ ap Some (eqb-true held.0 m held.2))).1
+      elim (is_held l t) as (λ b. is_held l t ≡ b → has_pair x (Task t) (Machine m) ≡ true) [
+        | true ↦ λ e.
+            let held = passed (λ x. x == m) (holder_of l t) (when_some (holds l m t) (1, 0) (subst (λ b. is_some (cond b (when (holds l m t) (1, 0)) (and_then (λ s. preferred_arc l s m) (live_spec l t))) ≡ true) e h)) in
+            (to_holder m (held.1 ∙ ap Some (eqb-true held.0 m held.2))).1
+        | false ↦ λ e. touches.preferred m (preferring m e (subst (λ b. is_some (cond b (when (holds l m t) (1, 0)) (and_then (λ s. preferred_arc l s m) (live_spec l t))) ≡ true) e h))
+      ] refl
   leads (Unscheduled j) h =
       let s = passed (λ s. s.job == j) (live_spec l t) (cond_some (is_live_of l j t) _ h) in
       (to_job j (ap (option_map (λ s. s.job)) (spec_live s.0 s.1) ∙ ap Some (eqb-true s.0.job j s.2))).1
@@ -79,6 +95,7 @@ module _ (k after : Table) (keys : Keys) (turned : List ℕ) (same : SameBeyond 
     pub sinks_of_machines : (m : ℕ) → has_touched x (Machine m) ≡ true → has_pair x (Machine m) Sink ≡ true
     pub touched_places : (q m : ℕ) → has_touched x (Request q) ≡ true → has_touched x (Machine m) ≡ true → has_pair x (Request q) (Machine m) ≡ true
     pub waiting_places : (q m : ℕ) → is_node after (Request q) ≡ true → has_touched x (Machine m) ≡ true → has_pair x (Request q) (Machine m) ≡ true
+    pub preferring_places : (m t : ℕ) → prefers after m t ≡ true → has_touched x (Machine m) ≡ true → has_pair x (Task t) (Machine m) ≡ true
     pub turned_places : (q m : ℕ) → has_touched x (Request q) ≡ true → (is_node k (Request q) ≡ is_node after (Request q) → ⊥) → IsSome (lookup nat_cmp m after.machines) → has_pair x (Request q) (Machine m) ≡ true
     pub nodes_rise : Rises node_cmp x.nodes.keys
     pub pairs_rise : Rises ends_cmp x.pairs.keys
@@ -145,13 +162,24 @@ module _ (k after : Table) (keys : Keys) (turned : List ℕ) (same : SameBeyond 
           ]
         ] refl
 
+    -- the pair of a task that is not dirty may differ only where it is touched
+    clean_pair : (t : ℕ) (b : Node) → dirty_task k after keys turned t ≡ false → has_pair x (Task t) b ≡ false → ¬ MayDiffer k after keys turned (Task t) b
+    clean_pair t (Machine m) d e h = elim h [
+      | inl dirty ↦ both_ways (dirty_task k after keys turned t) dirty d
+      | inr of ↦ both_ways (has_pair x (Task t) (Machine m)) (covers.preferring_places m t (prefers_same k after keys turned same t d m ∙ of.1) (turning (Machine m) of.0)) e
+    ]
+    clean_pair t Sink d e h = both_ways (dirty_task k after keys turned t) h d
+    clean_pair t (Unscheduled j) d e h = both_ways (dirty_task k after keys turned t) h d
+    clean_pair t (Request q) d e h = both_ways (dirty_task k after keys turned t) h d
+    clean_pair t (Task u) d e h = both_ways (dirty_task k after keys turned t) h d
+
     pair_quiet : (a b : Node) → has_pair x a b ≡ false → arc_of after a b ≡ arc_of k a b
     pair_quiet (Task t) b e =
         elim (dirty_task k after keys turned t) as (λ d. dirty_task k after keys turned t ≡ d → arc_of after (Task t) b ≡ arc_of k (Task t) b) [
           | true ↦ λ d.
               gone (arc_of after (Task t) b) (λ h. both_ways (has_pair x (Task t) b) (leads after t x (covers.later t d) b h) e)
               ∙ sym (gone (arc_of k (Task t) b) (λ h. both_ways (has_pair x (Task t) b) (leads k t x (covers.before t d) b h) e))
-          | false ↦ λ d. arc_same k after keys turned same (Task t) b (λ h. both_ways (dirty_task k after keys turned t) h d)
+          | false ↦ λ d. arc_same k after keys turned same (Task t) b (clean_pair t b d e)
         ] refl
     pair_quiet (Request q) (Machine m) e = place_quiet q m e
     pair_quiet (Machine m) Sink e = arc_same k after keys turned same (Machine m) Sink (λ h. both_ways (has_pair x (Machine m) Sink) (covers.sinks_of_machines m (turning (Machine m) h)) e)

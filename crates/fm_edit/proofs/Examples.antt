@@ -11,13 +11,13 @@ use Rattle.fm_edit.specs.Dirty.{dirty_task}
 use Rattle.fm_edit.specs.Looking.{looks_of}
 
 abbrev base : List Op
-base = op.Job 1 1 1 false 500 800 ∷ op.Machine 10 1 1 1 true 2 1000 ∷ op.Spec 17 1 1 false 1 100 ∷ []
+base = op.Job 1 1 1 false 500 800 ∷ op.Machine 10 1 1 1 true 2 1000 ∷ op.Spec 17 1 1 false 1 100 [] ∷ []
 
 abbrev changed_by : List Op → Op → Table
 changed_by S o = table_join (know S) (know (o ∷ []))
 
 -- a job dirties the task whose spec came first
-late_job : dirty_task (know (op.Spec 17 1 1 false 1 100 ∷ [])) (changed_by (op.Spec 17 1 1 false 1 100 ∷ []) (op.Job 1 1 1 false 500 800)) (changed_keys (know (op.Job 1 1 1 false 500 800 ∷ []))) [] 17 ≡ true
+late_job : dirty_task (know (op.Spec 17 1 1 false 1 100 [] ∷ [])) (changed_by (op.Spec 17 1 1 false 1 100 [] ∷ []) (op.Job 1 1 1 false 500 800)) (changed_keys (know (op.Job 1 1 1 false 500 800 ∷ []))) [] 17 ≡ true
 late_job = refl
 
 -- a report of a machine that no task won dirties no task

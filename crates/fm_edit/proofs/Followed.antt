@@ -1,6 +1,6 @@
 -- From what the steps of following do to what was touched and what is remembered.
 use Rattle.std.proofs.Common.{◌≡◌, ◌∙◌, ℕ, ◌<◌, ◌^◌, Bool, true, false, cond, List, [], ◌∷◌, ◌++◌, append_assoc, Option, Some, None, refl, sym, ap, subst, eq-eqb}
-use Rattle.std.specs.Prelude.{◌&&◌, ◌||◌, ◌==◌, not, IsSome, option_map, map, filter}
+use Rattle.std.specs.Prelude.{◌&&◌, ◌||◌, ◌==◌, not, is_some, IsSome, option_map, map, filter}
 use Rattle.std.proofs.lemmas.Bool.{eqb-true, ltb-true}
 use Rattle.std.specs.Ordering.{nat_cmp, is_eq}
 use Rattle.std.specs.Cmp.{Equal-is}
@@ -22,18 +22,18 @@ use Rattle.fm_records.specs.RangeLaws.{task_in_range, entries_in_range}
 use Rattle.fm_records.specs.Know.{none_begun}
 use Rattle.fm_records.specs.Joined.{table_join}
 use Rattle.fm_records.specs.JoinedLaws.{table_laws}
-use Rattle.fm_records.specs.Facts.{first_of, job_of, spec_of, attempt_of, won_spot, is_present}
+use Rattle.fm_records.specs.Facts.{first_of, job_of, spec_of, live_spec, attempt_of, won_spot, is_present}
 use Rattle.fm_net.specs.declared.node.Node.{Node}
 use Rattle.fm_net.specs.declared.node.Node.TheVariants.{Unscheduled, Request, Machine, Task}
 use Rattle.fm_net.specs.Nodes.{node_cmp, ends_cmp}
 use Rattle.fm_net.specs.Net.{Net, has_node}
 use Rattle.fm_net.specs.Network.{is_node, net_of}
-use Rattle.fm_net.specs.NetworkLaws.{is_network_of}
+use Rattle.fm_net.specs.NetworkLaws.{passed, kept, is_network_of}
 use Rattle.fm_net.specs.Touched.{Touches}
 use Rattle.fm_policy.specs.Changes.{Keys, changed_keys}
 use Rattle.fm_edit.specs.declared.index.Index.{Index}
 use Rattle.fm_edit.specs.declared.touched.Touched.{Touched}
-use Rattle.fm_edit.specs.Dirty.{SameBeyond, has_id, dirty_task, job_of_task, won_machine}
+use Rattle.fm_edit.specs.Dirty.{SameBeyond, has_id, dirty_task, prefers, job_of_task, won_machine}
 use Rattle.fm_edit.specs.LocalLaws.{same_beyond}
 use Rattle.fm_edit.specs.Sight.{Sight, sight_of, seen_in}
 use Rattle.fm_edit.specs.declared.seen.Seen.{Seen}
@@ -116,7 +116,7 @@ module _ (k : Table) (can : CanBe k) where
       let all = task_in_range k can t v f in
       elim v.0 as (λ (o : Option SpecReg). all_in_range (task_ops (t, (o, v.1))) ≡ true → t < 2 ^ 128) [
         | None ↦ λ h. ltb-true t (2 ^ 128) (both_true _ _ (both_true _ _ (both_true _ _ h).0).0).0
-        | Some r ↦ λ h. ltb-true t (2 ^ 128) (both_true _ _ (both_true _ _ (both_true _ _ (both_true _ _ h).0).0).0).0
+        | Some r ↦ λ h. ltb-true t (2 ^ 128) (both_true _ _ (both_true _ _ (both_true _ _ (both_true _ _ (both_true _ _ h).0).0).0).0).0
       ] all
 
   spec_small : (t : ℕ) (s : SpecReg) → spec_of k t ≡ Some s → t < 2 ^ 128
@@ -134,6 +134,12 @@ module _ (k : Table) (can : CanBe k) where
     | None ↦ λ _ f. absurd (let no : ⊥ = cc in no)
     | Some es ↦ λ f g. entries_small t (attempt_of k t) es s (entries_in_range k can (t, attempt_of k t) es f) g
   ] refl e
+
+  -- and so has a task that prefers a machine
+  prefers_small : (m t : ℕ) → prefers k m t ≡ true → t < 2 ^ 128
+  prefers_small m t h =
+      let live = passed (λ s. is_some (lookup nat_cmp m s.prefer)) (live_spec k t) (both_true _ _ h).0 in
+      spec_small t live.0 (kept _ (spec_of k t) live.0 live.1).0
 
 module _ (k d after : Table) (keys : Keys) (can_k : CanBe k) (can_d : CanBe d) (joined : after ≡ table_join k d) (is : keys ≡ changed_keys d) where
   pub after_can_be : CanBe after
@@ -209,7 +215,7 @@ module _ (k d after : Table) (keys : Keys) (can_k : CanBe k) (can_d : CanBe d) (
     leads_on x y g t o l n e = let h = l n e in (g.nodes n h.0, g.pairs (Task t) n h.1)
 
     touches_on : (x y : Touched) → Grows x y → (s : Sight) (t : ℕ) → TouchesTask s t x → TouchesTask s t y
-    touches_on x y g s t h = record { node = g.nodes (Task t) h.node; job = leads_on x y g t _ h.job; request = leads_on x y g t _ h.request; holder = leads_on x y g t _ h.holder }
+    touches_on x y g s t h = record { node = g.nodes (Task t) h.node; job = leads_on x y g t _ h.job; request = leads_on x y g t _ h.request; holder = leads_on x y g t _ h.holder; preferred = λ m p. g.pairs (Task t) (Machine m) (h.preferred m p) }
 
     pub all_touched : (s0 s1 : Sight) → s0 ≡ sight_of k → s1 ≡ sight_of after → (x : Index) → Counts none_out after x → (net : Net) → net ≡ net_of k
         → (t1 t2 t3 t4 t5 : Touched) → Grows t1 t2 → Grows t2 t3 → Grows t3 t4
@@ -217,7 +223,7 @@ module _ (k d after : Table) (keys : Keys) (can_k : CanBe k) (can_d : CanBe d) (
         → ((m : ℕ) → has_id keys.machines m ≡ true → has_touched t2 (Machine m) ≡ true)
         → ((t : ℕ) → has_id ds t ≡ true → TouchesTask s0 t t3)
         → ((t : ℕ) → has_id ds t ≡ true → TouchesTask s1 t t4)
-        → Completes s1 (sum_in x) net t4 t5
+        → Completes s1 x net t4 t5
         → Rises node_cmp t5.nodes.keys → Rises ends_cmp t5.pairs.keys
         → Touches net (net_of after) t5.nodes.keys t5.pairs.keys
     all_touched s0 s1 e0 e1 x counts net net_is t1 t2 t3 t4 t5 g12 g23 g34 jobs machines before later whole r1 r2 =
@@ -235,6 +241,7 @@ module _ (k d after : Table) (keys : Keys) (can_k : CanBe k) (can_d : CanBe d) (
           sinks_of_machines = λ m h. whole.sinks (Machine m) (back (Machine m) h) refl;
           touched_places = λ q m hq hm. whole.touched_places q m (back (Request q) hq) (back (Machine m) hm);
           waiting_places = λ q m w hm. whole.waiting_places q m (node (Request q) ∙ w) (back (Machine m) hm);
+          preferring_places = λ m t p hm. whole.preferring m t (prefers_small after after_can_be m t p) (counts.preferred m t ∙ ap (λ b. b && true) p) (back (Machine m) hm);
           turned_places = λ q m hq apart there. whole.turned_places q m (back (Request q) hq) (λ e. apart (sym (stood (Request q)) ∙ e ∙ node (Request q))) (subst (λ (s : Sight). IsSome (s.machine m)) (sym e1) there);
           nodes_rise = r1;
           pairs_rise = r2;

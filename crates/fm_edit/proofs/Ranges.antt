@@ -1,19 +1,18 @@
--- The tasks that are listed at a node are those between two pairs.
+-- The tasks that are listed under a key are those between two pairs.
 use Rattle.std.proofs.Common.{◌≡◌, ◌∙◌, ℕ, ◌-◌, ◌<◌, ◌^◌, Bool, true, false, cond, List, [], ◌∷◌, refl, sym, ap, subst, arith}
 use Rattle.std.proofs.lemmas.Bool.Decides.{nat_tests}
 use Rattle.std.specs.Prelude.{◌&&◌, ◌||◌, not}
 use Rattle.std.specs.List.{list_any}
 use Rattle.std.specs.Ordering.{nat_cmp, is_eq, is_le, is_lt, ordering_then}
-use Rattle.std.specs.Cmp.{nat_cmp_total, Equal-is}
+use Rattle.std.specs.Cmp.{IsTotalOrder, nat_cmp_total, Equal-is}
+use Rattle.std.specs.declared.cmp.Ordering.{Ordering}
 use Rattle.std.specs.declared.cmp.Ordering.TheVariants.{Less}
 use Rattle.std.specs.declared.ops.Bound.TheVariants.{Included}
 use Rattle.std.specs.BTreeMap.Range.{range_contains}
 use Rattle.std.proofs.lemmas.Cmp.{tied_itself}
 use Rattle.fm_lattice.specs.Chains.{nat_same, pair_same, by_cases, less_greater, greater_less}
-use Rattle.fm_net.specs.declared.node.Node.{Node}
-use Rattle.fm_net.specs.Nodes.{node_cmp}
-use Rattle.fm_net.specs.NodeOrder.{node_exact, node_total}
-use Rattle.fm_edit.specs.Index.{listed_cmp}
+use Rattle.fm_lattice.specs.Chains.{TellsApart}
+use Rattle.fm_edit.specs.Index.{pair_cmp}
 use Rattle.fm_edit.specs.Listed.{listed_at, named_in}
 
 pub less_said : (a b : ℕ) → nat_cmp a b ≡ Less → a < b
@@ -25,35 +24,35 @@ below_zero t h = omega arith
 too_large : (t : ℕ) → t < 2 ^ 128 → 2 ^ 128 - 1 < t → ⊥
 too_large t h g = omega arith
 
-module _ (n : Node) (t : ℕ) (small : t < 2 ^ 128) where
+module _ {K : Type 0} (cmp : K → K → Ordering) (total : IsTotalOrder cmp) (exact : TellsApart cmp) (n : K) (t : ℕ) (small : t < 2 ^ 128) where
   beyond : (a b : ℕ) → (a < b → ⊥) → is_lt (nat_cmp a b) ≡ false
   beyond a b h = by_cases (nat_cmp a b) (λ o. nat_cmp a b ≡ o → is_lt o ≡ false) (λ _ e. absurd (h (less_said a b e))) (λ _ _. refl) (λ _ _. refl) refl
 
-  from_start : is_le (listed_cmp (n, 0) (n, t)) ≡ true
-  from_start = ap (λ o. is_le (ordering_then o (nat_cmp 0 t))) (tied_itself node_total n) ∙ by_cases (nat_cmp 0 t) (λ o. nat_cmp 0 t ≡ o → is_le o ≡ true) (λ _ _. refl) (λ _ _. refl) (λ _ e. absurd (below_zero t (less_said t 0 (greater_less nat_cmp nat_cmp_total 0 t e)))) refl
+  from_start : is_le (pair_cmp cmp (n, 0) (n, t)) ≡ true
+  from_start = ap (λ o. is_le (ordering_then o (nat_cmp 0 t))) (tied_itself total n) ∙ by_cases (nat_cmp 0 t) (λ o. nat_cmp 0 t ≡ o → is_le o ≡ true) (λ _ _. refl) (λ _ _. refl) (λ _ e. absurd (below_zero t (less_said t 0 (greater_less nat_cmp nat_cmp_total 0 t e)))) refl
 
-  to_end : is_lt (listed_cmp (n, 2 ^ 128 - 1) (n, t)) ≡ false
-  to_end = ap (λ o. is_lt (ordering_then o (nat_cmp (2 ^ 128 - 1) t))) (tied_itself node_total n) ∙ beyond (2 ^ 128 - 1) t (λ h. too_large t small h)
+  to_end : is_lt (pair_cmp cmp (n, 2 ^ 128 - 1) (n, t)) ≡ false
+  to_end = ap (λ o. is_lt (ordering_then o (nat_cmp (2 ^ 128 - 1) t))) (tied_itself total n) ∙ beyond (2 ^ 128 - 1) t (λ h. too_large t small h)
 
-  within : range_contains listed_cmp (Included (n, 0)) (Included (n, 2 ^ 128 - 1)) (n, t) ≡ true
+  within : range_contains (pair_cmp cmp) (Included (n, 0)) (Included (n, 2 ^ 128 - 1)) (n, t) ≡ true
   within = λ i. from_start i && not (to_end i)
 
   or_right : (a b : Bool) → b ≡ true → (a || b) ≡ true
   or_right true b h = refl
   or_right false b h = h
 
-  pub listed_named : (ps : List (Node × ℕ)) → list_any (λ p. is_eq (listed_cmp (n, t) p)) ps ≡ true → named_in (listed_at n ps) t ≡ true
+  pub listed_named : (ps : List (K × ℕ)) → list_any (λ p. is_eq (pair_cmp cmp (n, t) p)) ps ≡ true → named_in (listed_at cmp n ps) t ≡ true
   listed_named [] h = h
   listed_named (p ∷ ps) h =
       let rest = listed_named ps in
-      elim (is_eq (listed_cmp (n, t) p)) as (λ b. is_eq (listed_cmp (n, t) p) ≡ b → (b || list_any (λ q. is_eq (listed_cmp (n, t) q)) ps) ≡ true → named_in (listed_at n (p ∷ ps)) t ≡ true) [
+      elim (is_eq (pair_cmp cmp (n, t) p)) as (λ b. is_eq (pair_cmp cmp (n, t) p) ≡ b → (b || list_any (λ q. is_eq (pair_cmp cmp (n, t) q)) ps) ≡ true → named_in (listed_at cmp n (p ∷ ps)) t ≡ true) [
         | true ↦ λ e _.
-            let is : (n, t) ≡ p = pair_same node_cmp nat_cmp node_exact nat_same (n, t) p ((Equal-is (listed_cmp (n, t) p)).0 e) in
-            subst (λ q. named_in (listed_at n (q ∷ ps)) t ≡ true) is
-            (ap (λ b. named_in (cond b ((n, t) ∷ listed_at n ps) (listed_at n ps)) t) within ∙ ap (λ o. is_eq o || named_in (listed_at n ps) t) (tied_itself nat_cmp_total t))
+            let is : (n, t) ≡ p = pair_same cmp nat_cmp exact nat_same (n, t) p ((Equal-is (pair_cmp cmp (n, t) p)).0 e) in
+            subst (λ q. named_in (listed_at cmp n (q ∷ ps)) t ≡ true) is
+            (ap (λ b. named_in (cond b ((n, t) ∷ listed_at cmp n ps) (listed_at cmp n ps)) t) within ∙ ap (λ o. is_eq o || named_in (listed_at cmp n ps) t) (tied_itself nat_cmp_total t))
         | false ↦ λ _ g.
-            elim (range_contains listed_cmp (Included (n, 0)) (Included (n, 2 ^ 128 - 1)) p) as (λ b. named_in (cond b (p ∷ listed_at n ps) (listed_at n ps)) t ≡ true) [
-              | true ↦ or_right (is_eq (nat_cmp t p.1)) (named_in (listed_at n ps) t) (rest g)
+            elim (range_contains (pair_cmp cmp) (Included (n, 0)) (Included (n, 2 ^ 128 - 1)) p) as (λ b. named_in (cond b (p ∷ listed_at cmp n ps) (listed_at cmp n ps)) t ≡ true) [
+              | true ↦ or_right (is_eq (nat_cmp t p.1)) (named_in (listed_at cmp n ps) t) (rest g)
               | false ↦ rest g
             ]
       ] refl h
@@ -64,7 +63,7 @@ moved_by true false c = refl
 moved_by false true c = refl
 moved_by false false c = refl
 
-swapped : (m x : ℕ) → is_eq (nat_cmp m x) ≡ is_eq (nat_cmp x m)
+pub swapped : (m x : ℕ) → is_eq (nat_cmp m x) ≡ is_eq (nat_cmp x m)
 swapped m x =
     by_cases (nat_cmp m x) (λ o. nat_cmp m x ≡ o → is_eq o ≡ is_eq (nat_cmp x m))
     (λ _ l. sym (ap is_eq (less_greater nat_cmp nat_cmp_total m x l)))

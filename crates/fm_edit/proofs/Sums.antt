@@ -26,9 +26,9 @@ use Rattle.fm_net.specs.NetworkLaws.{live_entry}
 use Rattle.fm_policy.specs.Changes.{Keys}
 use Rattle.fm_edit.specs.declared.index.Index.{Index}
 use Rattle.fm_edit.specs.Dirty.{SameBeyond, has_id, dirty_task}
-use Rattle.fm_edit.specs.LocalLaws.{same_kept, live_same, holder_same, spec_same, won_same}
-use Rattle.fm_edit.specs.Sight.{Sight, sight_of}
-use Rattle.fm_edit.specs.Index.{is_listed, counts_at, weight_at, amount_at, lists, sum_in}
+use Rattle.fm_edit.specs.LocalLaws.{same_kept, live_same, holder_same, spec_same, won_same, prefers_same}
+use Rattle.fm_edit.specs.Sight.{Sight, sight_of, prefers_in}
+use Rattle.fm_edit.specs.Index.{is_listed, counts_at, weight_at, amount_at, lists, lists_preferred, sum_in}
 use Rattle.fm_edit.specs.Memory.{sum_over, also_out, Counts}
 
 nothing : (n : ℕ) → 0 + n ≡ n
@@ -215,9 +215,14 @@ same_out k x out now h = subst (λ o. Counts o k x) (λ i q. h q i)
 module _ (k : Table) (x y : Index) (out : ℕ → Bool) (t : ℕ) (rise : IsRising nat_cmp k.tasks) (inn : out t ≡ false) where
   pub goes_out : Counts out k x
       → ((n : Node) (q : ℕ) → lists y n q ≡ cond (is_eq (nat_cmp t q) && is_listed (sight_of k) n q) false (lists x n q))
+      → ((m q : ℕ) → lists_preferred y m q ≡ cond (is_eq (nat_cmp t q) && prefers_in (sight_of k) m q) false (lists_preferred x m q))
       → ((n : Node) → sum_in y n ≡ sum_in x n - amount_at (sight_of k) n t)
       → Counts (also_out t out) k y
-  goes_out c listed sums = record {
+  goes_out c listed preferred sums = record {
+    preferred = λ m q.
+        let l = prefers_in (sight_of k) m q in
+        preferred m q ∙ ap (λ b. cond (is_eq (nat_cmp t q) && l) false b) (c.preferred m q) ∙ off_list (is_eq (nat_cmp t q)) l (out q)
+        ∙ ap (λ b. l && not (b || out q)) (either_way t q);
     listed = λ n q.
         let l = is_listed (sight_of k) n q in
         listed n q ∙ ap (λ b. cond (is_eq (nat_cmp t q) && l) false b) (c.listed n q) ∙ off_list (is_eq (nat_cmp t q)) l (out q)
@@ -227,9 +232,15 @@ module _ (k : Table) (x y : Index) (out : ℕ → Bool) (t : ℕ) (rise : IsRisi
 
   pub comes_back : CanBe k → length k.tasks < 2 ^ 63 → Counts (also_out t out) k x
       → ((n : Node) (q : ℕ) → lists y n q ≡ cond (is_eq (nat_cmp t q) && is_listed (sight_of k) n q) true (lists x n q))
+      → ((m q : ℕ) → lists_preferred y m q ≡ cond (is_eq (nat_cmp t q) && prefers_in (sight_of k) m q) true (lists_preferred x m q))
       → ((n : Node) → sum_in x n + amount_at (sight_of k) n t < 2 ^ 128 → sum_in y n ≡ sum_in x n + amount_at (sight_of k) n t)
       → Counts out k y
-  comes_back is small c listed sums = record {
+  comes_back is small c listed preferred sums = record {
+    preferred = λ m q.
+        let l = prefers_in (sight_of k) m q in
+        preferred m q
+        ∙ ap (λ b. cond (is_eq (nat_cmp t q) && l) true b) (c.preferred m q ∙ ap (λ b. l && not (b || out q)) (either_way q t))
+        ∙ on_list (is_eq (nat_cmp t q)) l (out q) (λ e. subst (λ z. out z ≡ false) (nat_same t q ((Equal-is (nat_cmp t q)).0 e)) inn);
     listed = λ n q.
         let l = is_listed (sight_of k) n q in
         listed n q
@@ -269,8 +280,14 @@ module _ (k after : Table) (keys : Keys) (turned : List ℕ) (same : SameBeyond 
     | false ↦ λ e. ap (λ b. b && not (out t)) (clean_listed n t e)
   ] refl
 
+  preferred_stay : (m t : ℕ) → (prefers_in (sight_of after) m t && not (out t)) ≡ (prefers_in (sight_of k) m t && not (out t))
+  preferred_stay m t = elim (dirty_task k after keys turned t) as (λ b. dirty_task k after keys turned t ≡ b → (prefers_in (sight_of after) m t && not (out t)) ≡ (prefers_in (sight_of k) m t && not (out t))) [
+    | true ↦ λ e. out_of (prefers_in (sight_of after) m) t e ∙ sym (out_of (prefers_in (sight_of k) m) t e)
+    | false ↦ λ e. ap (λ b. b && not (out t)) (prefers_same k after keys turned same t e m)
+  ] refl
+
   pub counts_stay : (x : Index) → Counts out k x → Counts out after x
-  counts_stay x c = record { listed = λ n t. c.listed n t ∙ sym (lists_stay n t); sums = λ n. c.sums n ∙ sym (sums_stay n) }
+  counts_stay x c = record { listed = λ n t. c.listed n t ∙ sym (lists_stay n t); preferred = λ m t. c.preferred m t ∙ sym (preferred_stay m t); sums = λ n. c.sums n ∙ sym (sums_stay n) }
 
 -- The steps of the loops that take tasks out and put them back.
 drop_split : (xs : List ℕ) (i t : ℕ) → i < length xs → t ≡ get_or xs i t → drop i xs ≡ t ∷ drop (i + 1) xs
@@ -316,9 +333,10 @@ module _ (xs : List ℕ) (i t : ℕ) (here : i < length xs) (is : t ≡ get_or x
   module _ (s : Sight) (x y : Index) (k : Table) (can : CanBe k) (sees : s ≡ sight_of k) where
     pub take_step : ((q : ℕ) → has_id (drop i xs) q ≡ true → has_id xs q ≡ true)
         → ((n : Node) (q : ℕ) → lists y n q ≡ cond (is_eq (nat_cmp t q) && is_listed s n q) false (lists x n q))
+        → ((m q : ℕ) → lists_preferred y m q ≡ cond (is_eq (nat_cmp t q) && prefers_in s m q) false (lists_preferred x m q))
         → ((n : Node) → sum_in y n ≡ sum_in x n - amount_at s n t)
         → Counts (λ q. has_id xs q && not (has_id (drop i xs) q)) k x → Counts (λ q. has_id xs q && not (has_id (drop (i + 1) xs) q)) k y
-    take_step w listed sums c =
+    take_step w listed preferred sums c =
         let out : ℕ → Bool = λ q. has_id xs q && not (has_id (t ∷ drop (i + 1) xs) q) in
         let inn : out t ≡ false = ap (λ o. has_id xs t && not (is_eq o || has_id (drop (i + 1) xs) t)) (tied_itself nat_cmp_total t) ∙ and_no (has_id xs t) in
         same_out k y (also_out t out) (λ q. has_id xs q && not (has_id (drop (i + 1) xs) q))
@@ -326,14 +344,17 @@ module _ (xs : List ℕ) (i t : ℕ) (here : i < length xs) (is : t ≡ get_or x
         (goes_out k x y out t can.table.tasks.rising inn
         (subst (λ ys. Counts (λ q. has_id xs q && not (has_id ys q)) k x) split c)
         (subst (λ z. (n : Node) (q : ℕ) → lists y n q ≡ cond (is_eq (nat_cmp t q) && is_listed z n q) false (lists x n q)) sees listed)
+        (subst (λ z. (m q : ℕ) → lists_preferred y m q ≡ cond (is_eq (nat_cmp t q) && prefers_in z m q) false (lists_preferred x m q)) sees preferred)
         (subst (λ z. (n : Node) → sum_in y n ≡ sum_in x n - amount_at z n t) sees sums))
 
     pub put_step : length k.tasks < 2 ^ 63
         → ((n : Node) (q : ℕ) → lists y n q ≡ cond (is_eq (nat_cmp t q) && is_listed s n q) true (lists x n q))
+        → ((m q : ℕ) → lists_preferred y m q ≡ cond (is_eq (nat_cmp t q) && prefers_in s m q) true (lists_preferred x m q))
         → ((n : Node) → sum_in x n + amount_at s n t < 2 ^ 128 → sum_in y n ≡ sum_in x n + amount_at s n t)
         → Counts (has_id (drop i xs)) k x → Counts (has_id (drop (i + 1) xs)) k y
-    put_step small listed sums c =
+    put_step small listed preferred sums c =
         comes_back k x y (has_id (drop (i + 1) xs)) t can.table.tasks.rising alone can small
         (subst (λ ys. Counts (has_id ys) k x) split c)
         (subst (λ z. (n : Node) (q : ℕ) → lists y n q ≡ cond (is_eq (nat_cmp t q) && is_listed z n q) true (lists x n q)) sees listed)
+        (subst (λ z. (m q : ℕ) → lists_preferred y m q ≡ cond (is_eq (nat_cmp t q) && prefers_in z m q) true (lists_preferred x m q)) sees preferred)
         (subst (λ z. (n : Node) → sum_in x n + amount_at z n t < 2 ^ 128 → sum_in y n ≡ sum_in x n + amount_at z n t) sees sums)

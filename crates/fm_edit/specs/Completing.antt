@@ -1,14 +1,15 @@
 -- The pairs that touched nodes bring with them. Own.
-use Rattle.std.specs.Prelude.{◌≡◌, ℕ, Bool, true, false, List, filter, map, IsSome}
+use Rattle.std.specs.Prelude.{◌≡◌, ℕ, ◌<◌, ◌^◌, Bool, true, false, List, filter, map, IsSome}
 use Rattle.std.specs.declared.ops.Bound.TheVariants.{Included, Excluded}
 use Rattle.std.specs.BTreeMap.Range.{range_contains}
 use Rattle.fm_net.specs.declared.node.Node.{Node}
-use Rattle.fm_net.specs.declared.node.Node.TheVariants.{Sink, Unscheduled, Request, Machine}
+use Rattle.fm_net.specs.declared.node.Node.TheVariants.{Sink, Unscheduled, Request, Machine, Task}
 use Rattle.fm_net.specs.Nodes.{node_cmp}
 use Rattle.fm_net.specs.Net.{Net, has_node}
 use Rattle.fm_edit.specs.declared.index.Index.{Index}
 use Rattle.fm_edit.specs.declared.touched.Touched.{Touched}
 use Rattle.fm_edit.specs.Sight.{Sight}
+use Rattle.fm_edit.specs.Index.{sum_in, lists_preferred}
 use Rattle.fm_edit.specs.Shown.{node_shown}
 use Rattle.fm_edit.specs.Touched.{has_touched, has_pair, Grows}
 
@@ -31,11 +32,13 @@ abbrev pub waiting_in : Index → List Node
 waiting_in x = map (λ e. e.0) (filter (λ e. range_contains node_cmp (Included (Request 0)) (Excluded (Machine 0)) e.0) x.sums.entries)
 
 -- with the pairs of each touched machine and job with the sink, of each touched machine with each request that is touched or
--- waits, and of each touched request that came or went with each machine that is known
-pub record Completes (s : Sight) (sum : Node → ℕ) (net : Net) (old new : Touched) : Type 0 where
+-- waits and with each task that is listed as preferring it, and of each touched request that came or went with each machine
+-- that is known
+pub record Completes (s : Sight) (index : Index) (net : Net) (old new : Touched) : Type 0 where
   pub nodes : new.nodes ≡ old.nodes
   pub grows : Grows old new
   pub sinks : (n : Node) → has_touched old n ≡ true → leads_to_sink n ≡ true → has_pair new n Sink ≡ true
   pub touched_places : (q m : ℕ) → has_touched old (Request q) ≡ true → has_touched old (Machine m) ≡ true → has_pair new (Request q) (Machine m) ≡ true
-  pub waiting_places : (q m : ℕ) → node_shown s sum (Request q) ≡ true → has_touched old (Machine m) ≡ true → has_pair new (Request q) (Machine m) ≡ true
-  pub turned_places : (q m : ℕ) → has_touched old (Request q) ≡ true → (has_node net (Request q) ≡ node_shown s sum (Request q) → ⊥) → IsSome (s.machine m) → has_pair new (Request q) (Machine m) ≡ true
+  pub waiting_places : (q m : ℕ) → node_shown s (sum_in index) (Request q) ≡ true → has_touched old (Machine m) ≡ true → has_pair new (Request q) (Machine m) ≡ true
+  pub preferring : (m t : ℕ) → t < 2 ^ 128 → lists_preferred index m t ≡ true → has_touched old (Machine m) ≡ true → has_pair new (Task t) (Machine m) ≡ true
+  pub turned_places : (q m : ℕ) → has_touched old (Request q) ≡ true → (has_node net (Request q) ≡ node_shown s (sum_in index) (Request q) → ⊥) → IsSome (s.machine m) → has_pair new (Request q) (Machine m) ≡ true

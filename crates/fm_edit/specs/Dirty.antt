@@ -1,6 +1,6 @@
 -- What a delta can change: the jobs, tasks and machines whose facts may differ once it is taken in, and the nodes and pairs of
 -- nodes that may come, go or differ. This project's own.
-use Rattle.std.specs.Prelude.{◌≡◌, ◌⊎◌, ℕ, Bool, false, ◌||◌, List, Option, Some, option_map, IsTrue}
+use Rattle.std.specs.Prelude.{◌≡◌, ◌⊎◌, ℕ, Bool, false, not, ◌&&◌, ◌||◌, is_some, List, Option, Some, option_map, IsTrue}
 use Rattle.std.specs.List.{list_any}
 use Rattle.std.specs.Ordering.{nat_cmp, is_eq}
 use Rattle.fm_lattice.specs.Maps.{lookup, IsRising}
@@ -8,9 +8,10 @@ use Rattle.fm_records.specs.declared.records.Spot.{Spot}
 use Rattle.fm_records.specs.Options.{passes}
 use Rattle.fm_records.specs.Orders.{attempt_cmp}
 use Rattle.fm_records.specs.Table.{Table}
-use Rattle.fm_records.specs.Facts.{spec_of, won_spot, holder_of, is_present}
+use Rattle.fm_records.specs.Facts.{spec_of, live_spec, won_spot, holder_of, is_present}
 use Rattle.fm_net.specs.declared.node.Node.{Node}
 use Rattle.fm_net.specs.declared.node.Node.TheVariants.{Sink, Unscheduled, Request, Machine, Task}
+use Rattle.fm_net.specs.Network.{is_held}
 use Rattle.fm_policy.specs.Changes.{Keys}
 
 -- the id is one of the list
@@ -26,6 +27,10 @@ request_of_task k t = option_map (λ s. s.request) (spec_of k t)
 
 abbrev pub won_machine : Table → ℕ → Option ℕ
 won_machine k t = option_map (λ s. s.machine) (won_spot k t)
+
+-- a live task that no machine holds prefers the machine
+abbrev pub prefers : Table → ℕ → ℕ → Bool
+prefers k m t = passes (λ s. is_some (lookup nat_cmp m s.prefer)) (live_spec k t) && not (is_held k t)
 
 -- two tables, before and after a delta, tell the same of all that these keys do not name; `turned` are the machines of which it
 -- may have changed whether they are open, or their incarnation
@@ -71,6 +76,7 @@ module _ (k after : Table) (keys : Keys) (turned : List ℕ) where
   MayTurn (Task t) = IsTrue (dirty_task t)
 
   abbrev pub MayDiffer : Node → Node → Type 0
+  MayDiffer (Task t) (Machine m) = IsTrue (dirty_task t) ⊎ (IsDirtyMachine m × IsTrue (prefers k m t))
   MayDiffer (Task t) b = IsTrue (dirty_task t)
   MayDiffer (Request r) (Machine m) = IsDirtyRequest r ⊎ IsDirtyMachine m
   MayDiffer (Machine m) Sink = IsDirtyMachine m

@@ -34,13 +34,22 @@ weight_at _ spec = 1
 abbrev pub amount_at : Sight → Node → ℕ → ℕ
 amount_at s n t = cond (counts_at s n t) (weight_at n (spec_in s t)) 0
 
--- the order of the pairs in the list of tasks by node
+-- the order of pairs of a key and a task: in the list of tasks by node, and by machine that they prefer
+abbrev pub pair_cmp : {K : Type 0} → (K → K → Ordering) → K × ℕ → K × ℕ → Ordering
+pair_cmp cmp = then_cmp (on (λ p. p.0) cmp) (on (λ p. p.1) nat_cmp)
+
 abbrev pub listed_cmp : Node × ℕ → Node × ℕ → Ordering
 listed_cmp = then_cmp (on (λ p. p.0) node_cmp) (on (λ p. p.1) nat_cmp)
+
+abbrev pub preferred_cmp : ℕ × ℕ → ℕ × ℕ → Ordering
+preferred_cmp = then_cmp (on (λ p. p.0) nat_cmp) (on (λ p. p.1) nat_cmp)
 
 -- what an index says of a task at a node, and of a node
 abbrev pub lists : Index → Node → ℕ → Bool
 lists x n t = list_any (λ p. is_eq (listed_cmp (n, t) p)) x.listed.keys
+
+abbrev pub lists_preferred : Index → ℕ → ℕ → Bool
+lists_preferred x m t = list_any (λ p. is_eq (preferred_cmp (m, t) p)) x.preferred.keys
 
 abbrev pub sum_in : Index → Node → ℕ
 sum_in x n = unwrap_or (get node_cmp x.sums n) 0

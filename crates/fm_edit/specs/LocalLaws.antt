@@ -1,5 +1,5 @@
 -- What no delta changes: the facts of what is not dirty, and the nodes and arcs between such.
-use Rattle.std.specs.Prelude.{◌≡◌, ℕ, ◌+◌, ◌-◌, nat_le, Bool, true, false, cond, not, ◌==◌, ◌&&◌, ◌||◌, List, [], ◌∷◌, Option, Some, None, option_map, filter, map, count_by, sum_by, max, refl}
+use Rattle.std.specs.Prelude.{◌≡◌, ℕ, ◌+◌, ◌-◌, nat_le, Bool, true, false, cond, not, ◌==◌, ◌&&◌, ◌||◌, is_some, IsTrue, List, [], ◌∷◌, Option, Some, None, option_map, filter, map, count_by, sum_by, max, refl}
 use Rattle.std.specs.List.{list_any}
 use Rattle.std.specs.Ordering.{nat_cmp}
 use Rattle.std.specs.Cmp.{nat_cmp_total}
@@ -27,10 +27,10 @@ use Rattle.fm_records.specs.Facts.{first_of, job_of, spec_of, progress_of, attem
 use Rattle.fm_net.specs.declared.node.Node.{Node}
 use Rattle.fm_net.specs.declared.node.Node.TheVariants.{Sink, Unscheduled, Request, Machine, Task}
 use Rattle.fm_net.specs.ListLaws.{entry_member, member_before, member_behind, member_mapped, has_member}
-use Rattle.fm_net.specs.Network.{is_held, is_live_of, waits_for, some_task, live_tasks, is_node, places, place_arc, arc_of}
+use Rattle.fm_net.specs.Network.{is_held, is_live_of, waits_for, some_task, live_tasks, is_node, places, room_arc, preferred_arc, arc_of}
 use Rattle.fm_policy.specs.Changes.{Keys, changed_tasks, changed_keys}
 use Rattle.fm_net.specs.KeptLists.{lookup_kept, rising_kept}
-use Rattle.fm_edit.specs.Dirty.{SameBeyond, has_id, job_of_task, request_of_task, won_machine, dirty_task, IsDirtyJob, IsDirtyMachine, IsDirtyRequest, MayTurn, MayDiffer}
+use Rattle.fm_edit.specs.Dirty.{SameBeyond, has_id, job_of_task, request_of_task, won_machine, prefers, dirty_task, IsDirtyJob, IsDirtyMachine, IsDirtyRequest, MayTurn, MayDiffer}
 
 -- What a delta does not name, it does not change.
 
@@ -301,13 +301,42 @@ module _ (k after : Table) (keys : Keys) (turned : List ℕ) (same : SameBeyond 
   node_same (Machine m) h = ap (λ o. passes (λ r. true) o) (state_same m h)
   node_same (Task t) h = ap (λ o. passes (λ s. true) o) (live_same t (either_false (dirty t) h))
 
-  place_same : (r m : ℕ) → ¬ IsDirtyMachine k after keys turned m → (b : Bool) → cond b (and_then (λ state. and_then (place_arc after r m state) (spare_of after m)) (open_state after m)) None ≡ cond b (and_then (λ state. and_then (place_arc k r m state) (spare_of k m)) (open_state k m)) None
-  place_same r m h b = λ i. cond b (and_then (λ state. and_then (λ spare. when (nat_le r spare) (places state spare r, r + load_same m h i)) (spare_same m h i)) (state_same m h i)) None
+  room_same : (r m : ℕ) → ¬ IsDirtyMachine k after keys turned m → room_arc after r m ≡ room_arc k r m
+  room_same r m h = λ i. and_then (λ state. and_then (λ spare. when (nat_le r spare) (places state spare r, r + load_same m h i)) (spare_same m h i)) (state_same m h i)
 
-  task_arc_same : (t : ℕ) → dirty t ≡ false → (b : Node) → arc_of after (Task t) b ≡ arc_of k (Task t) b
-  task_arc_same t e (Request r) = ap (λ w. when w (1, 0)) (waits_same r t e)
-  task_arc_same t e (Machine m) = ap (λ o. when (passes (λ x. x == m) o) (1, 0)) (holder_same t e)
-  task_arc_same t e (Unscheduled j) =
+  pub prefers_same : (t : ℕ) → dirty t ≡ false → (m : ℕ) → prefers after m t ≡ prefers k m t
+  prefers_same t e m = λ i. passes (λ s. is_some (lookup nat_cmp m s.prefer)) (live_same t e i) && not (passes (λ m. true) (holder_same t e i))
+
+  abbrev less : ℕ → ℕ × ℕ → ℕ × ℕ
+  less credit a = (1, a.1 - credit)
+
+  -- the arc of a task to a machine that it does not prefer stands for its holding alone
+  unpreferred : (l : Table) (t m : ℕ) → prefers l m t ≡ false → arc_of l (Task t) (Machine m) ≡ cond (is_held l t) (when (holds l m t) (1, 0)) None
+  unpreferred l t m e =
+      elim (is_held l t) as (λ b. (passes (λ s. is_some (lookup nat_cmp m s.prefer)) (live_spec l t) && not b) ≡ false → cond b (when (holds l m t) (1, 0)) (and_then (λ s. preferred_arc l s m) (live_spec l t)) ≡ cond b (when (holds l m t) (1, 0)) None) [
+        | true ↦ λ _. refl
+        | false ↦ λ f. elim (live_spec l t) as (λ o. (passes (λ s. is_some (lookup nat_cmp m s.prefer)) o && true) ≡ false → and_then (λ s. preferred_arc l s m) o ≡ None) [
+          | None ↦ λ _. refl
+          | Some s ↦ λ g. elim (lookup nat_cmp m s.prefer) as (λ c. (is_some c && true) ≡ false → and_then (λ credit. option_map (less credit) (room_arc l s.request m)) c ≡ None) [ None ↦ λ _. refl | Some c ↦ λ no. absurd (let wrong : ⊥ = cc in wrong) ] g
+        ] f
+      ] e
+
+  machine_arc_same : (t m : ℕ) → dirty t ≡ false → ¬ (IsDirtyMachine k after keys turned m × IsTrue (prefers k m t)) → arc_of after (Task t) (Machine m) ≡ arc_of k (Task t) (Machine m)
+  machine_arc_same t m e h =
+      elim (prefers k m t) as (λ b. prefers k m t ≡ b → arc_of after (Task t) (Machine m) ≡ arc_of k (Task t) (Machine m)) [
+        | true ↦ λ p.
+            let room : (r : ℕ) → room_arc after r m ≡ room_arc k r m = λ r. room_same r m (λ d. h (d, p)) in
+            λ i. cond (passes (λ m. true) (holder_same t e i)) (when (passes (λ x. x == m) (holder_same t e i)) (1, 0)) (and_then (λ s. and_then (λ credit. option_map (λ a. (1, a.1 - credit)) (room s.request i)) (lookup nat_cmp m s.prefer)) (live_same t e i))
+        | false ↦ λ p.
+            unpreferred after t m (prefers_same t e m ∙ p)
+            ∙ (λ i. cond (passes (λ m. true) (holder_same t e i)) (when (passes (λ x. x == m) (holder_same t e i)) (1, 0)) None)
+            ∙ sym (unpreferred k t m p)
+      ] refl
+
+  task_arc_same : (t : ℕ) → dirty t ≡ false → (b : Node) → ¬ MayDiffer k after keys turned (Task t) b → arc_of after (Task t) b ≡ arc_of k (Task t) b
+  task_arc_same t e (Request r) h = ap (λ w. when w (1, 0)) (waits_same r t e)
+  task_arc_same t e (Machine m) h = machine_arc_same t m e (λ x. h (inr x))
+  task_arc_same t e (Unscheduled j) h =
       (λ i. job_arc (passes (λ s. s.job == j) (live_same t e i)) (passes (λ m. true) (holder_same t e i)) (job_of after j))
       ∙ elim (is_live_of k j t) as (λ b. is_live_of k j t ≡ b → job_arc b (is_held k t) (job_of after j) ≡ job_arc b (is_held k t) (job_of k j)) [
         | true ↦ λ live.
@@ -316,17 +345,20 @@ module _ (k after : Table) (keys : Keys) (turned : List ℕ) (same : SameBeyond 
             ap (λ o. job_arc true (is_held k t) o) (same.jobs j told)
         | false ↦ λ _. refl
       ] refl
-  task_arc_same t e _ = refl
+  task_arc_same t e _ h = refl
 
   -- the arc of a request that stays a node, or stays none, to a machine that is not dirty
   pub request_arc_same : (r m : ℕ) → is_node after (Request r) ≡ is_node k (Request r) → ¬ IsDirtyMachine k after keys turned m → arc_of after (Request r) (Machine m) ≡ arc_of k (Request r) (Machine m)
   request_arc_same r m e h =
-      ap (λ b. cond b (and_then (λ state. and_then (place_arc after r m state) (spare_of after m)) (open_state after m)) None) e
-      ∙ place_same r m h (is_node k (Request r))
+      λ i. cond (e i) (room_same r m h i) None
 
   -- an arc between what does not differ stands as it did
   pub arc_same : (a b : Node) → ¬ MayDiffer k after keys turned a b → arc_of after a b ≡ arc_of k a b
-  arc_same (Task t) b h = task_arc_same t (either_false (dirty t) h) b
+  arc_same (Task t) (Machine m) h = task_arc_same t (either_false (dirty t) (λ x. h (inl x))) (Machine m) h
+  arc_same (Task t) Sink h = task_arc_same t (either_false (dirty t) h) Sink h
+  arc_same (Task t) (Unscheduled j) h = task_arc_same t (either_false (dirty t) h) (Unscheduled j) h
+  arc_same (Task t) (Request r) h = task_arc_same t (either_false (dirty t) h) (Request r) h
+  arc_same (Task t) (Task u) h = task_arc_same t (either_false (dirty t) h) (Task u) h
   arc_same (Request r) (Machine m) h = request_arc_same r m (request_node_same r (λ x. h (inl x))) (λ x. h (inr x))
   arc_same (Machine m) Sink h = ap (option_map (λ state. (state.slots, 0))) (state_same m h)
   arc_same (Unscheduled j) Sink h = λ i. when (job_node_same j h i) (count_same j h i, 0)

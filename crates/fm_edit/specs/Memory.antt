@@ -7,8 +7,8 @@ use Rattle.fm_edit.specs.declared.index.Index.{Index}
 use Rattle.fm_edit.specs.declared.memory.Memory.{Memory}
 use Rattle.fm_net.specs.Net.{Net}
 use Rattle.fm_net.specs.Network.{net_of}
-use Rattle.fm_edit.specs.Sight.{sight_of, seen_in}
-use Rattle.fm_edit.specs.Index.{is_listed, counts_at, weight_at, lists, sum_in}
+use Rattle.fm_edit.specs.Sight.{sight_of, seen_in, prefers_in}
+use Rattle.fm_edit.specs.Index.{is_listed, counts_at, weight_at, lists, lists_preferred, sum_in}
 
 -- what the tasks that are not out add up to at a node
 abbrev pub sum_over : (ℕ → Bool) → Table → Node → ℕ
@@ -24,6 +24,7 @@ also_out t out q = is_eq (nat_cmp q t) || out q
 -- the tasks that are not out are listed where they are to be, and count
 pub record Counts (out : ℕ → Bool) (k : Table) (x : Index) : Type 0 where
   pub listed : (n : Node) (t : ℕ) → lists x n t ≡ (is_listed (sight_of k) n t && not (out t))
+  pub preferred : (m t : ℕ) → lists_preferred x m t ≡ (prefers_in (sight_of k) m t && not (out t))
   pub sums : (n : Node) → sum_in x n ≡ sum_over out k n
 
 -- A memory is of a table where its records are those of the table, with the spots that the winners of the present attempts name,

@@ -1,6 +1,6 @@
 -- What an Editor has in sight of a table: its records, and of each task the spot that the winner of its present attempt names.
 -- The facts on these are those of the table. Own.
-use Rattle.std.specs.Prelude.{ℕ, Bool, true, cond, not, ◌==◌, ◌&&◌, Option, None, option_map}
+use Rattle.std.specs.Prelude.{ℕ, Bool, true, cond, not, ◌==◌, ◌&&◌, is_some, Option, None, option_map}
 use Rattle.std.specs.Ordering.{nat_cmp}
 use Rattle.std.specs.BTreeMap.{get}
 use Rattle.fm_lattice.specs.Maps.{lookup}
@@ -59,6 +59,10 @@ present_in s p = passes (λ r. true) (open_in s p.machine) && passes (λ i. i ==
 -- the machine that holds a live task
 abbrev pub holder_in : Sight → ℕ → Option ℕ
 holder_in s t = cond (passes (λ r. true) (live_in s t)) (option_map (λ p. p.machine) (only_if (present_in s) (s.spot t))) None
+
+-- a live task that no machine holds prefers the machine
+abbrev pub prefers_in : Sight → ℕ → ℕ → Bool
+prefers_in s m t = passes (λ r. is_some (lookup nat_cmp m r.prefer)) (live_in s t) && not (passes (λ h. true) (holder_in s t))
 
 -- the reported use
 abbrev pub used_in : Sight → ℕ → ℕ

@@ -3,10 +3,10 @@ use Rattle.std.specs.Prelude.{◌≡◌, ℕ, Bool, true, Option, Some}
 use Rattle.std.specs.List.{list_any}
 use Rattle.std.specs.Ordering.{is_eq}
 use Rattle.fm_net.specs.declared.node.Node.{Node}
-use Rattle.fm_net.specs.declared.node.Node.TheVariants.{Task}
+use Rattle.fm_net.specs.declared.node.Node.TheVariants.{Machine, Task}
 use Rattle.fm_net.specs.Nodes.{node_cmp, ends_cmp}
 use Rattle.fm_edit.specs.declared.touched.Touched.{Touched}
-use Rattle.fm_edit.specs.Sight.{Sight, job_node_in, request_node_in, holder_node_in}
+use Rattle.fm_edit.specs.Sight.{Sight, job_node_in, request_node_in, holder_node_in, prefers_in}
 
 abbrev pub has_touched : Touched → Node → Bool
 has_touched x n = list_any (λ m. is_eq (node_cmp n m)) x.nodes.keys
@@ -29,3 +29,4 @@ pub record TouchesTask (s : Sight) (t : ℕ) (x : Touched) : Type 0 where
   pub job : Leads x t (job_node_in s t)
   pub request : Leads x t (request_node_in s t)
   pub holder : Leads x t (holder_node_in s t)
+  pub preferred : (m : ℕ) → prefers_in s m t ≡ true → has_pair x (Task t) (Machine m) ≡ true

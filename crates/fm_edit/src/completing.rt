@@ -1,6 +1,6 @@
 //! The pairs that touched nodes bring with them.
 
-ghost use Rattle.std.specs.Prelude.{◌≡◌, ℕ, true, false, filter, is_some, IsTrue, IfOk, OnOk};
+ghost use Rattle.std.specs.Prelude.{◌≡◌, ◌<◌, ◌^◌, ℕ, true, false, filter, is_some, IsTrue, IfOk, OnOk};
 ghost use Rattle.std.specs.List.{list_any};
 ghost use Rattle.std.specs.Ordering.{nat_cmp};
 ghost use Rattle.std.specs.BTreeMap.{get};
@@ -9,7 +9,7 @@ ghost use Rattle.fm_net.specs.Nodes.{node_cmp};
 ghost use Rattle.fm_net.specs.Net.{has_node};
 ghost use Rattle.fm_net.specs.Touched.{is_among};
 ghost use Rattle.fm_edit.specs.Sight.{seen_in};
-ghost use Rattle.fm_edit.specs.Index.{sum_in};
+ghost use Rattle.fm_edit.specs.Index.{sum_in, lists_preferred};
 ghost use Rattle.fm_edit.specs.Shown.{node_shown};
 ghost use Rattle.fm_edit.specs.Touched.{has_pair, Grows};
 ghost use Rattle.fm_edit.specs.Completing.{Completes, is_request, is_machine, leads_to_sink, waiting_in};
@@ -21,11 +21,12 @@ use crate::touched::Touched;
 use fm_lattice::join::OutOfMemory;
 use fm_net::network::Network;
 use fm_net::node::Node;
-use fm_records::ids::MachineId;
+use fm_records::ids::{MachineId, TaskId};
 use std::alloc::Global;
 
 /// Touches the pairs of each touched machine and job with the sink, of each touched machine with each request that is
-/// touched or waits, and of each touched request that came or went as a node with each machine that is known.
+/// touched or waits and with each task that waits and prefers it, and of each touched request that came or went as a node
+/// with each machine that is known.
 /// O(log n) for each of these pairs.
 pub(crate) fn touch_pairs(
     alloc: Global,
@@ -34,7 +35,7 @@ pub(crate) fn touch_pairs(
     index: &Index,
     network: &Network,
 ) -> Result<(), OutOfMemory>
-    ensures { OnOk result (Completes (seen_in seen.now) (sum_in index.now) network.now touched.old touched.new) }
+    ensures { OnOk result (Completes (seen_in seen.now) index.now network.now touched.old touched.new) }
 {
     let nodes = nodes_of(alloc, touched)?;
     let requests = requests_of(alloc, nodes.as_slice())?;
@@ -43,6 +44,7 @@ pub(crate) fn touch_pairs(
     touch_machines(touched, nodes.as_slice(), requests.as_slice())?;
     touch_machines(touched, nodes.as_slice(), waiting.as_slice())?;
     touch_requests(touched, nodes.as_slice(), seen, index, network)?;
+    touch_preferring(touched, nodes.as_slice(), index)?;
     Ok(())
 }
 
@@ -132,6 +134,47 @@ fn touch_sink(touched: &mut Touched, node: &Node) -> Result<(), OutOfMemory>
         Node::Unscheduled(_) | Node::Machine(_) => touched.pair(node, &Node::Sink),
         Node::Sink | Node::Request(_) | Node::Task(_) => Ok(()),
     }
+}
+
+// Touches the pairs of the machines among the nodes and the tasks that wait and prefer them.
+fn touch_preferring(touched: &mut Touched, nodes: &[Node], index: &Index) -> Result<(), OutOfMemory>
+    ensures grows { OnOk result (Grows touched.old touched.new) }
+    ensures same { OnOk result (touched.new.nodes ≡ touched.old.nodes) }
+    ensures has { OnOk result ((n : NodeName) → is_among node_cmp nodes.now n ≡ true → (m t : ℕ) → n ≡ NodeName.Machine m → t < 2 ^ 128 → lists_preferred index.now m t ≡ true → has_pair touched.new (NodeName.Task t) n ≡ true) }
+{
+    for node in nodes {
+        touch_preferring_at(touched, node, index)?;
+    }
+    Ok(())
+}
+
+fn touch_preferring_at(touched: &mut Touched, node: &Node, index: &Index) -> Result<(), OutOfMemory>
+    ensures grows { OnOk result (Grows touched.old touched.new) }
+    ensures same { OnOk result (touched.new.nodes ≡ touched.old.nodes) }
+    ensures has { OnOk result ((m t : ℕ) → node.now ≡ NodeName.Machine m → t < 2 ^ 128 → lists_preferred index.now m t ≡ true → has_pair touched.new (NodeName.Task t) node.now ≡ true) }
+{
+    match node {
+        Node::Machine(machine) => touch_preferring_of(touched, *machine, index),
+        Node::Sink | Node::Unscheduled(_) | Node::Request(_) | Node::Task(_) => Ok(()),
+    }
+}
+
+// Touches the pairs of the machine and the tasks that wait and prefer it. O(log n) for each.
+fn touch_preferring_of(
+    touched: &mut Touched,
+    machine: MachineId,
+    index: &Index,
+) -> Result<(), OutOfMemory>
+    ensures grows { OnOk result (Grows touched.old touched.new) }
+    ensures same { OnOk result (touched.new.nodes ≡ touched.old.nodes) }
+    ensures has { OnOk result ((t : ℕ) → t < 2 ^ 128 → lists_preferred index.now machine t ≡ true → has_pair touched.new (NodeName.Task t) (NodeName.Machine machine) ≡ true) }
+{
+    let first = (machine, TaskId::new(0));
+    let last = (machine, TaskId::new(u128::MAX));
+    for pair in index.preferred.range(first..=last) {
+        touched.pair(&Node::Task(pair.1), &Node::Machine(machine))?;
+    }
+    Ok(())
 }
 
 // Touches the pairs of the requests and each machine among the nodes.

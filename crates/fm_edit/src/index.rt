@@ -1,31 +1,34 @@
 //! Where tasks are listed, and what they add up to.
 
-ghost use Rattle.std.specs.Prelude.{◌≡◌, ℕ, ◌+◌, ◌-◌, ◌<◌, ◌^◌, ◌&&◌, true, false, [], cond, length, OnOk};
+ghost use Rattle.std.specs.Prelude.{◌≡◌, ℕ, ◌+◌, ◌-◌, ◌<◌, ◌^◌, ◌&&◌, true, false, is_some, [], cond, length, OnOk};
 ghost use Rattle.fm_records.specs.Know.{know};
 ghost use Rattle.std.specs.Ordering.{is_eq, nat_cmp};
+ghost use Rattle.fm_lattice.specs.Maps.{lookup};
 ghost use Rattle.fm_records.specs.Options.{passes};
 ghost use Rattle.fm_records.specs.TableLaws.{Rises};
 ghost use Rattle.fm_records.specs.Table.{Table};
 ghost use Rattle.fm_records.specs.Ranges.{CanBe};
 ghost use Rattle.fm_net.specs.declared.node.Node.{Node as NodeName};
 ghost use Rattle.fm_net.specs.Nodes.{node_cmp};
-ghost use Rattle.fm_edit.specs.Sight.{sight_of, seen_in};
+ghost use Rattle.fm_edit.specs.Sight.{sight_of, seen_in, prefers_in};
 ghost use Rattle.fm_edit.specs.Dirty.{has_id};
 ghost use Rattle.fm_edit.specs.Memory.{none_out, Counts};
-ghost use Rattle.fm_edit.specs.Index.{is_listed, listed_cmp, lists, sum_in, amount_at};
+ghost use Rattle.fm_edit.specs.Index.{is_listed, listed_cmp, lists, lists_preferred, sum_in, amount_at};
 
 use crate::seen::Seen;
 use fm_lattice::join::OutOfMemory;
 use fm_net::node::Node;
-use fm_records::ids::TaskId;
+use fm_records::ids::{MachineId, TaskId};
+use fm_records::prefer::Prefer;
 use std::alloc::Global;
 use std::collections::{BTreeMap, BTreeSet};
 
-/// The tasks by job and by their winner's machine; and of each job how many live tasks it has, of each request how many
+/// The tasks by job, by their winner's machine, and, while they wait, by each machine that they prefer; and of each job how many live tasks it has, of each request how many
 /// wait for it, and of each machine the sum of the requests of the tasks that it holds, where these are not 0.
 #[derive(Drop)]
 pub(crate) struct Index {
     pub(crate) listed: BTreeSet<(Node, TaskId)>,
+    pub(crate) preferred: BTreeSet<(MachineId, TaskId)>,
     pub(crate) sums: BTreeMap<Node, u128>,
 }
 
@@ -36,6 +39,7 @@ impl Index {
     {
         Index {
             listed: BTreeSet::new(alloc),
+            preferred: BTreeSet::new(alloc),
             sums: BTreeMap::new(alloc),
         }
     }
@@ -51,6 +55,7 @@ impl Index {
     fn set_sum(&mut self, node: Node, sum: u128) -> Result<(), OutOfMemory>
         ensures sums { OnOk result ((n : NodeName) → sum_in self.new n ≡ cond (is_eq (node_cmp node n)) sum (sum_in self.old n)) }
         ensures lists { self.new.listed ≡ self.old.listed }
+        ensures preferred { self.new.preferred ≡ self.old.preferred }
     {
         if sum == 0 {
             self.sums.remove(&node);
@@ -64,6 +69,7 @@ impl Index {
     fn raise(&mut self, node: Node, by: u128) -> Result<(), OutOfMemory>
         ensures sums { OnOk result ((n : NodeName) → sum_in self.old n + cond (is_eq (node_cmp node n)) by 0 < 2 ^ 128 → sum_in self.new n ≡ sum_in self.old n + cond (is_eq (node_cmp node n)) by 0) }
         ensures lists { self.new.listed ≡ self.old.listed }
+        ensures preferred { self.new.preferred ≡ self.old.preferred }
     {
         let sum = self.sum(&node).saturating_add(by);
         self.set_sum(node, sum)
@@ -73,6 +79,7 @@ impl Index {
     fn lower(&mut self, node: Node, by: u128) -> Result<(), OutOfMemory>
         ensures sums { OnOk result ((n : NodeName) → sum_in self.new n ≡ sum_in self.old n - cond (is_eq (node_cmp node n)) by 0) }
         ensures lists { self.new.listed ≡ self.old.listed }
+        ensures preferred { self.new.preferred ≡ self.old.preferred }
     {
         let sum = self.sum(&node).saturating_sub(by);
         self.set_sum(node, sum)
@@ -82,6 +89,7 @@ impl Index {
     fn list_at(&mut self, node: Option<Node>, task: TaskId) -> Result<(), OutOfMemory>
         ensures lists { OnOk result ((n : NodeName) (t : ℕ) → lists self.new n t ≡ cond (passes (λ x. is_eq (listed_cmp (x, task) (n, t))) node) true (lists self.old n t)) }
         ensures sums { self.new.sums ≡ self.old.sums }
+        ensures preferred { self.new.preferred ≡ self.old.preferred }
     {
         if let Some(node) = node {
             self.listed.insert((node, task))?;
@@ -93,9 +101,54 @@ impl Index {
     fn unlist_at(&mut self, node: Option<Node>, task: TaskId)
         ensures lists { (n : NodeName) (t : ℕ) → lists self.new n t ≡ cond (passes (λ x. is_eq (listed_cmp (x, task) (n, t))) node) false (lists self.old n t) }
         ensures sums { self.new.sums ≡ self.old.sums }
+        ensures preferred { self.new.preferred ≡ self.old.preferred }
     {
         if let Some(node) = node {
             self.listed.remove(&(node, task));
+        }
+    }
+
+    // Lists the task at its job and at its winner's machine, as it was seen.
+    fn list(&mut self, seen: &Seen, task: TaskId) -> Result<(), OutOfMemory>
+        ensures lists { OnOk result ((n : NodeName) (t : ℕ) → lists self.new n t ≡ cond (is_eq (nat_cmp task t) && is_listed (seen_in seen.now) n t) true (lists self.old n t)) }
+        ensures preferred { self.new.preferred ≡ self.old.preferred }
+        ensures sums { self.new.sums ≡ self.old.sums }
+    {
+        self.list_at(seen.job_node(task), task)?;
+        self.list_at(seen.spot_node(task), task)?;
+        Ok(())
+    }
+
+    // Lists the task no more at its job and at its winner's machine, as it was seen.
+    fn unlist(&mut self, seen: &Seen, task: TaskId)
+        ensures lists { (n : NodeName) (t : ℕ) → lists self.new n t ≡ cond (is_eq (nat_cmp task t) && is_listed (seen_in seen.now) n t) false (lists self.old n t) }
+        ensures preferred { self.new.preferred ≡ self.old.preferred }
+        ensures sums { self.new.sums ≡ self.old.sums }
+    {
+        self.unlist_at(seen.job_node(task), task);
+        self.unlist_at(seen.spot_node(task), task);
+    }
+
+    // Puts the task into the lists of the machines.
+    fn list_preferred(&mut self, prefer: &Prefer, task: TaskId) -> Result<(), OutOfMemory>
+        ensures preferred { OnOk result ((m t : ℕ) → lists_preferred self.new m t ≡ cond (is_eq (nat_cmp task t) && is_some (lookup nat_cmp m prefer.now)) true (lists_preferred self.old m t)) }
+        ensures lists { self.new.listed ≡ self.old.listed }
+        ensures sums { self.new.sums ≡ self.old.sums }
+    {
+        for entry in prefer.entries() {
+            self.preferred.insert((entry.0, task))?;
+        }
+        Ok(())
+    }
+
+    // Takes the task from the lists of the machines.
+    fn unlist_preferred(&mut self, prefer: &Prefer, task: TaskId)
+        ensures preferred { (m t : ℕ) → lists_preferred self.new m t ≡ cond (is_eq (nat_cmp task t) && is_some (lookup nat_cmp m prefer.now)) false (lists_preferred self.old m t) }
+        ensures lists { self.new.listed ≡ self.old.listed }
+        ensures sums { self.new.sums ≡ self.old.sums }
+    {
+        for entry in prefer.entries() {
+            self.preferred.remove(&(entry.0, task));
         }
     }
 
@@ -103,6 +156,7 @@ impl Index {
     fn count(&mut self, seen: &Seen, task: TaskId) -> Result<(), OutOfMemory>
         ensures sums { OnOk result ((n : NodeName) → sum_in self.old n + amount_at (seen_in seen.now) n task < 2 ^ 128 → sum_in self.new n ≡ sum_in self.old n + amount_at (seen_in seen.now) n task) }
         ensures lists { self.new.listed ≡ self.old.listed }
+        ensures preferred { self.new.preferred ≡ self.old.preferred }
     {
         let Some(spec) = seen.live_spec(task) else {
             return Ok(());
@@ -118,6 +172,7 @@ impl Index {
     fn uncount(&mut self, seen: &Seen, task: TaskId) -> Result<(), OutOfMemory>
         ensures sums { OnOk result ((n : NodeName) → sum_in self.new n ≡ sum_in self.old n - amount_at (seen_in seen.now) n task) }
         ensures lists { self.new.listed ≡ self.old.listed }
+        ensures preferred { self.new.preferred ≡ self.old.preferred }
     {
         let Some(spec) = seen.live_spec(task) else {
             return Ok(());
@@ -132,20 +187,22 @@ impl Index {
     /// Lists the task and lets it count, as it was seen. O(log n).
     fn put_back(&mut self, seen: &Seen, task: TaskId) -> Result<(), OutOfMemory>
         ensures lists { OnOk result ((n : NodeName) (t : ℕ) → lists self.new n t ≡ cond (is_eq (nat_cmp task t) && is_listed (seen_in seen.now) n t) true (lists self.old n t)) }
+        ensures preferred { OnOk result ((m t : ℕ) → lists_preferred self.new m t ≡ cond (is_eq (nat_cmp task t) && prefers_in (seen_in seen.now) m t) true (lists_preferred self.old m t)) }
         ensures sums { OnOk result ((n : NodeName) → sum_in self.old n + amount_at (seen_in seen.now) n task < 2 ^ 128 → sum_in self.new n ≡ sum_in self.old n + amount_at (seen_in seen.now) n task) }
     {
-        self.list_at(seen.job_node(task), task)?;
-        self.list_at(seen.spot_node(task), task)?;
+        self.list(seen, task)?;
+        self.list_preferred(&seen.preferred(task), task)?;
         self.count(seen, task)
     }
 
     /// Lists the task no more and lets it count no more, as it was seen. O(log n).
     fn take_out(&mut self, seen: &Seen, task: TaskId) -> Result<(), OutOfMemory>
         ensures lists { OnOk result ((n : NodeName) (t : ℕ) → lists self.new n t ≡ cond (is_eq (nat_cmp task t) && is_listed (seen_in seen.now) n t) false (lists self.old n t)) }
+        ensures preferred { OnOk result ((m t : ℕ) → lists_preferred self.new m t ≡ cond (is_eq (nat_cmp task t) && prefers_in (seen_in seen.now) m t) false (lists_preferred self.old m t)) }
         ensures sums { OnOk result ((n : NodeName) → sum_in self.new n ≡ sum_in self.old n - amount_at (seen_in seen.now) n task) }
     {
-        self.unlist_at(seen.job_node(task), task);
-        self.unlist_at(seen.spot_node(task), task);
+        self.unlist(seen, task);
+        self.unlist_preferred(&seen.preferred(task), task);
         self.uncount(seen, task)
     }
 

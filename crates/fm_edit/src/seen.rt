@@ -1,17 +1,18 @@
 //! What was seen last of what is known.
 
-ghost use Rattle.std.specs.Prelude.{◌≡◌, ◌<◌, ◌^◌, [], not, length};
+ghost use Rattle.std.specs.Prelude.{◌≡◌, ℕ, ◌<◌, ◌^◌, [], not, is_some, length};
 ghost use Rattle.fm_records.specs.Know.{know};
 ghost use Rattle.std.specs.Ordering.{nat_cmp};
-ghost use Rattle.fm_lattice.specs.Maps.{IsRising};
+ghost use Rattle.fm_lattice.specs.Maps.{lookup, IsRising};
 ghost use Rattle.fm_records.specs.Table.{Table};
 ghost use Rattle.fm_records.specs.Options.{passes};
 ghost use Rattle.fm_records.specs.Facts.{is_done};
-ghost use Rattle.fm_edit.specs.Sight.{sight_of, seen_in, job_node_in, request_node_in, holder_node_in, spot_node_in, spec_in, progress_in, live_in, open_in, present_in, holder_in, used_in};
+ghost use Rattle.fm_edit.specs.Sight.{sight_of, seen_in, job_node_in, request_node_in, holder_node_in, spot_node_in, spec_in, progress_in, live_in, open_in, present_in, holder_in, prefers_in, used_in};
 
 use fm_net::node::Node;
 use fm_records::ids::{JobId, MachineId, TaskId};
 use fm_records::ops::Phase;
+use fm_records::prefer::Prefer;
 use fm_records::records::{JobReg, MachineRec, MachineReg, SpecReg, Spot, TaskRec};
 use std::alloc::Global;
 use std::collections::BTreeMap;
@@ -95,6 +96,16 @@ impl Seen {
             return None;
         }
         Some(spec)
+    }
+
+    /// The machines that the task prefers, while it waits; else none.
+    pub(crate) fn preferred(&self, task: TaskId) -> Prefer
+        ensures { (m : ℕ) → is_some (lookup nat_cmp m result) ≡ prefers_in (seen_in self.now) m task }
+    {
+        match self.live_spec(task) {
+            Some(spec) if self.holder(task).is_none() => spec.prefer,
+            _ => Prefer::default(),
+        }
     }
 
     /// The state of the machine, if it is open.

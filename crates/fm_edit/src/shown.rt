@@ -1,12 +1,14 @@
 //! The nodes and arcs of the network of what was seen, one by one.
 
-ghost use Rattle.std.specs.Prelude.{◌≡◌, ◌+◌, Some, None, cond, IfSome};
+ghost use Rattle.std.specs.Prelude.{◌≡◌, ◌+◌, ◌-◌, Some, None, cond, option_map, IfSome};
+ghost use Rattle.std.specs.Ordering.{nat_cmp};
+ghost use Rattle.fm_lattice.specs.Maps.{lookup};
 ghost use Rattle.fm_records.specs.Options.{and_then, when};
 ghost use Rattle.fm_net.specs.declared.node.Node.{Node as NodeName};
 ghost use Rattle.fm_net.specs.Network.{places};
-ghost use Rattle.fm_edit.specs.Sight.{seen_in};
+ghost use Rattle.fm_edit.specs.Sight.{seen_in, live_in};
 ghost use Rattle.fm_edit.specs.Index.{sum_in, counts_at};
-ghost use Rattle.fm_edit.specs.Shown.{node_shown, load_shown, spare_shown, arc_shown};
+ghost use Rattle.fm_edit.specs.Shown.{node_shown, load_shown, spare_shown, room_shown, arc_shown};
 
 use crate::index::Index;
 use crate::seen::Seen;
@@ -35,7 +37,7 @@ pub(crate) fn arc(seen: &Seen, index: &Index, from: &Node, to: &Node) -> Option<
         (Node::Request(request), Node::Machine(machine)) => place_arc(
             seen, index, *request, *machine,
         ),
-        (Node::Task(task), Node::Machine(machine)) => held_arc(seen, *task, *machine),
+        (Node::Task(task), Node::Machine(machine)) => machine_arc(seen, index, *task, *machine),
         (Node::Task(task), Node::Unscheduled(job)) => job_arc(seen, *task, *job),
         (Node::Machine(machine), Node::Sink) => slots_arc(seen, *machine),
         (Node::Unscheduled(job), Node::Sink) => live_arc(index, *job),
@@ -55,15 +57,25 @@ fn waiting_arc(seen: &Seen, task: TaskId, request: u32) -> Option<(u64, u32)>
     }
 }
 
-// A task to the machine that holds it.
-fn held_arc(seen: &Seen, task: TaskId, machine: MachineId) -> Option<(u64, u32)>
-    ensures { result ≡ when (counts_at (seen_in seen.now) (NodeName.Machine machine) task) (1, 0) }
+// A task that is held to the machine that holds it, and a live one that is not to one that it prefers and that has room.
+fn machine_arc(seen: &Seen, index: &Index, task: TaskId, machine: MachineId) -> Option<(u64, u32)>
+    ensures { result ≡ arc_shown (seen_in seen.now) (sum_in index.now) (NodeName.Task task) (NodeName.Machine machine) }
 {
-    if seen.holder(task)? == machine {
-        Some((1, 0))
-    } else {
-        None
+    match seen.holder(task) {
+        Some(holder) if holder == machine => Some((1, 0)),
+        Some(_) => None,
+        None => preferred_arc(seen, index, task, machine),
     }
+}
+
+// A live task to the machine, where it prefers that and it has room.
+fn preferred_arc(seen: &Seen, index: &Index, task: TaskId, machine: MachineId) -> Option<(u64, u32)>
+    ensures { result ≡ and_then (λ r. and_then (λ credit. option_map (λ a. (1, a.1 - credit)) (room_shown (seen_in seen.now) (sum_in index.now) r.request machine)) (lookup nat_cmp machine r.prefer)) (live_in (seen_in seen.now) task) }
+{
+    let spec = seen.live_spec(task)?;
+    let credit = spec.prefer.credit(machine)?;
+    let (_, cost) = room(seen, index, spec.request, machine)?;
+    Some((1, cost.saturating_sub(credit)))
 }
 
 // A live task to its job, for the price of waiting, or of a preemption where it is held.
@@ -107,6 +119,13 @@ fn place_arc(seen: &Seen, index: &Index, request: u32, machine: MachineId) -> Op
     if index.sum(&Node::Request(request)) == 0 {
         return None;
     }
+    room(seen, index, request, machine)
+}
+
+// For how many tasks of the request the machine has room, and what each costs there, where it is open and has any.
+fn room(seen: &Seen, index: &Index, request: u32, machine: MachineId) -> Option<(u64, u32)>
+    ensures { result ≡ room_shown (seen_in seen.now) (sum_in index.now) request machine }
+{
     let state = seen.open_state(machine)?;
     let load = load(seen, index, machine);
     if load > u128::from(state.nic) {

@@ -1,6 +1,8 @@
 //! The nodes and pairs of nodes that a delta touches.
 
-ghost use Rattle.std.specs.Prelude.{◌≡◌, ℕ, true, OnOk};
+ghost use Rattle.std.specs.Prelude.{◌≡◌, ℕ, true, is_some, OnOk};
+ghost use Rattle.std.specs.Ordering.{nat_cmp};
+ghost use Rattle.fm_lattice.specs.Maps.{lookup};
 ghost use Rattle.fm_records.specs.TableLaws.{Rises};
 ghost use Rattle.fm_net.specs.Nodes.{node_cmp, ends_cmp};
 ghost use Rattle.fm_net.specs.declared.node.Node.{Node as NodeName};
@@ -12,6 +14,7 @@ use crate::seen::Seen;
 use fm_lattice::join::OutOfMemory;
 use fm_net::node::Node;
 use fm_records::ids::{JobId, MachineId, TaskId};
+use fm_records::prefer::Prefer;
 use std::alloc::Global;
 use std::collections::BTreeSet;
 
@@ -79,7 +82,19 @@ impl Touched {
         self.node(&Node::Task(task))?;
         self.lead(task, seen.job_node(task))?;
         self.lead(task, seen.request_node(task))?;
-        self.lead(task, seen.holder_node(task))
+        self.lead(task, seen.holder_node(task))?;
+        self.preferred(task, &seen.preferred(task))
+    }
+
+    // Touches the pairs of the task and the machines.
+    fn preferred(&mut self, task: TaskId, prefer: &Prefer) -> Result<(), OutOfMemory>
+        ensures grows { OnOk result (Grows self.old self.new) }
+        ensures has { OnOk result ((m : ℕ) → is_some (lookup nat_cmp m prefer.now) ≡ true → has_pair self.new (NodeName.Task task) (NodeName.Machine m) ≡ true) }
+    {
+        for entry in prefer.entries() {
+            self.pair(&Node::Task(task), &Node::Machine(entry.0))?;
+        }
+        Ok(())
     }
 
     /// Touches the tasks, and where their arcs can lead as they were seen. O(m log m + m log n).

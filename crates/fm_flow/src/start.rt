@@ -20,7 +20,8 @@ use fm_numbered::sums::{at, inflow, sum_at};
 use fm_numbered::unscheduled::unscheduled;
 use std::alloc::Global;
 
-// A task's two arcs, and what its place is worth, from which the price of the slot is still to be taken.
+// A task's arc to its job and one to a place, and what that place is worth, from which the price of the slot is still to be
+// taken.
 #[derive(Debug, Clone, Copy, PartialEq, Eq, PartialOrd, Ord, Drop)]
 struct Choice {
     worth: i64,
@@ -54,8 +55,39 @@ fn worth_of(
     }
 }
 
-// The choices of all tasks: the arc to the job, and the first one to a place.
-fn choices(alloc: Global, numbered: &Numbered, prices: &[i64]) -> Result<Vec<Choice>, OutOfMemory> {
+// What a choice saves where the cheapest slots of its place are free.
+fn gain(numbered: &Numbered, lanes: &Lanes, choice: &Choice) -> i64 {
+    let price = match numbered.places.kind(choice.place) {
+        Kind::Request(request) => match lanes.by_request.group(request).first() {
+            Some(cheapest) => price_at(&lanes.prices, machine_of(numbered, *cheapest)),
+            None => FAR,
+        },
+        Kind::Machine(machine) => price_at(&lanes.prices, machine),
+        _ => FAR,
+    };
+    choice.worth.saturating_sub(price)
+}
+
+// Adds a choice; of those of one task the first that saves the most stays.
+fn add_choice(
+    choices: &mut Vec<Choice>,
+    numbered: &Numbered,
+    lanes: &Lanes,
+    choice: Choice,
+) -> Result<(), OutOfMemory> {
+    match choices.last_mut() {
+        Some(last) if last.left == choice.left => {
+            if gain(numbered, lanes, &choice) > gain(numbered, lanes, last) {
+                *last = choice;
+            }
+        }
+        _ => choices.push(choice)?,
+    }
+    Ok(())
+}
+
+// The choices of all tasks: the arc to the job, and that to a place which saves the most.
+fn choices(alloc: Global, numbered: &Numbered, lanes: &Lanes) -> Result<Vec<Choice>, OutOfMemory> {
     let mut choices = Vec::new(alloc);
     let mut job = None;
     for (arc, ends) in numbered.arcs.iter().enumerate() {
@@ -66,13 +98,13 @@ fn choices(alloc: Global, numbered: &Numbered, prices: &[i64]) -> Result<Vec<Cho
         ) {
             (Kind::Task(_), Kind::Unscheduled(_), _) => job = Some((arc, ends.cost)),
             (Kind::Task(_), _, Some((left, cost))) => {
-                choices.push(Choice {
-                    worth: worth_of(numbered, prices, ends.to, cost, ends.cost),
+                let choice = Choice {
+                    worth: worth_of(numbered, &lanes.prices, ends.to, cost, ends.cost),
                     place: ends.to,
                     placed: arc,
                     left,
-                })?;
-                job = None;
+                };
+                add_choice(&mut choices, numbered, lanes, choice)?;
             }
             _ => {}
         }
@@ -236,20 +268,33 @@ fn keep_given(
     let mut kept = Kept::new(alloc, placing.numbered, given)?;
     let mut others = Vec::with_capacity(alloc, choices.len())?;
     for choice in choices {
-        let (lanes, loading) = (&placing.lanes, &mut placing.loading);
-        if kept.keep(
-            placing.numbered,
-            lanes,
-            loading,
-            choice.place,
-            choice.placed,
-        ) {
-            put(&mut placing.loading.units, choice.placed, 1);
-        } else {
-            others.push(*choice)?;
+        match keep_task(placing, &mut kept, choice.left) {
+            Some(arc) => put(&mut placing.loading.units, arc, 1),
+            None => others.push(*choice)?,
         }
     }
     Ok(others)
+}
+
+// Takes up the path of the task whose arc to its job this is, if it is whole and fits, and answers its arc to a place.
+fn keep_task(placing: &mut Placing<'_>, kept: &mut Kept, left: usize) -> Option<usize> {
+    let task = placing.numbered.arcs.get(left)?.from;
+    for arc in left..placing.numbered.arcs.len() {
+        let ends = placing.numbered.arcs.get(arc)?;
+        if ends.from != task {
+            return None;
+        }
+        if kept.keep(
+            placing.numbered,
+            &placing.lanes,
+            &mut placing.loading,
+            ends.to,
+            arc,
+        ) {
+            return Some(arc);
+        }
+    }
+    None
 }
 
 // The units so far, and those of tasks placed by falling worth, each class where its slots are cheapest.
@@ -275,7 +320,7 @@ fn place_all(
 // The units of all tasks placed by falling worth.
 fn placed(alloc: Global, numbered: &Numbered) -> Result<Vec<u64>, OutOfMemory> {
     let placing = Placing::new(alloc, numbered)?;
-    let choices = choices(alloc, numbered, &placing.lanes.prices)?;
+    let choices = choices(alloc, numbered, &placing.lanes)?;
     place_all(alloc, placing, choices)
 }
 
@@ -286,7 +331,7 @@ fn placed_behind(
     given: &[u64],
 ) -> Result<Vec<u64>, OutOfMemory> {
     let mut placing = Placing::new(alloc, numbered)?;
-    let all = choices(alloc, numbered, &placing.lanes.prices)?;
+    let all = choices(alloc, numbered, &placing.lanes)?;
     let others = keep_given(alloc, &mut placing, &all, given)?;
     place_all(alloc, placing, others)
 }
@@ -307,7 +352,8 @@ fn places_most(numbered: &Numbered, given: &[u64]) -> bool {
 
 /// Tasks placed by falling worth; all unscheduled where that is no flow. Where each arc into a machine costs the request
 /// and the machine's load, and no waiting task has an arc to a machine, this is a least flow: no clause says so, a search
-/// for cycles does. The caller owes a network where all tasks can be unscheduled. O(arcs log arcs), and for each class of
+/// for cycles does. A task that prefers machines is sent to one of them where that saves more than its request, and the search
+/// finds what that did not. The caller owes a network where all tasks can be unscheduled. O(arcs log arcs), and for each class of
 /// tasks at most some searches between requests.
 pub fn start(alloc: Global, numbered: &Numbered) -> Result<Vec<u64>, OutOfMemory>
     requires unscheduled { IsFlowOf numbered.now.places numbered.now.arcs.items (all_unscheduled numbered.now.places numbered.now.arcs.items) }

@@ -1,5 +1,5 @@
 -- The script that a JSON value spells (this project's profile).
-use Rattle.std.specs.Prelude.{◌≡◌, ℕ, ◌+◌, ◌==◌, ◌&&◌, nat_eq, List, [], ◌∷◌, ◌++◌, map, Bool, true, false, not, cond, codes, Option, Some, None, is_some, is_none, option_map}
+use Rattle.std.specs.Prelude.{◌≡◌, ℕ, ◌+◌, ◌==◌, ◌&&◌, nat_eq, nat_le, List, [], ◌∷◌, ◌++◌, length, map, Bool, true, false, not, cond, codes, Option, Some, None, is_some, is_none, option_map}
 use Rattle.std.specs.List.{list_any, flat_map, position_or_len}
 use Rattle.std.specs.Option.{option_to_list}
 use Rattle.std.specs.Cmp.Lexicographic.{pointwise}
@@ -30,6 +30,26 @@ job_of d =
     given (number_32_at (codes "preempt") d) (λ preempt.
     Some (op.Job id version writer withdrawn wait preempt)))))))
 
+-- all of the values, where each is there
+abbrev pub all_of : {A : Type 0} → List (Option A) → Option (List A)
+all_of [] = Some []
+all_of (o ∷ os) = given o (λ a. option_map (λ rest. a ∷ rest) (all_of os))
+
+-- a machine that is preferred, with its credit
+abbrev pub entry_of : Data → Option (ℕ × ℕ)
+entry_of d =
+    given (id_at (codes "machine") d) (λ machine.
+    given (number_32_at (codes "credit") d) (λ credit.
+    Some (machine, credit)))
+
+-- machines that are preferred, in the order of the list: four at most
+abbrev pub entries_of : List Data → Option (List (ℕ × ℕ))
+entries_of ds = cond (nat_le (length ds) 4) (all_of (map entry_of ds)) None
+
+-- none where the member is not there
+abbrev pub prefer_of : Data → Option (List (ℕ × ℕ))
+prefer_of d = cond (is_none (get (codes "prefer") d)) (Some []) (given (items_at (codes "prefer") d) entries_of)
+
 abbrev pub spec_of : Data → Option Op
 spec_of d =
     given (id_at (codes "id") d) (λ id.
@@ -38,7 +58,8 @@ spec_of d =
     given (flag_at (codes "withdrawn") d) (λ withdrawn.
     given (id_at (codes "job") d) (λ job.
     given (number_32_at (codes "request") d) (λ request.
-    Some (op.Spec id version writer withdrawn job request)))))))
+    given (prefer_of d) (λ prefer.
+    Some (op.Spec id version writer withdrawn job request prefer))))))))
 
 -- the name spells the text
 abbrev pub is_text : List ℕ → List ℕ → Bool
@@ -154,11 +175,6 @@ steps_of names (d ∷ ds) = step_of names d ∷ steps_of (names ++ names_in d) d
 -- a coordinator's number, from 1 to 64
 abbrev pub coordinator_of : Data → Option ℕ
 coordinator_of d = only_if is_coordinator (whole_of d)
-
--- all of the values, where each is there
-abbrev pub all_of : {A : Type 0} → List (Option A) → Option (List A)
-all_of [] = Some []
-all_of (o ∷ os) = given o (λ a. option_map (λ rest. a ∷ rest) (all_of os))
 
 -- the number is one of those listed
 abbrev pub is_listed : List ℕ → ℕ → Bool

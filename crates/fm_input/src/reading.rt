@@ -8,7 +8,7 @@ ghost use Rattle.fm_input.specs.Json.{number_at, number_32_at, number_8_at, flag
 ghost use Rattle.std.specs.List.{flat_map};
 ghost use Rattle.std.specs.Option.{option_to_list};
 ghost use Rattle.fm_coord.specs.Numbers.{AreDistinct};
-ghost use Rattle.fm_input.specs.Script.{job_of, spec_of, phase_named, progress_of, first_strange, machine_of, report_of, propose_of, op_of, range_of, cut_of, delivery_of, round_of, act_of, step_of, steps_of, names_in, coordinator_of, listed_of, script_fault, IsScriptOf};
+ghost use Rattle.fm_input.specs.Script.{job_of, entry_of, entries_of, prefer_of, spec_of, phase_named, progress_of, first_strange, machine_of, report_of, propose_of, op_of, range_of, cut_of, delivery_of, round_of, act_of, step_of, steps_of, names_in, coordinator_of, listed_of, script_fault, IsScriptOf};
 
 use crate::names::Names;
 use crate::script::{Act, Script, Step};
@@ -16,6 +16,7 @@ use fm_coord::entry::Range;
 use fm_lattice::join::OutOfMemory;
 use fm_records::ids::{CoordId, JobId, MachineId, TaskId};
 use fm_records::ops::{Op, Phase};
+use fm_records::prefer::Prefer;
 use fm_records::refusal::Refusal;
 use serde_json::Value;
 use std::alloc::Global;
@@ -168,7 +169,7 @@ fn range_in(cut: &Value) -> Option<Range>
     match (cut.get("from"), cut.get("to")) {
         (None, None) => Some(Range::Full),
         (Some(from), Some(to)) => Some(Range::Interval(from.as_u64()?, to.as_u64()?)),
-        _ => None,
+        (None, Some(_)) | (Some(_), None) => None,
     }
 }
 
@@ -245,7 +246,40 @@ fn spec_in(fields: &Value) -> Option<Op>
         withdrawn: flag_in(fields, "withdrawn")?,
         job: JobId::read(text_in(fields, "job")?)?,
         request: number_32_in(fields, "request")?,
+        prefer: prefer_in(fields)?,
     })
+}
+
+// The machines that a spec prefers: none where it has no such member.
+fn prefer_in(fields: &Value) -> Option<Prefer>
+    ensures { result ≡ prefer_of (view fields.now) }
+{
+    if fields.get("prefer").is_none() {
+        return Some(Prefer::default());
+    }
+    entries_in(items_in(fields, "prefer")?)
+}
+
+// The machines with their credits that the items spell: four at most.
+fn entries_in(items: &[Value]) -> Option<Prefer>
+    ensures { result ≡ entries_of (map view items.now) }
+{
+    match items {
+        [] => Some(Prefer::default()),
+        [a] => Prefer::new(&[entry_in(a)?]),
+        [a, b] => Prefer::new(&[entry_in(a)?, entry_in(b)?]),
+        [a, b, c] => Prefer::new(&[entry_in(a)?, entry_in(b)?, entry_in(c)?]),
+        [a, b, c, d] => Prefer::new(&[entry_in(a)?, entry_in(b)?, entry_in(c)?, entry_in(d)?]),
+        _ => None,
+    }
+}
+
+// A machine with its credit.
+fn entry_in(fields: &Value) -> Option<(MachineId, u32)>
+    ensures { result ≡ entry_of (view fields.now) }
+{
+    let machine = MachineId::read(text_in(fields, "machine")?)?;
+    Some((machine, number_32_in(fields, "credit")?))
 }
 
 fn progress_in(fields: &Value) -> Option<Op>

@@ -25,12 +25,7 @@ and_right : (a b : Bool) → a && b ≡ true → b ≡ true
 and_right true b h = h
 and_right false b h = absurd (let no : ⊥ = cc in no)
 
--- no fault where there are two tests, and where there are three
-two : (a b : Bool) (x y : Field) → is_none (cond a (cond b None (Some x)) (Some y)) ≡ true → (a ≡ true) × (b ≡ true)
-two true true x y h = (refl, refl)
-two true false x y h = absurd (let no : ⊥ = cc in no)
-two false b x y h = absurd (let no : ⊥ = cc in no)
-
+-- no fault where there are three tests
 three : (a b c : Bool) (x y z : Field) → is_none (cond a (cond b (cond c None (Some x)) (Some y)) (Some z)) ≡ true → (a ≡ true) × (b ≡ true) × (c ≡ true)
 three true true true x y z h = (refl, refl, refl)
 three true true false x y z h = absurd (let no : ⊥ = cc in no)
@@ -41,7 +36,7 @@ job_within : (j : ℕ) (r : JobReg) → in_range (job_op j r) ≡ true → JobWi
 job_within j r h = let t = three _ _ _ _ _ _ (and_right _ _ h) in record { wait = leb-true _ _ t.1; preempt = leb-true _ _ t.2 }
 
 spec_within : (t : ℕ) (r : SpecReg) → in_range (spec_op t r) ≡ true → SpecWithin r
-spec_within t r h = let p = two _ _ _ _ (and_right _ _ h) in record { request = leb-true _ _ p.1 }
+spec_within t r h = let p = three _ _ _ _ _ _ (and_right _ _ h) in record { request = leb-true _ _ p.1; prefer = p.2 }
 
 state_within : (m i : ℕ) (r : MachineReg) → in_range (machine_op m i r) ≡ true → StateWithin r
 state_within m i r h =

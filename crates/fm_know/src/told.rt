@@ -142,11 +142,13 @@ fn law_fits(op: &Op)
             id,
             version,
             job,
+            prefer,
             ..
         } => {
             law_u128(id.value());
             law_u64(version);
             law_u128(job.value());
+            prefer.law_fits();
         }
         Op::Progress { id, attempt, .. } => {
             law_u128(id.value());

@@ -10,19 +10,32 @@ use Rattle.fm_net.specs.Edits.{change}
 
 -- a job, a machine with 2 slots, and a task that requests 100 and waits
 abbrev waits : List Op
-waits = op.Job 1 1 1 false 500 800 ∷ op.Machine 10 1 1 1 true 2 1000 ∷ op.Spec 17 1 1 false 1 100 ∷ []
+waits = op.Job 1 1 1 false 500 800 ∷ op.Machine 10 1 1 1 true 2 1000 ∷ op.Spec 17 1 1 false 1 100 [] ∷ []
 
 -- a report that leaves no room drops the one arc
 no_room : change (net_of (know waits)) (net_of (know (op.Report 10 1 1 950 ∷ waits))) ≡ DropArc (Request 100) (Machine 10) ∷ []
 no_room = refl
 
+-- and the arc of a task that prefers that machine
+abbrev prefers : List Op
+prefers = op.Spec 17 2 1 false 1 100 ((10, 30) ∷ []) ∷ waits
+
+no_room_preferred : change (net_of (know prefers)) (net_of (know (op.Report 10 1 1 950 ∷ prefers))) ≡ DropArc (Request 100) (Machine 10) ∷ DropArc (Task 17) (Machine 10) ∷ []
+no_room_preferred = refl
+
+-- the arc into a machine that is preferred costs nothing once the machine holds the task
+won_preferred : change (net_of (know prefers)) (net_of (know (op.Propose 17 0 1 10 1 ∷ prefers))) ≡
+    DropArc (Request 100) (Machine 10) ∷ DropArc (Task 17) (Request 100) ∷ DropNode (Request 100)
+    ∷ PutArc (Task 17) (Unscheduled 1) 1 800 ∷ PutArc (Task 17) (Machine 10) 1 0 ∷ []
+won_preferred = refl
+
 -- what is known already changes nothing
-known : change (net_of (know waits)) (net_of (know (op.Spec 17 1 1 false 1 100 ∷ waits))) ≡ []
+known : change (net_of (know waits)) (net_of (know (op.Spec 17 1 1 false 1 100 [] ∷ waits))) ≡ []
 known = refl
 
 -- a task that is won leaves its request, and the other request's arc costs more
 abbrev two_wait : List Op
-two_wait = op.Spec 18 1 1 false 1 50 ∷ waits
+two_wait = op.Spec 18 1 1 false 1 50 [] ∷ waits
 
 won : change (net_of (know two_wait)) (net_of (know (op.Propose 17 0 1 10 1 ∷ two_wait))) ≡
     DropArc (Request 100) (Machine 10) ∷ DropArc (Task 17) (Request 100) ∷ DropNode (Request 100)
@@ -31,7 +44,7 @@ won = refl
 
 -- a job brings with it the task whose spec came before it; what is known without it has the same network as nothing known
 abbrev spec_alone : List Op
-spec_alone = op.Spec 17 1 1 false 1 100 ∷ []
+spec_alone = op.Spec 17 1 1 false 1 100 [] ∷ []
 
 nothing_yet : net_of (know spec_alone) ≡ net_of (know [])
 nothing_yet = refl

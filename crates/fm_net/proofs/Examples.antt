@@ -1,5 +1,5 @@
 -- The networks of small tables, computed.
-use Rattle.std.proofs.Common.{◌≡◌, ℕ, ◌+◌, true, false, List, [], ◌∷◌, ◌++◌, Some, refl}
+use Rattle.std.proofs.Common.{◌≡◌, ℕ, ◌+◌, true, false, List, [], ◌∷◌, ◌++◌, Option, Some, None, refl}
 use Rattle.fm_records.specs.declared.ops.Op.{Op}
 use Rattle.fm_records.specs.declared.ops.Op.TheVariants as op
 use Rattle.fm_records.specs.Know.{know}
@@ -31,7 +31,10 @@ abbrev machine_with : ℕ → Op
 machine_with slots = op.Machine A 1 1 1 true slots 1000
 
 abbrev task_of : ℕ → ℕ → Op
-task_of t request = op.Spec t 1 1 false J request
+task_of t request = op.Spec t 1 1 false J request []
+
+abbrev prefers : ℕ → Op
+prefers credit = op.Spec t1 1 1 false J 100 ((A, credit) ∷ [])
 
 nothing_told : net_of (know []) ≡ sink_alone
 nothing_told = refl
@@ -50,6 +53,18 @@ one_task_net = record {
 
 one_task_waits : net_of (know one_task) ≡ one_task_net
 one_task_waits = refl
+
+-- a task that prefers the machine has an arc to it, at the cost of a place there less the credit, and at no cost where the
+-- credit is greater
+preferred : net_of (know (job_with 500 800 ∷ machine_with 2 ∷ prefers 30 ∷ [])) ≡ record { nodes = one_task_net.nodes; arcs = one_task_net.arcs ++ ((Task t1, Machine A), (1, 70)) ∷ [] }
+preferred = refl
+
+preferred_for_nothing : net_of (know (job_with 500 800 ∷ machine_with 2 ∷ prefers 200 ∷ [])) ≡ record { nodes = one_task_net.nodes; arcs = one_task_net.arcs ++ ((Task t1, Machine A), (1, 0)) ∷ [] }
+preferred_for_nothing = refl
+
+-- where there is no room there is no such arc
+preferred_without_room : arc_in (op.Report A 1 1 950 ∷ job_with 500 800 ∷ machine_with 2 ∷ prefers 30 ∷ []) (Task t1) (Machine A) ≡ None
+preferred_without_room = refl
 
 -- a task whose job is not told yet is no node, and told in another order the network is the same
 job_not_told : net_of (know (machine_with 2 ∷ task_of t1 100 ∷ [])) ≡ record { nodes = Sink ∷ Machine A ∷ []; arcs = ((Machine A, Sink), (2, 0)) ∷ [] }
@@ -106,7 +121,7 @@ machine_alone = record { nodes = Sink ∷ Machine A ∷ []; arcs = ((Machine A, 
 job_withdrawn : net_of (know (held ++ op.Job J 2 1 true 500 800 ∷ [])) ≡ machine_alone
 job_withdrawn = refl
 
-spec_withdrawn : net_of (know (op.Spec t1 2 1 true J 100 ∷ held)) ≡ machine_alone
+spec_withdrawn : net_of (know (op.Spec t1 2 1 true J 100 [] ∷ held)) ≡ machine_alone
 spec_withdrawn = refl
 
 -- The arcs of the sets themselves, with no table between.

@@ -1,7 +1,7 @@
 -- The network of a table that can be is one that can be.
-use Rattle.std.specs.Prelude.{◌≡◌, ℕ, ◌+◌, ◌-◌, ◌/◌, ◌<◌, ◌≤◌, ◌^◌, Bool, true, false, cond, ◌==◌, ◌||◌, nat_le, min, count_by, is_none, length, List, [], ◌∷◌, Option, Some, None, refl}
+use Rattle.std.specs.Prelude.{◌≡◌, ℕ, ◌+◌, ◌-◌, ◌/◌, ◌<◌, ◌≤◌, ◌^◌, Bool, true, false, cond, ◌==◌, ◌||◌, min, count_by, is_none, length, List, [], ◌∷◌, Option, Some, None, refl}
 use Rattle.std.specs.List.{list_any}
-use Rattle.std.proofs.Common.{sym, ◌∙◌, subst, eq-eqb, arith}
+use Rattle.std.proofs.Common.{sym, ap, ◌∙◌, subst, eq-eqb, arith}
 use Rattle.std.proofs.lemmas.Bool.{eqb-true, leb-true, ltb-true}
 use Rattle.std.proofs.lemmas.Nat.{le-div}
 use Rattle.std.proofs.lemmas.List.Sums.{count_by-le-length, sum_by-cons}
@@ -15,14 +15,14 @@ use Rattle.fm_records.specs.Spelled.{spec_op, machine_op, task_ops, machine_ops}
 use Rattle.fm_records.specs.Ranges.{in_range, all_in_range, CanBe}
 use Rattle.fm_records.specs.RangeLaws.{when_value, job_in_range, task_in_range, machine_in_range}
 use Rattle.fm_records.specs.Table.{Table, TaskValue, MachineValue}
-use Rattle.fm_records.specs.Facts.{job_of, live_spec, open_state, load_of, spare_of, holds}
+use Rattle.fm_records.specs.Facts.{job_of, live_spec, open_state, load_of, holds}
 use Rattle.fm_net.specs.declared.node.Node.{Node}
 use Rattle.fm_net.specs.declared.node.Node.TheVariants.{Sink, Unscheduled, Request, Machine, Task}
 use Rattle.fm_net.specs.Nodes.{IsInRange}
 use Rattle.fm_net.specs.Net.{CanBeNet}
 use Rattle.fm_net.specs.ListLaws.{some_member}
-use Rattle.fm_net.specs.Network.{is_held, is_live_of, waits_for, is_node, places, place_arc, arc_of, net_of}
-use Rattle.fm_net.specs.NetworkLaws.{passed, came_from, mapped_from, where_true, live_entry, open_entry, ends_of, is_network_of}
+use Rattle.fm_net.specs.Network.{is_held, is_live_of, waits_for, is_node, places, preferred_arc, arc_of, net_of}
+use Rattle.fm_net.specs.NetworkLaws.{passed, came_from, mapped_from, where_true, live_entry, open_entry, room_from, preferred_from, ends_of, is_network_of}
 
 none : {A P : Type 0} {a : A} → None ≡ Some a → P
 none e = absurd (let no : ⊥ = cc in no)
@@ -69,7 +69,7 @@ module _ (k : Table) (is : CanBe k) where
   pub spec_ranges : (t : ℕ) (s : SpecReg) → live_spec k t ≡ Some s → Spec t s
   spec_ranges t s e =
       let parts = both_true _ _ (spec_fine t s e) in
-      let ids = both_true _ _ parts.0 in
+      let ids = both_true _ _ (both_true _ _ parts.0).0 in
       record {
         task = ltb-true t (2 ^ 128) (both_true _ _ ids.0).0;
         job = ltb-true s.job (2 ^ 128) ids.1;
@@ -136,7 +136,15 @@ module _ (k : Table) (is : CanBe k) where
   module _ (few : length k.tasks < 2 ^ 64) where
     arc_within : (a b : Node) (v : ℕ × ℕ) → arc_of k a b ≡ Some v → Within v
     arc_within (Task t) (Request r) v e = within (1, 0) v (when_value (waits_for k r t) (1, 0) v e) (omega arith) (omega arith) (omega arith)
-    arc_within (Task t) (Machine m) v e = within (1, 0) v (when_value (holds k m t) (1, 0) v e) (omega arith) (omega arith) (omega arith)
+    arc_within (Task t) (Machine m) v e = elim (is_held k t) as (λ b. cond b (when (holds k m t) (1, 0)) (and_then (λ s. preferred_arc k s m) (live_spec k t)) ≡ Some v → Within v) [
+      | true ↦ λ f. within (1, 0) v (when_value (holds k m t) (1, 0) v f) (omega arith) (omega arith) (omega arith)
+      | false ↦ λ f.
+          let p = preferred_from k t m v f in
+          let room = p.1.room in
+          let most = state_ranges m room.state room.opened in
+          let cost : p.0.request + load_of k m ≡ p.1.place.1 = ap (λ (a : ℕ × ℕ). a.1) room.value in
+          within _ v p.1.value (omega arith) (omega arith) (omega (arith, cost, room.within, room.room, most.nic))
+    ] e
     arc_within (Task t) (Unscheduled j) v e =
         let job = mapped_from _ (job_of k j) v (where_true (is_live_of k j t) _ v e).1 in
         let prices = job_prices j job.0 job.1 in
@@ -144,16 +152,11 @@ module _ (k : Table) (is : CanBe k) where
         elim (is_held k t) as (λ b. cond b job.0.preempt job.0.wait ≤ 1000000000) [ true ↦ prices.1 | false ↦ prices.0 ] in
         within _ v job.2 (omega arith) (omega arith) price
     arc_within (Request r) (Machine m) v e =
-        let state = came_from (λ s. and_then (place_arc k r m s) (spare_of k m)) (open_state k m) v (where_true (is_node k (Request r)) _ v e).1 in
-        let spare = came_from (place_arc k r m state.0) (spare_of k m) v state.2 in
-        let other = came_from (λ s. when (nat_le (load_of k m) s.nic) (s.nic - load_of k m)) (open_state k m) spare.0 spare.1 in
-        let ranges = state_ranges m state.0 state.1 in
-        let most = state_ranges m other.0 other.1 in
-        let room : r ≤ spare.0 = leb-true r spare.0 (when_true _ _ v spare.2) in
-        let load : load_of k m ≤ other.0.nic = leb-true (load_of k m) other.0.nic (when_true _ _ spare.0 other.2) in
-        let left : other.0.nic - load_of k m ≡ spare.0 = when_value _ _ spare.0 other.2 in
-        let all : places state.0 spare.0 r ≤ state.0.slots = places_within state.0 spare.0 r in
-        within _ v (when_value _ _ v spare.2) (places_above state.0 spare.0 r ranges.slots_above room) (omega (arith, ranges.slots_within)) (omega (arith, most.nic))
+        let p = room_from k r m v (where_true (is_node k (Request r)) _ v e).1 in
+        let spare = p.state.nic - load_of k m in
+        let ranges = state_ranges m p.state p.opened in
+        let all : places p.state spare r ≤ p.state.slots = places_within p.state spare r in
+        within _ v p.value (places_above p.state spare r ranges.slots_above p.room) (omega (arith, all, ranges.slots_within)) (omega (arith, p.within, p.room, ranges.nic))
     arc_within (Machine m) Sink v e =
         let state = mapped_from _ (open_state k m) v e in
         let ranges = state_ranges m state.0 state.1 in

@@ -1,8 +1,10 @@
 -- The network of a table: Firmament's network-aware policy with Quincy's unscheduled aggregators; capacities and costs are
 -- this project's profile.
-use Rattle.std.specs.Prelude.{◌≡◌, ℕ, ◌+◌, ◌/◌, Bool, true, cond, not, ◌==◌, ◌&&◌, List, [], ◌∷◌, ◌++◌, Option, Some, None, option_map, min, count_by, filter, flat_map, map, nat_le}
+use Rattle.std.specs.Prelude.{◌≡◌, ℕ, ◌+◌, ◌-◌, ◌/◌, Bool, true, cond, not, ◌==◌, ◌&&◌, List, [], ◌∷◌, ◌++◌, Option, Some, None, option_map, min, count_by, filter, flat_map, map, nat_le}
 use Rattle.std.specs.List.{list_any}
-use Rattle.fm_lattice.specs.Maps.{IsRising}
+use Rattle.std.specs.Ordering.{nat_cmp}
+use Rattle.fm_lattice.specs.Maps.{lookup, IsRising}
+use Rattle.fm_records.specs.declared.records.SpecReg.{SpecReg}
 use Rattle.fm_records.specs.declared.records.MachineReg.{MachineReg}
 use Rattle.fm_records.specs.Options.{when, and_then, passes}
 use Rattle.fm_records.specs.Sets.{rising, table}
@@ -55,14 +57,22 @@ places state spare r = cond (r == 0) state.slots (min state.slots (spare / r))
 abbrev pub place_arc : Table → ℕ → ℕ → MachineReg → ℕ → Option (ℕ × ℕ)
 place_arc k r m state spare = when (nat_le r spare) (places state spare r, r + load_of k m)
 
+abbrev pub room_arc : Table → ℕ → ℕ → Option (ℕ × ℕ)
+room_arc k r m = and_then (λ state. and_then (place_arc k r m state) (spare_of k m)) (open_state k m)
+
+-- the capacity and cost of a task's arc into a machine that it prefers: where there is room for its request, at the cost that
+-- its request has there less the credit, and at none where the credit is greater
+abbrev pub preferred_arc : Table → SpecReg → ℕ → Option (ℕ × ℕ)
+preferred_arc k s m = and_then (λ credit. option_map (λ a. (1, a.1 - credit)) (room_arc k s.request m)) (lookup nat_cmp m s.prefer)
+
 -- The capacity and cost of the arc from one node to another, where there is one.
 abbrev pub arc_of : Table → Node → Node → Option (ℕ × ℕ)
 -- a live task that is not held, to its request
 arc_of k (Task t) (Request r) = when (waits_for k r t) (1, 0)
 -- a request to a machine that has room for it
-arc_of k (Request r) (Machine m) = cond (is_node k (Request r)) (and_then (λ state. and_then (place_arc k r m state) (spare_of k m)) (open_state k m)) None
--- a task to the machine that holds it
-arc_of k (Task t) (Machine m) = when (holds k m t) (1, 0)
+arc_of k (Request r) (Machine m) = cond (is_node k (Request r)) (room_arc k r m) None
+-- a task that is held to the machine that holds it, and a live one that is not to each machine that it prefers and that has room
+arc_of k (Task t) (Machine m) = cond (is_held k t) (when (holds k m t) (1, 0)) (and_then (λ s. preferred_arc k s m) (live_spec k t))
 -- a live task to its job, for the price of waiting, or of a preemption where it is held
 arc_of k (Task t) (Unscheduled j) = cond (is_live_of k j t) (option_map (λ job. (1, cond (is_held k t) job.preempt job.wait)) (job_of k j)) None
 -- a machine to the sink

@@ -1,28 +1,28 @@
 -- A network is the table's exactly where it is the one computed.
-use Rattle.std.specs.Prelude.{◌≡◌, ◌↔◌, ℕ, Bool, true, false, cond, ◌==◌, [], ◌∷◌, Option, Some, None, option_map, flat_map, map, refl}
+use Rattle.std.specs.Prelude.{◌≡◌, ◌↔◌, ◌≤◌, ℕ, ◌+◌, ◌-◌, nat_le, Bool, true, false, cond, ◌==◌, [], ◌∷◌, Option, Some, None, option_map, flat_map, map, refl}
 use Rattle.std.specs.List.{list_any}
 use Rattle.std.specs.Ordering.{nat_cmp, is_eq}
 use Rattle.std.proofs.Common.{sym, ap, ◌∙◌, subst, inl, inr}
-use Rattle.std.proofs.lemmas.Bool.{eqb-true}
+use Rattle.std.proofs.lemmas.Bool.{eqb-true, leb-true}
 use Rattle.fm_lattice.specs.Chains.{nat_same}
 use Rattle.fm_lattice.specs.Maps.{lookup}
 use Rattle.fm_lattice.specs.MapLaws.{same_map}
 use Rattle.fm_records.specs.declared.records.SpecReg.{SpecReg}
 use Rattle.fm_records.specs.declared.records.MachineReg.{MachineReg}
-use Rattle.fm_records.specs.Options.{and_then, only_if, passes}
+use Rattle.fm_records.specs.Options.{when, and_then, only_if, passes}
 use Rattle.fm_records.specs.Sets.{IsMember, rising}
 use Rattle.fm_records.specs.LookupLaws.{when_true, both_true}
 use Rattle.fm_records.specs.RangeLaws.{inside, when_value}
 use Rattle.fm_records.specs.TableLaws.{rising_table, lookup_table, rises_rising, member_rising}
 use Rattle.fm_records.specs.Table.{Table, TaskValue, MachineValue}
-use Rattle.fm_records.specs.Facts.{spec_of, state_of, live_spec, is_live, open_state, is_open, is_present, won_spot, holder_of, holds, spare_of}
+use Rattle.fm_records.specs.Facts.{spec_of, state_of, live_spec, is_live, open_state, is_open, is_present, won_spot, holder_of, holds, load_of, spare_of}
 use Rattle.fm_net.specs.declared.node.Node.{Node}
 use Rattle.fm_net.specs.declared.node.Node.TheVariants.{Sink, Unscheduled, Request, Machine, Task}
 use Rattle.fm_net.specs.Nodes.{node_cmp, ends_cmp}
 use Rattle.fm_net.specs.NodeOrder.{node_exact, node_total, ends_exact, ends_total}
 use Rattle.fm_net.specs.Net.{Net, IsArcKind}
 use Rattle.fm_net.specs.ListLaws.{any_of, some_member, member_before, member_behind, member_passing, passes_kept, member_mapped, member_of_one, entry_member, has_member, member_has, rises_kept, same_rising}
-use Rattle.fm_net.specs.Network.{is_live_of, waits_for, some_task, is_node, place_arc, arc_of, IsNetworkOf, names_of_task, names, nodes_of, pairs, net_of}
+use Rattle.fm_net.specs.Network.{is_held, is_live_of, waits_for, some_task, is_node, places, place_arc, room_arc, preferred_arc, arc_of, IsNetworkOf, names_of_task, names, nodes_of, pairs, net_of}
 
 none : {A P : Type 0} {a : A} → None ≡ Some a → P
 none e = absurd (let no : ⊥ = cc in no)
@@ -120,26 +120,73 @@ module _ (k : Table) where
     pub to : is_node k b ≡ true
     pub kinds : IsArcKind a b
 
+  -- a task that is held, and the machine that holds it
+  pub held_ends : (t m : ℕ) → holds k m t ≡ true → Ends (Task t) (Machine m)
+  held_ends t m e =
+      let h = passed (λ h. h == m) (holder_of k t) e in
+      let f = where_true (is_live k t) _ h.0 h.1 in
+      let spot = mapped_from (λ s. s.machine) (only_if (is_present k) (won_spot k t)) h.0 f.1 in
+      let present = both_true _ _ (kept (is_present k) (won_spot k t) spot.0 spot.1).1 in
+      record { from = f.0; to = subst (λ q. is_open k q ≡ true) (spot.2 ∙ eqb-true h.0 m h.2) present.0; kinds = tt }
+
+  -- what an arc into a machine with room comes from
+  pub record Room (r m : ℕ) (v : ℕ × ℕ) : Type 0 where
+    pub state : MachineReg
+    pub opened : open_state k m ≡ Some state
+    pub within : load_of k m ≤ state.nic
+    pub room : r ≤ state.nic - load_of k m
+    pub value : (places state (state.nic - load_of k m) r, r + load_of k m) ≡ v
+
+  pub room_from : (r m : ℕ) (v : ℕ × ℕ) → room_arc k r m ≡ Some v → Room r m v
+  room_from r m v e =
+      let state = came_from (λ s. and_then (place_arc k r m s) (spare_of k m)) (open_state k m) v e in
+      let spare = came_from (place_arc k r m state.0) (spare_of k m) v state.2 in
+      let other = came_from (λ s. when (nat_le (load_of k m) s.nic) (s.nic - load_of k m)) (open_state k m) spare.0 spare.1 in
+      let one : other.0 ≡ state.0 = inside other.0 state.0 (sym other.1 ∙ state.1) in
+      let left : state.0.nic - load_of k m ≡ spare.0 = ap (λ (s : MachineReg). s.nic - load_of k m) (sym one) ∙ when_value _ _ spare.0 other.2 in
+      let fits : r ≤ spare.0 = leb-true r spare.0 (when_true _ _ v spare.2) in
+      record {
+        state = state.0;
+        opened = state.1;
+        within = subst (λ (s : MachineReg). load_of k m ≤ s.nic) one (leb-true (load_of k m) other.0.nic (when_true _ _ spare.0 other.2));
+        room = subst (λ n. r ≤ n) (sym left) fits;
+        value = ap (λ n. (places state.0 n r, r + load_of k m)) left ∙ when_value _ _ v spare.2;
+      }
+
+  -- what the arc of a task into a machine that it prefers comes from
+  pub record Preferred (t m : ℕ) (v : ℕ × ℕ) (s : SpecReg) : Type 0 where
+    pub live : live_spec k t ≡ Some s
+    pub credit : ℕ
+    pub prefers : lookup nat_cmp m s.prefer ≡ Some credit
+    pub place : ℕ × ℕ
+    pub room : Room s.request m place
+    pub value : (1, place.1 - credit) ≡ v
+
+  pub preferred_from : (t m : ℕ) (v : ℕ × ℕ) → and_then (λ s. preferred_arc k s m) (live_spec k t) ≡ Some v → (s : SpecReg) × Preferred t m v s
+  preferred_from t m v e =
+      let s = came_from (λ s. preferred_arc k s m) (live_spec k t) v e in
+      let credit = came_from (λ c. option_map (λ a. (1, a.1 - c)) (room_arc k s.0.request m)) (lookup nat_cmp m s.0.prefer) v s.2 in
+      let place = mapped_from (λ a. (1, a.1 - credit.0)) (room_arc k s.0.request m) v credit.2 in
+      (s.0, record { live = s.1; credit = credit.0; prefers = credit.1; place = place.0; room = room_from s.0.request m place.0 place.1; value = place.2 })
+
   -- an arc joins nodes
   pub ends_of : (a b : Node) (v : ℕ × ℕ) → arc_of k a b ≡ Some v → Ends a b
   ends_of (Task t) (Request r) v e =
       let waits = when_true (waits_for k r t) (1, 0) v e in
       let s = passed (λ s. s.request == r) (live_spec k t) (both_true _ _ waits).0 in
       record { from = live t s.0 s.1; to = is_some_task (waits_for k r) t s.0 s.1 waits; kinds = tt }
-  ends_of (Task t) (Machine m) v e =
-      let h = passed (λ h. h == m) (holder_of k t) (when_true (holds k m t) (1, 0) v e) in
-      let f = where_true (is_live k t) _ h.0 h.1 in
-      let spot = mapped_from (λ s. s.machine) (only_if (is_present k) (won_spot k t)) h.0 f.1 in
-      let present = both_true _ _ (kept (is_present k) (won_spot k t) spot.0 spot.1).1 in
-      record { from = f.0; to = subst (λ q. is_open k q ≡ true) (spot.2 ∙ eqb-true h.0 m h.2) present.0; kinds = tt }
+  ends_of (Task t) (Machine m) v e = elim (is_held k t) as (λ b. cond b (when (holds k m t) (1, 0)) (and_then (λ s. preferred_arc k s m) (live_spec k t)) ≡ Some v → Ends (Task t) (Machine m)) [
+    | true ↦ λ f. held_ends t m (when_true (holds k m t) (1, 0) v f)
+    | false ↦ λ f. let w = preferred_from t m v f in record { from = live t w.0 w.1.live; to = opened m w.1.room.state w.1.room.opened; kinds = tt }
+  ] e
   ends_of (Task t) (Unscheduled j) v e =
       let is = (where_true (is_live_of k j t) _ v e).0 in
       let s = passed (λ s. s.job == j) (live_spec k t) is in
       record { from = live t s.0 s.1; to = is_some_task (is_live_of k j) t s.0 s.1 is; kinds = tt }
   ends_of (Request r) (Machine m) v e =
       let f = where_true (is_node k (Request r)) _ v e in
-      let s = came_from (λ state. and_then (place_arc k r m state) (spare_of k m)) (open_state k m) v f.1 in
-      record { from = f.0; to = opened m s.0 s.1; kinds = tt }
+      let p = room_from r m v f.1 in
+      record { from = f.0; to = opened m p.state p.opened; kinds = tt }
   ends_of (Machine m) Sink v e = let s = mapped_from _ (open_state k m) v e in record { from = opened m s.0 s.1; to = refl; kinds = tt }
   ends_of (Unscheduled j) Sink v e = record { from = when_true (is_node k (Unscheduled j)) _ v e; to = refl; kinds = tt }
   ends_of _ _ v e = none e

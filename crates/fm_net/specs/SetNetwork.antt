@@ -1,8 +1,9 @@
 -- The network of a set of operations, by the facts of the set: the rules of `Network.antt` with no table between. A law says
 -- that it is the network of the set's table.
-use Rattle.std.specs.Prelude.{◌≡◌, ℕ, ◌+◌, Bool, true, cond, not, ◌==◌, ◌&&◌, List, Option, None, option_map, is_some, count_by, nat_le}
+use Rattle.std.specs.Prelude.{◌≡◌, ℕ, ◌+◌, ◌-◌, Bool, true, cond, not, ◌==◌, ◌&&◌, List, Option, None, option_map, is_some, count_by, nat_le}
 use Rattle.std.specs.List.{list_any}
-use Rattle.fm_lattice.specs.Maps.{IsRising}
+use Rattle.std.specs.Ordering.{nat_cmp}
+use Rattle.fm_lattice.specs.Maps.{lookup, IsRising}
 use Rattle.fm_records.specs.declared.ops.Op.{Op}
 use Rattle.fm_records.specs.Options.{when, and_then, passes}
 use Rattle.fm_records.specs.TableLaws.{Rises}
@@ -39,14 +40,18 @@ is_node_in S (Machine m) = is_some (opened S m)
 -- a live task
 is_node_in S (Task t) = is_some (live S t)
 
+-- the capacity and cost of a request's arc into an open machine that has room for it
+abbrev pub room_in : List Op → ℕ → ℕ → Option (ℕ × ℕ)
+room_in S r m = and_then (λ state. and_then (λ free. when (nat_le r free) (places state free r, r + load S m)) (spare S m)) (opened S m)
+
 -- The capacity and cost of the arc from one node to another, where there is one.
 abbrev pub arc_in : List Op → Node → Node → Option (ℕ × ℕ)
 -- a live task that is not held, to its request
 arc_in S (Task t) (Request r) = when (waiting S r t) (1, 0)
 -- a request to a machine that has room for it
-arc_in S (Request r) (Machine m) = cond (is_node_in S (Request r)) (and_then (λ state. and_then (λ free. when (nat_le r free) (places state free r, r + load S m)) (spare S m)) (opened S m)) None
--- a task to the machine that holds it
-arc_in S (Task t) (Machine m) = when (is_held_by S m t) (1, 0)
+arc_in S (Request r) (Machine m) = cond (is_node_in S (Request r)) (room_in S r m) None
+-- a task that is held to the machine that holds it, and a live one that is not to each machine that it prefers and that has room
+arc_in S (Task t) (Machine m) = cond (held S t) (when (is_held_by S m t) (1, 0)) (and_then (λ s. and_then (λ credit. option_map (λ a. (1, a.1 - credit)) (room_in S s.request m)) (lookup nat_cmp m s.prefer)) (live S t))
 -- a live task to its job, for the price of waiting, or of a preemption where it is held
 arc_in S (Task t) (Unscheduled j) = cond (live_of S j t) (option_map (λ r. (1, cond (held S t) r.preempt r.wait)) (job S j)) None
 -- a machine to the sink

@@ -1,7 +1,9 @@
 -- The network of the table of a set is the network of the set.
-use Rattle.std.specs.Prelude.{◌≡◌, ◌↔◌, ℕ, ◌+◌, true, false, cond, not, ◌==◌, ◌&&◌, List, Option, Some, None, option_map, is_some, count_by, nat_le, refl}
+use Rattle.std.specs.Prelude.{◌≡◌, ◌↔◌, ℕ, ◌+◌, ◌-◌, true, false, cond, not, ◌==◌, ◌&&◌, List, Option, Some, None, option_map, is_some, count_by, nat_le, refl}
 use Rattle.std.specs.List.{list_any}
+use Rattle.std.specs.Ordering.{nat_cmp}
 use Rattle.std.proofs.Common.{sym, ap, ◌∙◌}
+use Rattle.fm_lattice.specs.Maps.{lookup}
 use Rattle.fm_records.specs.declared.ops.Op.{Op}
 use Rattle.fm_records.specs.declared.records.SpecReg.{SpecReg}
 use Rattle.fm_records.specs.Options.{when, and_then, passes}
@@ -12,9 +14,9 @@ use Rattle.fm_records.specs.SetFactLaws.{any_rows, count_rows, live_is, is_live_
 use Rattle.fm_net.specs.declared.node.Node.{Node}
 use Rattle.fm_net.specs.declared.node.Node.TheVariants.{Sink, Unscheduled, Request, Machine, Task}
 use Rattle.fm_net.specs.Net.{Net}
-use Rattle.fm_net.specs.Network.{is_held, is_live_of, waits_for, some_task, live_tasks, is_node, places, arc_of, IsNetworkOf, net_of}
+use Rattle.fm_net.specs.Network.{is_held, is_live_of, waits_for, some_task, live_tasks, is_node, places, room_arc, arc_of, IsNetworkOf, net_of}
 use Rattle.fm_net.specs.NetworkLaws.{network_is}
-use Rattle.fm_net.specs.SetNetwork.{held, live_of, waiting, is_node_in, arc_in, IsNetworkOfSet}
+use Rattle.fm_net.specs.SetNetwork.{held, live_of, waiting, is_node_in, room_in, arc_in, IsNetworkOfSet}
 
 is_there : {A : Type 0} (o : Option A) → passes (λ a. true) o ≡ is_some o
 is_there None = refl
@@ -52,10 +54,13 @@ module _ (S : List Op) where
   node_is (Machine m) = is_open_is S m
   node_is (Task t) = is_live_is S t
 
+  room_is : (r m : ℕ) → room_arc (know S) r m ≡ room_in S r m
+  room_is r m = λ i. and_then (λ state. and_then (λ free. when (nat_le r free) (places state free r, r + load_is S m i)) (spare_is S m i)) (opened_is S m i)
+
   pub arc_is : (from to : Node) → arc_of (know S) from to ≡ arc_in S from to
   arc_is (Task t) (Request r) = ap (λ b. when b (1, 0)) (waiting_is r t)
-  arc_is (Request r) (Machine m) = λ i. cond (some_waiting r i) (and_then (λ state. and_then (λ free. when (nat_le r free) (places state free r, r + load_is S m i)) (spare_is S m i)) (opened_is S m i)) None
-  arc_is (Task t) (Machine m) = ap (λ b. when b (1, 0)) (held_by_is S m t)
+  arc_is (Request r) (Machine m) = λ i. cond (some_waiting r i) (room_is r m i) None
+  arc_is (Task t) (Machine m) = λ i. cond (held_is t i) (when (held_by_is S m t i) (1, 0)) (and_then (λ s. and_then (λ credit. option_map (λ a. (1, a.1 - credit)) (room_is s.request m i)) (lookup nat_cmp m s.prefer)) (live_is S t i))
   arc_is (Task t) (Unscheduled j) = λ i. cond (live_of_is j t i) (option_map (λ r. (1, cond (held_is t i) r.preempt r.wait)) (lookup_job S j i)) None
   arc_is (Machine m) Sink = ap (option_map (λ state. (state.slots, 0))) (opened_is S m)
   arc_is (Unscheduled j) Sink = λ i. when (some_live j i) (live_count j i, 0)

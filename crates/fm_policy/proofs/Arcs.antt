@@ -1,8 +1,7 @@
 -- The nodes and arcs of a table's network, one by one.
-use Rattle.std.proofs.Common.{◌≡◌, ℕ, ◌+◌, ◌-◌, ◌≤◌, Bool, true, false, cond, Option, Some, None, refl, ◌∙◌, ap, eq-eqb}
+use Rattle.std.proofs.Common.{◌≡◌, ℕ, ◌+◌, ◌-◌, ◌≤◌, Bool, true, false, cond, Option, Some, None, refl, sym, ◌∙◌, ap, eq-eqb}
 use Rattle.std.specs.Prelude.{◌==◌, ◌&&◌, not, nat_le, option_map, is_some}
 use Rattle.std.specs.Ordering.{nat_cmp}
-use Rattle.std.proofs.lemmas.Bool.{le-leb}
 use Rattle.fm_lattice.specs.Maps.{lookup}
 use Rattle.fm_records.specs.declared.records.JobReg.{JobReg}
 use Rattle.fm_records.specs.declared.records.SpecReg.{SpecReg}
@@ -11,7 +10,7 @@ use Rattle.fm_records.specs.Options.{when, and_then, only_if, passes}
 use Rattle.fm_records.specs.Table.{Table}
 use Rattle.fm_records.specs.Facts.{job_of, spec_of, live_spec, state_of, open_state, is_open, holder_of, load_of, spare_of}
 use Rattle.fm_net.specs.declared.node.Node.TheVariants.{Sink, Unscheduled, Request, Machine, Task}
-use Rattle.fm_net.specs.Network.{is_node, is_held, is_live_of, waits_for, live_tasks, places, place_arc, arc_of}
+use Rattle.fm_net.specs.Network.{is_node, is_held, is_live_of, waits_for, live_tasks, places, place_arc, room_arc, preferred_arc, arc_of}
 use Rattle.fm_policy.proofs.Listed.{HasKey, listed, some_listed}
 
 -- what passes a test was there
@@ -22,6 +21,11 @@ was_there test (Some b) a e = elim (test b) as (λ t. cond t (Some b) None ≡ S
 has_value : {V W : Type 0} (part : V → Option W) (o : Option V) (w : W) → and_then part o ≡ Some w → (v : V) × (o ≡ Some v)
 has_value part None w e = absurd (let no : ⊥ = cc in no)
 has_value part (Some v) w e = (v, refl)
+
+both_there : {A B C : Type 0} (f : A → B → C) (o : Option A) (p : Option B) → is_some (and_then (λ a. option_map (f a) p) o) ≡ true → (is_some o ≡ true) × (is_some p ≡ true)
+both_there f None p h = absurd (let no : ⊥ = cc in no)
+both_there f (Some a) None h = absurd (let no : ⊥ = cc in no)
+both_there f (Some a) (Some b) h = (refl, refl)
 
 module _ (k : Table) where
   -- a live task and an open machine have records
@@ -68,7 +72,18 @@ module _ (k : Table) where
   job_to_sink j h = ap (λ b. when b (live_tasks k j, 0)) h
 
   pub task_to_machine : (t m : ℕ) → holder_of k t ≡ Some m → arc_of k (Task t) (Machine m) ≡ Some (1, 0)
-  task_to_machine t m h = ap (λ b. when b (1, 0)) (ap (passes (λ n. n == m)) h ∙ same m)
+  task_to_machine t m h = (λ i. cond (passes (λ n. true) (h i)) (when (passes (λ n. n == m) (h i)) (1, 0)) (and_then (λ s. preferred_arc k s m) (live_spec k t))) ∙ ap (λ b. when b (1, 0)) (same m)
+
+  pub task_to_preferred : (t m credit : ℕ) (s : SpecReg) (place : ℕ × ℕ) → live_spec k t ≡ Some s → holder_of k t ≡ None → lookup nat_cmp m s.prefer ≡ Some credit → room_arc k s.request m ≡ Some place → arc_of k (Task t) (Machine m) ≡ Some (1, place.1 - credit)
+  task_to_preferred t m credit s place e h c r =
+      (λ i. cond (passes (λ n. true) (h i)) (when (passes (λ n. n == m) (h i)) (1, 0)) (and_then (λ s. preferred_arc k s m) (e i)))
+      ∙ (λ i. and_then (λ q. option_map (λ a. (1, a.1 - q)) (r i)) (c i))
+
+  -- what a task that is not held prefers has a credit, and room for it
+  pub preferred_needs : (t m : ℕ) (s : SpecReg) → live_spec k t ≡ Some s → holder_of k t ≡ None → is_some (arc_of k (Task t) (Machine m)) ≡ true → (is_some (lookup nat_cmp m s.prefer) ≡ true) × (is_some (room_arc k s.request m) ≡ true)
+  preferred_needs t m s e h some =
+      let there : is_some (preferred_arc k s m) ≡ true = (λ i. is_some (cond (passes (λ n. true) (sym h i)) (when (passes (λ n. n == m) (sym h i)) (1, 0)) (and_then (λ s. preferred_arc k s m) (sym e i)))) ∙ some in
+      both_there (λ credit (a : ℕ × ℕ). (1, a.1 - credit)) (lookup nat_cmp m s.prefer) (room_arc k s.request m) there
 
   pub task_to_request : (t : ℕ) (s : SpecReg) → live_spec k t ≡ Some s → holder_of k t ≡ None → arc_of k (Task t) (Request s.request) ≡ Some (1, 0)
   task_to_request t s e h = ap (λ b. when b (1, 0)) (waits_of t s e h)
@@ -76,10 +91,12 @@ module _ (k : Table) where
   pub task_to_job : (t : ℕ) (s : SpecReg) (job : JobReg) → live_spec k t ≡ Some s → job_of k s.job ≡ Some job → arc_of k (Task t) (Unscheduled s.job) ≡ Some (1, cond (is_held k t) job.preempt job.wait)
   task_to_job t s job e h = λ i. cond (live_of_job t s e i) (option_map (λ r. (1, cond (is_held k t) r.preempt r.wait)) (h i)) None
 
-  spare_is : (m : ℕ) (s : MachineReg) → open_state k m ≡ Some s → load_of k m ≤ s.nic → spare_of k m ≡ Some (s.nic - load_of k m)
-  spare_is m s e h = ap (and_then (λ r. when (nat_le (load_of k m) r.nic) (r.nic - load_of k m))) e ∙ ap (λ b. when b (s.nic - load_of k m)) (le-leb (load_of k m) s.nic h)
+  pub request_to_machine : (r m : ℕ) (o : Option (ℕ × ℕ)) → is_node k (Request r) ≡ true → room_arc k r m ≡ o → arc_of k (Request r) (Machine m) ≡ o
+  request_to_machine r m o waits e = λ i. cond (waits i) (e i) None
 
-  pub request_to_machine : (r m : ℕ) (s : MachineReg) → is_node k (Request r) ≡ true → open_state k m ≡ Some s → load_of k m ≤ s.nic → r ≤ s.nic - load_of k m → arc_of k (Request r) (Machine m) ≡ Some (places s (s.nic - load_of k m) r, r + load_of k m)
-  request_to_machine r m s waits e load fits =
-      (λ i. cond (waits i) (and_then (λ state. and_then (place_arc k r m state) (spare_is m s e load i)) (e i)) None)
-      ∙ ap (λ b. when b (places s (s.nic - load_of k m) r, r + load_of k m)) (le-leb r (s.nic - load_of k m) fits)
+  spare_is : (m : ℕ) (s : MachineReg) → open_state k m ≡ Some s → spare_of k m ≡ when (nat_le (load_of k m) s.nic) (s.nic - load_of k m)
+  spare_is m s e = ap (and_then (λ r. when (nat_le (load_of k m) r.nic) (r.nic - load_of k m))) e
+
+  -- an open machine has room as its state says
+  pub room_open : (r m : ℕ) (s : MachineReg) → open_state k m ≡ Some s → room_arc k r m ≡ and_then (place_arc k r m s) (when (nat_le (load_of k m) s.nic) (s.nic - load_of k m))
+  room_open r m s e = λ i. and_then (λ state. and_then (place_arc k r m state) (spare_is m s e i)) (e i)

@@ -4,7 +4,7 @@ use Rattle.fm_records.specs.Table.{Table}
 use Rattle.fm_records.specs.Facts.{holder_of}
 use Rattle.fm_net.specs.declared.node.Node.TheVariants.{Sink, Unscheduled, Request, Machine, Task}
 use Rattle.fm_net.specs.Net.{Net}
-use Rattle.fm_policy.specs.Building.{Grows, HasHolder, MachinesStand, CoversMachine, CoversTask, CoversPlace}
+use Rattle.fm_policy.specs.Building.{Grows, HasHolder, MachinesStand, CoversMachine, CoversTask, CoversPreferred, CoversPlace}
 
 module _ (k : Table) (old new : Net) (grows : Grows old new) where
   pub machines_still : MachinesStand k old → MachinesStand k new
@@ -13,8 +13,15 @@ module _ (k : Table) (old new : Net) (grows : Grows old new) where
   pub machine_still : (m : ℕ) → CoversMachine k m old → CoversMachine k m new
   machine_still m covers open_is = let has = covers open_is in record { node = grows.nodes (Machine m) has.node; sink = grows.arcs (Machine m) Sink has.sink }
 
-  holder_still : (t r : ℕ) (o : Option ℕ) → HasHolder t r o old → HasHolder t r o new
-  holder_still t r None has = record { request = grows.nodes (Request r) has.request; waits = grows.arcs (Task t) (Request r) has.waits }
+  pub preferred_still : (t m : ℕ) → CoversPreferred k t m old → CoversPreferred k t m new
+  preferred_still t m covers has = grows.arcs (Task t) (Machine m) (covers has)
+
+  pub holder_still : (t r : ℕ) (o : Option ℕ) → HasHolder k t r o old → HasHolder k t r o new
+  holder_still t r None has = record {
+    request = grows.nodes (Request r) has.request;
+    waits = grows.arcs (Task t) (Request r) has.waits;
+    preferred = λ m. preferred_still t m (has.preferred m);
+  }
   holder_still t r (Some m) has = grows.arcs (Task t) (Machine m) has
 
   pub task_still : (t : ℕ) → CoversTask k t old → CoversTask k t new

@@ -7,7 +7,7 @@ use Rattle.std.specs.Cmp.{Equal-is}
 use borrow.Author.Tests.{eqb-true}
 use Rattle.fm_records.specs.declared.records.SpecReg.{SpecReg}
 use Rattle.fm_records.specs.Sets.{IsMember}
-use Rattle.fm_records.specs.Options.{when, only_if, passes}
+use Rattle.fm_records.specs.Options.{when, and_then, only_if, passes}
 use Rattle.fm_records.specs.Table.{Table}
 use Rattle.fm_records.specs.Facts.{live_spec, open_state, is_open, is_present, won_spot, holder_of, holds}
 use Rattle.fm_net.specs.declared.node.Node.{Node}
@@ -16,7 +16,7 @@ use Rattle.fm_net.specs.Nodes.{node_cmp}
 use Rattle.fm_net.specs.NodeOrder.{node_exact, node_total}
 use Rattle.std.proofs.lemmas.Cmp.{tied_itself}
 use Rattle.fm_net.specs.Net.{Net, CanBeNet, arc_at, sink_alone}
-use Rattle.fm_net.specs.Network.{IsNetworkOf, is_node, is_held, is_live_of, waits_for, arc_of}
+use Rattle.fm_net.specs.Network.{IsNetworkOf, is_node, is_held, is_live_of, waits_for, preferred_arc, arc_of}
 use Rattle.fm_policy.specs.Building.{Stands, Leads, IsPart, HasWaiting, HasHolder, CoversMachine, CoversTask, CoversPlace, request_named}
 use Rattle.fm_policy.proofs.Arcs.{spec_tested, place_needs}
 
@@ -97,11 +97,11 @@ module _ (k : Table) where
       ] refl
 
   module _ (net : Net) (tasks : (t : ℕ) → CoversTask k t net) where
-    has_waiting : (r t : ℕ) → waits_for k r t ≡ true → HasWaiting t r net
+    has_waiting : (r t : ℕ) → waits_for k r t ≡ true → HasWaiting k t r net
     has_waiting r t h =
         let w = waiting r t h in
-        let has = subst (λ o. HasHolder t w.0.request o net) w.3 (tasks t w.0 w.1).holder in
-        subst (λ q. HasWaiting t q net) w.2 has
+        let has = subst (λ o. HasHolder k t w.0.request o net) w.3 (tasks t w.0 w.1).holder in
+        subst (λ q. HasWaiting k t q net) w.2 has
 
     pub request_stands : (r : ℕ) → is_node k (Request r) ≡ true → Stands net (Request r)
     request_stands r h = let found = some_found (waits_for k r) k.tasks h in (has_waiting r found.0 found.1).request
@@ -129,10 +129,23 @@ module _ (k : Table) where
       of_cond true o h = refl
       of_cond false o h = h
 
+      some_then : {A B : Type 0} (f : A → Option B) (o : Option A) → is_some (and_then f o) ≡ true → (a : A) × (o ≡ Some a)
+      some_then f None h = no_way h
+      some_then f (Some a) h = (a, refl)
+
       all_arcs : (a b : Node) → is_some (arc_of k a b) ≡ true → Leads net a b
       all_arcs (Task t) (Request r) h = (has_waiting r t (of_when _ _ h)).waits
       all_arcs (Request r) (Machine m) h = places r (place_needs k r m h).0 m h
-      all_arcs (Task t) (Machine m) h = let held = held_live t m (of_when _ _ h) in subst (λ o. HasHolder t held.0.request o net) held.2 (tasks t held.0 held.1).holder
+      all_arcs (Task t) (Machine m) h = elim (is_held k t) as (λ b. is_held k t ≡ b → Leads net (Task t) (Machine m)) [
+        | true ↦ λ e.
+            let held = held_live t m (of_when _ _ (subst (λ b. is_some (cond b (when (holds k m t) (1, 0)) (and_then (λ s. preferred_arc k s m) (live_spec k t))) ≡ true) e h)) in
+            subst (λ o. HasHolder k t held.0.request o net) held.2 (tasks t held.0 held.1).holder
+        | false ↦ λ e.
+            let free : holder_of k t ≡ None = none_held t (ap not e) in
+            let some : is_some (and_then (λ s. preferred_arc k s m) (live_spec k t)) ≡ true = subst (λ b. is_some (cond b (when (holds k m t) (1, 0)) (and_then (λ s. preferred_arc k s m) (live_spec k t))) ≡ true) e h in
+            let live = some_then (λ s. preferred_arc k s m) (live_spec k t) some in
+            (subst (λ o. HasHolder k t live.0.request o net) free (tasks t live.0 live.1).holder).preferred m h
+      ] refl
       all_arcs (Task t) (Unscheduled j) h = (has_job j t (of_cond _ _ h)).2
       all_arcs (Machine m) Sink h = let is_open_now : is_open k m ≡ true = elim (open_state k m) as (λ o. is_some {T = ℕ × ℕ} (option_map (λ state. (state.slots, 0)) o) ≡ true → passes (λ r. true) o ≡ true) [ None ↦ λ no. no | Some s ↦ λ _. refl ] h in (machines m is_open_now).sink
       all_arcs (Unscheduled j) Sink h = let found = some_found (is_live_of k j) k.tasks (of_when _ _ h) in (has_job j found.0 found.1).1

@@ -5,4 +5,5 @@ pub mod Covered
 pub mod Members
 pub mod Finished
 pub mod Named
+mod Preferred
 mod Examples

@@ -1,5 +1,5 @@
 -- Steps towards the network of a table: nothing is put that is not the table's, and nothing is taken away.
-use Rattle.std.specs.Prelude.{◌≡◌, ℕ, List, Option, Some, None, IsTrue, IsSome}
+use Rattle.std.specs.Prelude.{◌≡◌, ◌≤◌, ℕ, List, Option, Some, None, IsTrue, IsSome}
 use Rattle.fm_records.specs.declared.records.SpecReg.{SpecReg}
 use Rattle.fm_records.specs.Sets.{IsMember}
 use Rattle.fm_records.specs.Table.{Table}
@@ -30,26 +30,34 @@ pub record Adds (k : Table) (old new : Net) : Type 0 where
   pub part : IsPart k old → IsPart k new
   pub grows : Grows old new
 
+-- a capacity and a cost that an arc may have
+abbrev pub IsWithinArcs : ℕ × ℕ → Type 0
+IsWithinArcs arc = (1 ≤ arc.0) × (arc.1 ≤ 1000000)
+
 -- what an open machine, and a live task, have in the table's network, but for the arcs of requests to machines
 
 pub record HasMachine (m : ℕ) (net : Net) : Type 0 where
   pub node : Stands net (Machine m)
   pub sink : Leads net (Machine m) Sink
 
-pub record HasWaiting (t r : ℕ) (net : Net) : Type 0 where
+abbrev pub CoversPreferred : Table → ℕ → ℕ → Net → Type 0
+CoversPreferred k t m net = IsSome (arc_of k (Task t) (Machine m)) → Leads net (Task t) (Machine m)
+
+pub record HasWaiting (k : Table) (t r : ℕ) (net : Net) : Type 0 where
   pub request : Stands net (Request r)
   pub waits : Leads net (Task t) (Request r)
+  pub preferred : (m : ℕ) → CoversPreferred k t m net
 
-abbrev pub HasHolder : ℕ → ℕ → Option ℕ → Net → Type 0
-HasHolder t r None net = HasWaiting t r net
-HasHolder t r (Some m) net = Leads net (Task t) (Machine m)
+abbrev pub HasHolder : Table → ℕ → ℕ → Option ℕ → Net → Type 0
+HasHolder k t r None net = HasWaiting k t r net
+HasHolder k t r (Some m) net = Leads net (Task t) (Machine m)
 
 pub record HasTask (k : Table) (t : ℕ) (spec : SpecReg) (net : Net) : Type 0 where
   pub node : Stands net (Task t)
   pub job : Stands net (Unscheduled spec.job)
   pub sink : Leads net (Unscheduled spec.job) Sink
   pub unscheduled : Leads net (Task t) (Unscheduled spec.job)
-  pub holder : HasHolder t spec.request (holder_of k t) net
+  pub holder : HasHolder k t spec.request (holder_of k t) net
 
 abbrev pub CoversMachine : Table → ℕ → Net → Type 0
 CoversMachine k m net = IsTrue (is_open k m) → HasMachine m net

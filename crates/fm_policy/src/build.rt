@@ -1,14 +1,14 @@
 //! The network of what is known: one walk over the machines, one over the tasks, and one over the pairs of a request and
 //! a machine.
 
-ghost use Rattle.std.specs.Prelude.{◌≡◌, ◌≤◌, ℕ, IsTrue, IfOk, OnOk, Some};
+ghost use Rattle.std.specs.Prelude.{◌≡◌, ◌≤◌, ℕ, IsTrue, IfOk, OnOk, IfSome, Some, None};
 ghost use Rattle.std.specs.List.{filter_map};
 ghost use Rattle.fm_records.specs.Sets.{IsMember};
 ghost use Rattle.fm_records.specs.Facts.{live_spec, holder_of};
 ghost use Rattle.fm_net.specs.declared.node.Node.{Node as NodeName};
-ghost use Rattle.fm_net.specs.Network.{is_node, is_live_of, net_of, places};
+ghost use Rattle.fm_net.specs.Network.{is_node, is_live_of, net_of, places, room_arc};
 ghost use Rattle.fm_policy.specs.Tallying.{IsTally};
-ghost use Rattle.fm_policy.specs.Building.{Stands, Leads, Adds, HasHolder, MachinesStand, EachStands, CoversMachine, CoversTask, CoversPlace, request_named};
+ghost use Rattle.fm_policy.specs.Building.{Stands, Leads, Adds, IsWithinArcs, HasWaiting, HasHolder, MachinesStand, EachStands, CoversMachine, CoversTask, CoversPreferred, CoversPlace, request_named};
 
 use crate::tallies::Tallies;
 use fm_know::knowledge::Knowledge;
@@ -59,31 +59,104 @@ fn put_job(
     Ok(())
 }
 
-// Puts the arc of a live task to the machine that holds it, or the request that it waits for and the arc to that.
+// Puts the arc of a live task to the machine that holds it, or all to which it may wait to go.
 fn put_holder(
     network: &mut Network,
     knowledge: &Knowledge,
+    tallies: &Tallies,
     task: TaskId,
     spec: &SpecReg,
 ) -> Result<(), OutOfMemory>
+    requires tally { IsTally knowledge.now tallies.now }
     requires live { live_spec knowledge.now task ≡ Some spec.now }
     requires within { spec.now.request ≤ 1000000 }
     requires node { Stands network.old (NodeName.Task task) }
     requires machines { MachinesStand knowledge.now network.old }
     ensures adds { OnOk result (Adds knowledge.now network.old network.new) }
-    ensures holder { OnOk result (HasHolder task spec.now.request (holder_of knowledge.now task) network.new) }
+    ensures holder { OnOk result (HasHolder knowledge.now task spec.now.request (holder_of knowledge.now task) network.new) }
 {
     match knowledge.holder(task) {
         Some(machine) => {
             network.put_arc(Node::Task(task), Node::Machine(machine), 1, 0)?;
             Ok(())
         }
-        None => {
-            network.put_node(Node::Request(spec.request))?;
-            network.put_arc(Node::Task(task), Node::Request(spec.request), 1, 0)?;
-            Ok(())
-        }
+        None => put_waiting(network, knowledge, tallies, task, spec),
     }
+}
+
+// Puts the request that a live task waits for, the arc to that, and those to the machines that it prefers.
+fn put_waiting(
+    network: &mut Network,
+    knowledge: &Knowledge,
+    tallies: &Tallies,
+    task: TaskId,
+    spec: &SpecReg,
+) -> Result<(), OutOfMemory>
+    requires tally { IsTally knowledge.now tallies.now }
+    requires live { live_spec knowledge.now task ≡ Some spec.now }
+    requires waits { holder_of knowledge.now task ≡ None }
+    requires within { spec.now.request ≤ 1000000 }
+    requires node { Stands network.old (NodeName.Task task) }
+    requires machines { MachinesStand knowledge.now network.old }
+    ensures adds { OnOk result (Adds knowledge.now network.old network.new) }
+    ensures waiting { OnOk result (HasWaiting knowledge.now task spec.now.request network.new) }
+{
+    network.put_node(Node::Request(spec.request))?;
+    network.put_arc(Node::Task(task), Node::Request(spec.request), 1, 0)?;
+    put_preferences(network, knowledge, tallies, task, spec)?;
+    Ok(())
+}
+
+// Puts the arcs of a live task that is not held to the machines that it prefers.
+fn put_preferences(
+    network: &mut Network,
+    knowledge: &Knowledge,
+    tallies: &Tallies,
+    task: TaskId,
+    spec: &SpecReg,
+) -> Result<(), OutOfMemory>
+    requires tally { IsTally knowledge.now tallies.now }
+    requires live { live_spec knowledge.now task ≡ Some spec.now }
+    requires waits { holder_of knowledge.now task ≡ None }
+    requires within { spec.now.request ≤ 1000000 }
+    requires node { Stands network.old (NodeName.Task task) }
+    requires machines { MachinesStand knowledge.now network.old }
+    ensures adds { OnOk result (Adds knowledge.now network.old network.new) }
+    ensures covers { OnOk result ((m : ℕ) → CoversPreferred knowledge.now task m network.new) }
+{
+    for entry in spec.prefer.entries() {
+        put_preferred(network, knowledge, tallies, task, spec, entry.0)?;
+    }
+    Ok(())
+}
+
+// Puts the arc of a live task that is not held to the machine, where it prefers that and it has room.
+fn put_preferred(
+    network: &mut Network,
+    knowledge: &Knowledge,
+    tallies: &Tallies,
+    task: TaskId,
+    spec: &SpecReg,
+    machine: MachineId,
+) -> Result<(), OutOfMemory>
+    requires tally { IsTally knowledge.now tallies.now }
+    requires live { live_spec knowledge.now task ≡ Some spec.now }
+    requires waits { holder_of knowledge.now task ≡ None }
+    requires within { spec.now.request ≤ 1000000 }
+    requires node { Stands network.old (NodeName.Task task) }
+    requires machines { MachinesStand knowledge.now network.old }
+    ensures adds { OnOk result (Adds knowledge.now network.old network.new) }
+    ensures covers { OnOk result (CoversPreferred knowledge.now task machine network.new) }
+{
+    let Some(credit) = spec.prefer.credit(machine) else {
+        return Ok(());
+    };
+    let Some((_, cost)) = room(knowledge, tallies, spec.request, machine) else {
+        return Ok(());
+    };
+    let cost = cost.saturating_sub(credit);
+    network.put_arc(Node::Task(task), Node::Machine(machine), 1, cost)?;
+    Ok(())
 }
 
 // Puts the arc of a live task to its job.
@@ -127,7 +200,7 @@ fn put_task(
     };
     put_job(network, knowledge, tallies, task, spec.job)?;
     network.put_node(Node::Task(task))?;
-    put_holder(network, knowledge, task, &spec)?;
+    put_holder(network, knowledge, tallies, task, &spec)?;
     put_unscheduled(network, knowledge, task, &spec)?;
     Ok(())
 }
@@ -147,26 +220,35 @@ fn put_place(
     ensures adds { OnOk result (Adds knowledge.now network.old network.new) }
     ensures covers { OnOk result (CoversPlace knowledge.now request machine network.new) }
 {
-    let Some(state) = knowledge.open_state(machine) else {
+    let Some((fit, cost)) = room(knowledge, tallies, request, machine) else {
         return Ok(());
     };
+    network.put_arc(Node::Request(request), Node::Machine(machine), fit, cost)?;
+    Ok(())
+}
+
+// For how many tasks of the request the machine has room, and what each costs there, where it is open and has any.
+fn room(
+    knowledge: &Knowledge,
+    tallies: &Tallies,
+    request: u32,
+    machine: MachineId,
+) -> Option<(u64, u32)>
+    requires tally { IsTally knowledge.now tallies.now }
+    ensures place { result ≡ room_arc knowledge.now request machine }
+    ensures within { IfSome result IsWithinArcs }
+{
+    let state = knowledge.open_state(machine)?;
     let load = tallies.load_of(knowledge, machine);
     if load > u128::from(state.nic) {
-        return Ok(());
+        return None;
     }
     let load = load as u32;
     let spare = state.nic - load;
     if request > spare {
-        return Ok(());
+        return None;
     }
-    let fit = places_of(&state, spare, request);
-    network.put_arc(
-        Node::Request(request),
-        Node::Machine(machine),
-        u64::from(fit),
-        request + load,
-    )?;
-    Ok(())
+    Some((u64::from(places_of(&state, spare, request)), request + load))
 }
 
 // How many tasks of the request fit on a machine with the spare bandwidth.

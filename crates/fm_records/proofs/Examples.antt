@@ -4,10 +4,13 @@ use Rattle.fm_records.specs.declared.ops.Field.TheVariants as field
 use Rattle.fm_records.specs.declared.ops.Phase.TheVariants.{Pending, Running, Done}
 use Rattle.fm_records.specs.declared.ops.Op.{Op}
 use Rattle.fm_records.specs.declared.ops.Op.TheVariants as op
+use Rattle.fm_records.specs.declared.records.SpecReg.{SpecReg}
+use Rattle.std.specs.declared.cmp.Ordering.TheVariants.{Less}
+use Rattle.fm_records.specs.Orders.{spec_cmp}
 use Rattle.fm_records.specs.Ops.{op_fault}
 use Rattle.fm_records.specs.Table.{Table}
 use Rattle.fm_records.specs.Know.{know, winner}
-use Rattle.fm_records.specs.Spelled.{ops}
+use Rattle.fm_records.specs.Spelled.{ops, spec_op}
 use Rattle.fm_records.specs.Ranges.{all_in_range}
 use Rattle.fm_records.specs.Joined.{table_join}
 use Rattle.fm_records.specs.Facts.{job_of, spec_of, progress_of, attempt_of, state_of, used_of, job_stands, is_live, is_open, winner_of, holder_of, held_tasks, load_of, spare_of, request_of, has_room}
@@ -42,7 +45,7 @@ abbrev machine_b : Op
 machine_b = op.Machine B 1 1 1 true 2 1000
 
 abbrev task_of : ℕ → ℕ → Op
-task_of t request = op.Spec t 1 1 false J request
+task_of t request = op.Spec t 1 1 false J request []
 
 -- A job, a machine and a task: the task waits, and all of the machine is spare.
 
@@ -52,7 +55,7 @@ one_task = the_job ∷ machine_a ∷ task_of t1 100 ∷ []
 abbrev one_task_known : Table
 one_task_known = record {
   jobs = (J, record { version = 1; writer = 1; withdrawn = false; wait = 500; preempt = 800 }) ∷ [];
-  tasks = (t1, (Some (record { version = 1; writer = 1; withdrawn = false; job = J; request = 100 }), record { attempt = 0; phase = Pending })) ∷ [];
+  tasks = (t1, (Some (record { version = 1; writer = 1; withdrawn = false; job = J; request = 100; prefer = [] }), record { attempt = 0; phase = Pending })) ∷ [];
   machines = (A, (1, (Some (record { version = 1; writer = 1; up = true; slots = 2; nic = 1000 }), None))) ∷ [];
   proposals = [];
 }
@@ -272,9 +275,9 @@ job_withdrawn-again = refl
 -- A spec that is withdrawn makes that task not live, and no other.
 
 abbrev spec_withdrawn : List Op
-spec_withdrawn = held ++ task_of t2 200 ∷ op.Propose t2 0 1 A 1 ∷ op.Spec t1 2 1 true J 100 ∷ []
+spec_withdrawn = held ++ task_of t2 200 ∷ op.Propose t2 0 1 A 1 ∷ op.Spec t1 2 1 true J 100 [] ∷ []
 
-spec_withdrawn-spec : spec_of (know spec_withdrawn) t1 ≡ Some (record { version = 2; writer = 1; withdrawn = true; job = J; request = 100 })
+spec_withdrawn-spec : spec_of (know spec_withdrawn) t1 ≡ Some (record { version = 2; writer = 1; withdrawn = true; job = J; request = 100; prefer = [] })
 spec_withdrawn-spec = refl
 
 spec_withdrawn-live : is_live (know spec_withdrawn) t1 ≡ false
@@ -381,3 +384,50 @@ wait_beyond = refl
 
 writer_first : op_fault (op.Job J 1 65 false 1000000001 800) ≡ Some field.Writer
 writer_first = refl
+
+-- Machines that are preferred rise, and are tested after the request.
+
+abbrev preferring : ℕ → List (ℕ × ℕ) → Op
+preferring request prefer = op.Spec t1 1 1 false J request prefer
+
+prefer_rises : op_fault (preferring 100 ((A, 0) ∷ (B, 1000000000) ∷ [])) ≡ None
+prefer_rises = refl
+
+prefer_falls : op_fault (preferring 100 ((B, 1) ∷ (A, 1) ∷ [])) ≡ Some field.Prefer
+prefer_falls = refl
+
+prefer_twice : op_fault (preferring 100 ((A, 1) ∷ (A, 2) ∷ [])) ≡ Some field.Prefer
+prefer_twice = refl
+
+credit_beyond : op_fault (preferring 100 ((A, 1000000001) ∷ [])) ≡ Some field.Prefer
+credit_beyond = refl
+
+request_first : op_fault (preferring 1000001 ((B, 1) ∷ (A, 1) ∷ [])) ≡ Some field.Request
+request_first = refl
+
+-- Of two specs of one version that are equal but for their preferences, the one counts whose list comes later: a list that
+-- begins another is the lesser, and of two entries of one machine the greater credit counts.
+
+abbrev prefers_A : SpecReg
+prefers_A = record { version = 1; writer = 1; withdrawn = false; job = J; request = 100; prefer = (A, 1) ∷ [] }
+
+abbrev prefers_both : SpecReg
+prefers_both = record { version = 1; writer = 1; withdrawn = false; job = J; request = 100; prefer = (A, 1) ∷ (B, 1) ∷ [] }
+
+longer_wins : spec_of (know (spec_op t1 prefers_A ∷ spec_op t1 prefers_both ∷ [])) t1 ≡ Some prefers_both
+longer_wins = refl
+
+longer_wins-other_order : spec_of (know (spec_op t1 prefers_both ∷ spec_op t1 prefers_A ∷ [])) t1 ≡ Some prefers_both
+longer_wins-other_order = refl
+
+credit_before_length : spec_cmp prefers_both (record { version = 1; writer = 1; withdrawn = false; job = J; request = 100; prefer = (A, 2) ∷ [] }) ≡ Less
+credit_before_length = refl
+
+prefers_both-spelled : know (ops (know (spec_op t1 prefers_both ∷ []))) ≡ know (spec_op t1 prefers_both ∷ [])
+prefers_both-spelled = refl
+
+prefers_both-in_range : all_in_range (spec_op t1 prefers_both ∷ []) ≡ true
+prefers_both-in_range = refl
+
+prefers_five-in_range : all_in_range (preferring 100 ((1, 0) ∷ (2, 0) ∷ (3, 0) ∷ (4, 0) ∷ (5, 0) ∷ []) ∷ []) ≡ false
+prefers_five-in_range = refl

@@ -97,7 +97,7 @@ abbrev pub job_named : Op → Option ℕ
 job_named o = option_map (λ e. e.0) (job_told o)
 
 abbrev pub task_named : Op → Option ℕ
-task_named (op.Spec id version writer withdrawn job request) = Some id
+task_named (op.Spec id version writer withdrawn job request prefer) = Some id
 task_named (op.Progress id attempt phase) = Some id
 task_named _ = None
 

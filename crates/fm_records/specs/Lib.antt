@@ -1,5 +1,6 @@
 pub mod Options
 pub mod Ids
+pub mod Preferences
 pub mod Ops
 pub mod Told
 pub mod Refusals
@@ -13,6 +14,7 @@ pub mod Joined
 pub mod Facts
 pub mod SetFacts
 pub mod Characterized
+pub mod PreferenceLaws
 pub mod OrderLaws
 pub mod SetLaws
 pub mod GreatestLaws

@@ -49,7 +49,7 @@ job_says j (op.Job id version writer withdrawn wait preempt) v e = ap Some (eqb-
 job_says j _ v e = none_some v e
 
 spec_says : (t : ℕ) (o : Op) (v : SpecReg) → spec_in t o ≡ Some v → task_named o ≡ Some t
-spec_says t (op.Spec id version writer withdrawn job request) v e = ap Some (eqb-true id t (when_true (id == t) _ v e))
+spec_says t (op.Spec id version writer withdrawn job request prefer) v e = ap Some (eqb-true id t (when_true (id == t) _ v e))
 spec_says t _ v e = none_some v e
 
 progress_says : (t : ℕ) (o : Op) (v : Progress) → progress_in t o ≡ Some v → task_named o ≡ Some t

@@ -1,10 +1,12 @@
 -- The ranges of an operation's fields (this project's profile).
 use Rattle.std.specs.Prelude.{ℕ, Bool, cond, nat_le, ◌&&◌, List, [], ◌∷◌, Option, Some, None}
+use Rattle.std.specs.List.{list_all}
 use Rattle.fm_records.specs.declared.ops.Field.{Field}
 use Rattle.fm_records.specs.declared.ops.Field.TheVariants as field
 use Rattle.fm_records.specs.declared.ops.Op.{Op}
 use Rattle.fm_records.specs.declared.ops.Op.TheVariants as op
 use Rattle.fm_records.specs.Ids.{is_coordinator}
+use Rattle.fm_records.specs.Preferences.{machines_rise}
 
 -- a cost: of waiting or of a preemption, up to 1,000,000,000
 abbrev pub is_price : ℕ → Bool
@@ -22,10 +24,14 @@ is_use n = nat_le n 1000000000
 abbrev pub is_slots : ℕ → Bool
 is_slots n = nat_le 1 n && nat_le n 1000
 
+-- machines that are preferred, each once and rising, with credits up to 1,000,000,000
+abbrev pub is_preference : List (ℕ × ℕ) → Bool
+is_preference es = machines_rise es && list_all (λ e. is_price e.1) es
+
 -- the fields of an operation that have a range of their own, in order, and whether each is in it
 abbrev pub limited : Op → List (Field × Bool)
 limited (op.Job id version writer withdrawn wait preempt) = (field.Writer, is_coordinator writer) ∷ (field.Wait, is_price wait) ∷ (field.Preempt, is_price preempt) ∷ []
-limited (op.Spec id version writer withdrawn job request) = (field.Writer, is_coordinator writer) ∷ (field.Request, is_bandwidth request) ∷ []
+limited (op.Spec id version writer withdrawn job request prefer) = (field.Writer, is_coordinator writer) ∷ (field.Request, is_bandwidth request) ∷ (field.Prefer, is_preference prefer) ∷ []
 limited (op.Progress id attempt phase) = []
 limited (op.Machine id incarnation version writer up slots nic) = (field.Writer, is_coordinator writer) ∷ (field.Slots, is_slots slots) ∷ (field.Nic, is_bandwidth nic) ∷ []
 limited (op.Report id incarnation number used) = (field.Used, is_use used) ∷ []

@@ -1,5 +1,5 @@
 -- The orders of records are total, and only a record and itself are equal in them.
-use Rattle.std.specs.Prelude.{◌≡◌, ℕ, Bool, true, false, refl}
+use Rattle.std.specs.Prelude.{◌≡◌, ℕ, Bool, true, false, [], ◌∷◌, refl}
 use Rattle.std.specs.Ordering.{nat_cmp, bool_cmp, ordering_then, on}
 use Rattle.std.specs.Cmp.{IsTotalOrder, nat_cmp_total, bool_cmp_total}
 use Rattle.std.specs.declared.cmp.Ordering.{Ordering}
@@ -15,13 +15,15 @@ use Rattle.fm_records.specs.declared.records.Progress.{Progress}
 use Rattle.fm_records.specs.declared.records.MachineReg.{MachineReg}
 use Rattle.fm_records.specs.declared.records.Report.{Report}
 use Rattle.fm_records.specs.declared.records.Spot.{Spot}
+use Rattle.fm_records.specs.Preferences.{credit_cmp, preferences_cmp}
+use Rattle.fm_records.specs.PreferenceLaws.{total_preferences}
 use Rattle.fm_records.specs.Orders.{phase_place, phase_cmp, job_cmp, spec_cmp, progress_cmp, machine_cmp, report_cmp, spot_cmp, attempt_cmp}
 
 pub total_job : IsTotalOrder job_cmp
 total_job = then_total (on_total (λ (r : JobReg). r.version) nat_cmp_total) (then_total (on_total (λ (r : JobReg). r.writer) nat_cmp_total) (then_total (on_total (λ (r : JobReg). r.withdrawn) bool_cmp_total) (then_total (on_total (λ (r : JobReg). r.wait) nat_cmp_total) (on_total (λ (r : JobReg). r.preempt) nat_cmp_total))))
 
 pub total_spec : IsTotalOrder spec_cmp
-total_spec = then_total (on_total (λ (r : SpecReg). r.version) nat_cmp_total) (then_total (on_total (λ (r : SpecReg). r.writer) nat_cmp_total) (then_total (on_total (λ (r : SpecReg). r.withdrawn) bool_cmp_total) (then_total (on_total (λ (r : SpecReg). r.job) nat_cmp_total) (on_total (λ (r : SpecReg). r.request) nat_cmp_total))))
+total_spec = then_total (on_total (λ (r : SpecReg). r.version) nat_cmp_total) (then_total (on_total (λ (r : SpecReg). r.writer) nat_cmp_total) (then_total (on_total (λ (r : SpecReg). r.withdrawn) bool_cmp_total) (then_total (on_total (λ (r : SpecReg). r.job) nat_cmp_total) (then_total (on_total (λ (r : SpecReg). r.request) nat_cmp_total) (on_total (λ (r : SpecReg). r.prefer) total_preferences)))))
 
 pub total_machine : IsTotalOrder machine_cmp
 total_machine = then_total (on_total (λ (r : MachineReg). r.version) nat_cmp_total) (then_total (on_total (λ (r : MachineReg). r.writer) nat_cmp_total) (then_total (on_total (λ (r : MachineReg). r.up) bool_cmp_total) (then_total (on_total (λ (r : MachineReg). r.slots) nat_cmp_total) (on_total (λ (r : MachineReg). r.nic) nat_cmp_total))))
@@ -57,13 +59,13 @@ total_phase = let same : phase_cmp ≡ on phase_place nat_cmp = λ i x y. by_pla
 
 same_phase : (x y : Phase) → phase_cmp x y ≡ Equal → x ≡ y
 same_phase Pending Pending e = refl
-same_phase Pending Running e = let no : Less ≡ Equal = e in cc
-same_phase Pending Done e = let no : Less ≡ Equal = e in cc
-same_phase Running Pending e = let no : Greater ≡ Equal = e in cc
+same_phase Pending Running e = let none : Less ≡ Equal = e in cc
+same_phase Pending Done e = let none : Less ≡ Equal = e in cc
+same_phase Running Pending e = let none : Greater ≡ Equal = e in cc
 same_phase Running Running e = refl
-same_phase Running Done e = let no : Less ≡ Equal = e in cc
-same_phase Done Pending e = let no : Greater ≡ Equal = e in cc
-same_phase Done Running e = let no : Greater ≡ Equal = e in cc
+same_phase Running Done e = let none : Less ≡ Equal = e in cc
+same_phase Done Pending e = let none : Greater ≡ Equal = e in cc
+same_phase Done Running e = let none : Greater ≡ Equal = e in cc
 same_phase Done Done e = refl
 
 pub total_progress : IsTotalOrder progress_cmp
@@ -92,6 +94,23 @@ same_job x y e =
     let f = nat_same x.preempt y.preempt p.4 in
     λ i. record { version = a i; writer = b i; withdrawn = c i; wait = d i; preempt = f i }
 
+same_credit : TellsApart credit_cmp
+same_credit x y e =
+    let p = both_equal _ _ e in
+    let a = nat_same x.0 y.0 p.0 in
+    let b = nat_same x.1 y.1 p.1 in
+    λ i. (a i, b i)
+
+pub same_preferences : TellsApart preferences_cmp
+same_preferences [] [] e = refl
+same_preferences [] (y ∷ ys) e = let none : Less ≡ Equal = e in cc
+same_preferences (x ∷ xs) [] e = let none : Greater ≡ Equal = e in cc
+same_preferences (x ∷ xs) (y ∷ ys) e =
+    let p = both_equal (credit_cmp x y) _ e in
+    let a = same_credit x y p.0 in
+    let b = same_preferences xs ys p.1 in
+    λ i. a i ∷ b i
+
 pub same_spec : TellsApart spec_cmp
 same_spec x y e =
     let p = five _ _ _ _ _ e in
@@ -99,8 +118,10 @@ same_spec x y e =
     let b = nat_same x.writer y.writer p.1 in
     let c = same_bool x.withdrawn y.withdrawn p.2 in
     let d = nat_same x.job y.job p.3 in
-    let f = nat_same x.request y.request p.4 in
-    λ i. record { version = a i; writer = b i; withdrawn = c i; job = d i; request = f i }
+    let q = both_equal _ _ p.4 in
+    let f = nat_same x.request y.request q.0 in
+    let g = same_preferences x.prefer y.prefer q.1 in
+    λ i. record { version = a i; writer = b i; withdrawn = c i; job = d i; request = f i; prefer = g i }
 
 pub same_machine : TellsApart machine_cmp
 same_machine x y e =

@@ -11,6 +11,7 @@ use Rattle.fm_records.specs.declared.records.Progress.{Progress}
 use Rattle.fm_records.specs.declared.records.MachineReg.{MachineReg}
 use Rattle.fm_records.specs.declared.records.Report.{Report}
 use Rattle.fm_records.specs.declared.records.Spot.{Spot}
+use Rattle.fm_records.specs.Preferences.{preferences_cmp}
 
 -- the place of a phase: Pending, Running, Done
 abbrev pub phase_place : Phase → ℕ
@@ -28,7 +29,7 @@ job_cmp = then_cmp (on (λ r. r.version) nat_cmp) (then_cmp (on (λ r. r.writer)
 
 -- by version, writer, and then the other fields, false before true
 abbrev pub spec_cmp : SpecReg → SpecReg → Ordering
-spec_cmp = then_cmp (on (λ r. r.version) nat_cmp) (then_cmp (on (λ r. r.writer) nat_cmp) (then_cmp (on (λ r. r.withdrawn) bool_cmp) (then_cmp (on (λ r. r.job) nat_cmp) (on (λ r. r.request) nat_cmp))))
+spec_cmp = then_cmp (on (λ r. r.version) nat_cmp) (then_cmp (on (λ r. r.writer) nat_cmp) (then_cmp (on (λ r. r.withdrawn) bool_cmp) (then_cmp (on (λ r. r.job) nat_cmp) (then_cmp (on (λ r. r.request) nat_cmp) (on (λ r. r.prefer) preferences_cmp)))))
 
 -- by version, writer, and then the other fields, false before true
 abbrev pub machine_cmp : MachineReg → MachineReg → Ordering

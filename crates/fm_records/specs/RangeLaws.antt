@@ -28,7 +28,7 @@ use Rattle.fm_records.specs.OrderLaws.{total_job, total_spec, total_progress, to
 use Rattle.fm_records.specs.Table.{Table, TaskValue, MachineValue}
 use Rattle.fm_records.specs.Know.{job_in, spec_in, progress_in, incarnation_in, state_in, report_in, spot_in, coordinator_named, job, spec, told_progress, incarnation, state_at, report_at, task_value, machine_at, machine, entry, entries, know}
 use Rattle.fm_records.specs.Spelled.{each, job_op, job_ops, spec_op, progress_op, task_ops, machine_op, report_op, machine_ops, propose_op, entry_ops, ops, has_part, IsFull, IsTable}
-use Rattle.fm_records.specs.Ranges.{is_id, fits, in_range, all_in_range, CanBe}
+use Rattle.fm_records.specs.Ranges.{is_id, fits_row, fits, in_range, all_in_range, CanBe}
 use Rattle.fm_records.specs.Characterized.{IsGreatest, IsGreatestOf, IsLeast, IsLeastOf}
 use Rattle.fm_records.specs.SetLaws.{member_from, member_kept}
 use Rattle.fm_records.specs.GreatestLaws.{greatest_is, least_is}
@@ -103,10 +103,10 @@ job_spells j (op.Job id version writer withdrawn wait preempt) r e =
 job_spells j _ r e = none_some r e
 
 spec_spells : (t : ℕ) (o : Op) (r : SpecReg) → spec_in t o ≡ Some r → o ≡ spec_op t r
-spec_spells t (op.Spec id version writer withdrawn job request) r e =
+spec_spells t (op.Spec id version writer withdrawn job request prefer) r e =
     let key = eqb-true id t (when_true (id == t) _ r e) in
     let value = when_value (id == t) _ r e in
-    λ i. op.Spec (key i) (value i).version (value i).writer (value i).withdrawn (value i).job (value i).request
+    λ i. op.Spec (key i) (value i).version (value i).writer (value i).withdrawn (value i).job (value i).request (value i).prefer
 spec_spells t _ r e = none_some r e
 
 progress_spells : (t : ℕ) (o : Op) (p : Progress) → progress_in t o ≡ Some p → o ≡ progress_op t p
@@ -163,7 +163,8 @@ each_passes f (Some r) h = both_hold (in_range (f r)) true (h r refl) refl
 id_of_spec : (t : ℕ) (s : SpecReg) → in_range (spec_op t s) ≡ true → is_id t ≡ true
 id_of_spec t s e =
     let whole = both_true (fits (spec_op t s)) _ e in
-    let ids = both_true _ (is_id s.job) whole.0 in
+    let row = both_true _ (fits_row s.prefer) whole.0 in
+    let ids = both_true _ (is_id s.job) row.0 in
     (both_true (is_id t) _ ids.0).0
 
 module _ (S : List Op) (ranged : all_in_range S ≡ true) where

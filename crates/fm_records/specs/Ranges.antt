@@ -1,5 +1,5 @@
 -- Operations in range, and the tables that can be.
-use Rattle.std.specs.Prelude.{ℕ, Bool, nat_lt, is_none, ◌&&◌, ◌^◌, List, IsTrue}
+use Rattle.std.specs.Prelude.{ℕ, Bool, nat_lt, nat_le, is_none, ◌&&◌, ◌^◌, List, length, IsTrue}
 use Rattle.std.specs.List.{list_all}
 use Rattle.fm_records.specs.declared.ops.Op.{Op}
 use Rattle.fm_records.specs.declared.ops.Op.TheVariants as op
@@ -17,10 +17,14 @@ is_count n = nat_lt n (2 ^ 64)
 abbrev pub is_attempt : ℕ → Bool
 is_attempt n = nat_lt n (2 ^ 32)
 
+-- up to four machines
+abbrev pub fits_row : List (ℕ × ℕ) → Bool
+fits_row es = nat_le (length es) 4 && list_all (λ e. is_id e.0) es
+
 -- the fields that have no range of their own fit their types
 abbrev pub fits : Op → Bool
 fits (op.Job id version writer withdrawn wait preempt) = is_id id && is_count version
-fits (op.Spec id version writer withdrawn job request) = is_id id && is_count version && is_id job
+fits (op.Spec id version writer withdrawn job request prefer) = is_id id && is_count version && is_id job && fits_row prefer
 fits (op.Progress id attempt phase) = is_id id && is_attempt attempt
 fits (op.Machine id incarnation version writer up slots nic) = is_id id && is_count incarnation && is_count version
 fits (op.Report id incarnation number used) = is_id id && is_count incarnation && is_count number

@@ -25,7 +25,7 @@ abbrev pub job_op : ℕ → JobReg → Op
 job_op j r = op.Job j r.version r.writer r.withdrawn r.wait r.preempt
 
 abbrev pub spec_op : ℕ → SpecReg → Op
-spec_op t r = op.Spec t r.version r.writer r.withdrawn r.job r.request
+spec_op t r = op.Spec t r.version r.writer r.withdrawn r.job r.request r.prefer
 
 abbrev pub progress_op : ℕ → Progress → Op
 progress_op t p = op.Progress t p.attempt p.phase

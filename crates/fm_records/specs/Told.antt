@@ -18,7 +18,7 @@ job_told _ = None
 
 -- the task and its spec
 abbrev pub spec_told : Op → Option (ℕ × SpecReg)
-spec_told (op.Spec id version writer withdrawn job request) = Some (id, record { version = version; writer = writer; withdrawn = withdrawn; job = job; request = request })
+spec_told (op.Spec id version writer withdrawn job request prefer) = Some (id, record { version = version; writer = writer; withdrawn = withdrawn; job = job; request = request; prefer = prefer })
 spec_told _ = None
 
 -- the task and its progress

@@ -4,5 +4,6 @@
 pub mod ids;
 pub mod laws;
 pub mod ops;
+pub mod prefer;
 pub mod records;
 pub mod refusal;

@@ -2,9 +2,12 @@
 
 ghost use Rattle.std.specs.Prelude.{◌≡◌, ◌↔◌, ◌&&◌, if◌then◌else◌, nat_le, IsOk, IfErr, option_map};
 ghost use Rattle.fm_records.specs.Ids.{is_coordinator};
-ghost use Rattle.fm_records.specs.Ops.{op_fault};
+ghost use Rattle.std.specs.List.{list_all};
+ghost use Rattle.fm_records.specs.Ops.{op_fault, is_price, is_preference};
+ghost use Rattle.fm_records.specs.Preferences.{machines_rise, rises_above};
 
 use crate::ids::{JobId, MachineId, TaskId};
+use crate::prefer::Prefer;
 use crate::refusal::Refusal;
 use std::fmt;
 
@@ -35,6 +38,7 @@ pub enum Op {
         withdrawn: bool,
         job: JobId,
         request: u32,
+        prefer: Prefer,
     },
     Progress {
         id: TaskId,
@@ -72,6 +76,7 @@ pub enum Field {
     Wait,
     Preempt,
     Request,
+    Prefer,
     Slots,
     Nic,
     Used,
@@ -85,6 +90,7 @@ impl fmt::Display for Field {
             Field::Wait => write!(f, "wait"),
             Field::Preempt => write!(f, "preempt"),
             Field::Request => write!(f, "request"),
+            Field::Prefer => write!(f, "prefer"),
             Field::Slots => write!(f, "slots"),
             Field::Nic => write!(f, "nic"),
             Field::Used => write!(f, "used"),
@@ -95,8 +101,8 @@ impl fmt::Display for Field {
 
 impl Op {
     /// Whether each field is in its range: a writer and a coordinator from 1 to 64, wait, preempt and used to
-    /// 1,000,000,000, request and nic to 1,000,000, slots from 1 to 1,000. A refusal names the first field, in the order
-    /// of the operation's fields, that is not.
+    /// 1,000,000,000, request and nic to 1,000,000, slots from 1 to 1,000; machines that are preferred rise, with credits
+    /// to 1,000,000,000. A refusal names the first field, in the order of the operation's fields, that is not.
     pub fn check(&self) -> Result<(), Refusal>
         ensures ok { IsOk result ↔ (op_fault self.now ≡ None) }
         ensures err { IfErr result (λ e. option_map Refusal.BadOp (op_fault self.now) ≡ Some e) }
@@ -115,10 +121,12 @@ impl Op {
             Op::Spec {
                 writer,
                 request,
+                prefer,
                 ..
             } => {
                 within_coordinators(Field::Writer, writer)?;
-                within(Field::Request, 0, request, 1_000_000)
+                within(Field::Request, 0, request, 1_000_000)?;
+                within_preferences(&prefer)
             }
             Op::Progress { .. } => Ok(()),
             Op::Machine {
@@ -142,6 +150,45 @@ fn within_coordinators(field: Field, number: u8) -> Result<(), Refusal>
     ensures { result ≡ (if is_coordinator number then Ok tt else Err (Refusal.BadOp field)) }
 {
     within(field, 1, number as u32, 64)
+}
+
+// Whether the machines rise, and each credit is in the range of a cost.
+fn within_preferences(prefer: &Prefer) -> Result<(), Refusal>
+    ensures { result ≡ (if is_preference prefer.now then Ok tt else Err (Refusal.BadOp Field.Prefer)) }
+{
+    let entries = prefer.entries();
+    if machines_rise(entries) && credits_within(entries) {
+        Ok(())
+    } else {
+        Err(Refusal::BadOp(Field::Prefer))
+    }
+}
+
+// Whether each machine is above the one before it.
+fn machines_rise(entries: &[(MachineId, u32)]) -> bool
+    ensures { result ≡ machines_rise entries.now }
+{
+    match entries {
+        [] => true,
+        [(first, _), rest @ ..] => rises_above(*first, rest),
+    }
+}
+
+// Whether the first machine is above the one given, and each further one above the one before it.
+fn rises_above(last: MachineId, entries: &[(MachineId, u32)]) -> bool
+    ensures { result ≡ rises_above last entries.now }
+{
+    match entries {
+        [] => true,
+        [(first, _), rest @ ..] => last < *first && rises_above(*first, rest),
+    }
+}
+
+// Whether each credit is in the range of a cost.
+fn credits_within(entries: &[(MachineId, u32)]) -> bool
+    ensures { result ≡ list_all (λ entry. is_price entry.1) entries.now }
+{
+    entries.iter().all(|(_, credit)| *credit <= 1_000_000_000)
 }
 
 // Whether the field's value is from the least to the greatest.

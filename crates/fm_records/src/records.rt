@@ -5,6 +5,7 @@ ghost use Rattle.fm_records.specs.Told.{job_record, spec_record, progress_record
 
 use crate::ids::{JobId, MachineId};
 use crate::ops::{Op, Phase};
+use crate::prefer::Prefer;
 use fm_lattice::chain::Chain;
 use fm_lattice::plain::{Both, Lex, Max, Opt};
 
@@ -91,7 +92,7 @@ impl JobReg {
     }
 }
 
-/// What is known of a task: whether it is withdrawn, its job, and the bandwidth that it requests.
+/// What is known of a task: whether it is withdrawn, its job, the bandwidth that it requests, and the machines that it prefers.
 /// Ordered by version, writer, and then the other fields, false before true.
 #[derive(Debug, Clone, Copy, PartialEq, Eq, PartialOrd, Ord, Drop)]
 pub struct SpecReg {
@@ -100,6 +101,7 @@ pub struct SpecReg {
     pub withdrawn: bool,
     pub job: JobId,
     pub request: u32,
+    pub prefer: Prefer,
 }
 
 impl Chain for SpecReg {
@@ -120,6 +122,7 @@ impl SpecReg {
                 withdrawn,
                 job,
                 request,
+                prefer,
                 ..
             } if op.check().is_ok() => Some(SpecReg {
                 version,
@@ -127,6 +130,7 @@ impl SpecReg {
                 withdrawn,
                 job,
                 request,
+                prefer,
             }),
             _ => None,
         }
@@ -165,6 +169,13 @@ impl SpecReg {
         ensures { result ≡ self.now.request }
     {
         self.request
+    }
+
+    /// The machines that the task prefers.
+    pub fn prefer(&self) -> Prefer
+        ensures { result ≡ self.now.prefer }
+    {
+        self.prefer
     }
 }
 

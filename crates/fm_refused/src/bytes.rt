@@ -6,12 +6,13 @@ use fm_delta::packet::Packet;
 use fm_know::knowledge::Knowledge;
 use fm_records::ids::{JobId, MachineId, TaskId};
 use fm_records::ops::Op;
+use fm_records::prefer::Prefer;
 use fm_records::refusal::Refusal;
 use fm_wire::reading::fault_of;
 use std::alloc::Global;
 
 /// How many bytes the packets have that are cut off and changed.
-pub(crate) const LENGTHS: [usize; 3] = [79, 219, 213];
+pub(crate) const LENGTHS: [usize; 3] = [79, 220, 214];
 
 fn job(version: u64, wait: u32) -> Op {
     Op::Job {
@@ -53,6 +54,7 @@ fn task() -> Op {
         withdrawn: false,
         job: JobId::new(1),
         request: 100,
+        prefer: Prefer::default(),
     }
 }
 
@@ -80,14 +82,23 @@ fn spelled(alloc: Global, number: u64, ops: &[Op]) -> Result<Vec<u8>, Refusal> {
     bytes_of(alloc, &packet)
 }
 
-// A packet of so many bytes: of a job alone, of a record of each kind, or of these but that a report beats a machine's state.
+// A packet of so many bytes: of a job alone, in the first version, of a record of each kind, or of these but that a report beats
+// a machine's state.
 fn bytes(alloc: Global, length: usize) -> Result<Vec<u8>, Refusal> {
     let whole = [job(1, 500), machine(), task(), proposal(), report()];
     match length {
-        79 => spelled(alloc, 3, &[job(2, 600)]),
-        219 => spelled(alloc, 1, &whole[..4]),
+        79 => Ok(named(spelled(alloc, 3, &[job(2, 600)])?, b'1')),
+        220 => spelled(alloc, 1, &whole[..4]),
         _ => spelled(alloc, 1, &whole),
     }
+}
+
+// The bytes, whose first word names the version.
+fn named(mut bytes: Vec<u8>, version: u8) -> Vec<u8> {
+    if let Some(last) = bytes.get_mut(3) {
+        *last = version;
+    }
+    bytes
 }
 
 /// Whether the packet has so many bytes, and each part of it that ends earlier is refused at its end.
@@ -102,7 +113,7 @@ pub(crate) fn are_cut_off(alloc: Global, length: usize) -> Result<bool, Refusal>
 }
 
 /// Whether each byte of the packet, changed to each other, leaves bytes that are refused at their fault, or that the packet
-/// spells which is read.
+/// spells which is read: in the second version, and but for the version's word in the first.
 pub(crate) fn are_changed(alloc: Global, length: usize) -> Result<bool, Refusal> {
     let bytes = bytes(alloc, length)?;
     for place in 0..bytes.len() {
@@ -122,7 +133,10 @@ fn is_answered(alloc: Global, bytes: &[u8], place: usize, byte: u8) -> Result<bo
         *old = byte;
     }
     match packet_of(alloc, changed.as_slice()) {
-        Ok(packet) => Ok(bytes_of(alloc, &packet)?.as_slice() == changed.as_slice()),
+        Ok(packet) => {
+            let written = bytes_of(alloc, &packet)?;
+            Ok(written.as_slice() == named(changed, b'2').as_slice())
+        }
         Err(Refusal::BadPacket(fault)) => Ok(first_fault(changed.as_slice()) == Some(fault)),
         Err(refusal) => Err(refusal),
     }

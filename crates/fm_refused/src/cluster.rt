@@ -8,6 +8,7 @@ use fm_know::knowledge::Knowledge;
 use fm_lattice::join::Join;
 use fm_records::ids::{CoordId, JobId, MachineId, TaskId};
 use fm_records::ops::{Op, Phase};
+use fm_records::prefer::Prefer;
 use fm_records::refusal::Refusal;
 use std::alloc::Global;
 
@@ -61,6 +62,7 @@ fn task(number: u32) -> Op {
         withdrawn: false,
         job: JobId::new(scattered(number % JOBS)),
         request: number % 7 * 50,
+        prefer: Prefer::default(),
     }
 }
 

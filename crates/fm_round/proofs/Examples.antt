@@ -38,7 +38,7 @@ abbrev machine_B : Op
 machine_B = op.Machine B 1 1 1 true 2 1000
 
 abbrev spec_1 : Op
-spec_1 = op.Spec t1 1 1 false J 100
+spec_1 = op.Spec t1 1 1 false J 100 []
 
 abbrev known : List Op
 known = op.Job J 1 1 false 500 800 ∷ machine_A ∷ machine_B ∷ spec_1 ∷ []
@@ -70,7 +70,7 @@ stops_of_one = refl
 
 -- two places of which one finds no room
 abbrev tight : List Op
-tight = op.Job J 1 1 false 700 800 ∷ machine_A ∷ op.Spec t1 1 1 false J 600 ∷ op.Spec t2 1 1 false J 500 ∷ []
+tight = op.Job J 1 1 false 700 800 ∷ machine_A ∷ op.Spec t1 1 1 false J 600 [] ∷ op.Spec t2 1 1 false J 500 [] ∷ []
 
 abbrev tight_flow : Units
 tight_flow =
@@ -87,7 +87,7 @@ tight_outcome = refl
 -- a swap: the place finds no slot, the preempt goes
 abbrev swap : List Op
 swap =
-    op.Job J 1 1 false 500 80 ∷ op.Machine A 1 1 1 true 1 1000 ∷ spec_1 ∷ op.Spec t2 1 1 false J 0
+    op.Job J 1 1 false 500 80 ∷ op.Machine A 1 1 1 true 1 1000 ∷ spec_1 ∷ op.Spec t2 1 1 false J 0 []
     ∷ op.Report A 1 1 0 ∷ op.Propose t1 0 1 A 1 ∷ []
 
 swap_load : load_of (know swap) A ≡ 100
@@ -130,7 +130,7 @@ freed_outcome = refl
 
 -- two tasks of one request: the first goes to the first machine
 abbrev pair : List Op
-pair = known ++ op.Spec t2 1 1 false J 100 ∷ []
+pair = known ++ op.Spec t2 1 1 false J 100 [] ∷ []
 
 abbrev pair_flow : Units
 pair_flow =
@@ -180,3 +180,18 @@ held_place = refl
 gone_place : admitted (know held) 1 (only_place (place t1 A 2)) ≡ only Gone
 unfolding told
 gone_place = refl
+
+-- a unit straight to a machine places its task there, beside one that takes its request's seat, and moves no task that is held
+abbrev straight : List Op
+straight = op.Job J 1 1 false 500 800 ∷ machine_A ∷ op.Spec t1 1 1 false J 100 ((A, 30) ∷ []) ∷ op.Spec t2 1 1 false J 100 [] ∷ []
+
+abbrev straight_flow : Units
+straight_flow =
+    ((node.Request 100, node.Machine A), 1) ∷ ((node.Machine A, node.Sink), 2)
+    ∷ ((node.Task t1, node.Machine A), 1) ∷ ((node.Task t2, node.Request 100), 1) ∷ []
+
+straight_plan : planned straight_flow (know straight) ≡ record { places = place t1 A 1 ∷ place t2 A 1 ∷ []; preempts = [] }
+straight_plan = refl
+
+straight_held : planned straight_flow (know (op.Propose t1 0 1 A 1 ∷ straight)) ≡ record { places = place t2 A 1 ∷ []; preempts = [] }
+straight_held = refl

@@ -16,9 +16,8 @@ use Rattle.fm_net.specs.Nodes.{ends_cmp}
 use Rattle.fm_net.specs.NodeOrder.{ends_total, ends_exact}
 use Rattle.fm_records.specs.Options.{when, or_else}
 use Rattle.fm_records.specs.Sets.{IsMember}
-use Rattle.fm_round.specs.declared.planning.Wait.{Wait}
 use Rattle.fm_round.specs.declared.planning.Seat.{Seat}
-use Rattle.fm_round.specs.Planned.{Units, units, wait_in, seats_in, waits, seats, tasks_of, machines_of}
+use Rattle.fm_round.specs.Planned.{Wait, Units, units, wait_in, seats_in, waits, seats, tasks_of, machines_of}
 use Rattle.fm_round.proofs.Pairing.{wait_is}
 
 impossible : {A : Type 0} → 0 < 0 → A

@@ -1,23 +1,26 @@
 -- Tasks and seats of a request, paired by number.
-use Rattle.std.proofs.Common.{◌≡◌, ℕ, ◌+◌, zero, suc, Bool, true, false, cond, List, [], ◌∷◌, ◌++◌, Option, Some, None, refl, sym, ◌∙◌, ap, subst, arith, length, drop, append-nil, inl, inr, eq-eqb, length-append}
-use Rattle.std.specs.Prelude.{◌==◌, zip, option_to_list}
+use Rattle.std.proofs.Common.{◌≡◌, ℕ, ◌+◌, zero, suc, Bool, true, false, cond, List, [], ◌∷◌, ◌++◌, Option, Some, None, refl, sym, ◌∙◌, ap, subst, arith, length, drop, inl, inr, eq-eqb, length-append}
+use Rattle.std.specs.Prelude.{◌==◌, nat_lt, zip, option_to_list}
 use Rattle.std.specs.List.{filter_map, cons_option, slice_get}
 use Rattle.std.specs.Ordering.{nat_cmp, is_eq}
 use Rattle.std.specs.Cmp.{nat_cmp_total, Equal-is}
 use Rattle.std.specs.declared.cmp.Ordering.TheVariants.{Less, Equal}
 use Rattle.std.proofs.lemmas.Bool.{eqb-true}
 use Rattle.std.proofs.lemmas.Cmp.{tied_itself}
+use Rattle.std.proofs.lemmas.List.{drop-drop}
+use Rattle.std.proofs.lemmas.List.Elements.{filter_map-append}
 use Rattle.fm_lattice.specs.Chains.{nat_same}
 use Rattle.fm_lattice.specs.Maps.{lookup, IsBelow, IsRising}
 use Rattle.fm_net.specs.declared.node.Node.{Node}
-use Rattle.fm_net.specs.declared.node.Node.TheVariants.{Task, Request}
+use Rattle.fm_net.specs.declared.node.Node.TheVariants.{Task, Request, Machine}
 use Rattle.fm_net.specs.Nodes.{ends_cmp}
 use Rattle.fm_net.specs.NodeOrder.{ends_total}
-use Rattle.fm_records.specs.Options.{when}
+use Rattle.fm_records.specs.Options.{when, and_then}
 use Rattle.fm_records.specs.Sets.{IsMember}
-use Rattle.fm_round.specs.declared.planning.Wait.{Wait}
-use Rattle.fm_round.specs.Planned.{Units, wait_in, waits, tasks_of}
-use Rattle.fm_round.specs.Seating.{AreApart}
+use Rattle.fm_records.specs.Table.{Table}
+use Rattle.fm_round.specs.declared.planning.Seat.{Seat}
+use Rattle.fm_round.specs.Planned.{Wait, Units, wait_in, waits, tasks_of, machines_of, machine_for, place_at, place_of, placed_in}
+use Rattle.fm_round.specs.Seating.{placed_next, AreApart}
 
 -- one more
 pub mapped_more : {A B : Type 0} (f : A → Option B) (xs : List A) (x : A) → filter_map f (xs ++ x ∷ []) ≡ filter_map f xs ++ option_to_list (f x)
@@ -29,14 +32,6 @@ pub first_left : {A : Type 0} (n : ℕ) (xs : List A) → slice_get (drop n xs) 
 first_left zero xs = refl
 first_left (suc n) [] = refl
 first_left (suc n) (x ∷ xs) = first_left n xs
-
-pub tasks_more : (ws : List Wait) (w : Wait) (r : ℕ) → length (tasks_of r (ws ++ w ∷ [])) ≡ length (tasks_of r ws) + cond (w.request == r) 1 0
-tasks_more ws w r =
-    ap length (mapped_more (λ x. when (x.request == r) x.task) ws w)
-    ∙ (elim (w.request == r) as (λ b. length (tasks_of r ws ++ option_to_list (when b w.task)) ≡ length (tasks_of r ws) + cond b 1 0) [
-      | true ↦ length-append (tasks_of r ws) (w.task ∷ [])
-      | false ↦ ap length (append-nil (tasks_of r ws)) ∙ omega arith
-    ])
 
 member_behind : (w : Wait) (before after : List Wait) → IsMember w (before ++ w ∷ after)
 member_behind w [] after = inl refl
@@ -67,6 +62,34 @@ paired w (x ∷ before) after ms apart =
           (λ xs. paired w before after xs apart.1)
       | false ↦ λ _. paired w before after ms apart.1
     ] refl
+
+module _ (left : ℕ → List ℕ) (ss : List Seat) (k : Table) (before after : Units) (apart_left : (r : ℕ) → left r ≡ drop (length (tasks_of r (waits before))) (machines_of r ss)) where
+  -- the first that is left is where the task's turn brings it
+  pub placed_as : (a : (Node × Node) × ℕ) → AreApart (waits (before ++ a ∷ after)) → placed_next left k a ≡ placed_in (waits (before ++ a ∷ after)) ss k a
+  placed_as ((Task t, Request r), u) apart =
+      let w : Wait = record { request = r; task = t } in
+      let all = waits (before ++ ((Task t, Request r), u) ∷ after) in
+      elim (nat_lt 0 u) as (λ b. nat_lt 0 u ≡ b → and_then (λ x. and_then (place_at k x.task) (slice_get (left x.request) 0)) (when b w) ≡ and_then (place_of all ss k) (when b w)) [
+        | true ↦ λ e.
+            let split : all ≡ waits before ++ w ∷ waits after = filter_map-append wait_in before (((Task t, Request r), u) ∷ after) ∙ ap (λ b. waits before ++ cons_option (when b w) (waits after)) e in
+            let pair = paired w (waits before) (waits after) (machines_of r ss) (subst AreApart split apart) in
+            let first = ap (λ q. slice_get q 0) (apart_left r) ∙ first_left (length (tasks_of r (waits before))) (machines_of r ss) in
+            ap (and_then (place_at k t)) (first ∙ sym (ap (λ z. machine_for z ss w) split ∙ pair))
+        | false ↦ λ _. refl
+      ] refl
+  placed_as ((Task t, Machine m), u) apart = refl
+  placed_as _ apart = refl
+
+  -- and what is left behind it
+  pub left_behind : (a : (Node × Node) × ℕ) (r : ℕ) → drop (length (tasks_of r (option_to_list (wait_in a)))) (left r) ≡ drop (length (tasks_of r (waits (before ++ a ∷ [])))) (machines_of r ss)
+  left_behind a r =
+      let now : length (tasks_of r (waits (before ++ a ∷ []))) ≡ length (tasks_of r (waits before)) + length (tasks_of r (option_to_list (wait_in a))) =
+      ap (λ z. length (tasks_of r z)) (mapped_more wait_in before a)
+      ∙ ap length (filter_map-append (λ w. when (w.request == r) w.task) (waits before) (option_to_list (wait_in a)))
+      ∙ length-append (tasks_of r (waits before)) (tasks_of r (option_to_list (wait_in a))) in
+      ap (drop (length (tasks_of r (option_to_list (wait_in a))))) (apart_left r)
+      ∙ drop-drop (length (tasks_of r (option_to_list (wait_in a)))) (length (tasks_of r (waits before))) (machines_of r ss)
+      ∙ ap (λ n. drop n (machines_of r ss)) (sym now)
 
 -- In a flow in order no task waits for a request twice.
 

@@ -1,6 +1,6 @@
 -- The plan that a flow comes to: after Quincy, a unit from a task through a machine means "run there", and one from a
 -- running task to its unscheduled aggregator means "preempt".
-use Rattle.std.specs.Prelude.{ℕ, nat_lt, ◌==◌, List, [], Option, None, option_map, flat_map, map, replicate, zip}
+use Rattle.std.specs.Prelude.{ℕ, Bool, nat_lt, cond, not, ◌&&◌, ◌==◌, List, [], Option, None, option_map, flat_map, map, replicate, zip}
 use Rattle.std.specs.List.{filter_map}
 use Rattle.std.specs.Ordering.{nat_cmp}
 use Rattle.fm_lattice.specs.Maps.{lookup}
@@ -15,7 +15,6 @@ use Rattle.fm_net.specs.Network.{is_held}
 use Rattle.fm_round.specs.declared.parts.Place.{Place}
 use Rattle.fm_round.specs.declared.parts.Preempt.{Preempt}
 use Rattle.fm_round.specs.declared.parts.Plan.{Plan}
-use Rattle.fm_round.specs.declared.planning.Wait.{Wait}
 use Rattle.fm_round.specs.declared.planning.Seat.{Seat}
 
 -- a flow: the units of each arc, in the order of the arcs' ends, which is by node and so by id
@@ -31,6 +30,10 @@ abbrev pub units : Units → Node → Node → ℕ
 units f from to = or_else 0 (lookup ends_cmp (from, to) f)
 
 -- a task with a unit to a request
+pub record Wait : Type 0 where
+  pub request : ℕ
+  pub task : ℕ
+
 abbrev pub wait_in : (Node × Node) × ℕ → Option Wait
 wait_in ((Task t, Request r), u) = when (nat_lt 0 u) (record { request = r; task = t })
 wait_in _ = None
@@ -70,6 +73,13 @@ place_at k t m = option_map (λ i. record { task = t; machine = m; incarnation =
 abbrev pub place_of : List Wait → List Seat → Table → Wait → Option Place
 place_of ws ss k w = and_then (place_at k w.task) (machine_for ws ss w)
 
+-- a task with a unit to its request goes where its turn brings it; one with a unit straight to a machine, which does not hold
+-- it yet, goes there, and takes no seat of its request
+abbrev pub placed_in : List Wait → List Seat → Table → (Node × Node) × ℕ → Option Place
+placed_in ws ss k ((Task t, Request r), u) = and_then (place_of ws ss k) (wait_in ((Task t, Request r), u))
+placed_in ws ss k ((Task t, Machine m), u) = cond (nat_lt 0 u && not (is_held k t)) (place_at k t m) None
+placed_in ws ss k _ = None
+
 -- a held task with a unit to its job is preempted at its present attempt
 abbrev pub preempt_of : Table → ℕ → Option Preempt
 preempt_of k t = when (is_held k t) (record { task = t; attempt = attempt_of k t })
@@ -77,6 +87,6 @@ preempt_of k t = when (is_held k t) (record { task = t; attempt = attempt_of k t
 -- both in the order of the tasks' ids
 abbrev pub planned : Units → Table → Plan
 planned f k = record {
-  places = filter_map (place_of (waits f) (seats f) k) (waits f);
+  places = filter_map (placed_in (waits f) (seats f) k) f;
   preempts = filter_map (preempt_of k) (filter_map unscheduled_in f);
 }

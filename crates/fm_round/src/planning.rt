@@ -1,11 +1,12 @@
 //! The plan that a flow comes to.
 
-ghost use Rattle.std.specs.Prelude.{◌≡◌, ◌==◌, ◌++◌, ℕ, cond, drop, replicate, option_to_list, IfOk, OnOk};
+ghost use Rattle.std.specs.Prelude.{◌≡◌, ◌==◌, ◌++◌, ℕ, None, not, cond, drop, length, replicate, option_to_list, IfOk, OnOk};
 ghost use Rattle.std.specs.List.{filter_map, slice_get};
 ghost use Rattle.fm_lattice.specs.Maps.{IsRising};
 ghost use Rattle.fm_net.specs.Nodes.{ends_cmp};
-ghost use Rattle.fm_round.specs.Planned.{wait_in, seats_in, unscheduled_in, waits, seats, machines_of, place_at, place_of, preempt_of, planned};
-ghost use Rattle.fm_round.specs.Seating.{queue_of, AreApart};
+ghost use Rattle.fm_net.specs.Network.{is_held};
+ghost use Rattle.fm_round.specs.Planned.{wait_in, seats_in, unscheduled_in, waits, seats, tasks_of, machines_of, place_at, placed_in, preempt_of, planned};
+ghost use Rattle.fm_round.specs.Seating.{queue_of, placed_next, AreApart};
 ghost use Rattle.fm_records.specs.Options.{and_then, when};
 
 use crate::listed::Listed;
@@ -19,8 +20,9 @@ use std::collections::{BTreeMap, VecDeque};
 
 /// The plan of a flow, which is given as its arcs with their units, in the order of their ends: within an aggregator of a
 /// request the i-th task that has a unit to it goes to the i-th machine, where a machine stands as often as there are units
-/// to it, at the machine's present incarnation; a held task that has a unit to its job is preempted at its present attempt.
-/// Both in the order of the tasks' ids. O(n log n) in the arcs and the units.
+/// to it; a task that is not held and has a unit straight to a machine goes there; each at the machine's present incarnation.
+/// A held task that has a unit to its job is preempted at its present attempt. Both in the order of the tasks' ids.
+/// O(n log n) in the arcs and the units.
 pub fn plan_of(
     alloc: Global,
     flow: &[((Node, Node), u64)],
@@ -29,9 +31,8 @@ pub fn plan_of(
     requires { IsRising ends_cmp flow.now }
     ensures { IfOk result (λ plan. plan ≡ planned flow.now knowledge.now) }
 {
-    let waits = waits_of(alloc, flow)?;
     let seats = seats_of(alloc, flow)?;
-    let places = places_of(alloc, waits.as_slice(), seats.as_slice(), knowledge)?;
+    let places = places_of(alloc, flow, seats.as_slice(), knowledge)?;
     let preempts = preempts_of(alloc, flow, knowledge)?;
     Ok(Plan {
         places: Listed::new(places),
@@ -39,34 +40,11 @@ pub fn plan_of(
     })
 }
 
-/// A task that a flow sends to an aggregator of a request.
-#[derive(Clone, Copy, Drop)]
-pub(crate) struct Wait {
-    pub(crate) request: u32,
-    pub(crate) task: TaskId,
-}
-
 /// A unit that a flow sends from an aggregator of a request to a machine.
 #[derive(Clone, Copy, Drop)]
 pub(crate) struct Seat {
     pub(crate) request: u32,
     pub(crate) machine: MachineId,
-}
-
-// The task and its request, where there is a unit between them.
-fn wait_in(from: Node, to: Node, units: u64) -> Option<Wait>
-    ensures { result ≡ wait_in ((from, to), units) }
-{
-    let Node::Task(task) = from else {
-        return None;
-    };
-    let Node::Request(request) = to else {
-        return None;
-    };
-    if units == 0 {
-        return None;
-    }
-    Some(Wait { request, task })
 }
 
 // The task, where it has a unit to its job.
@@ -80,19 +58,6 @@ fn unscheduled_in(from: Node, to: Node, units: u64) -> Option<TaskId>
         Node::Unscheduled(_) if units > 0 => Some(task),
         _ => None,
     }
-}
-
-// The tasks with a unit to a request.
-fn waits_of(alloc: Global, flow: &[((Node, Node), u64)]) -> Result<Vec<Wait>, OutOfMemory>
-    ensures { IfOk result (λ found. found.items ≡ waits flow.now) }
-{
-    let mut found = Vec::new(alloc);
-    for arc in flow {
-        if let Some(wait) = wait_in(arc.0.0, arc.0.1, arc.1) {
-            found.push(wait)?;
-        }
-    }
-    Ok(found)
 }
 
 // The machines with units from requests, once for each unit.
@@ -167,23 +132,55 @@ impl Queues {
     {
         self.by_request.get_mut(&request)?.pop_front()
     }
+
+    // Where the task of an arc with units goes: on the first machine that is left of its request, or where it has a unit to.
+    fn placed(&mut self, knowledge: &Knowledge, from: Node, to: Node, units: u64) -> Option<Place>
+        ensures place { result ≡ placed_next (queue_of self.old) knowledge.now ((from, to), units) }
+        ensures rest { (r : ℕ) → queue_of self.new r ≡ drop (length (tasks_of r (option_to_list (wait_in ((from, to), units))))) (queue_of self.old r) }
+    {
+        let Node::Task(task) = from else {
+            return None;
+        };
+        if units == 0 {
+            return None;
+        }
+        match to {
+            Node::Request(request) => {
+                let machine = self.take(request);
+                place_of(knowledge, task, machine)
+            }
+            Node::Machine(machine) => place_straight(knowledge, task, machine),
+            _ => None,
+        }
+    }
 }
 
-// The places of the tasks: each takes the first machine that is left of its request, so the i-th task goes to the i-th seat.
+// The place of a task that is sent straight to the machine, unless some machine holds it.
+fn place_straight(knowledge: &Knowledge, task: TaskId, machine: MachineId) -> Option<Place>
+    ensures { result ≡ cond (not (is_held knowledge.now task)) (place_at knowledge.now task machine) None }
+{
+    if knowledge.holder(task).is_some() {
+        return None;
+    }
+    place_at(knowledge, task, machine)
+}
+
+// The places of the tasks: each that waits takes the first machine that is left of its request, so the i-th goes to the i-th
+// seat.
 fn places_of(
     alloc: Global,
-    waits: &[Wait],
+    flow: &[((Node, Node), u64)],
     seats: &[Seat],
     knowledge: &Knowledge,
 ) -> Result<Vec<Place>, OutOfMemory>
-    requires { AreApart waits.now }
-    ensures { IfOk result (λ found. found.items ≡ filter_map (place_of waits.now seats.now knowledge.now) waits.now) }
+    requires { AreApart (waits flow.now) }
+    ensures { IfOk result (λ found. found.items ≡ filter_map (placed_in (waits flow.now) seats.now knowledge.now) flow.now) }
 {
     let mut queues = Queues::of(alloc, seats)?;
     let mut found = Vec::new(alloc);
-    for wait in waits {
-        let machine = queues.take(wait.request);
-        push_some(&mut found, place_of(knowledge, wait.task, machine))?;
+    for arc in flow {
+        let place = queues.placed(knowledge, arc.0.0, arc.0.1, arc.1);
+        push_some(&mut found, place)?;
     }
     Ok(found)
 }

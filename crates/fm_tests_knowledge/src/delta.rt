@@ -3,6 +3,7 @@ use fm_delta::packet::Packet;
 use fm_know::knowledge::Knowledge;
 use fm_records::ids::{CoordId, JobId, MachineId, TaskId};
 use fm_records::ops::Op;
+use fm_records::prefer::Prefer;
 use fm_records::refusal::Refusal;
 use std::alloc::Global;
 use std::test::Fail;
@@ -38,6 +39,7 @@ fn task() -> Op {
         withdrawn: false,
         job: JobId::new(1),
         request: 100,
+        prefer: Prefer::default(),
     }
 }
 

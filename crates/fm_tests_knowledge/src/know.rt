@@ -1,7 +1,8 @@
 use fm_know::knowledge::Knowledge;
 use fm_lattice::join::Join;
-use fm_records::ids::{JobId, TaskId};
+use fm_records::ids::{JobId, MachineId, TaskId};
 use fm_records::ops::{Op, Phase};
+use fm_records::prefer::Prefer;
 use std::alloc::Global;
 use std::test::Fail;
 
@@ -51,5 +52,38 @@ fn operations_are_told_together(rt: HostRuntime) -> Result<(), Fail> {
     }];
     let told = Knowledge::told(rt.alloc(), &ops)?;
     assert_eq!(rt; told.tasks().len(), 1);
+    Ok(())
+}
+
+// The task's spec, preferring the machines.
+fn spec(machines: &[(MachineId, u32)]) -> Op {
+    Op::Spec {
+        id: TaskId::new(17),
+        version: 1,
+        writer: 1,
+        withdrawn: false,
+        job: JobId::new(1),
+        request: 100,
+        prefer: Prefer::new(machines).unwrap_or_default(),
+    }
+}
+
+// What is known to be preferred where the one list is told, and then the other.
+fn preferred(
+    alloc: Global,
+    first: &[(MachineId, u32)],
+    second: &[(MachineId, u32)],
+) -> Result<Option<Prefer>, Fail> {
+    let told = with(alloc, &Knowledge::empty(alloc), spec(first))?;
+    let both = with(alloc, &told, spec(second))?;
+    Ok(both.spec(TaskId::new(17)).map(|spec| spec.prefer()))
+}
+
+#[test]
+fn of_two_specs_the_longer_list_counts(rt: HostRuntime) -> Result<(), Fail> {
+    let short = [(MachineId::new(10), 1)];
+    let long = [(MachineId::new(10), 1), (MachineId::new(11), 1)];
+    assert_eq!(rt; preferred(rt.alloc(), &short, &long)?, Prefer::new(&long));
+    assert_eq!(rt; preferred(rt.alloc(), &long, &short)?, Prefer::new(&long));
     Ok(())
 }

@@ -4,6 +4,7 @@ use fm_lattice::plain::{Both, Lex, Max, Min, Opt};
 use fm_records::ids::{CoordId, JobId, MachineId, TaskId};
 use fm_records::laws::{self, equal, order};
 use fm_records::ops::{Field, Op, Phase};
+use fm_records::prefer::Prefer;
 use fm_records::records::{JobReg, MachineReg, Progress, Report, SpecReg, Spot};
 use fm_records::refusal::Refusal;
 use std::alloc::{AllocError, Global};
@@ -22,6 +23,10 @@ fn job(writer: u8, wait: u32, preempt: u32) -> Op {
 }
 
 fn spec(writer: u8, request: u32) -> Op {
+    preferring(writer, request, &[])
+}
+
+fn preferring(writer: u8, request: u32, machines: &[(MachineId, u32)]) -> Op {
     Op::Spec {
         id: TaskId::new(17),
         version: 1,
@@ -29,7 +34,12 @@ fn spec(writer: u8, request: u32) -> Op {
         withdrawn: false,
         job: JobId::new(1),
         request,
+        prefer: Prefer::new(machines).unwrap_or_default(),
     }
+}
+
+fn machine_with(machine: u128, credit: u32) -> (MachineId, u32) {
+    (MachineId::new(machine), credit)
 }
 
 fn progress(attempt: u32, phase: Phase) -> Op {
@@ -78,6 +88,16 @@ fn fields_within_their_ranges_are_taken(rt: HostRuntime) {
         job(64, 1_000_000_000, 1_000_000_000),
         spec(1, 0),
         spec(64, 1_000_000),
+        preferring(
+            1,
+            100,
+            &[
+                machine_with(0, 0),
+                machine_with(10, 1_000_000_000),
+                machine_with(11, 1),
+                machine_with(u128::MAX, 1),
+            ],
+        ),
         progress(0, Phase::Pending),
         progress(u32::MAX, Phase::Done),
         machine(1, 1, 0),
@@ -101,6 +121,22 @@ fn the_first_field_out_of_range_is_named(rt: HostRuntime) {
         (spec(0, 100), Field::Writer),
         (spec(65, 1_000_001), Field::Writer),
         (spec(1, 1_000_001), Field::Request),
+        (
+            preferring(1, 1_000_001, &[machine_with(11, 1), machine_with(10, 1)]),
+            Field::Request,
+        ),
+        (
+            preferring(1, 100, &[machine_with(11, 1), machine_with(10, 1)]),
+            Field::Prefer,
+        ),
+        (
+            preferring(1, 100, &[machine_with(10, 1), machine_with(10, 2)]),
+            Field::Prefer,
+        ),
+        (
+            preferring(1, 100, &[machine_with(10, 1_000_000_001)]),
+            Field::Prefer,
+        ),
         (machine(0, 0, 1000), Field::Writer),
         (machine(65, 2, 1000), Field::Writer),
         (machine(1, 0, 1_000_001), Field::Slots),
@@ -272,7 +308,14 @@ fn spec_register(version: u64, writer: u8, withdrawn: bool, job: u128, request: 
         withdrawn,
         job: JobId::new(job),
         request,
+        prefer: Prefer::default(),
     }
+}
+
+fn spec_preferring(machines: &[(MachineId, u32)]) -> SpecReg {
+    let mut spec = spec_register(2, 2, true, 2, 2);
+    spec.prefer = Prefer::new(machines).unwrap_or_default();
+    spec
 }
 
 fn machine_register(version: u64, writer: u8, up: bool, slots: u32, nic: u32) -> MachineReg {
@@ -319,11 +362,39 @@ fn specs_are_ordered_by_their_fields(rt: HostRuntime) {
         spec_register(2, 2, true, 1, 9),
         spec_register(2, 2, true, 2, 1),
         spec_register(2, 2, true, 2, 2),
+        spec_preferring(&[machine_with(10, 1)]),
+        spec_preferring(&[machine_with(10, 1), machine_with(11, 1)]),
+        spec_preferring(&[machine_with(10, 2)]),
+        spec_preferring(&[machine_with(11, 0)]),
     ]
     .windows(2)
     {
         assert_eq!(rt; order::specs(&pair[0], &pair[1]), Ordering::Less);
         assert_eq!(rt; order::specs(&pair[1], &pair[0]), Ordering::Greater);
+    }
+}
+
+#[test]
+fn a_row_takes_four_machines(rt: HostRuntime) {
+    let five = [
+        machine_with(1, 5),
+        machine_with(2, 4),
+        machine_with(3, 3),
+        machine_with(4, 2),
+        machine_with(5, 1),
+    ];
+    assert_eq!(rt; Prefer::new(&five), None);
+    for count in 0..5 {
+        let prefer = Prefer::new(&five[..count]).unwrap_or_default();
+        assert_eq!(rt; prefer.entries(), &five[..count]);
+        assert_eq!(rt; spec_preferring(&five[..count]).prefer(), prefer);
+        assert!(rt; equal::preferences(&prefer, &prefer));
+    }
+    let (some, more) = (Prefer::new(&five[..1]), Prefer::new(&five[..2]));
+    if let (Some(some), Some(more)) = (some, more) {
+        assert!(rt; !equal::preferences(&some, &more));
+        assert_eq!(rt; order::preferences(&some, &more), Ordering::Less);
+        assert_eq!(rt; order::preferences(&more, &some), Ordering::Greater);
     }
 }
 
@@ -453,6 +524,7 @@ fn fields_have_names(rt: HostRuntime) -> Result<(), Fail> {
         (Field::Wait, "wait"),
         (Field::Preempt, "preempt"),
         (Field::Request, "request"),
+        (Field::Prefer, "prefer"),
         (Field::Slots, "slots"),
         (Field::Nic, "nic"),
         (Field::Used, "used"),

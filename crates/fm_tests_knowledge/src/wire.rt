@@ -3,13 +3,14 @@ use fm_know::knowledge::Knowledge;
 use fm_lattice::join::Join;
 use fm_records::ids::{CoordId, JobId, MachineId, TaskId};
 use fm_records::ops::{Op, Phase};
+use fm_records::prefer::Prefer;
 use fm_records::refusal::Refusal;
 use fm_wire::reading::{decode, fault_of};
 use fm_wire::writing::encode;
 use std::alloc::Global;
 use std::test::Fail;
 
-// Packet 3 of coordinator 1: job 1 at version 2 of writer 1, not withdrawn, wait 600, preempt 800.
+// Packet 3 of coordinator 1 in FDG1: job 1 at version 2 of writer 1, not withdrawn, wait 600, preempt 800.
 const JOB_BYTES: [u8; 79] = [
     0x46, 0x44, 0x47, 0x31, 1, 0, 0, 0, 0, 0, 0, 0, 3, 0, 0, 0, 0, 0, 0, 0, 1, 0, 0, 0, 0, 0, 0, 0,
     0, 0, 0, 0, 0, 0, 0, 0, 1, 0, 0, 0, 0, 0, 0, 0, 2, 1, 0, 0, 0, 2, 0x58, 0, 0, 3, 0x20, 0, 0, 0,
@@ -51,7 +52,17 @@ fn bytes_of(alloc: Global, packet: &Packet) -> Result<Vec<u8>, Fail> {
     Ok(encode(alloc, packet)?)
 }
 
-// Whether the bytes spell the packet, in both directions.
+// Whether the bytes spell the packet in FDG1: they are read as the packet, and where it has no spec it is written with another
+// word alone.
+fn spells_in_first(alloc: Global, bytes: &[u8], packet: &Packet) -> Result<bool, Fail> {
+    let mut second = Vec::from_slice(alloc, bytes)?;
+    if second.len() > 3 {
+        second[3] = 0x32;
+    }
+    Ok(decode(alloc, bytes)? == *packet && spells(alloc, &second, packet)?)
+}
+
+// Whether the bytes spell the packet in FDG2, in both directions.
 fn spells(alloc: Global, bytes: &[u8], packet: &Packet) -> Result<bool, Fail> {
     let written = bytes_of(alloc, packet)?;
     let read = decode(alloc, bytes)?;
@@ -102,14 +113,16 @@ fn fault_at_number(
 #[test]
 fn a_job_is_34_bytes(rt: HostRuntime) -> Result<(), Fail> {
     let packet = packet_of(rt.alloc(), 3, Some(job(800)))?;
-    assert!(rt; spells(rt.alloc(), &JOB_BYTES, &packet)?);
+    assert!(rt; spells_in_first(rt.alloc(), &JOB_BYTES, &packet)?);
     Ok(())
 }
 
 #[test]
 fn faults_have_places(rt: HostRuntime) -> Result<(), Fail> {
     for (place, byte, want) in [
-        (3, 0x32, Some(0)),
+        (3, 0x30, Some(0)),
+        (3, 0x32, None),
+        (3, 0x33, Some(0)),
         (4, 0, Some(4)),
         (13, 255, Some(55)),
         (20, 0, Some(61)),
@@ -134,7 +147,7 @@ fn a_preempt_of_801_is_read(rt: HostRuntime) -> Result<(), Fail> {
     let mut bytes = JOB_BYTES;
     bytes[54] = 0x21;
     let packet = packet_of(rt.alloc(), 3, Some(job(801)))?;
-    assert!(rt; spells(rt.alloc(), &bytes, &packet)?);
+    assert!(rt; spells_in_first(rt.alloc(), &bytes, &packet)?);
     Ok(())
 }
 
@@ -214,16 +227,98 @@ fn tags_and_keys_have_ranges(rt: HostRuntime) -> Result<(), Fail> {
     Ok(())
 }
 
-#[test]
-fn numbers_of_jobs_and_specs_have_ranges(rt: HostRuntime) -> Result<(), Fail> {
-    let spec = Op::Spec {
+// The task's spec, preferring the machines.
+fn preferring(machines: &[(MachineId, u32)]) -> Op {
+    Op::Spec {
         id: TaskId::new(17),
         version: 1,
         writer: 1,
         withdrawn: false,
         job: JobId::new(1),
         request: 100,
-    };
+        prefer: Prefer::new(machines).unwrap_or_default(),
+    }
+}
+
+#[test]
+fn preferences_have_places(rt: HostRuntime) -> Result<(), Fail> {
+    let one = preferring(&[(MachineId::new(10), 30)]);
+    let two = preferring(&[(MachineId::new(10), 30), (MachineId::new(11), 40)]);
+    for (op, len) in [(one, 118), (two, 138)] {
+        let packet = packet_of(rt.alloc(), 1, Some(op))?;
+        let bytes = bytes_of(rt.alloc(), &packet)?;
+        assert_eq!(rt; bytes.len(), len);
+        assert!(rt; spells(rt.alloc(), &bytes, &packet)?);
+    }
+    for (op, place, byte, want) in [
+        (one, 81, 5, Some(81)),
+        (one, 81, 2, Some(102)),
+        (two, 117, 12, None),
+        (two, 117, 10, Some(102)),
+        (two, 117, 9, Some(102)),
+    ] {
+        assert_eq!(rt; fault_of_op(rt.alloc(), op, place, byte)?, want);
+    }
+    for (place, number, want) in [
+        (98, 0, None),
+        (98, 1_000_000_000, None),
+        (98, 1_000_000_001, Some(98)),
+        (118, 1_000_000_001, Some(118)),
+    ] {
+        assert_eq!(rt; fault_at_number(rt.alloc(), two, place, number)?, want);
+    }
+    Ok(())
+}
+
+// The fault of the bytes that end at the place.
+fn fault_of_front(bytes: &[u8], end: usize) -> Option<usize> {
+    match bytes.get(..end) {
+        Some(front) => fault(front),
+        None => None,
+    }
+}
+
+// The order of machines is tested when the machine has been read: here nothing more is there.
+#[test]
+fn the_order_is_tested_before_the_credit(rt: HostRuntime) -> Result<(), Fail> {
+    let op = preferring(&[(MachineId::new(10), 30), (MachineId::new(11), 40)]);
+    let mut bytes = bytes_of(rt.alloc(), &packet_of(rt.alloc(), 1, Some(op))?)?;
+    assert_eq!(rt; fault_of_front(&bytes, 118), Some(118));
+    if let Some(last) = bytes.get_mut(117) {
+        *last = 10;
+    }
+    assert_eq!(rt; fault_of_front(&bytes, 118), Some(102));
+    assert_eq!(rt; fault_of_front(&bytes, 117), Some(117));
+    Ok(())
+}
+
+// The bytes in FDG1 of a packet of a spec alone, which are those in FDG2 without its count of preferences.
+fn without_count(alloc: Global, bytes: &[u8]) -> Result<Vec<u8>, Fail> {
+    let mut first = Vec::new(alloc);
+    if let (Some(front), Some(back)) = (bytes.get(4..81), bytes.get(82..)) {
+        first.extend_from_slice(b"FDG1")?;
+        first.extend_from_slice(front)?;
+        first.extend_from_slice(back)?;
+    }
+    Ok(first)
+}
+
+#[test]
+fn a_spec_is_read_in_both_versions(rt: HostRuntime) -> Result<(), Fail> {
+    let packet = packet_of(rt.alloc(), 1, Some(preferring(&[])))?;
+    let second = bytes_of(rt.alloc(), &packet)?;
+    let first = without_count(rt.alloc(), &second)?;
+    assert_eq!(rt; (first.len(), second.len()), (97, 98));
+    assert!(rt; decode(rt.alloc(), &first)? == packet);
+    assert!(rt; spells(rt.alloc(), &second, &packet)?);
+    assert_eq!(rt; fault_with(rt.alloc(), &first, 3, 0x32)?, Some(97));
+    assert_eq!(rt; fault_with(rt.alloc(), &second, 3, 0x31)?, Some(97));
+    Ok(())
+}
+
+#[test]
+fn numbers_of_jobs_and_specs_have_ranges(rt: HostRuntime) -> Result<(), Fail> {
+    let spec = preferring(&[]);
     for (op, place, number, want) in [
         (job(800), 47, 0, None),
         (job(800), 47, 1_000_000_000, None),
@@ -322,6 +417,7 @@ fn told(alloc: Global, more: Option<Op>) -> Result<Packet, Fail> {
             withdrawn: false,
             job: JobId::new(1),
             request: 100,
+            prefer: Prefer::default(),
         },
         Op::Propose {
             id: TaskId::new(17),
@@ -351,7 +447,7 @@ fn whole_knowledge_is_written_and_read(rt: HostRuntime) -> Result<(), Fail> {
         number: 1,
         used: 0,
     };
-    for (more, len) in [(None, 219), (Some(report), 213)] {
+    for (more, len) in [(None, 220), (Some(report), 214)] {
         let packet = told(rt.alloc(), more)?;
         let bytes = bytes_of(rt.alloc(), &packet)?;
         assert_eq!(rt; bytes.len(), len);

@@ -10,6 +10,7 @@ use fm_policy::changed::changed_of;
 use fm_policy::keeper::NetKeeper;
 use fm_records::ids::{JobId, MachineId, TaskId};
 use fm_records::ops::Op;
+use fm_records::prefer::Prefer;
 use std::alloc::Global;
 use std::test::Fail;
 
@@ -55,6 +56,7 @@ fn an_editor_follows_and_stays_fresh(rt: HostRuntime) -> Result<(), Fail> {
         withdrawn: false,
         job: JobId::new(1),
         request: 100,
+        prefer: Prefer::default(),
     };
     told(alloc, &mut known, &mut editor, &task)?;
     assert_eq!(rt; editor.network().nodes_len(), 1);

@@ -5,6 +5,7 @@ use fm_know::knowledge::Knowledge;
 use fm_net::node::Node;
 use fm_records::ids::{CoordId, JobId, MachineId, TaskId};
 use fm_records::ops::{Op, Phase};
+use fm_records::prefer::Prefer;
 use fm_round::admission::admit;
 use fm_round::listed::Listed;
 use fm_round::parts::{Admitted, Answer, Place, Plan, Preempt, Stop};
@@ -54,6 +55,7 @@ fn spec(id: u128, request: u32) -> Op {
         withdrawn: false,
         job: JobId::new(JOB),
         request,
+        prefer: Prefer::default(),
     }
 }
 

@@ -12,6 +12,7 @@ use fm_know::knowledge::Knowledge;
 use fm_policy::rebuilder::Rebuilder;
 use fm_records::ids::{CoordId, JobId, MachineId, TaskId};
 use fm_records::ops::{Field, Op, Phase};
+use fm_records::prefer::Prefer;
 use fm_records::refusal::Refusal;
 use fm_round::parts::Answer;
 use std::alloc::Global;
@@ -54,6 +55,7 @@ fn task() -> Op {
         withdrawn: false,
         job: JobId::new(1),
         request: 100,
+        prefer: Prefer::default(),
     }
 }
 

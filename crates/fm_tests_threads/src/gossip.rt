@@ -5,6 +5,7 @@ use fm_gossip::member::Member;
 use fm_policy::rebuilder::Rebuilder;
 use fm_records::ids::{CoordId, JobId, MachineId, TaskId};
 use fm_records::ops::Op;
+use fm_records::prefer::Prefer;
 use std::alloc::Global;
 use std::sync::Wait;
 use std::sync::atomic::{AtomicBool, Ordering};
@@ -38,6 +39,7 @@ fn told(alloc: Global) -> Result<Vec<Op>, Fail> {
         withdrawn: false,
         job: JobId::new(1),
         request: 100,
+        prefer: Prefer::default(),
     })?;
     Ok(tells)
 }

@@ -15,6 +15,7 @@ use fm_policy::keeper::NetKeeper;
 use fm_policy::rebuilder::Rebuilder;
 use fm_records::ids::{CoordId, JobId, MachineId, TaskId};
 use fm_records::ops::{Op, Phase};
+use fm_records::prefer::Prefer;
 use fm_records::refusal::Refusal;
 use fm_round::listed::Listed;
 use fm_round::parts::{Answer, Place, Plan};
@@ -52,6 +53,7 @@ fn task() -> Op {
         withdrawn: false,
         job: JobId::new(1),
         request: 100,
+        prefer: Prefer::default(),
     }
 }
 
@@ -280,6 +282,7 @@ fn tell_tasks(node: &mut Coordinator<Counting>, many: u32) -> Result<(), Fail> {
                 withdrawn: false,
                 job: JobId::new(1),
                 request: 100,
+                prefer: Prefer::default(),
             },
         )?;
     }

@@ -13,6 +13,7 @@ use fm_gather::gather::gather;
 use fm_policy::rebuilder::Rebuilder;
 use fm_records::ids::{CoordId, JobId, MachineId, TaskId};
 use fm_records::ops::Op;
+use fm_records::prefer::Prefer;
 use fm_world::distinct::distinct;
 use fm_world::step::{Act, Step};
 use fm_world::world::World;
@@ -90,6 +91,7 @@ fn operation(state: &mut u32) -> Op {
             withdrawn: false,
             job: JobId::new(1),
             request: draw(state, 400),
+            prefer: Prefer::default(),
         },
     }
 }

@@ -34,7 +34,7 @@ static READ: [(&str, &str); 6] = [
     ),
     (
         SPEC,
-        "Spec { id: TaskId { number: 6 }, version: 7, writer: 8, withdrawn: false, job: JobId { number: 9 }, request: 10 }",
+        "Spec { id: TaskId { number: 6 }, version: 7, writer: 8, withdrawn: false, job: JobId { number: 9 }, request: 10, prefer: Prefer { row: [(MachineId { number: 0 }, 0), (MachineId { number: 0 }, 0), (MachineId { number: 0 }, 0), (MachineId { number: 0 }, 0)], len: 0 } }",
     ),
     (
         PROGRESS,

@@ -3,17 +3,18 @@
 ghost use Rattle.std.specs.Prelude.{◌≡◌, IfOk, IfErr, option_map};
 ghost use Rattle.fm_records.specs.Options.{or_else};
 ghost use Rattle.fm_records.specs.declared.refusal.Refusal.{Refusal};
-ghost use Rattle.fm_wire.specs.Grammar.{fault};
+ghost use Rattle.fm_delta.specs.declared.packet.Packet.{Packet};
+ghost use Rattle.fm_wire.specs.Grammar.{spelling, Spells, fault};
 
 use fm_records::refusal::Refusal;
 use fm_wire::reading::decode;
 use fm_wire::writing::encode;
 use std::alloc::Global;
 
-/// The bytes again, written anew from the packet that they spell, so that they are the very same. Refused at the first byte
-/// that no packet has there, or for want of memory.
+/// The packet that the bytes spell, in whatever version, written anew in the version of today. Refused at the first byte that no
+/// packet has there, or for want of memory.
 pub fn relayed(alloc: Global, bytes: &[u8]) -> Result<Vec<u8>, Refusal>
-    ensures same { IfOk result (λ out. out.items ≡ bytes.now) }
+    ensures same { IfOk result (λ out. (p : Packet) × Spells bytes.now p × (out.items ≡ spelling p)) }
     ensures err { IfErr result (λ refusal. refusal ≡ or_else Refusal.OutOfMemory (option_map Refusal.BadPacket (fault bytes.now))) }
 {
     let packet = decode(alloc, bytes)?;

@@ -18,11 +18,15 @@ use Rattle.fm_records.specs.declared.records.Spot.{Spot}
 use Rattle.fm_records.specs.Ops.{op_fault}
 use Rattle.fm_records.specs.Table.{TaskValue, MachineValue}
 use Rattle.fm_records.specs.Spelled.{job_op, spec_op, progress_op, machine_op, report_op, propose_op, task_ops, machine_ops, entry_ops, has_part}
-use Rattle.fm_records.specs.Ranges.{is_id, is_count, is_attempt, fits, in_range, all_in_range}
+use Rattle.fm_records.specs.Ranges.{is_id, is_count, is_attempt, fits_row, fits, in_range, all_in_range}
 use Rattle.fm_records.specs.LookupLaws.{both_true}
 use Rattle.fm_records.specs.RangeLaws.{all_pass, both_pass}
 use Rattle.fm_wire.specs.Formats.{◌⨾◌, part}
-use Rattle.fm_wire.specs.Grammar.{id, count, attempt, coordinator, flag, phase, job, spec, optional_spec, task, state, report, parts, machine, spot, entries_at, entries_of}
+use Rattle.fm_delta.specs.declared.packet.Packet.{Packet}
+use Rattle.fm_wire.specs.declared.version.Version.{Version}
+use Rattle.fm_wire.specs.declared.version.Version.TheVariants.{Fdg1, Fdg2}
+use Rattle.fm_wire.specs.Grammar.{id, count, attempt, coordinator, flag, phase, job, spec, optional_spec, task, state, report, parts, machine, spot, entries_at, entries_of, CanSpell}
+use Rattle.fm_wire.proofs.Preferring.{HasPlace, prefer_in, fits_out, preference_out, place_out}
 
 -- ---- tests of fields
 
@@ -80,22 +84,34 @@ job_out j r h =
     (both (is_id j) (is_count r.version) (is_below j (2 ^ 128) (omega arith) h.0.1) (is_below r.version (2 ^ 64) (omega arith) h.1.0.1))
     (none_back _ _ _ (is_within r.writer 1 64 h.1.1.0) (none_back _ _ _ (le-leb r.wait 1000000000 h.1.1.1.1.0.1) (none_back _ _ _ (le-leb r.preempt 1000000000 h.1.1.1.1.1.1) refl)))
 
-spec_in : (t : ℕ) (r : SpecReg) → in_range (spec_op t r) ≡ true → spec.has r
+spec_in : (v : Version) (t : ℕ) (r : SpecReg) → HasPlace v (Some r) → in_range (spec_op t r) ≡ true → (spec v).has r
 unfolding spec
-spec_in t r h =
+spec_in v t r place h =
     let whole = both_true (fits (spec_op t r)) (is_none (op_fault (spec_op t r))) h in
-    let ids = both_true (is_id t && is_count r.version) (is_id r.job) whole.0 in
+    let row = both_true (is_id t && is_count r.version && is_id r.job) (fits_row r.prefer) whole.0 in
+    let ids = both_true (is_id t && is_count r.version) (is_id r.job) row.0 in
     let first = both_true (is_id t) (is_count r.version) ids.0 in
     let a = none_then _ _ _ whole.1 in
     let b = none_then _ _ _ a.1 in
-    (below r.version (2 ^ 64) first.1, (within r.writer 1 64 a.0, (flag_has r.withdrawn, (below r.job (2 ^ 128) ids.1, up_to r.request 1000000 b.0))))
+    let c = none_then _ _ _ b.1 in
+    (below r.version (2 ^ 64) first.1, (within r.writer 1 64 a.0, (flag_has r.withdrawn, (below r.job (2 ^ 128) ids.1, (up_to r.request 1000000 b.0, prefer_in v r place row.1 c.0)))))
 
-spec_out : (t : ℕ) (r : SpecReg) → id.has t → spec.has r → in_range (spec_op t r) ≡ true
+spec_out : (v : Version) (t : ℕ) (r : SpecReg) → id.has t → (spec v).has r → in_range (spec_op t r) ≡ true
 unfolding spec
-spec_out t r g h =
+spec_out v t r g h =
     both (fits (spec_op t r)) (is_none (op_fault (spec_op t r)))
+    (both (is_id t && is_count r.version && is_id r.job) (fits_row r.prefer)
     (both (is_id t && is_count r.version) (is_id r.job) (both (is_id t) (is_count r.version) (is_below t (2 ^ 128) (omega arith) g.1) (is_below r.version (2 ^ 64) (omega arith) h.0.1)) (is_below r.job (2 ^ 128) (omega arith) h.1.1.1.0.1))
-    (none_back _ _ _ (is_within r.writer 1 64 h.1.0) (none_back _ _ _ (le-leb r.request 1000000 h.1.1.1.1.1) refl))
+    (fits_out v r.prefer h.1.1.1.1.1))
+    (none_back _ _ _ (is_within r.writer 1 64 h.1.0) (none_back _ _ _ (le-leb r.request 1000000 h.1.1.1.1.0.1) (none_back _ _ _ (preference_out v r.prefer h.1.1.1.1.1) refl)))
+
+spec_place : (v : Version) (r : SpecReg) → (spec v).has r → HasPlace v (Some r)
+unfolding spec
+spec_place v r h = place_out v r h.1.1.1.1.1
+
+no_place : (v : Version) → HasPlace v None
+no_place Fdg1 = tt
+no_place Fdg2 = tt
 
 progress_in : (t : ℕ) (p : Progress) → in_range (progress_op t p) ≡ true → id.has t × attempt.has p.attempt
 progress_in t p h =
@@ -107,17 +123,17 @@ progress_out : (t : ℕ) (p : Progress) → id.has t → attempt.has p.attempt �
 progress_out t p g h =
     both (fits (progress_op t p)) true (both (is_id t) (is_attempt p.attempt) (is_below t (2 ^ 128) (omega arith) g.1) (is_below p.attempt (2 ^ 32) (omega arith) h.1)) refl
 
-none_has : optional_spec.has None
+none_has : (v : Version) → (optional_spec v).has None
 unfolding optional_spec
-none_has = ((omega arith, omega arith), refl)
+none_has v = ((omega arith, omega arith), refl)
 
-some_has : (s : SpecReg) → spec.has s → optional_spec.has (Some s)
+some_has : (v : Version) (s : SpecReg) → (spec v).has s → (optional_spec v).has (Some s)
 unfolding optional_spec
-some_has s h = ((omega arith, omega arith), h)
+some_has v s h = ((omega arith, omega arith), h)
 
-has_some : (s : SpecReg) → optional_spec.has (Some s) → spec.has s
+has_some : (v : Version) (s : SpecReg) → (optional_spec v).has (Some s) → (spec v).has s
 unfolding optional_spec
-has_some s h = h.1
+has_some v s h = h.1
 
 first_passes : (o : Op) (os : List Op) → all_in_range (o ∷ os) ≡ true → (in_range o ≡ true) × (all_in_range os ≡ true)
 first_passes o os h = both_true (in_range o) (all_in_range os) h
@@ -125,20 +141,25 @@ first_passes o os h = both_true (in_range o) (all_in_range os) h
 passes_first : (o : Op) (os : List Op) → in_range o ≡ true → all_in_range os ≡ true → all_in_range (o ∷ os) ≡ true
 passes_first o os p q = both (in_range o) (all_in_range os) p q
 
-pub task_in : (t : ℕ) (v : TaskValue) → all_in_range (task_ops (t, v)) ≡ true → id.has t × task.has v
+task_in : (w : Version) (t : ℕ) (v : TaskValue) → HasPlace w v.0 → all_in_range (task_ops (t, v)) ≡ true → id.has t × (task w).has v
 unfolding task
-task_in t (None, p) h =
+task_in w t (None, p) place h =
     let one = progress_in t p (first_passes (progress_op t p) [] h).0 in
-    (one.0, (one.1, (phase_has p.phase, none_has)))
-task_in t (Some s, p) h =
+    (one.0, (one.1, (phase_has p.phase, none_has w)))
+task_in w t (Some s, p) place h =
     let two = first_passes (spec_op t s) (progress_op t p ∷ []) h in
     let one = progress_in t p (first_passes (progress_op t p) [] two.1).0 in
-    (one.0, (one.1, (phase_has p.phase, some_has s (spec_in t s two.0))))
+    (one.0, (one.1, (phase_has p.phase, some_has w s (spec_in w t s place two.0))))
 
-pub task_out : (t : ℕ) (v : TaskValue) → id.has t × task.has v → all_in_range (task_ops (t, v)) ≡ true
+pub task_out : (w : Version) (t : ℕ) (v : TaskValue) → id.has t × (task w).has v → all_in_range (task_ops (t, v)) ≡ true
 unfolding task
-task_out t (None, p) h = passes_first (progress_op t p) [] (progress_out t p h.0 h.1.0) refl
-task_out t (Some s, p) h = passes_first (spec_op t s) (progress_op t p ∷ []) (spec_out t s h.0 (has_some s h.1.1.1)) (passes_first (progress_op t p) [] (progress_out t p h.0 h.1.0) refl)
+task_out w t (None, p) h = passes_first (progress_op t p) [] (progress_out t p h.0 h.1.0) refl
+task_out w t (Some s, p) h = passes_first (spec_op t s) (progress_op t p ∷ []) (spec_out w t s h.0 (has_some w s h.1.1.1)) (passes_first (progress_op t p) [] (progress_out t p h.0 h.1.0) refl)
+
+task_place : (w : Version) (v : TaskValue) → (task w).has v → HasPlace w v.0
+unfolding task
+task_place w (None, p) h = no_place w
+task_place w (Some s, p) h = spec_place w s (has_some w s h.1.1)
 
 state_in : (m i : ℕ) (r : MachineReg) → in_range (machine_op m i r) ≡ true → id.has m × count.has i × state.has r
 unfolding state
@@ -233,6 +254,33 @@ module _ {E : Type 0} (g : E → List Op) (P : E → Type 0) where
   pub list_out : (es : List E) → ((e : E) → P e → all_in_range (g e) ≡ true) → AllByRecursion P es → all_in_range (flat_map g es) ≡ true
   list_out [] one h = refl
   list_out (e ∷ es) one h = all_pass in_range (g e) (flat_map g es) (one e h.0) (list_out es one h.1)
+
+abbrev HasTask : Version → ℕ × TaskValue → Type 0
+HasTask w e = id.has e.0 × (task w).has e.1
+
+-- the version has a place for what each task prefers
+abbrev HasPlaces : Version → List (ℕ × TaskValue) → Type 0
+HasPlaces w es = AllByRecursion (λ (e : ℕ × TaskValue). HasPlace w e.1.0) es
+
+each_task_in : (w : Version) (es : List (ℕ × TaskValue)) → HasPlaces w es → all_in_range (flat_map task_ops es) ≡ true → AllByRecursion (HasTask w) es
+each_task_in w [] places h = tt
+each_task_in w (e ∷ es) places h = let t = both_pass in_range (task_ops e) (flat_map task_ops es) h in (task_in w e.0 e.1 places.0 t.0, each_task_in w es places.1 t.1)
+
+each_place : (w : Version) (es : List (ℕ × TaskValue)) → AllByRecursion (HasTask w) es → HasPlaces w es
+each_place w [] h = tt
+each_place w (e ∷ es) h = (task_place w e.1 h.0.1, each_place w es h.1)
+
+any_places : (es : List (ℕ × TaskValue)) → HasPlaces Fdg2 es
+any_places [] = tt
+any_places (e ∷ es) = (tt, any_places es)
+
+pub tasks_in : (w : Version) (p : Packet) → CanSpell w p → all_in_range (flat_map task_ops p.value.tasks) ≡ true → AllByRecursion (HasTask w) p.value.tasks
+tasks_in Fdg1 p can h = each_task_in Fdg1 p.value.tasks can h
+tasks_in Fdg2 p can h = each_task_in Fdg2 p.value.tasks (any_places p.value.tasks) h
+
+pub tasks_can : (w : Version) (p : Packet) → AllByRecursion (HasTask w) p.value.tasks → CanSpell w p
+tasks_can Fdg1 p h = each_place Fdg1 p.value.tasks h
+tasks_can Fdg2 p h = tt
 
 abbrev HasMachine : ℕ × MachineValue → Type 0
 HasMachine e = id.has e.0 × machine.has e.1

@@ -13,7 +13,7 @@ use Rattle.std.specs.Prelude.{nat_le, ◌&&◌}
 use Rattle.std.proofs.lemmas.Bool.{ltb-false, le-ltb, leb-true, le-leb}
 use Rattle.std.proofs.lemmas.List.{take_at, drop_at, take-append-drop, length-append, length-take}
 use Rattle.fm_records.specs.LookupLaws.{both_true}
-use Rattle.fm_wire.specs.Formats.{◌>>=◌, Format, bytes_of, number_at, number, ◌⨾◌, seen_as, part, tagged, comes_after, key_at, record_at, records_at, records}
+use Rattle.fm_wire.specs.Formats.{◌>>=◌, Format, bytes_of, number_at, number, only, leading, ◌⨾◌, seen_as, part, tagged, comes_after, key_at, record_at, records_at, counted, records}
 use Rattle.fm_wire.proofs.Binds.{bind_ok, guard_ok, ok_is}
 use Rattle.fm_wire.proofs.Walks.{less_is}
 use Rattle.fm_wire.proofs.Widths.{IsBytes, IsBytes-take, IsBytes-drop, IsWide, wide8, wide64}
@@ -59,23 +59,35 @@ number_lawful w limit least greatest wide below = record {
 
 -- ---- one after the other, and seen as another type
 
-pub pair_lawful : {A B : Type 0} (F : Format A) (G : Format B) → Lawful F → Lawful G → Lawful (F ⨾ G)
-pair_lawful {A} {B} F G f g = record {
+pub only_lawful : {A : Type 0} (a : A) → Lawful (only a)
+only_lawful {A} a = record {
+  again = λ b rest has. ap (λ (z : A). Ok (z, rest)) (sym has);
+  takes = λ bytes b rest fits e.
+      let made : A × List ℕ = (b, rest) in
+      let found : A × List ℕ = (a, bytes) in
+      subst (λ (y : A × List ℕ). Took (only a) bytes y.0 y.1) (ok_is found made e) (record { whole = refl; has = refl; fits = fits });
+}
+
+pub leading_lawful : {A B : Type 0} (F : Format A) (G : A → Format B) → Lawful F → ((a : A) → Lawful (G a)) → Lawful (leading F G)
+leading_lawful {A} {B} F G f g = record {
   again = λ x rest has.
-      ap (F ⨾ G).read (append_assoc (F.spell x.0) (G.spell x.1) rest) ∙ rw (f.again x.0 (G.spell x.1 ++ rest) has.0, g.again x.1 rest has.1) refl;
+      ap (leading F G).read (append_assoc (F.spell x.0) ((G x.0).spell x.1) rest) ∙ rw (f.again x.0 ((G x.0).spell x.1 ++ rest) has.0, (g x.0).again x.1 rest has.1) refl;
   takes = λ bytes x rest fits e.
       let made : (A × B) × List ℕ = (x, rest) in
-      let a = bind_ok (F.read bytes) (λ first. G.read first.1 >>= λ second. Ok ((first.0, second.0), second.1)) made e in
-      let b = bind_ok (G.read a.0.1) (λ second. Ok ((a.0.0, second.0), second.1)) made a.2 in
+      let a = bind_ok (F.read bytes) (λ first. (G first.0).read first.1 >>= λ second. Ok ((first.0, second.0), second.1)) made e in
+      let b = bind_ok ((G a.0.0).read a.0.1) (λ second. Ok ((a.0.0, second.0), second.1)) made a.2 in
       let here = f.takes bytes a.0.0 a.0.1 fits a.1 in
-      let there = g.takes a.0.1 b.0.0 b.0.1 here.fits b.1 in
+      let there = (g a.0.0).takes a.0.1 b.0.0 b.0.1 here.fits b.1 in
       let found : (A × B) × List ℕ = ((a.0.0, b.0.0), b.0.1) in
-      subst (λ (y : (A × B) × List ℕ). Took (F ⨾ G) bytes y.0 y.1) (ok_is found made b.2) (record {
-        whole = here.whole ∙ ap (λ z. F.spell a.0.0 ++ z) there.whole ∙ sym (append_assoc (F.spell a.0.0) (G.spell b.0.0) b.0.1);
+      subst (λ (y : (A × B) × List ℕ). Took (leading F G) bytes y.0 y.1) (ok_is found made b.2) (record {
+        whole = here.whole ∙ ap (λ z. F.spell a.0.0 ++ z) there.whole ∙ sym (append_assoc (F.spell a.0.0) ((G a.0.0).spell b.0.0) b.0.1);
         has = (here.has, there.has);
         fits = there.fits;
       });
 }
+
+pub pair_lawful : {A B : Type 0} (F : Format A) (G : Format B) → Lawful F → Lawful G → Lawful (F ⨾ G)
+pair_lawful F G f g = leading_lawful F (λ _. G) f (λ _. g)
 
 pub seen_lawful : {A B : Type 0} (F : Format A) (to : A → B) (from : B → A) → Lawful F → ((a : A) → F.has a → from (to a) ≡ a) → ((b : B) → to (from b) ≡ b) → Lawful (seen_as F to from)
 seen_lawful {A} {B} F to from f back forth = record {
@@ -109,13 +121,7 @@ part_lawful {A} true F f = record {
     some_again : (o : Option A) (rest : List ℕ) → (part true F).has o → (part true F).read ((part true F).spell o ++ rest) ≡ Ok (o, rest)
     some_again None rest has = absurd has
     some_again (Some a) rest has = rw (f.again a rest has) refl
-part_lawful {A} false F f = record {
-  again = λ o rest has. ap (λ (z : Option A). Ok (z, rest)) (sym has);
-  takes = λ bytes o rest fits e.
-      let made : Option A × List ℕ = (o, rest) in
-      let found : Option A × List ℕ = (None, bytes) in
-      subst (λ (y : Option A × List ℕ). Took (part false F) bytes y.0 y.1) (ok_is found made e) (record { whole = refl; has = refl; fits = fits });
-}
+part_lawful {A} false F f = only_lawful None
 
 pub tagged_lawful : {A : Type 0} (least greatest : ℕ) (tag_of : A → ℕ) (form : ℕ → Format A) → greatest < 2 ^ 8 → ((tag : ℕ) → Lawful (form tag)) → ((tag : ℕ) (a : A) → least ≤ tag → tag ≤ greatest → (form tag).has a → tag_of a ≡ tag)
     → Lawful (tagged least greatest tag_of form)
@@ -246,19 +252,19 @@ module _ {K V : Type 0} (cmp : K → K → Ordering) (total : IsTotalOrder cmp) 
         fits = there.fits;
       })
 
-  pub records_lawful : Lawful (records cmp F G)
-  records_lawful =
-      let counts = number_lawful w64 (2 ^ 64) 0 (2 ^ 64 - 1) wide64 (omega arith) in
+  pub counted_lawful : (w : Width) (limit greatest : ℕ) → IsWide w limit → greatest < limit → Lawful (counted w greatest cmp F G)
+  counted_lawful w limit greatest wide below =
+      let counts = number_lawful w limit 0 greatest wide below in
       record {
         again = λ es rest has.
-            ap (records cmp F G).read (append_assoc (bytes_of w64 (length es)) (flat_map spell_one es) rest)
-            ∙ rw (counts.again (length es) (flat_map spell_one es ++ rest) (omega arith, omega (arith, has.0))) (again_all None es rest (starts_first es) has.1 has.2);
+            ap (counted w greatest cmp F G).read (append_assoc (bytes_of w (length es)) (flat_map spell_one es) rest)
+            ∙ rw (counts.again (length es) (flat_map spell_one es ++ rest) (omega arith, has.0)) (again_all None es rest (starts_first es) has.1 has.2);
         takes = λ bytes es rest fits h.
-            let n = bind_ok (number_at w64 0 (2 ^ 64 - 1) bytes) (λ count. records_at cmp F G count.0 None count.1) (es, rest) h in
+            let n = bind_ok (number_at w 0 greatest bytes) (λ count. records_at cmp F G count.0 None count.1) (es, rest) h in
             let here = counts.takes bytes n.0.0 n.0.1 fits n.1 in
             let there = take_all n.0.0 None n.0.1 es rest here.fits n.2 in
             record {
-              whole = here.whole ∙ ap (λ z. bytes_of w64 n.0.0 ++ z) there.whole ∙ sym (append_assoc (bytes_of w64 n.0.0) (flat_map spell_one es) rest) ∙ ap (λ k. (bytes_of w64 k ++ flat_map spell_one es) ++ rest) (sym there.len);
+              whole = here.whole ∙ ap (λ z. bytes_of w n.0.0 ++ z) there.whole ∙ sym (append_assoc (bytes_of w n.0.0) (flat_map spell_one es) rest) ∙ ap (λ k. (bytes_of w k ++ flat_map spell_one es) ++ rest) (sym there.len);
               has = (omega (arith, here.has.1, there.len), there.rising, there.has);
               fits = there.fits;
             };
@@ -267,3 +273,6 @@ module _ {K V : Type 0} (cmp : K → K → Ordering) (total : IsTotalOrder cmp) 
       starts_first : (es : List (K × V)) → StartsAfter cmp None es
       starts_first [] = tt
       starts_first (e ∷ es) = refl
+
+  pub records_lawful : Lawful (records cmp F G)
+  records_lawful = counted_lawful w64 (2 ^ 64) (2 ^ 64 - 1) wide64 (omega arith)

@@ -5,5 +5,6 @@ pub mod Parts
 pub mod Widths
 pub mod Lawful
 pub mod PacketLawful
+pub mod Preferring
 pub mod InRange
 pub mod PacketLaws

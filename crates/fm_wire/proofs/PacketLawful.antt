@@ -1,5 +1,5 @@
 -- The format of packets is read as it is spelled.
-use Rattle.std.proofs.Common.{◌≡◌, ℕ, zero, suc, ◌-◌, ◌^◌, ◌≤◌, Bool, true, false, cond, Option, Some, None, refl, arith, eqb}
+use Rattle.std.proofs.Common.{◌≡◌, ℕ, zero, suc, ◌-◌, ◌^◌, ◌≤◌, Bool, true, false, cond, [], Option, Some, None, refl, sym, arith, eqb, ◌≢◌}
 use Rattle.std.specs.Prelude.{◌||◌}
 use Rattle.std.specs.Int.{w8, w32, w64, w128}
 use Rattle.std.specs.Ordering.{nat_cmp}
@@ -12,10 +12,13 @@ use Rattle.fm_records.specs.declared.records.Report.{Report}
 use Rattle.fm_records.specs.declared.records.SpecReg.{SpecReg}
 use Rattle.fm_records.specs.Orders.{phase_place, attempt_cmp}
 use Rattle.fm_records.specs.OrderLaws.{same_attempt}
+use Rattle.std.proofs.lemmas.Bool.{eqb-true, eqb-false}
+use Rattle.fm_wire.specs.declared.version.Version.{Version}
+use Rattle.fm_wire.specs.declared.version.Version.TheVariants.{Fdg1, Fdg2}
 use Rattle.fm_wire.specs.Formats.{Format, number, ◌⨾◌, part}
-use Rattle.fm_wire.specs.Grammar.{id, count, attempt, coordinator, flag, price, bandwidth, phase_from, phase, job, spec, has_of, optional_spec, task, state, report, parts_of, parts, machine, spot, entry_cmp, magic, header, jobs, tasks, machines, entries, packet}
+use Rattle.fm_wire.specs.Grammar.{id, count, attempt, coordinator, flag, price, bandwidth, phase_from, phase, job, preferences, spec, has_of, optional_spec, task, state, report, parts_of, parts, machine, spot, entry_cmp, header, jobs, tasks, machines, entries, body, word_of, version_from, version_word, packet}
 use Rattle.fm_wire.proofs.Widths.{wide8, wide32, wide64, wide128}
-use Rattle.fm_wire.proofs.Lawful.{Lawful, number_lawful, pair_lawful, seen_lawful, part_lawful, tagged_lawful, records_lawful}
+use Rattle.fm_wire.proofs.Lawful.{Lawful, number_lawful, only_lawful, leading_lawful, pair_lawful, seen_lawful, part_lawful, tagged_lawful, counted_lawful, records_lawful}
 use Rattle.fm_wire.proofs.Grouped.{entry_total}
 
 id_lawful : Lawful id
@@ -70,26 +73,31 @@ unfolding job
 job_lawful = seen_lawful (count ⨾ coordinator ⨾ flag ⨾ price ⨾ price) _ _
     (pair_lawful count _ count_lawful (pair_lawful coordinator _ coordinator_lawful (pair_lawful flag _ flag_lawful (pair_lawful price price price_lawful price_lawful)))) (λ f _. refl) (λ r. refl)
 
-pub spec_lawful : Lawful spec
-unfolding spec
-spec_lawful = seen_lawful (count ⨾ coordinator ⨾ flag ⨾ id ⨾ bandwidth) _ _
-    (pair_lawful count _ count_lawful (pair_lawful coordinator _ coordinator_lawful (pair_lawful flag _ flag_lawful (pair_lawful id bandwidth id_lawful bandwidth_lawful)))) (λ f _. refl) (λ r. refl)
+preferences_lawful : (v : Version) → Lawful (preferences v)
+unfolding preferences
+preferences_lawful Fdg1 = only_lawful []
+preferences_lawful Fdg2 = counted_lawful nat_cmp nat_cmp_total nat_same id price id_lawful price_lawful w8 (2 ^ 8) 4 wide8 (omega arith)
 
-optional_lawful : Lawful optional_spec
+pub spec_lawful : (v : Version) → Lawful (spec v)
+unfolding spec
+spec_lawful v = seen_lawful (count ⨾ coordinator ⨾ flag ⨾ id ⨾ bandwidth ⨾ preferences v) _ _
+    (pair_lawful count _ count_lawful (pair_lawful coordinator _ coordinator_lawful (pair_lawful flag _ flag_lawful (pair_lawful id _ id_lawful (pair_lawful bandwidth (preferences v) bandwidth_lawful (preferences_lawful v)))))) (λ f _. refl) (λ r. refl)
+
+optional_lawful : (v : Version) → Lawful (optional_spec v)
 unfolding optional_spec
-optional_lawful = tagged_lawful 0 1 has_of (λ has. part (eqb has 1) spec) (omega arith) (λ has. part_lawful (eqb has 1) spec spec_lawful) tells
+optional_lawful v = tagged_lawful 0 1 has_of (λ has. part (eqb has 1) (spec v)) (omega arith) (λ has. part_lawful (eqb has 1) (spec v) (spec_lawful v)) tells
   where
-    tells : (tag : ℕ) (o : Option SpecReg) → 0 ≤ tag → tag ≤ 1 → (part (eqb tag 1) spec).has o → has_of o ≡ tag
+    tells : (tag : ℕ) (o : Option SpecReg) → 0 ≤ tag → tag ≤ 1 → (part (eqb tag 1) (spec v)).has o → has_of o ≡ tag
     tells zero None low high h = refl
     tells zero (Some s) low high h = absurd cc
     tells (suc zero) None low high h = absurd h
     tells (suc zero) (Some s) low high h = refl
     tells (suc (suc tag)) o low high h = absurd (omega (arith, high))
 
-pub task_lawful : Lawful task
+pub task_lawful : (v : Version) → Lawful (task v)
 unfolding task
-task_lawful = seen_lawful (attempt ⨾ phase ⨾ optional_spec) _ _
-    (pair_lawful attempt _ attempt_lawful (pair_lawful phase optional_spec phase_lawful optional_lawful)) (λ f _. refl) (λ v. refl)
+task_lawful v = seen_lawful (attempt ⨾ phase ⨾ optional_spec v) _ _
+    (pair_lawful attempt _ attempt_lawful (pair_lawful phase (optional_spec v) phase_lawful (optional_lawful v))) (λ f _. refl) (λ v. refl)
 
 pub state_lawful : Lawful state
 unfolding state
@@ -137,9 +145,21 @@ spot_lawful = seen_lawful (id ⨾ count) _ _ (pair_lawful id count id_lawful cou
 
 header_lawful : Lawful header
 unfolding header
-header_lawful = seen_lawful (number w32 magic magic ⨾ coordinator ⨾ count) (λ f. f.1) (λ h. (magic, h))
-    (pair_lawful (number w32 magic magic) _ (number_lawful w32 (2 ^ 32) magic magic wide32 (omega arith)) (pair_lawful coordinator count coordinator_lawful count_lawful))
-    (λ a h. let is : magic ≡ a.0 = omega (arith, h.0.0, h.0.1) in λ i. (is i, a.1)) (λ h. refl)
+header_lawful = pair_lawful coordinator count coordinator_lawful count_lawful
+
+version_lawful : Lawful version_word
+unfolding version_word
+version_lawful = seen_lawful (number w32 (word_of Fdg1) (word_of Fdg2)) version_from word_of (number_lawful w32 (2 ^ 32) (word_of Fdg1) (word_of Fdg2) wide32 (omega arith)) back forth
+  where
+    back : (n : ℕ) → (word_of Fdg1 ≤ n) × (n ≤ word_of Fdg2) → word_of (version_from n) ≡ n
+    back n h = elim (eqb n (word_of Fdg1)) as (λ b. eqb n (word_of Fdg1) ≡ b → word_of (cond b Fdg1 Fdg2) ≡ n) [
+      | true ↦ λ is. sym (eqb-true n (word_of Fdg1) is)
+      | false ↦ λ is. let other : n ≢ word_of Fdg1 = eqb-false n (word_of Fdg1) is in omega (arith, h.0, h.1)
+    ] refl
+
+    forth : (v : Version) → version_from (word_of v) ≡ v
+    forth Fdg1 = refl
+    forth Fdg2 = refl
 
 same_entry : TellsApart entry_cmp
 same_entry = pair_same attempt_cmp nat_cmp same_attempt nat_same
@@ -147,11 +167,15 @@ same_entry = pair_same attempt_cmp nat_cmp same_attempt nat_same
 entry_key : Lawful ((id ⨾ attempt) ⨾ coordinator)
 entry_key = pair_lawful (id ⨾ attempt) coordinator (pair_lawful id attempt id_lawful attempt_lawful) coordinator_lawful
 
-pub packet_lawful : Lawful packet
-unfolding packet
-packet_lawful = seen_lawful (header ⨾ jobs ⨾ tasks ⨾ machines ⨾ entries) _ _
+pub body_lawful : (v : Version) → Lawful (body v)
+unfolding body
+body_lawful v = seen_lawful (header ⨾ jobs ⨾ tasks v ⨾ machines ⨾ entries) _ _
     (pair_lawful header _ header_lawful
     (pair_lawful jobs _ (records_lawful nat_cmp nat_cmp_total nat_same id job id_lawful job_lawful)
-    (pair_lawful tasks _ (records_lawful nat_cmp nat_cmp_total nat_same id task id_lawful task_lawful)
+    (pair_lawful (tasks v) _ (records_lawful nat_cmp nat_cmp_total nat_same id (task v) id_lawful (task_lawful v))
     (pair_lawful machines entries (records_lawful nat_cmp nat_cmp_total nat_same id machine id_lawful machine_lawful)
     (records_lawful entry_cmp entry_total same_entry ((id ⨾ attempt) ⨾ coordinator) spot entry_key spot_lawful))))) (λ f _. refl) (λ p. refl)
+
+pub packet_lawful : Lawful packet
+unfolding packet
+packet_lawful = leading_lawful version_word body version_lawful body_lawful

@@ -16,11 +16,13 @@ use Rattle.fm_records.specs.LookupLaws.{both_true}
 use Rattle.fm_records.specs.RangeLaws.{all_pass, both_pass}
 use Rattle.fm_delta.specs.declared.packet.Packet.{Packet}
 use Rattle.fm_wire.specs.Formats.{◌⨾◌, fault_place}
-use Rattle.fm_wire.specs.Grammar.{id, attempt, coordinator, job, task, machine, spot, Listed, listed, entry_cmp, entries_at, entries_of, header, packet, spelling, fault, IsPacket, IsSpelling}
+use Rattle.fm_wire.specs.declared.version.Version.{Version}
+use Rattle.fm_wire.specs.declared.version.Version.TheVariants.{Fdg1, Fdg2}
+use Rattle.fm_wire.specs.Grammar.{id, attempt, coordinator, job, task, machine, spot, Listed, listed, entry_cmp, entries_at, entries_of, header, body, version_word, packet, spelling_in, fault, IsPacket, CanSpell, Spells, IsSpelling}
 use Rattle.fm_wire.proofs.Widths.{IsBytes}
 use Rattle.fm_wire.proofs.PacketLawful.{packet_lawful}
 use Rattle.fm_wire.proofs.Grouped.{entry_total, entries_rise, full_rise, AreGroups, groups_begin, groups_end, entry_step, with_entry, below_groups}
-use Rattle.fm_wire.proofs.InRange.{job_in, job_out, task_in, task_out, list_in, list_out, machine_out, machines_in, machines_parts, any_values, entries_in, entries_out}
+use Rattle.fm_wire.proofs.InRange.{job_in, job_out, tasks_in, tasks_can, task_out, list_in, list_out, machine_out, machines_in, machines_parts, any_values, entries_in, entries_out}
 
 abbrev Groups : Type 0
 Groups = List ((ℕ × ℕ) × List (ℕ × Spot))
@@ -36,9 +38,14 @@ job_one e h = job_in e.0 e.1 (both_true (in_range (job_op e.0 e.1)) true h).0
 one_job : (e : ℕ × JobReg) → id.has e.0 × job.has e.1 → all_in_range (job_ops e) ≡ true
 one_job e h = rw (job_out e.0 e.1 h) refl
 
-pub packet_has : (p : Packet) → IsPacket p → packet.has (listed p)
-unfolding packet header
-packet_has p is =
+version_has : (v : Version) → version_word.has v
+unfolding version_word
+version_has Fdg1 = (omega arith, omega arith)
+version_has Fdg2 = (omega arith, omega arith)
+
+body_has : (v : Version) (p : Packet) → IsPacket p → CanSpell v p → (body v).has (listed p)
+unfolding body header
+body_has v p is can =
     let k = p.value in
     let table = is.value.table in
     let js : List _ = flat_map job_ops k.jobs in
@@ -49,24 +56,28 @@ packet_has p is =
     let b = both_pass in_range (js ++ ts) ms a.0 in
     let c = both_pass in_range js ts b.0 in
     let sender = both_true (nat_le 1 p.sender) (nat_le p.sender 64) is.sender in (
-      ((omega arith, omega arith), ((leb-true 1 p.sender sender.0, leb-true p.sender 64 sender.1), (omega arith, omega (arith, is.number)))),
+      ((leb-true 1 p.sender sender.0, leb-true p.sender 64 sender.1), (omega arith, omega (arith, is.number))),
       (
-        (is.jobs, table.jobs.rising, list_in job_ops (λ e. id.has e.0 × job.has e.1) k.jobs job_one c.0),
+        (omega (arith, is.jobs), table.jobs.rising, list_in job_ops (λ e. id.has e.0 × job.has e.1) k.jobs job_one c.0),
         (
-          (is.tasks, table.tasks.rising, list_in task_ops (λ e. id.has e.0 × task.has e.1) k.tasks (λ e h. task_in e.0 e.1 h) c.1),
+          (omega (arith, is.tasks), table.tasks.rising, tasks_in v p can c.1),
           (
-            (is.machines, table.machines.rising, machines_in k.machines table.machines.values b.1),
-            (is.entries, entries_rise k.proposals table.proposals.rising (full_rise k.proposals table.proposals.values), entries_in k.proposals a.1),
+            (omega (arith, is.machines), table.machines.rising, machines_in k.machines table.machines.values b.1),
+            (omega (arith, is.entries), entries_rise k.proposals table.proposals.rising (full_rise k.proposals table.proposals.values), entries_in k.proposals a.1),
           ),
         ),
       ),
     )
 
+packet_has : (v : Version) (p : Packet) → IsPacket p → CanSpell v p → packet.has (v, listed p)
+unfolding packet
+packet_has v p is can = (version_has v, body_has v p is can)
+
 -- ---- knowledge of what the format has
 
-pub found_can_be : (w : Listed) (groups : Groups) → packet.has w → entries_of groups ≡ w.entries → IsMap attempt_cmp IsFull groups → CanBe (record { jobs = w.jobs; tasks = w.tasks; machines = w.machines; proposals = groups })
-unfolding packet header
-found_can_be w groups has is map =
+pub found_can_be : (v : Version) (w : Listed) (groups : Groups) → (body v).has w → entries_of groups ≡ w.entries → IsMap attempt_cmp IsFull groups → CanBe (record { jobs = w.jobs; tasks = w.tasks; machines = w.machines; proposals = groups })
+unfolding body header
+found_can_be v w groups has is map =
     let js = has.1.0 in
     let ts = has.1.1.0 in
     let ms = has.1.1.1.0 in
@@ -84,22 +95,26 @@ found_can_be w groups has is map =
           (all_pass in_range (flat_map job_ops w.jobs ++ flat_map task_ops w.tasks) (flat_map machine_ops w.machines)
           (all_pass in_range (flat_map job_ops w.jobs) (flat_map task_ops w.tasks)
           (list_out job_ops (λ e. id.has e.0 × job.has e.1) w.jobs one_job js.2)
-          (list_out task_ops (λ e. id.has e.0 × task.has e.1) w.tasks (λ e h. task_out e.0 e.1 h) ts.2))
+          (list_out task_ops (λ e. id.has e.0 × (task v).has e.1) w.tasks (λ e h. task_out v e.0 e.1 h) ts.2))
           (list_out machine_ops (λ e. id.has e.0 × machine.has e.1) w.machines (λ e h. (machine_out e.0 e.1 h).1) ms.2))
           (entries_out groups fields);
     }
 
-pub found_is_packet : (p : Packet) → packet.has (listed p) → CanBe p.value → IsPacket p
-unfolding packet header
-found_is_packet p has value = record {
-  sender = λ i. le-leb 1 p.sender has.0.1.0.0 i && le-leb p.sender 64 has.0.1.0.1 i;
-  number = omega (arith, has.0.1.1.1);
+found_is_packet : (v : Version) (p : Packet) → (body v).has (listed p) → CanBe p.value → IsPacket p
+unfolding body header
+found_is_packet v p has value = record {
+  sender = λ i. le-leb 1 p.sender has.0.0.0 i && le-leb p.sender 64 has.0.0.1 i;
+  number = omega (arith, has.0.1.1);
   value = value;
-  jobs = has.1.0.0;
-  tasks = has.1.1.0.0;
-  machines = has.1.1.1.0.0;
-  entries = has.1.1.1.1.0;
+  jobs = omega (arith, has.1.0.0);
+  tasks = omega (arith, has.1.1.0.0);
+  machines = omega (arith, has.1.1.1.0.0);
+  entries = omega (arith, has.1.1.1.1.0);
 }
+
+found_can_spell : (v : Version) (p : Packet) → (body v).has (listed p) → CanSpell v p
+unfolding body
+found_can_spell v p has = tasks_can v p has.1.1.0.2
 
 -- ---- each value of the format is a packet's
 
@@ -112,16 +127,24 @@ grouped all r =
     let g = group_all [] all all r (groups_begin [] all all refl refl) in
     (g.0, groups_end g.0 [] all refl g.1, record { rising = g.1.rising; values = g.1.full })
 
-entries_rising : (w : Listed) → packet.has w → IsRising entry_cmp w.entries
-unfolding packet
-entries_rising w has = has.1.1.1.1.1
+entries_rising : (v : Version) (w : Listed) → (body v).has w → IsRising entry_cmp w.entries
+unfolding body
+entries_rising v w has = has.1.1.1.1.1
 
-pub is_packet : (w : Listed) → packet.has w → (p : Packet) × IsPacket p × (listed p ≡ w)
-is_packet w has =
-    let g = grouped w.entries (entries_rising w has) in
+-- what a version has is a packet that it can spell
+record IsOf (v : Version) (w : Listed) : Type 0 where
+  told : Packet
+  packet : IsPacket told
+  can_spell : CanSpell v told
+  same : listed told ≡ w
+
+is_of : (v : Version) (w : Listed) → (body v).has w → IsOf v w
+is_of v w has =
+    let g = grouped w.entries (entries_rising v w has) in
     let p : Packet = record { sender = w.sender; number = w.number; value = record { jobs = w.jobs; tasks = w.tasks; machines = w.machines; proposals = g.0 } } in
     let same : listed p ≡ w = λ i. record { sender = w.sender; number = w.number; jobs = w.jobs; tasks = w.tasks; machines = w.machines; entries = g.1 i } in
-    (p, found_is_packet p (subst packet.has (sym same) has) (found_can_be w g.0 has g.1 g.2), same)
+    let told = subst (body v).has (sym same) has in
+    record { told = p; packet = found_is_packet v p told (found_can_be v w g.0 has g.1 g.2); can_spell = found_can_spell v p told; same = same }
 
 -- ---- a list of entries is of one grouping
 
@@ -175,13 +198,16 @@ one_grouping ((at, s ∷ spots) ∷ a) ((to, t ∷ more) ∷ b) p q e =
 
 -- ---- the laws of spellings
 
-read_again : (p : Packet) (rest : List ℕ) → IsPacket p → packet.read (spelling p ++ rest) ≡ Ok (listed p, rest)
-read_again p rest is = packet_lawful.again (listed p) rest (packet_has p is)
+abbrev Told : Type 0
+Told = Version × Listed
 
-abbrev read_of : Listed × List ℕ → Result (Listed × List ℕ) ℕ
+read_again : (v : Version) (p : Packet) (rest : List ℕ) → IsPacket p → CanSpell v p → packet.read (spelling_in v p ++ rest) ≡ Ok ((v, listed p), rest)
+read_again v p rest is can = packet_lawful.again (v, listed p) rest (packet_has v p is can)
+
+abbrev read_of : Told × List ℕ → Result (Told × List ℕ) ℕ
 read_of x = Ok x
 
-same_read : (x y : Listed × List ℕ) → read_of x ≡ read_of y → x ≡ y
+same_read : (x y : Told × List ℕ) → read_of x ≡ read_of y → x ≡ y
 same_read x y e = cc
 
 same_listed : (p q : Packet) → IsPacket p → IsPacket q → listed p ≡ listed q → p ≡ q
@@ -189,42 +215,51 @@ same_listed p q is_p is_q e =
     let groups = one_grouping p.value.proposals q.value.proposals is_p.value.table.proposals is_q.value.table.proposals (ap (λ (w : Listed). w.entries) e) in
     λ i. record { sender = (e i).sender; number = (e i).number; value = record { jobs = (e i).jobs; tasks = (e i).tasks; machines = (e i).machines; proposals = groups i } }
 
--- what begins with a packet's bytes and is a packet's bytes is that packet's, and has nothing behind them
-pub begins : (p q : Packet) (rest : List ℕ) → IsPacket p → IsPacket q → spelling p ++ rest ≡ spelling q → (p ≡ q) × (rest ≡ [])
-begins p q rest is_p is_q e =
-    let left = read_again p rest is_p in
-    let right = read_again q [] is_q in
-    let same : (listed p, rest) ≡ (listed q, []) = same_read (listed p, rest) (listed q, []) (sym left ∙ ap packet.read (e ∙ sym (append-nil (spelling q))) ∙ right) in
-    (same_listed p q is_p is_q (ap (λ (x : Listed × List ℕ). x.0) same), ap (λ (x : Listed × List ℕ). x.1) same)
+-- what begins with a packet's bytes and is a packet's bytes is that packet's, in that version, and has nothing behind them
+pub begins : (v w : Version) (p q : Packet) (rest : List ℕ) → IsPacket p → IsPacket q → CanSpell v p → CanSpell w q → spelling_in v p ++ rest ≡ spelling_in w q → (v ≡ w) × (p ≡ q) × (rest ≡ [])
+begins v w p q rest is_p is_q can_p can_q e =
+    let left = read_again v p rest is_p can_p in
+    let right = read_again w q [] is_q can_q in
+    let same : ((v, listed p), rest) ≡ ((w, listed q), []) = same_read ((v, listed p), rest) ((w, listed q), []) (sym left ∙ ap packet.read (e ∙ sym (append-nil (spelling_in w q))) ∙ right) in (
+      ap (λ (x : Told × List ℕ). x.0.0) same,
+      same_listed p q is_p is_q (ap (λ (x : Told × List ℕ). x.0.1) same),
+      ap (λ (x : Told × List ℕ). x.1) same,
+    )
 
 no_place : (n : ℕ) → Some n ≡ None → ⊥
 no_place n e = cc
 
 -- where there is no fault, the format's reading took all
-whole_of : (bytes : List ℕ) (r : Result (Listed × List ℕ) ℕ) → packet.read bytes ≡ r → fault_place (length bytes) r ≡ None → (w : Listed) × (packet.read bytes ≡ Ok (w, []))
-whole_of bytes (Ok (w, [])) e h = (w, e)
-whole_of bytes (Ok (w, x ∷ rest)) e h = absurd (no_place _ h)
+whole_of : (bytes : List ℕ) (r : Result (Told × List ℕ) ℕ) → packet.read bytes ≡ r → fault_place (length bytes) r ≡ None → (x : Told) × (packet.read bytes ≡ Ok (x, []))
+whole_of bytes (Ok (x, [])) e h = (x, e)
+whole_of bytes (Ok (x, y ∷ rest)) e h = absurd (no_place _ h)
 whole_of bytes (Err left) e h = absurd (no_place _ h)
+
+-- what the format has of a version is what the version has
+has_body : (x : Told) → packet.has x → (body x.0).has x.1
+unfolding packet
+has_body x has = has.1
 
 pub spelled_where_none : (bytes : List ℕ) → IsBytes bytes → fault bytes ≡ None → IsSpelling bytes
 spelled_where_none bytes fits none =
     let w = whole_of bytes (packet.read bytes) refl none in
     let took = packet_lawful.takes bytes w.0 [] fits w.1 in
-    let p = is_packet w.0 took.has in
-    (p.0, p.1, took.whole ∙ append-nil (packet.spell w.0) ∙ ap packet.spell (sym p.2))
+    let v = w.0.0 in
+    let p = is_of v w.0.1 (has_body w.0 took.has) in
+    (p.told, p.packet, (v, p.can_spell, took.whole ∙ append-nil (packet.spell w.0) ∙ ap (λ (z : Listed). packet.spell (v, z)) (sym p.same)))
 
 pub none_where_spelled : (bytes : List ℕ) → IsSpelling bytes → fault bytes ≡ None
-none_where_spelled bytes (p, is, e) =
-    let read : packet.read bytes ≡ Ok (listed p, []) = ap packet.read (e ∙ sym (append-nil (spelling p))) ∙ read_again p [] is in
+none_where_spelled bytes (p, is, s) =
+    let read : packet.read bytes ≡ Ok ((s.0, listed p), []) = ap packet.read (s.2 ∙ sym (append-nil (spelling_in s.0 p))) ∙ read_again s.0 p [] is s.1 in
     ap (fault_place (length bytes)) read
 
 -- what was found in bytes without fault is the packet that they spell
-pub found_spelled : (bytes : List ℕ) (p : Packet) (rest : List ℕ) → IsBytes bytes → packet.read bytes ≡ Ok (listed p, rest) → fault bytes ≡ None → bytes ≡ spelling p
-found_spelled bytes p rest fits e none =
+pub found_spelled : (bytes : List ℕ) (v : Version) (p : Packet) (rest : List ℕ) → IsBytes bytes → packet.read bytes ≡ Ok ((v, listed p), rest) → fault bytes ≡ None → Spells bytes p
+found_spelled bytes v p rest fits e none =
     let w = whole_of bytes (packet.read bytes) refl none in
-    let same : (listed p, rest) ≡ (w.0, []) = same_read (listed p, rest) (w.0, []) (sym e ∙ w.1) in
-    let took = packet_lawful.takes bytes (listed p) rest fits e in
-    took.whole ∙ ap (λ (x : Listed × List ℕ). spelling p ++ x.1) same ∙ append-nil (spelling p)
+    let same : ((v, listed p), rest) ≡ (w.0, []) = same_read ((v, listed p), rest) (w.0, []) (sym e ∙ w.1) in
+    let took = packet_lawful.takes bytes (v, listed p) rest fits e in
+    (v, found_can_spell v p (has_body (v, listed p) took.has), took.whole ∙ ap (λ (x : Told × List ℕ). spelling_in v p ++ x.1) same ∙ append-nil (spelling_in v p))
 
-pub found_packet : (bytes : List ℕ) (p : Packet) (rest : List ℕ) → IsBytes bytes → packet.read bytes ≡ Ok (listed p, rest) → CanBe p.value → IsPacket p
-found_packet bytes p rest fits e value = found_is_packet p (packet_lawful.takes bytes (listed p) rest fits e).has value
+pub found_packet : (bytes : List ℕ) (v : Version) (p : Packet) (rest : List ℕ) → IsBytes bytes → packet.read bytes ≡ Ok ((v, listed p), rest) → CanBe p.value → IsPacket p
+found_packet bytes v p rest fits e value = found_is_packet v p (has_body (v, listed p) (packet_lawful.takes bytes (v, listed p) rest fits e).has) value

@@ -1,30 +1,36 @@
--- A packet is its header and its lists, one after the other.
+-- A packet is its version's word, its header and its lists, one after the other.
 use Rattle.std.proofs.Common.{◌≡◌, ℕ, List, [], ◌++◌, Result, Ok, Err, refl, ap, ◌∙◌, append_assoc}
 use Rattle.fm_records.specs.declared.records.JobReg.{JobReg}
 use Rattle.fm_records.specs.declared.records.Spot.{Spot}
 use Rattle.fm_records.specs.Table.{TaskValue, MachineValue}
 use Rattle.fm_wire.specs.declared.fault.ReadError.{ReadError}
 use Rattle.fm_wire.specs.declared.fault.ReadError.TheVariants as errors
-use Rattle.fm_wire.specs.Formats.{Reading, ◌>>=◌, Format, ◌⨾◌}
-use Rattle.fm_wire.specs.Grammar.{Listed, header, jobs, tasks, machines, entries, packet}
-use Rattle.fm_wire.specs.Reads.{rest_of, Fails}
+use Rattle.std.specs.Int.{w32}
+use Rattle.fm_delta.specs.declared.packet.Packet.{Packet}
+use Rattle.fm_wire.specs.declared.version.Version.{Version}
+use Rattle.fm_wire.specs.declared.version.Version.TheVariants.{Fdg2}
+use Rattle.fm_wire.specs.Formats.{Reading, ◌>>=◌, Format, bytes_of, ◌⨾◌}
+use Rattle.fm_wire.specs.Grammar.{Listed, header, jobs, tasks, machines, entries, body, word_of, version_word, packet}
+use Rattle.fm_wire.specs.Reads.{rest_of, Fails, FindsListed, Finds}
 
 -- ---- spelling
 
-pub spelled_parts : (p : Listed) (a b c d e f : List ℕ) → a ≡ [] → b ≡ a ++ header.spell (p.sender, p.number) → c ≡ b ++ jobs.spell p.jobs → d ≡ c ++ tasks.spell p.tasks → e ≡ d ++ machines.spell p.machines → f ≡ e ++ entries.spell p.entries
-    → f ≡ packet.spell p
-unfolding packet
-spelled_parts p a b c d e f ha hb hc hd he hf =
+pub spelled_parts : (p : Listed) (z a b c d e f : List ℕ) → z ≡ [] → a ≡ z ++ bytes_of w32 (word_of Fdg2) → b ≡ a ++ header.spell (p.sender, p.number) → c ≡ b ++ jobs.spell p.jobs → d ≡ c ++ (tasks Fdg2).spell p.tasks → e ≡ d ++ machines.spell p.machines → f ≡ e ++ entries.spell p.entries
+    → f ≡ packet.spell (Fdg2, p)
+unfolding packet version_word body
+spelled_parts p z a b c d e f hz ha hb hc hd he hf =
+    let w = bytes_of w32 (word_of Fdg2) in
     let h = header.spell (p.sender, p.number) in
     let j = jobs.spell p.jobs in
-    let t = tasks.spell p.tasks in
+    let t = (tasks Fdg2).spell p.tasks in
     let m = machines.spell p.machines in
     let n = entries.spell p.entries in
-    let b-is : b ≡ h = hb ∙ ap (λ z. z ++ h) ha in
-    let c-is : c ≡ h ++ j = hc ∙ ap (λ z. z ++ j) b-is in
-    let d-is : d ≡ (h ++ j) ++ t = hd ∙ ap (λ z. z ++ t) c-is in
-    let e-is : e ≡ ((h ++ j) ++ t) ++ m = he ∙ ap (λ z. z ++ m) d-is in
-    hf ∙ ap (λ z. z ++ n) e-is ∙ append_assoc ((h ++ j) ++ t) m n ∙ append_assoc (h ++ j) t (m ++ n) ∙ append_assoc h j (t ++ (m ++ n))
+    let a-is : a ≡ w = ha ∙ ap (λ x. x ++ w) hz in
+    let b-is : b ≡ w ++ h = hb ∙ ap (λ x. x ++ h) a-is in
+    let c-is : c ≡ (w ++ h) ++ j = hc ∙ ap (λ x. x ++ j) b-is in
+    let d-is : d ≡ ((w ++ h) ++ j) ++ t = hd ∙ ap (λ x. x ++ t) c-is in
+    let e-is : e ≡ (((w ++ h) ++ j) ++ t) ++ m = he ∙ ap (λ x. x ++ m) d-is in
+    hf ∙ ap (λ x. x ++ n) e-is ∙ append_assoc (((w ++ h) ++ j) ++ t) m n ∙ append_assoc ((w ++ h) ++ j) t (m ++ n) ∙ append_assoc (w ++ h) j (t ++ (m ++ n)) ∙ append_assoc w h (j ++ (t ++ (m ++ n)))
 
 -- ---- the bytes after a packet
 
@@ -46,23 +52,31 @@ after_machines d = rest_of (entries.read d)
 abbrev after_tasks : List ℕ → Result (List ℕ) ℕ
 after_tasks c = rest_of (machines.read c) >>= after_machines
 
-abbrev after_jobs : List ℕ → Result (List ℕ) ℕ
-after_jobs b = rest_of (tasks.read b) >>= after_tasks
+abbrev after_jobs : Version → List ℕ → Result (List ℕ) ℕ
+after_jobs v b = rest_of ((tasks v).read b) >>= after_tasks
 
-abbrev after_header : List ℕ → Result (List ℕ) ℕ
-after_header a = rest_of (jobs.read a) >>= after_jobs
+abbrev after_header : Version → List ℕ → Result (List ℕ) ℕ
+after_header v a = rest_of (jobs.read a) >>= after_jobs v
 
-pub packet_rest : (bytes : List ℕ) → rest_of (packet.read bytes) ≡ (rest_of (header.read bytes) >>= λ a. rest_of (jobs.read a) >>= λ b. rest_of (tasks.read b) >>= λ c. rest_of (machines.read c) >>= λ d. rest_of (entries.read d))
-unfolding packet
-packet_rest bytes =
-    keeps_rest _ ((header ⨾ jobs ⨾ tasks ⨾ machines ⨾ entries).read bytes)
-    ∙ rest_then (header.read bytes) (jobs ⨾ tasks ⨾ machines ⨾ entries)
-    ∙ then_same (rest_of (header.read bytes)) _ after_header (λ a.
-    rest_then (jobs.read a) (tasks ⨾ machines ⨾ entries)
-    ∙ then_same (rest_of (jobs.read a)) _ after_jobs (λ b.
-    rest_then (tasks.read b) (machines ⨾ entries)
-    ∙ then_same (rest_of (tasks.read b)) _ after_tasks (λ c.
+pub body_rest : (v : Version) (bytes : List ℕ) → rest_of ((body v).read bytes) ≡ (rest_of (header.read bytes) >>= λ a. rest_of (jobs.read a) >>= λ b. rest_of ((tasks v).read b) >>= λ c. rest_of (machines.read c) >>= λ d. rest_of (entries.read d))
+unfolding body
+body_rest v bytes =
+    keeps_rest _ ((header ⨾ jobs ⨾ tasks v ⨾ machines ⨾ entries).read bytes)
+    ∙ rest_then (header.read bytes) (jobs ⨾ tasks v ⨾ machines ⨾ entries)
+    ∙ then_same (rest_of (header.read bytes)) _ (after_header v) (λ a.
+    rest_then (jobs.read a) (tasks v ⨾ machines ⨾ entries)
+    ∙ then_same (rest_of (jobs.read a)) _ (after_jobs v) (λ b.
+    rest_then ((tasks v).read b) (machines ⨾ entries)
+    ∙ then_same (rest_of ((tasks v).read b)) _ after_tasks (λ c.
     rest_then (machines.read c) entries)))
+
+pub packet_rest : (bytes : List ℕ) → rest_of (packet.read bytes) ≡ (version_word.read bytes >>= λ x. rest_of ((body x.0).read x.1))
+unfolding packet
+packet_rest bytes = rest_told (version_word.read bytes)
+  where
+    rest_told : (r : Reading Version) → rest_of {A = Version × Listed} (r >>= λ x. (body x.0).read x.1 >>= λ y. Ok ((x.0, y.0), y.1)) ≡ (r >>= λ x. rest_of ((body x.0).read x.1))
+    rest_told (Ok x) = let with_version : Listed → Version × Listed = λ p. (x.0, p) in keeps_rest with_version ((body x.0).read x.1)
+    rest_told (Err left) = refl
 
 -- ---- reading
 
@@ -87,44 +101,56 @@ pub record ReadJobs (bytes : List ℕ) (h : ℕ × ℕ) (js : JobList) (b : List
   pub before : ReadHeader bytes h after
   pub jobs : jobs.read after ≡ Ok (js, b)
 
-pub record ReadTasks (bytes : List ℕ) (h : ℕ × ℕ) (js : JobList) (ts : TaskList) (c : List ℕ) : Type 0 where
+pub record ReadTasks (v : Version) (bytes : List ℕ) (h : ℕ × ℕ) (js : JobList) (ts : TaskList) (c : List ℕ) : Type 0 where
   pub after : List ℕ
   pub before : ReadJobs bytes h js after
-  pub tasks : tasks.read after ≡ Ok (ts, c)
+  pub tasks : (tasks v).read after ≡ Ok (ts, c)
 
-pub record ReadMachines (bytes : List ℕ) (h : ℕ × ℕ) (js : JobList) (ts : TaskList) (ms : MachineList) (d : List ℕ) : Type 0 where
+pub record ReadMachines (v : Version) (bytes : List ℕ) (h : ℕ × ℕ) (js : JobList) (ts : TaskList) (ms : MachineList) (d : List ℕ) : Type 0 where
   pub after : List ℕ
-  pub before : ReadTasks bytes h js ts after
+  pub before : ReadTasks v bytes h js ts after
   pub machines : machines.read after ≡ Ok (ms, d)
 
-pub reads_packet : (bytes : List ℕ) (h : ℕ × ℕ) (js : JobList) (ts : TaskList) (ms : MachineList) (d : List ℕ) (es : EntryList) (rest : List ℕ) → ReadMachines bytes h js ts ms d → entries.read d ≡ Ok (es, rest)
-    → packet.read bytes ≡ Ok (record { sender = h.0; number = h.1; jobs = js; tasks = ts; machines = ms; entries = es }, rest)
-unfolding packet
-reads_packet bytes h js ts ms d es rest m e =
+pub reads_body : (v : Version) (bytes : List ℕ) (h : ℕ × ℕ) (js : JobList) (ts : TaskList) (ms : MachineList) (d : List ℕ) (es : EntryList) (rest : List ℕ) → ReadMachines v bytes h js ts ms d → entries.read d ≡ Ok (es, rest)
+    → (body v).read bytes ≡ Ok (record { sender = h.0; number = h.1; jobs = js; tasks = ts; machines = ms; entries = es }, rest)
+unfolding body
+reads_body v bytes h js ts ms d es rest m e =
     let t = m.before in
     let j = t.before in
     rw (j.before.header, j.jobs, t.tasks, m.machines, e) refl
 
-pub header_fails : (bytes : List ℕ) (left : ℕ) → header.read bytes ≡ Err left → packet.read bytes ≡ Err left
-unfolding packet
-header_fails bytes left e = rw e refl
+pub header_fails : (v : Version) (bytes : List ℕ) (left : ℕ) → header.read bytes ≡ Err left → (body v).read bytes ≡ Err left
+unfolding body
+header_fails v bytes left e = rw e refl
 
-pub jobs_fail : (e : ReadError) (bytes : List ℕ) (h : ℕ × ℕ) (a : List ℕ) → ReadHeader bytes h a → Fails e (jobs.read a) → Fails e (packet.read bytes)
-unfolding packet
-jobs_fail errors.Memory bytes h a r f = tt
-jobs_fail (errors.Fault left) bytes h a r f = rw (r.header, f) refl
+pub jobs_fail : (v : Version) (e : ReadError) (bytes : List ℕ) (h : ℕ × ℕ) (a : List ℕ) → ReadHeader bytes h a → Fails e (jobs.read a) → Fails e ((body v).read bytes)
+unfolding body
+jobs_fail v errors.Memory bytes h a r f = tt
+jobs_fail v (errors.Fault left) bytes h a r f = rw (r.header, f) refl
 
-pub tasks_fail : (e : ReadError) (bytes : List ℕ) (h : ℕ × ℕ) (js : JobList) (b : List ℕ) → ReadJobs bytes h js b → Fails e (tasks.read b) → Fails e (packet.read bytes)
-unfolding packet
-tasks_fail errors.Memory bytes h js b r f = tt
-tasks_fail (errors.Fault left) bytes h js b r f = rw (r.before.header, r.jobs, f) refl
+pub tasks_fail : (v : Version) (e : ReadError) (bytes : List ℕ) (h : ℕ × ℕ) (js : JobList) (b : List ℕ) → ReadJobs bytes h js b → Fails e ((tasks v).read b) → Fails e ((body v).read bytes)
+unfolding body
+tasks_fail v errors.Memory bytes h js b r f = tt
+tasks_fail v (errors.Fault left) bytes h js b r f = rw (r.before.header, r.jobs, f) refl
 
-pub machines_fail : (e : ReadError) (bytes : List ℕ) (h : ℕ × ℕ) (js : JobList) (ts : TaskList) (c : List ℕ) → ReadTasks bytes h js ts c → Fails e (machines.read c) → Fails e (packet.read bytes)
-unfolding packet
-machines_fail errors.Memory bytes h js ts c r f = tt
-machines_fail (errors.Fault left) bytes h js ts c r f = rw (r.before.before.header, r.before.jobs, r.tasks, f) refl
+pub machines_fail : (v : Version) (e : ReadError) (bytes : List ℕ) (h : ℕ × ℕ) (js : JobList) (ts : TaskList) (c : List ℕ) → ReadTasks v bytes h js ts c → Fails e (machines.read c) → Fails e ((body v).read bytes)
+unfolding body
+machines_fail v errors.Memory bytes h js ts c r f = tt
+machines_fail v (errors.Fault left) bytes h js ts c r f = rw (r.before.before.header, r.before.jobs, r.tasks, f) refl
 
-pub entries_fail : (e : ReadError) (bytes : List ℕ) (h : ℕ × ℕ) (js : JobList) (ts : TaskList) (ms : MachineList) (d : List ℕ) → ReadMachines bytes h js ts ms d → Fails e (entries.read d) → Fails e (packet.read bytes)
+pub entries_fail : (v : Version) (e : ReadError) (bytes : List ℕ) (h : ℕ × ℕ) (js : JobList) (ts : TaskList) (ms : MachineList) (d : List ℕ) → ReadMachines v bytes h js ts ms d → Fails e (entries.read d) → Fails e ((body v).read bytes)
+unfolding body
+entries_fail v errors.Memory bytes h js ts ms d r f = tt
+entries_fail v (errors.Fault left) bytes h js ts ms d r f = rw (r.before.before.before.header, r.before.before.jobs, r.before.tasks, r.machines, f) refl
+
+-- ---- the version before it
+
+pub version_fails : (bytes : List ℕ) (left : ℕ) → version_word.read bytes ≡ Err left → packet.read bytes ≡ Err left
 unfolding packet
-entries_fail errors.Memory bytes h js ts ms d r f = tt
-entries_fail (errors.Fault left) bytes h js ts ms d r f = rw (r.before.before.before.header, r.before.before.jobs, r.before.tasks, r.machines, f) refl
+version_fails bytes left e = rw e refl
+
+pub finds_packet : (r : Result Packet ReadError) (bytes : List ℕ) (v : Version) (rest : List ℕ) → version_word.read bytes ≡ Ok (v, rest) → FindsListed r ((body v).read rest) → Finds r (packet.read bytes)
+unfolding packet
+finds_packet (Ok p) bytes v rest e f = (v, f.0, rw (e, f.1) refl)
+finds_packet (Err errors.Memory) bytes v rest e f = tt
+finds_packet (Err (errors.Fault left)) bytes v rest e f = rw (e, f) refl

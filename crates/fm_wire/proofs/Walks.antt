@@ -9,7 +9,7 @@ use Rattle.std.proofs.lemmas.List.{append-nil}
 use Rattle.std.proofs.lemmas.List.Concat.{flat_map-cons}
 use Rattle.fm_lattice.specs.Chains.{less_greater}
 use Rattle.fm_lattice.specs.Maps.{put}
-use Rattle.std.specs.Int.{w64}
+use Rattle.std.specs.Int.{Width}
 use Rattle.fm_wire.specs.Formats.{Reading, ◌>>=◌, Format, bytes_of, comes_after, key_at, record_at, records_at}
 use Rattle.fm_wire.specs.Reads.{rest_of}
 use Rattle.fm_wire.proofs.Binds.{bind_ok, guard_ok, ok_is}
@@ -134,12 +134,12 @@ module _ {K V : Type 0} (cmp : K → K → Ordering) (total : IsTotalOrder cmp) 
 
 -- writing records one by one
 
-pub begun : {E : Type 0} (spell : E → List ℕ) (out now : List ℕ) (n : ℕ) (es left : List E) → now ≡ out ++ bytes_of w64 n → n ≡ length es → left ≡ es
-    → now ++ flat_map spell left ≡ out ++ (bytes_of w64 (length es) ++ flat_map spell es)
-begun spell out now n es left p q r =
+pub begun : {E : Type 0} (w : Width) (spell : E → List ℕ) (out now : List ℕ) (n : ℕ) (es left : List E) → now ≡ out ++ bytes_of w n → n ≡ length es → left ≡ es
+    → now ++ flat_map spell left ≡ out ++ (bytes_of w (length es) ++ flat_map spell es)
+begun w spell out now n es left p q r =
     (λ i. p i ++ flat_map spell (r i))
-    ∙ ap (λ k. (out ++ bytes_of w64 k) ++ flat_map spell es) q
-    ∙ append_assoc out (bytes_of w64 (length es)) (flat_map spell es)
+    ∙ ap (λ k. (out ++ bytes_of w k) ++ flat_map spell es) q
+    ∙ append_assoc out (bytes_of w (length es)) (flat_map spell es)
 
 pub wrote : {E : Type 0} (spell : E → List ℕ) (out first second a b : List ℕ) (e : E) (es left : List E) (all : List ℕ) → first ≡ out ++ a → second ≡ first ++ b → spell e ≡ a ++ b → es ≡ e ∷ left
     → out ++ flat_map spell es ≡ all → second ++ flat_map spell left ≡ all

@@ -1,5 +1,5 @@
 -- Formats: how values are spelled as bytes and read from them. A format is that of a number, or made of other formats.
-use Rattle.std.specs.Prelude.{◌≡◌, ℕ, zero, suc, ◌-◌, ◌<◌, ◌≤◌, ◌^◌, Bool, true, false, nat_lt, nat_le, ◌&&◌, List, [], ◌∷◌, ◌++◌, length, take, drop, flat_map, Option, Some, None, Result, Ok, Err, if◌then◌else◌}
+use Rattle.std.specs.Prelude.{◌≡◌, ℕ, zero, suc, ◌-◌, ◌≤◌, ◌^◌, Bool, true, false, nat_lt, nat_le, ◌&&◌, List, [], ◌∷◌, ◌++◌, length, take, drop, flat_map, Option, Some, None, Result, Ok, Err, if◌then◌else◌}
 use Rattle.std.specs.List.{AllByRecursion}
 use Rattle.std.specs.Int.{Width, w8, w64, byte_len, from_be_bytes, to_be_bytes}
 use Rattle.std.specs.Ordering.{is_lt}
@@ -42,17 +42,29 @@ number w least greatest = record {
   read = number_at w least greatest;
 }
 
+-- one value alone, which takes no byte
+abbrev pub only : {A : Type 0} → A → Format A
+only a = record {
+  has = λ b. b ≡ a;
+  spell = λ b. [];
+  read = λ bytes. Ok (a, bytes);
+}
+
+-- one after the other, where the first tells by what format the second is spelled
+abbrev pub leading : {A B : Type 0} → Format A → (A → Format B) → Format (A × B)
+leading F G = record {
+  has = λ x. F.has x.0 × (G x.0).has x.1;
+  spell = λ x. F.spell x.0 ++ (G x.0).spell x.1;
+  read = λ bytes. do
+    first ← F.read bytes
+    second ← (G first.0).read first.1
+    Ok ((first.0, second.0), second.1);
+}
+
 -- one after the other
 infixr 20 ◌⨾◌
 abbrev pub ◌⨾◌ : {A B : Type 0} → Format A → Format B → Format (A × B)
-F ⨾ G = record {
-  has = λ x. F.has x.0 × G.has x.1;
-  spell = λ x. F.spell x.0 ++ G.spell x.1;
-  read = λ bytes. do
-    first ← F.read bytes
-    second ← G.read first.1
-    Ok ((first.0, second.0), second.1);
-}
+F ⨾ G = leading F (λ _. G)
 
 -- the same bytes, for values of another type
 abbrev pub seen_as : {A B : Type 0} → Format A → (A → B) → (B → A) → Format B
@@ -81,11 +93,7 @@ part true F = record {
     found ← F.read bytes
     Ok (Some found.0, found.1);
 }
-part false F = record {
-  has = λ o. o ≡ None;
-  spell = λ o. [];
-  read = λ bytes. Ok (None, bytes);
-}
+part false F = only None
 
 -- a byte from least to greatest, which tells by what format the value follows
 abbrev pub tagged : {A : Type 0} → ℕ → ℕ → (A → ℕ) → (ℕ → Format A) → Format A
@@ -123,15 +131,19 @@ records_at cmp F G (suc n) last bytes = do
   others ← records_at cmp F G n (Some first.0.0) first.1
   Ok (first.0 ∷ others.0, others.1)
 
--- records, keys rising, behind their count
-abbrev pub records : {K V : Type 0} → (K → K → Ordering) → Format K → Format V → Format (List (K × V))
-records cmp F G = record {
-  has = λ es. (length es < 2 ^ 64) × IsRising cmp es × AllByRecursion (λ e. F.has e.0 × G.has e.1) es;
-  spell = λ es. bytes_of w64 (length es) ++ flat_map (λ e. F.spell e.0 ++ G.spell e.1) es;
+-- records, keys rising, behind their count: a number of so many bits, up to the greatest
+abbrev pub counted : {K V : Type 0} → Width → ℕ → (K → K → Ordering) → Format K → Format V → Format (List (K × V))
+counted w greatest cmp F G = record {
+  has = λ es. (length es ≤ greatest) × IsRising cmp es × AllByRecursion (λ e. F.has e.0 × G.has e.1) es;
+  spell = λ es. bytes_of w (length es) ++ flat_map (λ e. F.spell e.0 ++ G.spell e.1) es;
   read = λ bytes. do
-    count ← number_at w64 0 (2 ^ 64 - 1) bytes
+    count ← number_at w 0 greatest bytes
     records_at cmp F G count.0 None count.1;
 }
+
+-- as many records as there are
+abbrev pub records : {K V : Type 0} → (K → K → Ordering) → Format K → Format V → Format (List (K × V))
+records = counted w64 (2 ^ 64 - 1)
 
 -- the place of the first fault in so many bytes that are to be one value and nothing more: none where all were read, the first
 -- byte after the value where there is one, else where the reading failed

@@ -1,6 +1,8 @@
--- The format of packets: every field, its width and its range, in the order in which they stand (this project's profile,
--- version FDG1). There is one spelling per packet.
-use Rattle.std.specs.Prelude.{◌≡◌, ℕ, ◌<◌, IsTrue, length, ◌-◌, ◌^◌, ◌==◌, ◌||◌, Bool, cond, is_some, List, Option, Some, None, flat_map, map}
+-- The format of packets: every field, its width and its range, in the order in which they stand (this project's profile).
+-- There are two versions, which differ in what ends a spec. Packets are written in the second and read in both; within each
+-- version there is one spelling per packet.
+use Rattle.std.specs.Prelude.{◌≡◌, ℕ, ◌<◌, IsTrue, length, ◌-◌, ◌^◌, ◌==◌, ◌||◌, Bool, cond, is_some, List, [], Option, Some, None, flat_map, map}
+use Rattle.std.specs.List.{AllByRecursion}
 use Rattle.std.specs.Int.{w8, w32, w64, w128}
 use Rattle.std.specs.Ordering.{nat_cmp, on, then_cmp}
 use Rattle.std.specs.declared.cmp.Ordering.{Ordering}
@@ -16,7 +18,9 @@ use Rattle.fm_records.specs.Ranges.{CanBe}
 use Rattle.fm_records.specs.Orders.{phase_place, attempt_cmp}
 use Rattle.fm_records.specs.Table.{TaskValue, MachineValue}
 use Rattle.fm_delta.specs.declared.packet.Packet.{Packet}
-use Rattle.fm_wire.specs.Formats.{Format, number, ◌⨾◌, seen_as, part, tagged, records, fault_in}
+use Rattle.fm_wire.specs.declared.version.Version.{Version}
+use Rattle.fm_wire.specs.declared.version.Version.TheVariants.{Fdg1, Fdg2}
+use Rattle.fm_wire.specs.Formats.{Format, number, only, leading, ◌⨾◌, seen_as, part, tagged, counted, records, fault_in}
 
 -- the fields that several records have
 abbrev pub id : Format ℕ
@@ -53,22 +57,27 @@ job = seen_as (count ⨾ coordinator ⨾ flag ⨾ price ⨾ price)
     (λ f. record { version = f.0; writer = f.1.0; withdrawn = f.1.1.0; wait = f.1.1.1.0; preempt = f.1.1.1.1 })
     (λ r. (r.version, (r.writer, (r.withdrawn, (r.wait, r.preempt)))))
 
--- version, writer, withdrawn, job, request
-unfoldable pub spec : Format SpecReg
-spec = seen_as (count ⨾ coordinator ⨾ flag ⨾ id ⨾ bandwidth)
-    (λ f. record { version = f.0; writer = f.1.0; withdrawn = f.1.1.0; job = f.1.1.1.0; request = f.1.1.1.1 })
-    (λ r. (r.version, (r.writer, (r.withdrawn, (r.job, r.request)))))
+-- the machines that a task prefers, rising and four at most, each with its credit; in the first version there are none
+unfoldable pub preferences : Version → Format (List (ℕ × ℕ))
+preferences Fdg1 = only []
+preferences Fdg2 = counted w8 4 nat_cmp id price
+
+-- version, writer, withdrawn, job, request, preferences
+unfoldable pub spec : Version → Format SpecReg
+spec v = seen_as (count ⨾ coordinator ⨾ flag ⨾ id ⨾ bandwidth ⨾ preferences v)
+    (λ f. record { version = f.0; writer = f.1.0; withdrawn = f.1.1.0; job = f.1.1.1.0; request = f.1.1.1.1.0; prefer = f.1.1.1.1.1 })
+    (λ r. (r.version, (r.writer, (r.withdrawn, (r.job, (r.request, r.prefer))))))
 
 -- whether a spec follows: 1 where it does, else 0
 abbrev pub has_of : Option SpecReg → ℕ
 has_of o = cond (is_some o) 1 0
 
-unfoldable pub optional_spec : Format (Option SpecReg)
-optional_spec = tagged 0 1 has_of (λ has. part (has == 1) spec)
+unfoldable pub optional_spec : Version → Format (Option SpecReg)
+optional_spec v = tagged 0 1 has_of (λ has. part (has == 1) (spec v))
 
 -- attempt, phase, has, and the spec if it follows
-unfoldable pub task : Format TaskValue
-task = seen_as (attempt ⨾ phase ⨾ optional_spec)
+unfoldable pub task : Version → Format TaskValue
+task v = seen_as (attempt ⨾ phase ⨾ optional_spec v)
     (λ f. (f.1.1, record { attempt = f.0; phase = f.1.0 }))
     (λ v. (v.1.attempt, (v.1.phase, v.0)))
 
@@ -130,20 +139,16 @@ listed p = record {
   entries = entries_of p.value.proposals;
 }
 
--- the four bytes "FDG1"
-abbrev pub magic : ℕ
-magic = 0x46444731
-
--- the magic, the sender, and the number of the packet
+-- the sender, and the number of the packet
 unfoldable pub header : Format (ℕ × ℕ)
-header = seen_as (number w32 magic magic ⨾ coordinator ⨾ count) (λ f. f.1) (λ h. (magic, h))
+header = coordinator ⨾ count
 
 -- the four lists of records
 abbrev pub jobs : Format (List (ℕ × JobReg))
 jobs = records nat_cmp id job
 
-abbrev pub tasks : Format (List (ℕ × TaskValue))
-tasks = records nat_cmp id task
+abbrev pub tasks : Version → Format (List (ℕ × TaskValue))
+tasks v = records nat_cmp id (task v)
 
 abbrev pub machines : Format (List (ℕ × MachineValue))
 machines = records nat_cmp id machine
@@ -151,16 +156,37 @@ machines = records nat_cmp id machine
 abbrev pub entries : Format (List (((ℕ × ℕ) × ℕ) × Spot))
 entries = records entry_cmp ((id ⨾ attempt) ⨾ coordinator) spot
 
-unfoldable pub packet : Format Listed
-packet = seen_as (header ⨾ jobs ⨾ tasks ⨾ machines ⨾ entries)
+-- a packet as a version spells it
+unfoldable pub body : Version → Format Listed
+body v = seen_as (header ⨾ jobs ⨾ tasks v ⨾ machines ⨾ entries)
     (λ f. record { sender = f.0.0; number = f.0.1; jobs = f.1.0; tasks = f.1.1.0; machines = f.1.1.1.0; entries = f.1.1.1.1 })
     (λ p. ((p.sender, p.number), (p.jobs, (p.tasks, (p.machines, p.entries)))))
 
--- the bytes of a packet
-abbrev pub spelling : Packet → List ℕ
-spelling p = packet.spell (listed p)
+-- the word that names a version, the four bytes "FDG1" or "FDG2", and the version that is named
+abbrev pub word_of : Version → ℕ
+word_of Fdg1 = 0x46444731
+word_of Fdg2 = 0x46444732
 
--- the place of the first fault of bytes that are no packet's
+abbrev pub version_from : ℕ → Version
+version_from word = cond (word == word_of Fdg1) Fdg1 Fdg2
+
+-- a version, by its word; there is no number between the two words
+unfoldable pub version_word : Format Version
+version_word = seen_as (number w32 (word_of Fdg1) (word_of Fdg2)) version_from word_of
+
+-- a packet with its version, which tells how the packet is spelled
+unfoldable pub packet : Format (Version × Listed)
+packet = leading version_word body
+
+-- the bytes of a packet in a version
+abbrev pub spelling_in : Version → Packet → List ℕ
+spelling_in v p = packet.spell (v, listed p)
+
+-- the bytes of a packet: in the version in which packets are written
+abbrev pub spelling : Packet → List ℕ
+spelling = spelling_in Fdg2
+
+-- the place of the first fault of bytes that are no packet's, by the version that their first word names
 abbrev pub fault : List ℕ → Option ℕ
 fault = fault_in packet
 
@@ -175,6 +201,20 @@ pub record IsPacket (p : Packet) : Type 0 where
   pub machines : length p.value.machines < 2 ^ 64
   pub entries : length (entries_of p.value.proposals) < 2 ^ 64
 
--- the bytes are a packet's spelling
+-- the spec prefers no machine
+abbrev pub PrefersNone : Option SpecReg → Type 0
+PrefersNone None = Unit {0}
+PrefersNone (Some s) = s.prefer ≡ []
+
+-- the version has a place for all that the packet tells
+abbrev pub CanSpell : Version → Packet → Type 0
+CanSpell Fdg1 p = AllByRecursion (λ e. PrefersNone e.1.0) p.value.tasks
+CanSpell Fdg2 p = Unit {0}
+
+-- the bytes are the packet's spelling in one of the versions
+abbrev pub Spells : List ℕ → Packet → Type 0
+Spells bytes p = (v : Version) × CanSpell v p × (bytes ≡ spelling_in v p)
+
+-- the bytes are a packet's spelling in one of the versions
 abbrev pub IsSpelling : List ℕ → Type 0
-IsSpelling bytes = (p : Packet) × IsPacket p × (bytes ≡ spelling p)
+IsSpelling bytes = (p : Packet) × IsPacket p × Spells bytes p

@@ -1,4 +1,4 @@
-//! Packets as bytes: the one spelling of each packet, and the first fault of bytes that spell none.
+//! Packets as bytes: the one spelling of each packet in each version, and the first fault of bytes that spell none.
 #![tactic(auto)]
 
 mod entries;
@@ -6,7 +6,9 @@ mod fault;
 pub mod laws;
 mod maps;
 mod numbers;
+mod preferences;
 pub mod reading;
 mod records;
 mod spelled;
+mod version;
 pub mod writing;

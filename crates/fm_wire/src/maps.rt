@@ -1,23 +1,25 @@
 //! Records behind their count, keys rising.
 
 ghost use Rattle.std.specs.Prelude.{◌≡◌, ◌<◌, ◌^◌, ◌++◌, length, None, OnOk};
+ghost use Rattle.fm_wire.specs.declared.version.Version.TheVariants.{Fdg2};
 ghost use Rattle.fm_wire.specs.Formats.{comes_after, key_at, record_at, records_at, records};
 ghost use Rattle.fm_wire.specs.Reads.{Gives, Builds, rest_of};
 
 use crate::fault::ReadError;
 use crate::numbers::{put_u64, u64_at};
-use crate::spelled::Spelled;
+use crate::spelled::{Recorded, Spelled};
+use crate::version::Version;
 use fm_lattice::chain::Chain;
 use fm_lattice::join::{Join, OutOfMemory};
 use fm_lattice::map::JoinMap;
 use std::alloc::Global;
 
 // Adds the spelling of the map: how many records there are, and each of them. O(n).
-pub(crate) fn put_map<K: Chain + Spelled, V: Join + Spelled>(
+pub(crate) fn put_map<K: Chain + Spelled, V: Join + Recorded>(
     out: &mut Vec<u8>,
     map: &JoinMap<K, V>,
 ) -> Result<(), OutOfMemory>
-    ensures ok { OnOk result (out.new.items ≡ out.old.items ++ (records K.cmp K.format V.format).spell map.now) }
+    ensures ok { OnOk result (out.new.items ≡ out.old.items ++ (records K.cmp K.format (V.format Fdg2)).spell map.now) }
     ensures fits { length map.now < 2 ^ 64 }
 {
     put_u64(out, map.len() as u64)?;
@@ -40,7 +42,7 @@ fn comes_after<K: Chain>(last: Option<K>, key: K) -> bool
 
 // The key at the front, if it comes after the last one.
 #[tactic(auto, unfolding(crate::specs::Formats::key_at))]
-fn key_at<K: Chain + Spelled>(last: Option<K>, bytes: &[u8]) -> Result<(K, &[u8]), usize>
+pub(crate) fn key_at<K: Chain + Spelled>(last: Option<K>, bytes: &[u8]) -> Result<(K, &[u8]), usize>
     ensures { Gives (λ x. (x.0, x.1.now)) result (key_at K.cmp K.format last bytes.now) }
 {
     let (key, rest) = K::at(bytes)?;
@@ -52,68 +54,73 @@ fn key_at<K: Chain + Spelled>(last: Option<K>, bytes: &[u8]) -> Result<(K, &[u8]
 
 // The record at the front, if its key comes after the last one.
 #[tactic(auto, unfolding(crate::specs::Formats::record_at))]
-fn record_at<K: Chain + Spelled, V: Join + Spelled>(
+fn record_at<K: Chain + Spelled, V: Join + Recorded>(
+    version: Version,
     last: Option<K>,
     bytes: &[u8],
 ) -> Result<((K, V), &[u8]), usize>
-    ensures { Gives (λ x. (x.0, x.1.now)) result (record_at K.cmp K.format V.format last bytes.now) }
+    ensures { Gives (λ x. (x.0, x.1.now)) result (record_at K.cmp K.format (V.format version) last bytes.now) }
 {
     let (key, rest) = key_at(last, bytes)?;
-    let (value, rest) = V::at(rest)?;
+    let (value, rest) = V::at(version, rest)?;
     Ok(((key, value), rest))
 }
 
-// Goes over the records at the front without memory, and answers the bytes after them or the first fault. O(n).
-pub(crate) fn rest_of_map<K: Chain + Spelled, V: Join + Spelled>(
+// Goes over the records that the version spells at the front, without memory, and answers the bytes after them or the first fault. O(n).
+pub(crate) fn rest_of_map<K: Chain + Spelled, V: Join + Recorded>(
+    version: Version,
     bytes: &[u8],
 ) -> Result<&[u8], usize>
-    ensures { Gives (λ rest. rest.now) result (rest_of ((records K.cmp K.format V.format).read bytes.now)) }
+    ensures { Gives (λ rest. rest.now) result (rest_of ((records K.cmp K.format (V.format version)).read bytes.now)) }
 {
     let (count, rest) = u64_at(bytes)?;
-    rest_of_records::<K, V>(count, rest)
+    rest_of_records::<K, V>(version, count, rest)
 }
 
 // Goes over so many records.
-fn rest_of_records<K: Chain + Spelled, V: Join + Spelled>(
+fn rest_of_records<K: Chain + Spelled, V: Join + Recorded>(
+    version: Version,
     count: u64,
     bytes: &[u8],
 ) -> Result<&[u8], usize>
-    ensures { Gives (λ rest. rest.now) result (rest_of (records_at K.cmp K.format V.format count None bytes.now)) }
+    ensures { Gives (λ rest. rest.now) result (rest_of (records_at K.cmp K.format (V.format version) count None bytes.now)) }
 {
     let mut last: Option<K> = None;
     let mut rest = bytes;
     for _ in 0..count {
-        let (record, after) = record_at::<K, V>(last, rest)?;
+        let (record, after) = record_at::<K, V>(version, last, rest)?;
         last = Some(record.0);
         rest = after;
     }
     Ok(rest)
 }
 
-// The map of the records at the front, and the bytes after them. O(n log n).
-pub(crate) fn map_at<K: Chain + Spelled, V: Join + Spelled>(
+// The map of the records that the version spells at the front, and the bytes after them. O(n log n).
+pub(crate) fn map_at<K: Chain + Spelled, V: Join + Recorded>(
     alloc: Global,
+    version: Version,
     bytes: &[u8],
 ) -> Result<(JoinMap<K, V>, &[u8]), ReadError>
-    ensures { Builds (λ x. (x.0, x.1.now)) result ((records K.cmp K.format V.format).read bytes.now) }
+    ensures { Builds (λ x. (x.0, x.1.now)) result ((records K.cmp K.format (V.format version)).read bytes.now) }
 {
     let (count, rest) = u64_at(bytes)?;
-    records_at(alloc, count, rest)
+    records_at(alloc, version, count, rest)
 }
 
 // The map of so many records.
-fn records_at<K: Chain + Spelled, V: Join + Spelled>(
+fn records_at<K: Chain + Spelled, V: Join + Recorded>(
     alloc: Global,
+    version: Version,
     count: u64,
     bytes: &[u8],
 ) -> Result<(JoinMap<K, V>, &[u8]), ReadError>
-    ensures { Builds (λ x. (x.0, x.1.now)) result (records_at K.cmp K.format V.format count None bytes.now) }
+    ensures { Builds (λ x. (x.0, x.1.now)) result (records_at K.cmp K.format (V.format version) count None bytes.now) }
 {
     let mut map = JoinMap::new(alloc);
     let mut last: Option<K> = None;
     let mut rest = bytes;
     for _ in 0..count {
-        let ((key, value), after) = record_at::<K, V>(last, rest)?;
+        let ((key, value), after) = record_at::<K, V>(version, last, rest)?;
         map.put(key, value)?;
         last = Some(key);
         rest = after;

@@ -3,14 +3,14 @@
 ghost use Rattle.std.specs.Prelude.{◌≡◌, ◌≤◌, ◌↔◌, None, IsOk, IfOk, IfErr, option_map};
 ghost use Rattle.fm_records.specs.Options.{or_else};
 ghost use Rattle.fm_records.specs.Ranges.{CanBe};
-ghost use Rattle.fm_wire.specs.Grammar.{header, packet, spelling, fault, IsPacket, IsSpelling};
-ghost use Rattle.fm_wire.specs.Reads.{Gives, Finds, rest_of};
+ghost use Rattle.fm_wire.specs.Grammar.{header, body, version_word, packet, fault, IsPacket, Spells, IsSpelling};
+ghost use Rattle.fm_wire.specs.Reads.{Gives, Finds, FindsListed, rest_of};
 
 use crate::entries::proposals_in;
 use crate::fault::ReadError;
 use crate::maps::{map_at, rest_of_map};
 use crate::numbers::{u8_at, u32_at, u64_at};
-use crate::writing::MAGIC;
+use crate::version::{FDG1, FDG2, Version};
 use fm_delta::packet::Packet;
 use fm_know::knowledge::Knowledge;
 use fm_lattice::plain::{Max, Min};
@@ -19,7 +19,8 @@ use fm_records::records::{JobReg, MachineRec, Spot, TaskRec};
 use fm_records::refusal::Refusal;
 use std::alloc::Global;
 
-/// The place of the first fault, counted from 0; none where the bytes are a packet's spelling. It takes no memory. O(n).
+/// The place of the first fault, counted from 0; none where the bytes are a packet's spelling in one of the versions. It takes
+/// no memory. O(n).
 pub fn fault_of(bytes: &[u8]) -> Option<usize>
     ensures { result ≡ fault bytes.now }
 {
@@ -30,10 +31,10 @@ pub fn fault_of(bytes: &[u8]) -> Option<usize>
     }
 }
 
-/// The packet that the bytes spell. They are gone over before any memory is taken, so a count of records takes none.
-/// BadPacket with the place of the first fault where they are no packet's spelling. O(n log n).
+/// The packet that the bytes spell, in FDG1 or in FDG2. They are gone over before any memory is taken, so a count of records
+/// takes none. BadPacket with the place of the first fault where they are no packet's spelling. O(n log n).
 pub fn decode(alloc: Global, bytes: &[u8]) -> Result<Packet, Refusal>
-    ensures spelling { IfOk result (λ p. bytes.now ≡ spelling p) }
+    ensures spelling { IfOk result (Spells bytes.now) }
     ensures packet { IfOk result IsPacket }
     ensures none { IsOk result → fault bytes.now ≡ None }
     ensures err { IfErr result (λ e. e ≡ or_else Refusal.OutOfMemory (option_map Refusal.BadPacket (fault bytes.now))) }
@@ -49,16 +50,25 @@ pub fn decode(alloc: Global, bytes: &[u8]) -> Result<Packet, Refusal>
     }
 }
 
-// The packet at the front.
+// The packet at the front, in the version that the first word names.
 fn packet_at(alloc: Global, bytes: &[u8]) -> Result<Packet, ReadError>
     ensures found { Finds result (packet.read bytes.now) }
     ensures value { IfOk result (λ p. CanBe p.value) }
 {
+    let (version, rest) = version_at(bytes)?;
+    body_at(alloc, version, rest)
+}
+
+// The packet that the version spells at the front.
+fn body_at(alloc: Global, version: Version, bytes: &[u8]) -> Result<Packet, ReadError>
+    ensures found { FindsListed result ((body version).read bytes.now) }
+    ensures value { IfOk result (λ p. CanBe p.value) }
+{
     let ((sender, number), rest) = header_at(bytes)?;
-    let (jobs, rest) = map_at::<JobId, Max<JobReg>>(alloc, rest)?;
-    let (tasks, rest) = map_at::<TaskId, TaskRec>(alloc, rest)?;
-    let (machines, rest) = map_at::<MachineId, MachineRec>(alloc, rest)?;
-    let (entries, _) = map_at::<((TaskId, u32), CoordId), Min<Spot>>(alloc, rest)?;
+    let (jobs, rest) = map_at::<JobId, Max<JobReg>>(alloc, version, rest)?;
+    let (tasks, rest) = map_at::<TaskId, TaskRec>(alloc, version, rest)?;
+    let (machines, rest) = map_at::<MachineId, MachineRec>(alloc, version, rest)?;
+    let (entries, _) = map_at::<((TaskId, u32), CoordId), Min<Spot>>(alloc, version, rest)?;
     let proposals = proposals_in(alloc, &entries)?;
     Ok(Packet {
         sender: CoordId::new(sender).unwrap(),
@@ -71,22 +81,42 @@ fn packet_at(alloc: Global, bytes: &[u8]) -> Result<Packet, ReadError>
 fn rest_of_packet(bytes: &[u8]) -> Result<&[u8], usize>
     ensures { Gives (λ rest. rest.now) result (rest_of (packet.read bytes.now)) }
 {
-    let (_, rest) = header_at(bytes)?;
-    let rest = rest_of_map::<JobId, Max<JobReg>>(rest)?;
-    let rest = rest_of_map::<TaskId, TaskRec>(rest)?;
-    let rest = rest_of_map::<MachineId, MachineRec>(rest)?;
-    rest_of_map::<((TaskId, u32), CoordId), Min<Spot>>(rest)
+    let (version, rest) = version_at(bytes)?;
+    rest_of_body(version, rest)
 }
 
-// The sender and the number at the front, behind the magic.
+// Goes over the packet that the version spells at the front.
+fn rest_of_body(version: Version, bytes: &[u8]) -> Result<&[u8], usize>
+    ensures { Gives (λ rest. rest.now) result (rest_of ((body version).read bytes.now)) }
+{
+    let (_, rest) = header_at(bytes)?;
+    let rest = rest_of_map::<JobId, Max<JobReg>>(version, rest)?;
+    let rest = rest_of_map::<TaskId, TaskRec>(version, rest)?;
+    let rest = rest_of_map::<MachineId, MachineRec>(version, rest)?;
+    rest_of_map::<((TaskId, u32), CoordId), Min<Spot>>(version, rest)
+}
+
+// The version that the first word names.
+#[tactic(auto, unfolding(crate::specs::Grammar::version_word))]
+fn version_at(bytes: &[u8]) -> Result<(Version, &[u8]), usize>
+    ensures { Gives (λ x. (x.0, x.1.now)) result (version_word.read bytes.now) }
+{
+    let (word, rest) = u32_at(bytes, FDG1, FDG2)?;
+    if word == FDG1 {
+        Ok((Version::Fdg1, rest))
+    } else {
+        Ok((Version::Fdg2, rest))
+    }
+}
+
+// The sender and the number at the front.
 #[tactic(auto, unfolding(crate::specs::Grammar::header))]
 fn header_at(bytes: &[u8]) -> Result<((u8, u64), &[u8]), usize>
     ensures header { Gives (λ x. (x.0, x.1.now)) result (header.read bytes.now) }
     ensures least { IfOk result (λ x. 1 ≤ x.0.0) }
     ensures greatest { IfOk result (λ x. x.0.0 ≤ 64) }
 {
-    let (_, rest) = u32_at(bytes, MAGIC, MAGIC)?;
-    let (sender, rest) = u8_at(rest, 1, 64)?;
+    let (sender, rest) = u8_at(bytes, 1, 64)?;
     let (number, rest) = u64_at(rest)?;
     Ok(((sender, number), rest))
 }

@@ -1,13 +1,16 @@
-//! The values of records: registers, progress, states, reports and spots.
+//! The values of records: registers, progress, states, reports and spots. The versions differ in what ends a spec.
 
 ghost use Rattle.std.specs.Prelude.{◌≡◌, ◌++◌, Option, OnOk, cond};
 ghost use Rattle.fm_wire.specs.Grammar.{job, spec, optional_spec, has_of, task, phase, flag, state, report, parts, parts_of, machine, spot};
+ghost use Rattle.fm_wire.specs.declared.version.Version.TheVariants.{Fdg2};
 ghost use Rattle.fm_wire.specs.Reads.{Gives};
 ghost use Rattle.fm_wire.specs.Formats.{bytes_of};
 ghost use Rattle.std.specs.Int.{w8};
 
 use crate::numbers::{put_u8, put_u32, put_u64, put_u128, u8_at, u32_at, u64_at, u128_at};
-use crate::spelled::Spelled;
+use crate::preferences::{preferences_at, put_preferences};
+use crate::spelled::Recorded;
+use crate::version::Version;
 use fm_lattice::join::OutOfMemory;
 use fm_lattice::plain::{Both, Lex, Max, Min, Opt};
 use fm_records::ids::{JobId, MachineId};
@@ -28,8 +31,8 @@ const GREATEST_SLOTS: u32 = 1_000;
 const GREATEST_COORDINATOR: u8 = 64;
 
 #[tactic(auto, unfolding(crate::specs::Grammar::job))]
-impl Spelled for Max<JobReg> {
-    ghost format = { job };
+impl Recorded for Max<JobReg> {
+    ghost format = { λ _. job };
 
     fn put(&self, out: &mut Vec<u8>) -> Result<(), OutOfMemory> {
         let job = &self.0;
@@ -40,7 +43,7 @@ impl Spelled for Max<JobReg> {
         put_u32(out, job.preempt)
     }
 
-    fn at(bytes: &[u8]) -> Result<(Max<JobReg>, &[u8]), usize> {
+    fn at(_: Version, bytes: &[u8]) -> Result<(Max<JobReg>, &[u8]), usize> {
         let (version, rest) = u64_at(bytes)?;
         let (writer, rest) = u8_at(rest, 1, GREATEST_COORDINATOR)?;
         let (withdrawn, rest) = flag_at(rest)?;
@@ -58,7 +61,7 @@ impl Spelled for Max<JobReg> {
 }
 
 #[tactic(auto, unfolding(crate::specs::Grammar::task))]
-impl Spelled for TaskRec {
+impl Recorded for TaskRec {
     ghost format = { task };
 
     fn put(&self, out: &mut Vec<u8>) -> Result<(), OutOfMemory> {
@@ -68,10 +71,10 @@ impl Spelled for TaskRec {
         put_optional_spec(out, &self.0.0)
     }
 
-    fn at(bytes: &[u8]) -> Result<(TaskRec, &[u8]), usize> {
+    fn at(version: Version, bytes: &[u8]) -> Result<(TaskRec, &[u8]), usize> {
         let (attempt, rest) = u32_at(bytes, 0, u32::MAX)?;
         let (phase, rest) = phase_at(rest)?;
-        match optional_spec_at(rest) {
+        match optional_spec_at(version, rest) {
             Ok((spec, rest)) => Ok((Both(Opt(spec), Max(Progress { attempt, phase })), rest)),
             Err(left) => Err(left),
         }
@@ -79,15 +82,15 @@ impl Spelled for TaskRec {
 }
 
 #[tactic(auto, unfolding(crate::specs::Grammar::machine))]
-impl Spelled for MachineRec {
-    ghost format = { machine };
+impl Recorded for MachineRec {
+    ghost format = { λ _. machine };
 
     fn put(&self, out: &mut Vec<u8>) -> Result<(), OutOfMemory> {
         put_u64(out, self.0)?;
         put_parts(out, &self.1)
     }
 
-    fn at(bytes: &[u8]) -> Result<(MachineRec, &[u8]), usize> {
+    fn at(_: Version, bytes: &[u8]) -> Result<(MachineRec, &[u8]), usize> {
         let (incarnation, rest) = u64_at(bytes)?;
         match parts_at(rest) {
             Ok((parts, rest)) => Ok((Lex(incarnation, parts), rest)),
@@ -97,15 +100,15 @@ impl Spelled for MachineRec {
 }
 
 #[tactic(auto, unfolding(crate::specs::Grammar::spot))]
-impl Spelled for Min<Spot> {
-    ghost format = { spot };
+impl Recorded for Min<Spot> {
+    ghost format = { λ _. spot };
 
     fn put(&self, out: &mut Vec<u8>) -> Result<(), OutOfMemory> {
         put_u128(out, self.0.machine.value())?;
         put_u64(out, self.0.incarnation)
     }
 
-    fn at(bytes: &[u8]) -> Result<(Min<Spot>, &[u8]), usize> {
+    fn at(_: Version, bytes: &[u8]) -> Result<(Min<Spot>, &[u8]), usize> {
         let (machine, rest) = u128_at(bytes)?;
         let (incarnation, rest) = u64_at(rest)?;
         let spot = Spot {
@@ -119,7 +122,7 @@ impl Spelled for Min<Spot> {
 // Adds the spec behind a byte that is 1, or a byte that is 0 where there is none.
 #[tactic(auto, unfolding(crate::specs::Grammar::optional_spec))]
 fn put_optional_spec(out: &mut Vec<u8>, spec: &Option<Max<SpecReg>>) -> Result<(), OutOfMemory>
-    ensures { OnOk result (out.new.items ≡ out.old.items ++ optional_spec.spell spec.now) }
+    ensures { OnOk result (out.new.items ≡ out.old.items ++ (optional_spec Fdg2).spell spec.now) }
 {
     match spec {
         None => put_u8(out, 0),
@@ -132,14 +135,14 @@ fn put_optional_spec(out: &mut Vec<u8>, spec: &Option<Max<SpecReg>>) -> Result<(
 
 // The spec, if a byte tells that it follows.
 #[tactic(auto, unfolding(crate::specs::Grammar::optional_spec))]
-fn optional_spec_at(bytes: &[u8]) -> Result<(Option<Max<SpecReg>>, &[u8]), usize>
-    ensures { Gives (λ x. (x.0, x.1.now)) result (optional_spec.read bytes.now) }
+fn optional_spec_at(version: Version, bytes: &[u8]) -> Result<(Option<Max<SpecReg>>, &[u8]), usize>
+    ensures { Gives (λ x. (x.0, x.1.now)) result ((optional_spec version).read bytes.now) }
 {
     let (has, rest) = u8_at(bytes, 0, 1)?;
     if has == 0 {
         return Ok((None, rest));
     }
-    match spec_at(rest) {
+    match spec_at(version, rest) {
         Ok((spec, rest)) => Ok((Some(Max(spec)), rest)),
         Err(left) => Err(left),
     }
@@ -148,33 +151,40 @@ fn optional_spec_at(bytes: &[u8]) -> Result<(Option<Max<SpecReg>>, &[u8]), usize
 // Adds the spelling of the spec.
 #[tactic(auto, unfolding(crate::specs::Grammar::spec))]
 fn put_spec(out: &mut Vec<u8>, register: &SpecReg) -> Result<(), OutOfMemory>
-    ensures { OnOk result (out.new.items ≡ out.old.items ++ spec.spell register.now) }
+    ensures { OnOk result (out.new.items ≡ out.old.items ++ (spec Fdg2).spell register.now) }
 {
     put_u64(out, register.version)?;
     put_u8(out, register.writer)?;
     put_flag(out, register.withdrawn)?;
     put_u128(out, register.job.value())?;
-    put_u32(out, register.request)
+    put_u32(out, register.request)?;
+    put_preferences(out, &register.prefer)
 }
 
-// The spec at the front.
+// The spec that the version spells at the front.
 #[tactic(auto, unfolding(crate::specs::Grammar::spec))]
-fn spec_at(bytes: &[u8]) -> Result<(SpecReg, &[u8]), usize>
-    ensures { Gives (λ x. (x.0, x.1.now)) result (spec.read bytes.now) }
+fn spec_at(version: Version, bytes: &[u8]) -> Result<(SpecReg, &[u8]), usize>
+    ensures { Gives (λ x. (x.0, x.1.now)) result ((spec version).read bytes.now) }
 {
-    let (version, rest) = u64_at(bytes)?;
+    let (number, rest) = u64_at(bytes)?;
     let (writer, rest) = u8_at(rest, 1, GREATEST_COORDINATOR)?;
     let (withdrawn, rest) = flag_at(rest)?;
     let (job, rest) = u128_at(rest)?;
     let (request, rest) = u32_at(rest, 0, GREATEST_BANDWIDTH)?;
-    let spec = SpecReg {
-        version,
-        writer,
-        withdrawn,
-        job: JobId::new(job),
-        request,
-    };
-    Ok((spec, rest))
+    match preferences_at(version, rest) {
+        Ok((prefer, rest)) => {
+            let spec = SpecReg {
+                version: number,
+                writer,
+                withdrawn,
+                job: JobId::new(job),
+                request,
+                prefer,
+            };
+            Ok((spec, rest))
+        }
+        Err(left) => Err(left),
+    }
 }
 
 // Adds the state and the report that are there, behind a byte that tells which.

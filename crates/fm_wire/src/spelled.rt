@@ -1,11 +1,14 @@
-//! Values with one spelling as bytes: keys of records.
+//! Values with one spelling as bytes: keys of records, which all versions spell alike, and what their values are to have.
 
 ghost use Rattle.std.specs.Prelude.{◌≡◌, ◌++◌, OnOk};
+ghost use Rattle.fm_wire.specs.declared.version.Version.{Version};
+ghost use Rattle.fm_wire.specs.declared.version.Version.TheVariants.{Fdg2};
 ghost use Rattle.fm_wire.specs.Formats.{Format};
 ghost use Rattle.fm_wire.specs.Grammar.{id, attempt, coordinator};
 ghost use Rattle.fm_wire.specs.Reads.{Gives};
 
 use crate::numbers::{put_u8, put_u32, put_u128, u8_at, u32_at, u128_at};
+use crate::version::Version;
 use fm_lattice::join::OutOfMemory;
 use fm_records::ids::{CoordId, JobId, MachineId, TaskId};
 
@@ -21,6 +24,20 @@ pub(crate) trait Spelled: Drop {
     /// The value that is spelled at the front, and the bytes after it; at a fault how many bytes there are from it on.
     fn at(bytes: &[u8]) -> Result<(Self, &[u8]), usize>
         ensures { Gives (λ x. (x.0, x.1.now)) result (format.read bytes.now) };
+}
+
+/// Values of records, with one spelling as bytes in each version.
+pub(crate) trait Recorded: Drop {
+    /// The format of the values in a version.
+    ghost format: { Version → Format Self };
+
+    /// Adds the spelling in the version in which packets are written at the end.
+    fn put(&self, out: &mut Vec<u8>) -> Result<(), OutOfMemory>
+        ensures { OnOk result (out.new.items ≡ out.old.items ++ (format Fdg2).spell self.now) };
+
+    /// The value that the version spells at the front, and the bytes after it; at a fault how many bytes there are from it on.
+    fn at(version: Version, bytes: &[u8]) -> Result<(Self, &[u8]), usize>
+        ensures { Gives (λ x. (x.0, x.1.now)) result ((format version).read bytes.now) };
 }
 
 impl Spelled for JobId {

@@ -7,21 +7,20 @@ ghost use Rattle.fm_wire.specs.Grammar.{header, spelling, IsPacket};
 use crate::entries::entries_in;
 use crate::maps::put_map;
 use crate::numbers::{put_u8, put_u32, put_u64};
+use crate::version::FDG2;
 use fm_delta::packet::Packet;
 use fm_lattice::join::{Join, OutOfMemory};
 use fm_records::ids::CoordId;
 use std::alloc::Global;
 
-// The bytes "FDG1" as a number.
-pub(crate) const MAGIC: u32 = 0x4644_4731;
-
-/// The bytes of the packet: its one spelling. O(n), and a search for each proposal.
+/// The bytes of the packet: its one spelling in FDG2. O(n), and a search for each proposal.
 pub fn encode(alloc: Global, packet: &Packet) -> Result<Vec<u8>, OutOfMemory>
     ensures spelling { IfOk result (λ bytes. bytes.items ≡ spelling packet.now) }
     ensures packet { IsOk result → IsPacket packet.now }
 {
     packet.value.known();
     let mut bytes = Vec::new(alloc);
+    put_u32(&mut bytes, FDG2)?;
     put_header(&mut bytes, packet.sender, packet.number)?;
     put_map(&mut bytes, packet.value.jobs())?;
     put_map(&mut bytes, packet.value.tasks())?;
@@ -30,14 +29,13 @@ pub fn encode(alloc: Global, packet: &Packet) -> Result<Vec<u8>, OutOfMemory>
     Ok(bytes)
 }
 
-// Adds what stands before the records.
+// Adds what stands between the version's word and the records.
 #[tactic(auto, unfolding(crate::specs::Grammar::header))]
 fn put_header(out: &mut Vec<u8>, sender: CoordId, number: u64) -> Result<(), OutOfMemory>
     ensures ok { OnOk result (out.new.items ≡ out.old.items ++ header.spell (sender, number)) }
     ensures sender { OnOk result (IsTrue (is_coordinator sender)) }
     ensures number { number < 2 ^ 64 }
 {
-    put_u32(out, MAGIC)?;
     put_u8(out, sender.value())?;
     put_u64(out, number)
 }

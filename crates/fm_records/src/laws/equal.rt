@@ -4,6 +4,7 @@ ghost use Rattle.std.specs.Prelude.{◌≡◌, ◌↔◌, IsTrue};
 
 use crate::ids::{CoordId, JobId, MachineId, TaskId};
 use crate::ops::{Field, Op, Phase};
+use crate::prefer::Prefer;
 use crate::records::{JobReg, MachineReg, Progress, Report, SpecReg, Spot};
 use crate::refusal::Refusal;
 
@@ -47,6 +48,13 @@ pub fn fields(field: &Field, other: &Field) -> bool
     ensures { IsTrue result ↔ (field.now ≡ other.now) }
 {
     field == other
+}
+
+/// Whether two lists of preferences are the same.
+pub fn preferences(prefer: &Prefer, other: &Prefer) -> bool
+    ensures { IsTrue result ↔ (prefer.now ≡ other.now) }
+{
+    prefer == other
 }
 
 /// Whether two operations are the same.

@@ -2,10 +2,12 @@
 
 ghost use Rattle.std.specs.Prelude.{◌≡◌};
 ghost use Rattle.std.specs.Ordering.{nat_cmp};
+ghost use Rattle.fm_records.specs.Preferences.{preferences_cmp};
 ghost use Rattle.fm_records.specs.Orders.{phase_place, job_cmp, spec_cmp, progress_cmp, machine_cmp, report_cmp, spot_cmp};
 
 use crate::ids::{CoordId, JobId, MachineId, TaskId};
 use crate::ops::Phase;
+use crate::prefer::Prefer;
 use crate::records::{JobReg, MachineReg, Progress, Report, SpecReg, Spot};
 use std::cmp::Ordering;
 
@@ -42,6 +44,13 @@ pub fn phases(phase: &Phase, other: &Phase) -> Ordering
     ensures { result ≡ nat_cmp (phase_place phase.now) (phase_place other.now) }
 {
     phase.cmp(other)
+}
+
+/// The order of two lists of preferences: entry by entry, each by machine and then credit; a list that begins another is less.
+pub fn preferences(prefer: &Prefer, other: &Prefer) -> Ordering
+    ensures { result ≡ preferences_cmp prefer.now other.now }
+{
+    prefer.cmp(other)
 }
 
 /// The order of two registers of jobs: by version, writer, and then the other fields, false before true.

@@ -1,6 +1,8 @@
 use Rattle.std.proofs.Common.{◌∙◌, ap, sym}
 use Rattle.std.specs.Prelude.{◌||◌}
 use Rattle.std.specs.Ordering.{nat_cmp, is_eq}
+use Rattle.fm_net.specs.Nodes.{node_cmp}
+use Rattle.fm_net.specs.NodeOrder.{node_exact, node_total}
 use Rattle.fm_edit.specs.Dirty.{has_id}
 use Rattle.fm_edit.specs.Listed.{named_in}
 use Rattle.fm_edit.proofs.Ranges.{listed_named, moved}
@@ -24,4 +26,4 @@ returns-clause-listed c = λ t small h.
     came_in (has_id c.loop-pair.tasks.keys t) (has_id c.args.tasks.now.keys t) (named_in c.loop-pair.pair-iterator t) _
     (c.loop-pair.invariant.listed t)
     (ap (λ ps. named_in ps t) c.in-None.ensures.steps.0)
-    (listed_named c.args.node.now t small c.args.index.now.listed.keys h)
+    (listed_named node_cmp node_total node_exact c.args.node.now t small c.args.index.now.listed.keys h)

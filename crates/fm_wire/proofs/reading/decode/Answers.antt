@@ -19,9 +19,9 @@ pub returns-in-Ok-clause-spelling : goal.returns-in-Ok-clause-spelling
 returns-in-Ok-clause-spelling c =
     let found = c.in-Ok.ensures.found in
     let none : fault c.args.bytes.now ≡ None = sym c.in_default.ensures in
-    found_spelled c.args.bytes.now c.in-Ok.packet found.0 (λ i. omega (arith, c.type_inv.bytes i)) found.1 none
+    found_spelled c.args.bytes.now found.0 c.in-Ok.packet found.1 (λ i. omega (arith, c.type_inv.bytes i)) found.2 none
 
 pub returns-in-Ok-clause-packet : goal.returns-in-Ok-clause-packet
 returns-in-Ok-clause-packet c =
     let found = c.in-Ok.ensures.found in
-    found_packet c.args.bytes.now c.in-Ok.packet found.0 (λ i. omega (arith, c.type_inv.bytes i)) found.1 c.in-Ok.ensures.value
+    found_packet c.args.bytes.now found.0 c.in-Ok.packet found.1 (λ i. omega (arith, c.type_inv.bytes i)) found.2 c.in-Ok.ensures.value

@@ -12,5 +12,5 @@ loop-task-preserved c =
       rises = rises_on xs i t c.loop-task-test.true c.task-item.is inv.rises;
       counts = λ k can small sees before.
           put_step xs i t c.loop-task-test.true c.task-item.is inv.rises (seen_in c.args.seen.now) c.loop-task.self c.put_back.new.self k can sees
-          small c.in_ok-put_back.ensures.lists c.in_ok-put_back.ensures.sums (inv.counts k can small sees before);
+          small c.in_ok-put_back.ensures.lists c.in_ok-put_back.ensures.preferred c.in_ok-put_back.ensures.sums (inv.counts k can small sees before);
     }

@@ -13,5 +13,5 @@ loop-task-preserved c =
       within = within_on xs i t c.loop-task-test.true c.task-item.is inv.rises inv.within;
       counts = λ k can sees before.
           take_step xs i t c.loop-task-test.true c.task-item.is inv.rises (seen_in c.args.seen.now) c.loop-task.self c.take_out.new.self k can sees
-          inv.within c.in_ok-take_out.ensures.lists c.in_ok-take_out.ensures.sums (inv.counts k can sees before);
+          inv.within c.in_ok-take_out.ensures.lists c.in_ok-take_out.ensures.preferred c.in_ok-take_out.ensures.sums (inv.counts k can sees before);
     }

@@ -1,0 +1,13 @@
+use Rattle.std.proofs.Common.{◌≡◌, ℕ, true, take}
+use Rattle.std.specs.Prelude.{is_some}
+use Rattle.std.specs.Ordering.{nat_cmp}
+use Rattle.fm_lattice.specs.Maps.{lookup}
+use Rattle.fm_net.specs.declared.node.Node.TheVariants.{Machine, Task}
+use Rattle.fm_edit.specs.Touched.{Grows, has_pair}
+use Rattle.fm_edit.proofs.touched.Touched.preferred.Given as goal
+
+abbrev pub invariant-loop-entry : goal.invariant-loop-entry
+invariant-loop-entry l = record {
+  grows : Grows l.fn.self l.self;
+  has : (m : ℕ) → is_some (lookup nat_cmp m (take l.entry-index l.prefer)) ≡ true → has_pair l.self (Task l.task) (Machine m) ≡ true;
+}
