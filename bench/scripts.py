@@ -1,12 +1,13 @@
 #!/usr/bin/env python3
 """Writes the script of a cluster, the same for the same numbers.
 
-    bench/scripts.py --tasks N [--machines N] [--requests N] [--seed N] [--gossip]
+    bench/scripts.py --tasks N [--machines N] [--requests N] [--seed N] [--prefer SHARE] [--gossip]
     bench/scripts.py --tasks N --rounds N [--at 1|2] [--share N] [--quiet]
 
 A tenth as many machines as tasks, a job for each fifty tasks, 20 to 50 sizes of requests. Every tenth task is held by a
 proposal, and every fourth machine has reported a use. Ids are random, so that they do not come in order. All is told to
-coordinator 1; with --gossip there is a second, which is delivered all of that in one packet.
+coordinator 1; with --gossip there is a second, which is delivered all of that in one packet. With --prefer such a share of the
+tasks prefer one to four machines, and nothing else differs.
 
 With --rounds so many rounds come behind, each after one task in 100 (--share) changed: of those a third are done, a third
 are new, and for each of the others a machine reports. Nothing is held at first. Coordinator 1 edits its network; --at 2 tells
@@ -28,6 +29,13 @@ def spec(task, jobs, sizes, chance):
                      "job": chance.choice(jobs), "request": chance.choice(sizes)}}
 
 
+def preferring(op, hosts, chance):
+    """The operation of a spec whose task prefers some of the machines."""
+    liked = sorted(chance.sample(hosts, chance.randint(1, min(4, len(hosts)))))
+    op["spec"]["prefer"] = [{"machine": host, "credit": chance.randint(0, 4000)} for host in liked]
+    return op
+
+
 def told_before(chance, jobs, hosts, names, sizes):
     """Jobs, machines and tasks."""
     for job in jobs:
@@ -41,7 +49,7 @@ def told_before(chance, jobs, hosts, names, sizes):
         yield spec(task, jobs, sizes, chance)
 
 
-def script(tasks, machines=None, requests=None, seed=1, gossip=False):
+def script(tasks, machines=None, requests=None, seed=1, gossip=False, prefer=0.0):
     """The lines of the script."""
     chance = random.Random("%d %s %s %d" % (tasks, machines, requests, seed))
     machines = machines or max(1, tasks // 10)
@@ -49,6 +57,9 @@ def script(tasks, machines=None, requests=None, seed=1, gossip=False):
     sizes = chance.sample(range(1, 1001), requests)
     jobs, hosts, names = ids(chance, max(1, tasks // 50)), ids(chance, machines), ids(chance, tasks)
     told = list(told_before(chance, jobs, hosts, names, sizes))
+    # a chance of its own, so that all else is as it is where nothing is preferred
+    liking = random.Random("prefer %d %d" % (tasks, seed))
+    told = [preferring(op, hosts, liking) if "spec" in op and liking.random() < prefer else op for op in told]
     for task in names[::10]:
         told.append({"propose": {"id": task, "attempt": 0, "coordinator": 1,
                                  "machine": chance.choice(hosts), "incarnation": 1}})
@@ -99,6 +110,7 @@ if __name__ == "__main__":
     words.add_argument("--machines", type=int)
     words.add_argument("--requests", type=int)
     words.add_argument("--seed", type=int, default=1)
+    words.add_argument("--prefer", type=float, default=0.0)
     words.add_argument("--gossip", action="store_true")
     words.add_argument("--rounds", type=int)
     words.add_argument("--at", type=int, choices=(1, 2), default=1)
@@ -106,6 +118,6 @@ if __name__ == "__main__":
     words.add_argument("--quiet", action="store_true")
     words = words.parse_args()
     if words.rounds is None:
-        sys.stdout.writelines(script(words.tasks, words.machines, words.requests, words.seed, words.gossip))
+        sys.stdout.writelines(script(words.tasks, words.machines, words.requests, words.seed, words.gossip, words.prefer))
     else:
         sys.stdout.writelines(rounds(words.tasks, words.rounds, words.at, words.share, words.quiet, words.seed))
