@@ -10,3 +10,4 @@ pub mod Certified
 pub mod Priced
 pub mod Behind
 pub mod Leaving
+pub mod Inserted

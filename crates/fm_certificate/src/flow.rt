@@ -2,13 +2,13 @@
 
 ghost use Rattle.std.specs.Prelude.{◌≡◌, ◌≤◌, ◌<◌, ◌^◌, List, length, IfOk, OnOk, OnErr, [], IsTrue, ◌↔◌};
 ghost use Rattle.fm_lattice.specs.Maps.{lookup, put, replaced, IsRising};
-ghost use Rattle.fm_net.specs.Nodes.{ends_cmp};
-ghost use Rattle.fm_certificate.specs.Totals.{source, target, units_at};
+ghost use Rattle.fm_net.specs.Nodes.{ends_cmp, node_cmp};
+ghost use Rattle.fm_certificate.specs.Totals.{source, target, units_at, IsTotalled};
 
 use crate::entries::Entries;
 use crate::rising::{set, value_at};
 use crate::sources::sum_from;
-use crate::totals::{change, make_room, total_of};
+use crate::totals::{change, make_room, total_of, totals_of};
 use fm_lattice::join::OutOfMemory;
 use fm_net::node::Node;
 use std::alloc::Global;
@@ -43,6 +43,21 @@ impl Flow {
             units: Vec::new(alloc),
             entering: BTreeMap::new(alloc),
         }
+    }
+
+    /// The flow of these units, by the ends of their arcs, beside what enters the nodes that they lead to. The caller owes ends
+    /// and nodes that rise, and that these totals are what enters. Refused memory alone. O(nodes): it does not walk the units.
+    pub fn of(
+        alloc: Global,
+        units: Vec<((Node, Node), u64)>,
+        entering: Vec<(Node, u128)>,
+    ) -> Result<Self, OutOfMemory>
+        requires totalled { IsTotalled units.items entering.items }
+        requires rises { IsRising node_cmp entering.items }
+        ensures { IfOk result (λ flow. flow ≡ units.items) }
+    {
+        let entering = totals_of(alloc, entering)?;
+        Ok(Flow { units, entering })
     }
 
     /// Sets the units from one node to the other. After a refusal of memory the flow is as it was. Amortised O(1) for no units

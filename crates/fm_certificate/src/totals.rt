@@ -1,7 +1,7 @@
 //! Running totals of units by node.
 
-ghost use Rattle.std.specs.Prelude.{◌≡◌, ◌≤◌, ◌<◌, ◌+◌, ◌^◌, cond, IsSome, OnOk};
-ghost use Rattle.fm_lattice.specs.Maps.{lookup};
+ghost use Rattle.std.specs.Prelude.{◌≡◌, ◌≤◌, ◌<◌, ◌+◌, ◌^◌, cond, IsSome, IfOk, OnOk};
+ghost use Rattle.fm_lattice.specs.Maps.{lookup, IsRising};
 ghost use Rattle.fm_net.specs.declared.node.Node.{Node as NodeName};
 ghost use Rattle.fm_net.specs.Nodes.{node_cmp};
 ghost use Rattle.fm_net.specs.Same.{same_node};
@@ -9,7 +9,20 @@ ghost use Rattle.fm_certificate.specs.Totals.{total_in};
 
 use fm_lattice::join::OutOfMemory;
 use fm_net::node::Node;
+use std::alloc::Global;
 use std::collections::BTreeMap;
+
+/// Totals in node order as running totals. O(n).
+pub(crate) fn totals_of(
+    alloc: Global,
+    totals: Vec<(Node, u128)>,
+) -> Result<BTreeMap<Node, u128>, OutOfMemory>
+    requires { IsRising node_cmp totals.items }
+    ensures { IfOk result (λ all. (n : NodeName) → total_in all.entries n ≡ total_in totals.items n) }
+{
+    let all = totals.into_iter().collect(alloc)?;
+    Ok(all)
+}
 
 /// The total of the node; 0 where there is none. O(log n).
 pub(crate) fn total_of(totals: &BTreeMap<Node, u128>, node: &Node) -> u128

@@ -2,6 +2,7 @@
 #![tactic(auto)]
 
 mod bits;
+mod distances;
 mod given;
 mod groups;
 mod kept;

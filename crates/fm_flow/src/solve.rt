@@ -4,13 +4,19 @@ ghost use Rattle.std.specs.Prelude.{◌≡◌, IfOk, IfErr};
 ghost use Rattle.fm_certificate.specs.Built.{IsBuilt};
 ghost use Rattle.fm_certificate.specs.Flows.{units_in, IsLeast};
 ghost use Rattle.fm_certificate.specs.Certificates.{IsCertified};
+ghost use Rattle.fm_cycles.specs.Walks.{ArePotentials};
+ghost use Rattle.fm_cycles.specs.Residual.{residual};
+ghost use Rattle.fm_cycles.specs.Found.{costs_in};
 ghost use Rattle.fm_numbered.specs.Numbered.{IsNumbered};
+ghost use Rattle.fm_numbered.specs.Feasible.{IsFlowOf};
 
+use crate::distances::potentials_from;
 use crate::given::given_units;
 use crate::start::{resume, start};
 use fm_certificate::flow::Flow;
 use fm_certificate::laws::law_least;
 use fm_certificate::potentials::Potentials;
+use fm_cycles::search::{Found, search};
 use fm_lattice::join::OutOfMemory;
 use fm_net::network::Network;
 use fm_numbered::improved::improved;
@@ -74,7 +80,28 @@ fn anew(
     law_unscheduled();
     law_least();
     let first = start(alloc, numbered)?;
-    let (units, values) = improved(alloc, numbered, first)?;
+    let (units, values) = least(alloc, numbered, first)?;
     let found = certified(alloc, network, numbered, &units, &values)?;
     Ok(found)
+}
+
+// The flow, or one that cancelling makes of it, such that no cycle makes it cheaper, and potentials that show it. Where the
+// flow is least it is searched once, from numbers that most often are its potentials.
+fn least(
+    alloc: Global,
+    numbered: &Numbered,
+    units: Vec<u64>,
+) -> Result<(Vec<u64>, Vec<i128>), OutOfMemory>
+    requires flow { IsFlowOf numbered.now.places numbered.now.arcs.items units.items }
+    ensures flow { IfOk result (λ r. IsFlowOf numbered.now.places numbered.now.arcs.items r.0.items) }
+    ensures potentials { IfOk result (λ r. ArePotentials (residual numbered.now.arcs.items r.0.items) (costs_in r.1.items)) }
+{
+    let first = potentials_from(alloc, numbered, &units)?;
+    match search(alloc, numbered.places.end, &numbered.arcs, &units, first)? {
+        Found::Potentials(potentials) => Ok((units, potentials)),
+        Found::Cycle(_) => {
+            let cancelled = improved(alloc, numbered, units)?;
+            Ok(cancelled)
+        }
+    }
 }

@@ -7,6 +7,7 @@ ghost use Rattle.fm_cycles.specs.Found.{costs_in};
 ghost use Rattle.fm_numbered.specs.Feasible.{IsFlowOf};
 ghost use Rattle.fm_numbered.specs.Unscheduled.{all_unscheduled};
 
+use crate::distances::potentials_from;
 use crate::kept::Kept;
 use crate::lanes::{Lanes, bandwidth, machine_of, price_at};
 use crate::loading::{FAR, Loading};
@@ -386,7 +387,7 @@ pub fn resume(
         return Ok(None);
     }
     let nodes = numbered.places.end;
-    let first = vec![in alloc; 0i128; nodes]?;
+    let first = potentials_from(alloc, numbered, &units)?;
     match search(alloc, nodes, &numbered.arcs, &units, first)? {
         Found::Potentials(potentials) => Ok(Some((units, potentials))),
         Found::Cycle(_) => Ok(None),

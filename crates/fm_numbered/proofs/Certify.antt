@@ -72,16 +72,27 @@ fit_all potentials (b ∷ arcs) [] sized each = absurd (omega arith)
 fit_all potentials (b ∷ arcs) (u ∷ units) sized each = (refl, each 0 b refl, fit_all potentials arcs units (omega arith) (λ i c at. each (suc i) c at))
 
 -- the units that leave, or enter, a node
+module _ (end : Node × Node → Node) (n : Node) where
+  abbrev part : Entry → ℕ
+  part e = cond (same_node (end e.0) n) e.1 0
+
+  no_part : (k : Node × Node) → part (k, 0) ≡ 0
+  no_part k = let none : ℕ = 0 in elim (same_node (end k) n) as (λ t. cond t none none ≡ none) [ true ↦ refl | false ↦ refl ]
+
+  no_units : (arcs : List NetArc) → units_at end (named_units arcs []) n ≡ 0
+  no_units [] = refl
+  no_units (b ∷ arcs) = let rest = no_units arcs in omega (arith, no_part b.0, sum_by-cons part (b.0, 0) (named_units arcs []))
+
 module _ (nodes : List Node) (rises : Rises node_cmp nodes) (end : Node × Node → Node) (place : Arc → ℕ) (there : (b : NetArc) (a : Arc) → IsArcOf nodes b a → slice_get nodes (place a) ≡ Some (end b.0)) (v : ℕ) (n : Node) (at : slice_get nodes v ≡ Some n) where
-  same_sum : (arcs : List NetArc) (numbers : List Arc) (units : List ℕ) → AreArcsOf nodes arcs numbers → length units ≡ length arcs → units_at end (named_units arcs units) n ≡ numbered_at place numbers units v
-  same_sum [] [] units are sized = refl
-  same_sum [] (a ∷ numbers) units are sized = absurd are
-  same_sum (b ∷ arcs) [] units are sized = absurd are
-  same_sum (b ∷ arcs) (a ∷ numbers) [] are sized = absurd (omega arith)
-  same_sum (b ∷ arcs) (a ∷ numbers) (u ∷ units) are sized =
-      let rest = same_sum arcs numbers units are.1 (omega arith) in
+  pub same_sum : (arcs : List NetArc) (numbers : List Arc) (units : List ℕ) → AreArcsOf nodes arcs numbers → units_at end (named_units arcs units) n ≡ numbered_at place numbers units v
+  same_sum [] [] units are = refl
+  same_sum [] (a ∷ numbers) units are = absurd are
+  same_sum (b ∷ arcs) [] units are = absurd are
+  same_sum (b ∷ arcs) (a ∷ numbers) [] are = no_units end n (b ∷ arcs)
+  same_sum (b ∷ arcs) (a ∷ numbers) (u ∷ units) are =
+      let rest = same_sum arcs numbers units are.1 in
       let one : cond (same_node (end b.0) n) u 0 ≡ cond (nat_eq (place a) v) u 0 = ap (λ t. cond t u 0) (one_place nodes (place a) v (end b.0) n rises (there b a are.0) at) in
-      omega (arith, sum_by-cons (λ (e : Entry). cond (same_node (end e.0) n) e.1 0) (b.0, u) (named_units arcs units))
+      omega (arith, sum_by-cons (part end n) (b.0, u) (named_units arcs units))
 
 all_pass : (test : Node → Bool) (ns : List Node) → ((n : Node) → IsMember n ns → test n ≡ true) → list_all test ns ≡ true
 all_pass test [] h = refl
@@ -119,10 +130,10 @@ module _ (net : Net) (can : CanBeNet net) (places : Places) (numbers : List Arc)
       }
 
   enters : (v : ℕ) (n : Node) → slice_get net.nodes v ≡ Some n → units_at target (named_units net.arcs units) n ≡ entering numbers units v
-  enters v n at = same_sum net.nodes can.nodes_rise target (λ a. a.to) (λ b a of. of.to) v n at net.arcs numbers units is.of_arcs sized
+  enters v n at = same_sum net.nodes can.nodes_rise target (λ a. a.to) (λ b a of. of.to) v n at net.arcs numbers units is.of_arcs
 
   leaves : (v : ℕ) (n : Node) → slice_get net.nodes v ≡ Some n → units_at source (named_units net.arcs units) n ≡ leaving numbers units v
-  leaves v n at = same_sum net.nodes can.nodes_rise source (λ a. a.from) (λ b a of. of.from) v n at net.arcs numbers units is.of_arcs sized
+  leaves v n at = same_sum net.nodes can.nodes_rise source (λ a. a.from) (λ b a of. of.from) v n at net.arcs numbers units is.of_arcs
 
   within_end : (v : ℕ) (n : Node) → slice_get net.nodes v ≡ Some n → v < places.end
   within_end v n at = let e = is.at_places.end in let less = slice_get_within net.nodes v n at in omega arith

@@ -4,7 +4,9 @@ pub mod Searches
 pub mod Formed
 pub mod Summed
 pub mod Naming
+pub mod Entered
 pub mod Kept
 pub mod Certify
+pub mod Totalling
 pub mod Waiting
 pub mod Unscheduling

@@ -1,34 +1,24 @@
--- Flows and potentials by name, built in order.
-use Rattle.std.proofs.Common.{◌≡◌, ◌∙◌, ap, sym, subst, refl, ℕ, zero, suc, ◌+◌, List, [], ◌∷◌, ◌++◌, drop, arith}
-use Rattle.std.specs.Prelude.{ℤ, slice_index}
-use Rattle.std.specs.Cmp.{IsTotalOrder}
-use Rattle.std.specs.declared.cmp.Ordering.{Ordering}
-use Rattle.std.specs.declared.cmp.Ordering.TheVariants.{Less, Greater}
-use Rattle.fm_lattice.specs.Chains.{less_greater}
-use Rattle.fm_lattice.specs.Maps.{put, replaced, IsBelow, IsRising}
+-- Flows and potentials by name, made of those by number.
+use Rattle.std.proofs.Common.{◌≡◌, ◌∙◌, ap, refl, ℕ, zero, suc, ◌<◌, ◌^◌, cond, List, [], ◌∷◌, ◌++◌, Some, None, arith}
+use Rattle.std.specs.Prelude.{ℤ, slice_get, slice_index}
+use Rattle.std.proofs.lemmas.List.Sums.{sum_by-cons}
+use Rattle.fm_lattice.specs.Maps.{IsBelow, IsRising, AreValues}
 use Rattle.fm_records.specs.TableLaws.{IsBelowAll, Rises}
 use Rattle.fm_net.specs.declared.node.Node.{Node}
 use Rattle.fm_net.specs.Nodes.{node_cmp, ends_cmp}
-use Rattle.fm_cycles.specs.Found.{costs_in}
-use Rattle.fm_numbered.specs.Numbered.{NetArc}
-use Rattle.fm_numbered.specs.Named.{named_units, named_potentials}
-
--- a key above all others goes to the end
-module _ {K V : Type 0} (cmp : K → K → Ordering) (total : IsTotalOrder cmp) where
-  below_next : (k q : K) (v : V) (es rest : List (K × V)) → IsBelow cmp k (es ++ (q, v) ∷ rest) → cmp k q ≡ Less
-  below_next k q v [] rest b = b.0
-  below_next k q v (e ∷ es) rest b = below_next k q v es rest b.1
-
-  pub put_last : (k : K) (v : V) (es rest : List (K × V)) → IsRising cmp (es ++ (k, v) ∷ rest) → put cmp replaced k v es ≡ es ++ (k, v) ∷ []
-  put_last k v [] rest r = refl
-  put_last k v (e ∷ es) rest r =
-      let greater : cmp k e.0 ≡ Greater = less_greater cmp total e.0 k (below_next e.0 k v es rest r.0) in
-      let more = put_last k v es rest r.1 in
-      rw greater (λ i. e ∷ more i)
+use Rattle.fm_net.specs.Same.{same_node}
+use Rattle.fm_certificate.specs.Totals.{Entry, target, units_at}
+use Rattle.fm_certificate.proofs.Alike.{other_node}
+use Rattle.fm_cycles.specs.declared.arcs.Arc.{Arc}
+use Rattle.fm_numbered.specs.Numbered.{NetArc, IsArcOf, AreArcsOf}
+use Rattle.fm_numbered.specs.Named.{named_units, named_potentials, name_at, ends_at, units_by}
 
 pub append_one : {A : Type 0} → (xs : List A) (x : A) (ys : List A) → xs ++ x ∷ ys ≡ (xs ++ x ∷ []) ++ ys
 append_one [] x ys = refl
 append_one (z ∷ zs) x ys = let rest = append_one zs x ys in λ i. z ∷ rest i
+
+none_there : {A P : Type 0} {x : A} → None ≡ Some x → P
+none_there e = absurd (let no : ⊥ = cc in no)
 
 -- the keys of named units rise as those of the arcs do
 below_named : (k : Node × Node) (arcs : List NetArc) (units : List ℕ) → IsBelow ends_cmp k arcs → IsBelow ends_cmp k (named_units arcs units)
@@ -51,42 +41,44 @@ valued_rise [] values r = tt
 valued_rise (n ∷ nodes) [] r = (below_valued n nodes [] r.0, valued_rise nodes [] r.1)
 valued_rise (n ∷ nodes) (p ∷ values) r = (below_valued n nodes values r.0, valued_rise nodes values r.1)
 
--- the arc whose turn it is
-named_step : (a : NetArc) (arcs : List NetArc) (units : List ℕ) (i : ℕ) → named_units (a ∷ arcs) (drop i units) ≡ (a.0, slice_index units i) ∷ named_units arcs (drop (suc i) units)
-named_step a arcs [] zero = refl
-named_step a arcs [] (suc i) = refl
-named_step a arcs (u ∷ units) zero = refl
-named_step a arcs (u ∷ units) (suc i) = named_step a arcs units i
+-- each unit fits where all do
+pub named_fit : (arcs : List NetArc) (units : List ℕ) → ((i : ℕ) → slice_index units i < 2 ^ 64) → AreValues (λ units. units < 2 ^ 64) (named_units arcs units)
+named_fit [] units fits = tt
+named_fit (a ∷ arcs) [] fits = (omega arith, named_fit arcs [] fits)
+named_fit (a ∷ arcs) (u ∷ units) fits = (fits 0, named_fit arcs units (λ i. fits (suc i)))
 
-valued_step : (n : Node) (nodes : List Node) (values : List ℤ) (i : ℕ) → named_potentials (n ∷ nodes) (drop i values) ≡ (n, costs_in values i) ∷ named_potentials nodes (drop (suc i) values)
-valued_step n nodes [] zero = refl
-valued_step n nodes [] (suc i) = refl
-valued_step n nodes (p ∷ values) zero = refl
-valued_step n nodes (p ∷ values) (suc i) = valued_step n nodes values i
+-- the arcs' ends are those that stand at their places
+name_is : (nodes : List Node) (v : ℕ) (n : Node) → slice_get nodes v ≡ Some n → name_at nodes v ≡ n
+name_is [] v n at = none_there at
+name_is (m ∷ nodes) zero n at = cc
+name_is (m ∷ nodes) (suc v) n at = name_is nodes v n at
 
--- a flow with the arcs so far, and those to come
-pub flow_more : (total : IsTotalOrder ends_cmp) (whole flow flow2 : List ((Node × Node) × ℕ)) (a : NetArc) (arcs : List NetArc) (units : List ℕ) (i u : ℕ) → IsRising ends_cmp whole → whole ≡ flow ++ named_units (a ∷ arcs) (drop i units) → u ≡ slice_index units i → flow2 ≡ put ends_cmp replaced a.0 u flow → whole ≡ flow2 ++ named_units arcs (drop (i + 1) units)
-flow_more total whole flow flow2 a arcs units i u rises is sent now =
-    let next : suc i ≡ i + 1 = omega arith in
-    let split : whole ≡ flow ++ (a.0, u) ∷ named_units arcs (drop (i + 1) units) =
-    is ∙ ap (λ (es : List ((Node × Node) × ℕ)). flow ++ es) (named_step a arcs units i) ∙ (λ k. flow ++ (a.0, sym sent k) ∷ named_units arcs (drop (next k) units)) in
-    let last = put_last ends_cmp total a.0 u flow (named_units arcs (drop (i + 1) units)) (subst (IsRising ends_cmp) split rises) in
-    split ∙ append_one flow (a.0, u) (named_units arcs (drop (i + 1) units)) ∙ ap (λ (es : List ((Node × Node) × ℕ)). es ++ named_units arcs (drop (i + 1) units)) (sym (now ∙ last))
+ends_are : (nodes : List Node) (b : NetArc) (a : Arc) → IsArcOf nodes b a → ends_at nodes a ≡ b.0
+ends_are nodes b a is = let from = name_is nodes a.from b.0.0 is.from in let to = name_is nodes a.to b.0.1 is.to in λ i. (from i, to i)
 
-pub potentials_more : (total : IsTotalOrder node_cmp) (whole done done2 : List (Node × ℤ)) (n : Node) (nodes : List Node) (values : List ℤ) (i : ℕ) (z : ℤ) → IsRising node_cmp whole → whole ≡ done ++ named_potentials (n ∷ nodes) (drop i values) → z ≡ costs_in values i → done2 ≡ put node_cmp replaced n z done → whole ≡ done2 ++ named_potentials nodes (drop (i + 1) values)
-potentials_more total whole done done2 n nodes values i z rises is there now =
-    let next : suc i ≡ i + 1 = omega arith in
-    let split : whole ≡ done ++ (n, z) ∷ named_potentials nodes (drop (i + 1) values) =
-    is ∙ ap (λ (es : List (Node × ℤ)). done ++ es) (valued_step n nodes values i) ∙ (λ k. done ++ (n, sym there k) ∷ named_potentials nodes (drop (next k) values)) in
-    let last = put_last node_cmp total n z done (named_potentials nodes (drop (i + 1) values)) (subst (IsRising node_cmp) split rises) in
-    split ∙ append_one done (n, z) (named_potentials nodes (drop (i + 1) values)) ∙ ap (λ (es : List (Node × ℤ)). es ++ named_potentials nodes (drop (i + 1) values)) (sym (now ∙ last))
+pub by_names : (nodes : List Node) (arcs : List NetArc) (numbers : List Arc) (units : List ℕ) → AreArcsOf nodes arcs numbers → units_by nodes numbers units ≡ named_units arcs units
+by_names nodes [] [] units are = refl
+by_names nodes [] (a ∷ numbers) units are = absurd are
+by_names nodes (b ∷ arcs) [] units are = absurd are
+by_names nodes (b ∷ arcs) (a ∷ numbers) [] are = let ends = ends_are nodes b a are.0 in let rest = by_names nodes arcs numbers [] are.1 in λ i. (ends i, 0) ∷ rest i
+by_names nodes (b ∷ arcs) (a ∷ numbers) (u ∷ units) are = let ends = ends_are nodes b a are.0 in let rest = by_names nodes arcs numbers units are.1 in λ i. (ends i, u) ∷ rest i
 
-append_nil : {A : Type 0} → (xs : List A) → xs ++ [] ≡ xs
-append_nil [] = refl
-append_nil (x ∷ xs) = let rest = append_nil xs in λ i. x ∷ rest i
+-- nothing enters what is none of the nodes
+module _ (nodes : List Node) (n : Node) (none : (v : ℕ) → slice_get nodes v ≡ Some n → ⊥) where
+  abbrev here : Entry → ℕ
+  here e = cond (same_node (target e.0) n) e.1 0
 
-pub flow_all : (whole flow : List ((Node × Node) × ℕ)) (rest : List NetArc) (units : List ℕ) (i : ℕ) → rest ≡ [] → whole ≡ flow ++ named_units rest (drop i units) → flow ≡ whole
-flow_all whole flow rest units i none is = sym (is ∙ ap (λ (r : List NetArc). flow ++ named_units r (drop i units)) none ∙ append_nil flow)
+  elsewhere : (b : NetArc) (a : Arc) (u : ℕ) → IsArcOf nodes b a → here (b.0, u) ≡ 0
+  elsewhere b a u is = let other = other_node b.0.1 n (λ e. none a.to (is.to ∙ ap (λ m. Some m) e)) in rw other refl
 
-pub potentials_all : (whole done : List (Node × ℤ)) (rest : List Node) (values : List ℤ) (i : ℕ) → rest ≡ [] → whole ≡ done ++ named_potentials rest (drop i values) → done ≡ whole
-potentials_all whole done rest values i none is = sym (is ∙ ap (λ (r : List Node). done ++ named_potentials r (drop i values)) none ∙ append_nil done)
+  pub enters_none : (arcs : List NetArc) (numbers : List Arc) (units : List ℕ) → AreArcsOf nodes arcs numbers → units_at target (named_units arcs units) n ≡ 0
+  enters_none [] numbers units are = refl
+  enters_none (b ∷ arcs) [] units are = absurd are
+  enters_none (b ∷ arcs) (a ∷ numbers) [] are =
+      let rest = enters_none arcs numbers [] are.1 in
+      let first = elsewhere b a 0 are.0 in
+      omega (arith, sum_by-cons here (b.0, 0) (named_units arcs []))
+  enters_none (b ∷ arcs) (a ∷ numbers) (u ∷ units) are =
+      let rest = enters_none arcs numbers units are.1 in
+      let first = elsewhere b a u are.0 in
+      omega (arith, sum_by-cons here (b.0, u) (named_units arcs units))
