@@ -11,8 +11,20 @@ use fm_records::refusal::Refusal;
 use fm_wire::reading::fault_of;
 use std::alloc::Global;
 
-/// How many bytes the packets have that are cut off and changed.
-pub(crate) const LENGTHS: [usize; 3] = [79, 220, 214];
+/// The packets that are cut off and changed: of which version, and how many bytes they have.
+pub(crate) const PACKETS: [(u8, usize); 6] = [
+    (2, 79),
+    (2, 220),
+    (2, 214),
+    (1, 79),
+    (1, 219),
+    (1, 213),
+];
+
+// Where the version is, as a digit, and where a task without preferences has their count, which the first version lacks.
+const VERSION: usize = 3;
+
+const COUNT: usize = 115;
 
 fn job(version: u64, wait: u32) -> Op {
     Op::Job {
@@ -82,28 +94,55 @@ fn spelled(alloc: Global, number: u64, ops: &[Op]) -> Result<Vec<u8>, Refusal> {
     bytes_of(alloc, &packet)
 }
 
-// A packet of so many bytes: of a job alone, in the first version, of a record of each kind, or of these but that a report beats
-// a machine's state.
-fn bytes(alloc: Global, length: usize) -> Result<Vec<u8>, Refusal> {
+// A packet of so many bytes: of a job alone, of a record of each kind, or of these but that a report beats a machine's state.
+fn bytes(alloc: Global, version: u8, length: usize) -> Result<Vec<u8>, Refusal> {
     let whole = [job(1, 500), machine(), task(), proposal(), report()];
-    match length {
-        79 => Ok(named(spelled(alloc, 3, &[job(2, 600)])?, b'1')),
-        220 => spelled(alloc, 1, &whole[..4]),
-        _ => spelled(alloc, 1, &whole),
+    let bytes = match length {
+        79 => spelled(alloc, 3, &[job(2, 600)])?,
+        219 | 220 => spelled(alloc, 1, &whole[..4])?,
+        _ => spelled(alloc, 1, &whole)?,
+    };
+    if version == 1 {
+        return in_first_version(alloc, bytes.as_slice());
     }
+    Ok(bytes)
 }
 
-// The bytes, whose first word names the version.
-fn named(mut bytes: Vec<u8>, version: u8) -> Vec<u8> {
-    if let Some(last) = bytes.get_mut(3) {
-        *last = version;
+// The same packet in the first version.
+fn in_first_version(alloc: Global, bytes: &[u8]) -> Result<Vec<u8>, Refusal> {
+    let mut spelled = Vec::new(alloc);
+    for (place, byte) in bytes.iter().enumerate() {
+        if place != COUNT {
+            spelled.push(*byte)?;
+        }
     }
-    bytes
+    put(&mut spelled, VERSION, b'1');
+    Ok(spelled)
+}
+
+// The same packet in the second version, if these bytes are of the first one.
+fn in_second_version(alloc: Global, bytes: &[u8]) -> Result<Vec<u8>, Refusal> {
+    let is_first = bytes.get(VERSION) == Some(&b'1');
+    let mut spelled = Vec::new(alloc);
+    for (place, byte) in bytes.iter().enumerate() {
+        if is_first && place == COUNT {
+            spelled.push(0)?;
+        }
+        spelled.push(*byte)?;
+    }
+    put(&mut spelled, VERSION, b'2');
+    Ok(spelled)
+}
+
+fn put(bytes: &mut [u8], place: usize, byte: u8) {
+    if let Some(old) = bytes.get_mut(place) {
+        *old = byte;
+    }
 }
 
 /// Whether the packet has so many bytes, and each part of it that ends earlier is refused at its end.
-pub(crate) fn are_cut_off(alloc: Global, length: usize) -> Result<bool, Refusal> {
-    let bytes = bytes(alloc, length)?;
+pub(crate) fn are_cut_off(alloc: Global, version: u8, length: usize) -> Result<bool, Refusal> {
+    let bytes = bytes(alloc, version, length)?;
     for end in 0..bytes.len() {
         if packet_of(alloc, &bytes[..end]).err() != Some(Refusal::BadPacket(end)) {
             return Ok(false);
@@ -113,9 +152,9 @@ pub(crate) fn are_cut_off(alloc: Global, length: usize) -> Result<bool, Refusal>
 }
 
 /// Whether each byte of the packet, changed to each other, leaves bytes that are refused at their fault, or that the packet
-/// spells which is read: in the second version, and but for the version's word in the first.
-pub(crate) fn are_changed(alloc: Global, length: usize) -> Result<bool, Refusal> {
-    let bytes = bytes(alloc, length)?;
+/// spells which is read, in the second version.
+pub(crate) fn are_changed(alloc: Global, version: u8, length: usize) -> Result<bool, Refusal> {
+    let bytes = bytes(alloc, version, length)?;
     for place in 0..bytes.len() {
         for byte in 0..=255u8 {
             if !is_answered(alloc, bytes.as_slice(), place, byte)? {
@@ -129,17 +168,18 @@ pub(crate) fn are_changed(alloc: Global, length: usize) -> Result<bool, Refusal>
 // Whether the bytes with this one at the place are refused at their fault, or are what is read of them.
 fn is_answered(alloc: Global, bytes: &[u8], place: usize, byte: u8) -> Result<bool, Refusal> {
     let mut changed = Vec::from_slice(alloc, bytes)?;
-    if let Some(old) = changed.get_mut(place) {
-        *old = byte;
-    }
+    put(&mut changed, place, byte);
     match packet_of(alloc, changed.as_slice()) {
-        Ok(packet) => {
-            let written = bytes_of(alloc, &packet)?;
-            Ok(written.as_slice() == named(changed, b'2').as_slice())
-        }
+        Ok(packet) => is_spelled(alloc, &packet, changed.as_slice()),
         Err(Refusal::BadPacket(fault)) => Ok(first_fault(changed.as_slice()) == Some(fault)),
         Err(refusal) => Err(refusal),
     }
+}
+
+fn is_spelled(alloc: Global, packet: &Packet, bytes: &[u8]) -> Result<bool, Refusal> {
+    let spelled = bytes_of(alloc, packet)?;
+    let wanted = in_second_version(alloc, bytes)?;
+    Ok(spelled.as_slice() == wanted.as_slice())
 }
 
 fn first_fault(bytes: &[u8]) -> Option<usize> {

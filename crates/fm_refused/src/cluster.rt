@@ -10,6 +10,8 @@ use fm_records::ids::{CoordId, JobId, MachineId, TaskId};
 use fm_records::ops::{Op, Phase};
 use fm_records::prefer::Prefer;
 use fm_records::refusal::Refusal;
+use fm_round::listed::Listed;
+use fm_round::parts::{Place, Plan, Preempt};
 use std::alloc::Global;
 
 const JOBS: u32 = 5;
@@ -40,7 +42,7 @@ fn machine(number: u32) -> Op {
         version: u64::from(number),
         writer: 1,
         up: true,
-        slots: 2,
+        slots: 3,
         nic: 1000,
     }
 }
@@ -62,7 +64,22 @@ fn task(number: u32) -> Op {
         withdrawn: false,
         job: JobId::new(scattered(number % JOBS)),
         request: number % 7 * 50,
-        prefer: Prefer::default(),
+        prefer: preferred(number),
+    }
+}
+
+// Two machines, but none for a third of the tasks.
+fn preferred(number: u32) -> Prefer {
+    let one = MachineId::new(scattered(number % MACHINES));
+    let other = MachineId::new(scattered(number.wrapping_add(7) % MACHINES));
+    let entries = if one < other {
+        [(one, 10), (other, 20)]
+    } else {
+        [(other, 10), (one, 20)]
+    };
+    match Prefer::new(&entries) {
+        Some(prefer) if number % 3 > 0 => prefer,
+        _ => Prefer::default(),
     }
 }
 
@@ -136,6 +153,27 @@ pub(crate) fn packet(alloc: Global, from: u32, to: u32) -> Result<Packet, Refusa
         sender: numbered(2)?,
         number: 1,
         value: known(alloc, from, to)?,
+    })
+}
+
+/// A plan for some of the first tasks: three are to run, of which one runs already, and that one is to stop.
+pub(crate) fn plan(alloc: Global) -> Result<Plan, Refusal> {
+    let mut places = Vec::new(alloc);
+    for number in [3, 11, 13] {
+        places.push(Place {
+            task: TaskId::new(scattered(number)),
+            machine: MachineId::new(scattered(1)),
+            incarnation: 1,
+        })?;
+    }
+    let mut preempts = Vec::new(alloc);
+    preempts.push(Preempt {
+        task: TaskId::new(scattered(13)),
+        attempt: 0,
+    })?;
+    Ok(Plan {
+        places: Listed::new(places),
+        preempts: Listed::new(preempts),
     })
 }
 

@@ -10,26 +10,42 @@ use fm_wire::reading::decode;
 use fm_wire::writing::encode;
 use std::alloc::Global;
 
-/// Much is joined into much, with new keys in each map, and with keys that are there.
+/// Much is joined into much, with new keys in each map, and with keys that are there: maps are merged aside.
 pub(crate) fn join_much(memory: Memory) -> Result<Verdict, Refusal> {
-    join_into(memory, known(memory.alloc, 500, 1100)?)
-}
-
-/// A little is joined into much, with a new key in each map.
-pub(crate) fn join_little(memory: Memory) -> Result<Verdict, Refusal> {
-    join_into(memory, known(memory.alloc, 800, 808)?)
-}
-
-fn join_into(memory: Memory, other: Knowledge) -> Result<Verdict, Refusal> {
     let before = known(memory.alloc, 0, 600)?;
-    let mut after = copied(&before)?;
-    join(&mut after, &other)?;
-    let mut known = copied(&before)?;
+    let other = known(memory.alloc, 500, 1100)?;
+    join_into(memory, &before, &other)
+}
+
+/// A little is joined into much, with a new key in each map: maps change in place, after room was made for blocks and in them.
+pub(crate) fn join_little(memory: Memory) -> Result<Verdict, Refusal> {
+    let before = known(memory.alloc, 0, 1200)?;
+    let other = known(memory.alloc, 1200, 1208)?;
+    join_into(memory, &before, &other)
+}
+
+fn join_into(memory: Memory, before: &Knowledge, other: &Knowledge) -> Result<Verdict, Refusal> {
+    let mut known = copied(before)?;
     memory.refuse();
-    let refusal = join(&mut known, &other).err();
+    let refusal = join(&mut known, other).err();
     memory.give();
-    let wanted = if refusal.is_some() { before } else { after };
-    Ok(judged(refusal, are_same(&known, &wanted)))
+    let is_right = is_joined(refusal.is_some(), &known, before, other)?;
+    Ok(judged(refusal, is_right))
+}
+
+// Whether it is what there was before, or that with the other joined in.
+fn is_joined(
+    is_refused: bool,
+    known: &Knowledge,
+    before: &Knowledge,
+    other: &Knowledge,
+) -> Result<bool, Refusal> {
+    if is_refused {
+        return Ok(are_same(known, before));
+    }
+    let mut after = copied(before)?;
+    join(&mut after, other)?;
+    Ok(are_same(known, &after))
 }
 
 /// The bytes of the packet.

@@ -1,81 +1,158 @@
 //! Calls that are refused memory, and a look at what that leaves. Each is made on values that are made anew for it, and a line
-//! says what became of it. With a word, a number, that allocation within each call is refused, where this program runs on the
-//! allocator of tests/refusing.c; with none, memory is ample.
+//! says what became of it: its name, and a verdict.
+//!
+//! With no word memory is ample. Where this program runs on the allocator of tests/refusing.c, words can ask for more: with a
+//! number that allocation within each call is refused; with a second number further ones in turn, each by so many after the
+//! last, until the call has no more, and a line for each. Another word picks a group of calls: `values`, those of coordinators
+//! that keep their networks in one way, `edits`, `stale` or `builds`, or `others`.
 #![tactic(auto)]
 
 mod bytes;
+mod calling;
 mod cluster;
+mod coordinators;
+mod editing;
+mod gathering;
 mod knowing;
 mod memory;
 mod networks;
 mod planning;
+mod seats;
+mod trials;
 mod verdict;
 
-use fm_records::refusal::Refusal;
+use calling::ASKED;
+use coordinators::{Kind, place_of_edits};
 use memory::Memory;
+use std::alloc::Global;
 use std::env;
-use verdict::Verdict;
+use std::sync::Wait;
+use trials::{Kept, OTHERS, Trial, VALUES};
+
+// More allocations than a call has.
+const MOST_PLACES: u32 = 1_000_000;
 
 fn main(rt: HostRuntime) -> Result<(), anyhow::Error> {
-    let memory = Memory {
-        alloc: rt.alloc(),
-        place: place(&rt)?,
-    };
-    if memory.place == 0 {
-        print_bytes(&rt, memory)?;
+    let words = asked(&rt)?;
+    if words.first == 0 {
+        print_bytes(&rt)?;
     }
-    print_values(&rt, memory)?;
-    print_networks(&rt, memory)?;
-    print_plans(&rt, memory)
-}
-
-// The number that the last word is, or 0.
-fn place(rt: &HostRuntime) -> Result<u32, anyhow::Error> {
-    let mut place = 0;
-    for word in env::args(rt)?.skip(1) {
-        place = word.as_str().parse::<u32>().unwrap_or(0);
+    if words.asks("values") {
+        for value in VALUES {
+            print(&rt, &rt, &words, Trial::Value(value))?;
+        }
     }
-    Ok(place)
-}
-
-fn print_bytes(rt: &HostRuntime, memory: Memory) -> Result<(), anyhow::Error> {
-    for length in bytes::LENGTHS {
-        let cut_off = bytes::are_cut_off(memory.alloc, length)?;
-        let changed = bytes::are_changed(memory.alloc, length)?;
-        println!(rt; "{length} bytes: cut off {cut_off}, changed {changed}")?;
+    print_kinds(&rt, &rt, &words)?;
+    if words.asks("others") {
+        for other in OTHERS {
+            print(&rt, &rt, &words, Trial::Other(other))?;
+        }
     }
     Ok(())
 }
 
-fn print_values(rt: &HostRuntime, memory: Memory) -> Result<(), anyhow::Error> {
-    print(rt, "join_into", knowing::join_much(memory))?;
-    print(rt, "join_into of a little", knowing::join_little(memory))?;
-    print(rt, "encode", knowing::write(memory))?;
-    print(rt, "decode", knowing::read(memory))
+// What is asked for: which allocation of each call is refused first, or 0, how many the next one is after that, or 0, and of
+// which group of calls, if not of all.
+#[derive(Drop)]
+struct Words {
+    first: u32,
+    every: u32,
+    group: Option<String>,
 }
 
-fn print_networks(rt: &HostRuntime, memory: Memory) -> Result<(), anyhow::Error> {
-    print(rt, "dump", networks::written(memory))?;
-    print(rt, "read", networks::was_read(memory))?;
-    print(rt, "solve", networks::solved(memory))?;
-    print(rt, "solve_from", networks::solved_from(memory))
+impl Words {
+    fn asks(&self, group: &str) -> bool {
+        match &self.group {
+            Some(asked) => asked.as_str() == group,
+            None => true,
+        }
+    }
+
+    // Where memory comes from at first.
+    fn memory(&self, alloc: Global) -> Memory {
+        Memory {
+            alloc,
+            place: self.first,
+        }
+    }
 }
 
-fn print_plans(rt: &HostRuntime, memory: Memory) -> Result<(), anyhow::Error> {
-    print(rt, "plan", planning::planned(memory))?;
-    print(rt, "admit", planning::was_admitted(memory))?;
-    print(rt, "stops", planning::stopped(memory))
-}
-
-fn print(
-    rt: &HostRuntime,
-    name: &str,
-    verdict: Result<Verdict, Refusal>,
-) -> Result<(), anyhow::Error> {
-    let text = match verdict {
-        Ok(verdict) => verdict.text(),
-        Err(_) => "not begun",
+fn asked(rt: &HostRuntime) -> Result<Words, anyhow::Error> {
+    let mut words = Words {
+        first: 0,
+        every: 0,
+        group: None,
     };
-    println!(rt; "{name}: {text}")?;
+    for word in env::args(rt)?.skip(1) {
+        match word.as_str().parse::<u32>() {
+            Ok(number) if words.first == 0 => words.first = number,
+            Ok(number) => words.every = number,
+            Err(_) => words.group = Some(word),
+        }
+    }
+    Ok(words)
+}
+
+fn print_bytes(rt: &HostRuntime) -> Result<(), anyhow::Error> {
+    for (version, length) in bytes::PACKETS {
+        let cut_off = bytes::are_cut_off(rt.alloc(), version, length)?;
+        let changed = bytes::are_changed(rt.alloc(), version, length)?;
+        println!(rt; "{length} bytes of version {version}: cut off {cut_off}, changed {changed}")?;
+    }
+    Ok(())
+}
+
+// Calls of coordinators, for each way in which they keep their networks.
+fn print_kinds<W: Wait>(rt: &HostRuntime, waits: &W, words: &Words) -> Result<(), anyhow::Error> {
+    if words.asks("edits") {
+        print_kept(rt, waits, words, Kind::Edits)?;
+    }
+    if words.asks("stale") {
+        let place = place_of_edits(words.memory(rt.alloc()))?;
+        print_kept(rt, waits, words, Kind::Stale(place))?;
+    }
+    if words.asks("builds") {
+        print_kept(rt, waits, words, Kind::Builds)?;
+    }
+    Ok(())
+}
+
+// Calls of a coordinator that keeps its network so, and by a seat of a node of such a one.
+fn print_kept<W: Wait>(
+    rt: &HostRuntime,
+    waits: &W,
+    words: &Words,
+    kind: Kind,
+) -> Result<(), anyhow::Error> {
+    for asked in ASKED {
+        print(rt, waits, words, Trial::Kept(Kept::Asked(asked), kind))?;
+    }
+    print(rt, waits, words, Trial::Kept(Kept::Shown, kind))?;
+    print(rt, waits, words, Trial::Kept(Kept::Dumped, kind))?;
+    for asked in ASKED {
+        print(rt, waits, words, Trial::Kept(Kept::BySeat(asked), kind))?;
+    }
+    print(rt, waits, words, Trial::Kept(Kept::Round, kind))
+}
+
+// Tries a call, with each allocation refused that is to be, until it has no more.
+fn print<W: Wait>(
+    rt: &HostRuntime,
+    waits: &W,
+    words: &Words,
+    trial: Trial,
+) -> Result<(), anyhow::Error> {
+    let mut memory = words.memory(rt.alloc());
+    for _ in 0..MOST_PLACES {
+        let text = match trial.made(waits, memory) {
+            Ok(verdict) => verdict.text(),
+            Err(_) => "not begun",
+        };
+        println!(rt; "{trial}: {text}")?;
+        if words.every == 0 || !memory.has_refused() {
+            break;
+        }
+        memory = memory.at(memory.place.saturating_add(words.every));
+    }
     Ok(())
 }

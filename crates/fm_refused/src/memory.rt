@@ -16,22 +16,43 @@ pub(crate) struct Memory {
 }
 
 impl Memory {
+    /// The same, but none is refused.
+    pub(crate) fn ample(&self) -> Memory {
+        Memory {
+            alloc: self.alloc,
+            place: 0,
+        }
+    }
+
+    /// The same, but with the allocation at this place, unless none is refused.
+    pub(crate) fn at(&self, place: u32) -> Memory {
+        Memory {
+            alloc: self.alloc,
+            place: if self.place == 0 { 0 } else { place },
+        }
+    }
+
     /// From now on allocations are counted, and the one at the place is refused.
     pub(crate) fn refuse(&self) {
         if self.place > 0 {
-            ask(self.alloc, REFUSE | self.place as usize);
+            let _ = is_given(self.alloc, REFUSE | self.place as usize);
         }
     }
 
     /// From now on no allocation is refused.
     pub(crate) fn give(&self) {
         if self.place > 0 {
-            ask(self.alloc, GIVE);
+            let _ = is_given(self.alloc, GIVE);
         }
+    }
+
+    /// Whether one was refused since allocations were last counted. None is from now on.
+    pub(crate) fn has_refused(&self) -> bool {
+        self.place > 0 && !is_given(self.alloc, GIVE)
     }
 }
 
-fn ask(alloc: Global, bytes: usize) {
+fn is_given(alloc: Global, bytes: usize) -> bool {
     let mut asked: Vec<u8> = Vec::new(alloc);
-    let _ = asked.reserve(bytes);
+    asked.reserve(bytes).is_ok()
 }

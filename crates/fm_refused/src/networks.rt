@@ -13,6 +13,7 @@ use fm_certificate::flow::Flow;
 use fm_dimacs::dump::dump;
 use fm_dimacs::out::Over;
 use fm_dimacs::read::read;
+use fm_dimacs::solution::write_solution;
 use fm_flow::solve::{solve, solve_from};
 use fm_know::knowledge::Knowledge;
 use fm_know::laws::law_can_be;
@@ -21,10 +22,15 @@ use fm_policy::build::build;
 use fm_records::refusal::Refusal;
 use std::alloc::Global;
 
-// How many operations the networks are of, and how many an earlier one is.
+// How many operations the networks are of, and how many an earlier one is, of which most tasks wait.
 const TOLD: u32 = 320;
 
 const EARLIER: u32 = 280;
+
+// The same of networks where most tasks are placed.
+const PLACED: u32 = 160;
+
+const PLACED_EARLIER: u32 = 150;
 
 /// The network of what is known.
 pub(crate) fn network_of(alloc: Global, known: &Knowledge) -> Result<Network, Refusal>
@@ -80,8 +86,8 @@ fn dump_to(alloc: Global, network: &Network, out: &mut Over<Vec<u8>>) -> Result<
     dump(alloc, network, out)
 }
 
-// The text of the network.
-fn text_of(alloc: Global, network: &Network) -> Result<Vec<u8>, Refusal> {
+/// The text of the network.
+pub(crate) fn text_of(alloc: Global, network: &Network) -> Result<Vec<u8>, Refusal> {
     let mut out = Over::new(Vec::new(alloc));
     dump_to(alloc, network, &mut out)?;
     Ok(out.into_inner())
@@ -94,10 +100,20 @@ fn network_in(alloc: Global, text: &[u8]) -> Result<Network, Refusal> {
 /// A network is written.
 pub(crate) fn written(memory: Memory) -> Result<Verdict, Refusal> {
     let network = told(memory.alloc, TOLD)?;
-    let text = text_of(memory.alloc, &network)?;
+    is_written(memory, &network)
+}
+
+/// The sink is written, whose first line is shorter than the one after it.
+pub(crate) fn sink_written(memory: Memory) -> Result<Verdict, Refusal> {
+    let network = told(memory.alloc, 0)?;
+    is_written(memory, &network)
+}
+
+fn is_written(memory: Memory, network: &Network) -> Result<Verdict, Refusal> {
+    let text = text_of(memory.alloc, network)?;
     let mut out = writer_for(memory.alloc, text.len())?;
     memory.refuse();
-    let refusal = dump_to(memory.alloc, &network, &mut out).err();
+    let refusal = dump_to(memory.alloc, network, &mut out).err();
     memory.give();
     let is_right = is_part(
         refusal.is_some(),
@@ -107,8 +123,8 @@ pub(crate) fn written(memory: Memory) -> Result<Verdict, Refusal> {
     Ok(judged(refusal, is_right))
 }
 
-// A writer with room for so many bytes.
-fn writer_for(alloc: Global, bytes: usize) -> Result<Over<Vec<u8>>, Refusal> {
+/// A writer with room for so many bytes.
+pub(crate) fn writer_for(alloc: Global, bytes: usize) -> Result<Over<Vec<u8>>, Refusal> {
     let mut room = Vec::new(alloc);
     room.reserve(bytes)?;
     Ok(Over::new(room))
@@ -165,15 +181,70 @@ fn solves(memory: Memory, network: &Network) -> Result<Verdict, Refusal>
     }
 }
 
-/// A network is solved from the flow of an earlier one.
-pub(crate) fn solved_from(memory: Memory) -> Result<Verdict, Refusal> {
-    let earlier = told(memory.alloc, EARLIER)?;
-    let start = flow_of(memory.alloc, &earlier)?;
-    solved_from_flow(memory, &start)
+/// A solution is written.
+pub(crate) fn solution_written(memory: Memory) -> Result<Verdict, Refusal> {
+    let network = told(memory.alloc, TOLD)?;
+    let flow = flow_of(memory.alloc, &network)?;
+    is_solution_written(memory, &network, &flow)
 }
 
-fn solved_from_flow(memory: Memory, start: &Flow) -> Result<Verdict, Refusal> {
-    let network = told(memory.alloc, TOLD)?;
+fn solution_to(
+    alloc: Global,
+    network: &Network,
+    flow: &Flow,
+    out: &mut Over<Vec<u8>>,
+) -> Result<(), Refusal>
+    requires built { IsBuilt network.now }
+    requires feasible { IsFeasible network.now (units_in flow.now) }
+{
+    write_solution(alloc, network, flow, out)
+}
+
+fn solution_text(alloc: Global, network: &Network, flow: &Flow) -> Result<Vec<u8>, Refusal>
+    requires built { IsBuilt network.now }
+    requires feasible { IsFeasible network.now (units_in flow.now) }
+{
+    let mut out = Over::new(Vec::new(alloc));
+    solution_to(alloc, network, flow, &mut out)?;
+    Ok(out.into_inner())
+}
+
+fn is_solution_written(memory: Memory, network: &Network, flow: &Flow) -> Result<Verdict, Refusal>
+    requires built { IsBuilt network.now }
+    requires feasible { IsFeasible network.now (units_in flow.now) }
+{
+    let text = solution_text(memory.alloc, network, flow)?;
+    let mut out = writer_for(memory.alloc, text.len())?;
+    memory.refuse();
+    let refusal = solution_to(memory.alloc, network, flow, &mut out).err();
+    memory.give();
+    let is_right = is_part(
+        refusal.is_some(),
+        out.into_inner().as_slice(),
+        text.as_slice(),
+    );
+    Ok(judged(refusal, is_right))
+}
+
+/// A network is solved from the flow of an earlier one. So few tasks are placed that it is solved anew.
+pub(crate) fn solved_from(memory: Memory) -> Result<Verdict, Refusal> {
+    let start = earlier_flow(memory.alloc, EARLIER)?;
+    solved_from_flow(memory, TOLD, &start)
+}
+
+/// The same where most tasks are placed, and stay.
+pub(crate) fn solved_from_most(memory: Memory) -> Result<Verdict, Refusal> {
+    let start = earlier_flow(memory.alloc, PLACED_EARLIER)?;
+    solved_from_flow(memory, PLACED, &start)
+}
+
+fn earlier_flow(alloc: Global, count: u32) -> Result<Flow, Refusal> {
+    let earlier = told(alloc, count)?;
+    flow_of(alloc, &earlier)
+}
+
+fn solved_from_flow(memory: Memory, count: u32, start: &Flow) -> Result<Verdict, Refusal> {
+    let network = told(memory.alloc, count)?;
     solves_from(memory, &network, start)
 }
 

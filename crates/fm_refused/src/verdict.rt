@@ -36,6 +36,25 @@ impl Verdict {
     }
 }
 
+impl Verdict {
+    /// The same, but of a call that may have left the network stale, which an accepted one may do for want of memory.
+    pub(crate) fn with_stale(self, is_stale: bool) -> Verdict {
+        match self {
+            Verdict::Done if is_stale => Verdict::DoneStale,
+            Verdict::Unchanged | Verdict::Viewed if is_stale => Verdict::Changed,
+            other => other,
+        }
+    }
+
+    /// The same, but of a refused call that may have got past its view.
+    pub(crate) fn with_view(self, is_viewed: bool) -> Verdict {
+        match self {
+            Verdict::Unchanged if is_viewed => Verdict::Viewed,
+            other => other,
+        }
+    }
+}
+
 /// Of a call that was refused so or not at all, and whether what is there now is what should be there then.
 pub(crate) fn judged(refusal: Option<Refusal>, is_right: bool) -> Verdict {
     match refusal {

@@ -87,3 +87,92 @@ fn of_two_specs_the_longer_list_counts(rt: HostRuntime) -> Result<(), Fail> {
     assert_eq!(rt; preferred(rt.alloc(), &long, &short)?, Prefer::new(&long));
     Ok(())
 }
+
+// Operations of which each is of another kind, with keys of their own.
+fn ops(number: u128) -> [Op; 4] {
+    let (task, machine) = (TaskId::new(number), MachineId::new(number));
+    [
+        Op::Job {
+            id: JobId::new(number),
+            version: 1,
+            writer: 1,
+            withdrawn: false,
+            wait: 500,
+            preempt: 800,
+        },
+        Op::Progress {
+            id: task,
+            attempt: 1,
+            phase: Phase::Running,
+        },
+        Op::Report {
+            id: machine,
+            incarnation: 1,
+            number: 1,
+            used: 0,
+        },
+        Op::Propose {
+            id: task,
+            attempt: 1,
+            coordinator: 1,
+            machine,
+            incarnation: 1,
+        },
+    ]
+}
+
+// What these operations come to.
+fn lot(alloc: Global, number: u128) -> Result<Knowledge, Fail> {
+    let mut known = Knowledge::empty(alloc);
+    for op in &ops(number) {
+        op.check()?;
+        let delta = Knowledge::delta_of(alloc, op)?;
+        known.join_into(&delta)?;
+    }
+    Ok(known)
+}
+
+// So many of them, each by itself.
+fn lots(alloc: Global, count: u32) -> Result<Vec<Knowledge>, Fail> {
+    let mut lots = Vec::new(alloc);
+    for number in 0..count {
+        lots.push(lot(alloc, u128::from(number))?)?;
+    }
+    Ok(lots)
+}
+
+// How many keys each map has.
+fn keys(known: &Knowledge) -> [usize; 4] {
+    [
+        known.jobs().len(),
+        known.tasks().len(),
+        known.machines().len(),
+        known.proposals().len(),
+    ]
+}
+
+// Whether it has a key more in each map, or where memory was refused in none.
+fn joins_or_not(known: &mut Knowledge, other: &Knowledge) -> bool {
+    let [jobs, tasks, machines, proposals] = keys(known);
+    let more = match known.join_into(other) {
+        Ok(()) => 1,
+        Err(_) => 0,
+    };
+    keys(known)
+        == [
+            jobs.saturating_add(more),
+            tasks.saturating_add(more),
+            machines.saturating_add(more),
+            proposals.saturating_add(more),
+        ]
+}
+
+// Memory is ample here. `tests/wrong_bodies` has an allocation among these joins refused, in a tree where one joins map by map.
+#[test]
+fn a_refused_join_leaves_no_key(rt: HostRuntime) -> Result<(), Fail> {
+    let mut known = Knowledge::empty(rt.alloc());
+    for other in &lots(rt.alloc(), 100)? {
+        assert!(rt; joins_or_not(&mut known, other));
+    }
+    Ok(())
+}

@@ -1,6 +1,7 @@
 use fm_lattice::join::{Join, copied, law_assoc, law_comm, law_idem};
 use fm_lattice::map::JoinMap;
 use fm_lattice::plain::{Both, Lex, Max, Min, Opt};
+use std::alloc::Global;
 use std::test::Fail;
 
 // Each is below the other, so they are equal.
@@ -114,5 +115,37 @@ fn the_laws_hold_of_lexicographic_values(rt: HostRuntime) -> Result<(), Fail> {
     let both = Lex(1, Both(Opt(Some(Max(8))), Opt(Some(Max((3, 950))))));
     assert_eq!(rt; a.joined(&b)?.get(&5), Some(&both));
     assert_eq!(rt; a.joined(&c)?.get(&5), c.get(&5));
+    Ok(())
+}
+
+type Counts = JoinMap<u32, Max<u8>>;
+
+// A map of each of so many keys.
+fn single_keys(alloc: Global, count: u32) -> Result<Vec<Counts>, Fail> {
+    let mut maps = Vec::new(alloc);
+    for key in 0..count {
+        let mut map = JoinMap::new(alloc);
+        map.put(key, Max(0))?;
+        maps.push(map)?;
+    }
+    Ok(maps)
+}
+
+// Whether it has a key more, or where memory was refused as many as before.
+fn joins_or_not(map: &mut Counts, other: &Counts) -> bool {
+    let before = map.len();
+    match map.join_into(other) {
+        Ok(()) => map.len() == before.saturating_add(1),
+        Err(_) => map.len() == before,
+    }
+}
+
+// Memory is ample here. `tests/wrong_bodies` has an allocation among these joins refused, in a tree where one is half done then.
+#[test]
+fn a_refused_join_of_maps_leaves_no_key(rt: HostRuntime) -> Result<(), Fail> {
+    let mut map = JoinMap::new(rt.alloc());
+    for other in &single_keys(rt.alloc(), 300)? {
+        assert!(rt; joins_or_not(&mut map, other));
+    }
     Ok(())
 }

@@ -7,9 +7,17 @@ ghost use Rattle.fm_net.specs.Nodes.{IsRequestInRange};
 use fm_dimacs::dump::dump;
 use fm_dimacs::out::{Out, Over};
 use fm_dimacs::read::read;
+use fm_dimacs::solution::write_solution;
+use fm_flow::solve::solve;
+use fm_know::knowledge::Knowledge;
+use fm_know::laws::law_can_be;
+use fm_lattice::join::Join;
 use fm_net::network::Network;
 use fm_net::node::Node;
+use fm_policy::build::build;
 use fm_records::ids::{JobId, MachineId, TaskId};
+use fm_records::ops::Op;
+use fm_records::prefer::Prefer;
 use fm_records::refusal::Refusal;
 use std::alloc::Global;
 use std::io::{self, Write};
@@ -485,6 +493,98 @@ fn a_writer_fails_at_each_write_in_turn(rt: HostRuntime) -> Result<(), Fail> {
         let bytes = out.into_inner().bytes;
         assert_eq!(rt; bytes.len(), room);
         assert!(rt; WAITING.as_bytes().starts_with(&bytes));
+    }
+    Ok(())
+}
+
+/// What is known of the task that waits.
+pub(crate) fn known(alloc: Global) -> Result<Knowledge, Refusal> {
+    let mut known = Knowledge::empty(alloc);
+    for op in [
+        Op::Job {
+            id: job(),
+            version: 1,
+            writer: 1,
+            withdrawn: false,
+            wait: 500,
+            preempt: 800,
+        },
+        Op::Machine {
+            id: machine(),
+            incarnation: 1,
+            version: 1,
+            writer: 1,
+            up: true,
+            slots: 2,
+            nic: 1_000,
+        },
+        Op::Spec {
+            id: task(),
+            version: 1,
+            writer: 1,
+            withdrawn: false,
+            job: job(),
+            request: 100,
+            prefer: Prefer::default(),
+        },
+    ] {
+        op.check()?;
+        known.join_into(&Knowledge::delta_of(alloc, &op)?)?;
+    }
+    Ok(known)
+}
+
+// Writes the solution of its network.
+fn solve_to(alloc: Global, known: &Knowledge, out: &mut Over<Narrow>) -> Result<(), Refusal> {
+    law_can_be(known);
+    let network = build(alloc, known)?;
+    let (flow, _potentials) = solve(alloc, &network)?;
+    write_solution(alloc, &network, &flow, out)
+}
+
+// The task runs on the machine.
+const SOLUTION: &str = "s 100
+f 3 4 1
+f 4 1 1
+f 5 3 1
+";
+
+#[test]
+fn a_solution_goes_out_a_byte_at_a_time(rt: HostRuntime) -> Result<(), Fail> {
+    let known = known(rt.alloc())?;
+    let mut out = writer_of(rt.alloc(), 1, 1000);
+    solve_to(rt.alloc(), &known, &mut out)?;
+    assert!(rt; !out.failed());
+    let writer = out.into_inner();
+    assert_eq!(rt; writer.bytes.as_slice(), SOLUTION.as_bytes());
+    assert_eq!(rt; writer.writes, SOLUTION.len());
+    Ok(())
+}
+
+#[test]
+fn a_writer_takes_nothing_of_a_solution(rt: HostRuntime) -> Result<(), Fail> {
+    let known = known(rt.alloc())?;
+    let mut out = writer_of(rt.alloc(), 0, 1000);
+    assert_eq!(rt;
+        solve_to(rt.alloc(), &known, &mut out),
+        Err(Refusal::WriteFault)
+    );
+    assert!(rt; out.failed());
+    assert!(rt; out.into_inner().bytes.is_empty());
+    Ok(())
+}
+
+#[test]
+fn a_writer_of_a_solution_fails_at_each_write_in_turn(rt: HostRuntime) -> Result<(), Fail> {
+    let known = known(rt.alloc())?;
+    for room in 0..SOLUTION.len() {
+        let mut out = writer_of(rt.alloc(), 7, room);
+        let refused = solve_to(rt.alloc(), &known, &mut out);
+        assert_eq!(rt; refused, Err(Refusal::WriteFault), "after {room} bytes");
+        assert!(rt; out.failed());
+        let bytes = out.into_inner().bytes;
+        assert_eq!(rt; bytes.len(), room);
+        assert!(rt; SOLUTION.as_bytes().starts_with(&bytes));
     }
     Ok(())
 }

@@ -4,8 +4,13 @@ ghost use Rattle.std.specs.Prelude.{IsTrue, IfOk};
 ghost use Rattle.fm_numbered.specs.Feasible.{IsFlowOf};
 ghost use Rattle.fm_numbered.specs.Unscheduled.{all_unscheduled};
 
+use crate::dimacs::known;
+use fm_certificate::cost::cost;
 use fm_cycles::search::{Found, search};
+use fm_flow::solve::{solve, solve_from};
 use fm_flow::start::{resume, start};
+use fm_know::knowledge::Knowledge;
+use fm_know::laws::law_can_be;
 use fm_lattice::join::OutOfMemory;
 use fm_net::network::Network;
 use fm_net::node::Node;
@@ -13,7 +18,9 @@ use fm_numbered::feasible::is_feasible;
 use fm_numbered::improved::improved;
 use fm_numbered::numbered::Numbered;
 use fm_numbered::unscheduled::unscheduled;
+use fm_policy::build::build;
 use fm_records::ids::{JobId, MachineId, TaskId};
+use fm_records::refusal::Refusal;
 use std::alloc::Global;
 use std::test::Fail;
 
@@ -347,5 +354,21 @@ fn a_flow_of_few_tasks_is_not_taken_over(rt: HostRuntime) -> Result<(), Fail> {
     let numbered = Numbered::of(alloc, &drawn(alloc, 1, 60, 40)?)?;
     let none = vec![in alloc; 0u64; numbered.arcs.len()]?;
     assert!(rt; resume(alloc, &numbered, &none)?.is_none());
+    Ok(())
+}
+
+// What a solution of the network of what is known costs that starts from another one.
+fn cost_again(alloc: Global, known: &Knowledge) -> Result<u128, Refusal> {
+    law_can_be(known);
+    let network = build(alloc, known)?;
+    let (earlier, _potentials) = solve(alloc, &network)?;
+    let (flow, _potentials) = solve_from(alloc, &network, &earlier)?;
+    Ok(cost(&network, &flow))
+}
+
+#[test]
+fn a_flow_is_solved_from_an_earlier_one(rt: HostRuntime) -> Result<(), Fail> {
+    let known = known(rt.alloc())?;
+    assert_eq!(rt; cost_again(rt.alloc(), &known)?, 100);
     Ok(())
 }

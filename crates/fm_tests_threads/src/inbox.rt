@@ -97,3 +97,52 @@ fn two_threads_and_a_small_inbox(rt: HostRuntime) -> Result<(), Fail> {
     assert!(rt; exchange(&rt, rt.alloc())?);
     Ok(())
 }
+
+// What became of a packet that was put once.
+#[derive(PartialEq, Drop)]
+enum Became {
+    Put,
+    GivenBackForFull,
+    LostOrOtherwise,
+}
+
+// Puts the packet, and hands the door back with what became of it.
+fn put_once<R: Wait>(rt: &R, mut door: Door, packet: Packet) -> (Door, Became) {
+    let number = packet.number;
+    let became = match door.put(rt, packet) {
+        Ok(()) => Became::Put,
+        Err(fault) if fault.refusal == Refusal::InboxFull && fault.packet.number == number => {
+            Became::GivenBackForFull
+        }
+        Err(_) => Became::LostOrOtherwise,
+    };
+    (door, became)
+}
+
+// What became of the packets 1 and 2 of two threads, and which one was taken then.
+fn both_put<R: Threads + Wait + Sync>(
+    rt: &R,
+    alloc: Global,
+) -> Result<(Became, Became, u64), Fail> {
+    let mut doors = Doors::new(alloc, 2, 1)?;
+    let one = doors.open()?.ok_or("a door")?;
+    let two = doors.open()?.ok_or("another")?;
+    let (packet_one, packet_two) = (packet(alloc, 1)?, packet(alloc, 2)?);
+    let ((mut one, first), (_, second)) = thread::join(
+        rt,
+        move || put_once(rt, one, packet_one),
+        move || put_once(rt, two, packet_two),
+    );
+    let taken = one.take(rt)?.number;
+    Ok((first, second, taken))
+}
+
+#[test]
+fn two_threads_put_into_an_inbox_of_one(rt: HostRuntime) -> Result<(), Fail> {
+    let became = both_put(&rt, rt.alloc())?;
+    assert!(rt;
+        became == (Became::Put, Became::GivenBackForFull, 1)
+            || became == (Became::GivenBackForFull, Became::Put, 2)
+    );
+    Ok(())
+}

@@ -1,0 +1,197 @@
+//! Calls that are tried, each with a name.
+
+use crate::calling::{self, Asked};
+use crate::coordinators::Kind;
+use crate::memory::Memory;
+use crate::seats::{self, Wanted};
+use crate::verdict::Verdict;
+use crate::{editing, gathering, knowing, networks, planning};
+use fm_records::refusal::Refusal;
+use std::fmt;
+use std::sync::Wait;
+
+/// A call of values.
+#[derive(Clone, Copy, Drop)]
+pub(crate) enum Value {
+    JoinMuch,
+    JoinLittle,
+    Encode,
+    Decode,
+    Dump,
+    DumpSink,
+    Solution,
+    Read,
+    Solve,
+    SolveFrom,
+    SolveFromMost,
+    Plan,
+    Admit,
+    Stops,
+}
+
+/// Each of these calls.
+pub(crate) const VALUES: [Value; 14] = [
+    Value::JoinMuch,
+    Value::JoinLittle,
+    Value::Encode,
+    Value::Decode,
+    Value::Dump,
+    Value::DumpSink,
+    Value::Solution,
+    Value::Read,
+    Value::Solve,
+    Value::SolveFrom,
+    Value::SolveFromMost,
+    Value::Plan,
+    Value::Admit,
+    Value::Stops,
+];
+
+/// A call of a coordinator that keeps its network in one of the ways.
+#[derive(Clone, Copy, Drop)]
+pub(crate) enum Kept {
+    Asked(Asked),
+    Shown,
+    Dumped,
+    BySeat(Asked),
+    Round,
+}
+
+/// Another call.
+#[derive(Clone, Copy, Drop)]
+pub(crate) enum Other {
+    Edit,
+    EditFirst,
+    NewNode,
+    Gather,
+    GatherStuck,
+}
+
+/// Each of these calls.
+pub(crate) const OTHERS: [Other; 5] = [
+    Other::Edit,
+    Other::EditFirst,
+    Other::NewNode,
+    Other::Gather,
+    Other::GatherStuck,
+];
+
+/// A call that is tried.
+#[derive(Clone, Copy, Drop)]
+pub(crate) enum Trial {
+    Value(Value),
+    Kept(Kept, Kind),
+    Other(Other),
+}
+
+impl Value {
+    // As it is printed.
+    fn text(&self) -> &'static str {
+        match self {
+            Value::JoinMuch => "join_into",
+            Value::JoinLittle => "join_into of a little",
+            Value::Encode => "encode",
+            Value::Decode => "decode",
+            Value::Dump => "dump",
+            Value::DumpSink => "dump of the sink",
+            Value::Solution => "write_solution",
+            Value::Read => "read",
+            Value::Solve => "solve",
+            Value::SolveFrom => "solve_from",
+            Value::SolveFromMost => "solve_from of what stays",
+            Value::Plan => "plan",
+            Value::Admit => "admit",
+            Value::Stops => "stops",
+        }
+    }
+
+    // Makes it.
+    fn made(&self, memory: Memory) -> Result<Verdict, Refusal> {
+        match self {
+            Value::JoinMuch => knowing::join_much(memory),
+            Value::JoinLittle => knowing::join_little(memory),
+            Value::Encode => knowing::write(memory),
+            Value::Decode => knowing::read(memory),
+            Value::Dump => networks::written(memory),
+            Value::DumpSink => networks::sink_written(memory),
+            Value::Solution => networks::solution_written(memory),
+            Value::Read => networks::was_read(memory),
+            Value::Solve => networks::solved(memory),
+            Value::SolveFrom => networks::solved_from(memory),
+            Value::SolveFromMost => networks::solved_from_most(memory),
+            Value::Plan => planning::planned(memory),
+            Value::Admit => planning::was_admitted(memory),
+            Value::Stops => planning::stopped(memory),
+        }
+    }
+}
+
+impl fmt::Display for Kept {
+    fn fmt<W: fmt::Write>(&self, f: &mut fmt::Formatter<W>) -> fmt::Result {
+        match self {
+            Kept::Asked(asked) => f.write_str(asked.text()),
+            Kept::Shown => f.write_str("what a view shows"),
+            Kept::Dumped => f.write_str("dump of a coordinator"),
+            Kept::BySeat(asked) => write!(f, "{} by a seat", asked.text()),
+            Kept::Round => f.write_str("run_round"),
+        }
+    }
+}
+
+impl Kept {
+    // Makes it.
+    fn made<R: Wait>(&self, rt: &R, memory: Memory, kind: Kind) -> Result<Verdict, Refusal> {
+        match self {
+            Kept::Asked(asked) => calling::called(memory, kind, *asked),
+            Kept::Shown => calling::viewed(memory, kind),
+            Kept::Dumped => calling::dumped(memory, kind),
+            Kept::BySeat(asked) => seats::asked(rt, memory, kind, Wanted::Call(*asked)),
+            Kept::Round => seats::asked(rt, memory, kind, Wanted::Round),
+        }
+    }
+}
+
+impl Other {
+    // As it is printed.
+    fn text(&self) -> &'static str {
+        match self {
+            Other::Edit => "edit",
+            Other::EditFirst => "edit of what is first known",
+            Other::NewNode => "Node::new",
+            Other::Gather => "gather",
+            Other::GatherStuck => "gather of what is stuck",
+        }
+    }
+
+    // Makes it.
+    fn made(&self, memory: Memory) -> Result<Verdict, Refusal> {
+        match self {
+            Other::Edit => editing::edited(memory),
+            Other::EditFirst => editing::edited_first(memory),
+            Other::NewNode => seats::made_node(memory),
+            Other::Gather => gathering::gathered(memory),
+            Other::GatherStuck => gathering::stuck(memory),
+        }
+    }
+}
+
+impl fmt::Display for Trial {
+    fn fmt<W: fmt::Write>(&self, f: &mut fmt::Formatter<W>) -> fmt::Result {
+        match self {
+            Trial::Value(value) => f.write_str(value.text()),
+            Trial::Kept(kept, kind) => write!(f, "{kept}, {}", kind.text()),
+            Trial::Other(other) => f.write_str(other.text()),
+        }
+    }
+}
+
+impl Trial {
+    /// Makes the call, and says what became of it. Refused where what it is made on could not be made.
+    pub(crate) fn made<R: Wait>(&self, rt: &R, memory: Memory) -> Result<Verdict, Refusal> {
+        match self {
+            Trial::Value(value) => value.made(memory),
+            Trial::Kept(kept, kind) => kept.made(rt, memory, *kind),
+            Trial::Other(other) => other.made(memory),
+        }
+    }
+}
