@@ -7,7 +7,7 @@ ghost use Rattle.fm_lattice.specs.Maps.{lookup, IsRising};
 ghost use Rattle.fm_records.specs.Table.{Table};
 ghost use Rattle.fm_records.specs.Options.{passes};
 ghost use Rattle.fm_records.specs.Facts.{is_done};
-ghost use Rattle.fm_edit.specs.Sight.{sight_of, seen_in, job_node_in, request_node_in, holder_node_in, spot_node_in, spec_in, progress_in, live_in, open_in, present_in, holder_in, prefers_in, used_in};
+ghost use Rattle.fm_edit.specs.Sight.{sight_of, seen_in, job_node_in, request_node_in, holder_node_in, spot_node_in, live_in, open_in, present_in, holder_in, prefers_in, used_in};
 
 use fm_net::node::Node;
 use fm_records::ids::{JobId, MachineId, TaskId};
@@ -24,6 +24,16 @@ pub(crate) struct Seen {
     pub(crate) tasks: BTreeMap<TaskId, TaskRec>,
     pub(crate) machines: BTreeMap<MachineId, MachineRec>,
     pub(crate) spots: BTreeMap<TaskId, Spot>,
+}
+
+// Whether the phase is the last.
+fn is_done(phase: Phase) -> bool
+    ensures { result ≡ is_done phase }
+{
+    match phase {
+        Phase::Pending | Phase::Running => false,
+        Phase::Done => true,
+    }
 }
 
 impl Seen {
@@ -46,31 +56,24 @@ impl Seen {
         let _count = self.tasks.len();
     }
 
-    /// The spec of the task, live or not. O(log n), as each reader here.
-    pub(crate) fn spec(&self, task: TaskId) -> Option<SpecReg>
-        ensures { result ≡ spec_in (seen_in self.now) task }
-    {
-        match self.tasks.get(&task) {
-            Some(record) => match &record.0.0 {
-                Some(spec) => Some(spec.0),
-                None => None,
-            },
-            None => None,
-        }
-    }
-
-    /// The node of the job that the task's spec names.
+    /// The node of the job that the task's spec names. O(log n), as each reader here.
     pub(crate) fn job_node(&self, task: TaskId) -> Option<Node>
         ensures { result ≡ job_node_in (seen_in self.now) task }
     {
-        Some(Node::Unscheduled(self.spec(task)?.job))
+        match &self.tasks.get(&task)?.0.0 {
+            Some(spec) => Some(Node::Unscheduled(spec.0.job)),
+            None => None,
+        }
     }
 
     /// The node of the request of the task's spec.
     pub(crate) fn request_node(&self, task: TaskId) -> Option<Node>
         ensures { result ≡ request_node_in (seen_in self.now) task }
     {
-        Some(Node::Request(self.spec(task)?.request))
+        match &self.tasks.get(&task)?.0.0 {
+            Some(spec) => Some(Node::Request(spec.0.request)),
+            None => None,
+        }
     }
 
     /// The node of the machine that holds the task.
@@ -91,11 +94,29 @@ impl Seen {
     pub(crate) fn live_spec(&self, task: TaskId) -> Option<SpecReg>
         ensures { result ≡ live_in (seen_in self.now) task }
     {
-        let spec = self.spec(task)?;
-        if spec.withdrawn || !self.job_stands(spec.job) || self.is_done(task) {
+        let record = self.tasks.get(&task)?;
+        let Some(spec) = &record.0.0 else {
+            return None;
+        };
+        if spec.0.withdrawn || is_done(record.1.0.phase) || !self.job_stands(spec.0.job) {
             return None;
         }
-        Some(spec)
+        Some(spec.0)
+    }
+
+    /// Whether the task is live.
+    pub(crate) fn is_live(&self, task: TaskId) -> bool
+        ensures { result ≡ is_some (live_in (seen_in self.now) task) }
+    {
+        let Some(record) = self.tasks.get(&task) else {
+            return false;
+        };
+        match &record.0.0 {
+            Some(spec) => !spec.0.withdrawn
+                && !is_done(record.1.0.phase)
+                && self.job_stands(spec.0.job),
+            None => false,
+        }
     }
 
     /// The machines that the task prefers, while it waits; else none.
@@ -123,11 +144,9 @@ impl Seen {
     pub(crate) fn holder(&self, task: TaskId) -> Option<MachineId>
         ensures { result ≡ holder_in (seen_in self.now) task }
     {
-        if self.live_spec(task).is_none() {
-            return None;
-        }
+        // most tasks have no winner, and are not looked up again
         let spot = self.spots.get(&task)?;
-        if self.is_present(*spot) {
+        if self.is_present(*spot) && self.is_live(task) {
             Some(spot.machine)
         } else {
             None
@@ -151,8 +170,11 @@ impl Seen {
     fn is_present(&self, spot: Spot) -> bool
         ensures { result ≡ present_in (seen_in self.now) spot }
     {
-        match self.machines.get(&spot.machine) {
-            Some(record) => self.open_state(spot.machine).is_some() && record.0 == spot.incarnation,
+        let Some(record) = self.machines.get(&spot.machine) else {
+            return false;
+        };
+        match &record.1.0.0 {
+            Some(state) => state.0.up && record.0 == spot.incarnation,
             None => false,
         }
     }
@@ -163,19 +185,6 @@ impl Seen {
     {
         match self.jobs.get(&job) {
             Some(register) => !register.withdrawn,
-            None => false,
-        }
-    }
-
-    // Whether the task is done.
-    fn is_done(&self, task: TaskId) -> bool
-        ensures { result ≡ is_done (progress_in (seen_in self.now) task).phase }
-    {
-        match self.tasks.get(&task) {
-            Some(record) => match record.1.0.phase {
-                Phase::Pending | Phase::Running => false,
-                Phase::Done => true,
-            },
             None => false,
         }
     }

@@ -24,7 +24,7 @@ pub(crate) fn stands(seen: &Seen, index: &Index, node: &Node) -> bool
         Node::Sink => true,
         Node::Unscheduled(_) | Node::Request(_) => index.sum(node) != 0,
         Node::Machine(machine) => seen.open_state(*machine).is_some(),
-        Node::Task(task) => seen.live_spec(*task).is_some(),
+        Node::Task(task) => seen.is_live(*task),
     }
 }
 
