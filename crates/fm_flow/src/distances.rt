@@ -160,3 +160,22 @@ pub(crate) fn potentials_from(
     let potentials = turned_round(alloc, numbered.places.end, &costs)?;
     Ok(potentials)
 }
+
+/// As `potentials_from`, where what a unit costs from each node but the tasks is known. O(arcs).
+pub(crate) fn potentials_over(
+    alloc: Global,
+    numbered: &Numbered,
+    units: &[u64],
+    mut costs: Vec<i64>,
+) -> Result<Vec<i128>, OutOfMemory>
+    ensures sized { IfOk result (λ potentials. length potentials.items ≡ numbered.now.places.end) }
+    ensures small { IfOk result (λ potentials. AreBounded (2 ^ 64) (costs_in potentials.items)) }
+{
+    let places = &numbered.places;
+    take(
+        leaving(numbered, units, places.tasks, places.end),
+        &mut costs,
+    );
+    let potentials = turned_round(alloc, places.end, &costs)?;
+    Ok(potentials)
+}

@@ -3,6 +3,7 @@
 
 mod bits;
 mod distances;
+mod first;
 mod given;
 mod groups;
 mod kept;

@@ -1,18 +1,18 @@
 //! The solver.
 
-ghost use Rattle.std.specs.Prelude.{◌≡◌, IfOk, IfErr};
+ghost use Rattle.std.specs.Prelude.{◌≡◌, ◌^◌, length, IfOk, IfErr};
 ghost use Rattle.fm_certificate.specs.Built.{IsBuilt};
 ghost use Rattle.fm_certificate.specs.Flows.{units_in, IsLeast};
 ghost use Rattle.fm_certificate.specs.Certificates.{IsCertified};
-ghost use Rattle.fm_cycles.specs.Walks.{ArePotentials};
+ghost use Rattle.fm_cycles.specs.Walks.{ArePotentials, AreBounded};
 ghost use Rattle.fm_cycles.specs.Residual.{residual};
 ghost use Rattle.fm_cycles.specs.Found.{costs_in};
 ghost use Rattle.fm_numbered.specs.Numbered.{IsNumbered};
 ghost use Rattle.fm_numbered.specs.Feasible.{IsFlowOf};
 
-use crate::distances::potentials_from;
+use crate::first::first_flow;
 use crate::given::given_units;
-use crate::start::{resume, start};
+use crate::start::resume;
 use fm_certificate::flow::Flow;
 use fm_certificate::laws::law_least;
 use fm_certificate::potentials::Potentials;
@@ -28,7 +28,8 @@ use std::alloc::Global;
 
 /// A least flow of the network, and potentials that certify it. The caller owes a network that the policy can build.
 /// Refused memory and nothing else. A fast start places the tasks; then cycles of negative cost are cancelled until none is
-/// left.
+/// left. O(arcs log arcs), and what the start takes: some searches between requests for each class of tasks, or the pivots of a
+/// network simplex where tasks prefer machines.
 pub fn solve(alloc: Global, network: &Network) -> Result<(Flow, Potentials), Refusal>
     requires built { IsBuilt network.now }
     ensures certified { IfOk result (λ found. IsCertified network.now found.0 found.1) }
@@ -79,24 +80,26 @@ fn anew(
     network.known();
     law_unscheduled();
     law_least();
-    let first = start(alloc, numbered)?;
-    let (units, values) = least(alloc, numbered, first)?;
+    let (first, costs) = first_flow(alloc, numbered)?;
+    let (units, values) = least(alloc, numbered, first, costs)?;
     let found = certified(alloc, network, numbered, &units, &values)?;
     Ok(found)
 }
 
-// The flow, or one that cancelling makes of it, such that no cycle makes it cheaper, and potentials that show it. Where the
-// flow is least it is searched once, from numbers that most often are its potentials.
+// The flow, or one that cancelling makes of it, such that no cycle makes it cheaper, and potentials that show it. It is
+// searched once where the numbers are its potentials.
 fn least(
     alloc: Global,
     numbered: &Numbered,
     units: Vec<u64>,
+    first: Vec<i128>,
 ) -> Result<(Vec<u64>, Vec<i128>), OutOfMemory>
+    requires sized { length first.items ≡ numbered.now.places.end }
+    requires small { AreBounded (2 ^ 64) (costs_in first.items) }
     requires flow { IsFlowOf numbered.now.places numbered.now.arcs.items units.items }
     ensures flow { IfOk result (λ r. IsFlowOf numbered.now.places numbered.now.arcs.items r.0.items) }
     ensures potentials { IfOk result (λ r. ArePotentials (residual numbered.now.arcs.items r.0.items) (costs_in r.1.items)) }
 {
-    let first = potentials_from(alloc, numbered, &units)?;
     match search(alloc, numbered.places.end, &numbered.arcs, &units, first)? {
         Found::Potentials(potentials) => Ok((units, potentials)),
         Found::Cycle(_) => {

@@ -497,8 +497,8 @@ fn a_writer_fails_at_each_write_in_turn(rt: HostRuntime) -> Result<(), Fail> {
     Ok(())
 }
 
-/// What is known of the task that waits.
-pub(crate) fn known(alloc: Global) -> Result<Knowledge, Refusal> {
+// What is known of the task that waits.
+fn known(alloc: Global) -> Result<Knowledge, Refusal> {
     let mut known = Knowledge::empty(alloc);
     for op in [
         Op::Job {

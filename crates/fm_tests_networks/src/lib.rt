@@ -1,17 +1,11 @@
-//! Tests of networks, of what builds, edits, solves and writes them, and of plans, by public calls alone.
+//! Tests of networks, and of what builds, edits and writes them, by public calls alone.
 #![tactic(auto)]
 
-#[cfg(test)]
-mod certificate;
 #[cfg(test)]
 mod dimacs;
 #[cfg(test)]
 mod edit;
 #[cfg(test)]
-mod flow;
-#[cfg(test)]
 mod net;
 #[cfg(test)]
 mod policy;
-#[cfg(test)]
-mod round;

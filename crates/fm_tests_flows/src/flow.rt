@@ -1,10 +1,11 @@
-//! Small networks, and drawn ones: the first flow is least, and cancelling from all tasks unscheduled ends at its cost.
+//! Small networks, and drawn ones: the first flow of either start is least, and cancelling from all tasks unscheduled ends at its
+//! cost.
 
 ghost use Rattle.std.specs.Prelude.{IsTrue, IfOk};
 ghost use Rattle.fm_numbered.specs.Feasible.{IsFlowOf};
 ghost use Rattle.fm_numbered.specs.Unscheduled.{all_unscheduled};
 
-use crate::dimacs::known;
+use crate::round::{job as known_job, knowing, machine as known_machine, spec};
 use fm_certificate::cost::cost;
 use fm_cycles::search::{Found, search};
 use fm_flow::solve::{solve, solve_from};
@@ -21,6 +22,7 @@ use fm_numbered::unscheduled::unscheduled;
 use fm_policy::build::build;
 use fm_records::ids::{JobId, MachineId, TaskId};
 use fm_records::refusal::Refusal;
+use fm_simplex::simplex::simplex;
 use std::alloc::Global;
 use std::test::Fail;
 
@@ -90,17 +92,23 @@ fn asks(network: &mut Network, task: u128, request: u16) -> Result<(), OutOfMemo
     Ok(())
 }
 
-// A task's arc to the machine that holds it.
-fn held(network: &mut Network, task: u128, machine: u128) -> Result<(), OutOfMemory> {
+// A task's arc to a machine that it prefers, or that holds it.
+fn goes(network: &mut Network, task: u128, machine: u128, cost: u16) -> Result<(), OutOfMemory> {
+    let cost = u32::from(cost);
     network.put_node(Node::Task(TaskId::new(task)))?;
     network.put_node(Node::Machine(MachineId::new(machine)))?;
     network.put_arc(
         Node::Task(TaskId::new(task)),
         Node::Machine(MachineId::new(machine)),
         1,
-        0,
+        cost,
     )?;
     Ok(())
+}
+
+// A task's arc to the machine that holds it.
+fn held(network: &mut Network, task: u128, machine: u128) -> Result<(), OutOfMemory> {
+    goes(network, task, machine, 0)
 }
 
 // What the units cost.
@@ -319,6 +327,50 @@ fn the_search_finds_no_cycle_after_the_start(rt: HostRuntime) -> Result<(), Fail
     Ok(())
 }
 
+// A network as drawn, in which tasks have up to three arcs to machines beside their own.
+fn drawn_preferring(
+    alloc: Global,
+    first: u64,
+    machines: u64,
+    tasks: u64,
+) -> Result<Network, OutOfMemory> {
+    let mut network = drawn(alloc, first, machines, tasks)?;
+    let mut seed = first;
+    for number in 0..tasks {
+        for _ in 0..draw(&mut seed) % 4 {
+            let machine = u64::from(draw(&mut seed)) % machines.max(1);
+            let cost = draw(&mut seed);
+            goes(&mut network, u128::from(number), u128::from(machine), cost)?;
+        }
+    }
+    Ok(network)
+}
+
+// What the flow costs that the simplex ends at, where it is a least flow.
+fn pivoted(alloc: Global, network: &Network) -> Result<Option<u128>, OutOfMemory> {
+    let numbered = Numbered::of(alloc, network)?;
+    let Some((units, _costs)) = simplex(alloc, &numbered)? else {
+        return Ok(None);
+    };
+    let is_least = is_least(alloc, &numbered, &units)?;
+    Ok(is_least.then_some(total(&numbered, &units)))
+}
+
+#[test]
+fn the_simplex_ends_at_a_least_flow(rt: HostRuntime) -> Result<(), Fail> {
+    let alloc = rt.alloc();
+    assert!(rt; pivoted(alloc, &Network::new(alloc)?)? == Some(0));
+    assert!(rt; pivoted(alloc, &one_held(alloc)?)? == Some(0));
+    assert!(rt; pivoted(alloc, &contended(alloc)?)? == Some(180));
+    assert!(rt; pivoted(alloc, &moved_aside(alloc)?)? == Some(330));
+    for seed in 1..=8u64 {
+        let network = drawn_preferring(alloc, seed, 8, 40)?;
+        let cost = pivoted(alloc, &network)?;
+        assert!(rt; cost.is_some() && cost == cancelled(alloc, &network)?);
+    }
+    Ok(())
+}
+
 // Whether an earlier flow that is least is kept as it is, and one of other units comes to no other cost.
 fn is_taken_over(alloc: Global, network: &Network) -> Result<bool, OutOfMemory> {
     let numbered = Numbered::of(alloc, network)?;
@@ -368,7 +420,8 @@ fn cost_again(alloc: Global, known: &Knowledge) -> Result<u128, Refusal> {
 
 #[test]
 fn a_flow_is_solved_from_an_earlier_one(rt: HostRuntime) -> Result<(), Fail> {
-    let known = known(rt.alloc())?;
+    let ops = [known_job(500, 800), known_machine(10, 2), spec(17, 100)];
+    let known = knowing(rt.alloc(), &ops)?;
     assert_eq!(rt; cost_again(rt.alloc(), &known)?, 100);
     Ok(())
 }

@@ -24,7 +24,7 @@ const FIRST: u128 = 0x11;
 
 const SECOND: u128 = 0x12;
 
-fn job(wait: u32, preempt: u32) -> Op {
+pub(crate) fn job(wait: u32, preempt: u32) -> Op {
     Op::Job {
         id: JobId::new(JOB),
         version: 1,
@@ -35,7 +35,7 @@ fn job(wait: u32, preempt: u32) -> Op {
     }
 }
 
-fn machine(id: u128, slots: u32) -> Op {
+pub(crate) fn machine(id: u128, slots: u32) -> Op {
     Op::Machine {
         id: MachineId::new(id),
         incarnation: 1,
@@ -47,7 +47,7 @@ fn machine(id: u128, slots: u32) -> Op {
     }
 }
 
-fn spec(id: u128, request: u32) -> Op {
+pub(crate) fn spec(id: u128, request: u32) -> Op {
     Op::Spec {
         id: TaskId::new(id),
         version: 1,
@@ -115,7 +115,7 @@ fn tell(alloc: Global, known: &mut Knowledge, ops: &[Op]) -> Result<(), Fail> {
     Ok(())
 }
 
-fn knowing(alloc: Global, ops: &[Op]) -> Result<Knowledge, Fail> {
+pub(crate) fn knowing(alloc: Global, ops: &[Op]) -> Result<Knowledge, Fail> {
     let mut known = Knowledge::empty(alloc);
     tell(alloc, &mut known, ops)?;
     Ok(known)

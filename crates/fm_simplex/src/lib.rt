@@ -1,0 +1,11 @@
+//! Network simplex on a network by numbers, of which tasks alike are one link: a start that is fast where tasks prefer
+//! machines.
+#![tactic(auto)]
+
+mod alike;
+mod contracted;
+mod link;
+mod pivots;
+pub mod simplex;
+mod spread;
+mod tree;

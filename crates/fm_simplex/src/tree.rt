@@ -1,0 +1,195 @@
+//! The tree of the simplex: each node but the sink hangs on another by one link, and each has a potential.
+
+use crate::contracted::Contracted;
+use crate::link::Link;
+use fm_lattice::join::OutOfMemory;
+use std::alloc::Global;
+
+/// How a node hangs on the tree. The sink, 0, is the root and nobody's child, so 0 stands for no child and no sibling too.
+#[derive(Debug, Clone, Copy, PartialEq, Eq, Drop)]
+pub(crate) struct Knot {
+    pub(crate) parent: usize,
+    /// The link between the node and its parent.
+    pub(crate) link: usize,
+    pub(crate) depth: usize,
+    /// The node's first child, and its siblings.
+    child: usize,
+    next: usize,
+    previous: usize,
+}
+
+/// The tree.
+#[derive(Debug, Drop)]
+pub(crate) struct Tree {
+    pub(crate) knots: Vec<Knot>,
+    /// With the potentials of its ends a link of the tree costs nothing.
+    pub(crate) potentials: Vec<i64>,
+    /// The nodes whose children are still to follow them, in one walk down the tree.
+    below: Vec<usize>,
+}
+
+// A node that hangs on nothing.
+const LOOSE: Knot = Knot {
+    parent: 0,
+    link: 0,
+    depth: 0,
+    child: 0,
+    next: 0,
+    previous: 0,
+};
+
+impl Tree {
+    /// The tree that the contracted network begins with.
+    pub(crate) fn new(alloc: Global, contracted: &Contracted) -> Result<Self, OutOfMemory> {
+        let mut tree = Tree {
+            knots: vec![in alloc; LOOSE; contracted.nodes]?,
+            potentials: vec![in alloc; 0i64; contracted.nodes]?,
+            below: Vec::new(alloc),
+        };
+        for number in contracted.trunks.iter().chain(contracted.branches.iter()) {
+            if let Some(link) = contracted.links.get(*number) {
+                tree.hang(link.from, link.to, *number);
+                tree.put_potential(link.from, tree.over(link, link.from));
+            }
+        }
+        Ok(tree)
+    }
+
+    /// How a node hangs on the tree.
+    pub(crate) fn knot(&self, node: usize) -> Knot {
+        self.knots.get(node).copied().unwrap_or(LOOSE)
+    }
+
+    /// The potential of a node.
+    pub(crate) fn potential(&self, node: usize) -> i64 {
+        self.potentials.get(node).copied().unwrap_or(0)
+    }
+
+    /// What a link costs with the potentials of its ends.
+    pub(crate) fn reduced(&self, link: &Link) -> i64 {
+        link.cost
+            .saturating_add(self.potential(link.from))
+            .saturating_sub(self.potential(link.to))
+    }
+
+    // The potential that a node has where it hangs on the other end of a link.
+    fn over(&self, link: &Link, node: usize) -> i64 {
+        if link.from == node {
+            self.potential(link.to).saturating_sub(link.cost)
+        } else {
+            self.potential(link.from).saturating_add(link.cost)
+        }
+    }
+
+    // Sets the potential of a node.
+    fn put_potential(&mut self, node: usize, potential: i64) {
+        if let Some(there) = self.potentials.get_mut(node) {
+            *there = potential;
+        }
+    }
+
+    // Makes a node the first child of another.
+    fn hang(&mut self, node: usize, parent: usize, link: usize) {
+        let above = self.knot(parent);
+        if let (Some(first), true) = (self.knots.get_mut(above.child), above.child > 0) {
+            first.previous = node;
+        }
+        if let Some(knot) = self.knots.get_mut(node) {
+            knot.parent = parent;
+            knot.link = link;
+            knot.depth = above.depth.saturating_add(1);
+            knot.next = above.child;
+            knot.previous = 0;
+        }
+        if let Some(knot) = self.knots.get_mut(parent) {
+            knot.child = node;
+        }
+    }
+
+    // Takes a node away from its parent.
+    fn cut(&mut self, node: usize) {
+        let knot = self.knot(node);
+        if knot.previous > 0 {
+            if let Some(previous) = self.knots.get_mut(knot.previous) {
+                previous.next = knot.next;
+            }
+        } else if let Some(parent) = self.knots.get_mut(knot.parent) {
+            parent.child = knot.next;
+        }
+        if let (Some(next), true) = (self.knots.get_mut(knot.next), knot.next > 0) {
+            next.previous = knot.previous;
+        }
+    }
+
+    /// Hangs a node on another by the link, and turns the way from it up to the last node round, which hung on the tree's
+    /// other part before. The potentials of all below follow.
+    pub(crate) fn turn(
+        &mut self,
+        node: usize,
+        last: usize,
+        parent: usize,
+        number: usize,
+        link: &Link,
+    ) -> Result<(), OutOfMemory> {
+        let shift = self.over(link, node).saturating_sub(self.potential(node));
+        let mut below = (node, parent, number);
+        for _ in 0..self.knots.len() {
+            let (lower, upper, by) = below;
+            let knot = self.knot(lower);
+            self.cut(lower);
+            self.hang(lower, upper, by);
+            if lower == last {
+                break;
+            }
+            below = (knot.parent, lower, knot.link);
+        }
+        self.shift(node, shift)
+    }
+
+    // Adds to the potentials of a node and all below it, and counts their depths anew.
+    fn shift(&mut self, node: usize, by: i64) -> Result<(), OutOfMemory> {
+        let depth = self.knot(self.knot(node).parent).depth;
+        self.lift(node, depth.saturating_add(1), by);
+        self.below.clear();
+        self.below.push(node)?;
+        for _ in 0..self.knots.len() {
+            let Some(next) = self.below.pop() else {
+                break;
+            };
+            self.shift_children(next, by)?;
+        }
+        Ok(())
+    }
+
+    // Adds to the potentials of a node's children, and leaves those that have children to be gone on with.
+    fn shift_children(&mut self, node: usize, by: i64) -> Result<(), OutOfMemory> {
+        let parent = self.knot(node);
+        let depth = parent.depth.saturating_add(1);
+        let mut child = parent.child;
+        for _ in 0..self.knots.len() {
+            if child == 0 {
+                break;
+            }
+            let knot = self.lift(child, depth, by);
+            if knot.child > 0 {
+                self.below.push(child)?;
+            }
+            child = knot.next;
+        }
+        Ok(())
+    }
+
+    // Sets the depth of a node, adds to its potential, and answers how it hangs.
+    fn lift(&mut self, node: usize, depth: usize, by: i64) -> Knot {
+        if let Some(potential) = self.potentials.get_mut(node) {
+            *potential = potential.saturating_add(by);
+        }
+        match self.knots.get_mut(node) {
+            Some(knot) => {
+                knot.depth = depth;
+                *knot
+            }
+            None => LOOSE,
+        }
+    }
+}
