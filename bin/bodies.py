@@ -1,0 +1,107 @@
+"""Wrong bodies: the edits of must-fail/ and wrong-bodies/, read, laid side by side and found again in what a check says."""
+import re
+
+
+class Edit:
+    """A wrong body: texts to be replaced, each by a file of the crate."""
+
+    def __init__(self, path):
+        self.path, self.name, self.pairs = path, path.stem, []
+        file = old = None
+        for line in path.read_text().split("\n"):
+            if line.startswith("file: "):
+                file = line[len("file: ") :].strip()
+            elif line.startswith("old: "):
+                old = line[len("old: ") :]
+            elif line.startswith("new:") and file and old:
+                self.pairs.append((file, old, line[len("new:") :].removeprefix(" ")))
+                old = None
+
+    def applied(self, texts):
+        """The texts by their files, with this edit in them; None where it does not fit."""
+        changed = dict(texts)
+        for file, old, new in self.pairs:
+            if file not in changed or changed[file].count(old) != 1:
+                return None
+            changed[file] = changed[file].replace(old, new)
+        return changed if self.pairs else None
+
+    def places(self, texts):
+        """The functions that it changes, as (file, first line, last line); None where one of its places is in none."""
+        found = set()
+        for file, old, _ in self.pairs:
+            if file not in texts or texts[file].count(old) != 1:
+                return None
+            text = texts[file]
+            at = text[: text.index(old)].count("\n")
+            place = function_around(text.split("\n"), at)
+            if place is None or at + old.count("\n") > place[1]:
+                return None
+            found.add((file, *place))
+        return found
+
+
+def function_around(lines, at):
+    """The first and the last line of the function that the line stands in, counted from 0."""
+    for first in range(at, -1, -1):
+        head = re.match(r"( *)(pub(\([a-z]+\))? )?(const )?fn ", lines[first])
+        if head:
+            end = head[1] + "}"
+            last = next((i for i in range(first, len(lines)) if lines[i] == end), None)
+            return (first, last) if last is not None and at <= last else None
+    return None
+
+
+def name_of(place, texts):
+    """The name that a check gives the function of a place, below its crate: `module::Type::name`, or `module::TypeTrait::name`."""
+    file, first, _ = place
+    lines = texts[file].split("\n")
+    parts = [part for part in file.removeprefix("src/").removesuffix(".rt").split("/") if part not in ("lib", "main", "mod")]
+    if lines[first].startswith(" "):
+        head = next((line for line in reversed(lines[:first]) if re.match(r"(impl|pub trait|trait)\b", line)), "")
+        bare = re.sub(r"<[^<>]*>", "", re.sub(r"<[^<>]*>", "", head.replace("->", "")))
+        words = re.sub(r"^(pub )?(impl|trait)\b|\b(where|\{).*", "", bare).strip(" {").split(" for ")
+        parts.append("".join(word.split("::")[-1].strip() for word in reversed(words)))
+    return "::".join([*parts, re.search(r"\bfn (\w+)", lines[first])[1]])
+
+
+def texts_of(folder):
+    """The texts of a crate's folder that an edit can name, by their files."""
+    files = [file for part in ("src", "specs", "proofs") for file in (folder / part).rglob("*") if file.is_file()]
+    return {str(file.relative_to(folder)): file.read_text() for file in files}
+
+
+def rounds(edits, texts):
+    """Edits that can stand side by side, round by round, each with its places, and those that have to be tried alone."""
+    alone, made = [], []
+    for edit in edits:
+        places = edit.places(texts)
+        if places is None or edit.applied(texts) is None:
+            alone.append(edit)
+            continue
+        for group in made:
+            if not any(places & taken for _, taken in group):
+                group.append((edit, places))
+                break
+        else:
+            made.append([(edit, places)])
+    return made, alone
+
+
+def laid(group, texts):
+    """The texts with every edit of the group in them."""
+    for edit, _ in group:
+        texts = edit.applied(texts) or texts
+    return texts
+
+
+def complaints(said):
+    """The places of the sources of which a check says that something there is not proved, with what it says."""
+    found = re.findall(r"^(?:note: )?(?:\./)?(src/\S+?):(\d+):(\d+): (?:error: )?(.*)", said, re.MULTILINE)
+    return [(file, int(line) - 1, f"{file}:{line}:{column}: {text}") for file, line, column, text in found if "not proved" in text]
+
+
+def complaint_in(places, where):
+    """What a check says of one of these functions; None where it says nothing of them."""
+    inside = lambda its, line: any(file == its and first <= line <= last for file, first, last in places)
+    return next((text for its, line, text in where if inside(its, line)), None)
