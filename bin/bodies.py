@@ -101,7 +101,16 @@ def complaints(said):
     return [(file, int(line) - 1, f"{file}:{line}:{column}: {text}") for file, line, column, text in found if "not proved" in text]
 
 
-def complaint_in(places, where):
-    """What a check says of one of these functions; None where it says nothing of them."""
-    inside = lambda its, line: any(file == its and first <= line <= last for file, first, last in places)
-    return next((text for its, line, text in where if inside(its, line)), None)
+def answers_refused(said):
+    """The functions, by name, of whose own answers a check refuses one, with what it says. An answer that names what an edit
+    took away says nothing of the contract."""
+    found = re.findall(r"^(?:\./)?proofs/(\S+)/(\w+\.antt:\d+:\d+: error: .*)", said, re.MULTILINE)
+    names = re.compile(r"has no field|is not in scope|has no `|was not admitted")
+    return {folder.replace("/", "::"): f"proofs/{folder}/{text}" for folder, text in found if not names.search(text)}
+
+
+def complaint_of(places, texts, said):
+    """What a check says of one of these functions; None where it refuses none of them for itself."""
+    where, answers = complaints(said), answers_refused(said)
+    inside = (text for its, line, text in where if any(file == its and first <= line <= last for file, first, last in places))
+    return next(inside, None) or next((answers[name] for name in (name_of(it, texts) for it in places) if name in answers), None)
