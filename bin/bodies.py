@@ -53,16 +53,17 @@ def function_around(lines, at):
 
 
 def name_of(place, texts):
-    """The name that a check gives the function of a place, below its crate: `module::Type::name`, or `module::TypeTrait::name`."""
+    """The name by which a check knows the function of a place: its path, as `module::name`, or of a method the end of it, as
+    `Type::name` or `TypeTrait::name`, since the path is that of the type."""
     file, first, _ = place
     lines = texts[file].split("\n")
-    parts = [part for part in file.removeprefix("src/").removesuffix(".rt").split("/") if part not in ("lib", "main", "mod")]
-    if lines[first].startswith(" "):
-        head = next((line for line in reversed(lines[:first]) if re.match(r"(impl|pub trait|trait)\b", line)), "")
-        bare = re.sub(r"<[^<>]*>", "", re.sub(r"<[^<>]*>", "", head.replace("->", "")))
-        words = re.sub(r"^(pub )?(impl|trait)\b|\b(where|\{).*", "", bare).strip(" {").split(" for ")
-        parts.append("".join(word.split("::")[-1].strip() for word in reversed(words)))
-    return "::".join([*parts, re.search(r"\bfn (\w+)", lines[first])[1]])
+    name = re.search(r"\bfn (\w+)", lines[first])[1]
+    if not lines[first].startswith(" "):
+        return "::".join([part for part in re.split("/", file[len("src/") : -len(".rt")]) if part not in ("lib", "main")] + [name])
+    head = next((line for line in reversed(lines[:first]) if re.match(r"(pub )?(impl|trait)\b", line)), "")
+    bare = re.sub(r"<[^<>]*>", "", re.sub(r"<[^<>]*>", "", head.replace("->", "")))
+    words = re.sub(r"^(pub )?(impl|trait)\b|\b(where|\{).*", "", bare).strip(" {").split(" for ")
+    return "".join(word.split("::")[-1].strip() for word in reversed(words)) + "::" + name
 
 
 def texts_of(folder):
@@ -106,11 +107,15 @@ def answers_refused(said):
     took away says nothing of the contract."""
     found = re.findall(r"^(?:\./)?proofs/(\S+)/(\w+\.antt:\d+:\d+: error: .*)", said, re.MULTILINE)
     names = re.compile(r"has no field|is not in scope|has no `|was not admitted")
-    return {folder.replace("/", "::"): f"proofs/{folder}/{text}" for folder, text in found if not names.search(text)}
+    return {re.sub(r"/\+?", "::", folder): f"proofs/{folder}/{text}" for folder, text in found if not names.search(text)}
 
 
 def complaint_of(places, texts, said):
     """What a check says of one of these functions; None where it refuses none of them for itself."""
     where, answers = complaints(said), answers_refused(said)
     inside = (text for its, line, text in where if any(file == its and first <= line <= last for file, first, last in places))
-    return next(inside, None) or next((answers[name] for name in (name_of(it, texts) for it in places) if name in answers), None)
+    names = [name_of(place, texts) for place in places]
+    own = (text for path, text in answers.items() if any(("::" + path).endswith("::" + name) for name in names))
+    # what only rests on a function that is refused has another line
+    lines = (line for line in re.findall(r"^fn \S+: not proved$", said, re.MULTILINE) if any(line.endswith(f"::{name}: not proved") for name in names))
+    return next(inside, None) or next(own, None) or next(lines, None)
