@@ -99,7 +99,7 @@ def laid(group, texts):
 def complaints(said):
     """The places of the sources of which a check says that something there is not proved, with what it says."""
     found = re.findall(r"^(?:note: )?(?:\./)?(src/\S+?):(\d+):(\d+): (?:error: )?(.*)", said, re.MULTILINE)
-    return [(file, int(line) - 1, f"{file}:{line}:{column}: {text}") for file, line, column, text in found if "not proved" in text]
+    return [(file, int(line) - 1, f"{file}:{line}:{column}: {text}") for file, line, column, text in found if re.search("not proved|found no proof", text)]
 
 
 def answers_refused(said):
