@@ -110,10 +110,20 @@ def answers_refused(said):
     return {re.sub(r"/\+?", "::", folder): f"proofs/{folder}/{text}" for folder, text in found if not names.search(text)}
 
 
+def with_attributes(place, texts):
+    """The place of a function with the attributes above it, which a check may name for it."""
+    file, first, last = place
+    lines = texts[file].split("\n")
+    while first and lines[first - 1].lstrip().startswith("#["):
+        first -= 1
+    return file, first, last
+
+
 def complaint_of(places, texts, said):
     """What a check says of one of these functions; None where it refuses none of them for itself."""
     where, answers = complaints(said), answers_refused(said)
-    inside = (text for its, line, text in where if any(file == its and first <= line <= last for file, first, last in places))
+    whole = [with_attributes(place, texts) for place in places]
+    inside = (text for its, line, text in where if any(file == its and first <= line <= last for file, first, last in whole))
     names = [name_of(place, texts) for place in places]
     own = (text for path, text in answers.items() if any(("::" + path).endswith("::" + name) for name in names))
     # what only rests on a function that is refused has another line
