@@ -59,7 +59,7 @@ def name_of(place, texts):
     lines = texts[file].split("\n")
     name = re.search(r"\bfn (\w+)", lines[first])[1]
     if not lines[first].startswith(" "):
-        return "::".join([part for part in re.split("/", file[len("src/") : -len(".rt")]) if part not in ("lib", "main")] + [name])
+        return "::".join([part for part in file[len("src/") : -len(".rt")].split("/") if part not in ("lib", "main")] + [name])
     head = next((line for line in reversed(lines[:first]) if re.match(r"(pub )?(impl|trait)\b", line)), "")
     bare = re.sub(r"<[^<>]*>", "", re.sub(r"<[^<>]*>", "", head.replace("->", "")))
     words = re.sub(r"^(pub )?(impl|trait)\b|\b(where|\{).*", "", bare).strip(" {").split(" for ")
@@ -126,6 +126,4 @@ def complaint_of(places, texts, said):
     inside = (text for its, line, text in where if any(file == its and first <= line <= last for file, first, last in whole))
     names = [name_of(place, texts) for place in places]
     own = (text for path, text in answers.items() if any(("::" + path).endswith("::" + name) for name in names))
-    # what only rests on a function that is refused has another line
-    lines = (line for line in re.findall(r"^fn \S+: not proved$", said, re.MULTILINE) if any(line.endswith(f"::{name}: not proved") for name in names))
-    return next(inside, None) or next(own, None) or next(lines, None)
+    return next(inside, None) or next(own, None)
