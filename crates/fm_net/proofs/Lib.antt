@@ -7,3 +7,4 @@ pub mod Touches
 pub mod Made
 pub mod Shown
 pub mod Copied
+pub mod Refilled

@@ -23,10 +23,10 @@ module _ {K : Type 0} (cmp : K → K → Ordering) where
   rising_said [] h = tt
   rising_said (e ∷ es) h = (below e.0 es h.0, rising_said es h.1)
 
-place_is : (p q : ℕ) → Some p ≡ Some q → p ≡ q
+pub place_is : (p q : ℕ) → Some p ≡ Some q → p ≡ q
 place_is p q e = cc
 
-no_place : {P : Type 0} (p : ℕ) → None ≡ Some p → P
+pub no_place : {P : Type 0} (p : ℕ) → None ≡ Some p → P
 no_place p e = absurd (let no : ⊥ = cc in no)
 
 pub same_key : {K V : Type 0} (a : K × V) (k : K) (v : V) → Some a ≡ Some (k, v) → a.0 ≡ k
@@ -42,7 +42,7 @@ pub record CellIs {K V : Type 0} (at new : ℕ → Option (K × V)) (p : ℕ) (o
   pub changed : new p ≡ o
   pub others : (q : ℕ) → q ≢ p → new q ≡ at q
 
-no_some : {P K V : Type 0} (e : K × V) → Some e ≡ None → P
+pub no_some : {P K V : Type 0} (e : K × V) → Some e ≡ None → P
 no_some e is = absurd (let no : ⊥ = cc in no)
 
 -- no key has this place
@@ -54,10 +54,6 @@ module _ {K : Type 0} (cmp : K → K → Ordering) (total : IsTotalOrder cmp) wh
   below_less : (k q : K) (es : List (K × ℕ)) → cmp k q ≡ Less → IsBelow cmp q es → IsBelow cmp k es
   below_less k q [] e b = tt
   below_less k q (x ∷ es) e b = (total.trans k q x.0 e b.0, below_less k q es e b.1)
-
-  below_tied : (k q : K) (es : List (K × ℕ)) → cmp k q ≡ Equal → IsBelow cmp q es → IsBelow cmp k es
-  below_tied k q [] e b = tt
-  below_tied k q (x ∷ es) e b = (total.congr k q x.0 e ∙ b.0, below_tied k q es e b.1)
 
   not_below : (k : K) (es : List (K × ℕ)) → IsBelow cmp k es → lookup cmp k es ≡ None
   not_below k [] b = refl
@@ -115,16 +111,6 @@ module _ {K V : Type 0} (cmp : K → K → Ordering) (total : IsTotalOrder cmp) 
       (λ _ t h. record { key = x.0; value = c.0.0; cell = ap at (sym (place_is x.1 p h)) ∙ c.0.1; tied = t })
       (λ _ _ h. rest h)
       refl e
-
-  -- a key that is not tied to the one found has another place
-  pub not_found : (at : ℕ → Option (K × V)) (k : K) (q : ℕ) (f : Found at k q) (x : K × ℕ) (v : V) → at x.1 ≡ Some (x.0, v) → ¬ (cmp k x.0 ≡ Equal) → x.1 ≢ q
-  not_found at k q f x v c untied is =
-      let pair : (x.0, v) ≡ (f.key, f.value) = inside (x.0, v) (f.key, f.value) (sym c ∙ ap at is ∙ f.cell) in
-      untied (ap (cmp k) (ap (λ (z : K × V). z.0) pair) ∙ f.tied)
-
-  pub none_found : (at : ℕ → Option (K × V)) (k : K) (q : ℕ) (f : Found at k q) (es : List (K × ℕ)) → IsBelow cmp k es → EachHasCell at es → IsNoPlace q es
-  none_found at k q f [] b c = tt
-  none_found at k q f (x ∷ es) b c = (not_found at k q f x c.0.0 c.0.1 (λ t. let no : Less ≡ Equal = sym b.0 ∙ t in cc), none_found at k q f es b.1 c.1)
 
   pub length_shown : (at : ℕ → Option (K × V)) (es : List (K × ℕ)) → EachHasCell at es → length (shown at es) ≡ length es
   length_shown at [] c = refl
@@ -184,30 +170,15 @@ module _ {K V : Type 0} (cmp : K → K → Ordering) (total : IsTotalOrder cmp) 
           (λ t. let is = same k x.0 t in rw (filled, tail) (λ i. (is i, v) ∷ shown at es))
           (λ _. rw (here, rest) refl))
 
-      -- the cell that the key had before is of no key then
-      module _ (q : ℕ) (f : Found at k q) where
-        new_place : p ≢ q
-        new_place is = some_none (f.key, f.value) (sym f.cell ∙ sym (ap at is) ∙ vacant)
-
-        pub no_former : (es : List (K × ℕ)) → IsRising cmp es → EachHasCell at es → IsNoPlace q (insert_entry cmp es k p)
-        no_former [] r c = (new_place, tt)
-        no_former (x ∷ es) r c =
-            let rest = no_former es r.1 c.1 in
-            by_cases (cmp k x.0) (λ o. cmp k x.0 ≡ o → IsNoPlace q (match_ordering o ((k, p) ∷ x ∷ es) ((x.0, p) ∷ es) (x ∷ insert_entry cmp es k p)))
-            (λ _ l. (new_place, (not_found at k q f x c.0.0 c.0.1 (λ t. let no : Less ≡ Equal = sym l ∙ t in cc), none_found at k q f es (below_less cmp total k x.0 es l r.0) c.1)))
-            (λ _ t. (new_place, none_found at k q f es (below_tied cmp total k x.0 es t r.0) c.1))
-            (λ _ g. (not_found at k q f x c.0.0 c.0.1 (λ t. let no : Greater ≡ Equal = sym g ∙ t in cc), rest))
-            refl
-
     -- a key whose cell is emptied
     module _ (k : K) (f : Found at k p) where
-      less_not : {P : Type 0} (x : K × ℕ) (es : List (K × ℕ)) → IsRising cmp (x ∷ es) → cmp k x.0 ≡ Less → lookup cmp k es ≡ Some p → P
+      pub less_not : {P : Type 0} (x : K × ℕ) (es : List (K × ℕ)) → IsRising cmp (x ∷ es) → cmp k x.0 ≡ Less → lookup cmp k es ≡ Some p → P
       less_not x es r l h = no_place p (sym (not_below cmp total k es (below_less cmp total k x.0 es l r.0)) ∙ h)
 
       key_here : (x : K × ℕ) (v : V) → at x.1 ≡ Some (x.0, v) → x.1 ≡ p → x.0 ≡ f.key
       key_here x v c is = ap (λ (z : K × V). z.0) (inside (x.0, v) (f.key, f.value) (sym c ∙ ap at is ∙ f.cell))
 
-      greater_not : (x : K × ℕ) (v : V) → at x.1 ≡ Some (x.0, v) → cmp k x.0 ≡ Greater → x.1 ≢ p
+      pub greater_not : (x : K × ℕ) (v : V) → at x.1 ≡ Some (x.0, v) → cmp k x.0 ≡ Greater → x.1 ≢ p
       greater_not x v c g is = let no : Greater ≡ Equal = sym g ∙ ap (cmp k) (key_here x v c is) ∙ f.tied in cc
 
       pub cells_emptied : (es : List (K × ℕ)) → IsRising cmp es → EachHasCell at es → lookup cmp k es ≡ Some p → EachHasCell new (remove_entry (is_at (cmp k)) es)
@@ -242,44 +213,6 @@ module _ {K V : Type 0} (cmp : K → K → Ordering) (total : IsTotalOrder cmp) 
 
   pub put_shown : shown new after ≡ put cmp replaced k v (shown at es)
   put_shown = ap (shown new) is ∙ shown_put cmp total at new p u.others same k v vacant u.changed es a.cells
-
-  -- the cell that the key had before was emptied then
-  module _ (q : ℕ) (was : lookup cmp k es ≡ Some q) where
-    former : Found cmp total at k q
-    former = found cmp total at k q es a.cells was
-
-    apart : q ≢ p
-    apart e = no_some (former.key, former.value) (sym former.cell ∙ ap at e ∙ vacant)
-
-    pub former_stands : IsSome (new q)
-    former_stands = rw (u.others q apart ∙ former.cell) refl
-
-    pub former_value : (e : K × V) → new q ≡ Some e → Some e.1 ≡ lookup cmp k (shown at es)
-    former_value e c = ap (option_map (λ z. z.1)) (sym c ∙ u.others q apart) ∙ ap (value_in at) (sym was) ∙ sym (shown_at cmp total at k es a.cells)
-
-    module _ (last : ℕ → Option (K × V)) (gone : CellIs new last q None) where
-      nowhere : IsNoPlace q after
-      nowhere = subst (IsNoPlace q) (sym is) (no_former cmp total at new p u.others same k v vacant u.changed q former es a.rising a.cells)
-
-      pub replaced_in_cells : IsRising cmp after → AreInCells cmp last after
-      replaced_in_cells r = record { rising = r; cells = still cmp total new last q gone.others after nowhere (put_in_cells r).cells }
-
-      pub replaced_shown : shown last after ≡ put cmp replaced k v (shown at es)
-      replaced_shown = shown_still cmp total new last q gone.others after nowhere ∙ put_shown
-
--- a pair was put into a cell that was empty, and taken out again
-module _ {K V : Type 0} (cmp : K → K → Ordering) (total : IsTotalOrder cmp) (at new last : ℕ → Option (K × V)) (p : ℕ) (o : Option (K × V)) (es : List (K × ℕ)) (a : AreInCells cmp at es) (u : CellIs at new p o) (vacant : at p ≡ None) (gone : CellIs new last p None) where
-  back : (q : ℕ) → q ≢ p → last q ≡ at q
-  back q e = gone.others q e ∙ u.others q e
-
-  unused : IsNoPlace p es
-  unused = no_key cmp total at p es vacant a.cells
-
-  pub undone_in_cells : AreInCells cmp last es
-  undone_in_cells = record { rising = a.rising; cells = still cmp total at last p back es unused a.cells }
-
-  pub undone_shown : shown last es ≡ shown at es
-  undone_shown = shown_still cmp total at last p back es unused
 
 -- a pair was taken out of its cell and of the index
 module _ {K V : Type 0} (cmp : K → K → Ordering) (total : IsTotalOrder cmp) (at new : ℕ → Option (K × V)) (p : ℕ) (k : K) (es after : List (K × ℕ)) (a : AreInCells cmp at es) (was : lookup cmp k es ≡ Some p) where

@@ -1,6 +1,6 @@
 //! Pairs in cells, with an index by their keys.
 
-ghost use Rattle.std.specs.Prelude.{◌≡◌, ◌<◌, ◌^◌, ◌&&◌, [], length, is_some, IfOk, OnOk, OnErr};
+ghost use Rattle.std.specs.Prelude.{◌≡◌, ◌<◌, ◌^◌, ◌&&◌, [], length, is_some, option_map, IfOk, OnOk, OnErr};
 ghost use Rattle.std.specs.Iterator.{YieldsFirst, item_count};
 ghost use Rattle.std.specs.Map.{remove_entry};
 ghost use Rattle.std.specs.BTreeMap.{is_at};
@@ -63,8 +63,8 @@ impl<K: Ord + Copy, V: Copy> Cells<K, V> {
         self.places.contains_key(key)
     }
 
-    /// Puts the value at the key in place of one that stood there, and answers what stood there. The index is searched once:
-    /// the pair gets a cell of its own, and a cell that the key had before is emptied then.
+    /// Puts the value at the key in place of one that stood there, and answers what stood there. The index is searched once: it
+    /// tells the cell that the key has, which is filled again, or takes the next empty cell for it.
     /// After a refusal of memory all is as it was. O(log n).
     pub(crate) fn put(&mut self, key: K, value: V) -> Result<Option<V>, OutOfMemory>
         requires { TellsApart K.cmp }
@@ -72,15 +72,12 @@ impl<K: Ord + Copy, V: Copy> Cells<K, V> {
         ensures stood { IfOk result (λ old. old ≡ lookup K.cmp key self.old) }
         ensures err { OnErr result (self.new ≡ self.old) }
     {
-        let place = self.cells.insert((key, value))?;
-        match self.places.insert(key, place) {
-            Ok(Some(former)) => Ok(Some(self.cells.remove(former).1)),
-            Ok(None) => Ok(None),
-            Err(_) => {
-                self.cells.remove(place);
-                Err(OutOfMemory)
-            }
-        }
+        self.cells.reserve(1)?;
+        let next = self.cells.vacant_key();
+        let place = *self.places.entry(key)?.or_insert(next);
+        let former = self.cells.try_remove(place);
+        self.cells.insert_reserved((key, value));
+        Ok(value_of(former))
     }
 
     /// Takes the pair at the key out, and answers its value, if it was there. O(log n).
@@ -176,6 +173,16 @@ impl<'a, K: Copy, V: Copy> Iterator for Pairs<'a, K, V> {
             Some((_, place)) => Some(self.cells[*place]),
             None => None,
         }
+    }
+}
+
+// The value of the pair, if there is one.
+fn value_of<K: Copy, V: Copy>(pair: Option<(K, V)>) -> Option<V>
+    ensures { result ≡ option_map (λ e. e.1) pair }
+{
+    match pair {
+        Some((_, value)) => Some(value),
+        None => None,
     }
 }
 

@@ -1,97 +1,73 @@
-use Rattle.std.proofs.Common.{◌≡◌, Some, None, sym, ap, ◌∙◌, refl, arith}
-use Rattle.slab.specs.Slab.{get}
+use Rattle.std.proofs.Common.{◌≡◌, ◌∙◌, ℕ, Some, None, slice_index_or, option_map, is_some, refl, sym, ap, rules}
+use Rattle.std.specs.Prelude.{count_by}
+use Rattle.std.specs.Option.{unwrap_or}
+use Rattle.slab.specs.Slab.{get, slab_len}
 use Rattle.fm_lattice.specs.Maps.{lookup, put, replaced}
 use Rattle.fm_net.proofs.Copied.{kept_same}
-use Rattle.fm_net.proofs.Shown.{CellIs, rising_said, put_in_cells, put_shown, former_stands, former_value, replaced_in_cells, replaced_shown, undone_in_cells, nothing_stands}
+use Rattle.fm_net.proofs.Shown.{CellIs, rising_said}
+use Rattle.fm_net.proofs.Refilled.{stood_told, fills_told, no_more_told, cells_told, shown_told, filled_again}
 use Rattle.fm_net.proofs.cells.Cells.put.Goals as goal
 
 pub invariant_of-self : goal.invariant_of-self
 invariant_of-self g c =
-    kept_same g.K.Ord.cmp c.self.inside.cells c.insert.new.self c.self.inside.places.entries c.self.inside.places.entries (ap (λ s. s.slots) c.in_err-place.ensures.err) refl c.self.invariant
+    kept_same g.K.Ord.cmp c.self.inside.cells c.reserve.new.self c.self.inside.places.entries c.self.inside.places.entries (ap (λ s. s.slots) c.in_err-reserve.ensures.rest_kept) refl c.self.invariant
 
-pub remove-requires : goal.remove-requires
-remove-requires g c =
-    let at = get c.self.inside.cells in
-    let new = get c.insert.new.self in
-    let p = c.in_ok-place.place in
-    let es = c.self.inside.places.entries in
-    let u : CellIs at new p (Some (c.args.key, c.args.value)) = record { changed = c.in_ok-place.ensures.updates.changed; others = c.in_ok-place.ensures.updates.others } in
-    let was : lookup g.K.Ord.cmp c.args.key es ≡ Some c.in-Ok-Some.former = sym c.in-Ok-Some.ensures.old ∙ c.in-Ok-Some.field-0-is in
-    former_stands g.K.Ord.cmp g.met.K.Ord.total c.requires at new p c.args.key c.args.value es c.insert-2.new.self.entries c.self.invariant.indexed u c.in_ok-place.ensures.was_vacant c.in-Ok-Some.ensures.entries c.in-Ok-Some.former was
+pub invariant_of-self-in_err-self-inside : goal.invariant_of-self-in_err-self-inside
+invariant_of-self-in_err-self-inside g c =
+    kept_same g.K.Ord.cmp c.self.inside.cells c.reserve.new.self c.self.inside.places.entries _ (ap (λ s. s.slots) c.in_ok-reserve.ensures.rest_kept) (search rules) c.self.invariant
 
-pub invariant_of-self-in-Ok-Some : goal.invariant_of-self-in-Ok-Some
-invariant_of-self-in-Ok-Some g c =
-    let at = get c.self.inside.cells in
-    let new = get c.insert.new.self in
-    let p = c.in_ok-place.place in
+pub invariant_of-self-2 : goal.invariant_of-self-2
+invariant_of-self-2 g c =
+    let s = c.self.inside.cells in
+    let mid = c.try_remove-former.new.self in
+    let p = c.or_insert-place.result.now in
     let es = c.self.inside.places.entries in
-    let u : CellIs at new p (Some (c.args.key, c.args.value)) = record { changed = c.in_ok-place.ensures.updates.changed; others = c.in_ok-place.ensures.updates.others } in
-    let gone : CellIs new (get c.remove.new.self) c.in-Ok-Some.former None = record { changed = c.remove.ensures.updates.changed; others = c.remove.ensures.updates.others } in
-    let was : lookup g.K.Ord.cmp c.args.key es ≡ Some c.in-Ok-Some.former = sym c.in-Ok-Some.ensures.old ∙ c.in-Ok-Some.field-0-is in
-    let len = rw c.in-Ok-Some.field-0-is at c.in-Ok-Some.ensures.len in
+    let slots : c.reserve.new.self.slots ≡ s.slots = ap (λ z. z.slots) c.in_ok-reserve.ensures.rest_kept in
+    let before : (q : ℕ) → get c.reserve.new.self q ≡ get s q = λ q i. slice_index_or (slots i) q None in
+    let empty : get s c.vacant_key-next.result ≡ None = sym (before c.vacant_key-next.result) ∙ c.vacant_key-next.ensures.vacant in
+    let told : p ≡ unwrap_or (lookup g.K.Ord.cmp c.args.key es) c.vacant_key-next.result = c.or_insert-place.ensures.value ∙ ap (λ o. unwrap_or o c.vacant_key-next.result) c.in_ok-self-inside.ensures.value in
+    let stood : c.try_remove-former.result ≡ get s p = c.try_remove-former.ensures.value ∙ before p in
+    let fills : c.insert_reserved.result ≡ p =
+    fills_told g.K.Ord.cmp g.met.K.Ord.total (get s) c.vacant_key-next.result p c.args.key es c.self.invariant.indexed empty told c.try_remove-former.result c.insert_reserved.result stood (search rules) (search rules) in
+    let gone : CellIs (get s) (get mid) p None = record { changed = c.try_remove-former.ensures.updates.changed; others = λ q e. c.try_remove-former.ensures.updates.others q e ∙ before q } in
+    let filled : CellIs (get mid) (get c.insert_reserved.new.self) c.insert_reserved.result (Some (c.args.key, c.args.value)) = record { changed = c.insert_reserved.ensures.updates.changed; others = c.insert_reserved.ensures.updates.others } in
+    let u = filled_again (get s) (get mid) (get c.insert_reserved.new.self) p c.insert_reserved.result (Some (c.args.key, c.args.value)) fills gone filled in
     record {
-      indexed = replaced_in_cells g.K.Ord.cmp g.met.K.Ord.total c.requires at new p c.args.key c.args.value es c.insert-2.new.self.entries c.self.invariant.indexed u c.in_ok-place.ensures.was_vacant c.in-Ok-Some.ensures.entries c.in-Ok-Some.former was (get c.remove.new.self) gone (rising_said g.K.Ord.cmp c.insert-2.new.self.entries c.in-Ok-Some.ensures.ordered);
-      no_more = omega (arith, c.self.invariant.no_more, c.in_ok-place.ensures.len, c.remove.ensures.len, len);
+      indexed = cells_told g.K.Ord.cmp g.met.K.Ord.total (get s) c.vacant_key-next.result p c.args.key es c.self.invariant.indexed empty told c.requires (get c.insert_reserved.new.self) c.args.value _ u (search rules) (rising_said g.K.Ord.cmp _ (search rules));
+      no_more = no_more_told g.K.Ord.cmp g.met.K.Ord.total (get s) c.vacant_key-next.result p c.args.key es c.self.invariant.indexed empty told c.try_remove-former.result (slab_len c.reserve.new.self) (slab_len mid) (slab_len c.insert_reserved.new.self) _ stood c.try_remove-former.ensures.len (search rules) c.insert_reserved.ensures.len (ap (count_by is_some) slots ∙ c.self.invariant.no_more) (search rules);
     }
 
-pub invariant_of-self-in-Ok-None : goal.invariant_of-self-in-Ok-None
-invariant_of-self-in-Ok-None g c =
-    let at = get c.self.inside.cells in
-    let new = get c.insert.new.self in
-    let p = c.in_ok-place.place in
+pub returns-clause-ok : goal.returns-clause-ok
+returns-clause-ok g c =
+    let s = c.self.inside.cells in
+    let mid = c.try_remove-former.new.self in
+    let p = c.or_insert-place.result.now in
     let es = c.self.inside.places.entries in
-    let u : CellIs at new p (Some (c.args.key, c.args.value)) = record { changed = c.in_ok-place.ensures.updates.changed; others = c.in_ok-place.ensures.updates.others } in
-    let len = rw c.in-Ok-None.field-0-is at c.in-Ok-None.ensures.len in
-    record {
-      indexed = put_in_cells g.K.Ord.cmp g.met.K.Ord.total c.requires at new p c.args.key c.args.value es c.insert-2.new.self.entries c.self.invariant.indexed u c.in_ok-place.ensures.was_vacant c.in-Ok-None.ensures.entries (rising_said g.K.Ord.cmp c.insert-2.new.self.entries c.in-Ok-None.ensures.ordered);
-      no_more = omega (arith, c.self.invariant.no_more, c.in_ok-place.ensures.len, len);
-    }
-
-pub invariant_of-self-in-Err : goal.invariant_of-self-in-Err
-invariant_of-self-in-Err g c =
-    let at = get c.self.inside.cells in
-    let new = get c.insert.new.self in
-    let p = c.in_ok-place.place in
-    let u : CellIs at new p (Some (c.args.key, c.args.value)) = record { changed = c.in_ok-place.ensures.updates.changed; others = c.in_ok-place.ensures.updates.others } in
-    let gone : CellIs new (get c.remove-in-Err.new.self) p None = record { changed = c.remove-in-Err.ensures.updates.changed; others = c.remove-in-Err.ensures.updates.others } in
-    rw c.in-Err.ensures.err (record {
-      indexed = undone_in_cells g.K.Ord.cmp g.met.K.Ord.total at new (get c.remove-in-Err.new.self) p (Some (c.args.key, c.args.value)) c.self.inside.places.entries c.self.invariant.indexed u c.in_ok-place.ensures.was_vacant gone;
-      no_more = omega (arith, c.self.invariant.no_more, c.in_ok-place.ensures.len, c.remove-in-Err.ensures.len);
-    })
-
-pub returns-in-Ok-Some-clause-ok : goal.returns-in-Ok-Some-clause-ok
-returns-in-Ok-Some-clause-ok g c =
-    let at = get c.self.inside.cells in
-    let new = get c.insert.new.self in
-    let p = c.in_ok-place.place in
-    let es = c.self.inside.places.entries in
-    let u : CellIs at new p (Some (c.args.key, c.args.value)) = record { changed = c.in_ok-place.ensures.updates.changed; others = c.in_ok-place.ensures.updates.others } in
-    let gone : CellIs new (get c.remove.new.self) c.in-Ok-Some.former None = record { changed = c.remove.ensures.updates.changed; others = c.remove.ensures.updates.others } in
-    let was : lookup g.K.Ord.cmp c.args.key es ≡ Some c.in-Ok-Some.former = sym c.in-Ok-Some.ensures.old ∙ c.in-Ok-Some.field-0-is in
-    replaced_shown g.K.Ord.cmp g.met.K.Ord.total c.requires at new p c.args.key c.args.value es c.insert-2.new.self.entries c.self.invariant.indexed u c.in_ok-place.ensures.was_vacant c.in-Ok-Some.ensures.entries c.in-Ok-Some.former was (get c.remove.new.self) gone
+    let slots : c.reserve.new.self.slots ≡ s.slots = ap (λ z. z.slots) c.in_ok-reserve.ensures.rest_kept in
+    let before : (q : ℕ) → get c.reserve.new.self q ≡ get s q = λ q i. slice_index_or (slots i) q None in
+    let empty : get s c.vacant_key-next.result ≡ None = sym (before c.vacant_key-next.result) ∙ c.vacant_key-next.ensures.vacant in
+    let told : p ≡ unwrap_or (lookup g.K.Ord.cmp c.args.key es) c.vacant_key-next.result = c.or_insert-place.ensures.value ∙ ap (λ o. unwrap_or o c.vacant_key-next.result) c.in_ok-self-inside.ensures.value in
+    let stood : c.try_remove-former.result ≡ get s p = c.try_remove-former.ensures.value ∙ before p in
+    let fills : c.insert_reserved.result ≡ p =
+    fills_told g.K.Ord.cmp g.met.K.Ord.total (get s) c.vacant_key-next.result p c.args.key es c.self.invariant.indexed empty told c.try_remove-former.result c.insert_reserved.result stood (search rules) (search rules) in
+    let gone : CellIs (get s) (get mid) p None = record { changed = c.try_remove-former.ensures.updates.changed; others = λ q e. c.try_remove-former.ensures.updates.others q e ∙ before q } in
+    let filled : CellIs (get mid) (get c.insert_reserved.new.self) c.insert_reserved.result (Some (c.args.key, c.args.value)) = record { changed = c.insert_reserved.ensures.updates.changed; others = c.insert_reserved.ensures.updates.others } in
+    let u = filled_again (get s) (get mid) (get c.insert_reserved.new.self) p c.insert_reserved.result (Some (c.args.key, c.args.value)) fills gone filled in
+    shown_told g.K.Ord.cmp g.met.K.Ord.total (get s) c.vacant_key-next.result p c.args.key es c.self.invariant.indexed empty told c.requires (get c.insert_reserved.new.self) c.args.value _ u (search rules)
     ∙ ap (put g.K.Ord.cmp replaced c.args.key c.args.value) c.self.view_is
 
-pub returns-in-Ok-Some-clause-stood : goal.returns-in-Ok-Some-clause-stood
-returns-in-Ok-Some-clause-stood g c =
-    let at = get c.self.inside.cells in
-    let new = get c.insert.new.self in
-    let p = c.in_ok-place.place in
+pub returns-clause-stood : goal.returns-clause-stood
+returns-clause-stood g c =
+    let s = c.self.inside.cells in
+    let mid = c.try_remove-former.new.self in
+    let p = c.or_insert-place.result.now in
     let es = c.self.inside.places.entries in
-    let u : CellIs at new p (Some (c.args.key, c.args.value)) = record { changed = c.in_ok-place.ensures.updates.changed; others = c.in_ok-place.ensures.updates.others } in
-    let was : lookup g.K.Ord.cmp c.args.key es ≡ Some c.in-Ok-Some.former = sym c.in-Ok-Some.ensures.old ∙ c.in-Ok-Some.field-0-is in
-    former_value g.K.Ord.cmp g.met.K.Ord.total c.requires at new p c.args.key c.args.value es c.insert-2.new.self.entries c.self.invariant.indexed u c.in_ok-place.ensures.was_vacant c.in-Ok-Some.ensures.entries c.in-Ok-Some.former was c.remove.result c.remove.ensures.value
-    ∙ ap (lookup g.K.Ord.cmp c.args.key) c.self.view_is
-
-pub returns-in-Ok-None-clause-ok : goal.returns-in-Ok-None-clause-ok
-returns-in-Ok-None-clause-ok g c =
-    let at = get c.self.inside.cells in
-    let new = get c.insert.new.self in
-    let p = c.in_ok-place.place in
-    let u : CellIs at new p (Some (c.args.key, c.args.value)) = record { changed = c.in_ok-place.ensures.updates.changed; others = c.in_ok-place.ensures.updates.others } in
-    put_shown g.K.Ord.cmp g.met.K.Ord.total c.requires at new p c.args.key c.args.value c.self.inside.places.entries c.insert-2.new.self.entries c.self.invariant.indexed u c.in_ok-place.ensures.was_vacant c.in-Ok-None.ensures.entries
-    ∙ ap (put g.K.Ord.cmp replaced c.args.key c.args.value) c.self.view_is
-
-pub returns-in-Ok-None-clause-stood : goal.returns-in-Ok-None-clause-stood
-returns-in-Ok-None-clause-stood g c =
-    nothing_stands g.K.Ord.cmp g.met.K.Ord.total (get c.self.inside.cells) c.args.key c.self.inside.places.entries c.self.invariant.indexed (sym c.in-Ok-None.ensures.old ∙ c.in-Ok-None.field-0-is)
+    let slots : c.reserve.new.self.slots ≡ s.slots = ap (λ z. z.slots) c.in_ok-reserve.ensures.rest_kept in
+    let before : (q : ℕ) → get c.reserve.new.self q ≡ get s q = λ q i. slice_index_or (slots i) q None in
+    let empty : get s c.vacant_key-next.result ≡ None = sym (before c.vacant_key-next.result) ∙ c.vacant_key-next.ensures.vacant in
+    let told : p ≡ unwrap_or (lookup g.K.Ord.cmp c.args.key es) c.vacant_key-next.result = c.or_insert-place.ensures.value ∙ ap (λ o. unwrap_or o c.vacant_key-next.result) c.in_ok-self-inside.ensures.value in
+    let stood : c.try_remove-former.result ≡ get s p = c.try_remove-former.ensures.value ∙ before p in
+    c.value_of.ensures
+    ∙ ap (option_map (λ e. e.1)) stood
+    ∙ stood_told g.K.Ord.cmp g.met.K.Ord.total (get s) c.vacant_key-next.result p c.args.key es c.self.invariant.indexed empty told
     ∙ ap (lookup g.K.Ord.cmp c.args.key) c.self.view_is
