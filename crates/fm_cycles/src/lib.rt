@@ -4,6 +4,7 @@
 
 pub mod arcs;
 pub mod cancel;
+mod fit;
 pub mod improve;
 mod row;
 pub mod search;

@@ -34,8 +34,8 @@ fn lower(row: &mut Row, can: bool, node: usize, cost: i128, step: Step)
     }
 }
 
-// The cost of the least walk to a node.
-fn cost_at(costs: &[i128], node: usize) -> i128
+/// The cost of the least walk to a node.
+pub(crate) fn cost_at(costs: &[i128], node: usize) -> i128
     ensures { result ≡ costs_in costs.now node }
 {
     costs.get(node).copied().unwrap_or(0)

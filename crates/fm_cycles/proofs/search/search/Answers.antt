@@ -21,7 +21,7 @@ pub cycle_behind-requires-clause-rows : goal.cycle_behind-requires-clause-rows
 cycle_behind-requires-clause-rows c =
     let after : IsRowAfter (residual c.args.arcs.now c.args.units.now) c.rounds.costs.items c.in_ok-row.row = search rules in
     let some : c.in_ok-row.row.cheaper ≡ Some c.in-Some.end = search rules in
-    let pushed : c.deref-in-rounds.result.now ≡ c.rounds.rows.items ++ c.in_ok-row.row.lasts ∷ [] = search rules in (
+    let pushed : c.deref-in-rounds-2.result.now ≡ c.rounds.rows.items ++ c.in_ok-row.row.lasts ∷ [] = search rules in (
       costs_in c.in_ok-row.row.costs.items,
       subst (λ xs. Rows (residual c.args.arcs.now c.args.units.now) (costs_in c.in_ok-row.row.costs.items) (past xs (length xs))) (sym pushed)
           (rows2 c.args.arcs.now c.args.units.now c.args.nodes c.requires.arcs c.rounds.costs.items c.rounds.rows.items c.in_ok-row.row c.rounds.invariant after c.in-Some.end some),
@@ -31,7 +31,7 @@ pub cycle_behind-requires-clause-last : goal.cycle_behind-requires-clause-last
 cycle_behind-requires-clause-last c =
     let after : IsRowAfter (residual c.args.arcs.now c.args.units.now) c.rounds.costs.items c.in_ok-row.row = search rules in
     let some : c.in_ok-row.row.cheaper ≡ Some c.in-Some.end = search rules in
-    let pushed : c.deref-in-rounds.result.now ≡ c.rounds.rows.items ++ c.in_ok-row.row.lasts ∷ [] = search rules in
+    let pushed : c.deref-in-rounds-2.result.now ≡ c.rounds.rows.items ++ c.in_ok-row.row.lasts ∷ [] = search rules in
     subst (λ xs. IsAhead (past xs (length xs)) c.in-Some.end) (sym pushed)
     (ahead2 c.args.arcs.now c.args.units.now c.args.nodes c.requires.arcs c.rounds.costs.items c.rounds.rows.items c.in_ok-row.row c.rounds.invariant after c.in-Some.end some)
 
