@@ -1,6 +1,6 @@
--- Pairs whose keys rise: a key behind the last goes to the end.
-use Rattle.std.proofs.Common.{◌≡◌, ℕ, ◌+◌, List, length, get_or, sym, ◌∙◌, ap, inl, inr, true, arith}
-use Rattle.std.specs.Ordering.{is_lt}
+-- Pairs whose keys rise: a key behind the last goes to the end, and one that equals that of a pair is there.
+use Rattle.std.proofs.Common.{◌≡◌, ℕ, ◌+◌, List, ◌<◌, length, get_or, sym, ◌∙◌, ap, inl, inr, true, arith}
+use Rattle.std.specs.Ordering.{is_lt, is_eq}
 use Rattle.std.specs.Cmp.{IsTotalOrder}
 use Rattle.std.specs.declared.cmp.Ordering.{Ordering}
 use Rattle.std.specs.declared.cmp.Ordering.TheVariants.{Less, Equal, Greater}
@@ -8,13 +8,18 @@ use Rattle.std.proofs.lemmas.Bool.{cases_order}
 use Rattle.std.proofs.lemmas.List.{get_or_default}
 use Rattle.fm_lattice.specs.Chains.{TellsApart}
 use Rattle.fm_lattice.specs.Maps.{IsRising}
-use Rattle.fm_lattice.specs.Places.{IsGap}
+use Rattle.fm_lattice.specs.Places.{IsAt, IsGap}
 use Rattle.fm_lattice.proofs.Places.{rising_at}
 
 pub less_of : (o : Ordering) → is_lt o ≡ true → o ≡ Less
 less_of Less h = cc
 less_of Equal h = absurd (let no : ⊥ = cc in no)
 less_of Greater h = absurd (let no : ⊥ = cc in no)
+
+pub equal_of : (o : Ordering) → is_eq o ≡ true → o ≡ Equal
+equal_of Less h = absurd (let no : ⊥ = cc in no)
+equal_of Equal h = cc
+equal_of Greater h = absurd (let no : ⊥ = cc in no)
 
 module _ {K V : Type 0} (cmp : K → K → Ordering) (total : IsTotalOrder cmp) (same : TellsApart cmp) where
   pub behind : (es : List (K × V)) (k : K) (last : ℕ) (pair : K × V) → IsRising cmp es → last + 1 ≡ length es → pair ≡ get_or es last pair → cmp pair.0 k ≡ Less → IsGap cmp es k (length es)
@@ -28,4 +33,11 @@ module _ {K V : Type 0} (cmp : K → K → Ordering) (total : IsTotalOrder cmp) 
           | inr (inr above) ↦ absurd (omega arith)
         ];
     after = λ j d le lt. absurd (omega arith);
+  }
+
+  -- a key that equals that of the pair at a place is there
+  pub stands_at : (es : List (K × V)) (k : K) (i : ℕ) (pair : K × V) → i < length es → pair ≡ get_or es i pair → cmp pair.0 k ≡ Equal → IsAt cmp es k i
+  stands_at es k i pair within read equal = record {
+    in_range = within;
+    has_key = λ d. ap (λ (p : K × V). cmp p.0 k) (get_or_default es i d pair within ∙ sym read) ∙ equal;
   }

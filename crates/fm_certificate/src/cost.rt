@@ -9,7 +9,7 @@ use fm_net::network::Network;
 use fm_net::node::Node;
 
 /// The sum of cost times units over all arcs. The caller owes a network that the policy can build, and a feasible flow.
-/// Takes no memory. O(arcs log arcs).
+/// Takes no memory. O(arcs) where the flow's keys are just the arcs, O(arcs log arcs) else.
 pub fn cost(network: &Network, flow: &Flow) -> u128
     requires built { IsBuilt network.now }
     requires feasible { IsFeasible network.now (units_in flow.now) }
@@ -17,18 +17,20 @@ pub fn cost(network: &Network, flow: &Flow) -> u128
 {
     network.known();
     let mut sum = 0;
+    let mut near = 0usize;
     for (from, to, _, cost) in network.arcs() {
-        sum += price(flow, from, to, cost);
+        sum += price(flow, near, from, to, cost);
+        near = near.saturating_add(1);
     }
     sum
 }
 
-// What the units on an arc of this cost come to.
-fn price(flow: &Flow, from: Node, to: Node, cost: u32) -> u128
+// What the units on an arc of this cost come to, which are looked for near a place first.
+fn price(flow: &Flow, near: usize, from: Node, to: Node, cost: u32) -> u128
     ensures { result ≡ cost * units_in flow.now from to }
 {
     if cost == 0 {
         return 0;
     }
-    u128::from(cost) * u128::from(flow.units(from, to).unwrap_or(0))
+    u128::from(cost) * u128::from(flow.units_near(near, from, to).unwrap_or(0))
 }

@@ -6,7 +6,7 @@ ghost use Rattle.fm_net.specs.Nodes.{ends_cmp, node_cmp};
 ghost use Rattle.fm_certificate.specs.Totals.{source, target, units_at, IsTotalled};
 
 use crate::entries::Entries;
-use crate::rising::{set, value_at};
+use crate::rising::{set, value_at, value_near};
 use crate::sources::sum_from;
 use crate::totals::{change, make_room, total_of, totals_of};
 use fm_lattice::join::OutOfMemory;
@@ -78,6 +78,14 @@ impl Flow {
         ensures { result ≡ lookup ends_cmp (from, to) self.now }
     {
         value_at(&self.units, &(from, to))
+    }
+
+    /// As `units`, whatever place is given: where the key has that place among the flow's keys, as the arcs of a network have
+    /// theirs in turn in a flow of this network, it is found at once. O(log n) else.
+    pub fn units_near(&self, near: usize, from: Node, to: Node) -> Option<u64>
+        ensures { result ≡ lookup ends_cmp (from, to) self.now }
+    {
+        value_near(&self.units, near, &(from, to))
     }
 
     /// The units, as (from, to, units), by (from, to).

@@ -36,6 +36,25 @@ pub(crate) fn value_at<K: Ord + Copy, V: Copy>(pairs: &[(K, V)], key: &K) -> Opt
     }
 }
 
+/// As `value_at`, and looks at the place near before it searches: where the key is there, in one comparison.
+pub(crate) fn value_near<K: Ord + Copy, V: Copy>(
+    pairs: &[(K, V)],
+    near: usize,
+    key: &K,
+) -> Option<V>
+    requires exact { TellsApart K.cmp }
+    requires rising { IsRising K.cmp pairs.now }
+    ensures { result ≡ lookup K.cmp key.now pairs.now }
+{
+    if near < pairs.len() {
+        let pair = pairs[near];
+        if pair.0.cmp(key).is_eq() {
+            return Some(pair.1);
+        }
+    }
+    value_at(pairs, key)
+}
+
 /// Sets the value at the key, and gives the one that was there. After a refusal of memory the pairs are as they were.
 /// A key behind the last is pushed, in amortised O(1); a key that is there is found in O(log n); before any other new key the
 /// pairs behind it move, in O(n).
