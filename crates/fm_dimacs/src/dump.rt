@@ -229,8 +229,8 @@ fn put_arc<W: Out>(
     put_all(out, line.as_bytes())
 }
 
-// The node's ID, which is found at once where it is the ID or the next one. O(log n) else.
-fn id_near(nodes: &[Node], node: &Node, id: usize) -> usize
+/// The node's ID, which is found at once where it is the ID or the next one. O(log n) else.
+pub(crate) fn id_near(nodes: &[Node], node: &Node, id: usize) -> usize
     requires { Rises node_cmp nodes.now }
     ensures { result ≡ id_in nodes.now node.now }
 {
@@ -254,8 +254,8 @@ fn id_at(nodes: &[Node], node: &Node, place: usize) -> Option<usize>
     }
 }
 
-/// The node's ID: its place, counted from 1. O(log n).
-pub(crate) fn id_of(nodes: &[Node], node: &Node) -> usize
+// The node's ID: its place, counted from 1. O(log n).
+fn id_of(nodes: &[Node], node: &Node) -> usize
     requires { Rises node_cmp nodes.now }
     ensures { result ≡ id_in nodes.now node.now }
 {

@@ -11,7 +11,7 @@ ghost use Rattle.fm_certificate.specs.Flows.{units_in, IsFeasible};
 ghost use Rattle.fm_dimacs.specs.Sending.{AppendsPrefix, StopsBy, IsSent};
 ghost use Rattle.fm_dimacs.specs.Solution.{cost_line, units_line, flow_line, solution_text};
 
-use crate::dump::id_of;
+use crate::dump::id_near;
 use crate::out::Out;
 use crate::pieces::put_all;
 use fm_certificate::cost::cost;
@@ -23,7 +23,8 @@ use fm_records::refusal::Refusal;
 use std::alloc::Global;
 
 /// Writes the flow's text, with the IDs of the network's text. The caller owes a network that the policy can build, and a
-/// feasible flow. A refusal is as `dump`'s. O(arcs log arcs).
+/// feasible flow. A refusal is as `dump`'s. O(arcs) where the flow's keys are just the arcs and for units between nodes beside
+/// those of the arc before, and O(log arcs) for each other.
 pub fn write_solution<W: Out>(
     alloc: Global,
     network: &Network,
@@ -88,17 +89,32 @@ fn put_flow<W: Out>(
     requires { Rises node_cmp nodes.now }
     ensures { IsSent result (W.written out.old) (W.written out.new) (W.has_failed out.old) (W.has_failed out.new) (flat_map (flow_line nodes.now (units_in flow.now)) network.now.arcs) }
 {
+    let mut near = Near {
+        place: 0,
+        source: 1,
+        target: 1,
+    };
     for arc in network.arcs() {
-        put_units(flow, nodes, arc, line, out)?;
+        put_units(flow, nodes, arc, &mut near, line, out)?;
     }
     Ok(())
 }
 
-// Writes the units of an arc, given as (from, to, capacity, cost), if it has any.
+// Where an arc's units and the IDs of its ends are most often found: its place among the arcs, and the IDs that were written
+// last.
+#[derive(Clone, Copy, Drop)]
+struct Near {
+    place: usize,
+    source: usize,
+    target: usize,
+}
+
+// Writes the units of an arc, given as (from, to, capacity, cost), if it has any. Whatever is near, it writes the same.
 fn put_units<W: Out>(
     flow: &Flow,
     nodes: &[Node],
     arc: (Node, Node, u64, u32),
+    near: &mut Near,
     line: &mut String,
     out: &mut W,
 ) -> Result<(), Refusal>
@@ -106,18 +122,20 @@ fn put_units<W: Out>(
     ensures { IsSent result (W.written out.old) (W.written out.new) (W.has_failed out.old) (W.has_failed out.new) (flow_line nodes.now (units_in flow.now) (arc_entry arc)) }
 {
     let (from, to, _, _) = arc;
-    let units = flow.units(from, to).unwrap_or(0);
+    let units = flow.units_near(near.place, from, to).unwrap_or(0);
+    near.place = near.place.saturating_add(1);
     line.clear();
-    write_units(nodes, &from, &to, units, line)?;
+    write_units(nodes, &from, &to, units, near, line)?;
     put_all(out, line.as_bytes())
 }
 
-// Appends the units between two nodes, if there are any.
+// Appends the units between two nodes, if there are any, and keeps the nodes' IDs.
 fn write_units(
     nodes: &[Node],
     from: &Node,
     to: &Node,
     units: u64,
+    near: &mut Near,
     line: &mut String,
 ) -> Result<(), Refusal>
     requires { Rises node_cmp nodes.now }
@@ -127,8 +145,10 @@ fn write_units(
     if units == 0 {
         return Ok(());
     }
-    let source = id_of(nodes, from);
-    let target = id_of(nodes, to);
+    let source = id_near(nodes, from, near.source);
+    let target = id_near(nodes, to, near.target);
+    near.source = source;
+    near.target = target;
     write!(line, "f {source} {target} {units}\n")?;
     Ok(())
 }

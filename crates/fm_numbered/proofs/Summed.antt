@@ -83,6 +83,16 @@ module _ (end : Arc → ℕ) (nodes : ℕ) (arcs : List Arc) (units : List ℕ) 
       let same : part (end a) v u ≡ part (end a) v (slice_index units i) = ap (part (end a) v) is in
       omega arith
 
+  -- an arc without units changes no sum
+  pub skip_one : (i : ℕ) (a : Arc) (sums : List ℕ) → slice_get arcs i ≡ Some a → slice_index units i ≡ 0 → AddUp end nodes arcs units i sums → AddUp end nodes arcs units (i + 1) sums
+  skip_one i a sums at none all v within =
+      let so_far = all v within in
+      let one = step end v arcs units i a at in
+      let next : suc i ≡ i + 1 = omega arith in
+      let later : units_at end (drop (suc i) arcs) (drop (suc i) units) v ≡ units_at end (drop (i + 1) arcs) (drop (i + 1) units) v = ap (λ n. units_at end (drop n arcs) (drop n units) v) next in
+      let same : part (end a) v (slice_index units i) ≡ 0 = ap (part (end a) v) none ∙ part_none (end a) v in
+      omega arith
+
   pub add_fits : (i : ℕ) (a : Arc) (u : ℕ) (sums : List ℕ) → slice_get arcs i ≡ Some a → u ≡ slice_index units i → end a < nodes → length arcs < 2 ^ 63 → ((k : ℕ) → slice_index units k < 2 ^ 64) → AddUp end nodes arcs units i sums → slice_index sums (end a) + u < 2 ^ 128
   add_fits i a u sums at is within few each all =
       let so_far = all (end a) within in

@@ -6,7 +6,7 @@ ghost use Rattle.fm_numbered.specs.Places.{ArePlacesOf};
 ghost use Rattle.fm_numbered.specs.Numbered.{AreArcsOf, bandwidth_in};
 
 use crate::places::Places;
-use crate::placing::place_of;
+use crate::placing::{GUESSES, place_by, place_of};
 use fm_cycles::arcs::Arc;
 use fm_lattice::join::OutOfMemory;
 use fm_net::network::Network;
@@ -34,11 +34,12 @@ pub(crate) fn arcs_of(
 {
     network.known();
     let mut arcs = Vec::with_capacity(alloc, network.arcs_len())?;
+    let mut guesses = vec![in alloc; 0usize; GUESSES]?;
     let mut from = 0;
     let mut to = 0;
     for (source, target, capacity, cost) in network.arcs() {
         from = place_of(nodes, places, from, &source);
-        to = place_of(nodes, places, to, &target);
+        to = place_by(nodes, places, to, &mut guesses, &target);
         arcs.push(Arc {
             from,
             to,

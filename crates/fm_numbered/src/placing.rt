@@ -52,3 +52,47 @@ pub(crate) fn place_of(nodes: &[Node], places: &Places, guess: usize, node: &Nod
     }
     search(nodes, places, node)
 }
+
+/// How many guesses are kept.
+pub(crate) const GUESSES: usize = 8192;
+
+// The slot of a node's guess: some number of its name.
+fn slot_of(node: &Node) -> usize {
+    match node {
+        Node::Sink => 0,
+        Node::Request(bandwidth) => (u64::from(*bandwidth) * 2_654_435_761 / 4096 % 8192) as usize,
+        Node::Unscheduled(job) => (job.value() % 8192) as usize,
+        Node::Machine(machine) => (machine.value() % 8192) as usize,
+        Node::Task(task) => (task.value() % 8192) as usize,
+    }
+}
+
+/// The place of a node, looked for behind the one near, then at the guess for the node, and then among its kind; that is the
+/// guess from then on. Nodes share guesses, so that a guess may be wrong.
+pub(crate) fn place_by(
+    nodes: &[Node],
+    places: &Places,
+    near: usize,
+    guesses: &mut [usize],
+    node: &Node,
+) -> usize
+    requires rises { Rises node_cmp nodes.now }
+    requires places { ArePlacesOf nodes.now places.now }
+    requires stands { IsMember node.now nodes.now }
+    ensures { slice_get nodes.now result ≡ Some node.now }
+{
+    let behind = near.saturating_add(1);
+    if stands_at(nodes, behind, node) {
+        return behind;
+    }
+    let slot = slot_of(node);
+    let guess = guesses.get(slot).copied().unwrap_or(0);
+    if stands_at(nodes, guess, node) {
+        return guess;
+    }
+    let place = search(nodes, places, node);
+    if let Some(there) = guesses.get_mut(slot) {
+        *there = place;
+    }
+    place
+}

@@ -28,7 +28,10 @@ pub fn inflow(alloc: Global, numbered: &Numbered, units: &[u64]) -> Result<Vec<u
 {
     let mut sums = vec![in alloc; 0u128; numbered.places.end]?;
     for (place, arc) in numbered.arcs.iter().enumerate() {
-        sums[arc.to] += u128::from(at(units, place));
+        let sent = at(units, place);
+        if sent != 0 {
+            sums[arc.to] += u128::from(sent);
+        }
     }
     Ok(sums)
 }
@@ -40,7 +43,10 @@ pub fn outflow(alloc: Global, numbered: &Numbered, units: &[u64]) -> Result<Vec<
 {
     let mut sums = vec![in alloc; 0u128; numbered.places.end]?;
     for (place, arc) in numbered.arcs.iter().enumerate() {
-        sums[arc.from] += u128::from(at(units, place));
+        let sent = at(units, place);
+        if sent != 0 {
+            sums[arc.from] += u128::from(sent);
+        }
     }
     Ok(sums)
 }

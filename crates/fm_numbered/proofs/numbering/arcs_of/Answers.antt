@@ -1,4 +1,4 @@
-use Rattle.std.proofs.Common.{◌≡◌, ◌∙◌, [], ◌∷◌, ◌++◌, List, refl, ap, sym, subst}
+use Rattle.std.proofs.Common.{◌≡◌, ◌∙◌, [], ◌∷◌, ◌++◌, List, refl, ap, sym, subst, rules}
 use Rattle.fm_records.specs.Sets.{IsMember}
 use Rattle.fm_net.specs.declared.node.Node.{Node}
 use Rattle.fm_cycles.specs.declared.arcs.Arc.{Arc}
@@ -14,8 +14,8 @@ place_of-from-requires-clause-stands c =
     let split : c.args.network.now.arcs ≡ done ++ arc ∷ c.next.new.self = c.loop-source.invariant.2.1 ∙ ap (λ (arcs : List NetArc). done ++ arcs) c.in-Some.ensures.steps in
     subst (λ (nodes : List Node). IsMember c.in-Some.source nodes) (sym c.requires.nodes) (ends_stand c.args.network.now c.known.ensures done arc c.next.new.self split).0
 
-pub place_of-to-requires-clause-stands : goal.place_of-to-requires-clause-stands
-place_of-to-requires-clause-stands c =
+pub place_by-to-requires-clause-stands : goal.place_by-to-requires-clause-stands
+place_by-to-requires-clause-stands c =
     let arc : NetArc = ((c.in-Some.source, c.in-Some.target), (c.in-Some.capacity, c.in-Some.cost)) in
     let done = c.loop-source.invariant.2.0 in
     let split : c.args.network.now.arcs ≡ done ++ arc ∷ c.next.new.self = c.loop-source.invariant.2.1 ∙ ap (λ (arcs : List NetArc). done ++ arcs) c.in-Some.ensures.steps in
@@ -24,7 +24,7 @@ place_of-to-requires-clause-stands c =
 pub loop-source-preserved : goal.loop-source-preserved
 loop-source-preserved c =
     let arc : NetArc = ((c.in-Some.source, c.in-Some.target), (c.in-Some.capacity, c.in-Some.cost)) in
-    let a : Arc = record { from = c.place_of-from.result; to = c.place_of-to.result; capacity = c.in-Some.capacity; cost = c.in-Some.cost } in
+    let a : Arc = record { from = c.place_of-from.result; to = c.place_by-to.result; capacity = c.in-Some.capacity; cost = c.in-Some.cost } in
     let done = c.loop-source.invariant.2.0 in
     let split : c.args.network.now.arcs ≡ done ++ arc ∷ c.next.new.self = c.loop-source.invariant.2.1 ∙ ap (λ (arcs : List NetArc). done ++ arcs) c.in-Some.ensures.steps in (
       tt,
@@ -33,6 +33,12 @@ loop-source-preserved c =
         done ++ arc ∷ [],
         split ∙ append_one done arc c.next.new.self,
         subst (λ (numbers : List Arc). AreArcsOf c.args.nodes.now (done ++ arc ∷ []) numbers) (sym {A = List Arc} c.in_ok-push.ensures.items)
-            (arcs_more c.args.nodes.now done c.loop-source.arcs.items arc a c.loop-source.invariant.2.2 (record { from = c.place_of-from.ensures; to = c.place_of-to.ensures; capacity = refl; cost = refl })),
+            (arcs_more c.args.nodes.now done c.loop-source.arcs.items arc a c.loop-source.invariant.2.2 (record { from = c.place_of-from.ensures; to = c.place_by-to.ensures; capacity = refl; cost = refl })),
       ),
     )
+
+pub loop-source-init : goal.loop-source-init
+loop-source-init c =
+    let none : List NetArc = [] in
+    let whole : c.args.network.now.arcs ≡ c.into_iter-source-iterator.result = search rules in
+    (tt, tt, (none, whole, subst (λ (numbers : List Arc). AreArcsOf c.args.nodes.now none numbers) (sym {A = List Arc} c.in_ok-arcs.ensures.items) tt))

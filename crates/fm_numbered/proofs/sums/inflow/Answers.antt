@@ -1,10 +1,11 @@
-use Rattle.std.proofs.Common.{◌≡◌, ◌∙◌, ◌<◌, ◌+◌, ◌^◌, ℕ, List, Some, ap, subst, length, get_or, rules, arith}
-use Rattle.std.specs.Prelude.{slice_get, slice_index, slice_set}
+use Rattle.std.proofs.Common.{◌≡◌, ◌∙◌, ◌<◌, ◌+◌, ◌^◌, ℕ, List, Some, ap, sym, subst, length, get_or, rules, arith}
+use Rattle.std.specs.Prelude.{vec_len, slice_get, slice_index, slice_set}
 use Rattle.std.proofs.lemmas.List.{get_or_default}
 use Rattle.std.proofs.lemmas.Option.{slice_get-get_or}
 use Rattle.fm_cycles.specs.declared.arcs.Arc.{Arc}
-use Rattle.fm_numbered.proofs.Summed.{add_one, add_fits}
+use Rattle.fm_numbered.proofs.Summed.{AddUp, add_one, skip_one, add_fits}
 use Rattle.fm_numbered.proofs.sums.inflow.Goals as goal
+use Rattle.fm_numbered.proofs.sums.inflow.Goals.{then-sent-ne0, else-sent-ne0}
 
 abbrev none : Arc
 none = record { from = 0; to = 0; capacity = 0; cost = 0 }
@@ -29,17 +30,30 @@ overflow_add-index_mut c =
 pub loop-place-preserved : goal.loop-place-preserved
 loop-place-preserved c =
     let arcs = c.args.numbered.now.arcs.items in
+    let units = c.args.units.now in
+    let nodes = c.args.numbered.now.places.end in
     let sums = c.loop-place.sums.items in
     let i = c.loop-place.place in
     let a = get_or c.deref-arc-items.result.now i none in
     let is : c.deref-arc-items.result.now ≡ c.args.numbered.now.arcs.items = search rules in
     let there : slice_get c.args.numbered.now.arcs.items i ≡ Some a = subst (λ (bs : List Arc). slice_get bs i ≡ Some a) is (slice_get-get_or c.deref-arc-items.result.now i none (omega arith)) in
     let known = c.args.numbered.now.formed.ends i a there in
-    let sent : c.from.result ≡ slice_index c.args.units.now i = search rules in
     let within : a.to < length c.loop-place.sums.items = search (rules, known) in
-    let read : c.index_mut.result.now ≡ get_or c.loop-place.sums.items a.to c.index_mut.result.now = search rules in
-    let value : c.index_mut.result.now ≡ slice_index c.loop-place.sums.items a.to = read ∙ get_or_default c.loop-place.sums.items a.to c.index_mut.result.now 0 within in
-    record {
-      sized = c.loop-place.invariant.sized;
-      add_up = add_one (λ (b : Arc). b.to) c.args.numbered.now.places.end arcs c.args.units.now i a c.from.result sums (slice_set sums a.to (c.index_mut.result.now + c.from.result)) there sent within (ap (λ n. slice_set sums a.to (n + c.from.result)) value) c.loop-place.invariant.add_up;
-    }
+    elim c.if-sent-ne0.branch [
+      | then-sent-ne0 w ↦
+          let was = w.index_mut.result.now in
+          let sent : w.from.result ≡ slice_index units i = w.from.ensures ∙ c.at-sent.ensures in
+          let read : was ≡ get_or sums a.to was = search (rules, w.index_mut.ensures) in
+          let value : was ≡ slice_index sums a.to = read ∙ get_or_default sums a.to was 0 within in
+          record {
+            sized = ap (λ s. vec_len s) w.sums-is ∙ c.loop-place.invariant.sized;
+            add_up = subst (λ s. AddUp (λ (b : Arc). b.to) nodes arcs units (i + 1) s.items) (sym w.sums-is)
+                (add_one (λ (b : Arc). b.to) nodes arcs units i a w.from.result sums (slice_set sums a.to (was + w.from.result)) there sent within (ap (λ n. slice_set sums a.to (n + w.from.result)) value) c.loop-place.invariant.add_up);
+          }
+      | else-sent-ne0 w ↦
+          record {
+            sized = ap (λ s. vec_len s) w.sums-is ∙ c.loop-place.invariant.sized;
+            add_up = subst (λ s. AddUp (λ (b : Arc). b.to) nodes arcs units (i + 1) s.items) (sym w.sums-is)
+                (skip_one (λ (b : Arc). b.to) nodes arcs units i a sums there (sym c.at-sent.ensures ∙ w.if-sent-ne0.false) c.loop-place.invariant.add_up);
+          }
+    ]
