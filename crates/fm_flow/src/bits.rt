@@ -67,11 +67,4 @@ impl Bits {
             *word = u64::MAX;
         }
     }
-
-    /// Clears all bits.
-    pub(crate) fn clear_all(&mut self) {
-        for word in self.words.iter_mut() {
-            *word = 0;
-        }
-    }
 }

@@ -5,6 +5,7 @@ ghost use Rattle.std.specs.Prelude.{◌≡◌, ◌^◌, ◌≤ℤ◌, length, If
 ghost use Rattle.fm_cycles.specs.Walks.{AreBounded};
 ghost use Rattle.fm_cycles.specs.Found.{costs_in};
 
+use crate::lanes::first_from;
 use fm_cycles::arcs::Arc;
 use fm_lattice::join::OutOfMemory;
 use fm_numbered::numbered::Numbered;
@@ -21,11 +22,6 @@ const TURNS: usize = 64;
 struct Part<'a> {
     arcs: &'a [Arc],
     units: &'a [u64],
-}
-
-// Where the arcs that leave nodes from this place on begin.
-fn first_from(numbered: &Numbered, node: usize) -> usize {
-    numbered.arcs.partition_point(|arc| arc.from < node)
 }
 
 // The arcs that leave nodes from the first place to before the end.

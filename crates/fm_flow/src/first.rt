@@ -7,6 +7,7 @@ ghost use Rattle.fm_numbered.specs.Feasible.{IsFlowOf};
 ghost use Rattle.fm_numbered.specs.Unscheduled.{all_unscheduled};
 
 use crate::distances::{potentials_from, potentials_over};
+use crate::lanes::first_from;
 use crate::start::start;
 use fm_lattice::join::OutOfMemory;
 use fm_numbered::numbered::Numbered;
@@ -16,9 +17,7 @@ use std::alloc::Global;
 // Whether tasks have more arcs than one to their job and one to a place. O(log arcs).
 fn has_preferences(numbered: &Numbered) -> bool {
     let tasks = numbered.places.end.saturating_sub(numbered.places.tasks);
-    let first = numbered
-        .arcs
-        .partition_point(|arc| arc.from < numbered.places.tasks);
+    let first = first_from(numbered, numbered.places.tasks);
     numbered.arcs.len().saturating_sub(first) > tasks.saturating_mul(2)
 }
 

@@ -1,59 +1,59 @@
-//! The units of an earlier flow on the task paths of a network.
+//! The units of an earlier flow on the arcs of a network.
 
-use crate::lanes::request_of;
+use fm_certificate::entries::Entries;
 use fm_certificate::flow::Flow;
 use fm_lattice::join::OutOfMemory;
 use fm_net::network::Network;
 use fm_net::node::Node;
-use fm_numbered::numbered::Numbered;
 use std::alloc::Global;
+use std::cmp::Ordering;
 
-/// The flow's units on the network's arcs, in order, but for those over which no task path of the flow can go: those to jobs
-/// and to the sink, and those of requests that no task is sent to. Of these it looks nothing up, and has 0.
+// A walk over the units of an earlier flow.
+#[derive(Drop)]
+struct Earlier<'a> {
+    next: Option<(Node, Node, u64)>,
+    rest: Entries<'a>,
+    most: usize,
+}
+
+impl<'a> Earlier<'a> {
+    // From the first units on.
+    fn of(flow: &'a Flow) -> Self {
+        let mut rest = flow.iter();
+        Earlier {
+            next: rest.next(),
+            rest,
+            most: flow.len(),
+        }
+    }
+
+    // Passes by the units on arcs before this one, and answers those on it, if any are left. O(1) for each that it passes.
+    fn units(&mut self, from: &Node, to: &Node) -> u64 {
+        for _ in 0..=self.most {
+            let Some((source, target, units)) = self.next else {
+                return 0;
+            };
+            match (source, target).cmp(&(*from, *to)) {
+                Ordering::Less => self.next = self.rest.next(),
+                Ordering::Equal => return units,
+                Ordering::Greater => return 0,
+            }
+        }
+        0
+    }
+}
+
+/// The flow's units on the network's arcs, in order; 0 on arcs that it does not have. Both come in the same order, so that
+/// nothing is looked up: O(arcs of both).
 pub(crate) fn given_units(
     alloc: Global,
     network: &Network,
-    numbered: &Numbered,
     flow: &Flow,
 ) -> Result<Vec<u64>, OutOfMemory> {
-    let mut units = sent_by_tasks(alloc, network, flow)?;
-    let asked = asked_requests(alloc, numbered, &units)?;
-    for (place, (from, to, _, _)) in network.arcs().enumerate() {
-        let is_asked = asked.get(request_of(numbered, place)).copied();
-        if let (Node::Request(_), Node::Machine(_), Some(true)) = (from, to, is_asked) {
-            if let Some(unit) = units.get_mut(place) {
-                *unit = flow.units(from, to).unwrap_or(0);
-            }
-        }
-    }
-    Ok(units)
-}
-
-// The units of tasks to requests and machines; 0 on all other arcs.
-fn sent_by_tasks(alloc: Global, network: &Network, flow: &Flow) -> Result<Vec<u64>, OutOfMemory> {
     let mut units = Vec::with_capacity(alloc, network.arcs_len())?;
+    let mut earlier = Earlier::of(flow);
     for (from, to, _, _) in network.arcs() {
-        let sent = match (from, to) {
-            (Node::Task(_), Node::Request(_) | Node::Machine(_)) => flow.units(from, to),
-            _ => None,
-        };
-        units.push(sent.unwrap_or(0))?;
+        units.push(earlier.units(&from, &to))?;
     }
     Ok(units)
-}
-
-// Whether a task sends units to each request.
-fn asked_requests(
-    alloc: Global,
-    numbered: &Numbered,
-    units: &[u64],
-) -> Result<Vec<bool>, OutOfMemory> {
-    let mut asked = vec![in alloc; false; numbered.places.requests_len()]?;
-    for (arc, sent) in numbered.arcs.iter().zip(units) {
-        let request = arc.to.saturating_sub(numbered.places.requests);
-        if let Some(is_asked) = asked.get_mut(request) {
-            *is_asked = *is_asked || (*sent > 0 && arc.to >= numbered.places.requests);
-        }
-    }
-    Ok(asked)
 }

@@ -11,6 +11,7 @@ mod lanes;
 mod loading;
 mod paths;
 pub mod solve;
+mod sorting;
 pub mod start;
 
 pub use fm_certificate::{check, cost, entries, flow, laws, potentials};

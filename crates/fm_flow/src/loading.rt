@@ -1,10 +1,9 @@
 //! The units that are placed so far, with what makes the next placing fast.
 
 use crate::bits::Bits;
-use crate::lanes::{Lanes, machine_of, price_at, request_of};
+use crate::lanes::{Lanes, first_from, machine_of, price_at, request_of};
 use fm_lattice::join::OutOfMemory;
 use fm_numbered::numbered::Numbered;
-use fm_numbered::places::Kind;
 use fm_numbered::sums::at;
 use std::alloc::Global;
 
@@ -34,18 +33,18 @@ pub(crate) struct Loading {
     pub(crate) least_held: Vec<i64>,
     /// By request, the full machines to which its arc has room.
     pub(crate) open: Bits,
-    /// By machine, the requests with units there.
-    pub(crate) holders: Bits,
+    /// By request, the machines where it has units.
+    pub(crate) held: Bits,
 }
 
 // The slots of each machine.
 fn slots_of(alloc: Global, numbered: &Numbered) -> Result<Vec<u64>, OutOfMemory> {
     let mut slots = vec![in alloc; 0u64; numbered.places.machines_len()]?;
-    for arc in numbered.arcs.iter() {
-        if let Kind::Machine(machine) = numbered.places.kind(arc.from) {
-            if let Some(slot) = slots.get_mut(machine) {
-                *slot = arc.capacity;
-            }
+    let first = first_from(numbered, numbered.places.machines);
+    let end = first_from(numbered, numbered.places.tasks);
+    for arc in numbered.arcs.get(first..end).unwrap_or(&[]) {
+        if let Some(slot) = slots.get_mut(arc.from.saturating_sub(numbered.places.machines)) {
+            *slot = arc.capacity;
         }
     }
     Ok(slots)
@@ -63,7 +62,7 @@ impl Loading {
             least: vec![in alloc; 0 - FAR; requests]?,
             least_held: vec![in alloc; 0 - FAR; machines]?,
             open: Bits::new(alloc, requests, machines)?,
-            holders: Bits::new(alloc, machines, requests)?,
+            held: Bits::new(alloc, requests, machines)?,
         })
     }
 
@@ -147,7 +146,7 @@ impl Loading {
         if let Some(units) = self.units.get_mut(hop.arc) {
             *units = now;
         }
-        self.holders.set(hop.machine, hop.request, now > 0);
+        self.held.set(hop.request, hop.machine, now > 0);
         if at(&self.free, hop.machine) == 0 {
             let open = self.room(numbered, hop.arc) > 0;
             self.open.set(hop.request, hop.machine, open);

@@ -1,6 +1,6 @@
 //! The search for the cheapest free slot that a request reaches, where units of others may move aside.
 
-use crate::bits::Bits;
+use crate::bits::{Bits, bit_of};
 use crate::lanes::Lanes;
 use crate::loading::{Hop, Loading};
 use fm_lattice::join::OutOfMemory;
@@ -8,18 +8,25 @@ use fm_numbered::numbered::Numbered;
 use fm_numbered::places::Kind;
 use std::alloc::Global;
 
+/// How a request was reached: over a full machine where it has units, which another request joins, or else a task that the
+/// machine holds.
+#[derive(Debug, Clone, Copy, PartialEq, Eq, Drop)]
+struct Way {
+    machine: usize,
+    joining: Option<usize>,
+}
+
 /// A search between requests: one reaches a full machine to which its arc has room, and so the requests with units there,
 /// since such a unit may move to another machine.
 #[derive(Debug, Drop)]
 pub(crate) struct Paths {
     alloc: Global,
-    /// The machines that were not yet reached, and the requests that may be cheaper.
+    /// The machines that were not yet reached, and whether each request is not and may be cheaper.
     unseen: Bits,
-    wanted: Bits,
+    wanted: Vec<bool>,
     wanted_len: usize,
-    /// The machine over which each request was reached, and the request over which each machine was.
-    over: Vec<Option<usize>>,
-    by: Vec<Option<usize>>,
+    /// How each request was reached.
+    ways: Vec<Option<Way>>,
     /// The requests that were reached.
     reached: Vec<usize>,
     /// The cheapest price so far, and the request that has it.
@@ -29,15 +36,10 @@ pub(crate) struct Paths {
     floor: i64,
 }
 
-// What was reached before.
-fn before(reached: &[Option<usize>], place: usize) -> Option<usize> {
-    *reached.get(place)?
-}
-
-// Remembers what was reached before.
-fn put_before(reached: &mut [Option<usize>], place: usize, from: Option<usize>) {
-    if let Some(slot) = reached.get_mut(place) {
-        *slot = from;
+// Remembers how a request was reached.
+fn put_way(ways: &mut [Option<Way>], request: usize, way: Option<Way>) {
+    if let Some(slot) = ways.get_mut(request) {
+        *slot = way;
     }
 }
 
@@ -61,10 +63,9 @@ impl Paths {
         Ok(Paths {
             alloc,
             unseen: Bits::new(alloc, 1, machines)?,
-            wanted: Bits::new(alloc, 1, requests)?,
+            wanted: vec![in alloc; false; requests]?,
             wanted_len: 0,
-            over: vec![in alloc; None; requests]?,
-            by: vec![in alloc; None; machines]?,
+            ways: vec![in alloc; None; requests]?,
             reached: Vec::new(alloc),
             price: 0,
             end: None,
@@ -94,34 +95,35 @@ impl Paths {
         Ok(())
     }
 
-    // Reaches the requests of a word over a machine, but for those that have nothing cheaper.
-    fn reach_requests(
+    // Wants a request no more, and tells whether it was wanted.
+    fn forget(&mut self, request: usize) -> bool {
+        match self.wanted.get_mut(request) {
+            Some(is_wanted) if *is_wanted => {
+                *is_wanted = false;
+                self.wanted_len = self.wanted_len.saturating_sub(1);
+                true
+            }
+            _ => false,
+        }
+    }
+
+    // Reaches a request, unless it has nothing cheaper.
+    fn reach(
         &mut self,
         numbered: &Numbered,
         lanes: &Lanes,
         loading: &mut Loading,
-        machine: usize,
-        word: usize,
-        requests: u64,
+        request: usize,
+        way: Way,
     ) -> Result<(), OutOfMemory> {
-        let mut rest = requests;
-        for _ in 0..64 {
-            if rest == 0 {
-                break;
-            }
-            let request = word
-                .saturating_mul(64)
-                .saturating_add(rest.trailing_zeros() as usize);
-            rest &= rest - 1;
-            if bound_at(&loading.least, request) < self.price {
-                put_before(&mut self.over, request, Some(machine));
-                self.consider(numbered, lanes, loading, request)?;
-            }
+        if self.forget(request) && bound_at(&loading.least, request) < self.price {
+            put_way(&mut self.ways, request, Some(way));
+            self.consider(numbered, lanes, loading, request)?;
         }
         Ok(())
     }
 
-    // Reaches the requests with units on a full machine.
+    // Reaches the requests with units on a full machine, where a task that it holds is to stay.
     fn leave_machine(
         &mut self,
         numbered: &Numbered,
@@ -129,39 +131,42 @@ impl Paths {
         loading: &mut Loading,
         machine: usize,
     ) -> Result<(), OutOfMemory> {
-        for word in 0..self.wanted.width() {
-            let requests = loading.holders.word(machine, word) & self.wanted.word(0, word);
-            if requests != 0 {
-                self.wanted.clear(0, word, requests);
-                let count = requests.count_ones() as usize;
-                self.wanted_len = self.wanted_len.saturating_sub(count);
-                self.reach_requests(numbered, lanes, loading, machine, word, requests)?;
+        let word = machine / 64;
+        for request in 0..self.wanted.len() {
+            if loading.held.word(request, word) & bit_of(machine) != 0 {
+                let way = Way {
+                    machine,
+                    joining: None,
+                };
+                self.reach(numbered, lanes, loading, request, way)?;
             }
         }
         Ok(())
     }
 
-    // Reaches the machines of a word from a request.
-    fn reach_machines(
+    // Reaches the wanted requests with units on machines of a word, which a request joins.
+    fn reach_all(
         &mut self,
         numbered: &Numbered,
         lanes: &Lanes,
         loading: &mut Loading,
-        request: usize,
+        joining: usize,
         word: usize,
         machines: u64,
     ) -> Result<(), OutOfMemory> {
-        let mut rest = machines;
-        for _ in 0..64 {
-            if rest == 0 {
-                break;
+        for request in 0..self.wanted.len() {
+            if !self.wanted.get(request).copied().unwrap_or(false) {
+                continue;
             }
-            let machine = word
-                .saturating_mul(64)
-                .saturating_add(rest.trailing_zeros() as usize);
-            rest &= rest - 1;
-            put_before(&mut self.by, machine, Some(request));
-            self.leave_machine(numbered, lanes, loading, machine)?;
+            let held = loading.held.word(request, word) & machines;
+            if held != 0 {
+                let bit = held.trailing_zeros() as usize;
+                let way = Way {
+                    machine: word.saturating_mul(64).saturating_add(bit),
+                    joining: Some(joining),
+                };
+                self.reach(numbered, lanes, loading, request, way)?;
+            }
         }
         Ok(())
     }
@@ -181,7 +186,7 @@ impl Paths {
             let machines = loading.open.word(request, word) & self.unseen.word(0, word);
             if machines != 0 {
                 self.unseen.clear(0, word, machines);
-                self.reach_machines(numbered, lanes, loading, request, word, machines)?;
+                self.reach_all(numbered, lanes, loading, request, word, machines)?;
             }
         }
         Ok(())
@@ -189,11 +194,10 @@ impl Paths {
 
     // Wants each request that may be cheaper.
     fn want(&mut self, bounds: &[i64]) {
-        self.wanted.clear_all();
         self.wanted_len = 0;
-        for (request, bound) in bounds.iter().enumerate() {
-            if *bound < self.price {
-                self.wanted.set(0, request, true);
+        for (bound, is_wanted) in bounds.iter().zip(self.wanted.iter_mut()) {
+            *is_wanted = *bound < self.price;
+            if *is_wanted {
                 self.wanted_len = self.wanted_len.saturating_add(1);
             }
         }
@@ -216,13 +220,12 @@ impl Paths {
         match origin {
             Kind::Request(request) => {
                 self.floor = bound_at(&loading.least, request);
-                put_before(&mut self.over, request, None);
-                self.wanted.set(0, request, false);
+                put_way(&mut self.ways, request, None);
+                self.forget(request);
                 self.consider(numbered, lanes, loading, request)
             }
             Kind::Machine(machine) => {
                 self.floor = bound_at(&loading.least_held, machine);
-                put_before(&mut self.by, machine, None);
                 self.unseen.set(0, machine, false);
                 self.leave_machine(numbered, lanes, loading, machine)
             }
@@ -273,14 +276,14 @@ impl Paths {
         let mut hops = Vec::new(self.alloc);
         let mut request = end;
         for _ in 0..=numbered.places.requests_len() {
-            let Some(machine) = before(&self.over, request) else {
+            let Some(Some(way)) = self.ways.get(request).copied() else {
                 break;
             };
-            push_hop(numbered, lanes, &mut hops, request, machine, false)?;
-            let Some(joining) = before(&self.by, machine) else {
+            push_hop(numbered, lanes, &mut hops, request, way.machine, false)?;
+            let Some(joining) = way.joining else {
                 break;
             };
-            push_hop(numbered, lanes, &mut hops, joining, machine, true)?;
+            push_hop(numbered, lanes, &mut hops, joining, way.machine, true)?;
             request = joining;
         }
         Ok(hops)

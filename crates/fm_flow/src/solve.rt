@@ -57,7 +57,7 @@ pub fn solve_from(
     network.known();
     law_least();
     let numbered = Numbered::of(alloc, network)?;
-    let given = given_units(alloc, network, &numbered, flow)?;
+    let given = given_units(alloc, network, flow)?;
     if let Some((units, values)) = resume(alloc, &numbered, &given)? {
         let found = certified(alloc, network, &numbered, &units, &values)?;
         return Ok(found);

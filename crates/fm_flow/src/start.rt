@@ -9,9 +9,10 @@ ghost use Rattle.fm_numbered.specs.Unscheduled.{all_unscheduled};
 
 use crate::distances::potentials_from;
 use crate::kept::Kept;
-use crate::lanes::{Lanes, bandwidth, machine_of, price_at};
+use crate::lanes::{Lanes, bandwidth, first_from, machine_of, price_at};
 use crate::loading::{FAR, Loading};
 use crate::paths::Paths;
+use crate::sorting::{Keyed, sorted};
 use fm_cycles::search::{Found, search};
 use fm_lattice::join::OutOfMemory;
 use fm_numbered::feasible::is_feasible;
@@ -23,7 +24,7 @@ use std::alloc::Global;
 
 // A task's arc to its job and one to a place, and what that place is worth, from which the price of the slot is still to be
 // taken.
-#[derive(Debug, Clone, Copy, PartialEq, Eq, PartialOrd, Ord, Drop)]
+#[derive(Debug, Clone, Copy, PartialEq, Eq, Drop)]
 struct Choice {
     worth: i64,
     place: usize,
@@ -91,14 +92,12 @@ fn add_choice(
 fn choices(alloc: Global, numbered: &Numbered, lanes: &Lanes) -> Result<Vec<Choice>, OutOfMemory> {
     let mut choices = Vec::new(alloc);
     let mut job = None;
-    for (arc, ends) in numbered.arcs.iter().enumerate() {
-        match (
-            numbered.places.kind(ends.from),
-            numbered.places.kind(ends.to),
-            job,
-        ) {
-            (Kind::Task(_), Kind::Unscheduled(_), _) => job = Some((arc, ends.cost)),
-            (Kind::Task(_), _, Some((left, cost))) => {
+    let first = first_from(numbered, numbered.places.tasks);
+    for (place, ends) in numbered.arcs.get(first..).unwrap_or(&[]).iter().enumerate() {
+        let arc = first.saturating_add(place);
+        match (numbered.places.kind(ends.to), job) {
+            (Kind::Unscheduled(_), _) => job = Some((arc, ends.cost)),
+            (_, Some((left, cost))) => {
                 let choice = Choice {
                     worth: worth_of(numbered, &lanes.prices, ends.to, cost, ends.cost),
                     place: ends.to,
@@ -298,13 +297,61 @@ fn keep_task(placing: &mut Placing<'_>, kept: &mut Kept, left: usize) -> Option<
     None
 }
 
+// The least and the greatest worth; 0 where there is none.
+fn bounds(choices: &[Choice]) -> (i64, i64) {
+    let mut bounds = match choices.first() {
+        Some(choice) => (choice.worth, choice.worth),
+        None => (0, 0),
+    };
+    for choice in choices {
+        bounds = (bounds.0.min(choice.worth), bounds.1.max(choice.worth));
+    }
+    bounds
+}
+
+// How much more the worth is than the least one.
+fn beyond(worth: i64, least: i64) -> u64 {
+    u64::try_from(worth.saturating_sub(least)).unwrap_or(0)
+}
+
+// The choices that stand at these places, in turn.
+fn picked(alloc: Global, choices: &[Choice], places: &[Keyed]) -> Result<Vec<Choice>, OutOfMemory> {
+    let mut picked = Vec::with_capacity(alloc, places.len())?;
+    for (_, place) in places {
+        if let Some(choice) = choices.get(*place) {
+            picked.push(*choice)?;
+        }
+    }
+    Ok(picked)
+}
+
+// The choices, which come in order of their tasks, by worth, then place, then task.
+fn by_worth(
+    alloc: Global,
+    numbered: &Numbered,
+    choices: Vec<Choice>,
+) -> Result<Vec<Choice>, OutOfMemory> {
+    let (least, greatest) = bounds(&choices);
+    let places = numbered.places.end as u64;
+    let mut keyed = Vec::with_capacity(alloc, choices.len())?;
+    for (task, choice) in choices.iter().enumerate() {
+        let worth = beyond(choice.worth, least).saturating_mul(places);
+        keyed.push((worth.saturating_add(choice.place as u64), task))?;
+    }
+    let most = beyond(greatest, least)
+        .saturating_mul(places)
+        .saturating_add(places);
+    let keyed = sorted(alloc, keyed, most)?;
+    picked(alloc, &choices, &keyed)
+}
+
 // The units so far, and those of tasks placed by falling worth, each class where its slots are cheapest.
 fn place_all(
     alloc: Global,
     mut placing: Placing<'_>,
-    mut choices: Vec<Choice>,
+    choices: Vec<Choice>,
 ) -> Result<Vec<u64>, OutOfMemory> {
-    choices.sort()?;
+    let choices = by_worth(alloc, placing.numbered, choices)?;
     let classes = classes(alloc, &choices)?;
     for class in classes.iter().rev() {
         let sent = placing.place(class)?;
