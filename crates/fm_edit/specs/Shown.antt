@@ -1,5 +1,5 @@
 -- The nodes and arcs of the network of what is in sight, with the sums at nodes: those of the table that is seen. Own.
-use Rattle.std.specs.Prelude.{ℕ, ◌+◌, ◌-◌, ◌^◌, Bool, true, cond, not, ◌==◌, Option, None, option_map, min, max, nat_le}
+use Rattle.std.specs.Prelude.{◌≡◌, ℕ, ◌+◌, ◌-◌, ◌^◌, Bool, true, cond, not, ◌==◌, Option, None, option_map, min, max, nat_le}
 use Rattle.std.specs.Ordering.{nat_cmp}
 use Rattle.fm_lattice.specs.Maps.{lookup}
 use Rattle.fm_records.specs.Options.{when, and_then, passes}
@@ -8,6 +8,7 @@ use Rattle.fm_net.specs.declared.node.Node.TheVariants.{Sink, Unscheduled, Reque
 use Rattle.fm_net.specs.Network.{places}
 use Rattle.fm_edit.specs.Sight.{Sight, live_in, open_in, holder_in, used_in}
 use Rattle.fm_edit.specs.Index.{counts_at}
+use Rattle.fm_edit.specs.declared.shown.Place.{Place}
 
 module _ (s : Sight) (sum : Node → ℕ) where
   abbrev pub node_shown : Node → Bool
@@ -34,3 +35,8 @@ module _ (s : Sight) (sum : Node → ℕ) where
   arc_shown (Machine m) Sink = option_map (λ state. (state.slots, 0)) (open_in s m)
   arc_shown (Unscheduled j) Sink = when (node_shown (Unscheduled j)) (min (sum (Unscheduled j)) (2 ^ 64 - 1), 0)
   arc_shown _ _ = None
+
+  -- what was found of a machine is what is in sight of it
+  pub record IsPlace (p : Place) : Type 0 where
+    pub state : p.state ≡ open_in s p.machine
+    pub load : p.load ≡ load_shown p.machine

@@ -1,6 +1,6 @@
 //! The edits of what was touched, in order.
 
-ghost use Rattle.std.specs.Prelude.{◌≡◌, ◌++◌, ◌∷◌, [], not, Option, option_to_list, option_map, IfOk, OnOk};
+ghost use Rattle.std.specs.Prelude.{◌≡◌, ◌++◌, ◌∷◌, [], not, Option, option_to_list, option_map, IfOk, OnOk, IfSome};
 ghost use Rattle.std.specs.List.{filter_map};
 ghost use Rattle.std.specs.Fn.{FnReturnsAt};
 ghost use Rattle.fm_net.specs.declared.edit.Edit.{Edit as EditValue};
@@ -9,12 +9,12 @@ ghost use Rattle.fm_net.specs.Edits.{same_value, has_arc};
 ghost use Rattle.fm_net.specs.Touched.{put_at};
 ghost use Rattle.fm_edit.specs.Sight.{seen_in};
 ghost use Rattle.fm_edit.specs.Index.{sum_in};
-ghost use Rattle.fm_edit.specs.Shown.{node_shown, arc_shown};
+ghost use Rattle.fm_edit.specs.Shown.{node_shown, arc_shown, IsPlace};
 ghost use Rattle.fm_edit.specs.Listing.{arcs_that_go, nodes_that_go, nodes_that_come, arcs_that_come, edits_of};
 
 use crate::index::Index;
 use crate::seen::Seen;
-use crate::shown::{arc, stands};
+use crate::shown::{Place, arc, arc_after, stands};
 use crate::touched::Touched;
 use fm_lattice::join::OutOfMemory;
 use fm_net::edit::Edit;
@@ -55,7 +55,7 @@ pub(crate) fn list(
 }
 
 // Adds the edits of the pairs' arcs, to one list where they go, and to the other where they come or differ: one walk, since
-// to work out what is to stand between two nodes is dear.
+// to work out what is to stand between two nodes is dear; and a machine is looked up once for its pairs in a row.
 fn add_arcs(
     going: &mut Vec<Edit>,
     coming: &mut Vec<Edit>,
@@ -67,8 +67,9 @@ fn add_arcs(
     ensures going { OnOk result (going.new.items ≡ going.old.items ++ arcs_that_go network.now (node_shown (seen_in seen.now) (sum_in index.now)) (arc_shown (seen_in seen.now) (sum_in index.now)) pairs.now.keys) }
     ensures coming { OnOk result (coming.new.items ≡ coming.old.items ++ arcs_that_come network.now (node_shown (seen_in seen.now) (sum_in index.now)) (arc_shown (seen_in seen.now) (sum_in index.now)) pairs.now.keys) }
 {
+    let mut last = None;
     for pair in pairs.iter() {
-        add_arc(going, coming, network, seen, index, pair)?;
+        add_arc(going, coming, network, seen, index, &mut last, pair)?;
     }
     Ok(())
 }
@@ -80,12 +81,15 @@ fn add_arc(
     network: &Network,
     seen: &Seen,
     index: &Index,
+    last: &mut Option<Place>,
     pair: &(Node, Node),
 ) -> Result<(), OutOfMemory>
+    requires { IfSome last.old (IsPlace (seen_in seen.now) (sum_in index.now)) }
+    ensures last { IfSome last.new (IsPlace (seen_in seen.now) (sum_in index.now)) }
     ensures going { OnOk result (going.new.items ≡ going.old.items ++ arcs_that_go network.now (node_shown (seen_in seen.now) (sum_in index.now)) (arc_shown (seen_in seen.now) (sum_in index.now)) (pair.now ∷ [])) }
     ensures coming { OnOk result (coming.new.items ≡ coming.old.items ++ arcs_that_come network.now (node_shown (seen_in seen.now) (sum_in index.now)) (arc_shown (seen_in seen.now) (sum_in index.now)) (pair.now ∷ [])) }
 {
-    match arc(seen, index, &pair.0, &pair.1) {
+    match arc_after(seen, index, last, &pair.0, &pair.1) {
         None => {
             if let Some(edit) = drop_arc(network, seen, index, pair) {
                 going.push(edit)?;

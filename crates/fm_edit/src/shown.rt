@@ -8,13 +8,21 @@ ghost use Rattle.fm_net.specs.declared.node.Node.{Node as NodeName};
 ghost use Rattle.fm_net.specs.Network.{places};
 ghost use Rattle.fm_edit.specs.Sight.{seen_in, live_in};
 ghost use Rattle.fm_edit.specs.Index.{sum_in, counts_at};
-ghost use Rattle.fm_edit.specs.Shown.{node_shown, load_shown, spare_shown, room_shown, arc_shown};
+ghost use Rattle.fm_edit.specs.Shown.{node_shown, load_shown, spare_shown, room_shown, arc_shown, IsPlace};
 
 use crate::index::Index;
 use crate::seen::Seen;
 use fm_net::node::Node;
 use fm_records::ids::{JobId, MachineId, TaskId};
 use fm_records::records::MachineReg;
+
+/// What was found of a machine: its state, if it is open, and its load.
+#[derive(Clone, Copy, Drop)]
+pub(crate) struct Place {
+    pub(crate) machine: MachineId,
+    pub(crate) state: Option<MachineReg>,
+    pub(crate) load: u128,
+}
 
 /// Whether the node stands. O(log n), as each call here.
 pub(crate) fn stands(seen: &Seen, index: &Index, node: &Node) -> bool
@@ -32,12 +40,30 @@ pub(crate) fn stands(seen: &Seen, index: &Index, node: &Node) -> bool
 pub(crate) fn arc(seen: &Seen, index: &Index, from: &Node, to: &Node) -> Option<(u64, u32)>
     ensures { result ≡ arc_shown (seen_in seen.now) (sum_in index.now) from.now to.now }
 {
+    let mut last = None;
+    arc_after(seen, index, &mut last, from, to)
+}
+
+/// The same, where a machine that was the last to be found is not looked up again.
+pub(crate) fn arc_after(
+    seen: &Seen,
+    index: &Index,
+    last: &mut Option<Place>,
+    from: &Node,
+    to: &Node,
+) -> Option<(u64, u32)>
+    requires { IfSome last.old (IsPlace (seen_in seen.now) (sum_in index.now)) }
+    ensures arc { result ≡ arc_shown (seen_in seen.now) (sum_in index.now) from.now to.now }
+    ensures last { IfSome last.new (IsPlace (seen_in seen.now) (sum_in index.now)) }
+{
     match (from, to) {
         (Node::Task(task), Node::Request(request)) => waiting_arc(seen, *task, *request),
         (Node::Request(request), Node::Machine(machine)) => place_arc(
-            seen, index, *request, *machine,
+            seen, index, last, *request, *machine,
         ),
-        (Node::Task(task), Node::Machine(machine)) => machine_arc(seen, index, *task, *machine),
+        (Node::Task(task), Node::Machine(machine)) => machine_arc(
+            seen, index, last, *task, *machine,
+        ),
         (Node::Task(task), Node::Unscheduled(job)) => job_arc(seen, *task, *job),
         (Node::Machine(machine), Node::Sink) => slots_arc(seen, *machine),
         (Node::Unscheduled(job), Node::Sink) => live_arc(index, *job),
@@ -58,23 +84,39 @@ fn waiting_arc(seen: &Seen, task: TaskId, request: u32) -> Option<(u64, u32)>
 }
 
 // A task that is held to the machine that holds it, and a live one that is not to one that it prefers and that has room.
-fn machine_arc(seen: &Seen, index: &Index, task: TaskId, machine: MachineId) -> Option<(u64, u32)>
-    ensures { result ≡ arc_shown (seen_in seen.now) (sum_in index.now) (NodeName.Task task) (NodeName.Machine machine) }
+fn machine_arc(
+    seen: &Seen,
+    index: &Index,
+    last: &mut Option<Place>,
+    task: TaskId,
+    machine: MachineId,
+) -> Option<(u64, u32)>
+    requires { IfSome last.old (IsPlace (seen_in seen.now) (sum_in index.now)) }
+    ensures last { IfSome last.new (IsPlace (seen_in seen.now) (sum_in index.now)) }
+    ensures arc { result ≡ arc_shown (seen_in seen.now) (sum_in index.now) (NodeName.Task task) (NodeName.Machine machine) }
 {
     match seen.holder(task) {
         Some(holder) if holder == machine => Some((1, 0)),
         Some(_) => None,
-        None => preferred_arc(seen, index, task, machine),
+        None => preferred_arc(seen, index, last, task, machine),
     }
 }
 
 // A live task to the machine, where it prefers that and it has room.
-fn preferred_arc(seen: &Seen, index: &Index, task: TaskId, machine: MachineId) -> Option<(u64, u32)>
-    ensures { result ≡ and_then (λ r. and_then (λ credit. option_map (λ a. (1, a.1 - credit)) (room_shown (seen_in seen.now) (sum_in index.now) r.request machine)) (lookup nat_cmp machine r.prefer)) (live_in (seen_in seen.now) task) }
+fn preferred_arc(
+    seen: &Seen,
+    index: &Index,
+    last: &mut Option<Place>,
+    task: TaskId,
+    machine: MachineId,
+) -> Option<(u64, u32)>
+    requires { IfSome last.old (IsPlace (seen_in seen.now) (sum_in index.now)) }
+    ensures last { IfSome last.new (IsPlace (seen_in seen.now) (sum_in index.now)) }
+    ensures arc { result ≡ and_then (λ r. and_then (λ credit. option_map (λ a. (1, a.1 - credit)) (room_shown (seen_in seen.now) (sum_in index.now) r.request machine)) (lookup nat_cmp machine r.prefer)) (live_in (seen_in seen.now) task) }
 {
     let spec = seen.live_spec(task)?;
     let credit = spec.prefer.credit(machine)?;
-    let (_, cost) = room(seen, index, spec.request, machine)?;
+    let (_, cost) = room(seen, index, last, spec.request, machine)?;
     Some((1, cost.saturating_sub(credit)))
 }
 
@@ -113,30 +155,79 @@ fn live_arc(index: &Index, job: JobId) -> Option<(u64, u32)>
 }
 
 // A request to a machine that has room for it.
-fn place_arc(seen: &Seen, index: &Index, request: u32, machine: MachineId) -> Option<(u64, u32)>
-    ensures { result ≡ arc_shown (seen_in seen.now) (sum_in index.now) (NodeName.Request request) (NodeName.Machine machine) }
+fn place_arc(
+    seen: &Seen,
+    index: &Index,
+    last: &mut Option<Place>,
+    request: u32,
+    machine: MachineId,
+) -> Option<(u64, u32)>
+    requires { IfSome last.old (IsPlace (seen_in seen.now) (sum_in index.now)) }
+    ensures last { IfSome last.new (IsPlace (seen_in seen.now) (sum_in index.now)) }
+    ensures arc { result ≡ arc_shown (seen_in seen.now) (sum_in index.now) (NodeName.Request request) (NodeName.Machine machine) }
 {
     if index.sum(&Node::Request(request)) == 0 {
         return None;
     }
-    room(seen, index, request, machine)
+    room(seen, index, last, request, machine)
 }
 
 // For how many tasks of the request the machine has room, and what each costs there, where it is open and has any.
-fn room(seen: &Seen, index: &Index, request: u32, machine: MachineId) -> Option<(u64, u32)>
-    ensures { result ≡ room_shown (seen_in seen.now) (sum_in index.now) request machine }
+fn room(
+    seen: &Seen,
+    index: &Index,
+    last: &mut Option<Place>,
+    request: u32,
+    machine: MachineId,
+) -> Option<(u64, u32)>
+    requires { IfSome last.old (IsPlace (seen_in seen.now) (sum_in index.now)) }
+    ensures last { IfSome last.new (IsPlace (seen_in seen.now) (sum_in index.now)) }
+    ensures room { result ≡ room_shown (seen_in seen.now) (sum_in index.now) request machine }
 {
-    let state = seen.open_state(machine)?;
-    let load = load(seen, index, machine);
-    if load > u128::from(state.nic) {
+    let place = found_again(seen, index, *last, machine);
+    *last = Some(place);
+    room_at(seen, index, &place, request)
+}
+
+// For how many tasks of the request there is room at the place, and what each costs there, where it is open and has any.
+fn room_at(seen: &Seen, index: &Index, place: &Place, request: u32) -> Option<(u64, u32)>
+    requires { IsPlace (seen_in seen.now) (sum_in index.now) place.now }
+    ensures { result ≡ room_shown (seen_in seen.now) (sum_in index.now) request place.now.machine }
+{
+    let state = place.state?;
+    if place.load > u128::from(state.nic) {
         return None;
     }
-    let load = load as u32;
+    let load = place.load as u32;
     let spare = state.nic - load;
     if request > spare {
         return None;
     }
     Some((places(&state, spare, request), request + load))
+}
+
+// What is to be found of the machine, where it is the last that was found too.
+fn found_again(seen: &Seen, index: &Index, last: Option<Place>, machine: MachineId) -> Place
+    requires { IfSome last (IsPlace (seen_in seen.now) (sum_in index.now)) }
+    ensures is { IsPlace (seen_in seen.now) (sum_in index.now) result }
+    ensures machine { result.machine ≡ machine }
+{
+    match last {
+        Some(place) if place.machine == machine => place,
+        _ => found(seen, index, machine),
+    }
+}
+
+// What is to be found of the machine.
+fn found(seen: &Seen, index: &Index, machine: MachineId) -> Place
+    ensures is { IsPlace (seen_in seen.now) (sum_in index.now) result }
+    ensures machine { result.machine ≡ machine }
+{
+    Place {
+        machine,
+        state: seen.open_state(machine),
+        load: load(seen, index, machine),
+    }
 }
 
 // The load of a machine.
