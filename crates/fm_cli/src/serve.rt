@@ -145,6 +145,3 @@ fn reply<W: Write>(
         Err(fault) => Ending::Stopped(fault),
     }
 }
-
-#[cfg(test)]
-mod tests;
