@@ -1,3 +1,4 @@
+use crate::told::{delta, join, known};
 use fm_know::knowledge::Knowledge;
 use fm_lattice::join::Join;
 use fm_records::ids::{JobId, MachineId, TaskId};
@@ -6,14 +7,7 @@ use fm_records::prefer::Prefer;
 use std::alloc::Global;
 use std::test::Fail;
 
-// The knowledge with the operation taken in.
-fn with(alloc: Global, known: &Knowledge, op: Op) -> Result<Knowledge, Fail> {
-    op.check()?;
-    let mut more = known.copy()?;
-    let delta = Knowledge::delta_of(alloc, &op)?;
-    more.join_into(&delta)?;
-    Ok(more)
-}
+// The functions below have no contract: the tests are of what is answered, and proofs of them stay short.
 
 fn job(version: u64) -> Op {
     Op::Job {
@@ -26,32 +20,53 @@ fn job(version: u64) -> Op {
     }
 }
 
+fn copy(known: &Knowledge) -> Result<Knowledge, Fail> {
+    Ok(known.copy()?)
+}
+
+fn joined(one: &Knowledge, other: &Knowledge) -> Result<Knowledge, Fail> {
+    Ok(one.joined(other)?)
+}
+
+fn told(alloc: Global, ops: &[Op]) -> Result<Knowledge, Fail> {
+    Ok(Knowledge::told(alloc, ops)?)
+}
+
+// How many keys each map has.
+fn keys(known: &Knowledge) -> [usize; 4] {
+    [
+        known.jobs().len(),
+        known.tasks().len(),
+        known.machines().len(),
+        known.proposals().len(),
+    ]
+}
+
 // With ample memory nothing is refused; what comes out is said by the contracts.
 #[test]
 fn a_job_is_known_once(rt: HostRuntime) -> Result<(), Fail> {
-    let first = with(rt.alloc(), &Knowledge::empty(rt.alloc()), job(1))?;
-    let second = with(rt.alloc(), &first, job(2))?;
-    assert_eq!(rt; second.jobs().len(), 1);
+    let first = known(rt.alloc(), &[job(1)])?;
+    let mut second = copy(&first)?;
+    join(&mut second, &delta(rt.alloc(), &job(2))?)?;
+    assert_eq!(rt; keys(&second), [1, 0, 0, 0]);
     Ok(())
 }
 
 #[test]
 fn whole_knowledges_are_joined(rt: HostRuntime) -> Result<(), Fail> {
-    let known = with(rt.alloc(), &Knowledge::empty(rt.alloc()), job(1))?;
-    let both = known.joined(&known)?;
-    assert_eq!(rt; both.jobs().len(), 1);
+    let known = known(rt.alloc(), &[job(1)])?;
+    assert_eq!(rt; keys(&joined(&known, &known)?), [1, 0, 0, 0]);
     Ok(())
 }
 
 #[test]
 fn operations_are_told_together(rt: HostRuntime) -> Result<(), Fail> {
-    let ops = [Op::Progress {
+    let progress = Op::Progress {
         id: TaskId::new(17),
         attempt: 1,
         phase: Phase::Running,
-    }];
-    let told = Knowledge::told(rt.alloc(), &ops)?;
-    assert_eq!(rt; told.tasks().len(), 1);
+    };
+    assert_eq!(rt; keys(&told(rt.alloc(), &[progress])?), [0, 1, 0, 0]);
     Ok(())
 }
 
@@ -68,23 +83,19 @@ fn spec(machines: &[(MachineId, u32)]) -> Op {
     }
 }
 
-// What is known to be preferred where the one list is told, and then the other.
-fn preferred(
-    alloc: Global,
-    first: &[(MachineId, u32)],
-    second: &[(MachineId, u32)],
-) -> Result<Option<Prefer>, Fail> {
-    let told = with(alloc, &Knowledge::empty(alloc), spec(first))?;
-    let both = with(alloc, &told, spec(second))?;
-    Ok(both.spec(TaskId::new(17)).map(|spec| spec.prefer()))
+// What is known to be preferred where the operations are told.
+fn preferred(alloc: Global, ops: &[Op]) -> Result<Option<Prefer>, Fail> {
+    let known = known(alloc, ops)?;
+    Ok(known.spec(TaskId::new(17)).map(|spec| spec.prefer()))
 }
 
 #[test]
 fn of_two_specs_the_longer_list_counts(rt: HostRuntime) -> Result<(), Fail> {
-    let short = [(MachineId::new(10), 1)];
-    let long = [(MachineId::new(10), 1), (MachineId::new(11), 1)];
-    assert_eq!(rt; preferred(rt.alloc(), &short, &long)?, Prefer::new(&long));
-    assert_eq!(rt; preferred(rt.alloc(), &long, &short)?, Prefer::new(&long));
+    let entries = [(MachineId::new(10), 1), (MachineId::new(11), 1)];
+    let (short, long) = (spec(&entries[..1]), spec(&entries));
+    let wanted = Prefer::new(&entries);
+    assert_eq!(rt; preferred(rt.alloc(), &[short, long])?, wanted);
+    assert_eq!(rt; preferred(rt.alloc(), &[long, short])?, wanted);
     Ok(())
 }
 
@@ -121,50 +132,24 @@ fn ops(number: u128) -> [Op; 4] {
     ]
 }
 
-// What these operations come to.
-fn lot(alloc: Global, number: u128) -> Result<Knowledge, Fail> {
-    let mut known = Knowledge::empty(alloc);
-    for op in &ops(number) {
-        op.check()?;
-        let delta = Knowledge::delta_of(alloc, op)?;
-        known.join_into(&delta)?;
-    }
-    Ok(known)
-}
-
-// So many of them, each by itself.
+// What so many fours of operations come to, each by itself.
 fn lots(alloc: Global, count: u32) -> Result<Vec<Knowledge>, Fail> {
     let mut lots = Vec::new(alloc);
     for number in 0..count {
-        lots.push(lot(alloc, u128::from(number))?)?;
+        lots.push(known(alloc, &ops(u128::from(number)))?)?;
     }
     Ok(lots)
 }
 
-// How many keys each map has.
-fn keys(known: &Knowledge) -> [usize; 4] {
-    [
-        known.jobs().len(),
-        known.tasks().len(),
-        known.machines().len(),
-        known.proposals().len(),
-    ]
+fn has_joined(known: &mut Knowledge, other: &Knowledge) -> bool {
+    known.join_into(other).is_ok()
 }
 
 // Whether it has a key more in each map, or where memory was refused in none.
 fn joins_or_not(known: &mut Knowledge, other: &Knowledge) -> bool {
-    let [jobs, tasks, machines, proposals] = keys(known);
-    let more = match known.join_into(other) {
-        Ok(()) => 1,
-        Err(_) => 0,
-    };
-    keys(known)
-        == [
-            jobs.saturating_add(more),
-            tasks.saturating_add(more),
-            machines.saturating_add(more),
-            proposals.saturating_add(more),
-        ]
+    let before = keys(known);
+    let more = usize::from(has_joined(known, other));
+    keys(known) == before.map(|count| count.saturating_add(more))
 }
 
 // Memory is ample here. `tests/wrong_bodies` has an allocation among these joins refused, in a tree where one joins map by map.

@@ -4,9 +4,39 @@ use fm_lattice::plain::{Both, Lex, Max, Min, Opt};
 use std::alloc::Global;
 use std::test::Fail;
 
+// The functions below have no contract: the tests are of what is answered, and proofs of them stay short.
+
 // Each is below the other, so they are equal.
 fn is_same<T: Join>(a: &T, b: &T) -> bool {
     a.leq(b) && b.leq(a)
+}
+
+// Whether the first is below the second, which is not below it.
+fn is_less<T: Join>(a: &T, b: &T) -> bool {
+    a.leq(b) && !b.leq(a)
+}
+
+fn are_apart<T: Join>(a: &T, b: &T) -> bool {
+    !a.leq(b) && !b.leq(a)
+}
+
+fn joined<T: Join>(a: &T, b: &T) -> Result<T, Fail> {
+    Ok(a.joined(b)?)
+}
+
+// Whether the laws are seen to hold of the values, and a copy of the last is the same. The contracts say so of all values.
+fn obey_laws<T: Join>(a: &T, b: &T, c: &T) -> Result<bool, Fail> {
+    law_assoc(a, b, c);
+    law_comm(a, b);
+    law_idem(c);
+    let first = a.joined(b)?;
+    let last = b.joined(c)?;
+    Ok(
+        is_same(&first.joined(c)?, &a.joined(&last)?)
+            && is_same(&first, &b.joined(a)?)
+            && is_same(&c.joined(c)?, c)
+            && is_same(&copied(c)?, c),
+    )
 }
 
 #[test]
@@ -14,16 +44,16 @@ fn the_greater_first_part_wins(rt: HostRuntime) -> Result<(), Fail> {
     let old = Lex(1u64, Max(9u8));
     let new = Lex(2u64, Max(3u8));
     let higher = Lex(2u64, Max(9u8));
-    assert_eq!(rt; old.joined(&new)?, new);
-    assert_eq!(rt; higher.joined(&new)?, higher);
-    assert!(rt; old.leq(&new) && !new.leq(&old));
+    assert_eq!(rt; joined(&old, &new)?, new);
+    assert_eq!(rt; joined(&higher, &new)?, higher);
+    assert!(rt; is_less(&old, &new));
     Ok(())
 }
 
 #[test]
 fn the_lesser_wins(rt: HostRuntime) -> Result<(), Fail> {
-    assert_eq!(rt; Min(4u8).joined(&Min(7))?, Min(4));
-    assert!(rt; Min(7u8).leq(&Min(4)) && !Min(4u8).leq(&Min(7)));
+    assert_eq!(rt; joined(&Min(4u8), &Min(7))?, Min(4));
+    assert!(rt; is_less(&Min(7u8), &Min(4)));
     Ok(())
 }
 
@@ -31,8 +61,8 @@ fn the_lesser_wins(rt: HostRuntime) -> Result<(), Fail> {
 fn none_is_below_all(rt: HostRuntime) -> Result<(), Fail> {
     let none: Opt<Max<u8>> = Opt(None);
     let some = Opt(Some(Max(0u8)));
-    assert_eq!(rt; none.joined(&some)?, some);
-    assert!(rt; none.leq(&some) && !some.leq(&none));
+    assert_eq!(rt; joined(&none, &some)?, some);
+    assert!(rt; is_less(&none, &some));
     Ok(())
 }
 
@@ -40,81 +70,140 @@ fn none_is_below_all(rt: HostRuntime) -> Result<(), Fail> {
 fn parts_join_apart(rt: HostRuntime) -> Result<(), Fail> {
     let one = Both(Max(1u8), Min(1u8));
     let two = Both(Max(2u8), Min(2u8));
-    assert_eq!(rt; one.joined(&two)?, Both(Max(2), Min(1)));
-    assert!(rt; !one.leq(&two) && !two.leq(&one));
+    assert_eq!(rt; joined(&one, &two)?, Both(Max(2), Min(1)));
+    assert!(rt; are_apart(&one, &two));
     Ok(())
+}
+
+type Small = JoinMap<u8, Max<u8>>;
+
+// A map of the values, each put at its key.
+fn small(alloc: Global, values: &[(u8, u8)]) -> Result<Small, Fail> {
+    let mut map = JoinMap::new(alloc);
+    for (key, value) in values {
+        put(&mut map, *key, *value)?;
+    }
+    Ok(map)
+}
+
+fn put(map: &mut Small, key: u8, value: u8) -> Result<(), Fail> {
+    map.put(key, Max(value))?;
+    Ok(())
+}
+
+fn join_into(map: &mut Small, other: &Small) -> Result<(), Fail> {
+    map.join_into(other)?;
+    Ok(())
+}
+
+fn copy_of(map: &Small) -> Result<Small, Fail> {
+    Ok(map.copy()?)
+}
+
+fn value(map: &Small, key: u8) -> Option<u8> {
+    match map.get(&key) {
+        Some(value) => Some(value.0),
+        None => None,
+    }
+}
+
+fn keys(alloc: Global, map: &Small) -> Result<Vec<u8>, Fail> {
+    let mut keys = Vec::new(alloc);
+    for (key, _) in map.iter() {
+        keys.push(*key)?;
+    }
+    Ok(keys)
+}
+
+// Whether it has these keys alone, in order, and these values.
+fn holds(alloc: Global, map: &Small, values: &[(u8, u8)]) -> Result<bool, Fail> {
+    let keys = keys(alloc, map)?;
+    Ok(
+        map.len() == values.len()
+            && map.is_empty() == values.is_empty()
+            && keys.iter().eq(values.iter().map(|pair| &pair.0))
+            && values.iter().all(|pair| value(map, pair.0) == Some(pair.1)),
+    )
 }
 
 #[test]
 fn maps_join_key_by_key(rt: HostRuntime) -> Result<(), Fail> {
-    let mut left = JoinMap::new(rt.alloc());
-    assert!(rt; left.is_empty());
-    left.put(1u8, Max(4u8))?;
-    left.put(2, Max(1))?;
-    let mut right = JoinMap::new(rt.alloc());
-    right.put(2, Max(6))?;
-    right.put(3, Max(0))?;
-    let mut both = left.joined(&right)?;
-    left.join_into(&right)?;
+    let alloc = rt.alloc();
+    assert!(rt; holds(alloc, &small(alloc, &[])?, &[])?);
+    let mut left = small(alloc, &[(1, 4), (2, 1)])?;
+    let right = small(alloc, &[(2, 6), (3, 0)])?;
+    let mut both = joined(&left, &right)?;
+    join_into(&mut left, &right)?;
     assert!(rt; is_same(&left, &both));
-    assert!(rt; is_same(&both.copy()?, &both));
-    both.put(2, Max(0))?;
+    assert!(rt; is_same(&copy_of(&both)?, &both));
+    put(&mut both, 2, 0)?;
     assert!(rt; is_same(&left, &both));
-    assert!(rt; right.leq(&both) && !both.leq(&right));
-    assert_eq!(rt; both.len(), 3);
-    assert!(rt; !both.is_empty());
-    assert_eq!(rt; both.get(&1), Some(&Max(4)));
-    assert_eq!(rt; both.get(&2), Some(&Max(6)));
-    assert_eq!(rt; both.get(&3), Some(&Max(0)));
-    assert_eq!(rt; both.get(&4), None);
-    let mut keys = Vec::new(rt.alloc());
-    for (key, _) in both.iter() {
-        keys.push(*key)?;
-    }
-    assert_eq!(rt; keys.as_slice(), [1u8, 2, 3].as_slice());
+    assert!(rt; is_less(&right, &both));
+    assert!(rt; holds(alloc, &both, &[(1, 4), (2, 6), (3, 0)])?);
+    assert_eq!(rt; value(&both, 4), None);
     Ok(())
+}
+
+type Spots = JoinMap<u8, Min<(u64, u64)>>;
+
+type Proposals = JoinMap<(u64, u32), Spots>;
+
+fn spots(alloc: Global, values: &[(u8, (u64, u64))]) -> Result<Spots, Fail> {
+    let mut spots = JoinMap::new(alloc);
+    for (key, spot) in values {
+        spots.put(*key, Min(*spot))?;
+    }
+    Ok(spots)
+}
+
+fn proposals(alloc: Global, attempt: u32, values: &[(u8, (u64, u64))]) -> Result<Proposals, Fail> {
+    let mut proposals = JoinMap::new(alloc);
+    let spots = spots(alloc, values)?;
+    proposals.put((7, attempt), spots)?;
+    Ok(proposals)
 }
 
 // Proposals by task and attempt, then by coordinator: the least spot counts.
 #[test]
 fn the_laws_hold_of_nested_maps(rt: HostRuntime) -> Result<(), Fail> {
-    let mut first: JoinMap<u8, Min<(u64, u64)>> = JoinMap::new(rt.alloc());
-    first.put(1, Min((4, 2)))?;
-    let mut second = JoinMap::new(rt.alloc());
-    second.put(1, Min((4, 1)))?;
-    second.put(2, Min((9, 9)))?;
-    let mut a: JoinMap<(u64, u32), JoinMap<u8, Min<(u64, u64)>>> = JoinMap::new(rt.alloc());
-    a.put((7, 1), first)?;
-    let mut b = JoinMap::new(rt.alloc());
-    b.put((7, 1), second.copy()?)?;
-    let mut c = JoinMap::new(rt.alloc());
-    c.put((7, 2), second)?;
-    law_assoc(&a, &b, &c);
-    law_comm(&a, &b);
-    law_idem(&c);
-    assert!(rt; is_same(&a.joined(&b)?.joined(&c)?, &a.joined(&b.joined(&c)?)?));
-    assert!(rt; is_same(&a.joined(&b)?, &b.joined(&a)?));
-    assert!(rt; is_same(&copied(&c)?, &c));
+    let a = proposals(rt.alloc(), 1, &[(1, (4, 2))])?;
+    let b = proposals(rt.alloc(), 1, &[(1, (4, 1)), (2, (9, 9))])?;
+    let c = proposals(rt.alloc(), 2, &[(1, (4, 1)), (2, (9, 9))])?;
+    assert!(rt; obey_laws(&a, &b, &c)?);
     Ok(())
+}
+
+// What is known of a machine in an incarnation: its state and a report.
+type Machine = Lex<u64, Both<Opt<Max<u64>>, Opt<Max<(u64, u32)>>>>;
+
+type Machines = JoinMap<u64, Machine>;
+
+fn machine(incarnation: u64, state: Option<u64>, report: Option<(u64, u32)>) -> Machine {
+    let state = state.map(|state| Max(state));
+    let report = report.map(|report| Max(report));
+    Lex(incarnation, Both(Opt(state), Opt(report)))
+}
+
+fn machines(alloc: Global, machine: Machine) -> Result<Machines, Fail> {
+    let mut machines = JoinMap::new(alloc);
+    machines.put(5, machine)?;
+    Ok(machines)
+}
+
+// Whether the two are joined to this one machine.
+fn join_to(one: &Machines, other: &Machines, machine: Machine) -> Result<bool, Fail> {
+    Ok(one.joined(other)?.get(&5) == Some(&machine))
 }
 
 // Machines by incarnation: a state and a report of the greatest incarnation.
 #[test]
 fn the_laws_hold_of_lexicographic_values(rt: HostRuntime) -> Result<(), Fail> {
-    let mut a: JoinMap<u64, Lex<u64, Both<Opt<Max<u64>>, Opt<Max<(u64, u32)>>>>> = JoinMap::new(
-        rt.alloc(),
-    );
-    a.put(5, Lex(1, Both(Opt(Some(Max(8))), Opt(None))))?;
-    let mut b = JoinMap::new(rt.alloc());
-    b.put(5, Lex(1, Both(Opt(None), Opt(Some(Max((3, 950)))))))?;
-    let mut c = JoinMap::new(rt.alloc());
-    c.put(5, Lex(2, Both(Opt(None), Opt(Some(Max((1, 0)))))))?;
-    law_assoc(&a, &b, &c);
-    law_comm(&a, &c);
-    law_idem(&b);
-    let both = Lex(1, Both(Opt(Some(Max(8))), Opt(Some(Max((3, 950))))));
-    assert_eq!(rt; a.joined(&b)?.get(&5), Some(&both));
-    assert_eq!(rt; a.joined(&c)?.get(&5), c.get(&5));
+    let a = machines(rt.alloc(), machine(1, Some(8), None))?;
+    let b = machines(rt.alloc(), machine(1, None, Some((3, 950))))?;
+    let c = machines(rt.alloc(), machine(2, None, Some((1, 0))))?;
+    assert!(rt; obey_laws(&a, &b, &c)?);
+    assert!(rt; join_to(&a, &b, machine(1, Some(8), Some((3, 950))))?);
+    assert!(rt; join_to(&a, &c, machine(2, None, Some((1, 0))))?);
     Ok(())
 }
 

@@ -10,6 +10,8 @@ mod lattice;
 #[cfg(test)]
 mod records;
 #[cfg(test)]
+mod told;
+#[cfg(test)]
 mod versions;
 #[cfg(test)]
 mod wire;

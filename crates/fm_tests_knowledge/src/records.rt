@@ -5,7 +5,7 @@ use fm_records::ids::{CoordId, JobId, MachineId, TaskId};
 use fm_records::laws::{self, equal, order};
 use fm_records::ops::{Field, Op, Phase};
 use fm_records::prefer::Prefer;
-use fm_records::records::{JobReg, MachineReg, Progress, Report, SpecReg, Spot};
+use fm_records::records::{JobReg, MachineRec, MachineReg, Progress, Report, SpecReg, Spot};
 use fm_records::refusal::Refusal;
 use std::alloc::{AllocError, Global};
 use std::cmp::Ordering;
@@ -158,6 +158,17 @@ fn coordinators_are_numbered_from_1_to_64(rt: HostRuntime) {
     assert_eq!(rt; CoordId::new(65), None);
 }
 
+// Whether the text is read as this number, of whatever it is.
+fn is_read(text: &str, number: u128) -> bool {
+    JobId::read(text) == Some(JobId::new(number))
+        && TaskId::read(text) == Some(TaskId::new(number))
+        && MachineId::read(text) == Some(MachineId::new(number))
+}
+
+fn is_no_id(text: &str) -> bool {
+    JobId::read(text).is_none() && TaskId::read(text).is_none() && MachineId::read(text).is_none()
+}
+
 #[test]
 fn ids_are_read_in_every_form(rt: HostRuntime) -> Result<(), Fail> {
     let number = 0x00112233_4455_6677_8899_aabbccddeeff;
@@ -168,13 +179,7 @@ fn ids_are_read_in_every_form(rt: HostRuntime) -> Result<(), Fail> {
         "{00112233-4455-6677-8899-aabbccddeeff}",
         "urn:uuid:00112233-4455-6677-8899-aabbccddeeff",
     ] {
-        assert_eq!(rt; JobId::read(text), Some(JobId::new(number)), "at {text}");
-        assert_eq!(rt; TaskId::read(text), Some(TaskId::new(number)), "at {text}");
-        assert_eq!(rt;
-            MachineId::read(text),
-            Some(MachineId::new(number)),
-            "at {text}"
-        );
+        assert!(rt; is_read(text, number), "at {text}");
     }
     for text in [
         "",
@@ -190,9 +195,7 @@ fn ids_are_read_in_every_form(rt: HostRuntime) -> Result<(), Fail> {
         "(00112233-4455-6677-8899-aabbccddeeff)",
         "uuid:00112233-4455-6677-8899-aabbccddeeff",
     ] {
-        assert_eq!(rt; JobId::read(text), None, "at {text}");
-        assert_eq!(rt; TaskId::read(text), None, "at {text}");
-        assert_eq!(rt; MachineId::read(text), None, "at {text}");
+        assert!(rt; is_no_id(text), "at {text}");
     }
     Ok(())
 }
@@ -219,32 +222,47 @@ fn the_text_of_an_id_is_lower_case_with_hyphens(rt: HostRuntime) -> Result<(), F
     Ok(())
 }
 
+fn is_job(op: &Op, register: JobReg) -> bool {
+    JobReg::of(op) == Some(register)
+}
+
+fn is_spec(op: &Op, register: SpecReg) -> bool {
+    SpecReg::of(op) == Some(register)
+}
+
+fn is_progress(op: &Op, progress: Progress) -> bool {
+    Progress::of(op) == Some(progress)
+}
+
+fn is_machine(op: &Op, register: MachineReg) -> bool {
+    MachineReg::of(op) == Some(register)
+}
+
+fn is_report(op: &Op, report: Report) -> bool {
+    Report::of(op) == Some(report)
+}
+
+fn is_spot(op: &Op, spot: Spot) -> bool {
+    Spot::of(op) == Some(spot)
+}
+
 #[test]
 fn records_hold_the_fields_of_their_operation(rt: HostRuntime) {
-    assert_eq!(rt;
-        JobReg::of(&job(2, 500, 800)),
-        Some(job_register(1, 2, false, 500, 800))
+    let sent = Report {
+        number: 3,
+        used: 950,
+    };
+    assert!(rt; is_job(&job(2, 500, 800), job_register(1, 2, false, 500, 800)));
+    assert!(rt; is_spec(&spec(3, 100), spec_register(1, 3, false, 1, 100)));
+    assert!(rt;
+        is_progress(
+            &progress(4, Phase::Running),
+            Progress::new(4, Phase::Running)
+        )
     );
-    assert_eq!(rt;
-        SpecReg::of(&spec(3, 100)),
-        Some(spec_register(1, 3, false, 1, 100))
-    );
-    assert_eq!(rt;
-        Progress::of(&progress(4, Phase::Running)),
-        Some(Progress::new(4, Phase::Running))
-    );
-    assert_eq!(rt;
-        MachineReg::of(&machine(5, 2, 1000)),
-        Some(machine_register(1, 5, true, 2, 1000))
-    );
-    assert_eq!(rt;
-        Report::of(&report(950)),
-        Some(Report {
-            number: 3,
-            used: 950
-        })
-    );
-    assert_eq!(rt; Spot::of(&propose(1)), Some(spot(10, 1)));
+    assert!(rt; is_machine(&machine(5, 2, 1000), machine_register(1, 5, true, 2, 1000)));
+    assert!(rt; is_report(&report(950), sent));
+    assert!(rt; is_spot(&propose(1), spot(10, 1)));
 }
 
 fn has_record(op: &Op) -> [bool; 6] {
@@ -463,6 +481,11 @@ fn equality_tells_values_apart(rt: HostRuntime) {
     assert!(rt; !equal::refusals(&Refusal::Trimmed(2), &Refusal::BadPacket(2)));
 }
 
+fn is_said(alloc: Global, refusal: Refusal, number: u8, text: &str) -> Result<bool, Fail> {
+    let said = refusal.to_string(alloc)?;
+    Ok(refusal.number() == number && said.as_str() == text)
+}
+
 #[test]
 fn refusals_have_numbers_and_texts(rt: HostRuntime) -> Result<(), Fail> {
     for (number, refusal, text) in [
@@ -505,8 +528,7 @@ fn refusals_have_numbers_and_texts(rt: HostRuntime) -> Result<(), Fail> {
             "the network is wrong at line 13",
         ),
     ] {
-        assert_eq!(rt; refusal.number(), number);
-        assert_eq!(rt; refusal.to_string(rt.alloc())?.as_str(), text);
+        assert!(rt; is_said(rt.alloc(), refusal, number, text)?, "{text}");
     }
     Ok(())
 }
@@ -515,6 +537,11 @@ fn refusals_have_numbers_and_texts(rt: HostRuntime) -> Result<(), Fail> {
 fn want_of_memory_is_a_refusal(rt: HostRuntime) {
     assert_eq!(rt; Refusal::from(OutOfMemory), Refusal::OutOfMemory);
     assert_eq!(rt; Refusal::from(AllocError), Refusal::OutOfMemory);
+}
+
+fn is_named(alloc: Global, field: Field, name: &str) -> Result<bool, Fail> {
+    let said = field.to_string(alloc)?;
+    Ok(said.as_str() == name)
 }
 
 #[test]
@@ -530,21 +557,46 @@ fn fields_have_names(rt: HostRuntime) -> Result<(), Fail> {
         (Field::Used, "used"),
         (Field::Coordinator, "coordinator"),
     ] {
-        assert_eq!(rt; field.to_string(rt.alloc())?.as_str(), name);
+        assert!(rt; is_named(rt.alloc(), field, name)?, "{name}");
     }
     Ok(())
 }
 
-fn proposals(
-    alloc: Global,
-    coordinator: CoordId,
-    machine: u128,
-) -> Result<laws::Proposals, OutOfMemory> {
+// The join of three. It has no contract, as the functions below: the tests are of what is answered, and proofs of them stay short.
+fn joined<T: Join>(a: &T, b: &T, c: &T) -> Result<T, Fail> {
+    let two = a.joined(b)?;
+    Ok(two.joined(c)?)
+}
+
+// Whether the three are below what they come to, which is not below the second.
+fn are_below<T: Join>(a: &T, b: &T, c: &T, all: &T) -> bool {
+    a.leq(all) && b.leq(all) && c.leq(all) && !all.leq(b)
+}
+
+fn spots(alloc: Global, coordinator: CoordId, machine: u128) -> Result<Spots, Fail> {
     let mut spots = JoinMap::new(alloc);
     spots.put(coordinator, Min(spot(machine, 1)))?;
+    Ok(spots)
+}
+
+type Spots = JoinMap<CoordId, Min<Spot>>;
+
+fn proposals(alloc: Global, coordinator: CoordId, machine: u128) -> Result<laws::Proposals, Fail> {
+    let spots = spots(alloc, coordinator, machine)?;
     let mut proposals = JoinMap::new(alloc);
     proposals.put((TaskId::new(17), 0), spots)?;
     Ok(proposals)
+}
+
+// The machine at which the coordinator would run the task.
+fn machine_of(proposals: &laws::Proposals, coordinator: CoordId) -> Option<u128> {
+    let spots = proposals.get(&(TaskId::new(17), 0))?;
+    let spot = spots.get(&coordinator)?;
+    Some(spot.0.machine.value())
+}
+
+fn cite_proposals(a: &laws::Proposals, b: &laws::Proposals, c: &laws::Proposals) {
+    laws::law_proposals(a, b, c);
 }
 
 #[test]
@@ -553,38 +605,53 @@ fn the_laws_of_join_hold_of_proposals(rt: HostRuntime) -> Result<(), Fail> {
         let a = proposals(rt.alloc(), one, 11)?;
         let b = proposals(rt.alloc(), one, 10)?;
         let c = proposals(rt.alloc(), two, 9)?;
-        laws::law_proposals(&a, &b, &c);
-        let all = a.joined(&b)?.joined(&c)?;
-        assert!(rt; a.leq(&all) && b.leq(&all) && c.leq(&all) && !all.leq(&b));
-        let spots = all.get(&(TaskId::new(17), 0));
-        let first = spots
-            .and_then(|spots| spots.get(&one))
-            .map(|spot| spot.0.machine.value());
-        assert_eq!(rt; first, Some(10));
+        cite_proposals(&a, &b, &c);
+        let all = joined(&a, &b, &c)?;
+        assert!(rt; are_below(&a, &b, &c, &all));
+        assert_eq!(rt; machine_of(&all, one), Some(10));
     }
     Ok(())
 }
 
+// A state and a report, or one of them, in an incarnation.
+fn machines(
+    alloc: Global,
+    incarnation: u64,
+    state: Option<MachineReg>,
+    report: Option<Report>,
+) -> Result<laws::Machines, Fail> {
+    let mut machines = JoinMap::new(alloc);
+    machines.put(MachineId::new(10), known_of(incarnation, state, report))?;
+    Ok(machines)
+}
+
+fn known_of(incarnation: u64, state: Option<MachineReg>, report: Option<Report>) -> MachineRec {
+    let state = state.map(|state| Max(state));
+    let report = report.map(|report| Max(report));
+    Lex(incarnation, Both(Opt(state), Opt(report)))
+}
+
+fn is_known(machines: &laws::Machines, known: MachineRec) -> bool {
+    machines.get(&MachineId::new(10)) == Some(&known)
+}
+
+fn cite_machines(a: &laws::Machines, b: &laws::Machines, c: &laws::Machines) {
+    laws::law_machines(a, b, c);
+}
+
 #[test]
 fn the_laws_of_join_hold_of_machines(rt: HostRuntime) -> Result<(), Fail> {
-    let id = MachineId::new(10);
-    let state = Max(machine_register(1, 1, true, 2, 1000));
-    let report = Max(Report {
+    let state = Some(machine_register(1, 1, true, 2, 1000));
+    let report = Some(Report {
         number: 3,
         used: 950,
     });
-    let mut a = JoinMap::new(rt.alloc());
-    a.put(id, Lex(1, Both(Opt(Some(state)), Opt(None))))?;
-    let mut b = JoinMap::new(rt.alloc());
-    b.put(id, Lex(1, Both(Opt(None), Opt(Some(report)))))?;
-    let mut c = JoinMap::new(rt.alloc());
-    c.put(id, Lex(2, Both(Opt(None), Opt(None))))?;
-    laws::law_machines(&a, &b, &c);
-    assert_eq!(rt;
-        a.joined(&b)?.get(&id),
-        Some(&Lex(1, Both(Opt(Some(state)), Opt(Some(report)))))
-    );
-    assert_eq!(rt; a.joined(&b)?.joined(&c)?.get(&id), c.get(&id));
+    let a = machines(rt.alloc(), 1, state, None)?;
+    let b = machines(rt.alloc(), 1, None, report)?;
+    let c = machines(rt.alloc(), 2, None, None)?;
+    cite_machines(&a, &b, &c);
+    assert!(rt; is_known(&joined(&a, &a, &b)?, known_of(1, state, report)));
+    assert!(rt; is_known(&joined(&a, &b, &c)?, known_of(2, None, None)));
     Ok(())
 }
 

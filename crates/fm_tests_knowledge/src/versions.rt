@@ -1,17 +1,12 @@
 //! The operations by which a coordinator speaks after what it knows.
 
+use crate::told::known;
 use fm_know::knowledge::Knowledge;
-use fm_lattice::join::Join;
 use fm_records::ids::{JobId, MachineId, TaskId};
 use fm_records::ops::{Op, Phase};
 use fm_records::refusal::Refusal;
 use std::alloc::Global;
 use std::test::Fail;
-
-fn knowing(alloc: Global, op: Op) -> Result<Knowledge, Refusal> {
-    op.check()?;
-    Ok(Knowledge::delta_of(alloc, &op)?)
-}
 
 fn job(version: u64) -> Op {
     Op::Job {
@@ -44,45 +39,73 @@ fn progress(attempt: u32, phase: Phase) -> Op {
     }
 }
 
-fn next_job(known: &Knowledge) -> Result<Op, Refusal> {
-    known.next_job(JobId::new(1), 1, false, 500, 800)
+// What is spoken of next.
+#[derive(Clone, Copy, Drop)]
+enum Spoken {
+    Job,
+    Machine(u64),
+    Attempt,
 }
 
-fn next_machine(known: &Knowledge, incarnation: u64) -> Result<Op, Refusal> {
-    known.next_machine(MachineId::new(10), incarnation, 1, true, 2, 1_000)
+// The functions below have no contract: the tests are of what is answered, and proofs of them stay short.
+
+fn next(known: &Knowledge, spoken: Spoken) -> Result<Op, Refusal> {
+    match spoken {
+        Spoken::Job => known.next_job(JobId::new(1), 1, false, 500, 800),
+        Spoken::Machine(incarnation) => {
+            known.next_machine(MachineId::new(10), incarnation, 1, true, 2, 1_000)
+        }
+        Spoken::Attempt => known.next_attempt(TaskId::new(17)),
+    }
 }
 
-fn next_attempt(known: &Knowledge) -> Result<Op, Refusal> {
-    known.next_attempt(TaskId::new(17))
+// What is said after the operations.
+fn said(alloc: Global, ops: &[Op], spoken: Spoken) -> Result<Result<Op, Refusal>, Fail> {
+    let known = known(alloc, ops)?;
+    Ok(next(&known, spoken))
 }
 
 #[test]
 fn a_job_is_spoken_of_at_its_next_version(rt: HostRuntime) -> Result<(), Fail> {
-    let alloc = rt.alloc();
-    assert_eq!(rt; next_job(&Knowledge::empty(alloc)), Ok(job(1)));
-    assert_eq!(rt; next_job(&knowing(alloc, job(2))?), Ok(job(3)));
-    let last = knowing(alloc, job(18_446_744_073_709_551_615))?;
-    assert_eq!(rt; next_job(&last), Err(Refusal::VersionsSpent));
+    let last = job(18_446_744_073_709_551_615);
+    assert_eq!(rt; said(rt.alloc(), &[], Spoken::Job)?, Ok(job(1)));
+    assert_eq!(rt; said(rt.alloc(), &[job(2)], Spoken::Job)?, Ok(job(3)));
+    assert_eq!(rt;
+        said(rt.alloc(), &[last], Spoken::Job)?,
+        Err(Refusal::VersionsSpent)
+    );
     Ok(())
 }
 
 #[test]
 fn a_machine_is_spoken_of_by_incarnation(rt: HostRuntime) -> Result<(), Fail> {
-    let alloc = rt.alloc();
-    let known = knowing(alloc, machine(1, 1))?;
-    assert_eq!(rt; next_machine(&known, 1), Ok(machine(1, 2)));
-    assert_eq!(rt; next_machine(&known, 2), Ok(machine(2, 1)));
-    let last = knowing(alloc, machine(1, 18_446_744_073_709_551_615))?;
-    assert_eq!(rt; next_machine(&last, 1), Err(Refusal::VersionsSpent));
+    let first = [machine(1, 1)];
+    let last = [machine(1, 18_446_744_073_709_551_615)];
+    assert_eq!(rt;
+        said(rt.alloc(), &first, Spoken::Machine(1))?,
+        Ok(machine(1, 2))
+    );
+    assert_eq!(rt;
+        said(rt.alloc(), &first, Spoken::Machine(2))?,
+        Ok(machine(2, 1))
+    );
+    assert_eq!(rt;
+        said(rt.alloc(), &last, Spoken::Machine(1))?,
+        Err(Refusal::VersionsSpent)
+    );
     Ok(())
 }
 
 #[test]
 fn a_task_goes_on_to_its_next_attempt(rt: HostRuntime) -> Result<(), Fail> {
-    let alloc = rt.alloc();
-    let next = next_attempt(&Knowledge::empty(alloc));
-    assert_eq!(rt; next, Ok(progress(1, Phase::Pending)));
-    let last = knowing(alloc, progress(4_294_967_295, Phase::Running))?;
-    assert_eq!(rt; next_attempt(&last), Err(Refusal::AttemptsSpent));
+    let last = [progress(4_294_967_295, Phase::Running)];
+    assert_eq!(rt;
+        said(rt.alloc(), &[], Spoken::Attempt)?,
+        Ok(progress(1, Phase::Pending))
+    );
+    assert_eq!(rt;
+        said(rt.alloc(), &last, Spoken::Attempt)?,
+        Err(Refusal::AttemptsSpent)
+    );
     Ok(())
 }

@@ -1,7 +1,6 @@
+use crate::told::{are_same, packet};
 use fm_delta::packet::Packet;
-use fm_know::knowledge::Knowledge;
-use fm_lattice::join::Join;
-use fm_records::ids::{CoordId, JobId, MachineId, TaskId};
+use fm_records::ids::{JobId, MachineId, TaskId};
 use fm_records::ops::{Op, Phase};
 use fm_records::prefer::Prefer;
 use fm_records::refusal::Refusal;
@@ -30,43 +29,32 @@ fn job(preempt: u32) -> Op {
     }
 }
 
-fn packet_of(alloc: Global, number: u64, op: Option<Op>) -> Result<Packet, Fail> {
-    let sender = CoordId::new(1).ok_or("no coordinator 1")?;
-    let value = match op {
-        None => Knowledge::empty(alloc),
-        Some(op) => delta(alloc, &op)?,
-    };
-    Ok(Packet {
-        sender,
-        number,
-        value,
-    })
-}
-
-fn delta(alloc: Global, op: &Op) -> Result<Knowledge, Fail> {
-    op.check()?;
-    Ok(Knowledge::delta_of(alloc, op)?)
-}
-
 fn bytes_of(alloc: Global, packet: &Packet) -> Result<Vec<u8>, Fail> {
     Ok(encode(alloc, packet)?)
 }
 
-// Whether the bytes spell the packet in FDG1: they are read as the packet, and where it has no spec it is written with another
-// word alone.
-fn spells_in_first(alloc: Global, bytes: &[u8], packet: &Packet) -> Result<bool, Fail> {
-    let mut second = Vec::from_slice(alloc, bytes)?;
-    if second.len() > 3 {
-        second[3] = 0x32;
-    }
-    Ok(decode(alloc, bytes)? == *packet && spells(alloc, &second, packet)?)
+// The bytes of a packet of the operation alone.
+fn bytes_of_op(alloc: Global, op: Op) -> Result<Vec<u8>, Fail> {
+    let packet = packet(alloc, 1, &[op])?;
+    bytes_of(alloc, &packet)
+}
+
+fn reads(alloc: Global, bytes: &[u8], packet: &Packet) -> Result<bool, Fail> {
+    let read = decode(alloc, bytes)?;
+    Ok(are_same(&read, packet))
 }
 
 // Whether the bytes spell the packet in FDG2, in both directions.
 fn spells(alloc: Global, bytes: &[u8], packet: &Packet) -> Result<bool, Fail> {
     let written = bytes_of(alloc, packet)?;
-    let read = decode(alloc, bytes)?;
-    Ok(written.as_slice() == bytes && read == *packet)
+    Ok(written.as_slice() == bytes && reads(alloc, bytes, packet)?)
+}
+
+// Whether the bytes spell the packet in FDG1: they are read as the packet, and where it has no spec it is written with another
+// word alone.
+fn spells_in_first(alloc: Global, bytes: &[u8], packet: &Packet) -> Result<bool, Fail> {
+    let second = with_byte(alloc, bytes, 3, 0x32)?;
+    Ok(reads(alloc, bytes, packet)? && spells(alloc, &second, packet)?)
 }
 
 fn refused(alloc: Global, bytes: &[u8]) -> Option<Refusal> {
@@ -77,29 +65,17 @@ fn fault(bytes: &[u8]) -> Option<usize> {
     fault_of(bytes)
 }
 
-// The fault of the bytes with another byte at the place.
-fn fault_with(alloc: Global, bytes: &[u8], place: usize, byte: u8) -> Result<Option<usize>, Fail> {
+// The bytes with another byte at the place.
+fn with_byte(alloc: Global, bytes: &[u8], place: usize, byte: u8) -> Result<Vec<u8>, Fail> {
     let mut changed = Vec::from_slice(alloc, bytes)?;
-    if place < changed.len() {
-        changed[place] = byte;
+    if let Some(old) = changed.get_mut(place) {
+        *old = byte;
     }
-    Ok(fault(&changed))
+    Ok(changed)
 }
 
-// The fault of the bytes of a packet of the operation alone, with another byte at the place.
-fn fault_of_op(alloc: Global, op: Op, place: usize, byte: u8) -> Result<Option<usize>, Fail> {
-    let bytes = bytes_of(alloc, &packet_of(alloc, 1, Some(op))?)?;
-    fault_with(alloc, &bytes, place, byte)
-}
-
-// The fault of the bytes of a packet of the operation alone, with another number of 32 bits at the place.
-fn fault_at_number(
-    alloc: Global,
-    op: Op,
-    place: usize,
-    number: u32,
-) -> Result<Option<usize>, Fail> {
-    let bytes = bytes_of(alloc, &packet_of(alloc, 1, Some(op))?)?;
+// The bytes with another number of 32 bits at the place.
+fn with_number(alloc: Global, bytes: &[u8], place: usize, number: u32) -> Result<Vec<u8>, Fail> {
     let end = place.saturating_add(4);
     let mut changed = Vec::new(alloc);
     if let (Some(front), Some(back)) = (bytes.get(..place), bytes.get(end..)) {
@@ -107,19 +83,60 @@ fn fault_at_number(
         changed.extend_from_slice(&number.to_be_bytes())?;
         changed.extend_from_slice(back)?;
     }
-    Ok(fault(&changed))
+    Ok(changed)
+}
+
+// The first row that is wrong of these: with this byte at the place, the fault is there.
+fn wrong_byte(
+    alloc: Global,
+    bytes: &[u8],
+    rows: &[(usize, u8, Option<usize>)],
+) -> Result<Option<(usize, u8)>, Fail> {
+    for (place, byte, wanted) in rows {
+        let changed = with_byte(alloc, bytes, *place, *byte)?;
+        if fault(&changed) != *wanted {
+            return Ok(Some((*place, *byte)));
+        }
+    }
+    Ok(None)
+}
+
+// The same of a packet of the operation alone.
+fn wrong_byte_of(
+    alloc: Global,
+    op: Op,
+    rows: &[(usize, u8, Option<usize>)],
+) -> Result<Option<(usize, u8)>, Fail> {
+    let bytes = bytes_of_op(alloc, op)?;
+    wrong_byte(alloc, &bytes, rows)
+}
+
+// The same with numbers.
+fn wrong_number_of(
+    alloc: Global,
+    op: Op,
+    rows: &[(usize, u32, Option<usize>)],
+) -> Result<Option<(usize, u32)>, Fail> {
+    let bytes = bytes_of_op(alloc, op)?;
+    for (place, number, wanted) in rows {
+        let changed = with_number(alloc, &bytes, *place, *number)?;
+        if fault(&changed) != *wanted {
+            return Ok(Some((*place, *number)));
+        }
+    }
+    Ok(None)
 }
 
 #[test]
 fn a_job_is_34_bytes(rt: HostRuntime) -> Result<(), Fail> {
-    let packet = packet_of(rt.alloc(), 3, Some(job(800)))?;
+    let packet = packet(rt.alloc(), 3, &[job(800)])?;
     assert!(rt; spells_in_first(rt.alloc(), &JOB_BYTES, &packet)?);
     Ok(())
 }
 
 #[test]
 fn faults_have_places(rt: HostRuntime) -> Result<(), Fail> {
-    for (place, byte, want) in [
+    let rows = [
         (3, 0x30, Some(0)),
         (3, 0x32, None),
         (3, 0x33, Some(0)),
@@ -132,28 +149,22 @@ fn faults_have_places(rt: HostRuntime) -> Result<(), Fail> {
         (47, 0x3c, Some(47)),
         (54, 0x21, None),
         (78, 1, Some(79)),
-    ] {
-        assert_eq!(rt;
-            fault_with(rt.alloc(), &JOB_BYTES, place, byte)?,
-            want,
-            "at {place}"
-        );
-    }
+    ];
+    assert_eq!(rt; wrong_byte(rt.alloc(), &JOB_BYTES, &rows)?, None);
     Ok(())
 }
 
 #[test]
 fn a_preempt_of_801_is_read(rt: HostRuntime) -> Result<(), Fail> {
-    let mut bytes = JOB_BYTES;
-    bytes[54] = 0x21;
-    let packet = packet_of(rt.alloc(), 3, Some(job(801)))?;
+    let bytes = with_byte(rt.alloc(), &JOB_BYTES, 54, 0x21)?;
+    let packet = packet(rt.alloc(), 3, &[job(801)])?;
     assert!(rt; spells_in_first(rt.alloc(), &bytes, &packet)?);
     Ok(())
 }
 
 #[test]
 fn a_prefix_ends_too_early(rt: HostRuntime) -> Result<(), Fail> {
-    let bytes = bytes_of(rt.alloc(), &packet_of(rt.alloc(), 1, None)?)?;
+    let bytes = bytes_of(rt.alloc(), &packet(rt.alloc(), 1, &[])?)?;
     assert_eq!(rt; bytes.len(), 45);
     for len in 0..45 {
         assert_eq!(rt; fault(&bytes[..len]), Some(len));
@@ -191,39 +202,46 @@ fn jobs_come_in_order(rt: HostRuntime) -> Result<(), Fail> {
     Ok(())
 }
 
-#[test]
-fn tags_and_keys_have_ranges(rt: HostRuntime) -> Result<(), Fail> {
-    let progress = Op::Progress {
+fn progress() -> Op {
+    Op::Progress {
         id: TaskId::new(17),
         attempt: 1,
         phase: Phase::Running,
-    };
-    let report = Op::Report {
+    }
+}
+
+fn report() -> Op {
+    Op::Report {
         id: MachineId::new(10),
         incarnation: 2,
         number: 1,
         used: 0,
-    };
-    let proposal = Op::Propose {
+    }
+}
+
+fn proposal() -> Op {
+    Op::Propose {
         id: TaskId::new(17),
         attempt: 0,
         coordinator: 1,
         machine: MachineId::new(10),
         incarnation: 1,
-    };
-    for (op, place, byte, want) in [
-        (progress, 49, 2, None),
-        (progress, 49, 3, Some(49)),
-        (progress, 50, 2, Some(50)),
-        (progress, 50, 1, Some(59)),
-        (report, 61, 0, Some(61)),
-        (report, 61, 4, Some(61)),
-        (report, 61, 1, Some(70)),
-        (proposal, 65, 64, None),
-        (proposal, 65, 65, Some(65)),
-    ] {
-        assert_eq!(rt; fault_of_op(rt.alloc(), op, place, byte)?, want);
     }
+}
+
+#[test]
+fn tags_and_keys_have_ranges(rt: HostRuntime) -> Result<(), Fail> {
+    let tags = [
+        (49, 2, None),
+        (49, 3, Some(49)),
+        (50, 2, Some(50)),
+        (50, 1, Some(59)),
+    ];
+    assert_eq!(rt; wrong_byte_of(rt.alloc(), progress(), &tags)?, None);
+    let tags = [(61, 0, Some(61)), (61, 4, Some(61)), (61, 1, Some(70))];
+    assert_eq!(rt; wrong_byte_of(rt.alloc(), report(), &tags)?, None);
+    let keys = [(65, 64, None), (65, 65, Some(65))];
+    assert_eq!(rt; wrong_byte_of(rt.alloc(), proposal(), &keys)?, None);
     Ok(())
 }
 
@@ -240,33 +258,42 @@ fn preferring(machines: &[(MachineId, u32)]) -> Op {
     }
 }
 
+fn preferring_one() -> Op {
+    preferring(&[(MachineId::new(10), 30)])
+}
+
+fn preferring_two() -> Op {
+    preferring(&[(MachineId::new(10), 30), (MachineId::new(11), 40)])
+}
+
+// Whether a packet of the operations has so many bytes, and they spell it.
+fn are_spelled(alloc: Global, ops: &[Op], len: usize) -> Result<bool, Fail> {
+    let packet = packet(alloc, 1, ops)?;
+    let bytes = bytes_of(alloc, &packet)?;
+    Ok(bytes.len() == len && spells(alloc, &bytes, &packet)?)
+}
+
 #[test]
 fn preferences_have_places(rt: HostRuntime) -> Result<(), Fail> {
-    let one = preferring(&[(MachineId::new(10), 30)]);
-    let two = preferring(&[(MachineId::new(10), 30), (MachineId::new(11), 40)]);
-    for (op, len) in [(one, 118), (two, 138)] {
-        let packet = packet_of(rt.alloc(), 1, Some(op))?;
-        let bytes = bytes_of(rt.alloc(), &packet)?;
-        assert_eq!(rt; bytes.len(), len);
-        assert!(rt; spells(rt.alloc(), &bytes, &packet)?);
-    }
-    for (op, place, byte, want) in [
-        (one, 81, 5, Some(81)),
-        (one, 81, 2, Some(102)),
-        (two, 117, 12, None),
-        (two, 117, 10, Some(102)),
-        (two, 117, 9, Some(102)),
-    ] {
-        assert_eq!(rt; fault_of_op(rt.alloc(), op, place, byte)?, want);
-    }
-    for (place, number, want) in [
+    assert!(rt; are_spelled(rt.alloc(), &[preferring_one()], 118)?);
+    assert!(rt; are_spelled(rt.alloc(), &[preferring_two()], 138)?);
+    let counts = [(81, 5, Some(81)), (81, 2, Some(102))];
+    assert_eq!(rt; wrong_byte_of(rt.alloc(), preferring_one(), &counts)?, None);
+    let machines = [(117, 12, None), (117, 10, Some(102)), (117, 9, Some(102))];
+    assert_eq!(rt;
+        wrong_byte_of(rt.alloc(), preferring_two(), &machines)?,
+        None
+    );
+    let credits = [
         (98, 0, None),
         (98, 1_000_000_000, None),
         (98, 1_000_000_001, Some(98)),
         (118, 1_000_000_001, Some(118)),
-    ] {
-        assert_eq!(rt; fault_at_number(rt.alloc(), two, place, number)?, want);
-    }
+    ];
+    assert_eq!(rt;
+        wrong_number_of(rt.alloc(), preferring_two(), &credits)?,
+        None
+    );
     Ok(())
 }
 
@@ -281,14 +308,11 @@ fn fault_of_front(bytes: &[u8], end: usize) -> Option<usize> {
 // The order of machines is tested when the machine has been read: here nothing more is there.
 #[test]
 fn the_order_is_tested_before_the_credit(rt: HostRuntime) -> Result<(), Fail> {
-    let op = preferring(&[(MachineId::new(10), 30), (MachineId::new(11), 40)]);
-    let mut bytes = bytes_of(rt.alloc(), &packet_of(rt.alloc(), 1, Some(op))?)?;
+    let bytes = bytes_of_op(rt.alloc(), preferring_two())?;
     assert_eq!(rt; fault_of_front(&bytes, 118), Some(118));
-    if let Some(last) = bytes.get_mut(117) {
-        *last = 10;
-    }
-    assert_eq!(rt; fault_of_front(&bytes, 118), Some(102));
-    assert_eq!(rt; fault_of_front(&bytes, 117), Some(117));
+    let changed = with_byte(rt.alloc(), &bytes, 117, 10)?;
+    assert_eq!(rt; fault_of_front(&changed, 118), Some(102));
+    assert_eq!(rt; fault_of_front(&changed, 117), Some(117));
     Ok(())
 }
 
@@ -303,54 +327,61 @@ fn without_count(alloc: Global, bytes: &[u8]) -> Result<Vec<u8>, Fail> {
     Ok(first)
 }
 
+// The fault of the bytes in the other version.
+fn fault_in(alloc: Global, bytes: &[u8], version: u8) -> Result<Option<usize>, Fail> {
+    let changed = with_byte(alloc, bytes, 3, version)?;
+    Ok(fault(&changed))
+}
+
 #[test]
 fn a_spec_is_read_in_both_versions(rt: HostRuntime) -> Result<(), Fail> {
-    let packet = packet_of(rt.alloc(), 1, Some(preferring(&[])))?;
+    let packet = packet(rt.alloc(), 1, &[preferring(&[])])?;
     let second = bytes_of(rt.alloc(), &packet)?;
     let first = without_count(rt.alloc(), &second)?;
     assert_eq!(rt; (first.len(), second.len()), (97, 98));
-    assert!(rt; decode(rt.alloc(), &first)? == packet);
+    assert!(rt; reads(rt.alloc(), &first, &packet)?);
     assert!(rt; spells(rt.alloc(), &second, &packet)?);
-    assert_eq!(rt; fault_with(rt.alloc(), &first, 3, 0x32)?, Some(97));
-    assert_eq!(rt; fault_with(rt.alloc(), &second, 3, 0x31)?, Some(97));
+    assert_eq!(rt; fault_in(rt.alloc(), &first, 0x32)?, Some(97));
+    assert_eq!(rt; fault_in(rt.alloc(), &second, 0x31)?, Some(97));
     Ok(())
 }
 
 #[test]
 fn numbers_of_jobs_and_specs_have_ranges(rt: HostRuntime) -> Result<(), Fail> {
-    let spec = preferring(&[]);
-    for (op, place, number, want) in [
-        (job(800), 47, 0, None),
-        (job(800), 47, 1_000_000_000, None),
-        (job(800), 47, 1_000_000_001, Some(47)),
-        (job(800), 51, 0, None),
-        (job(800), 51, 1_000_000_000, None),
-        (job(800), 51, 1_000_000_001, Some(51)),
-        (spec, 45, u32::MAX, None),
-        (spec, 77, 0, None),
-        (spec, 77, 1_000_000, None),
-        (spec, 77, 1_000_001, Some(77)),
-    ] {
-        assert_eq!(rt; fault_at_number(rt.alloc(), op, place, number)?, want);
-    }
-    for (op, place, byte, want) in [
-        (job(800), 4, 64, None),
-        (job(800), 4, 65, Some(4)),
-        (job(800), 45, 0, Some(45)),
-        (job(800), 45, 64, None),
-        (job(800), 46, 1, None),
-        (spec, 59, 0, Some(59)),
-        (spec, 59, 65, Some(59)),
-        (spec, 60, 2, Some(60)),
-    ] {
-        assert_eq!(rt; fault_of_op(rt.alloc(), op, place, byte)?, want);
-    }
+    let numbers = [
+        (47, 0, None),
+        (47, 1_000_000_000, None),
+        (47, 1_000_000_001, Some(47)),
+        (51, 0, None),
+        (51, 1_000_000_000, None),
+        (51, 1_000_000_001, Some(51)),
+    ];
+    assert_eq!(rt; wrong_number_of(rt.alloc(), job(800), &numbers)?, None);
+    let numbers = [
+        (45, u32::MAX, None),
+        (77, 0, None),
+        (77, 1_000_000, None),
+        (77, 1_000_001, Some(77)),
+    ];
+    assert_eq!(rt;
+        wrong_number_of(rt.alloc(), preferring(&[]), &numbers)?,
+        None
+    );
+    let bytes = [
+        (4, 64, None),
+        (4, 65, Some(4)),
+        (45, 0, Some(45)),
+        (45, 64, None),
+        (46, 1, None),
+    ];
+    assert_eq!(rt; wrong_byte_of(rt.alloc(), job(800), &bytes)?, None);
+    let bytes = [(59, 0, Some(59)), (59, 65, Some(59)), (60, 2, Some(60))];
+    assert_eq!(rt; wrong_byte_of(rt.alloc(), preferring(&[]), &bytes)?, None);
     Ok(())
 }
 
-#[test]
-fn numbers_of_machines_have_ranges(rt: HostRuntime) -> Result<(), Fail> {
-    let machine = Op::Machine {
+fn machine() -> Op {
+    Op::Machine {
         id: MachineId::new(10),
         incarnation: 1,
         version: 1,
@@ -358,100 +389,50 @@ fn numbers_of_machines_have_ranges(rt: HostRuntime) -> Result<(), Fail> {
         up: true,
         slots: 2,
         nic: 1000,
-    };
-    let report = Op::Report {
-        id: MachineId::new(10),
-        incarnation: 2,
-        number: 1,
-        used: 0,
-    };
-    for (op, place, number, want) in [
-        (machine, 72, 0, Some(72)),
-        (machine, 72, 1, None),
-        (machine, 72, 1_000, None),
-        (machine, 72, 1_001, Some(72)),
-        (machine, 76, 0, None),
-        (machine, 76, 1_000_000, None),
-        (machine, 76, 1_000_001, Some(76)),
-        (report, 70, 1_000_000_000, None),
-        (report, 70, 1_000_000_001, Some(70)),
-    ] {
-        assert_eq!(rt; fault_at_number(rt.alloc(), op, place, number)?, want);
     }
-    for (place, byte, want) in [
+}
+
+#[test]
+fn numbers_of_machines_have_ranges(rt: HostRuntime) -> Result<(), Fail> {
+    let numbers = [
+        (72, 0, Some(72)),
+        (72, 1, None),
+        (72, 1_000, None),
+        (72, 1_001, Some(72)),
+        (76, 0, None),
+        (76, 1_000_000, None),
+        (76, 1_000_001, Some(76)),
+    ];
+    assert_eq!(rt; wrong_number_of(rt.alloc(), machine(), &numbers)?, None);
+    let numbers = [(70, 1_000_000_000, None), (70, 1_000_000_001, Some(70))];
+    assert_eq!(rt; wrong_number_of(rt.alloc(), report(), &numbers)?, None);
+    let bytes = [
         (70, 0, Some(70)),
         (70, 64, None),
         (70, 65, Some(70)),
         (71, 0, None),
         (71, 2, Some(71)),
-    ] {
-        assert_eq!(rt; fault_of_op(rt.alloc(), machine, place, byte)?, want);
-    }
+    ];
+    assert_eq!(rt; wrong_byte_of(rt.alloc(), machine(), &bytes)?, None);
     Ok(())
 }
 
-// The job, the machine, the task and the proposal that places it, and what else is told.
-fn told(alloc: Global, more: Option<Op>) -> Result<Packet, Fail> {
-    let ops = [
-        Op::Job {
-            id: JobId::new(1),
-            version: 1,
-            writer: 1,
-            withdrawn: false,
-            wait: 500,
-            preempt: 800,
-        },
-        Op::Machine {
-            id: MachineId::new(10),
-            incarnation: 1,
-            version: 1,
-            writer: 1,
-            up: true,
-            slots: 2,
-            nic: 1_000,
-        },
-        Op::Spec {
-            id: TaskId::new(17),
-            version: 1,
-            writer: 1,
-            withdrawn: false,
-            job: JobId::new(1),
-            request: 100,
-            prefer: Prefer::default(),
-        },
-        Op::Propose {
-            id: TaskId::new(17),
-            attempt: 0,
-            coordinator: 1,
-            machine: MachineId::new(10),
-            incarnation: 1,
-        },
-    ];
-    let mut packet = packet_of(alloc, 1, more)?;
-    for op in &ops {
-        let known = delta(alloc, op)?;
-        join(&mut packet.value, &known)?;
-    }
-    Ok(packet)
-}
-
-fn join(value: &mut Knowledge, delta: &Knowledge) -> Result<(), Fail> {
-    Ok(value.join_into(delta)?)
+// A job, a machine, a task, the proposal that places it, and a report.
+fn told() -> [Op; 5] {
+    let job = Op::Job {
+        id: JobId::new(1),
+        version: 1,
+        writer: 1,
+        withdrawn: false,
+        wait: 500,
+        preempt: 800,
+    };
+    [job, machine(), preferring(&[]), proposal(), report()]
 }
 
 #[test]
 fn whole_knowledge_is_written_and_read(rt: HostRuntime) -> Result<(), Fail> {
-    let report = Op::Report {
-        id: MachineId::new(10),
-        incarnation: 2,
-        number: 1,
-        used: 0,
-    };
-    for (more, len) in [(None, 220), (Some(report), 214)] {
-        let packet = told(rt.alloc(), more)?;
-        let bytes = bytes_of(rt.alloc(), &packet)?;
-        assert_eq!(rt; bytes.len(), len);
-        assert!(rt; spells(rt.alloc(), &bytes, &packet)?);
-    }
+    assert!(rt; are_spelled(rt.alloc(), &told()[..4], 220)?);
+    assert!(rt; are_spelled(rt.alloc(), &told(), 214)?);
     Ok(())
 }
