@@ -481,7 +481,7 @@ fn equality_tells_values_apart(rt: HostRuntime) {
     assert!(rt; !equal::refusals(&Refusal::Trimmed(2), &Refusal::BadPacket(2)));
 }
 
-fn is_said(alloc: Global, refusal: Refusal, number: u8, text: &str) -> Result<bool, Fail> {
+fn is_said(alloc: Global, refusal: Refusal, number: u32, text: &str) -> Result<bool, Fail> {
     let said = refusal.to_string(alloc)?;
     Ok(refusal.number() == number && said.as_str() == text)
 }
