@@ -28,10 +28,6 @@ fn joined(one: &Knowledge, other: &Knowledge) -> Result<Knowledge, Fail> {
     Ok(one.joined(other)?)
 }
 
-fn told(alloc: Global, ops: &[Op]) -> Result<Knowledge, Fail> {
-    Ok(Knowledge::told(alloc, ops)?)
-}
-
 // How many keys each map has.
 fn keys(known: &Knowledge) -> [usize; 4] {
     [
@@ -59,14 +55,19 @@ fn whole_knowledges_are_joined(rt: HostRuntime) -> Result<(), Fail> {
     Ok(())
 }
 
-#[test]
-fn operations_are_told_together(rt: HostRuntime) -> Result<(), Fail> {
-    let progress = Op::Progress {
+// What is known of a task that runs.
+fn running(alloc: Global) -> Result<Knowledge, Fail> {
+    let ops = [Op::Progress {
         id: TaskId::new(17),
         attempt: 1,
         phase: Phase::Running,
-    };
-    assert_eq!(rt; keys(&told(rt.alloc(), &[progress])?), [0, 1, 0, 0]);
+    }];
+    Ok(Knowledge::told(alloc, &ops)?)
+}
+
+#[test]
+fn operations_are_told_together(rt: HostRuntime) -> Result<(), Fail> {
+    assert_eq!(rt; keys(&running(rt.alloc())?), [0, 1, 0, 0]);
     Ok(())
 }
 

@@ -1,8 +1,4 @@
-//! Texts of small networks, and writers that take little or fail.
-
-ghost use Rattle.std.specs.Prelude.{◌≤◌};
-ghost use Rattle.fm_net.specs.Net.{IsArcKind};
-ghost use Rattle.fm_net.specs.Nodes.{IsRequestInRange};
+//! Texts of a small network, and writers that take little or fail. What other networks come to, `tests/served.py` has.
 
 use fm_dimacs::dump::dump;
 use fm_dimacs::out::{Out, Over};
@@ -13,7 +9,6 @@ use fm_know::knowledge::Knowledge;
 use fm_know::laws::law_can_be;
 use fm_lattice::join::Join;
 use fm_net::network::Network;
-use fm_net::node::Node;
 use fm_policy::build::build;
 use fm_records::ids::{JobId, MachineId, TaskId};
 use fm_records::ops::Op;
@@ -23,69 +18,68 @@ use std::alloc::Global;
 use std::io::{self, Write};
 use std::test::Fail;
 
-// Puts an arc and its ends.
-fn put(
-    network: &mut Network,
-    from: &Node,
-    to: &Node,
-    capacity: u64,
-    cost: u32,
-) -> Result<(), Refusal>
-    requires kinds { IsArcKind from.now to.now }
-    requires from_in_range { IsRequestInRange from.now }
-    requires to_in_range { IsRequestInRange to.now }
-    requires capacity_above { 1 ≤ capacity }
-    requires cost_within { cost ≤ 1000000000 }
-{
-    let _ = network.put_node(*from)?;
-    let _ = network.put_node(*to)?;
-    let _ = network.put_arc(*from, *to, capacity, cost)?;
-    Ok(())
+// The functions below have no contract: the tests are of what is answered, and proofs of them stay short.
+
+// A job, a machine of two slots, and a task that waits for a bandwidth of 100, which the machine has.
+fn ops() -> [Op; 3] {
+    let job = JobId::new(1);
+    [
+        Op::Job {
+            id: job,
+            version: 1,
+            writer: 1,
+            withdrawn: false,
+            wait: 500,
+            preempt: 800,
+        },
+        Op::Machine {
+            id: MachineId::new(10),
+            incarnation: 1,
+            version: 1,
+            writer: 1,
+            up: true,
+            slots: 2,
+            nic: 1_000,
+        },
+        Op::Spec {
+            id: TaskId::new(17),
+            version: 1,
+            writer: 1,
+            withdrawn: false,
+            job,
+            request: 100,
+            prefer: Prefer::default(),
+        },
+    ]
 }
 
-fn job() -> JobId {
-    JobId::new(1)
+fn delta(alloc: Global, op: &Op) -> Result<Knowledge, Refusal> {
+    op.check()?;
+    Ok(Knowledge::delta_of(alloc, op)?)
 }
 
-fn machine() -> MachineId {
-    MachineId::new(10)
+fn join(known: &mut Knowledge, other: &Knowledge) -> Result<(), Refusal> {
+    Ok(known.join_into(other)?)
 }
 
-fn task() -> TaskId {
-    TaskId::new(17)
+// What is known of these operations, or of nothing.
+fn known(alloc: Global, ops: &[Op]) -> Result<Knowledge, Refusal> {
+    let mut known = Knowledge::empty(alloc);
+    for op in ops {
+        let delta = delta(alloc, op)?;
+        join(&mut known, &delta)?;
+    }
+    Ok(known)
 }
 
-// A machine of two slots, and a task of the job that may wait at the cost.
-fn machine_and_task(alloc: Global, wait: u32) -> Result<Network, Refusal>
-    requires { wait ≤ 1000000000 }
-{
-    let mut network = Network::new(alloc)?;
-    put(&mut network, &Node::Machine(machine()), &Node::Sink, 2, 0)?;
-    put(&mut network, &Node::Unscheduled(job()), &Node::Sink, 1, 0)?;
-    put(
-        &mut network,
-        &Node::Task(task()),
-        &Node::Unscheduled(job()),
-        1,
-        wait,
-    )?;
-    Ok(network)
+fn network_of(alloc: Global, known: &Knowledge) -> Result<Network, Refusal> {
+    law_can_be(known);
+    Ok(build(alloc, known)?)
 }
 
-// The task waits for a bandwidth of 100, which the machine has.
-fn waiting(alloc: Global, wait: u32) -> Result<Network, Refusal>
-    requires { wait ≤ 1000000000 }
-{
-    let mut network = machine_and_task(alloc, wait)?;
-    put(&mut network, &Node::Task(task()), &Node::Request(100), 1, 0)?;
-    put(
-        &mut network,
-        &Node::Request(100),
-        &Node::Machine(machine()),
-        2,
-        100,
-    )?;
-    Ok(network)
+fn waiting(alloc: Global) -> Result<Network, Refusal> {
+    let known = known(alloc, &ops())?;
+    network_of(alloc, &known)
 }
 
 fn text_of(alloc: Global, network: &Network) -> Result<Vec<u8>, Refusal> {
@@ -110,161 +104,10 @@ a 5 3 0 1 0
 ";
 
 #[test]
-fn the_sink_alone(rt: HostRuntime) -> Result<(), Fail> {
-    let network = Network::new(rt.alloc())?;
-    let text = text_of(rt.alloc(), &network)?;
-    assert_eq!(rt; text.as_slice(), b"c 1 S\np min 1 0\n".as_slice());
-    Ok(())
-}
-
-#[test]
-fn a_machine_alone(rt: HostRuntime) -> Result<(), Fail> {
-    let mut network = Network::new(rt.alloc())?;
-    put(&mut network, &Node::Machine(machine()), &Node::Sink, 2, 0)?;
-    let text = text_of(rt.alloc(), &network)?;
-    let expected = "c 1 S
-c 2 M 00000000-0000-0000-0000-00000000000a
-p min 2 1
-a 2 1 0 2 0
-";
-    assert_eq!(rt; text.as_slice(), expected.as_bytes());
-    Ok(())
-}
-
-#[test]
 fn a_task_waits(rt: HostRuntime) -> Result<(), Fail> {
-    let network = waiting(rt.alloc(), 500)?;
+    let network = waiting(rt.alloc())?;
     let text = text_of(rt.alloc(), &network)?;
     assert_eq!(rt; text.as_slice(), WAITING.as_bytes());
-    Ok(())
-}
-
-#[test]
-fn a_longer_wait_costs_more(rt: HostRuntime) -> Result<(), Fail> {
-    let network = waiting(rt.alloc(), 600)?;
-    let text = text_of(rt.alloc(), &network)?;
-    let expected = "c 1 S
-c 2 U 00000000-0000-0000-0000-000000000001
-c 3 R 100
-c 4 M 00000000-0000-0000-0000-00000000000a
-c 5 T 00000000-0000-0000-0000-000000000011
-p min 5 5
-n 1 -1
-n 5 1
-a 2 1 0 1 0
-a 3 4 0 2 100
-a 4 1 0 2 0
-a 5 2 0 1 600
-a 5 3 0 1 0
-";
-    assert_eq!(rt; text.as_slice(), expected.as_bytes());
-    Ok(())
-}
-
-#[test]
-fn a_request_finds_no_room(rt: HostRuntime) -> Result<(), Fail> {
-    let mut network = machine_and_task(rt.alloc(), 500)?;
-    put(&mut network, &Node::Task(task()), &Node::Request(100), 1, 0)?;
-    let text = text_of(rt.alloc(), &network)?;
-    let expected = "c 1 S
-c 2 U 00000000-0000-0000-0000-000000000001
-c 3 R 100
-c 4 M 00000000-0000-0000-0000-00000000000a
-c 5 T 00000000-0000-0000-0000-000000000011
-p min 5 4
-n 1 -1
-n 5 1
-a 2 1 0 1 0
-a 4 1 0 2 0
-a 5 2 0 1 500
-a 5 3 0 1 0
-";
-    assert_eq!(rt; text.as_slice(), expected.as_bytes());
-    Ok(())
-}
-
-#[test]
-fn a_task_is_held(rt: HostRuntime) -> Result<(), Fail> {
-    let mut network = machine_and_task(rt.alloc(), 800)?;
-    put(
-        &mut network,
-        &Node::Task(task()),
-        &Node::Machine(machine()),
-        1,
-        0,
-    )?;
-    let text = text_of(rt.alloc(), &network)?;
-    let expected = "c 1 S
-c 2 U 00000000-0000-0000-0000-000000000001
-c 3 M 00000000-0000-0000-0000-00000000000a
-c 4 T 00000000-0000-0000-0000-000000000011
-p min 4 4
-n 1 -1
-n 4 1
-a 2 1 0 1 0
-a 3 1 0 2 0
-a 4 2 0 1 800
-a 4 3 0 1 0
-";
-    assert_eq!(rt; text.as_slice(), expected.as_bytes());
-    Ok(())
-}
-
-#[test]
-fn a_machine_is_closed(rt: HostRuntime) -> Result<(), Fail> {
-    let mut network = Network::new(rt.alloc())?;
-    put(&mut network, &Node::Unscheduled(job()), &Node::Sink, 1, 0)?;
-    put(
-        &mut network,
-        &Node::Task(task()),
-        &Node::Unscheduled(job()),
-        1,
-        500,
-    )?;
-    put(&mut network, &Node::Task(task()), &Node::Request(100), 1, 0)?;
-    let text = text_of(rt.alloc(), &network)?;
-    let expected = "c 1 S
-c 2 U 00000000-0000-0000-0000-000000000001
-c 3 R 100
-c 4 T 00000000-0000-0000-0000-000000000011
-p min 4 3
-n 1 -1
-n 4 1
-a 2 1 0 1 0
-a 4 2 0 1 500
-a 4 3 0 1 0
-";
-    assert_eq!(rt; text.as_slice(), expected.as_bytes());
-    Ok(())
-}
-
-#[test]
-fn a_request_of_0(rt: HostRuntime) -> Result<(), Fail> {
-    let mut network = machine_and_task(rt.alloc(), 500)?;
-    put(&mut network, &Node::Task(task()), &Node::Request(0), 1, 0)?;
-    put(
-        &mut network,
-        &Node::Request(0),
-        &Node::Machine(machine()),
-        2,
-        40,
-    )?;
-    let text = text_of(rt.alloc(), &network)?;
-    let expected = "c 1 S
-c 2 U 00000000-0000-0000-0000-000000000001
-c 3 R 0
-c 4 M 00000000-0000-0000-0000-00000000000a
-c 5 T 00000000-0000-0000-0000-000000000011
-p min 5 5
-n 1 -1
-n 5 1
-a 2 1 0 1 0
-a 3 4 0 2 40
-a 4 1 0 2 0
-a 5 2 0 1 500
-a 5 3 0 1 0
-";
-    assert_eq!(rt; text.as_slice(), expected.as_bytes());
     Ok(())
 }
 
@@ -282,12 +125,18 @@ fn is_read_as(alloc: Global, text: &[u8], network: &Network) -> Result<bool, Ref
     Ok(found == *network)
 }
 
+fn sink_alone(alloc: Global) -> Result<Network, Refusal> {
+    Ok(Network::new(alloc)?)
+}
+
 #[test]
 fn what_is_written_is_read(rt: HostRuntime) -> Result<(), Fail> {
-    let network = waiting(rt.alloc(), 500)?;
+    let network = waiting(rt.alloc())?;
     assert!(rt; is_read_as(rt.alloc(), WAITING.as_bytes(), &network)?);
-    let sink = Network::new(rt.alloc())?;
-    assert!(rt; is_read_as(rt.alloc(), b"c 1 S\np min 1 0\n", &sink)?);
+    let sink = sink_alone(rt.alloc())?;
+    let text = text_of(rt.alloc(), &sink)?;
+    assert_eq!(rt; text.as_slice(), b"c 1 S\np min 1 0\n".as_slice());
+    assert!(rt; is_read_as(rt.alloc(), &text, &sink)?);
     Ok(())
 }
 
@@ -440,101 +289,12 @@ fn writer_of(alloc: Global, at_a_time: usize, room: usize) -> Over<Narrow> {
     })
 }
 
-#[test]
-fn a_writer_fails_after_ten_bytes(rt: HostRuntime) -> Result<(), Fail> {
-    let network = waiting(rt.alloc(), 500)?;
-    let mut out = writer_of(rt.alloc(), 1000, 10);
-    assert_eq!(rt;
-        dump(rt.alloc(), &network, &mut out),
-        Err(Refusal::WriteFault)
-    );
-    assert!(rt; out.failed());
-    assert_eq!(rt;
-        out.into_inner().bytes.as_slice(),
-        b"c 1 S\nc 2 ".as_slice()
-    );
-    Ok(())
+fn dump_to(alloc: Global, known: &Knowledge, out: &mut Over<Narrow>) -> Result<(), Refusal> {
+    let network = network_of(alloc, known)?;
+    dump(alloc, &network, out)
 }
 
-#[test]
-fn a_writer_takes_a_byte_at_a_time(rt: HostRuntime) -> Result<(), Fail> {
-    let network = waiting(rt.alloc(), 500)?;
-    let mut out = writer_of(rt.alloc(), 1, 1000);
-    dump(rt.alloc(), &network, &mut out)?;
-    assert!(rt; !out.failed());
-    let writer = out.into_inner();
-    assert_eq!(rt; writer.bytes.as_slice(), WAITING.as_bytes());
-    assert_eq!(rt; writer.writes, WAITING.len());
-    Ok(())
-}
-
-#[test]
-fn a_writer_takes_nothing(rt: HostRuntime) -> Result<(), Fail> {
-    let network = waiting(rt.alloc(), 500)?;
-    let mut out = writer_of(rt.alloc(), 0, 1000);
-    assert_eq!(rt;
-        dump(rt.alloc(), &network, &mut out),
-        Err(Refusal::WriteFault)
-    );
-    assert!(rt; out.failed());
-    assert_eq!(rt; out.put(b""), 0);
-    assert!(rt; out.into_inner().bytes.is_empty());
-    Ok(())
-}
-
-#[test]
-fn a_writer_fails_at_each_write_in_turn(rt: HostRuntime) -> Result<(), Fail> {
-    let network = waiting(rt.alloc(), 500)?;
-    for room in 0..WAITING.len() {
-        let mut out = writer_of(rt.alloc(), 7, room);
-        let refused = dump(rt.alloc(), &network, &mut out);
-        assert_eq!(rt; refused, Err(Refusal::WriteFault), "after {room} bytes");
-        assert!(rt; out.failed());
-        let bytes = out.into_inner().bytes;
-        assert_eq!(rt; bytes.len(), room);
-        assert!(rt; WAITING.as_bytes().starts_with(&bytes));
-    }
-    Ok(())
-}
-
-// What is known of the task that waits.
-fn known(alloc: Global) -> Result<Knowledge, Refusal> {
-    let mut known = Knowledge::empty(alloc);
-    for op in [
-        Op::Job {
-            id: job(),
-            version: 1,
-            writer: 1,
-            withdrawn: false,
-            wait: 500,
-            preempt: 800,
-        },
-        Op::Machine {
-            id: machine(),
-            incarnation: 1,
-            version: 1,
-            writer: 1,
-            up: true,
-            slots: 2,
-            nic: 1_000,
-        },
-        Op::Spec {
-            id: task(),
-            version: 1,
-            writer: 1,
-            withdrawn: false,
-            job: job(),
-            request: 100,
-            prefer: Prefer::default(),
-        },
-    ] {
-        op.check()?;
-        known.join_into(&Knowledge::delta_of(alloc, &op)?)?;
-    }
-    Ok(known)
-}
-
-// Writes the solution of its network.
+// Writes the solution of the network of what is known.
 fn solve_to(alloc: Global, known: &Knowledge, out: &mut Over<Narrow>) -> Result<(), Refusal> {
     law_can_be(known);
     let network = build(alloc, known)?;
@@ -549,42 +309,114 @@ f 4 1 1
 f 5 3 1
 ";
 
-#[test]
-fn a_solution_goes_out_a_byte_at_a_time(rt: HostRuntime) -> Result<(), Fail> {
-    let known = known(rt.alloc())?;
-    let mut out = writer_of(rt.alloc(), 1, 1000);
-    solve_to(rt.alloc(), &known, &mut out)?;
-    assert!(rt; !out.failed());
-    let writer = out.into_inner();
-    assert_eq!(rt; writer.bytes.as_slice(), SOLUTION.as_bytes());
-    assert_eq!(rt; writer.writes, SOLUTION.len());
-    Ok(())
+// What is written of the task that waits.
+#[derive(Clone, Copy, Drop)]
+enum Text {
+    Network,
+    Solution,
 }
 
-#[test]
-fn a_writer_takes_nothing_of_a_solution(rt: HostRuntime) -> Result<(), Fail> {
-    let known = known(rt.alloc())?;
-    let mut out = writer_of(rt.alloc(), 0, 1000);
-    assert_eq!(rt;
-        solve_to(rt.alloc(), &known, &mut out),
-        Err(Refusal::WriteFault)
-    );
-    assert!(rt; out.failed());
-    assert!(rt; out.into_inner().bytes.is_empty());
-    Ok(())
-}
-
-#[test]
-fn a_writer_of_a_solution_fails_at_each_write_in_turn(rt: HostRuntime) -> Result<(), Fail> {
-    let known = known(rt.alloc())?;
-    for room in 0..SOLUTION.len() {
-        let mut out = writer_of(rt.alloc(), 7, room);
-        let refused = solve_to(rt.alloc(), &known, &mut out);
-        assert_eq!(rt; refused, Err(Refusal::WriteFault), "after {room} bytes");
-        assert!(rt; out.failed());
-        let bytes = out.into_inner().bytes;
-        assert_eq!(rt; bytes.len(), room);
-        assert!(rt; SOLUTION.as_bytes().starts_with(&bytes));
+impl Text {
+    fn whole(self) -> &'static str {
+        match self {
+            Text::Network => WAITING,
+            Text::Solution => SOLUTION,
+        }
     }
-    Ok(())
+
+    fn write(self, alloc: Global, out: &mut Over<Narrow>) -> Result<(), Refusal> {
+        let known = known(alloc, &ops())?;
+        match self {
+            Text::Network => dump_to(alloc, &known, out),
+            Text::Solution => solve_to(alloc, &known, out),
+        }
+    }
+}
+
+// What became of writing: why it was refused, whether the writer failed, how much it takes of nothing then, and what it took.
+#[derive(Drop)]
+struct Written {
+    refusal: Option<Refusal>,
+    failed: bool,
+    more: usize,
+    writer: Narrow,
+}
+
+fn written(alloc: Global, text: Text, at_a_time: usize, room: usize) -> Written {
+    let mut out = writer_of(alloc, at_a_time, room);
+    let refusal = text.write(alloc, &mut out).err();
+    let failed = out.failed();
+    let more = if failed { out.put(b"") } else { 0 };
+    Written {
+        refusal,
+        failed,
+        more,
+        writer: out.into_inner(),
+    }
+}
+
+// Whether the writer failed, and took so many bytes before it did, of which the text begins.
+fn fails_after(alloc: Global, text: Text, at_a_time: usize, room: usize, taken: usize) -> bool {
+    let written = written(alloc, text, at_a_time, room);
+    let bytes = &written.writer.bytes;
+    written.refusal == Some(Refusal::WriteFault)
+        && written.failed
+        && written.more == 0
+        && bytes.len() == taken
+        && text.whole().as_bytes().starts_with(bytes)
+}
+
+// Whether the whole text goes out, a byte at each write.
+fn goes_out(alloc: Global, text: Text) -> bool {
+    let written = written(alloc, text, 1, 1000);
+    let whole = text.whole().as_bytes();
+    written.refusal.is_none()
+        && !written.failed
+        && written.writer.bytes.as_slice() == whole
+        && written.writer.writes == whole.len()
+}
+
+#[test]
+fn a_writer_fails_after_ten_bytes(rt: HostRuntime) {
+    assert!(rt; fails_after(rt.alloc(), Text::Network, 1000, 10, 10));
+}
+
+#[test]
+fn a_writer_takes_a_byte_at_a_time(rt: HostRuntime) {
+    assert!(rt; goes_out(rt.alloc(), Text::Network));
+}
+
+#[test]
+fn a_writer_takes_nothing(rt: HostRuntime) {
+    assert!(rt; fails_after(rt.alloc(), Text::Network, 0, 1000, 0));
+}
+
+#[test]
+fn a_writer_fails_at_each_write_in_turn(rt: HostRuntime) {
+    for room in 0..WAITING.len() {
+        assert!(rt;
+            fails_after(rt.alloc(), Text::Network, 7, room, room),
+            "after {room} bytes"
+        );
+    }
+}
+
+#[test]
+fn a_solution_goes_out_a_byte_at_a_time(rt: HostRuntime) {
+    assert!(rt; goes_out(rt.alloc(), Text::Solution));
+}
+
+#[test]
+fn a_writer_takes_nothing_of_a_solution(rt: HostRuntime) {
+    assert!(rt; fails_after(rt.alloc(), Text::Solution, 0, 1000, 0));
+}
+
+#[test]
+fn a_writer_of_a_solution_fails_at_each_write_in_turn(rt: HostRuntime) {
+    for room in 0..SOLUTION.len() {
+        assert!(rt;
+            fails_after(rt.alloc(), Text::Solution, 7, room, room),
+            "after {room} bytes"
+        );
+    }
 }

@@ -14,17 +14,32 @@ use fm_records::prefer::Prefer;
 use std::alloc::Global;
 use std::test::Fail;
 
+fn finds_job(look: &mut KnowLook) -> Result<bool, Fail> {
+    Ok(look.job(JobId::new(1))?.is_some())
+}
+
+fn finds_machine(look: &mut KnowLook) -> Result<bool, Fail> {
+    Ok(look.machine(MachineId::new(10))?.is_some())
+}
+
+fn finds_task(look: &mut KnowLook) -> Result<bool, Fail> {
+    Ok(look.task(TaskId::new(17))?.is_some())
+}
+
+fn finds_winner(look: &mut KnowLook) -> Result<bool, Fail> {
+    Ok(look.winner(TaskId::new(17), 0)?.is_some())
+}
+
 #[test]
 fn each_look_stores_its_key(rt: HostRuntime) -> Result<(), Fail> {
     let known = Knowledge::empty(rt.alloc());
     let mut look = KnowLook::new(rt.alloc(), &known);
-    let task = TaskId::new(17);
-    assert!(rt; look.job(JobId::new(1))?.is_none());
-    assert!(rt; look.machine(MachineId::new(10))?.is_none());
-    assert!(rt; look.task(task)?.is_none());
-    assert!(rt; look.winner(task, 0)?.is_none());
+    assert!(rt; !finds_job(&mut look)?);
+    assert!(rt; !finds_machine(&mut look)?);
+    assert!(rt; !finds_task(&mut look)?);
+    assert!(rt; !finds_winner(&mut look)?);
     assert_eq!(rt; look.keys().len(), 4);
-    assert_eq!(rt; look.keys()[3], Key::Winner(task, 0));
+    assert_eq!(rt; look.keys().last(), Some(&Key::Winner(TaskId::new(17), 0)));
     Ok(())
 }
 
@@ -43,7 +58,17 @@ fn told(alloc: Global, known: &mut Knowledge, editor: &mut Editor, op: &Op) -> R
     Ok(())
 }
 
-// A job, a task of it that requests 100, and a machine, each told by itself.
+// Whether its network is fresh, and how many nodes and arcs that has.
+fn sizes<K: NetKeeper>(keeper: &K) -> (bool, usize, usize) {
+    let network = keeper.network();
+    (keeper.is_fresh(), network.nodes_len(), network.arcs_len())
+}
+
+fn rebuild<K: NetKeeper>(alloc: Global, keeper: &mut K, known: &Knowledge) -> Result<(), Fail> {
+    Ok(keeper.rebuild(alloc, known)?)
+}
+
+// A job, and a task of it that requests 100, each told by itself.
 #[test]
 fn an_editor_follows_and_stays_fresh(rt: HostRuntime) -> Result<(), Fail> {
     let alloc = rt.alloc();
@@ -59,7 +84,7 @@ fn an_editor_follows_and_stays_fresh(rt: HostRuntime) -> Result<(), Fail> {
         prefer: Prefer::default(),
     };
     told(alloc, &mut known, &mut editor, &task)?;
-    assert_eq!(rt; editor.network().nodes_len(), 1);
+    assert_eq!(rt; sizes(&editor).1, 1);
     let job = Op::Job {
         id: JobId::new(1),
         version: 1,
@@ -69,12 +94,9 @@ fn an_editor_follows_and_stays_fresh(rt: HostRuntime) -> Result<(), Fail> {
         preempt: 800,
     };
     told(alloc, &mut known, &mut editor, &job)?;
-    assert!(rt; editor.is_fresh());
-    assert_eq!(rt; editor.network().nodes_len(), 4);
-    assert_eq!(rt; editor.network().arcs_len(), 3);
-    editor.rebuild(alloc, &known)?;
-    assert!(rt; editor.is_fresh());
-    assert_eq!(rt; editor.network().nodes_len(), 4);
+    assert_eq!(rt; sizes(&editor), (true, 4, 3));
+    rebuild(alloc, &mut editor, &known)?;
+    assert_eq!(rt; sizes(&editor), (true, 4, 3));
     Ok(())
 }
 
@@ -82,8 +104,7 @@ fn an_editor_follows_and_stays_fresh(rt: HostRuntime) -> Result<(), Fail> {
 fn a_keeper_of_either_kind_is_built(rt: HostRuntime) -> Result<(), Fail> {
     let known = Knowledge::empty(rt.alloc());
     let mut keeper = Keeper::Edits(Editor::new(rt.alloc())?);
-    keeper.rebuild(rt.alloc(), &known)?;
-    assert!(rt; keeper.is_fresh());
-    assert_eq!(rt; keeper.network().nodes_len(), 1);
+    rebuild(rt.alloc(), &mut keeper, &known)?;
+    assert_eq!(rt; sizes(&keeper), (true, 1, 0));
     Ok(())
 }
