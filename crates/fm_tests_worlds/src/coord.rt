@@ -1,6 +1,7 @@
 ghost use Rattle.std.specs.Prelude.{◌≡◌, Some, is_some};
 ghost use Rattle.fm_net.specs.Network.{net_of};
 
+use crate::worlds::{Node, cut, know_alike, merge, node, number};
 use fm_coord::coordinator::Coordinator;
 use fm_coord::entry::Range;
 use fm_coord::shared::Shared;
@@ -13,7 +14,7 @@ use fm_net::network::Network;
 use fm_policy::changed::Changed;
 use fm_policy::keeper::NetKeeper;
 use fm_policy::rebuilder::Rebuilder;
-use fm_records::ids::{CoordId, JobId, MachineId, TaskId};
+use fm_records::ids::{JobId, MachineId, TaskId};
 use fm_records::ops::{Op, Phase};
 use fm_records::prefer::Prefer;
 use fm_records::refusal::Refusal;
@@ -59,49 +60,48 @@ fn task() -> Op {
 
 // The functions below have no contract: the tests are of what is answered, and proofs of them stay short.
 
-fn coordinator(alloc: Global, number: u8, limit: usize) -> Result<Coordinator<Rebuilder>, Fail> {
-    let number = CoordId::new(number).ok_or("no such number")?;
-    Ok(Coordinator::new(alloc, number, limit, Rebuilder::new(alloc)?))
-}
-
-fn tell(node: &mut Coordinator<Rebuilder>, op: Op) -> Result<(), Refusal> {
+fn tell(node: &mut Node, op: Op) -> Result<(), Refusal> {
     node.tell(0, op)
 }
 
 // A coordinator that was told of a job, a machine and a task.
-fn three_told(alloc: Global) -> Result<Coordinator<Rebuilder>, Fail> {
-    let mut node = coordinator(alloc, 1, 100)?;
+fn three_told(alloc: Global) -> Result<Node, Fail> {
+    let mut node = node(alloc, 1, 100, false)?;
     tell(&mut node, job())?;
     tell(&mut node, machine())?;
     tell(&mut node, task())?;
     Ok(node)
 }
 
-fn cut(node: &mut Coordinator<Rebuilder>, range: Range) -> Result<Shared<Packet>, Refusal> {
-    node.cut(0, range)
-}
-
-fn refused(node: &mut Coordinator<Rebuilder>, from: u64, to: u64) -> Option<Refusal> {
+fn refused(node: &mut Node, from: u64, to: u64) -> Option<Refusal> {
     cut(node, Range::Interval(from, to)).err()
 }
 
-fn trim(node: &mut Coordinator<Rebuilder>, n: u64) -> Result<(), Refusal> {
+fn trim(node: &mut Node, n: u64) -> Result<(), Refusal> {
     node.trim(0, n)
 }
 
-fn view(node: &mut Coordinator<Rebuilder>) -> Result<View, Refusal> {
+fn view(node: &mut Node) -> Result<View, Refusal> {
     node.view(0)
+}
+
+// How many entries are in the history.
+fn entries(node: &Node) -> usize {
+    node.history().len()
+}
+
+// How many entries were before the view, and how many nodes and arcs it shows.
+fn shown(node: &mut Node) -> Result<(usize, usize, usize), Refusal> {
+    let seen = view(node)?;
+    Ok((seen.at, seen.network.nodes_len(), seen.network.arcs_len()))
 }
 
 #[test]
 fn a_view_shows_what_three_tells_came_to(rt: HostRuntime) -> Result<(), Fail> {
     let mut node = three_told(rt.alloc())?;
     assert!(rt; !node.is_fresh());
-    let seen = view(&mut node)?;
-    assert_eq!(rt; seen.at, 3);
-    assert_eq!(rt; seen.network.nodes_len(), 5);
-    assert_eq!(rt; seen.network.arcs_len(), 5);
-    assert_eq!(rt; node.history().len(), 4);
+    assert_eq!(rt; shown(&mut node), Ok((3, 5, 5)));
+    assert_eq!(rt; entries(&node), 4);
     assert!(rt; node.is_fresh());
     Ok(())
 }
@@ -117,65 +117,69 @@ fn cuts_and_trims_within_the_buffer_are_taken(rt: HostRuntime) -> Result<(), Fai
     assert_eq!(rt; trim(&mut node, 1), Err(Refusal::BadInterval));
     assert_eq!(rt; node.floor(), 2);
     assert_eq!(rt; node.end(), 3);
-    assert_eq!(rt; node.history().len(), 5);
+    assert_eq!(rt; entries(&node), 5);
     Ok(())
 }
 
 // Whether the two know the same once the second has merged all that the first knows.
-fn agree(
-    first: &mut Coordinator<Rebuilder>,
-    second: &mut Coordinator<Rebuilder>,
-) -> Result<bool, Fail> {
-    let packet = cut(first, Range::Full)?.get().copy()?;
-    second.merge(0, packet)?;
-    Ok(first.knowledge() == second.knowledge())
+fn agree(first: &mut Node, second: &mut Node) -> Result<bool, Fail> {
+    let packet = copied(&cut(first, Range::Full)?)?;
+    merge(second, packet)?;
+    Ok(know_alike(first, second))
+}
+
+fn copied(packet: &Shared<Packet>) -> Result<Packet, Fail> {
+    Ok(packet.get().copy()?)
 }
 
 #[test]
 fn a_full_packet_tells_all(rt: HostRuntime) -> Result<(), Fail> {
     let mut first = three_told(rt.alloc())?;
-    let mut second = coordinator(rt.alloc(), 2, 100)?;
+    let mut second = node(rt.alloc(), 2, 100, false)?;
     assert!(rt; agree(&mut first, &mut second)?);
-    assert_eq!(rt; second.history().len(), 1);
+    assert_eq!(rt; entries(&second), 1);
     Ok(())
 }
 
 #[test]
 fn a_full_history_takes_no_call(rt: HostRuntime) -> Result<(), Fail> {
-    let mut node = coordinator(rt.alloc(), 1, 1)?;
+    let mut node = node(rt.alloc(), 1, 1, false)?;
     assert_eq!(rt; tell(&mut node, job()), Ok(()));
     assert_eq!(rt; tell(&mut node, task()), Err(Refusal::HistoryFull));
-    assert_eq!(rt; node.history().len(), 1);
+    assert_eq!(rt; entries(&node), 1);
     Ok(())
 }
 
-// The answers to a plan that places the task on the machine.
-fn placed(alloc: Global, node: &mut Coordinator<Rebuilder>) -> Result<Vec<Answer>, Fail> {
+// A plan that places the task on the machine.
+fn placing(alloc: Global) -> Result<Plan, Fail> {
     let mut places = Vec::new(alloc);
     places.push(Place {
         task: TaskId::new(17),
         machine: MachineId::new(10),
         incarnation: 1,
     })?;
-    let plan = Plan {
+    Ok(Plan {
         places: Listed::new(places),
         preempts: Listed::new(Vec::new(alloc)),
-    };
+    })
+}
+
+// Whether the plan is committed, and this is its one answer.
+fn is_answered(node: &mut Node, plan: Plan, answer: Answer) -> Result<bool, Fail> {
     let admitted = node.commit(0, plan)?;
-    let mut answers = Vec::new(alloc);
-    answers.extend_from_slice(admitted.get().answers.as_slice())?;
-    Ok(answers)
+    Ok(admitted.get().answers.as_slice() == [answer].as_slice())
+}
+
+// Which machine holds the task.
+fn holder(node: &Node) -> Option<MachineId> {
+    node.knowledge().holder(TaskId::new(17))
 }
 
 #[test]
 fn a_commit_places_a_task(rt: HostRuntime) -> Result<(), Fail> {
     let mut node = three_told(rt.alloc())?;
-    let answers = placed(rt.alloc(), &mut node)?;
-    assert_eq!(rt; answers.as_slice(), [Answer::Accepted].as_slice());
-    assert_eq!(rt;
-        node.knowledge().holder(TaskId::new(17)),
-        Some(MachineId::new(10))
-    );
+    assert!(rt; is_answered(&mut node, placing(rt.alloc())?, Answer::Accepted)?);
+    assert_eq!(rt; holder(&node), Some(MachineId::new(10)));
     assert_eq!(rt; node.end(), 4);
     Ok(())
 }
@@ -197,15 +201,14 @@ fn a_spent_attempt_is_not_placed(rt: HostRuntime) -> Result<(), Fail> {
     };
     assert_eq!(rt; tell(&mut node, last), Ok(()));
     assert_eq!(rt; tell(&mut node, elsewhere), Ok(()));
-    let answers = placed(rt.alloc(), &mut node)?;
-    assert_eq!(rt; answers.as_slice(), [Answer::AttemptsSpent].as_slice());
-    assert_eq!(rt; node.knowledge().holder(TaskId::new(17)), None);
-    assert_eq!(rt; node.history().len(), 6);
+    assert!(rt; is_answered(&mut node, placing(rt.alloc())?, Answer::AttemptsSpent)?);
+    assert_eq!(rt; holder(&node), None);
+    assert_eq!(rt; entries(&node), 6);
     Ok(())
 }
 
 // The text of the node's network.
-fn dumped(alloc: Global, node: &mut Coordinator<Rebuilder>) -> Result<Vec<u8>, Fail> {
+fn dumped(alloc: Global, node: &mut Node) -> Result<Vec<u8>, Fail> {
     let mut out = Over::new(Vec::new(alloc));
     node.dump(&mut out)?;
     Ok(out.into_inner())
@@ -213,10 +216,10 @@ fn dumped(alloc: Global, node: &mut Coordinator<Rebuilder>) -> Result<Vec<u8>, F
 
 #[test]
 fn a_dump_of_nothing_is_the_sink(rt: HostRuntime) -> Result<(), Fail> {
-    let mut node = coordinator(rt.alloc(), 1, 1)?;
+    let mut node = node(rt.alloc(), 1, 1, false)?;
     let text = dumped(rt.alloc(), &mut node)?;
     assert_eq!(rt; text.as_slice(), b"c 1 S\np min 1 0\n".as_slice());
-    assert_eq!(rt; node.history().len(), 0);
+    assert_eq!(rt; entries(&node), 0);
     Ok(())
 }
 
@@ -261,7 +264,7 @@ impl NetKeeper for Counting {
 }
 
 fn counted(alloc: Global) -> Result<Coordinator<Counting>, Fail> {
-    let number = CoordId::new(1).ok_or("no such number")?;
+    let number = number(1)?;
     let keeper = Counting {
         inner: Rebuilder::new(alloc)?,
         builds: 0,
@@ -273,20 +276,22 @@ fn counted(alloc: Global) -> Result<Coordinator<Counting>, Fail> {
 // Tells the coordinator of so many tasks, one by one.
 fn tell_tasks(node: &mut Coordinator<Counting>, many: u32) -> Result<(), Fail> {
     for n in 0..many {
-        node.tell(
-            0,
-            Op::Spec {
-                id: TaskId::new(u128::from(n)),
-                version: 1,
-                writer: 1,
-                withdrawn: false,
-                job: JobId::new(1),
-                request: 100,
-                prefer: Prefer::default(),
-            },
-        )?;
+        tell_task(node, n)?;
     }
     Ok(())
+}
+
+fn tell_task(node: &mut Coordinator<Counting>, n: u32) -> Result<(), Refusal> {
+    let op = Op::Spec {
+        id: TaskId::new(u128::from(n)),
+        version: 1,
+        writer: 1,
+        withdrawn: false,
+        job: JobId::new(1),
+        request: 100,
+        prefer: Prefer::default(),
+    };
+    node.tell(0, op)
 }
 
 fn see(node: &mut Coordinator<Counting>) -> Result<View, Refusal> {

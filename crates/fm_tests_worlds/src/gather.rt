@@ -1,12 +1,11 @@
-ghost use Rattle.std.specs.Prelude.{◌≡◌, [], IfOk};
-
-use fm_coord::coordinator::Coordinator;
+use crate::worlds;
+use crate::worlds::{Node, merge, node, number};
 use fm_coord::entry::Range;
 use fm_delta::packet::Packet;
+use fm_edit::keepers::Keeper;
 use fm_gather::gather::gather;
 use fm_know::knowledge::Knowledge;
-use fm_policy::rebuilder::Rebuilder;
-use fm_records::ids::{CoordId, JobId};
+use fm_records::ids::JobId;
 use fm_records::ops::Op;
 use fm_records::refusal::Refusal;
 use fm_world::distinct::distinct;
@@ -15,27 +14,11 @@ use fm_world::world::World;
 use std::alloc::Global;
 use std::test::Fail;
 
-type Node = Coordinator<Rebuilder>;
-
-fn node(alloc: Global, number: u8) -> Result<Node, Fail>
-    ensures { IfOk result (λ c. c.state.history ≡ []) }
-{
-    let number = CoordId::new(number).ok_or("no such number")?;
-    Ok(Coordinator::new(alloc, number, 100, Rebuilder::new(alloc)?))
-}
-
 // The functions below have no contract: the tests are of what is answered, and proofs of them stay short.
 
-// A world of the coordinators 2, 1 and 9.
-fn world(alloc: Global) -> Result<World<Rebuilder>, Fail> {
-    let mut nodes = Vec::new(alloc);
-    nodes.push(node(alloc, 2)?)?;
-    nodes.push(node(alloc, 1)?)?;
-    nodes.push(node(alloc, 9)?)?;
-    if !distinct(nodes.as_slice()) {
-        return Err("two coordinators have one number".into());
-    }
-    Ok(World::new(nodes))
+// A world of the coordinators 2, 1 and 9, and two more.
+fn world(alloc: Global) -> Result<World<Keeper>, Fail> {
+    worlds::world(alloc, [2, 1, 9, 3, 4], 100, false)
 }
 
 fn job(version: u64) -> Op {
@@ -103,7 +86,7 @@ fn is_stuck(alloc: Global, nodes: &[Node], expected: &[(u8, u8)], left: &[u8]) -
     }
 }
 
-fn first(world: &World<Rebuilder>, count: usize) -> &[Node] {
+fn first(world: &World<Keeper>, count: usize) -> &[Node] {
     match world.coordinators().get(..count) {
         Some(nodes) => nodes,
         None => world.coordinators(),
@@ -134,21 +117,27 @@ fn a_stranger_s_packet_is_waited_for(rt: HostRuntime) -> Result<(), Fail> {
 }
 
 // A coordinator that cut a packet, after it merged one of another.
-fn in_ring(alloc: Global, number: u8, sender: u8) -> Result<Node, Fail> {
-    let mut made = node(alloc, number)?;
-    made.merge(0, packet(alloc, sender)?)?;
-    let _ = made.cut(0, Range::Full)?;
+fn in_ring(alloc: Global, at: u8, sender: u8) -> Result<Node, Fail> {
+    let mut made = node(alloc, at, 100, false)?;
+    merge(&mut made, packet(alloc, sender)?)?;
+    let _ = worlds::cut(&mut made, Range::Full)?;
     Ok(made)
 }
 
 fn packet(alloc: Global, sender: u8) -> Result<Packet, Fail> {
+    let sender = number(sender)?;
+    let value = known(alloc)?;
+    Ok(Packet {
+        sender,
+        number: 1,
+        value,
+    })
+}
+
+fn known(alloc: Global) -> Result<Knowledge, Fail> {
     let op = job(1);
     op.check()?;
-    Ok(Packet {
-        sender: CoordId::new(sender).ok_or("no such number")?,
-        number: 1,
-        value: Knowledge::delta_of(alloc, &op)?,
-    })
+    Ok(Knowledge::delta_of(alloc, &op)?)
 }
 
 fn ring(alloc: Global) -> Result<Vec<Node>, Fail> {

@@ -11,3 +11,5 @@ mod gather;
 mod input;
 #[cfg(test)]
 mod world;
+#[cfg(test)]
+mod worlds;

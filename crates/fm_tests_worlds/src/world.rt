@@ -1,38 +1,21 @@
-ghost use Rattle.std.specs.Prelude.{◌≡◌, [], IfOk};
-
-use fm_coord::coordinator::Coordinator;
+use crate::worlds;
+use crate::worlds::know_alike;
 use fm_coord::entry::Range;
-use fm_dimacs::out::Over;
-use fm_policy::rebuilder::Rebuilder;
+use fm_edit::keepers::Keeper;
 use fm_records::ids::{CoordId, JobId};
 use fm_records::ops::Op;
 use fm_records::refusal::Refusal;
-use fm_world::distinct::distinct;
 use fm_world::step::{Act, RunStop, Step};
 use fm_world::world::World;
 use std::alloc::Global;
 use std::test::Fail;
 
-fn coordinator(alloc: Global, number: u8, limit: usize) -> Result<Coordinator<Rebuilder>, Fail>
-    ensures { IfOk result (λ c. c.state.history ≡ []) }
-{
-    let number = CoordId::new(number).ok_or("no such number")?;
-    Ok(Coordinator::new(alloc, number, limit, Rebuilder::new(alloc)?))
-}
-
-// A world of the coordinators 1, 2 and 3.
-fn world(alloc: Global, limit: usize) -> Result<World<Rebuilder>, Fail> {
-    let mut coordinators = Vec::new(alloc);
-    coordinators.push(coordinator(alloc, 1, limit)?)?;
-    coordinators.push(coordinator(alloc, 2, limit)?)?;
-    coordinators.push(coordinator(alloc, 3, limit)?)?;
-    if !distinct(coordinators.as_slice()) {
-        return Err("two coordinators have one number".into());
-    }
-    Ok(World::new(coordinators))
-}
-
 // The functions below have no contract: the tests are of what is answered, and proofs of them stay short.
+
+// A world of the coordinators 1, 2 and 3, and two more.
+fn world(alloc: Global, limit: usize) -> Result<World<Keeper>, Fail> {
+    worlds::world(alloc, [1, 2, 3, 5, 6], limit, false)
+}
 
 fn step(at: u8, act: Act) -> Step {
     Step { at, by: 0, act }
@@ -59,7 +42,7 @@ fn deliver(at: u8, packet: usize) -> Step {
     step(at, Act::Deliver(packet))
 }
 
-fn run(world: &mut World<Rebuilder>, steps: &[Step]) -> Option<RunStop> {
+fn run(world: &mut World<Keeper>, steps: &[Step]) -> Option<RunStop> {
     world.run(steps).err()
 }
 
@@ -109,7 +92,7 @@ fn a_cut_from_below_the_floor_is_refused(rt: HostRuntime) -> Result<(), Fail> {
 }
 
 // What the view of a View step says of the entries before it.
-fn seen_at(world: &mut World<Rebuilder>, number: u8) -> Result<Option<usize>, Refusal> {
+fn seen_at(world: &mut World<Keeper>, number: u8) -> Result<Option<usize>, Refusal> {
     let view = world.step(&step(number, Act::View))?;
     Ok(view.map(|seen| seen.at))
 }
@@ -122,26 +105,18 @@ fn a_view_step_is_answered(rt: HostRuntime) -> Result<(), Fail> {
     Ok(())
 }
 
-// How many bytes the dump of the coordinator writes.
-fn dumped(alloc: Global, world: &mut World<Rebuilder>, number: u8) -> Result<usize, Fail> {
-    let number = CoordId::new(number).ok_or("no such number")?;
-    let mut out = Over::new(Vec::new(alloc));
-    world.dump(number, &mut out)?;
-    Ok(out.into_inner().len())
-}
-
 #[test]
 fn a_dump_is_written(rt: HostRuntime) -> Result<(), Fail> {
     let mut world = world(rt.alloc(), 1)?;
-    assert!(rt; dumped(rt.alloc(), &mut world, 2)? > 0);
+    assert!(rt; !worlds::dumped(rt.alloc(), &mut world, 2)?.is_empty());
     Ok(())
 }
 
 // Whether two coordinators know the same.
-fn agree(world: &World<Rebuilder>, first: u8, second: u8) -> Option<bool> {
+fn agree(world: &World<Keeper>, first: u8, second: u8) -> Option<bool> {
     let first = world.coordinator(CoordId::new(first)?)?;
     let second = world.coordinator(CoordId::new(second)?)?;
-    Some(first.knowledge() == second.knowledge())
+    Some(know_alike(first, second))
 }
 
 #[test]
