@@ -5,6 +5,7 @@ ghost use Rattle.std.specs.Prelude.{IsTrue, IfOk};
 ghost use Rattle.fm_numbered.specs.Feasible.{IsFlowOf};
 ghost use Rattle.fm_numbered.specs.Unscheduled.{all_unscheduled};
 
+use crate::networks::put;
 use crate::round::{job as known_job, knowing, machine as known_machine, spec};
 use fm_certificate::cost::cost;
 use fm_cycles::search::{Found, search};
@@ -28,22 +29,24 @@ use std::test::Fail;
 
 // A job with its live tasks.
 fn job(network: &mut Network, job: u128, live: u64) -> Result<(), OutOfMemory> {
-    network.known();
-    if live > 0 {
-        network.put_node(Node::Unscheduled(JobId::new(job)))?;
-        network.put_arc(Node::Unscheduled(JobId::new(job)), Node::Sink, live, 0)?;
-    }
-    Ok(())
+    put(
+        network,
+        Node::Unscheduled(JobId::new(job)),
+        Node::Sink,
+        live,
+        0,
+    )
 }
 
 // A machine with its slots.
 fn machine(network: &mut Network, machine: u128, slots: u64) -> Result<(), OutOfMemory> {
-    network.known();
-    if slots > 0 {
-        network.put_node(Node::Machine(MachineId::new(machine)))?;
-        network.put_arc(Node::Machine(MachineId::new(machine)), Node::Sink, slots, 0)?;
-    }
-    Ok(())
+    put(
+        network,
+        Node::Machine(MachineId::new(machine)),
+        Node::Sink,
+        slots,
+        0,
+    )
 }
 
 // A request with room for some tasks on a machine with a load.
@@ -55,55 +58,39 @@ fn room(
     load: u16,
 ) -> Result<(), OutOfMemory> {
     let request = u32::from(request);
-    if fits > 0 {
-        network.put_node(Node::Request(request))?;
-        network.put_node(Node::Machine(MachineId::new(machine)))?;
-        let cost = request + u32::from(load);
-        network.put_arc(
-            Node::Request(request),
-            Node::Machine(MachineId::new(machine)),
-            fits,
-            cost,
-        )?;
-    }
-    Ok(())
+    let cost = request + u32::from(load);
+    let machine = Node::Machine(MachineId::new(machine));
+    put(network, Node::Request(request), machine, fits, cost)
 }
 
 // A task's arc to its job.
 fn waits(network: &mut Network, task: u128, job: u128, cost: u16) -> Result<(), OutOfMemory> {
-    network.put_node(Node::Task(TaskId::new(task)))?;
-    network.put_node(Node::Unscheduled(JobId::new(job)))?;
-    let cost = u32::from(cost);
-    network.put_arc(
+    let job = Node::Unscheduled(JobId::new(job));
+    put(
+        network,
         Node::Task(TaskId::new(task)),
-        Node::Unscheduled(JobId::new(job)),
+        job,
         1,
-        cost,
-    )?;
-    Ok(())
+        u32::from(cost),
+    )
 }
 
 // A task's arc to its request.
 fn asks(network: &mut Network, task: u128, request: u16) -> Result<(), OutOfMemory> {
-    let request = u32::from(request);
-    network.put_node(Node::Task(TaskId::new(task)))?;
-    network.put_node(Node::Request(request))?;
-    network.put_arc(Node::Task(TaskId::new(task)), Node::Request(request), 1, 0)?;
-    Ok(())
+    let request = Node::Request(u32::from(request));
+    put(network, Node::Task(TaskId::new(task)), request, 1, 0)
 }
 
 // A task's arc to a machine that it prefers, or that holds it.
 fn goes(network: &mut Network, task: u128, machine: u128, cost: u16) -> Result<(), OutOfMemory> {
-    let cost = u32::from(cost);
-    network.put_node(Node::Task(TaskId::new(task)))?;
-    network.put_node(Node::Machine(MachineId::new(machine)))?;
-    network.put_arc(
+    let machine = Node::Machine(MachineId::new(machine));
+    put(
+        network,
         Node::Task(TaskId::new(task)),
-        Node::Machine(MachineId::new(machine)),
+        machine,
         1,
-        cost,
-    )?;
-    Ok(())
+        u32::from(cost),
+    )
 }
 
 // A task's arc to the machine that holds it.

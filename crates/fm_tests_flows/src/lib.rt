@@ -6,4 +6,6 @@ mod certificate;
 #[cfg(test)]
 mod flow;
 #[cfg(test)]
+mod networks;
+#[cfg(test)]
 mod round;

@@ -106,11 +106,21 @@ fn coordinator(number: u8) -> Result<CoordId, Fail> {
     Ok(CoordId::new(number).ok_or("no coordinator")?)
 }
 
+// The functions below have no contract: the tests are of what is answered, and proofs of them stay short.
+
+fn delta(alloc: Global, op: &Op) -> Result<Knowledge, Fail> {
+    op.check()?;
+    Ok(Knowledge::delta_of(alloc, op)?)
+}
+
+fn join(known: &mut Knowledge, other: &Knowledge) -> Result<(), Fail> {
+    Ok(known.join_into(other)?)
+}
+
 fn tell(alloc: Global, known: &mut Knowledge, ops: &[Op]) -> Result<(), Fail> {
     for op in ops {
-        op.check()?;
-        let delta = Knowledge::delta_of(alloc, op)?;
-        known.join_into(&delta)?;
+        let delta = delta(alloc, op)?;
+        join(known, &delta)?;
     }
     Ok(())
 }
@@ -227,6 +237,18 @@ fn the_last_attempt_is_spent(rt: HostRuntime) -> Result<(), Fail> {
     Ok(())
 }
 
+// The plan of a flow that places both tasks on the machine.
+fn both_placed(alloc: Global, known: &Knowledge) -> Result<Plan, Fail> {
+    let flow = [
+        ((Node::Request(500), on_a()), 1),
+        ((Node::Request(600), on_a()), 1),
+        ((on_a(), Node::Sink), 2),
+        ((task(FIRST), Node::Request(600)), 1),
+        ((task(SECOND), Node::Request(500)), 1),
+    ];
+    Ok(plan_of(alloc, flow.as_slice(), known)?)
+}
+
 #[test]
 fn the_second_task_finds_no_room(rt: HostRuntime) -> Result<(), Fail> {
     let ops = [
@@ -236,18 +258,23 @@ fn the_second_task_finds_no_room(rt: HostRuntime) -> Result<(), Fail> {
         spec(SECOND, 500),
     ];
     let known = knowing(rt.alloc(), ops.as_slice())?;
-    let flow = [
-        ((Node::Request(500), on_a()), 1),
-        ((Node::Request(600), on_a()), 1),
-        ((on_a(), Node::Sink), 2),
-        ((task(FIRST), Node::Request(600)), 1),
-        ((task(SECOND), Node::Request(500)), 1),
-    ];
-    let plan = plan_of(rt.alloc(), flow.as_slice(), &known)?;
+    let plan = both_placed(rt.alloc(), &known)?;
     assert_eq!(rt; plan.places.as_slice().len(), 2);
     let outcome = admitted(rt.alloc(), &known, 1, &plan)?;
     assert!(rt; came_to(&outcome, [Answer::Accepted, Answer::NoRoom].as_slice(), 1));
     Ok(())
+}
+
+// The plan of a flow that leaves the first task unscheduled and places the second.
+fn second_placed(alloc: Global, known: &Knowledge) -> Result<Plan, Fail> {
+    let flow = [
+        ((unscheduled(), Node::Sink), 1),
+        ((Node::Request(0), on_a()), 1),
+        ((on_a(), Node::Sink), 1),
+        ((task(FIRST), unscheduled()), 1),
+        ((task(SECOND), Node::Request(0)), 1),
+    ];
+    Ok(plan_of(alloc, flow.as_slice(), known)?)
 }
 
 #[test]
@@ -267,18 +294,11 @@ fn a_dear_task_takes_the_place_of_a_cheap_one(rt: HostRuntime) -> Result<(), Fai
         propose(0, 1, A, 1),
     ];
     let mut known = knowing(rt.alloc(), ops.as_slice())?;
-    let flow = [
-        ((unscheduled(), Node::Sink), 1),
-        ((Node::Request(0), on_a()), 1),
-        ((on_a(), Node::Sink), 1),
-        ((task(FIRST), unscheduled()), 1),
-        ((task(SECOND), Node::Request(0)), 1),
-    ];
-    let plan = plan_of(rt.alloc(), flow.as_slice(), &known)?;
+    let plan = second_placed(rt.alloc(), &known)?;
     let outcome = admitted(rt.alloc(), &known, 1, &plan)?;
     assert!(rt; came_to(&outcome, [Answer::NoSlot, Answer::Accepted].as_slice(), 1));
     tell(rt.alloc(), &mut known, outcome.ops.as_slice())?;
-    let next = plan_of(rt.alloc(), flow.as_slice(), &known)?;
+    let next = second_placed(rt.alloc(), &known)?;
     assert_eq!(rt; next.preempts.as_slice().len(), 0);
     let outcome = admitted(rt.alloc(), &known, 1, &next)?;
     assert!(rt; came_to(&outcome, [Answer::Accepted].as_slice(), 1));
