@@ -40,35 +40,42 @@ fn put(network: &mut Network, node: Node) -> Result<bool, Fail> {
     Ok(network.put_node(node)?)
 }
 
-// Puts the arc from the machine to the sink, if both are there.
-fn put_slots(network: &mut Network, slots: u64) -> Result<Option<(u64, u32)>, Fail> {
+// An arc as it stands: capacity and cost.
+type Arc = Option<(u64, u32)>;
+
+// Whether this stood where the arc from the machine to the sink is put, if both are there.
+fn puts_slots(network: &mut Network, slots: u64, stood: Arc) -> Result<bool, Fail> {
     let machine = Node::Machine(MachineId::new(10));
     if slots == 0 || !network.has(&machine) || !network.has(&Node::Sink) {
-        return Ok(None);
+        return Ok(false);
     }
-    Ok(network.put_arc(machine, Node::Sink, slots, 0)?)
+    Ok(network.put_arc(machine, Node::Sink, slots, 0)? == stood)
 }
 
-fn drop_slots(network: &mut Network) -> Option<(u64, u32)> {
-    network.drop_arc(machine(), Node::Sink)
+// Whether this stood where that arc is dropped.
+fn drops_slots(network: &mut Network, stood: Arc) -> bool {
+    network.drop_arc(machine(), Node::Sink) == stood
 }
 
 // Drops the machine, if no arc touches it.
-fn drop_machine(network: &mut Network) -> bool {
+fn drops_machine(network: &mut Network) -> bool {
     let machine = Node::Machine(MachineId::new(10));
     !network.touched(&machine) && network.drop_node(&machine)
 }
 
-fn nodes(alloc: Global, network: &Network) -> Result<Vec<Node>, Fail> {
-    Ok(network.nodes().collect(alloc)?)
+fn has_nodes(alloc: Global, network: &Network, wanted: &[Node]) -> Result<bool, Fail> {
+    let nodes: Vec<Node> = network.nodes().collect(alloc)?;
+    Ok(nodes.as_slice() == wanted)
 }
 
-fn arcs(alloc: Global, network: &Network) -> Result<Vec<(Node, Node, u64, u32)>, Fail> {
-    Ok(network.arcs().collect(alloc)?)
+// Whether that arc is the only one.
+fn has_slots_alone(alloc: Global, network: &Network, slots: u64) -> Result<bool, Fail> {
+    let arcs: Vec<(Node, Node, u64, u32)> = network.arcs().collect(alloc)?;
+    Ok(arcs.as_slice() == [(machine(), Node::Sink, slots, 0)].as_slice())
 }
 
-fn arc(network: &Network, from: Node, to: Node) -> Option<(u64, u32)> {
-    network.arc(from, to)
+fn has_arc(network: &Network, from: Node, to: Node, arc: Arc) -> bool {
+    network.arc(from, to) == arc
 }
 
 fn has(network: &Network, node: Node) -> bool {
@@ -79,9 +86,8 @@ fn touches(network: &Network, node: Node) -> bool {
     network.touched(&node)
 }
 
-// How many nodes and arcs there are.
-fn counts(network: &Network) -> (usize, usize) {
-    (network.nodes_len(), network.arcs_len())
+fn has_counts(network: &Network, nodes: usize, arcs: usize) -> bool {
+    network.nodes_len() == nodes && network.arcs_len() == arcs
 }
 
 fn is_copied(network: &Network) -> Result<bool, Fail> {
@@ -97,15 +103,13 @@ fn a_machine_comes_and_goes(rt: HostRuntime) -> Result<(), Fail> {
     let mut network = new(rt.alloc())?;
     assert!(rt; put(&mut network, machine())?);
     assert!(rt; !put(&mut network, machine())?);
-    assert_eq!(rt; put_slots(&mut network, 2)?, None);
-    assert_eq!(rt; put_slots(&mut network, 3)?, Some((2, 0)));
-    let nodes = nodes(rt.alloc(), &network)?;
-    assert_eq!(rt; nodes.as_slice(), [Node::Sink, machine()].as_slice());
-    let arcs = arcs(rt.alloc(), &network)?;
-    assert_eq!(rt; arcs.as_slice(), [(machine(), Node::Sink, 3, 0)].as_slice());
+    assert!(rt; puts_slots(&mut network, 2, None)?);
+    assert!(rt; puts_slots(&mut network, 3, Some((2, 0)))?);
+    assert!(rt; has_nodes(rt.alloc(), &network, &[Node::Sink, machine()])?);
+    assert!(rt; has_slots_alone(rt.alloc(), &network, 3)?);
     assert!(rt; is_copied(&network)?);
-    assert_eq!(rt; drop_slots(&mut network), Some((3, 0)));
-    assert!(rt; drop_machine(&mut network));
+    assert!(rt; drops_slots(&mut network, Some((3, 0))));
+    assert!(rt; drops_machine(&mut network));
     assert!(rt; is_sink_alone(rt.alloc(), &network)?);
     Ok(())
 }
@@ -116,11 +120,11 @@ fn a_machine_is_looked_up(rt: HostRuntime) -> Result<(), Fail> {
     assert!(rt; !has(&network, machine()));
     assert!(rt; put(&mut network, machine())?);
     assert!(rt; !touches(&network, machine()));
-    assert_eq!(rt; put_slots(&mut network, 2)?, None);
+    assert!(rt; puts_slots(&mut network, 2, None)?);
     assert!(rt; has(&network, machine()));
-    assert_eq!(rt; arc(&network, machine(), Node::Sink), Some((2, 0)));
-    assert_eq!(rt; arc(&network, Node::Sink, machine()), None);
-    assert_eq!(rt; counts(&network), (2, 1));
+    assert!(rt; has_arc(&network, machine(), Node::Sink, Some((2, 0))));
+    assert!(rt; has_arc(&network, Node::Sink, machine(), None));
+    assert!(rt; has_counts(&network, 2, 1));
     assert!(rt; touches(&network, machine()) && touches(&network, Node::Sink));
     Ok(())
 }
@@ -144,8 +148,7 @@ fn nodes_go_by_kind_then_number(rt: HostRuntime) -> Result<(), Fail> {
     for node in rising().iter().rev() {
         let _ = put(&mut network, *node)?;
     }
-    let nodes = nodes(rt.alloc(), &network)?;
-    assert_eq!(rt; nodes.as_slice(), rising().as_slice());
+    assert!(rt; has_nodes(rt.alloc(), &network, &rising())?);
     assert_eq!(rt; order(&Node::Request(7), &Node::Sink), Ordering::Greater);
     Ok(())
 }
@@ -156,7 +159,7 @@ fn comes_and_goes(alloc: Global) -> Result<bool, Fail> {
     let mut network = Network::new(alloc)?;
     let comes = [Edit::PutNode(a), Edit::PutArc(a, Node::Sink, 2, 0)];
     make_all(&mut network, comes.as_slice())?;
-    let came = arc(&network, a, Node::Sink) == Some((2, 0));
+    let came = has_arc(&network, a, Node::Sink, Some((2, 0)));
     let goes = [Edit::DropArc(a, Node::Sink), Edit::DropNode(a)];
     make_all(&mut network, goes.as_slice())?;
     Ok(came && is_sink_alone(alloc, &network)?)
