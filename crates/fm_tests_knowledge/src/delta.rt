@@ -59,8 +59,8 @@ fn three_told(alloc: Global) -> Result<Buffer, Fail> {
     Ok(buffer)
 }
 
-fn refused(buffer: &Buffer, from: u64, to: u64) -> Option<Refusal> {
-    buffer.cut(from, to).err()
+fn refuses(buffer: &Buffer, from: u64, to: u64, refusal: Refusal) -> bool {
+    buffer.cut(from, to).err() == Some(refusal)
 }
 
 // Whether the interval is cut to what the operations come to.
@@ -69,8 +69,9 @@ fn is_cut(alloc: Global, buffer: &Buffer, from: u64, to: u64, ops: &[Op]) -> Res
     Ok(buffer.cut(from, to)? == wanted)
 }
 
-fn trim(buffer: &mut Buffer, n: u64) -> Result<(), Refusal> {
-    buffer.trim(n)
+// Whether it is trimmed, or why not.
+fn trims(buffer: &mut Buffer, n: u64, refusal: Option<Refusal>) -> bool {
+    buffer.trim(n).err() == refusal
 }
 
 fn reserve(buffer: &mut Buffer) -> Result<(), Fail> {
@@ -101,21 +102,21 @@ fn a_cut_is_the_join_of_its_interval(rt: HostRuntime) -> Result<(), Fail> {
 #[test]
 fn a_cut_beyond_the_end_or_backwards_is_refused(rt: HostRuntime) -> Result<(), Fail> {
     let buffer = three_told(rt.alloc())?;
-    assert_eq!(rt; refused(&buffer, 4, 3), Some(Refusal::BadInterval));
-    assert_eq!(rt; refused(&buffer, 0, 4), Some(Refusal::BadInterval));
+    assert!(rt; refuses(&buffer, 4, 3, Refusal::BadInterval));
+    assert!(rt; refuses(&buffer, 0, 4, Refusal::BadInterval));
     Ok(())
 }
 
 #[test]
 fn a_trimmed_buffer_keeps_what_is_above_its_floor(rt: HostRuntime) -> Result<(), Fail> {
     let mut buffer = three_told(rt.alloc())?;
-    assert_eq!(rt; trim(&mut buffer, 2), Ok(()));
-    assert_eq!(rt; refused(&buffer, 1, 3), Some(Refusal::Trimmed(2)));
-    assert_eq!(rt; refused(&buffer, 0, 4), Some(Refusal::BadInterval));
-    assert_eq!(rt; trim(&mut buffer, 1), Err(Refusal::BadInterval));
-    assert_eq!(rt; trim(&mut buffer, 4), Err(Refusal::BadInterval));
+    assert!(rt; trims(&mut buffer, 2, None));
+    assert!(rt; refuses(&buffer, 1, 3, Refusal::Trimmed(2)));
+    assert!(rt; refuses(&buffer, 0, 4, Refusal::BadInterval));
+    assert!(rt; trims(&mut buffer, 1, Some(Refusal::BadInterval)));
+    assert!(rt; trims(&mut buffer, 4, Some(Refusal::BadInterval)));
     assert!(rt; is_cut(rt.alloc(), &buffer, 2, 3, &ops()[2..])?);
-    assert_eq!(rt; trim(&mut buffer, 3), Ok(()));
+    assert!(rt; trims(&mut buffer, 3, None));
     assert!(rt; is_cut(rt.alloc(), &buffer, 3, 3, &[])?);
     Ok(())
 }

@@ -64,6 +64,11 @@ fn tell(node: &mut Node, op: Op) -> Result<(), Refusal> {
     node.tell(0, op)
 }
 
+// Whether it takes the operation, or why not.
+fn tells(node: &mut Node, op: Op, refusal: Option<Refusal>) -> bool {
+    tell(node, op).err() == refusal
+}
+
 // A coordinator that was told of a job, a machine and a task.
 fn three_told(alloc: Global) -> Result<Node, Fail> {
     let mut node = node(alloc, 1, 100, false)?;
@@ -73,12 +78,14 @@ fn three_told(alloc: Global) -> Result<Node, Fail> {
     Ok(node)
 }
 
-fn refused(node: &mut Node, from: u64, to: u64) -> Option<Refusal> {
-    cut(node, Range::Interval(from, to)).err()
+// Whether the interval is cut, or why not.
+fn cuts(node: &mut Node, from: u64, to: u64, refusal: Option<Refusal>) -> bool {
+    cut(node, Range::Interval(from, to)).err() == refusal
 }
 
-fn trim(node: &mut Node, n: u64) -> Result<(), Refusal> {
-    node.trim(0, n)
+// Whether it is trimmed, or why not.
+fn trims(node: &mut Node, n: u64, refusal: Option<Refusal>) -> bool {
+    node.trim(0, n).err() == refusal
 }
 
 fn view(node: &mut Node) -> Result<View, Refusal> {
@@ -90,17 +97,17 @@ fn entries(node: &Node) -> usize {
     node.history().len()
 }
 
-// How many entries were before the view, and how many nodes and arcs it shows.
-fn shown(node: &mut Node) -> Result<(usize, usize, usize), Refusal> {
+// Whether as many entries were before the view, and it shows as many nodes and arcs.
+fn shows(node: &mut Node, at: usize, nodes: usize, arcs: usize) -> Result<bool, Refusal> {
     let seen = view(node)?;
-    Ok((seen.at, seen.network.nodes_len(), seen.network.arcs_len()))
+    Ok(seen.at == at && seen.network.nodes_len() == nodes && seen.network.arcs_len() == arcs)
 }
 
 #[test]
 fn a_view_shows_what_three_tells_came_to(rt: HostRuntime) -> Result<(), Fail> {
     let mut node = three_told(rt.alloc())?;
     assert!(rt; !node.is_fresh());
-    assert_eq!(rt; shown(&mut node), Ok((3, 5, 5)));
+    assert!(rt; shows(&mut node, 3, 5, 5)?);
     assert_eq!(rt; entries(&node), 4);
     assert!(rt; node.is_fresh());
     Ok(())
@@ -109,12 +116,12 @@ fn a_view_shows_what_three_tells_came_to(rt: HostRuntime) -> Result<(), Fail> {
 #[test]
 fn cuts_and_trims_within_the_buffer_are_taken(rt: HostRuntime) -> Result<(), Fail> {
     let mut node = three_told(rt.alloc())?;
-    assert_eq!(rt; refused(&mut node, 3, 3), None);
-    assert_eq!(rt; refused(&mut node, 4, 3), Some(Refusal::BadInterval));
-    assert_eq!(rt; refused(&mut node, 0, 4), Some(Refusal::BadInterval));
-    assert_eq!(rt; trim(&mut node, 2), Ok(()));
-    assert_eq!(rt; refused(&mut node, 1, 3), Some(Refusal::Trimmed(2)));
-    assert_eq!(rt; trim(&mut node, 1), Err(Refusal::BadInterval));
+    assert!(rt; cuts(&mut node, 3, 3, None));
+    assert!(rt; cuts(&mut node, 4, 3, Some(Refusal::BadInterval)));
+    assert!(rt; cuts(&mut node, 0, 4, Some(Refusal::BadInterval)));
+    assert!(rt; trims(&mut node, 2, None));
+    assert!(rt; cuts(&mut node, 1, 3, Some(Refusal::Trimmed(2))));
+    assert!(rt; trims(&mut node, 1, Some(Refusal::BadInterval)));
     assert_eq!(rt; node.floor(), 2);
     assert_eq!(rt; node.end(), 3);
     assert_eq!(rt; entries(&node), 5);
@@ -144,8 +151,8 @@ fn a_full_packet_tells_all(rt: HostRuntime) -> Result<(), Fail> {
 #[test]
 fn a_full_history_takes_no_call(rt: HostRuntime) -> Result<(), Fail> {
     let mut node = node(rt.alloc(), 1, 1, false)?;
-    assert_eq!(rt; tell(&mut node, job()), Ok(()));
-    assert_eq!(rt; tell(&mut node, task()), Err(Refusal::HistoryFull));
+    assert!(rt; tells(&mut node, job(), None));
+    assert!(rt; tells(&mut node, task(), Some(Refusal::HistoryFull)));
     assert_eq!(rt; entries(&node), 1);
     Ok(())
 }
@@ -170,16 +177,16 @@ fn is_answered(node: &mut Node, plan: Plan, answer: Answer) -> Result<bool, Fail
     Ok(admitted.get().answers.as_slice() == [answer].as_slice())
 }
 
-// Which machine holds the task.
-fn holder(node: &Node) -> Option<MachineId> {
-    node.knowledge().holder(TaskId::new(17))
+// Whether this machine holds the task, or none.
+fn is_held_by(node: &Node, machine: Option<MachineId>) -> bool {
+    node.knowledge().holder(TaskId::new(17)) == machine
 }
 
 #[test]
 fn a_commit_places_a_task(rt: HostRuntime) -> Result<(), Fail> {
     let mut node = three_told(rt.alloc())?;
     assert!(rt; is_answered(&mut node, placing(rt.alloc())?, Answer::Accepted)?);
-    assert_eq!(rt; holder(&node), Some(MachineId::new(10)));
+    assert!(rt; is_held_by(&node, Some(MachineId::new(10))));
     assert_eq!(rt; node.end(), 4);
     Ok(())
 }
@@ -199,10 +206,9 @@ fn a_spent_attempt_is_not_placed(rt: HostRuntime) -> Result<(), Fail> {
         machine: MachineId::new(11),
         incarnation: 1,
     };
-    assert_eq!(rt; tell(&mut node, last), Ok(()));
-    assert_eq!(rt; tell(&mut node, elsewhere), Ok(()));
+    assert!(rt; tells(&mut node, last, None) && tells(&mut node, elsewhere, None));
     assert!(rt; is_answered(&mut node, placing(rt.alloc())?, Answer::AttemptsSpent)?);
-    assert_eq!(rt; holder(&node), None);
+    assert!(rt; is_held_by(&node, None));
     assert_eq!(rt; entries(&node), 6);
     Ok(())
 }

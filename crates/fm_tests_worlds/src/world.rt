@@ -42,40 +42,39 @@ fn deliver(at: u8, packet: usize) -> Step {
     step(at, Act::Deliver(packet))
 }
 
-fn run(world: &mut World<Keeper>, steps: &[Step]) -> Option<RunStop> {
-    world.run(steps).err()
+fn runs(world: &mut World<Keeper>, steps: &[Step]) -> bool {
+    world.run(steps).is_ok()
 }
 
-fn stop(place: usize, refusal: Refusal) -> Option<RunStop> {
-    Some(RunStop { place, refusal })
+// Whether the run stops so.
+fn stops(world: &mut World<Keeper>, steps: &[Step], place: usize, refusal: Refusal) -> bool {
+    world.run(steps).err() == Some(RunStop { place, refusal })
 }
 
 #[test]
 fn a_step_at_an_unlisted_number_is_refused(rt: HostRuntime) -> Result<(), Fail> {
     let mut world = world(rt.alloc(), 1)?;
-    assert_eq!(rt;
-        run(&mut world, &[step(4, Act::View)]),
-        stop(0, Refusal::NoCoordinator)
-    );
+    assert!(rt; stops(&mut world, &[step(4, Act::View)], 0, Refusal::NoCoordinator));
     Ok(())
 }
 
 #[test]
 fn a_packet_is_delivered_only_once_it_is_cut(rt: HostRuntime) -> Result<(), Fail> {
     let mut world = world(rt.alloc(), 1)?;
-    assert_eq!(rt;
-        run(&mut world, &[deliver(1, 0)]),
-        stop(0, Refusal::NoPacket)
-    );
+    assert!(rt; stops(&mut world, &[deliver(1, 0)], 0, Refusal::NoPacket));
     Ok(())
 }
 
 #[test]
 fn a_second_tell_is_refused_at_a_limit_of_one(rt: HostRuntime) -> Result<(), Fail> {
     let mut world = world(rt.alloc(), 1)?;
-    assert_eq!(rt;
-        run(&mut world, &[tell(1, 500), tell(1, 500)]),
-        stop(1, Refusal::HistoryFull)
+    assert!(rt;
+        stops(
+            &mut world,
+            &[tell(1, 500), tell(1, 500)],
+            1,
+            Refusal::HistoryFull
+        )
     );
     Ok(())
 }
@@ -83,25 +82,31 @@ fn a_second_tell_is_refused_at_a_limit_of_one(rt: HostRuntime) -> Result<(), Fai
 #[test]
 fn a_cut_from_below_the_floor_is_refused(rt: HostRuntime) -> Result<(), Fail> {
     let mut world = world(rt.alloc(), 100)?;
-    assert_eq!(rt; run(&mut world, &[tell(1, 500), tell(2, 600)]), None);
-    assert_eq!(rt;
-        run(&mut world, &[step(1, Act::Trim(1)), cut(0, 2)]),
-        stop(1, Refusal::Trimmed(1))
+    assert!(rt; runs(&mut world, &[tell(1, 500), tell(2, 600)]));
+    assert!(rt;
+        stops(
+            &mut world,
+            &[step(1, Act::Trim(1)), cut(0, 2)],
+            1,
+            Refusal::Trimmed(1)
+        )
     );
     Ok(())
 }
 
-// What the view of a View step says of the entries before it.
-fn seen_at(world: &mut World<Keeper>, number: u8) -> Result<Option<usize>, Refusal> {
-    let view = world.step(&step(number, Act::View))?;
-    Ok(view.map(|seen| seen.at))
+// Whether the view of a View step says that so many entries were before it.
+fn is_seen(world: &mut World<Keeper>, number: u8, at: usize) -> Result<bool, Refusal> {
+    match world.step(&step(number, Act::View))? {
+        Some(seen) => Ok(seen.at == at),
+        None => Ok(false),
+    }
 }
 
 #[test]
 fn a_view_step_is_answered(rt: HostRuntime) -> Result<(), Fail> {
     let mut world = world(rt.alloc(), 100)?;
-    assert_eq!(rt; run(&mut world, &[tell(1, 500)]), None);
-    assert_eq!(rt; seen_at(&mut world, 1), Ok(Some(1)));
+    assert!(rt; runs(&mut world, &[tell(1, 500)]));
+    assert!(rt; is_seen(&mut world, 1, 1)?);
     Ok(())
 }
 
@@ -122,14 +127,11 @@ fn agree(world: &World<Keeper>, first: u8, second: u8) -> Option<bool> {
 #[test]
 fn deltas_alone_and_together_and_again_come_to_one(rt: HostRuntime) -> Result<(), Fail> {
     let mut world = world(rt.alloc(), 100)?;
-    assert_eq!(rt; run(&mut world, &[tell(1, 500), tell(2, 600)]), None);
-    assert_eq!(rt; run(&mut world, &[cut(0, 1), cut(1, 2), cut(0, 2)]), None);
+    assert!(rt; runs(&mut world, &[tell(1, 500), tell(2, 600)]));
+    assert!(rt; runs(&mut world, &[cut(0, 1), cut(1, 2), cut(0, 2)]));
     assert_eq!(rt; agree(&world, 1, 2), Some(false));
-    assert_eq!(rt; run(&mut world, &[deliver(2, 2), deliver(3, 1)]), None);
-    assert_eq!(rt;
-        run(&mut world, &[deliver(3, 0), deliver(3, 1), deliver(3, 0)]),
-        None
-    );
+    assert!(rt; runs(&mut world, &[deliver(2, 2), deliver(3, 1)]));
+    assert!(rt; runs(&mut world, &[deliver(3, 0), deliver(3, 1), deliver(3, 0)]));
     assert_eq!(rt; agree(&world, 1, 2), Some(true));
     assert_eq!(rt; agree(&world, 1, 3), Some(true));
     Ok(())
