@@ -33,7 +33,7 @@ pub fn plan(
     plan_of(alloc, &units, knowledge)
 }
 
-// The units on each arc of the network.
+// The units on each arc of the network. Each is looked for first where it lies in a flow of just these arcs.
 fn units_over(
     alloc: Global,
     network: &Network,
@@ -42,9 +42,11 @@ fn units_over(
     ensures { IfOk result (λ units. units.items ≡ units_over network.now (units_in flow.now)) }
 {
     let mut units = Vec::new(alloc);
+    let mut near = 0usize;
     for arc in network.arcs() {
-        let sent = flow.units(arc.0, arc.1).unwrap_or(0);
+        let sent = flow.units_near(near, arc.0, arc.1).unwrap_or(0);
         units.push(((arc.0, arc.1), sent))?;
+        near = near.saturating_add(1);
     }
     Ok(units)
 }
