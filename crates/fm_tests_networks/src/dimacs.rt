@@ -335,19 +335,19 @@ impl Text {
 
 // What became of writing: why it was refused, whether the writer failed, how much it takes of nothing then, and what it took.
 #[derive(Drop)]
-struct Written {
+struct Outcome {
     refusal: Option<Refusal>,
     failed: bool,
     more: usize,
     writer: Narrow,
 }
 
-fn written(alloc: Global, text: Text, at_a_time: usize, room: usize) -> Written {
+fn written(alloc: Global, text: Text, at_a_time: usize, room: usize) -> Outcome {
     let mut out = writer_of(alloc, at_a_time, room);
     let refusal = text.write(alloc, &mut out).err();
     let failed = out.failed();
     let more = if failed { out.put(b"") } else { 0 };
-    Written {
+    Outcome {
         refusal,
         failed,
         more,
