@@ -1,7 +1,6 @@
 ghost use Rattle.std.specs.Prelude.{◌≡◌, Some, is_some};
 ghost use Rattle.fm_net.specs.Network.{net_of};
 
-use crate::worlds::{Node, cut, know_alike, merge, node, number};
 use fm_coord::coordinator::Coordinator;
 use fm_coord::entry::Range;
 use fm_coord::shared::Shared;
@@ -14,7 +13,7 @@ use fm_net::network::Network;
 use fm_policy::changed::Changed;
 use fm_policy::keeper::NetKeeper;
 use fm_policy::rebuilder::Rebuilder;
-use fm_records::ids::{JobId, MachineId, TaskId};
+use fm_records::ids::{CoordId, JobId, MachineId, TaskId};
 use fm_records::ops::{Op, Phase};
 use fm_records::prefer::Prefer;
 use fm_records::refusal::Refusal;
@@ -60,55 +59,49 @@ fn task() -> Op {
 
 // The functions below have no contract: the tests are of what is answered, and proofs of them stay short.
 
-fn tell(node: &mut Node, op: Op) -> Result<(), Refusal> {
+fn coordinator(alloc: Global, number: u8, limit: usize) -> Result<Coordinator<Rebuilder>, Fail> {
+    let number = CoordId::new(number).ok_or("no such number")?;
+    Ok(Coordinator::new(alloc, number, limit, Rebuilder::new(alloc)?))
+}
+
+fn tell(node: &mut Coordinator<Rebuilder>, op: Op) -> Result<(), Refusal> {
     node.tell(0, op)
 }
 
-// Whether it takes the operation, or why not.
-fn tells(node: &mut Node, op: Op, refusal: Option<Refusal>) -> bool {
-    tell(node, op).err() == refusal
-}
-
 // A coordinator that was told of a job, a machine and a task.
-fn three_told(alloc: Global) -> Result<Node, Fail> {
-    let mut node = node(alloc, 1, 100, false)?;
+fn three_told(alloc: Global) -> Result<Coordinator<Rebuilder>, Fail> {
+    let mut node = coordinator(alloc, 1, 100)?;
     tell(&mut node, job())?;
     tell(&mut node, machine())?;
     tell(&mut node, task())?;
     Ok(node)
 }
 
-// Whether the interval is cut, or why not.
-fn cuts(node: &mut Node, from: u64, to: u64, refusal: Option<Refusal>) -> bool {
-    cut(node, Range::Interval(from, to)).err() == refusal
+fn cut(node: &mut Coordinator<Rebuilder>, range: Range) -> Result<Shared<Packet>, Refusal> {
+    node.cut(0, range)
 }
 
-// Whether it is trimmed, or why not.
-fn trims(node: &mut Node, n: u64, refusal: Option<Refusal>) -> bool {
-    node.trim(0, n).err() == refusal
+fn refused(node: &mut Coordinator<Rebuilder>, from: u64, to: u64) -> Option<Refusal> {
+    cut(node, Range::Interval(from, to)).err()
 }
 
-fn view(node: &mut Node) -> Result<View, Refusal> {
+fn trim(node: &mut Coordinator<Rebuilder>, n: u64) -> Result<(), Refusal> {
+    node.trim(0, n)
+}
+
+fn view(node: &mut Coordinator<Rebuilder>) -> Result<View, Refusal> {
     node.view(0)
-}
-
-// How many entries are in the history.
-fn entries(node: &Node) -> usize {
-    node.history().len()
-}
-
-// Whether as many entries were before the view, and it shows as many nodes and arcs.
-fn shows(node: &mut Node, at: usize, nodes: usize, arcs: usize) -> Result<bool, Refusal> {
-    let seen = view(node)?;
-    Ok(seen.at == at && seen.network.nodes_len() == nodes && seen.network.arcs_len() == arcs)
 }
 
 #[test]
 fn a_view_shows_what_three_tells_came_to(rt: HostRuntime) -> Result<(), Fail> {
     let mut node = three_told(rt.alloc())?;
     assert!(rt; !node.is_fresh());
-    assert!(rt; shows(&mut node, 3, 5, 5)?);
-    assert_eq!(rt; entries(&node), 4);
+    let seen = view(&mut node)?;
+    assert_eq!(rt; seen.at, 3);
+    assert_eq!(rt; seen.network.nodes_len(), 5);
+    assert_eq!(rt; seen.network.arcs_len(), 5);
+    assert_eq!(rt; node.history().len(), 4);
     assert!(rt; node.is_fresh());
     Ok(())
 }
@@ -116,77 +109,73 @@ fn a_view_shows_what_three_tells_came_to(rt: HostRuntime) -> Result<(), Fail> {
 #[test]
 fn cuts_and_trims_within_the_buffer_are_taken(rt: HostRuntime) -> Result<(), Fail> {
     let mut node = three_told(rt.alloc())?;
-    assert!(rt; cuts(&mut node, 3, 3, None));
-    assert!(rt; cuts(&mut node, 4, 3, Some(Refusal::BadInterval)));
-    assert!(rt; cuts(&mut node, 0, 4, Some(Refusal::BadInterval)));
-    assert!(rt; trims(&mut node, 2, None));
-    assert!(rt; cuts(&mut node, 1, 3, Some(Refusal::Trimmed(2))));
-    assert!(rt; trims(&mut node, 1, Some(Refusal::BadInterval)));
+    assert_eq!(rt; refused(&mut node, 3, 3), None);
+    assert_eq!(rt; refused(&mut node, 4, 3), Some(Refusal::BadInterval));
+    assert_eq!(rt; refused(&mut node, 0, 4), Some(Refusal::BadInterval));
+    assert_eq!(rt; trim(&mut node, 2), Ok(()));
+    assert_eq!(rt; refused(&mut node, 1, 3), Some(Refusal::Trimmed(2)));
+    assert_eq!(rt; trim(&mut node, 1), Err(Refusal::BadInterval));
     assert_eq!(rt; node.floor(), 2);
     assert_eq!(rt; node.end(), 3);
-    assert_eq!(rt; entries(&node), 5);
+    assert_eq!(rt; node.history().len(), 5);
     Ok(())
 }
 
 // Whether the two know the same once the second has merged all that the first knows.
-fn agree(first: &mut Node, second: &mut Node) -> Result<bool, Fail> {
-    let packet = copied(&cut(first, Range::Full)?)?;
-    merge(second, packet)?;
-    Ok(know_alike(first, second))
-}
-
-fn copied(packet: &Shared<Packet>) -> Result<Packet, Fail> {
-    Ok(packet.get().copy()?)
+fn agree(
+    first: &mut Coordinator<Rebuilder>,
+    second: &mut Coordinator<Rebuilder>,
+) -> Result<bool, Fail> {
+    let packet = cut(first, Range::Full)?.get().copy()?;
+    second.merge(0, packet)?;
+    Ok(first.knowledge() == second.knowledge())
 }
 
 #[test]
 fn a_full_packet_tells_all(rt: HostRuntime) -> Result<(), Fail> {
     let mut first = three_told(rt.alloc())?;
-    let mut second = node(rt.alloc(), 2, 100, false)?;
+    let mut second = coordinator(rt.alloc(), 2, 100)?;
     assert!(rt; agree(&mut first, &mut second)?);
-    assert_eq!(rt; entries(&second), 1);
+    assert_eq!(rt; second.history().len(), 1);
     Ok(())
 }
 
 #[test]
 fn a_full_history_takes_no_call(rt: HostRuntime) -> Result<(), Fail> {
-    let mut node = node(rt.alloc(), 1, 1, false)?;
-    assert!(rt; tells(&mut node, job(), None));
-    assert!(rt; tells(&mut node, task(), Some(Refusal::HistoryFull)));
-    assert_eq!(rt; entries(&node), 1);
+    let mut node = coordinator(rt.alloc(), 1, 1)?;
+    assert_eq!(rt; tell(&mut node, job()), Ok(()));
+    assert_eq!(rt; tell(&mut node, task()), Err(Refusal::HistoryFull));
+    assert_eq!(rt; node.history().len(), 1);
     Ok(())
 }
 
-// A plan that places the task on the machine.
-fn placing(alloc: Global) -> Result<Plan, Fail> {
+// The answers to a plan that places the task on the machine.
+fn placed(alloc: Global, node: &mut Coordinator<Rebuilder>) -> Result<Vec<Answer>, Fail> {
     let mut places = Vec::new(alloc);
     places.push(Place {
         task: TaskId::new(17),
         machine: MachineId::new(10),
         incarnation: 1,
     })?;
-    Ok(Plan {
+    let plan = Plan {
         places: Listed::new(places),
         preempts: Listed::new(Vec::new(alloc)),
-    })
-}
-
-// Whether the plan is committed, and this is its one answer.
-fn is_answered(node: &mut Node, plan: Plan, answer: Answer) -> Result<bool, Fail> {
+    };
     let admitted = node.commit(0, plan)?;
-    Ok(admitted.get().answers.as_slice() == [answer].as_slice())
-}
-
-// Whether this machine holds the task, or none.
-fn is_held_by(node: &Node, machine: Option<MachineId>) -> bool {
-    node.knowledge().holder(TaskId::new(17)) == machine
+    let mut answers = Vec::new(alloc);
+    answers.extend_from_slice(admitted.get().answers.as_slice())?;
+    Ok(answers)
 }
 
 #[test]
 fn a_commit_places_a_task(rt: HostRuntime) -> Result<(), Fail> {
     let mut node = three_told(rt.alloc())?;
-    assert!(rt; is_answered(&mut node, placing(rt.alloc())?, Answer::Accepted)?);
-    assert!(rt; is_held_by(&node, Some(MachineId::new(10))));
+    let answers = placed(rt.alloc(), &mut node)?;
+    assert_eq!(rt; answers.as_slice(), [Answer::Accepted].as_slice());
+    assert_eq!(rt;
+        node.knowledge().holder(TaskId::new(17)),
+        Some(MachineId::new(10))
+    );
     assert_eq!(rt; node.end(), 4);
     Ok(())
 }
@@ -206,15 +195,17 @@ fn a_spent_attempt_is_not_placed(rt: HostRuntime) -> Result<(), Fail> {
         machine: MachineId::new(11),
         incarnation: 1,
     };
-    assert!(rt; tells(&mut node, last, None) && tells(&mut node, elsewhere, None));
-    assert!(rt; is_answered(&mut node, placing(rt.alloc())?, Answer::AttemptsSpent)?);
-    assert!(rt; is_held_by(&node, None));
-    assert_eq!(rt; entries(&node), 6);
+    assert_eq!(rt; tell(&mut node, last), Ok(()));
+    assert_eq!(rt; tell(&mut node, elsewhere), Ok(()));
+    let answers = placed(rt.alloc(), &mut node)?;
+    assert_eq!(rt; answers.as_slice(), [Answer::AttemptsSpent].as_slice());
+    assert_eq!(rt; node.knowledge().holder(TaskId::new(17)), None);
+    assert_eq!(rt; node.history().len(), 6);
     Ok(())
 }
 
 // The text of the node's network.
-fn dumped(alloc: Global, node: &mut Node) -> Result<Vec<u8>, Fail> {
+fn dumped(alloc: Global, node: &mut Coordinator<Rebuilder>) -> Result<Vec<u8>, Fail> {
     let mut out = Over::new(Vec::new(alloc));
     node.dump(&mut out)?;
     Ok(out.into_inner())
@@ -222,10 +213,10 @@ fn dumped(alloc: Global, node: &mut Node) -> Result<Vec<u8>, Fail> {
 
 #[test]
 fn a_dump_of_nothing_is_the_sink(rt: HostRuntime) -> Result<(), Fail> {
-    let mut node = node(rt.alloc(), 1, 1, false)?;
+    let mut node = coordinator(rt.alloc(), 1, 1)?;
     let text = dumped(rt.alloc(), &mut node)?;
     assert_eq!(rt; text.as_slice(), b"c 1 S\np min 1 0\n".as_slice());
-    assert_eq!(rt; entries(&node), 0);
+    assert_eq!(rt; node.history().len(), 0);
     Ok(())
 }
 
@@ -270,7 +261,7 @@ impl NetKeeper for Counting {
 }
 
 fn counted(alloc: Global) -> Result<Coordinator<Counting>, Fail> {
-    let number = number(1)?;
+    let number = CoordId::new(1).ok_or("no such number")?;
     let keeper = Counting {
         inner: Rebuilder::new(alloc)?,
         builds: 0,
@@ -282,22 +273,20 @@ fn counted(alloc: Global) -> Result<Coordinator<Counting>, Fail> {
 // Tells the coordinator of so many tasks, one by one.
 fn tell_tasks(node: &mut Coordinator<Counting>, many: u32) -> Result<(), Fail> {
     for n in 0..many {
-        tell_task(node, n)?;
+        node.tell(
+            0,
+            Op::Spec {
+                id: TaskId::new(u128::from(n)),
+                version: 1,
+                writer: 1,
+                withdrawn: false,
+                job: JobId::new(1),
+                request: 100,
+                prefer: Prefer::default(),
+            },
+        )?;
     }
     Ok(())
-}
-
-fn tell_task(node: &mut Coordinator<Counting>, n: u32) -> Result<(), Refusal> {
-    let op = Op::Spec {
-        id: TaskId::new(u128::from(n)),
-        version: 1,
-        writer: 1,
-        withdrawn: false,
-        job: JobId::new(1),
-        request: 100,
-        prefer: Prefer::default(),
-    };
-    node.tell(0, op)
 }
 
 fn see(node: &mut Coordinator<Counting>) -> Result<View, Refusal> {

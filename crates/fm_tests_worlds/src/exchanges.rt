@@ -1,10 +1,17 @@
 //! Drawn exchanges of coordinators are gathered, and run again.
 
-use crate::worlds::{Node, dumped, know_alike, world};
+ghost use Rattle.std.specs.Prelude.{◌≡◌, [], IsTrue, IfOk};
+ghost use Rattle.fm_records.specs.Know.{know};
+ghost use Rattle.fm_edit.specs.Keepers.{is_fresh_keeper, KeeperIsFor};
+
+use fm_coord::coordinator::Coordinator;
 use fm_coord::entry::Range;
+use fm_dimacs::out::Over;
+use fm_edit::editor::Editor;
 use fm_edit::keepers::Keeper;
 use fm_gather::gather::gather;
-use fm_records::ids::{JobId, MachineId, TaskId};
+use fm_policy::rebuilder::Rebuilder;
+use fm_records::ids::{CoordId, JobId, MachineId, TaskId};
 use fm_records::ops::Op;
 use fm_records::prefer::Prefer;
 use fm_world::distinct::distinct;
@@ -17,8 +24,39 @@ const SEEDS: u32 = 40;
 
 const STEPS: u32 = 60;
 
-// The functions below have no contract: the tests are of what is answered, and proofs of them stay short. Of the coordinators 1
-// to 5 every second edits its network.
+fn keeper(alloc: Global, edits: bool) -> Result<Keeper, Fail>
+    ensures { IfOk result (λ keeper. IsTrue (is_fresh_keeper keeper) → KeeperIsFor keeper (know [])) }
+{
+    if edits {
+        Ok(Keeper::Edits(Editor::new(alloc)?))
+    } else {
+        Ok(Keeper::Builds(Rebuilder::new(alloc)?))
+    }
+}
+
+fn node(alloc: Global, number: u8, edits: bool) -> Result<Coordinator<Keeper>, Fail>
+    ensures { IfOk result (λ c. c.state.history ≡ []) }
+{
+    let number = CoordId::new(number).ok_or("no such number")?;
+    let keeper = keeper(alloc, edits)?;
+    Ok(Coordinator::new(alloc, number, 1000, keeper))
+}
+
+// A world of the coordinators 1 to 5, of which every second edits its network: the first where that is asked.
+fn world(alloc: Global, first_edits: bool) -> Result<World<Keeper>, Fail> {
+    let mut nodes = Vec::new(alloc);
+    nodes.push(node(alloc, 1, first_edits)?)?;
+    nodes.push(node(alloc, 2, !first_edits)?)?;
+    nodes.push(node(alloc, 3, first_edits)?)?;
+    nodes.push(node(alloc, 4, !first_edits)?)?;
+    nodes.push(node(alloc, 5, first_edits)?)?;
+    if !distinct(nodes.as_slice()) {
+        return Err("two coordinators have one number".into());
+    }
+    Ok(World::new(nodes))
+}
+
+// The functions below have no contract: the tests are of what is answered, and proofs of them stay short.
 
 fn draw(state: &mut u32, below: u32) -> u32 {
     *state = state.wrapping_mul(1_103_515_245).wrapping_add(12_345);
@@ -79,18 +117,16 @@ fn play(world: &mut World<Keeper>, seed: u32, count: u8) -> Result<(), Fail> {
         if let Act::Cut(_) = act {
             cuts = cuts.saturating_add(1);
         }
-        take(world, at, act)?;
+        let _ = world.step(&Step { at, by: 0, act })?;
     }
     Ok(())
 }
 
-fn take(world: &mut World<Keeper>, at: u8, act: Act) -> Result<(), Fail> {
-    let _ = world.step(&Step { at, by: 0, act })?;
-    Ok(())
-}
-
-fn are_alike_nodes(one: &Node, other: &Node) -> bool {
-    know_alike(one, other) && one.history().len() == other.history().len()
+fn dumped(alloc: Global, world: &mut World<Keeper>, number: u8) -> Result<Vec<u8>, Fail> {
+    let number = CoordId::new(number).ok_or("no such number")?;
+    let mut out = Over::new(Vec::new(alloc));
+    world.dump(number, &mut out)?;
+    Ok(out.into_inner())
 }
 
 // Whether the coordinators of the two worlds know the same, have as long histories, and dump the same.
@@ -101,7 +137,7 @@ fn are_alike(
     count: u8,
 ) -> Result<bool, Fail> {
     for (one, other) in first.coordinators().iter().zip(second.coordinators()) {
-        if !are_alike_nodes(one, other) {
+        if one.knowledge() != other.knowledge() || one.history().len() != other.history().len() {
             return Ok(false);
         }
     }
@@ -114,7 +150,7 @@ fn are_alike(
 }
 
 // The one list of steps from the histories of the coordinators, if they are gathered.
-fn gathered(alloc: Global, nodes: &[Node]) -> Option<Vec<Step>> {
+fn gathered(alloc: Global, nodes: &[Coordinator<Keeper>]) -> Option<Vec<Step>> {
     if !distinct(nodes) {
         return None;
     }
@@ -127,12 +163,12 @@ fn gathered(alloc: Global, nodes: &[Node]) -> Option<Vec<Step>> {
 // Whether what is drawn is gathered to as many steps as were played, which a new world takes and which come to the same.
 fn is_gathered(alloc: Global, seed: u32) -> Result<bool, Fail> {
     let count = 2 + (seed % 4) as u8;
-    let mut played = world(alloc, [1, 2, 3, 4, 5], 1000, true)?;
+    let mut played = world(alloc, true)?;
     play(&mut played, seed, count)?;
     let Some(steps) = gathered(alloc, played.coordinators()) else {
         return Ok(false);
     };
-    let mut again = world(alloc, [1, 2, 3, 4, 5], 1000, false)?;
+    let mut again = world(alloc, false)?;
     if steps.len() != STEPS as usize || again.run(steps.as_slice()).is_err() {
         return Ok(false);
     }

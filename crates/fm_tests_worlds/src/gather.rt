@@ -1,11 +1,12 @@
-use crate::worlds;
-use crate::worlds::{Node, merge, node, number};
+ghost use Rattle.std.specs.Prelude.{◌≡◌, [], IfOk};
+
+use fm_coord::coordinator::Coordinator;
 use fm_coord::entry::Range;
 use fm_delta::packet::Packet;
-use fm_edit::keepers::Keeper;
 use fm_gather::gather::gather;
 use fm_know::knowledge::Knowledge;
-use fm_records::ids::JobId;
+use fm_policy::rebuilder::Rebuilder;
+use fm_records::ids::{CoordId, JobId};
 use fm_records::ops::Op;
 use fm_records::refusal::Refusal;
 use fm_world::distinct::distinct;
@@ -14,11 +15,27 @@ use fm_world::world::World;
 use std::alloc::Global;
 use std::test::Fail;
 
+type Node = Coordinator<Rebuilder>;
+
+fn node(alloc: Global, number: u8) -> Result<Node, Fail>
+    ensures { IfOk result (λ c. c.state.history ≡ []) }
+{
+    let number = CoordId::new(number).ok_or("no such number")?;
+    Ok(Coordinator::new(alloc, number, 100, Rebuilder::new(alloc)?))
+}
+
 // The functions below have no contract: the tests are of what is answered, and proofs of them stay short.
 
-// A world of the coordinators 2, 1 and 9, and two more.
-fn world(alloc: Global) -> Result<World<Keeper>, Fail> {
-    worlds::world(alloc, [2, 1, 9, 3, 4], 100, false)
+// A world of the coordinators 2, 1 and 9.
+fn world(alloc: Global) -> Result<World<Rebuilder>, Fail> {
+    let mut nodes = Vec::new(alloc);
+    nodes.push(node(alloc, 2)?)?;
+    nodes.push(node(alloc, 1)?)?;
+    nodes.push(node(alloc, 9)?)?;
+    if !distinct(nodes.as_slice()) {
+        return Err("two coordinators have one number".into());
+    }
+    Ok(World::new(nodes))
 }
 
 fn job(version: u64) -> Op {
@@ -86,11 +103,7 @@ fn is_stuck(alloc: Global, nodes: &[Node], expected: &[(u8, u8)], left: &[u8]) -
     }
 }
 
-fn runs(world: &mut World<Keeper>, steps: &[Step]) -> bool {
-    world.run(steps).is_ok()
-}
-
-fn first(world: &World<Keeper>, count: usize) -> &[Node] {
+fn first(world: &World<Rebuilder>, count: usize) -> &[Node] {
     match world.coordinators().get(..count) {
         Some(nodes) => nodes,
         None => world.coordinators(),
@@ -101,7 +114,7 @@ fn first(world: &World<Keeper>, count: usize) -> &[Node] {
 fn a_merge_waits_for_its_cut(rt: HostRuntime) -> Result<(), Fail> {
     let mut world = world(rt.alloc())?;
     let steps = [tell(1, 1), cut(1), step(2, Act::Deliver(0))];
-    assert!(rt; runs(&mut world, &steps));
+    assert_eq!(rt; world.run(&steps).err(), None);
     let expected = [(1, b't'), (1, b'c'), (2, b'0')];
     assert!(rt; gives(rt.alloc(), first(&world, 2), &expected));
     assert!(rt; is_stuck(rt.alloc(), first(&world, 1), &[], &[2]));
@@ -114,34 +127,28 @@ fn a_stranger_s_packet_is_waited_for(rt: HostRuntime) -> Result<(), Fail> {
     let mut world = world(rt.alloc())?;
     let theirs = [tell(9, 1), cut(9)];
     let ours = [tell(1, 1), step(1, Act::Deliver(0)), tell(1, 2), tell(2, 3)];
-    assert!(rt; runs(&mut world, &theirs));
-    assert!(rt; runs(&mut world, &ours));
+    assert_eq!(rt; world.run(&theirs).err(), None);
+    assert_eq!(rt; world.run(&ours).err(), None);
     assert!(rt; is_stuck(rt.alloc(), first(&world, 2), &[(2, b't'), (1, b't')], &[1]));
     Ok(())
 }
 
 // A coordinator that cut a packet, after it merged one of another.
-fn in_ring(alloc: Global, at: u8, sender: u8) -> Result<Node, Fail> {
-    let mut made = node(alloc, at, 100, false)?;
-    merge(&mut made, packet(alloc, sender)?)?;
-    let _ = worlds::cut(&mut made, Range::Full)?;
+fn in_ring(alloc: Global, number: u8, sender: u8) -> Result<Node, Fail> {
+    let mut made = node(alloc, number)?;
+    made.merge(0, packet(alloc, sender)?)?;
+    let _ = made.cut(0, Range::Full)?;
     Ok(made)
 }
 
 fn packet(alloc: Global, sender: u8) -> Result<Packet, Fail> {
-    let sender = number(sender)?;
-    let value = known(alloc)?;
-    Ok(Packet {
-        sender,
-        number: 1,
-        value,
-    })
-}
-
-fn known(alloc: Global) -> Result<Knowledge, Fail> {
     let op = job(1);
     op.check()?;
-    Ok(Knowledge::delta_of(alloc, &op)?)
+    Ok(Packet {
+        sender: CoordId::new(sender).ok_or("no such number")?,
+        number: 1,
+        value: Knowledge::delta_of(alloc, &op)?,
+    })
 }
 
 fn ring(alloc: Global) -> Result<Vec<Node>, Fail> {

@@ -1,6 +1,5 @@
 use fm_input::input::read_input;
 use fm_input::reading::read_script;
-use fm_input::words::read_words;
 use fm_records::refusal::Refusal;
 use std::alloc::{AllocError, Global};
 use std::io::{self, Read};
@@ -622,26 +621,5 @@ fn a_reader_fails_at_each_read_in_turn(rt: HostRuntime) -> Result<(), Fail> {
         fails: false,
     };
     assert_eq!(rt; read_input(alloc, &mut whole)?.as_slice(), bytes);
-    Ok(())
-}
-
-// What the words of a command line come to, as it is printed.
-fn read_as(alloc: Global, words: &str) -> Result<String, Fail> {
-    let mut all = Vec::new(alloc);
-    for word in words.split_whitespace() {
-        all.push(String::from_str(alloc, word)?)?;
-    }
-    match read_words(alloc, all.as_slice()) {
-        Ok(words) => Ok(format!(in alloc; "{words:?}")?),
-        Err(refusal) => Err(refusal.into()),
-    }
-}
-
-#[test]
-fn words_are_read(rt: HostRuntime) -> Result<(), Fail> {
-    assert_eq!(rt;
-        read_as(rt.alloc(), "firmament graph --at 2")?.as_str(),
-        "Run(Ask { question: Graph, at: Some(2) })"
-    );
     Ok(())
 }

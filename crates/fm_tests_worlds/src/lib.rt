@@ -11,5 +11,3 @@ mod gather;
 mod input;
 #[cfg(test)]
 mod world;
-#[cfg(test)]
-mod worlds;
