@@ -1,13 +1,16 @@
 -- The lists of the machines that a task prefers, one entry further.
 use Rattle.std.proofs.Common.{◌≡◌, ◌∙◌, ℕ, ◌+◌, ◌<◌, Bool, true, false, cond, List, length, get_or, take, refl, sym, ap, subst, suc, add-one}
-use Rattle.std.specs.Prelude.{◌&&◌, ◌||◌, is_some}
+use Rattle.std.specs.Prelude.{◌&&◌, ◌||◌, not, is_some}
 use Rattle.std.specs.Ordering.{nat_cmp, is_eq, ordering_then}
 use Rattle.std.specs.declared.cmp.Ordering.{Ordering}
 use Rattle.std.specs.declared.cmp.Ordering.TheVariants.{Less, Equal, Greater}
 use Rattle.std.specs.Cmp.{Equal-is}
 use Rattle.fm_lattice.specs.Chains.{nat_same}
 use Rattle.fm_lattice.specs.Maps.{lookup}
+use Rattle.fm_records.specs.Options.{passes}
 use Rattle.fm_records.specs.PreferenceLaws.{one_more_preferred}
+use Rattle.fm_edit.specs.declared.seen.SeenTask.{SeenTask}
+use Rattle.fm_edit.specs.Sight.{Sight, IsSeenTask, live_in, prefers_in}
 use Rattle.fm_edit.specs.Index.{preferred_cmp}
 use Rattle.fm_edit.proofs.Ranges.{swapped}
 
@@ -42,3 +45,21 @@ one_more b es i e here at m t task first old new so_far step =
     ∙ put b (is_eq (nat_cmp e.0 m)) among (is_eq (nat_cmp task t)) first
     ∙ ap (λ x. cond (is_eq (nat_cmp task t) && (x || among)) b first) (swapped e.0 m)
     ∙ ap (λ x. cond (is_eq (nat_cmp task t) && x) b first) (sym (one_more_preferred m es i e here at) ∙ ap (λ n. is_some (lookup nat_cmp m (take n es))) (sym (add-one i)))
+
+where_equal : (e f g : Bool) → (e ≡ true → f ≡ g) → (e && f) ≡ (e && g)
+where_equal true f g same = same refl
+where_equal false f g same = refl
+
+-- a task in the lists of the machines that it prefers, by what was seen of it
+pub listed_as_seen : (b : Bool) (s : Sight) (task : ℕ) (x : SeenTask) → IsSeenTask s task x → (m t : ℕ) (among old new : Bool)
+    → among ≡ (passes (λ r. is_some (lookup nat_cmp m r.prefer)) x.live && not (passes (λ h. true) x.holder))
+    → new ≡ cond (is_eq (nat_cmp task t) && among) b old
+    → new ≡ cond (is_eq (nat_cmp task t) && prefers_in s m t) b old
+listed_as_seen b s task x is m t among old new by_fields step =
+    step
+    ∙ ap (λ y. cond y b old)
+    (where_equal (is_eq (nat_cmp task t)) among (prefers_in s m t)
+    (λ j. by_fields
+    ∙ ap (λ l. passes (λ r. is_some (lookup nat_cmp m r.prefer)) l && not (passes (λ h. true) x.holder)) is.live
+    ∙ ap (λ o. passes (λ r. is_some (lookup nat_cmp m r.prefer)) (live_in s task) && not (passes (λ h. true) o)) is.holder
+    ∙ ap (λ q. prefers_in s m q) (nat_same task t ((Equal-is (nat_cmp task t)).0 j))))

@@ -1,6 +1,6 @@
 -- What an Editor has in sight of a table: its records, and of each task the spot that the winner of its present attempt names.
 -- The facts on these are those of the table. Own.
-use Rattle.std.specs.Prelude.{ℕ, Bool, true, cond, not, ◌==◌, ◌&&◌, is_some, Option, None, option_map}
+use Rattle.std.specs.Prelude.{◌≡◌, ℕ, Bool, true, cond, not, ◌==◌, ◌&&◌, is_some, Option, None, option_map}
 use Rattle.std.specs.Ordering.{nat_cmp}
 use Rattle.std.specs.BTreeMap.{get}
 use Rattle.fm_lattice.specs.Maps.{lookup}
@@ -16,6 +16,7 @@ use Rattle.fm_records.specs.Facts.{job_of, won_spot, is_done}
 use Rattle.fm_net.specs.declared.node.Node.{Node}
 use Rattle.fm_net.specs.declared.node.Node.TheVariants.{Unscheduled, Request, Machine}
 use Rattle.fm_edit.specs.declared.seen.Seen.{Seen}
+use Rattle.fm_edit.specs.declared.seen.SeenTask.{SeenTask}
 
 pub record Sight : Type 0 where
   pub job : ℕ → Option JobReg
@@ -48,6 +49,10 @@ progress_in s t = or_else none_begun (option_map (λ v. v.1) (s.task t))
 abbrev pub live_in : Sight → ℕ → Option SpecReg
 live_in s t = only_if (λ r. not r.withdrawn && passes (λ j. not j.withdrawn) (s.job r.job) && not (is_done (progress_in s t).phase)) (spec_in s t)
 
+-- the same of a task's record
+abbrev pub live_of : Sight → TaskValue → Option SpecReg
+live_of s v = only_if (λ r. not r.withdrawn && passes (λ j. not j.withdrawn) (s.job r.job) && not (is_done v.1.phase)) v.0
+
 -- the state of an open machine
 abbrev pub open_in : Sight → ℕ → Option MachineReg
 open_in s m = only_if (λ r. r.up) (and_then (λ v. v.1.0) (s.machine m))
@@ -59,6 +64,10 @@ present_in s p = passes (λ r. true) (open_in s p.machine) && passes (λ i. i ==
 -- the machine that holds a live task
 abbrev pub holder_in : Sight → ℕ → Option ℕ
 holder_in s t = cond (passes (λ r. true) (live_in s t)) (option_map (λ p. p.machine) (only_if (present_in s) (s.spot t))) None
+
+-- the machine of the spot that a task's winner names, where the task is live and the machine there to hold it
+abbrev pub held_at : Sight → Bool → Option Spot → Option ℕ
+held_at s live spot = cond live (option_map (λ p. p.machine) (only_if (present_in s) spot)) None
 
 -- a live task that no machine holds prefers the machine
 abbrev pub prefers_in : Sight → ℕ → ℕ → Bool
@@ -74,3 +83,11 @@ request_node_in s t = option_map (λ r. Request r.request) (spec_in s t)
 
 abbrev pub holder_node_in : Sight → ℕ → Option Node
 holder_node_in s t = option_map Machine (holder_in s t)
+
+-- what was found of a task is what is in sight of it
+pub record IsSeenTask (s : Sight) (t : ℕ) (x : SeenTask) : Type 0 where
+  pub job : x.job ≡ job_node_in s t
+  pub request : x.request ≡ request_node_in s t
+  pub spot : x.spot ≡ spot_node_in s t
+  pub live : x.live ≡ live_in s t
+  pub holder : x.holder ≡ holder_in s t

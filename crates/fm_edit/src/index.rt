@@ -10,12 +10,12 @@ ghost use Rattle.fm_records.specs.Table.{Table};
 ghost use Rattle.fm_records.specs.Ranges.{CanBe};
 ghost use Rattle.fm_net.specs.declared.node.Node.{Node as NodeName};
 ghost use Rattle.fm_net.specs.Nodes.{node_cmp};
-ghost use Rattle.fm_edit.specs.Sight.{sight_of, seen_in, prefers_in};
+ghost use Rattle.fm_edit.specs.Sight.{Sight, IsSeenTask, sight_of, seen_in, prefers_in};
 ghost use Rattle.fm_edit.specs.Dirty.{has_id};
 ghost use Rattle.fm_edit.specs.Memory.{none_out, Counts};
 ghost use Rattle.fm_edit.specs.Index.{is_listed, listed_cmp, lists, lists_preferred, sum_in, amount_at};
 
-use crate::seen::Seen;
+use crate::seen::{Seen, SeenTask};
 use fm_lattice::join::OutOfMemory;
 use fm_net::node::Node;
 use fm_records::ids::{MachineId, TaskId};
@@ -109,24 +109,24 @@ impl Index {
     }
 
     // Lists the task at its job and at its winner's machine, as it was seen.
-    fn list(&mut self, seen: &Seen, task: TaskId) -> Result<(), OutOfMemory>
-        ensures lists { OnOk result ((n : NodeName) (t : ℕ) → lists self.new n t ≡ cond (is_eq (nat_cmp task t) && is_listed (seen_in seen.now) n t) true (lists self.old n t)) }
+    fn list(&mut self, found: &SeenTask, task: TaskId) -> Result<(), OutOfMemory>
+        ensures lists { OnOk result ((s : Sight) → IsSeenTask s task found.now → (n : NodeName) (t : ℕ) → lists self.new n t ≡ cond (is_eq (nat_cmp task t) && is_listed s n t) true (lists self.old n t)) }
         ensures preferred { self.new.preferred ≡ self.old.preferred }
         ensures sums { self.new.sums ≡ self.old.sums }
     {
-        self.list_at(seen.job_node(task), task)?;
-        self.list_at(seen.spot_node(task), task)?;
+        self.list_at(found.job, task)?;
+        self.list_at(found.spot, task)?;
         Ok(())
     }
 
     // Lists the task no more at its job and at its winner's machine, as it was seen.
-    fn unlist(&mut self, seen: &Seen, task: TaskId)
-        ensures lists { (n : NodeName) (t : ℕ) → lists self.new n t ≡ cond (is_eq (nat_cmp task t) && is_listed (seen_in seen.now) n t) false (lists self.old n t) }
+    fn unlist(&mut self, found: &SeenTask, task: TaskId)
+        ensures lists { (s : Sight) → IsSeenTask s task found.now → (n : NodeName) (t : ℕ) → lists self.new n t ≡ cond (is_eq (nat_cmp task t) && is_listed s n t) false (lists self.old n t) }
         ensures preferred { self.new.preferred ≡ self.old.preferred }
         ensures sums { self.new.sums ≡ self.old.sums }
     {
-        self.unlist_at(seen.job_node(task), task);
-        self.unlist_at(seen.spot_node(task), task);
+        self.unlist_at(found.job, task);
+        self.unlist_at(found.spot, task);
     }
 
     // Puts the task into the lists of the machines.
@@ -153,32 +153,32 @@ impl Index {
     }
 
     // Lets the task count at its job, and at its request or the machine that holds it, if it is live.
-    fn count(&mut self, seen: &Seen, task: TaskId) -> Result<(), OutOfMemory>
-        ensures sums { OnOk result ((n : NodeName) → sum_in self.old n + amount_at (seen_in seen.now) n task < 2 ^ 128 → sum_in self.new n ≡ sum_in self.old n + amount_at (seen_in seen.now) n task) }
+    fn count(&mut self, found: &SeenTask) -> Result<(), OutOfMemory>
+        ensures sums { OnOk result ((s : Sight) (t : ℕ) → IsSeenTask s t found.now → (n : NodeName) → sum_in self.old n + amount_at s n t < 2 ^ 128 → sum_in self.new n ≡ sum_in self.old n + amount_at s n t) }
         ensures lists { self.new.listed ≡ self.old.listed }
         ensures preferred { self.new.preferred ≡ self.old.preferred }
     {
-        let Some(spec) = seen.live_spec(task) else {
+        let Some(spec) = found.live else {
             return Ok(());
         };
         self.raise(Node::Unscheduled(spec.job), 1)?;
-        match seen.holder(task) {
+        match found.holder {
             Some(machine) => self.raise(Node::Machine(machine), u128::from(spec.request)),
             None => self.raise(Node::Request(spec.request), 1),
         }
     }
 
     // Lets the task count no more.
-    fn uncount(&mut self, seen: &Seen, task: TaskId) -> Result<(), OutOfMemory>
-        ensures sums { OnOk result ((n : NodeName) → sum_in self.new n ≡ sum_in self.old n - amount_at (seen_in seen.now) n task) }
+    fn uncount(&mut self, found: &SeenTask) -> Result<(), OutOfMemory>
+        ensures sums { OnOk result ((s : Sight) (t : ℕ) → IsSeenTask s t found.now → (n : NodeName) → sum_in self.new n ≡ sum_in self.old n - amount_at s n t) }
         ensures lists { self.new.listed ≡ self.old.listed }
         ensures preferred { self.new.preferred ≡ self.old.preferred }
     {
-        let Some(spec) = seen.live_spec(task) else {
+        let Some(spec) = found.live else {
             return Ok(());
         };
         self.lower(Node::Unscheduled(spec.job), 1)?;
-        match seen.holder(task) {
+        match found.holder {
             Some(machine) => self.lower(Node::Machine(machine), u128::from(spec.request)),
             None => self.lower(Node::Request(spec.request), 1),
         }
@@ -190,9 +190,10 @@ impl Index {
         ensures preferred { OnOk result ((m t : ℕ) → lists_preferred self.new m t ≡ cond (is_eq (nat_cmp task t) && prefers_in (seen_in seen.now) m t) true (lists_preferred self.old m t)) }
         ensures sums { OnOk result ((n : NodeName) → sum_in self.old n + amount_at (seen_in seen.now) n task < 2 ^ 128 → sum_in self.new n ≡ sum_in self.old n + amount_at (seen_in seen.now) n task) }
     {
-        self.list(seen, task)?;
-        self.list_preferred(&seen.preferred(task), task)?;
-        self.count(seen, task)
+        let found = seen.task(task);
+        self.list(&found, task)?;
+        self.list_preferred(&found.preferred(), task)?;
+        self.count(&found)
     }
 
     /// Lists the task no more and lets it count no more, as it was seen. O(log n).
@@ -201,9 +202,10 @@ impl Index {
         ensures preferred { OnOk result ((m t : ℕ) → lists_preferred self.new m t ≡ cond (is_eq (nat_cmp task t) && prefers_in (seen_in seen.now) m t) false (lists_preferred self.old m t)) }
         ensures sums { OnOk result ((n : NodeName) → sum_in self.new n ≡ sum_in self.old n - amount_at (seen_in seen.now) n task) }
     {
-        self.unlist(seen, task);
-        self.unlist_preferred(&seen.preferred(task), task);
-        self.uncount(seen, task)
+        let found = seen.task(task);
+        self.unlist(&found, task);
+        self.unlist_preferred(&found.preferred(), task);
+        self.uncount(&found)
     }
 
     /// Takes the tasks out, which rise. O(m log n).

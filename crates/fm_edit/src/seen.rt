@@ -1,13 +1,14 @@
 //! What was seen last of what is known.
 
-ghost use Rattle.std.specs.Prelude.{◌≡◌, ℕ, ◌<◌, ◌^◌, [], not, is_some, length};
+ghost use Rattle.std.specs.Prelude.{◌≡◌, ◌&&◌, ℕ, true, ◌<◌, ◌^◌, [], not, is_some, option_map, length, Some};
 ghost use Rattle.fm_records.specs.Know.{know};
 ghost use Rattle.std.specs.Ordering.{nat_cmp};
 ghost use Rattle.fm_lattice.specs.Maps.{lookup, IsRising};
 ghost use Rattle.fm_records.specs.Table.{Table};
 ghost use Rattle.fm_records.specs.Options.{passes};
 ghost use Rattle.fm_records.specs.Facts.{is_done};
-ghost use Rattle.fm_edit.specs.Sight.{sight_of, seen_in, job_node_in, request_node_in, holder_node_in, spot_node_in, live_in, open_in, present_in, holder_in, prefers_in, used_in};
+ghost use Rattle.fm_net.specs.declared.node.Node.{Node as NodeName};
+ghost use Rattle.fm_edit.specs.Sight.{IsSeenTask, sight_of, seen_in, live_of, live_in, held_at, open_in, present_in, holder_in, used_in};
 
 use fm_net::node::Node;
 use fm_records::ids::{JobId, MachineId, TaskId};
@@ -26,6 +27,19 @@ pub(crate) struct Seen {
     pub(crate) spots: BTreeMap<TaskId, Spot>,
 }
 
+/// What was seen of a task. Nodes are those of the job and the request that its spec names, and of the machine that the winner
+/// of its present attempt names.
+#[derive(Clone, Copy, Drop)]
+pub(crate) struct SeenTask {
+    pub(crate) job: Option<Node>,
+    pub(crate) request: Option<Node>,
+    pub(crate) spot: Option<Node>,
+    /// The spec, if the task is live.
+    pub(crate) live: Option<SpecReg>,
+    /// The machine that holds it.
+    pub(crate) holder: Option<MachineId>,
+}
+
 // Whether the phase is the last.
 fn is_done(phase: Phase) -> bool
     ensures { result ≡ is_done phase }
@@ -33,6 +47,58 @@ fn is_done(phase: Phase) -> bool
     match phase {
         Phase::Pending | Phase::Running => false,
         Phase::Done => true,
+    }
+}
+
+// The node of the job that the spec of the task's record names.
+fn job_node(known: &TaskRec) -> Option<Node>
+    ensures { result ≡ option_map (λ r. NodeName.Unscheduled r.job) known.now.0 }
+{
+    match &known.0.0 {
+        Some(spec) => Some(Node::Unscheduled(spec.0.job)),
+        None => None,
+    }
+}
+
+// The node of the request of the spec of the task's record.
+fn request_node(known: &TaskRec) -> Option<Node>
+    ensures { result ≡ option_map (λ r. NodeName.Request r.request) known.now.0 }
+{
+    match &known.0.0 {
+        Some(spec) => Some(Node::Request(spec.0.request)),
+        None => None,
+    }
+}
+
+// The node of the machine that the spot names.
+fn spot_node(spot: &Option<Spot>) -> Option<Node>
+    ensures { result ≡ option_map (λ p. NodeName.Machine p.machine) spot.now }
+{
+    match spot {
+        Some(spot) => Some(Node::Machine(spot.machine)),
+        None => None,
+    }
+}
+
+impl SeenTask {
+    /// The node of the machine that holds the task.
+    pub(crate) fn holder_node(&self) -> Option<Node>
+        ensures { result ≡ option_map NodeName.Machine self.now.holder }
+    {
+        match self.holder {
+            Some(machine) => Some(Node::Machine(machine)),
+            None => None,
+        }
+    }
+
+    /// The machines that the task prefers, while it waits; else none.
+    pub(crate) fn preferred(&self) -> Prefer
+        ensures { (m : ℕ) → is_some (lookup nat_cmp m result) ≡ (passes (λ r. is_some (lookup nat_cmp m r.prefer)) self.now.live && not (passes (λ h. true) self.now.holder)) }
+    {
+        match self.live {
+            Some(spec) if self.holder.is_none() => spec.prefer,
+            _ => Prefer::default(),
+        }
     }
 }
 
@@ -56,52 +122,75 @@ impl Seen {
         let _count = self.tasks.len();
     }
 
-    /// The node of the job that the task's spec names. O(log n), as each reader here.
-    pub(crate) fn job_node(&self, task: TaskId) -> Option<Node>
-        ensures { result ≡ job_node_in (seen_in self.now) task }
+    /// What was seen of the task: each of its records is looked up once. O(log n), as each reader here.
+    pub(crate) fn task(&self, task: TaskId) -> SeenTask
+        ensures { IsSeenTask (seen_in self.now) task result }
     {
-        match &self.tasks.get(&task)?.0.0 {
-            Some(spec) => Some(Node::Unscheduled(spec.0.job)),
+        match self.tasks.get(&task) {
+            Some(known) => self.task_of(known, &self.spot(task)),
+            None => SeenTask {
+                job: None,
+                request: None,
+                spot: spot_node(&self.spot(task)),
+                live: None,
+                holder: None,
+            },
+        }
+    }
+
+    // The same of a task with this record, of which the winner's spot is this.
+    fn task_of(&self, known: &TaskRec, spot: &Option<Spot>) -> SeenTask
+        ensures { (t : ℕ) → (seen_in self.now).task t ≡ Some known.now → (seen_in self.now).spot t ≡ spot.now → IsSeenTask (seen_in self.now) t result }
+    {
+        let live = self.live_of(known);
+        let holder = self.held_at(live.is_some(), spot);
+        SeenTask {
+            job: job_node(known),
+            request: request_node(known),
+            spot: spot_node(spot),
+            live,
+            holder,
+        }
+    }
+
+    // The spot that the winner of the task's present attempt names.
+    fn spot(&self, task: TaskId) -> Option<Spot>
+        ensures { result ≡ (seen_in self.now).spot task }
+    {
+        match self.spots.get(&task) {
+            Some(spot) => Some(*spot),
             None => None,
         }
     }
 
-    /// The node of the request of the task's spec.
-    pub(crate) fn request_node(&self, task: TaskId) -> Option<Node>
-        ensures { result ≡ request_node_in (seen_in self.now) task }
+    // The spec of the record, if its task is live.
+    fn live_of(&self, known: &TaskRec) -> Option<SpecReg>
+        ensures { result ≡ live_of (seen_in self.now) known.now }
     {
-        match &self.tasks.get(&task)?.0.0 {
-            Some(spec) => Some(Node::Request(spec.0.request)),
-            None => None,
+        let Some(spec) = &known.0.0 else {
+            return None;
+        };
+        if spec.0.withdrawn || is_done(known.1.0.phase) || !self.job_stands(spec.0.job) {
+            return None;
         }
+        Some(spec.0)
     }
 
-    /// The node of the machine that holds the task.
-    pub(crate) fn holder_node(&self, task: TaskId) -> Option<Node>
-        ensures { result ≡ holder_node_in (seen_in self.now) task }
+    // The machine of the spot, if the task is live and the machine there to hold it.
+    fn held_at(&self, is_live: bool, spot: &Option<Spot>) -> Option<MachineId>
+        ensures { result ≡ held_at (seen_in self.now) is_live spot.now }
     {
-        Some(Node::Machine(self.holder(task)?))
-    }
-
-    /// The node of the machine that the winner of the task's present attempt names.
-    pub(crate) fn spot_node(&self, task: TaskId) -> Option<Node>
-        ensures { result ≡ spot_node_in (seen_in self.now) task }
-    {
-        Some(Node::Machine(self.spots.get(&task)?.machine))
+        match spot {
+            Some(place) if is_live && self.is_present(*place) => Some(place.machine),
+            _ => None,
+        }
     }
 
     /// The spec of the task, if it is live.
     pub(crate) fn live_spec(&self, task: TaskId) -> Option<SpecReg>
         ensures { result ≡ live_in (seen_in self.now) task }
     {
-        let record = self.tasks.get(&task)?;
-        let Some(spec) = &record.0.0 else {
-            return None;
-        };
-        if spec.0.withdrawn || is_done(record.1.0.phase) || !self.job_stands(spec.0.job) {
-            return None;
-        }
-        Some(spec.0)
+        self.live_of(self.tasks.get(&task)?)
     }
 
     /// Whether the task is live.
@@ -116,16 +205,6 @@ impl Seen {
                 && !is_done(record.1.0.phase)
                 && self.job_stands(spec.0.job),
             None => false,
-        }
-    }
-
-    /// The machines that the task prefers, while it waits; else none.
-    pub(crate) fn preferred(&self, task: TaskId) -> Prefer
-        ensures { (m : ℕ) → is_some (lookup nat_cmp m result) ≡ prefers_in (seen_in self.now) m task }
-    {
-        match self.live_spec(task) {
-            Some(spec) if self.holder(task).is_none() => spec.prefer,
-            _ => Prefer::default(),
         }
     }
 

@@ -79,11 +79,12 @@ impl Touched {
         ensures grows { OnOk result (Grows self.old self.new) }
         ensures touches { OnOk result (TouchesTask (seen_in seen.now) task self.new) }
     {
+        let found = seen.task(task);
         self.node(&Node::Task(task))?;
-        self.lead(task, seen.job_node(task))?;
-        self.lead(task, seen.request_node(task))?;
-        self.lead(task, seen.holder_node(task))?;
-        self.preferred(task, &seen.preferred(task))
+        self.lead(task, found.job)?;
+        self.lead(task, found.request)?;
+        self.lead(task, found.holder_node())?;
+        self.preferred(task, &found.preferred())
     }
 
     // Touches the pairs of the task and the machines.
