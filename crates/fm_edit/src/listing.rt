@@ -1,9 +1,6 @@
 //! The edits of what was touched, in order.
 
 ghost use Rattle.std.specs.Prelude.{◌≡◌, ◌++◌, ◌∷◌, [], not, Option, option_to_list, option_map, IfOk, OnOk, IfSome};
-ghost use Rattle.std.specs.List.{filter_map};
-ghost use Rattle.std.specs.Fn.{FnReturnsAt};
-ghost use Rattle.fm_net.specs.declared.edit.Edit.{Edit as EditValue};
 ghost use Rattle.fm_records.specs.Options.{passes, when};
 ghost use Rattle.fm_net.specs.Edits.{same_value, has_arc};
 ghost use Rattle.fm_net.specs.Touched.{put_at};
@@ -44,12 +41,16 @@ pub(crate) fn list(
         index,
         &touched.pairs,
     )?;
-    add_each(&mut edits, &touched.nodes, |node| {
-        drop_node(network, seen, index, node)
-    })?;
-    add_each(&mut edits, &touched.nodes, |node| {
-        put_node(network, seen, index, node)
-    })?;
+    let mut entering = Vec::new(alloc);
+    add_nodes(
+        &mut edits,
+        &mut entering,
+        network,
+        seen,
+        index,
+        &touched.nodes,
+    )?;
+    edits.append(&mut entering)?;
     edits.append(&mut coming)?;
     Ok(edits)
 }
@@ -104,19 +105,40 @@ fn add_arc(
     Ok(())
 }
 
-// Adds the edit of each item that has one.
-fn add_each<T: Ord, F: Fn(&T) -> Option<Edit>>(
-    edits: &mut Vec<Edit>,
-    items: &BTreeSet<T>,
-    edit_of: F,
+// Adds the edits of the nodes, to one list where they go, and to the other where they come: one walk, as of the arcs.
+fn add_nodes(
+    going: &mut Vec<Edit>,
+    coming: &mut Vec<Edit>,
+    network: &Network,
+    seen: &Seen,
+    index: &Index,
+    nodes: &BTreeSet<Node>,
 ) -> Result<(), OutOfMemory>
-    requires { F.IsAlwaysCallable edit_of }
-    ensures { (h : T → Option EditValue) → ((x : T) (r : _) → FnReturnsAt F.Fn edit_of x r → r ≡ h x) → OnOk result (edits.new.items ≡ edits.old.items ++ filter_map h items.now.keys) }
+    ensures going { OnOk result (going.new.items ≡ going.old.items ++ nodes_that_go network.now (node_shown (seen_in seen.now) (sum_in index.now)) (arc_shown (seen_in seen.now) (sum_in index.now)) nodes.now.keys) }
+    ensures coming { OnOk result (coming.new.items ≡ coming.old.items ++ nodes_that_come network.now (node_shown (seen_in seen.now) (sum_in index.now)) (arc_shown (seen_in seen.now) (sum_in index.now)) nodes.now.keys) }
 {
-    for item in items.iter() {
-        if let Some(edit) = edit_of(item) {
-            edits.push(edit)?;
-        }
+    for node in nodes.iter() {
+        add_node(going, coming, network, seen, index, node)?;
+    }
+    Ok(())
+}
+
+// Adds the edit of the node, if it has one.
+fn add_node(
+    going: &mut Vec<Edit>,
+    coming: &mut Vec<Edit>,
+    network: &Network,
+    seen: &Seen,
+    index: &Index,
+    node: &Node,
+) -> Result<(), OutOfMemory>
+    ensures going { OnOk result (going.new.items ≡ going.old.items ++ nodes_that_go network.now (node_shown (seen_in seen.now) (sum_in index.now)) (arc_shown (seen_in seen.now) (sum_in index.now)) (node.now ∷ [])) }
+    ensures coming { OnOk result (coming.new.items ≡ coming.old.items ++ nodes_that_come network.now (node_shown (seen_in seen.now) (sum_in index.now)) (arc_shown (seen_in seen.now) (sum_in index.now)) (node.now ∷ [])) }
+{
+    match (network.has(node), stands(seen, index, node)) {
+        (true, false) => going.push(Edit::DropNode(*node))?,
+        (false, true) => coming.push(Edit::PutNode(*node))?,
+        _ => {}
     }
     Ok(())
 }
@@ -127,26 +149,6 @@ fn drop_arc(network: &Network, seen: &Seen, index: &Index, pair: &(Node, Node)) 
 {
     if network.arc(pair.0, pair.1).is_some() && arc(seen, index, &pair.0, &pair.1).is_none() {
         return Some(Edit::DropArc(pair.0, pair.1));
-    }
-    None
-}
-
-// The edit that drops the node, where it goes.
-fn drop_node(network: &Network, seen: &Seen, index: &Index, node: &Node) -> Option<Edit>
-    ensures { option_to_list result ≡ nodes_that_go network.now (node_shown (seen_in seen.now) (sum_in index.now)) (arc_shown (seen_in seen.now) (sum_in index.now)) (node.now ∷ []) }
-{
-    if network.has(node) && !stands(seen, index, node) {
-        return Some(Edit::DropNode(*node));
-    }
-    None
-}
-
-// The edit that puts the node, where it comes.
-fn put_node(network: &Network, seen: &Seen, index: &Index, node: &Node) -> Option<Edit>
-    ensures { option_to_list result ≡ nodes_that_come network.now (node_shown (seen_in seen.now) (sum_in index.now)) (arc_shown (seen_in seen.now) (sum_in index.now)) (node.now ∷ []) }
-{
-    if stands(seen, index, node) && !network.has(node) {
-        return Some(Edit::PutNode(*node));
     }
     None
 }
