@@ -1,13 +1,14 @@
 -- The steps by which pairs are touched, put together.
-use Rattle.std.proofs.Common.{◌≡◌, ◌∙◌, ◌<◌, ◌^◌, ℕ, Bool, true, false, cond, List, [], ◌∷◌, Option, Some, None, refl, sym, ap}
-use Rattle.std.specs.Prelude.{◌&&◌, ◌||◌, ◌==◌, not, filter, map, is_some, unwrap_or, IsTrue}
+use Rattle.std.proofs.Common.{◌≡◌, ◌∙◌, ◌<◌, ◌^◌, ℕ, Bool, true, false, cond, List, [], ◌∷◌, ◌++◌, Option, Some, None, refl, sym, ap}
+use Rattle.std.specs.Prelude.{◌&&◌, ◌||◌, ◌==◌, not, filter, map, reverse, is_some, unwrap_or, IsTrue}
 use Rattle.std.specs.List.{list_any}
 use Rattle.std.specs.Ordering.{nat_cmp, is_eq, is_le}
 use Rattle.std.specs.Cmp.{Equal-is, nat_cmp_total}
 use Rattle.std.specs.declared.ops.Bound.TheVariants.{Included, Excluded}
 use Rattle.std.specs.BTreeMap.{get}
 use Rattle.std.specs.BTreeMap.Range.{range_contains}
-use Rattle.fm_lattice.specs.Chains.{by_cases, greater_less}
+use Rattle.std.proofs.lemmas.List.Sorted.{list_any-IsPermutation, IsPermutation-reverse}
+use Rattle.fm_lattice.specs.Chains.{by_cases, greater_less, nat_same}
 use Rattle.fm_lattice.specs.Maps.{lookup}
 use Rattle.fm_net.specs.declared.node.Node.{Node}
 use Rattle.fm_net.specs.declared.node.Node.TheVariants.{Sink, Request, Machine, Task}
@@ -35,6 +36,18 @@ or_right false b h = h
 pub both_ways : {P : Type 0} (b : Bool) → b ≡ true → b ≡ false → P
 both_ways true e f = absurd (let no : ⊥ = cc in no)
 both_ways false e f = absurd (let no : ⊥ = cc in no)
+
+-- what is left has one key fewer, at its end
+ended : {V : Type 0} (m : ℕ) (es : List (ℕ × V)) (k : ℕ) (v : V) → is_some (lookup nat_cmp m (es ++ (k, v) ∷ [])) ≡ (is_some (lookup nat_cmp m es) || is_eq (nat_cmp m k))
+ended m [] k v = elim (is_eq (nat_cmp m k)) as (λ b. is_some (cond b (Some v) None) ≡ (false || b)) [ true ↦ refl | false ↦ refl ]
+ended m (e ∷ es) k v = let rest = ended m es k v in elim (is_eq (nat_cmp m e.0)) as (λ b. is_some (cond b (Some e.1) (lookup nat_cmp m (es ++ (k, v) ∷ []))) ≡ (is_some (cond b (Some e.1) (lookup nat_cmp m es)) || is_eq (nat_cmp m k))) [ true ↦ refl | false ↦ rest ]
+
+pub ended_on : {V P : Type 0} (m : ℕ) (before left : List (ℕ × V)) (k : ℕ) (v : V) → before ≡ left ++ (k, v) ∷ [] → is_some (lookup nat_cmp m left) ≡ false → (m ≡ k → P) → (is_some (lookup nat_cmp m before) ≡ false → P) → P
+ended_on {V} {P} m before left k v is none here rest =
+    elim (is_eq (nat_cmp m k)) as (λ b. is_eq (nat_cmp m k) ≡ b → P) [
+      | true ↦ λ t. here (nat_same m k ((Equal-is (nat_cmp m k)).0 t))
+      | false ↦ λ f. rest (ap (λ es. is_some (lookup nat_cmp m es)) is ∙ ended m left k v ∙ (λ i. none i || f i))
+    ] refl
 
 in_requests : (q : ℕ) → range_contains node_cmp (Included (Request 0)) (Excluded (Machine 0)) (Request q) ≡ true
 in_requests q = ap (λ b. b && true) (by_cases (nat_cmp 0 q) (λ o. nat_cmp 0 q ≡ o → is_le o ≡ true) (λ _ _. refl) (λ _ _. refl) (λ _ e. absurd (below_zero q (less_said q 0 (greater_less nat_cmp nat_cmp_total 0 q e)))) refl)
@@ -65,6 +78,9 @@ some_there (Some v) h = refl
 waits_among : (x : Index) (q : ℕ) → not (sum_in x (Request q) == 0) ≡ true → is_among node_cmp (waiting_in x) (Request q) ≡ true
 waits_among x q h = among_kept q x.sums.entries (some_there (get node_cmp x.sums (Request q)) h)
 
+backwards : (ns : List Node) (n : Node) → is_among node_cmp (reverse ns) n ≡ is_among node_cmp ns n
+backwards ns n = sym (list_any-IsPermutation (λ m. is_eq (node_cmp n m)) ns (reverse ns) (IsPermutation-reverse ns))
+
 -- what is touched or still to come, one step on, and in the end
 pub walked_on : (e old now c : Bool) → (old ≡ true → now ≡ true) → (e ≡ true → now ≡ true) → (old || (e || c)) ≡ true → (now || c) ≡ true
 walked_on e true now c keep new h = ap (λ b. b || c) (keep refl)
@@ -88,7 +104,7 @@ machine_among m (n ∷ ns) h =
     ] refl h
 
 module _ (s : Sight) (index : Index) (net : Net) (x0 x1 x2 x3 x4 x5 : Touched) (n1 n2 n3 n4 n5 rs ws : List Node) where
-  pub completes : n1 ≡ x0.nodes.keys → n2 ≡ x0.nodes.keys → n3 ≡ x0.nodes.keys → n4 ≡ x0.nodes.keys → n5 ≡ x0.nodes.keys → rs ≡ filter is_request x0.nodes.keys → (IsTrue (list_any is_machine x0.nodes.keys) → ws ≡ waiting_in index)
+  pub completes : n1 ≡ x0.nodes.keys → n2 ≡ x0.nodes.keys → n3 ≡ x0.nodes.keys → n4 ≡ x0.nodes.keys → n5 ≡ x0.nodes.keys → rs ≡ filter is_request x0.nodes.keys → (IsTrue (list_any is_machine x0.nodes.keys) → ws ≡ reverse (waiting_in index))
       → Grows x0 x1 → Grows x1 x2 → Grows x2 x3 → Grows x3 x4 → Grows x4 x5
       → x1.nodes ≡ x0.nodes → x2.nodes ≡ x1.nodes → x3.nodes ≡ x2.nodes → x4.nodes ≡ x3.nodes → x5.nodes ≡ x4.nodes
       → ((n : Node) → is_among node_cmp n1 n ≡ true → leads_to_sink n ≡ true → has_pair x1 n Sink ≡ true)
@@ -105,7 +121,7 @@ module _ (s : Sight) (index : Index) (net : Net) (x0 x1 x2 x3 x4 x5 : Touched) (
         sinks = λ n h l. g5.pairs n Sink (g4.pairs n Sink (g3.pairs n Sink (g2.pairs n Sink (sinks n (among n1 e1 n h) l))));
         touched_places = λ q m hq hm. g5.pairs (Request q) (Machine m) (g4.pairs (Request q) (Machine m) (g3.pairs (Request q) (Machine m) (places (Machine m) (among n2 e2 (Machine m) hm) refl (Request q)
             (ap (λ ks. is_among node_cmp ks (Request q)) r_is ∙ has_kept node_cmp node_total node_exact is_request (Request q) x0.nodes.keys ∙ hq))));
-        waiting_places = λ q m w hm. g5.pairs (Request q) (Machine m) (g4.pairs (Request q) (Machine m) (waits (Machine m) (among n3 e3 (Machine m) hm) refl (Request q) (ap (λ ks. is_among node_cmp ks (Request q)) (w_is (machine_among m x0.nodes.keys hm)) ∙ waits_among index q w)));
+        waiting_places = λ q m w hm. g5.pairs (Request q) (Machine m) (g4.pairs (Request q) (Machine m) (waits (Machine m) (among n3 e3 (Machine m) hm) refl (Request q) (ap (λ ks. is_among node_cmp ks (Request q)) (w_is (machine_among m x0.nodes.keys hm)) ∙ backwards (waiting_in index) (Request q) ∙ waits_among index q w)));
         preferring = λ m t small h hm. preferring (Machine m) (among n5 e5 (Machine m) hm) m t refl small h;
         turned_places = λ q m hq apart there. g5.pairs (Request q) (Machine m) (turns (Request q) (among n4 e4 (Request q) hq) refl apart m there);
       }

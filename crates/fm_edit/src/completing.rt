@@ -1,6 +1,6 @@
 //! The pairs that touched nodes bring with them.
 
-ghost use Rattle.std.specs.Prelude.{◌≡◌, ◌<◌, ◌^◌, ℕ, true, false, filter, is_some, IsTrue, IfOk, OnOk};
+ghost use Rattle.std.specs.Prelude.{◌≡◌, ◌<◌, ◌^◌, ℕ, true, false, filter, is_some, reverse, IsTrue, IfOk, OnOk};
 ghost use Rattle.std.specs.List.{list_any};
 ghost use Rattle.std.specs.Ordering.{nat_cmp};
 ghost use Rattle.std.specs.BTreeMap.{get};
@@ -74,12 +74,15 @@ fn is_request(node: &Node) -> bool
     matches!(node, Node::Request(_))
 }
 
-// The requests at which tasks wait, if a machine is among the nodes: they are wanted for machines alone.
+// The requests at which tasks wait, if a machine is among the nodes: they are wanted for machines alone. Greater ones first: an
+// ordered set is searched least for what comes before all that it has.
 fn waiting(alloc: Global, index: &Index, nodes: &[Node]) -> Result<Vec<Node>, OutOfMemory>
-    ensures { IfOk result (λ ns. IsTrue (list_any is_machine nodes.now) → ns.items ≡ waiting_in index.now) }
+    ensures { IfOk result (λ ns. IsTrue (list_any is_machine nodes.now) → ns.items ≡ reverse (waiting_in index.now)) }
 {
     if has_machine(nodes) {
-        all_waiting(alloc, index)
+        let mut requests = all_waiting(alloc, index)?;
+        requests.reverse();
+        Ok(requests)
     } else {
         Ok(Vec::new(alloc))
     }
@@ -251,13 +254,13 @@ fn touch_request(
     Ok(())
 }
 
-// Touches the pairs of the request and each machine that is known.
+// Touches the pairs of the request and each machine that is known, greater ones first.
 fn touch_rooms(touched: &mut Touched, request: &Node, seen: &Seen) -> Result<(), OutOfMemory>
     ensures grows { OnOk result (Grows touched.old touched.new) }
     ensures same { OnOk result (touched.new.nodes ≡ touched.old.nodes) }
     ensures has { OnOk result ((m : ℕ) → is_some (get nat_cmp seen.now.machines m) ≡ true → has_pair touched.new request.now (NodeName.Machine m) ≡ true) }
 {
-    for (machine, _) in seen.machines.iter() {
+    for (machine, _) in seen.machines.iter().rev() {
         touched.pair(request, &Node::Machine(*machine))?;
     }
     Ok(())

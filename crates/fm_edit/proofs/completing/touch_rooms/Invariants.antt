@@ -11,5 +11,5 @@ abbrev pub invariant-loop-machine : goal.invariant-loop-machine
 invariant-loop-machine l = record {
   grows : Grows l.fn.touched l.touched;
   same : l.touched.nodes ≡ l.fn.touched.nodes;
-  has : (m : ℕ) → is_some (get nat_cmp l.seen.machines m) ≡ true → is_some (lookup nat_cmp m l.machine-iterator) ≡ false → has_pair l.touched l.request (Machine m) ≡ true;
+  has : (m : ℕ) → is_some (get nat_cmp l.seen.machines m) ≡ true → is_some (lookup nat_cmp m l.machine-iterator.iter) ≡ false → has_pair l.touched l.request (Machine m) ≡ true;
 }
