@@ -1,9 +1,12 @@
 //! Small clusters whose least cost is known, solved from flows of all kinds.
 
-use crate::solving::{anew, from, network_of};
+ghost use Rattle.fm_certificate.specs.Built.{IsBuilt};
+
+use crate::solving::{anew, cost_from, network_of};
 use fm_flow::flow::Flow;
 use fm_know::knowledge::Knowledge;
 use fm_lattice::join::Join;
+use fm_net::network::Network;
 use fm_net::node::Node;
 use fm_records::ids::{JobId, MachineId, TaskId};
 use fm_records::ops::Op;
@@ -86,35 +89,87 @@ fn task_node(id: u128) -> Node {
 
 // A flow of keys that are no arcs, of units above capacities, and of units from nowhere.
 fn strange(alloc: Global) -> Result<Flow, Refusal> {
+    let units = [
+        (task_node(17), machine_node(11), 5),
+        (task_node(17), Node::Request(100), 7),
+        (task_node(18), Node::Request(100), 3),
+        (task_node(19), Node::Request(100), 1),
+        (task_node(20), Node::Request(100), 1),
+        (task_node(21), Node::Request(300), u64::MAX),
+        (task_node(99), machine_node(10), 1),
+        (Node::Request(100), machine_node(10), 9),
+        (Node::Request(300), machine_node(11), 2),
+        (Node::Request(300), machine_node(10), u64::MAX),
+        (machine_node(10), Node::Sink, u64::MAX),
+        (Node::Sink, task_node(17), 4),
+    ];
     let mut flow = Flow::new(alloc);
-    flow.put(task_node(17), machine_node(11), 5)?;
-    flow.put(task_node(17), Node::Request(100), 7)?;
-    flow.put(task_node(18), Node::Request(100), 3)?;
-    flow.put(task_node(19), Node::Request(100), 1)?;
-    flow.put(task_node(20), Node::Request(100), 1)?;
-    flow.put(task_node(21), Node::Request(300), u64::MAX)?;
-    flow.put(task_node(99), machine_node(10), 1)?;
-    flow.put(Node::Request(100), machine_node(10), 9)?;
-    flow.put(Node::Request(300), machine_node(11), 2)?;
-    flow.put(Node::Request(300), machine_node(10), u64::MAX)?;
-    flow.put(machine_node(10), Node::Sink, u64::MAX)?;
-    flow.put(Node::Sink, task_node(17), 4)?;
+    for (source, target, sent) in units {
+        flow.put(source, target, sent)?;
+    }
     Ok(flow)
 }
 
-// Prints what solving costs anew, from that flow, from no flow, and from a strange one.
+// What solving costs anew, and from that flow, from no flow, and from a strange one.
+#[derive(Clone, Copy, Drop)]
+struct Costs {
+    anew: u128,
+    own: u128,
+    none: u128,
+    other: u128,
+}
+
+// The functions below hold one value each where they may be refused: a proof looks at what is let go at each refusal.
+
+// What solving costs anew, and from that flow.
+fn own_cost(alloc: Global, network: &Network) -> Result<(u128, u128), Refusal>
+    requires { IsBuilt network.now }
+{
+    let (flow, cost) = anew(alloc, network)?;
+    let own = cost_from(alloc, network, &flow)?;
+    Ok((cost, own))
+}
+
+fn strange_cost(alloc: Global, network: &Network) -> Result<u128, Refusal>
+    requires { IsBuilt network.now }
+{
+    let flow = strange(alloc)?;
+    cost_from(alloc, network, &flow)
+}
+
+fn costs_on(alloc: Global, network: &Network) -> Result<Costs, Refusal>
+    requires { IsBuilt network.now }
+{
+    let (anew, own) = own_cost(alloc, network)?;
+    let none = cost_from(alloc, network, &Flow::new(alloc))?;
+    let other = strange_cost(alloc, network)?;
+    Ok(Costs {
+        anew,
+        own,
+        none,
+        other,
+    })
+}
+
+fn costs_of(alloc: Global, ops: &[Op]) -> Result<Costs, Refusal> {
+    let known = told(alloc, ops)?;
+    let network = network_of(alloc, &known)?;
+    costs_on(alloc, &network)
+}
+
 fn print_costs(
     rt: &HostRuntime,
     alloc: Global,
     name: &str,
     ops: &[Op],
 ) -> Result<(), anyhow::Error> {
-    let network = network_of(alloc, &told(alloc, ops)?)?;
-    let (flow, cost) = anew(alloc, &network)?;
-    let (_, own) = from(alloc, &network, &flow)?;
-    let (_, none) = from(alloc, &network, &Flow::new(alloc))?;
-    let (_, other) = from(alloc, &network, &strange(alloc)?)?;
-    println!(rt; "{name} {cost} {own} {none} {other}")?;
+    let Costs {
+        anew,
+        own,
+        none,
+        other,
+    } = costs_of(alloc, ops)?;
+    println!(rt; "{name} {anew} {own} {none} {other}")?;
     Ok(())
 }
 

@@ -1,8 +1,12 @@
 //! Drawn pairs of a network and an earlier flow.
 
+ghost use Rattle.fm_certificate.specs.Built.{IsBuilt};
+
 use crate::cluster::{Cluster, Sizes};
 use crate::draw::Draw;
-use crate::solving::{anew, cycles_after_start, from, network_of};
+use crate::solving::{anew, cost_from, cycles_after_start, network_of};
+use fm_flow::flow::Flow;
+use fm_net::network::Network;
 use fm_records::refusal::Refusal;
 use std::alloc::Global;
 
@@ -20,14 +24,28 @@ fn drawn(alloc: Global, draw: &mut Draw) -> Result<Cluster, Refusal> {
     Cluster::new(alloc, draw, sizes)
 }
 
-// Whether the second network costs the same anew as from the first one's flow, and how many cycles the start left.
+// A least flow of the cluster's network.
+fn flow_of(alloc: Global, cluster: &Cluster) -> Result<Flow, Refusal> {
+    let network = network_of(alloc, &cluster.known)?;
+    let (flow, _) = anew(alloc, &network)?;
+    Ok(flow)
+}
+
+// Whether the network costs the same anew as from the earlier flow, and how many cycles the start left.
+fn compared_on(alloc: Global, network: &Network, earlier: &Flow) -> Result<(bool, usize), Refusal>
+    requires { IsBuilt network.now }
+{
+    let (_, cost) = anew(alloc, network)?;
+    let same = cost_from(alloc, network, earlier)?;
+    let cycles = cycles_after_start(alloc, network)?;
+    Ok((cost == same, cycles))
+}
+
+// The same of the second network, from the first one's flow.
 fn compared(alloc: Global, first: &Cluster, second: &Cluster) -> Result<(bool, usize), Refusal> {
-    let network = network_of(alloc, &first.known)?;
-    let (earlier, _) = anew(alloc, &network)?;
+    let earlier = flow_of(alloc, first)?;
     let network = network_of(alloc, &second.known)?;
-    let (_, cost) = anew(alloc, &network)?;
-    let (_, same) = from(alloc, &network, &earlier)?;
-    Ok((cost == same, cycles_after_start(alloc, &network)?))
+    compared_on(alloc, &network, &earlier)
 }
 
 // The pair of a seed: of every fourth the networks have nothing to do with one another, of the others the second is what
@@ -38,12 +56,17 @@ fn pair(alloc: Global, seed: u32) -> Result<(bool, usize), Refusal> {
     let second = if seed % 4 == 0 {
         drawn(alloc, &mut draw)?
     } else {
-        let mut again = Draw::new(u64::from(seed));
-        let mut second = drawn(alloc, &mut again)?;
-        second.change(&mut again, seed % 23)?;
-        second
+        changed(alloc, seed)?
     };
     compared(alloc, &first, &second)
+}
+
+// What drawn changes make of the cluster of a seed.
+fn changed(alloc: Global, seed: u32) -> Result<Cluster, Refusal> {
+    let mut draw = Draw::new(u64::from(seed));
+    let mut cluster = drawn(alloc, &mut draw)?;
+    cluster.change(&mut draw, seed % 23)?;
+    Ok(cluster)
 }
 
 /// How many pairs cost the same both ways, and how many cycles were cancelled after their starts.

@@ -60,6 +60,14 @@ pub(crate) fn from(
     Ok((flow, again))
 }
 
+/// What a least flow from an earlier one costs.
+pub(crate) fn cost_from(alloc: Global, network: &Network, earlier: &Flow) -> Result<u128, Refusal>
+    requires { IsBuilt network.now }
+{
+    let (_, cost) = from(alloc, network, earlier)?;
+    Ok(cost)
+}
+
 /// How many cycles are cancelled after the start, at most 1,000.
 pub(crate) fn cycles_after_start(alloc: Global, network: &Network) -> Result<usize, Refusal>
     requires { IsBuilt network.now }

@@ -7,7 +7,7 @@ mod followed;
 
 use fm_input::input::read_input;
 use fm_input::reading::read_script;
-use fm_input::script::Act;
+use fm_input::script::{Act, Script};
 use fm_know::knowledge::Knowledge;
 use fm_records::ops::Op;
 use fm_records::refusal::Refusal;
@@ -17,27 +17,61 @@ use std::env;
 use std::time::Instant;
 
 fn main(rt: HostRuntime) -> Result<(), anyhow::Error> {
-    let alloc = rt.alloc();
     let is_timed = env::args(&rt)?.nth(1).is_some();
-    let text = read_input(alloc, &mut rt.reader())?;
-    let script = read_script(alloc, text.as_slice())?;
-    let mut followed = Followed::new(alloc)?;
-    let mut delta = Knowledge::empty(alloc);
+    let script = script(&rt)?;
+    let mut watch = Watch {
+        followed: Followed::new(rt.alloc())?,
+        delta: Knowledge::empty(rt.alloc()),
+    };
     for step in script.steps {
-        match step.act {
-            Act::Tell(op) => tell(alloc, &mut delta, &op)?,
-            Act::Cut(_) => {
-                followed = if is_timed {
-                    timed(&rt, followed, &delta)?
-                } else {
-                    shown(&rt, followed, &delta)?
-                };
-                delta = Knowledge::empty(alloc);
-            }
-            _ => {}
-        }
+        watch = watch.step(&rt, step.act, is_timed)?;
     }
     Ok(())
+}
+
+// The script on standard input.
+fn script(rt: &HostRuntime) -> Result<Script, Refusal> {
+    let text = read_input(rt.alloc(), &mut rt.reader())?;
+    read_script(rt.alloc(), text.as_slice())
+}
+
+// What was taken in, and what was told since. Functions that may be refused hold one value each: a proof looks at what is let
+// go at each refusal.
+#[derive(Drop)]
+struct Watch {
+    followed: Followed,
+    delta: Knowledge,
+}
+
+impl Watch {
+    // After a step of the script.
+    fn step(self, rt: &HostRuntime, act: Act, is_timed: bool) -> Result<Watch, anyhow::Error> {
+        match act {
+            Act::Tell(op) => self.told(rt.alloc(), &op),
+            Act::Cut(_) => self.cut(rt, is_timed),
+            _ => Ok(self),
+        }
+    }
+
+    // With the operation in the delta.
+    fn told(mut self, alloc: Global, op: &Op) -> Result<Watch, anyhow::Error> {
+        tell(alloc, &mut self.delta, op)?;
+        Ok(self)
+    }
+
+    // With the delta taken in.
+    fn cut(self, rt: &HostRuntime, is_timed: bool) -> Result<Watch, anyhow::Error> {
+        let Watch { followed, delta } = self;
+        let followed = if is_timed {
+            timed(rt, followed, &delta)?
+        } else {
+            shown(rt, followed, &delta)?
+        };
+        Ok(Watch {
+            followed,
+            delta: Knowledge::empty(rt.alloc()),
+        })
+    }
 }
 
 // Adds the operation to a delta.
@@ -54,19 +88,20 @@ fn shown(
     followed: Followed,
     delta: &Knowledge,
 ) -> Result<Followed, anyhow::Error> {
-    let Taken {
-        followed,
-        edits,
-        keys,
-    } = followed.take_in(rt.alloc(), delta)?;
+    let taken = followed.take_in(rt.alloc(), delta)?;
+    show(rt, &taken)?;
+    Ok(taken.followed)
+}
+
+fn show(rt: &HostRuntime, taken: &Taken) -> Result<(), anyhow::Error> {
     println!(rt; "delta")?;
-    for edit in edits {
+    for edit in &taken.edits {
         println!(rt; "{edit:?}")?;
     }
-    for key in keys {
+    for key in &taken.keys {
         println!(rt; "{key:?}")?;
     }
-    Ok(followed)
+    Ok(())
 }
 
 // Takes the delta in, and prints how long that took, beside building the network anew.
@@ -75,13 +110,28 @@ fn timed(
     followed: Followed,
     delta: &Knowledge,
 ) -> Result<Followed, anyhow::Error> {
+    let (followed, edits, took) = taken_in(rt, followed, delta)?;
+    let (arcs, built) = built(rt, &followed)?;
+    println!(rt; "{edits} edits in {took} ns, {arcs} arcs built in {built} ns")?;
+    Ok(followed)
+}
+
+// How many edits taking the delta in comes to, and how many nanoseconds it took.
+fn taken_in(
+    rt: &HostRuntime,
+    followed: Followed,
+    delta: &Knowledge,
+) -> Result<(Followed, usize, u128), anyhow::Error> {
     let begun = Instant::now(rt)?;
     let taken = followed.take_in(rt.alloc(), delta)?;
     let took = begun.elapsed(rt)?.as_nanos();
+    Ok((taken.followed, taken.edits.len(), took))
+}
+
+// How many arcs the network has, and how many nanoseconds it took to build it anew.
+fn built(rt: &HostRuntime, followed: &Followed) -> Result<(usize, u128), anyhow::Error> {
     let begun = Instant::now(rt)?;
-    let network = taken.followed.built(rt.alloc())?;
-    let built = begun.elapsed(rt)?.as_nanos();
-    let (edits, arcs) = (taken.edits.len(), network.arcs_len());
-    println!(rt; "{edits} edits in {took} ns, {arcs} arcs built in {built} ns")?;
-    Ok(taken.followed)
+    let network = followed.built(rt.alloc())?;
+    let took = begun.elapsed(rt)?.as_nanos();
+    Ok((network.arcs_len(), took))
 }
