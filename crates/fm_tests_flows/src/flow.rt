@@ -5,7 +5,7 @@ ghost use Rattle.std.specs.Prelude.{IsTrue, IfOk};
 ghost use Rattle.fm_numbered.specs.Feasible.{IsFlowOf};
 ghost use Rattle.fm_numbered.specs.Unscheduled.{all_unscheduled};
 
-use crate::networks::put;
+use crate::networks::{Laid, lay, network_of};
 use crate::round::{job as known_job, knowing, machine as known_machine, spec};
 use fm_certificate::cost::cost;
 use fm_cycles::search::{Found, search};
@@ -28,74 +28,44 @@ use std::alloc::Global;
 use std::test::Fail;
 
 // A job with its live tasks.
-fn job(network: &mut Network, job: u128, live: u64) -> Result<(), OutOfMemory> {
-    put(
-        network,
-        Node::Unscheduled(JobId::new(job)),
-        Node::Sink,
-        live,
-        0,
-    )
+fn job(job: u128, live: u64) -> Laid {
+    (Node::Unscheduled(JobId::new(job)), Node::Sink, live, 0)
 }
 
 // A machine with its slots.
-fn machine(network: &mut Network, machine: u128, slots: u64) -> Result<(), OutOfMemory> {
-    put(
-        network,
-        Node::Machine(MachineId::new(machine)),
-        Node::Sink,
-        slots,
-        0,
-    )
+fn machine(machine: u128, slots: u64) -> Laid {
+    (Node::Machine(MachineId::new(machine)), Node::Sink, slots, 0)
 }
 
 // A request with room for some tasks on a machine with a load.
-fn room(
-    network: &mut Network,
-    request: u16,
-    machine: u128,
-    fits: u64,
-    load: u16,
-) -> Result<(), OutOfMemory> {
+fn room(request: u16, machine: u128, fits: u64, load: u16) -> Laid {
     let request = u32::from(request);
     let cost = request + u32::from(load);
     let machine = Node::Machine(MachineId::new(machine));
-    put(network, Node::Request(request), machine, fits, cost)
+    (Node::Request(request), machine, fits, cost)
 }
 
 // A task's arc to its job.
-fn waits(network: &mut Network, task: u128, job: u128, cost: u16) -> Result<(), OutOfMemory> {
+fn waits(task: u128, job: u128, cost: u16) -> Laid {
     let job = Node::Unscheduled(JobId::new(job));
-    put(
-        network,
-        Node::Task(TaskId::new(task)),
-        job,
-        1,
-        u32::from(cost),
-    )
+    (Node::Task(TaskId::new(task)), job, 1, u32::from(cost))
 }
 
 // A task's arc to its request.
-fn asks(network: &mut Network, task: u128, request: u16) -> Result<(), OutOfMemory> {
+fn asks(task: u128, request: u16) -> Laid {
     let request = Node::Request(u32::from(request));
-    put(network, Node::Task(TaskId::new(task)), request, 1, 0)
+    (Node::Task(TaskId::new(task)), request, 1, 0)
 }
 
 // A task's arc to a machine that it prefers, or that holds it.
-fn goes(network: &mut Network, task: u128, machine: u128, cost: u16) -> Result<(), OutOfMemory> {
+fn goes(task: u128, machine: u128, cost: u16) -> Laid {
     let machine = Node::Machine(MachineId::new(machine));
-    put(
-        network,
-        Node::Task(TaskId::new(task)),
-        machine,
-        1,
-        u32::from(cost),
-    )
+    (Node::Task(TaskId::new(task)), machine, 1, u32::from(cost))
 }
 
 // A task's arc to the machine that holds it.
-fn held(network: &mut Network, task: u128, machine: u128) -> Result<(), OutOfMemory> {
-    goes(network, task, machine, 0)
+fn held(task: u128, machine: u128) -> Laid {
+    goes(task, machine, 0)
 }
 
 // What the units cost.
@@ -156,75 +126,67 @@ fn both_cost(alloc: Global, network: &Network, want: Option<u128>) -> Result<boo
     Ok(first.is_some() && first == last && (want.is_none() || first == want))
 }
 
-// One waiting task that asks for so much, and one machine with room for it, or none.
-fn one_task(
-    alloc: Global,
-    request: u16,
-    wait: u16,
-    load: Option<u16>,
-) -> Result<Network, OutOfMemory> {
-    let mut network = Network::new(alloc)?;
-    job(&mut network, 1, 1)?;
-    machine(&mut network, 10, 2)?;
-    waits(&mut network, 17, 1, wait)?;
-    asks(&mut network, 17, request)?;
-    if let Some(load) = load {
-        room(&mut network, request, 10, 2, load)?;
-    }
-    Ok(network)
+// One waiting task that asks for so much, and one machine with room for it, or none: a load, or no room.
+fn one_task(request: u16, wait: u16, load: Option<u16>) -> [Laid; 5] {
+    let (fits, load) = match load {
+        Some(load) => (2, load),
+        None => (0, 0),
+    };
+    [
+        job(1, 1),
+        machine(10, 2),
+        waits(17, 1, wait),
+        asks(17, request),
+        room(request, 10, fits, load),
+    ]
 }
 
 // A task that its machine holds.
-fn one_held(alloc: Global) -> Result<Network, OutOfMemory> {
-    let mut network = Network::new(alloc)?;
-    job(&mut network, 1, 1)?;
-    machine(&mut network, 10, 2)?;
-    waits(&mut network, 17, 1, 800)?;
-    held(&mut network, 17, 10)?;
-    Ok(network)
+fn one_held() -> [Laid; 4] {
+    [job(1, 1), machine(10, 2), waits(17, 1, 800), held(17, 10)]
 }
 
 // A task that asks for nothing waits for the only slot, whose task is cheap to preempt.
-fn contended(alloc: Global) -> Result<Network, OutOfMemory> {
-    let mut network = Network::new(alloc)?;
-    job(&mut network, 1, 2)?;
-    machine(&mut network, 10, 1)?;
-    waits(&mut network, 17, 1, 80)?;
-    held(&mut network, 17, 10)?;
-    waits(&mut network, 18, 1, 500)?;
-    asks(&mut network, 18, 0)?;
-    room(&mut network, 0, 10, 1, 100)?;
-    Ok(network)
+fn contended() -> [Laid; 7] {
+    [
+        job(1, 2),
+        machine(10, 1),
+        waits(17, 1, 80),
+        held(17, 10),
+        waits(18, 1, 500),
+        asks(18, 0),
+        room(0, 10, 1, 100),
+    ]
 }
 
 // Two requests on one machine.
-fn two_requests(alloc: Global) -> Result<Network, OutOfMemory> {
-    let mut network = Network::new(alloc)?;
-    job(&mut network, 1, 2)?;
-    machine(&mut network, 10, 2)?;
-    waits(&mut network, 17, 1, 700)?;
-    asks(&mut network, 17, 600)?;
-    waits(&mut network, 18, 1, 700)?;
-    asks(&mut network, 18, 500)?;
-    room(&mut network, 600, 10, 1, 0)?;
-    room(&mut network, 500, 10, 2, 0)?;
-    Ok(network)
+fn two_requests() -> [Laid; 8] {
+    [
+        job(1, 2),
+        machine(10, 2),
+        waits(17, 1, 700),
+        asks(17, 600),
+        waits(18, 1, 700),
+        asks(18, 500),
+        room(600, 10, 1, 0),
+        room(500, 10, 2, 0),
+    ]
 }
 
 // The smaller request comes first to the cheap machine, and moves to the dearer for the greater one.
-fn moved_aside(alloc: Global) -> Result<Network, OutOfMemory> {
-    let mut network = Network::new(alloc)?;
-    job(&mut network, 1, 2)?;
-    machine(&mut network, 10, 1)?;
-    machine(&mut network, 11, 1)?;
-    waits(&mut network, 17, 1, 900)?;
-    asks(&mut network, 17, 100)?;
-    waits(&mut network, 18, 1, 800)?;
-    asks(&mut network, 18, 200)?;
-    room(&mut network, 100, 10, 1, 0)?;
-    room(&mut network, 100, 11, 1, 30)?;
-    room(&mut network, 200, 10, 1, 0)?;
-    Ok(network)
+fn moved_aside() -> [Laid; 10] {
+    [
+        job(1, 2),
+        machine(10, 1),
+        machine(11, 1),
+        waits(17, 1, 900),
+        asks(17, 100),
+        waits(18, 1, 800),
+        asks(18, 200),
+        room(100, 10, 1, 0),
+        room(100, 11, 1, 30),
+        room(200, 10, 1, 0),
+    ]
 }
 
 // The next drawn number, below 100.
@@ -239,10 +201,10 @@ fn draw(seed: &mut u64) -> u16 {
 fn drawn_machine(network: &mut Network, seed: &mut u64, number: u128) -> Result<(), OutOfMemory> {
     let slots = u64::from(draw(seed) % 5 + 1);
     let load = draw(seed);
-    machine(network, number, slots)?;
+    lay(network, &machine(number, slots))?;
     for request in [0, 20, 50] {
         let fits = u64::from(draw(seed) % 6);
-        room(network, request, number, fits.min(slots), load)?;
+        lay(network, &room(request, number, fits.min(slots), load))?;
     }
     Ok(())
 }
@@ -250,13 +212,14 @@ fn drawn_machine(network: &mut Network, seed: &mut u64, number: u128) -> Result<
 // A task of a drawn job, which waits or is held.
 fn drawn_task(network: &mut Network, seed: &mut u64, number: u128) -> Result<(), OutOfMemory> {
     let job = u128::from(draw(seed) % 3);
-    waits(network, number, job, draw(seed).wrapping_mul(2))?;
-    match draw(seed) {
-        0..20 => held(network, number, u128::from(draw(seed) % 8)),
-        20..40 => asks(network, number, 0),
-        40..70 => asks(network, number, 20),
-        _ => asks(network, number, 50),
-    }
+    lay(network, &waits(number, job, draw(seed).wrapping_mul(2)))?;
+    let goes = match draw(seed) {
+        0..20 => held(number, u128::from(draw(seed) % 8)),
+        20..40 => asks(number, 0),
+        40..70 => asks(number, 20),
+        _ => asks(number, 50),
+    };
+    lay(network, &goes)
 }
 
 // A network of three jobs, and of so many machines and tasks.
@@ -264,7 +227,7 @@ fn drawn(alloc: Global, first: u64, machines: u64, tasks: u64) -> Result<Network
     let mut network = Network::new(alloc)?;
     let mut seed = first;
     for number in 0..3u64 {
-        job(&mut network, u128::from(number), tasks)?;
+        lay(&mut network, &job(u128::from(number), tasks))?;
     }
     for number in 0..machines {
         drawn_machine(&mut network, &mut seed, u128::from(number))?;
@@ -275,25 +238,32 @@ fn drawn(alloc: Global, first: u64, machines: u64, tasks: u64) -> Result<Network
     Ok(network)
 }
 
-#[test]
-fn small_networks_are_solved(rt: HostRuntime) -> Result<(), Fail> {
-    let alloc = rt.alloc();
-    assert!(rt; both_cost(alloc, &Network::new(alloc)?, Some(0))?);
-    assert!(rt; both_cost(alloc, &one_task(alloc, 100, 500, Some(0))?, Some(100))?);
-    assert!(rt; both_cost(alloc, &one_task(alloc, 100, 100, Some(0))?, Some(100))?);
-    assert!(rt; both_cost(alloc, &one_task(alloc, 100, 500, None)?, Some(500))?);
-    assert!(rt; both_cost(alloc, &one_task(alloc, 0, 500, Some(40))?, Some(40))?);
-    assert!(rt; both_cost(alloc, &one_held(alloc)?, Some(0))?);
-    Ok(())
+// Whether both ways end at this cost.
+fn is_solved(alloc: Global, arcs: &[Laid], want: u128) -> Result<bool, OutOfMemory> {
+    let network = network_of(alloc, arcs)?;
+    both_cost(alloc, &network, Some(want))
 }
 
 #[test]
-fn contended_slots_are_solved(rt: HostRuntime) -> Result<(), Fail> {
-    let alloc = rt.alloc();
-    assert!(rt; both_cost(alloc, &contended(alloc)?, Some(180))?);
-    assert!(rt; both_cost(alloc, &two_requests(alloc)?, Some(1100))?);
-    assert!(rt; both_cost(alloc, &moved_aside(alloc)?, Some(330))?);
-    Ok(())
+fn small_networks_are_solved(rt: HostRuntime) {
+    assert_eq!(rt; is_solved(rt.alloc(), &[], 0), Ok(true));
+    assert_eq!(rt; is_solved(rt.alloc(), &one_held(), 0), Ok(true));
+    for (request, wait, load, want) in [
+        (100, 500, Some(0), 100),
+        (100, 100, Some(0), 100),
+        (100, 500, None, 500),
+        (0, 500, Some(40), 40),
+    ] {
+        let arcs = one_task(request, wait, load);
+        assert_eq!(rt; is_solved(rt.alloc(), &arcs, want), Ok(true));
+    }
+}
+
+#[test]
+fn contended_slots_are_solved(rt: HostRuntime) {
+    assert_eq!(rt; is_solved(rt.alloc(), &contended(), 180), Ok(true));
+    assert_eq!(rt; is_solved(rt.alloc(), &two_requests(), 1100), Ok(true));
+    assert_eq!(rt; is_solved(rt.alloc(), &moved_aside(), 330), Ok(true));
 }
 
 #[test]
@@ -327,7 +297,8 @@ fn drawn_preferring(
         for _ in 0..draw(&mut seed) % 4 {
             let machine = u64::from(draw(&mut seed)) % machines.max(1);
             let cost = draw(&mut seed);
-            goes(&mut network, u128::from(number), u128::from(machine), cost)?;
+            let arc = goes(u128::from(number), u128::from(machine), cost);
+            lay(&mut network, &arc)?;
         }
     }
     Ok(network)
@@ -343,19 +314,28 @@ fn pivoted(alloc: Global, network: &Network) -> Result<Option<u128>, OutOfMemory
     Ok(is_least.then_some(total(&numbered, &units)))
 }
 
+// The same of the network of these arcs.
+fn pivoted_on(alloc: Global, arcs: &[Laid]) -> Result<Option<u128>, OutOfMemory> {
+    let network = network_of(alloc, arcs)?;
+    pivoted(alloc, &network)
+}
+
+// Whether it ends at a least flow of a drawn network, which costs what cancelling comes to.
+fn is_pivoted(alloc: Global, seed: u64) -> Result<bool, OutOfMemory> {
+    let network = drawn_preferring(alloc, seed, 8, 40)?;
+    let cost = pivoted(alloc, &network)?;
+    Ok(cost.is_some() && cost == cancelled(alloc, &network)?)
+}
+
 #[test]
-fn the_simplex_ends_at_a_least_flow(rt: HostRuntime) -> Result<(), Fail> {
-    let alloc = rt.alloc();
-    assert!(rt; pivoted(alloc, &Network::new(alloc)?)? == Some(0));
-    assert!(rt; pivoted(alloc, &one_held(alloc)?)? == Some(0));
-    assert!(rt; pivoted(alloc, &contended(alloc)?)? == Some(180));
-    assert!(rt; pivoted(alloc, &moved_aside(alloc)?)? == Some(330));
+fn the_simplex_ends_at_a_least_flow(rt: HostRuntime) {
+    assert_eq!(rt; pivoted_on(rt.alloc(), &[]), Ok(Some(0)));
+    assert_eq!(rt; pivoted_on(rt.alloc(), &one_held()), Ok(Some(0)));
+    assert_eq!(rt; pivoted_on(rt.alloc(), &contended()), Ok(Some(180)));
+    assert_eq!(rt; pivoted_on(rt.alloc(), &moved_aside()), Ok(Some(330)));
     for seed in 1..=8u64 {
-        let network = drawn_preferring(alloc, seed, 8, 40)?;
-        let cost = pivoted(alloc, &network)?;
-        assert!(rt; cost.is_some() && cost == cancelled(alloc, &network)?);
+        assert_eq!(rt; is_pivoted(rt.alloc(), seed), Ok(true));
     }
-    Ok(())
 }
 
 // Whether an earlier flow that is least is kept as it is, and one of other units comes to no other cost.
@@ -386,14 +366,17 @@ fn earlier_flows_are_taken_over(rt: HostRuntime) -> Result<(), Fail> {
     Ok(())
 }
 
-// Whether a flow that places few of the tasks is not taken over.
-#[test]
-fn a_flow_of_few_tasks_is_not_taken_over(rt: HostRuntime) -> Result<(), Fail> {
-    let alloc = rt.alloc();
-    let numbered = Numbered::of(alloc, &drawn(alloc, 1, 60, 40)?)?;
+// Whether a flow that places few of the tasks is taken over.
+fn is_resumed(alloc: Global) -> Result<bool, OutOfMemory> {
+    let network = drawn(alloc, 1, 60, 40)?;
+    let numbered = Numbered::of(alloc, &network)?;
     let none = vec![in alloc; 0u64; numbered.arcs.len()]?;
-    assert!(rt; resume(alloc, &numbered, &none)?.is_none());
-    Ok(())
+    Ok(resume(alloc, &numbered, &none)?.is_some())
+}
+
+#[test]
+fn a_flow_of_few_tasks_is_not_taken_over(rt: HostRuntime) {
+    assert_eq!(rt; is_resumed(rt.alloc()), Ok(false));
 }
 
 // What a solution of the network of what is known costs that starts from another one.
@@ -405,10 +388,13 @@ fn cost_again(alloc: Global, known: &Knowledge) -> Result<u128, Refusal> {
     Ok(cost(&network, &flow))
 }
 
-#[test]
-fn a_flow_is_solved_from_an_earlier_one(rt: HostRuntime) -> Result<(), Fail> {
+fn cost_of_one(alloc: Global) -> Result<u128, Refusal> {
     let ops = [known_job(500, 800), known_machine(10, 2), spec(17, 100)];
-    let known = knowing(rt.alloc(), &ops)?;
-    assert_eq!(rt; cost_again(rt.alloc(), &known)?, 100);
-    Ok(())
+    let known = knowing(alloc, &ops)?;
+    cost_again(alloc, &known)
+}
+
+#[test]
+fn a_flow_is_solved_from_an_earlier_one(rt: HostRuntime) {
+    assert_eq!(rt; cost_of_one(rt.alloc()), Ok(100));
 }

@@ -1,4 +1,4 @@
-//! Arcs of networks that are made by hand.
+//! Networks that are made by hand.
 
 ghost use Rattle.std.specs.Prelude.{IsTrue};
 ghost use Rattle.fm_net.specs.Net.{IsArcKind};
@@ -7,6 +7,10 @@ ghost use Rattle.fm_net.specs.Nodes.{IsRequestInRange};
 use fm_lattice::join::OutOfMemory;
 use fm_net::network::Network;
 use fm_net::node::Node;
+use std::alloc::Global;
+
+/// An arc between two nodes, with its capacity and its cost.
+pub(crate) type Laid = (Node, Node, u64, u32);
 
 // Whether an arc may join the nodes.
 fn may_join(from: &Node, to: &Node) -> bool
@@ -25,13 +29,8 @@ fn may_join(from: &Node, to: &Node) -> bool
 }
 
 /// Puts the arc with its ends, if it may be.
-pub(crate) fn put(
-    network: &mut Network,
-    from: Node,
-    to: Node,
-    capacity: u64,
-    cost: u32,
-) -> Result<(), OutOfMemory> {
+pub(crate) fn lay(network: &mut Network, arc: &Laid) -> Result<(), OutOfMemory> {
+    let (from, to, capacity, cost) = *arc;
     if !may_join(&from, &to) || capacity == 0 || cost > 1_000_000_000 {
         return Ok(());
     }
@@ -39,4 +38,13 @@ pub(crate) fn put(
     network.put_node(to)?;
     network.put_arc(from, to, capacity, cost)?;
     Ok(())
+}
+
+/// The network of those of the arcs that may be, with their ends.
+pub(crate) fn network_of(alloc: Global, arcs: &[Laid]) -> Result<Network, OutOfMemory> {
+    let mut network = Network::new(alloc)?;
+    for arc in arcs {
+        lay(&mut network, arc)?;
+    }
+    Ok(network)
 }

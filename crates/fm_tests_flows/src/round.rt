@@ -6,13 +6,13 @@ use fm_net::node::Node;
 use fm_records::ids::{CoordId, JobId, MachineId, TaskId};
 use fm_records::ops::{Op, Phase};
 use fm_records::prefer::Prefer;
+use fm_records::refusal::Refusal;
 use fm_round::admission::admit;
 use fm_round::listed::Listed;
 use fm_round::parts::{Admitted, Answer, Place, Plan, Preempt, Stop};
 use fm_round::planning::plan_of;
 use fm_round::stopping::stops;
 use std::alloc::Global;
-use std::test::Fail;
 
 const JOB: u128 = 0x1;
 
@@ -102,22 +102,25 @@ fn unscheduled() -> Node
     Node::Unscheduled(JobId::new(JOB))
 }
 
-fn coordinator(number: u8) -> Result<CoordId, Fail> {
-    Ok(CoordId::new(number).ok_or("no coordinator")?)
+// The functions below have no contract: the tests are of what is answered, and proofs of them stay short. Each holds few values
+// where it may be refused: a proof looks at what is let go at each refusal.
+
+fn coordinator(number: u8) -> Result<CoordId, Refusal> {
+    CoordId::new(number).ok_or(Refusal::NoCoordinator)
 }
 
-// The functions below have no contract: the tests are of what is answered, and proofs of them stay short.
-
-fn delta(alloc: Global, op: &Op) -> Result<Knowledge, Fail> {
+fn delta(alloc: Global, op: &Op) -> Result<Knowledge, Refusal> {
     op.check()?;
-    Ok(Knowledge::delta_of(alloc, op)?)
+    let delta = Knowledge::delta_of(alloc, op)?;
+    Ok(delta)
 }
 
-fn join(known: &mut Knowledge, other: &Knowledge) -> Result<(), Fail> {
-    Ok(known.join_into(other)?)
+fn join(known: &mut Knowledge, other: &Knowledge) -> Result<(), Refusal> {
+    known.join_into(other)?;
+    Ok(())
 }
 
-fn tell(alloc: Global, known: &mut Knowledge, ops: &[Op]) -> Result<(), Fail> {
+fn tell(alloc: Global, known: &mut Knowledge, ops: &[Op]) -> Result<(), Refusal> {
     for op in ops {
         let delta = delta(alloc, op)?;
         join(known, &delta)?;
@@ -125,100 +128,125 @@ fn tell(alloc: Global, known: &mut Knowledge, ops: &[Op]) -> Result<(), Fail> {
     Ok(())
 }
 
-pub(crate) fn knowing(alloc: Global, ops: &[Op]) -> Result<Knowledge, Fail> {
+pub(crate) fn knowing(alloc: Global, ops: &[Op]) -> Result<Knowledge, Refusal> {
     let mut known = Knowledge::empty(alloc);
     tell(alloc, &mut known, ops)?;
     Ok(known)
 }
 
 // The job, both machines and the first task, and more.
-fn usual(alloc: Global, more: &[Op]) -> Result<Knowledge, Fail> {
+fn usual(alloc: Global, more: &[Op]) -> Result<Knowledge, Refusal> {
     let ops = [
         job(500, 800),
         machine(A, 2),
         machine(B, 2),
         spec(FIRST, 100),
     ];
-    let mut known = knowing(alloc, ops.as_slice())?;
+    let mut known = knowing(alloc, &ops)?;
     tell(alloc, &mut known, more)?;
     Ok(known)
 }
 
-fn stops_of(alloc: Global, known: &Knowledge, number: u8) -> Result<Vec<Stop>, Fail> {
-    Ok(stops(alloc, known, coordinator(number)?)?)
+fn stops_of(alloc: Global, known: &Knowledge, number: u8) -> Result<Vec<Stop>, Refusal> {
+    let number = coordinator(number)?;
+    let stops = stops(alloc, known, number)?;
+    Ok(stops)
 }
 
-fn admitted(alloc: Global, known: &Knowledge, number: u8, plan: &Plan) -> Result<Admitted, Fail> {
-    Ok(admit(alloc, known, coordinator(number)?, plan)?)
+// How many stops there are, and the machine of the first.
+fn stopped(alloc: Global, more: &[Op], number: u8) -> Result<(usize, Option<u128>), Refusal> {
+    let known = usual(alloc, more)?;
+    let stops = stops_of(alloc, &known, number)?;
+    let first = match stops.first() {
+        Some(stop) => Some(stop.machine.value()),
+        None => None,
+    };
+    Ok((stops.len(), first))
 }
 
-fn placing(alloc: Global, known: &Knowledge, number: u8, place: Place) -> Result<Admitted, Fail> {
-    let plan = Plan {
+fn admitted(
+    alloc: Global,
+    known: &Knowledge,
+    number: u8,
+    plan: &Plan,
+) -> Result<Admitted, Refusal> {
+    let number = coordinator(number)?;
+    let admitted = admit(alloc, known, number, plan)?;
+    Ok(admitted)
+}
+
+fn placing(alloc: Global, place: Place) -> Result<Plan, Refusal> {
+    Ok(Plan {
         places: Listed::new([place].to_vec(alloc)?),
         preempts: Listed::new(Vec::new(alloc)),
-    };
-    admitted(alloc, known, number, &plan)
+    })
 }
 
-fn preempting(alloc: Global, known: &Knowledge, preempt: Preempt) -> Result<Admitted, Fail> {
-    let plan = Plan {
+fn preempting(alloc: Global, preempt: Preempt) -> Result<Plan, Refusal> {
+    Ok(Plan {
         places: Listed::new(Vec::new(alloc)),
         preempts: Listed::new([preempt].to_vec(alloc)?),
+    })
+}
+
+// The only answer, and how many operations there are.
+type Judged = (Option<Answer>, usize);
+
+fn judged(alloc: Global, known: &Knowledge, number: u8, plan: &Plan) -> Result<Judged, Refusal> {
+    let admitted = admitted(alloc, known, number, plan)?;
+    let answer = match admitted.answers.as_slice() {
+        [answer] => Some(*answer),
+        _ => None,
     };
-    admitted(alloc, known, 1, &plan)
+    Ok((answer, admitted.ops.as_slice().len()))
 }
 
-// Whether these are the answers, with as many operations.
-fn came_to(admitted: &Admitted, answers: &[Answer], ops: usize) -> bool {
-    admitted.answers.as_slice() == answers && admitted.ops.as_slice().len() == ops
+// What is answered to a coordinator that places so, after more than the usual.
+fn placed(alloc: Global, more: &[Op], number: u8, place: Place) -> Result<Judged, Refusal> {
+    let known = usual(alloc, more)?;
+    let plan = placing(alloc, place)?;
+    judged(alloc, &known, number, &plan)
 }
 
-#[test]
-fn the_entry_that_lost_is_a_stop(rt: HostRuntime) -> Result<(), Fail> {
-    let known = usual(
-        rt.alloc(),
-        [propose(0, 2, B, 1), propose(0, 1, A, 1)].as_slice(),
-    )?;
-    assert_eq!(rt; stops_of(rt.alloc(), &known, 1)?.len(), 0);
-    let lost = stops_of(rt.alloc(), &known, 2)?;
-    assert_eq!(rt; lost.len(), 1);
-    assert_eq!(rt; lost[0].machine.value(), B);
-    Ok(())
+// What is answered to the first coordinator, which preempts so, after more than the usual.
+fn preempted(alloc: Global, more: &[Op], preempt: Preempt) -> Result<Judged, Refusal> {
+    let known = usual(alloc, more)?;
+    let plan = preempting(alloc, preempt)?;
+    judged(alloc, &known, 1, &plan)
 }
 
 #[test]
-fn a_stale_winner_is_passed_over(rt: HostRuntime) -> Result<(), Fail> {
-    let known = usual(rt.alloc(), [propose(0, 1, B, 2)].as_slice())?;
-    let outcome = placing(rt.alloc(), &known, 1, place(FIRST, 1))?;
-    assert!(rt; came_to(&outcome, [Answer::Accepted].as_slice(), 2));
-    let contested = usual(
-        rt.alloc(),
-        [propose(0, 1, B, 2), propose(1, 1, B, 1)].as_slice(),
-    )?;
-    let outcome = placing(rt.alloc(), &contested, 2, place(FIRST, 1))?;
-    assert!(rt; came_to(&outcome, [Answer::Contested].as_slice(), 0));
-    Ok(())
+fn the_entry_that_lost_is_a_stop(rt: HostRuntime) {
+    let both = [propose(0, 2, B, 1), propose(0, 1, A, 1)];
+    assert_eq!(rt; stopped(rt.alloc(), &both, 1), Ok((0, None)));
+    assert_eq!(rt; stopped(rt.alloc(), &both, 2), Ok((1, Some(B))));
 }
 
 #[test]
-fn a_held_task_is_judged_by_its_rules(rt: HostRuntime) -> Result<(), Fail> {
-    let known = usual(
-        rt.alloc(),
-        [propose(0, 1, A, 1), propose(1, 1, B, 1)].as_slice(),
-    )?;
-    let contested = preempting(rt.alloc(), &known, preempt(0))?;
-    assert!(rt; came_to(&contested, [Answer::Contested].as_slice(), 0));
-    let gone = preempting(rt.alloc(), &known, preempt(1))?;
-    assert!(rt; came_to(&gone, [Answer::Gone].as_slice(), 0));
-    let held = placing(rt.alloc(), &known, 1, place(FIRST, 1))?;
-    assert!(rt; came_to(&held, [Answer::Held].as_slice(), 0));
-    let elsewhere = placing(rt.alloc(), &known, 1, place(FIRST, 2))?;
-    assert!(rt; came_to(&elsewhere, [Answer::Gone].as_slice(), 0));
-    Ok(())
+fn a_stale_winner_is_passed_over(rt: HostRuntime) {
+    let stale = [propose(0, 1, B, 2)];
+    let outcome = placed(rt.alloc(), &stale, 1, place(FIRST, 1));
+    assert_eq!(rt; outcome, Ok((Some(Answer::Accepted), 2)));
+    let contested = [propose(0, 1, B, 2), propose(1, 1, B, 1)];
+    let outcome = placed(rt.alloc(), &contested, 2, place(FIRST, 1));
+    assert_eq!(rt; outcome, Ok((Some(Answer::Contested), 0)));
 }
 
 #[test]
-fn the_last_attempt_is_spent(rt: HostRuntime) -> Result<(), Fail> {
+fn a_held_task_is_judged_by_its_rules(rt: HostRuntime) {
+    let ops = [propose(0, 1, A, 1), propose(1, 1, B, 1)];
+    for (attempt, answer) in [(0, Answer::Contested), (1, Answer::Gone)] {
+        let outcome = preempted(rt.alloc(), &ops, preempt(attempt));
+        assert_eq!(rt; outcome, Ok((Some(answer), 0)));
+    }
+    for (incarnation, answer) in [(1, Answer::Held), (2, Answer::Gone)] {
+        let outcome = placed(rt.alloc(), &ops, 1, place(FIRST, incarnation));
+        assert_eq!(rt; outcome, Ok((Some(answer), 0)));
+    }
+}
+
+// What is answered where the last attempt runs.
+fn placed_last(alloc: Global) -> Result<Judged, Refusal> {
     let progress = Op::Progress {
         id: TaskId::new(FIRST),
         attempt: 4_294_967_295,
@@ -231,14 +259,26 @@ fn the_last_attempt_is_spent(rt: HostRuntime) -> Result<(), Fail> {
         progress,
         propose(4_294_967_295, 1, B, 1),
     ];
-    let known = knowing(rt.alloc(), ops.as_slice())?;
-    let outcome = placing(rt.alloc(), &known, 1, place(FIRST, 1))?;
-    assert!(rt; came_to(&outcome, [Answer::AttemptsSpent].as_slice(), 0));
-    Ok(())
+    let known = knowing(alloc, &ops)?;
+    let plan = placing(alloc, place(FIRST, 1))?;
+    judged(alloc, &known, 1, &plan)
+}
+
+#[test]
+fn the_last_attempt_is_spent(rt: HostRuntime) {
+    assert_eq!(rt;
+        placed_last(rt.alloc()),
+        Ok((Some(Answer::AttemptsSpent), 0))
+    );
+}
+
+// Whether these are the answers, with as many operations.
+fn came_to(admitted: &Admitted, answers: &[Answer], ops: usize) -> bool {
+    admitted.answers.as_slice() == answers && admitted.ops.as_slice().len() == ops
 }
 
 // The plan of a flow that places both tasks on the machine.
-fn both_placed(alloc: Global, known: &Knowledge) -> Result<Plan, Fail> {
+fn both_placed(alloc: Global, known: &Knowledge) -> Result<Plan, Refusal> {
     let flow = [
         ((Node::Request(500), on_a()), 1),
         ((Node::Request(600), on_a()), 1),
@@ -246,27 +286,39 @@ fn both_placed(alloc: Global, known: &Knowledge) -> Result<Plan, Fail> {
         ((task(FIRST), Node::Request(600)), 1),
         ((task(SECOND), Node::Request(500)), 1),
     ];
-    Ok(plan_of(alloc, flow.as_slice(), known)?)
+    let plan = plan_of(alloc, flow.as_slice(), known)?;
+    Ok(plan)
 }
 
-#[test]
-fn the_second_task_finds_no_room(rt: HostRuntime) -> Result<(), Fail> {
+// How many places a plan of both tasks has, and whether the second finds no room.
+fn both_admitted(alloc: Global, known: &Knowledge) -> Result<(usize, bool), Refusal> {
+    let plan = both_placed(alloc, known)?;
+    let outcome = admitted(alloc, known, 1, &plan)?;
+    let expected = [Answer::Accepted, Answer::NoRoom];
+    Ok((
+        plan.places.as_slice().len(),
+        came_to(&outcome, &expected, 1),
+    ))
+}
+
+fn second_finds_no_room(alloc: Global) -> Result<(usize, bool), Refusal> {
     let ops = [
         job(700, 800),
         machine(A, 2),
         spec(FIRST, 600),
         spec(SECOND, 500),
     ];
-    let known = knowing(rt.alloc(), ops.as_slice())?;
-    let plan = both_placed(rt.alloc(), &known)?;
-    assert_eq!(rt; plan.places.as_slice().len(), 2);
-    let outcome = admitted(rt.alloc(), &known, 1, &plan)?;
-    assert!(rt; came_to(&outcome, [Answer::Accepted, Answer::NoRoom].as_slice(), 1));
-    Ok(())
+    let known = knowing(alloc, &ops)?;
+    both_admitted(alloc, &known)
+}
+
+#[test]
+fn the_second_task_finds_no_room(rt: HostRuntime) {
+    assert_eq!(rt; second_finds_no_room(rt.alloc()), Ok((2, true)));
 }
 
 // The plan of a flow that leaves the first task unscheduled and places the second.
-fn second_placed(alloc: Global, known: &Knowledge) -> Result<Plan, Fail> {
+fn second_placed(alloc: Global, known: &Knowledge) -> Result<Plan, Refusal> {
     let flow = [
         ((unscheduled(), Node::Sink), 1),
         ((Node::Request(0), on_a()), 1),
@@ -274,11 +326,32 @@ fn second_placed(alloc: Global, known: &Knowledge) -> Result<Plan, Fail> {
         ((task(FIRST), unscheduled()), 1),
         ((task(SECOND), Node::Request(0)), 1),
     ];
-    Ok(plan_of(alloc, flow.as_slice(), known)?)
+    let plan = plan_of(alloc, flow.as_slice(), known)?;
+    Ok(plan)
 }
 
-#[test]
-fn a_dear_task_takes_the_place_of_a_cheap_one(rt: HostRuntime) -> Result<(), Fail> {
+// How many tasks such a plan preempts, and what came of it.
+fn second_admitted(alloc: Global, known: &Knowledge) -> Result<(usize, Admitted), Refusal> {
+    let plan = second_placed(alloc, known)?;
+    let admitted = admitted(alloc, known, 1, &plan)?;
+    Ok((plan.preempts.as_slice().len(), admitted))
+}
+
+// What is known after a first round, and whether it has no slot yet for the second task, as the first one is preempted.
+fn first_round(alloc: Global, mut known: Knowledge) -> Result<(Knowledge, bool), Refusal> {
+    let (_, outcome) = second_admitted(alloc, &known)?;
+    tell(alloc, &mut known, outcome.ops.as_slice())?;
+    let expected = [Answer::NoSlot, Answer::Accepted];
+    Ok((known, came_to(&outcome, &expected, 1)))
+}
+
+// How many tasks a next round preempts, and whether the second task is placed.
+fn second_round(alloc: Global, known: &Knowledge) -> Result<(usize, bool), Refusal> {
+    let (preempts, outcome) = second_admitted(alloc, known)?;
+    Ok((preempts, came_to(&outcome, &[Answer::Accepted], 1)))
+}
+
+fn both_rounds(alloc: Global) -> Result<(bool, usize, bool), Refusal> {
     let report = Op::Report {
         id: MachineId::new(A),
         incarnation: 1,
@@ -293,14 +366,12 @@ fn a_dear_task_takes_the_place_of_a_cheap_one(rt: HostRuntime) -> Result<(), Fai
         report,
         propose(0, 1, A, 1),
     ];
-    let mut known = knowing(rt.alloc(), ops.as_slice())?;
-    let plan = second_placed(rt.alloc(), &known)?;
-    let outcome = admitted(rt.alloc(), &known, 1, &plan)?;
-    assert!(rt; came_to(&outcome, [Answer::NoSlot, Answer::Accepted].as_slice(), 1));
-    tell(rt.alloc(), &mut known, outcome.ops.as_slice())?;
-    let next = second_placed(rt.alloc(), &known)?;
-    assert_eq!(rt; next.preempts.as_slice().len(), 0);
-    let outcome = admitted(rt.alloc(), &known, 1, &next)?;
-    assert!(rt; came_to(&outcome, [Answer::Accepted].as_slice(), 1));
-    Ok(())
+    let (known, is_preempted) = first_round(alloc, knowing(alloc, &ops)?)?;
+    let (preempts, is_placed) = second_round(alloc, &known)?;
+    Ok((is_preempted, preempts, is_placed))
+}
+
+#[test]
+fn a_dear_task_takes_the_place_of_a_cheap_one(rt: HostRuntime) {
+    assert_eq!(rt; both_rounds(rt.alloc()), Ok((true, 0, true)));
 }

@@ -18,9 +18,8 @@ use fm_records::ops::{Op, Phase};
 use fm_records::prefer::Prefer;
 use fm_records::refusal::Refusal;
 use fm_round::listed::Listed;
-use fm_round::parts::{Answer, Place, Plan};
+use fm_round::parts::{Admitted, Answer, Place, Plan};
 use std::alloc::Global;
-use std::test::Fail;
 
 fn job() -> Op {
     Op::Job {
@@ -57,132 +56,218 @@ fn task() -> Op {
     }
 }
 
-// The functions below have no contract: the tests are of what is answered, and proofs of them stay short.
+// The functions below have no contract: the tests are of what is answered, and proofs of them stay short. Each may be refused
+// at few places, and holds few values there: a proof looks at what is let go at each.
 
-fn coordinator(alloc: Global, number: u8, limit: usize) -> Result<Coordinator<Rebuilder>, Fail> {
-    let number = CoordId::new(number).ok_or("no such number")?;
-    Ok(Coordinator::new(alloc, number, limit, Rebuilder::new(alloc)?))
+type Node = Coordinator<Rebuilder>;
+
+fn coordinator(alloc: Global, number: u8, limit: usize) -> Result<Node, Refusal> {
+    let Some(number) = CoordId::new(number) else {
+        return Err(Refusal::NoCoordinator);
+    };
+    let keeper = Rebuilder::new(alloc)?;
+    Ok(Coordinator::new(alloc, number, limit, keeper))
 }
 
-fn tell(node: &mut Coordinator<Rebuilder>, op: Op) -> Result<(), Refusal> {
+fn tell(node: &mut Node, op: Op) -> Result<(), Refusal> {
     node.tell(0, op)
 }
 
 // A coordinator that was told of a job, a machine and a task.
-fn three_told(alloc: Global) -> Result<Coordinator<Rebuilder>, Fail> {
+fn three_told(alloc: Global) -> Result<Node, Refusal> {
     let mut node = coordinator(alloc, 1, 100)?;
-    tell(&mut node, job())?;
-    tell(&mut node, machine())?;
-    tell(&mut node, task())?;
+    for op in [job(), machine(), task()] {
+        tell(&mut node, op)?;
+    }
     Ok(node)
 }
 
-fn cut(node: &mut Coordinator<Rebuilder>, range: Range) -> Result<Shared<Packet>, Refusal> {
+fn cut(node: &mut Node, range: Range) -> Result<Shared<Packet>, Refusal> {
     node.cut(0, range)
 }
 
-fn refused(node: &mut Coordinator<Rebuilder>, from: u64, to: u64) -> Option<Refusal> {
-    cut(node, Range::Interval(from, to)).err()
+// What a coordinator is asked for.
+#[derive(Clone, Copy, Drop)]
+enum Asked {
+    View,
+    Cut(u64, u64),
+    Trim(u64),
 }
 
-fn trim(node: &mut Coordinator<Rebuilder>, n: u64) -> Result<(), Refusal> {
-    node.trim(0, n)
+fn ask(node: &mut Node, asked: Asked) -> Result<(), Refusal> {
+    match asked {
+        Asked::View => see(node),
+        Asked::Cut(from, to) => cut_off(node, from, to),
+        Asked::Trim(n) => node.trim(0, n),
+    }
 }
 
-fn view(node: &mut Coordinator<Rebuilder>) -> Result<View, Refusal> {
+fn see(node: &mut Node) -> Result<(), Refusal> {
+    node.view(0)?;
+    Ok(())
+}
+
+fn cut_off(node: &mut Node, from: u64, to: u64) -> Result<(), Refusal> {
+    cut(node, Range::Interval(from, to))?;
+    Ok(())
+}
+
+fn view(node: &mut Node) -> Result<View, Refusal> {
     node.view(0)
 }
 
-#[test]
-fn a_view_shows_what_three_tells_came_to(rt: HostRuntime) -> Result<(), Fail> {
-    let mut node = three_told(rt.alloc())?;
-    assert!(rt; !node.is_fresh());
-    let seen = view(&mut node)?;
-    assert_eq!(rt; seen.at, 3);
-    assert_eq!(rt; seen.network.nodes_len(), 5);
-    assert_eq!(rt; seen.network.arcs_len(), 5);
-    assert_eq!(rt; node.history().len(), 4);
-    assert!(rt; node.is_fresh());
-    Ok(())
+// At which entry a first view is, and of how many nodes and arcs.
+fn seen(node: &mut Node) -> Result<(usize, usize, usize), Refusal> {
+    let seen = view(node)?;
+    Ok((seen.at, seen.network.nodes_len(), seen.network.arcs_len()))
+}
+
+// The same after three tells, with the entries that there are then, and whether the network was fresh before and is now.
+fn seen_after_three(alloc: Global) -> Result<((usize, usize, usize), usize, bool, bool), Refusal> {
+    let mut node = three_told(alloc)?;
+    let was_fresh = node.is_fresh();
+    let seen = seen(&mut node)?;
+    Ok((seen, node.history().len(), was_fresh, node.is_fresh()))
 }
 
 #[test]
-fn cuts_and_trims_within_the_buffer_are_taken(rt: HostRuntime) -> Result<(), Fail> {
-    let mut node = three_told(rt.alloc())?;
-    assert_eq!(rt; refused(&mut node, 3, 3), None);
-    assert_eq!(rt; refused(&mut node, 4, 3), Some(Refusal::BadInterval));
-    assert_eq!(rt; refused(&mut node, 0, 4), Some(Refusal::BadInterval));
-    assert_eq!(rt; trim(&mut node, 2), Ok(()));
-    assert_eq!(rt; refused(&mut node, 1, 3), Some(Refusal::Trimmed(2)));
-    assert_eq!(rt; trim(&mut node, 1), Err(Refusal::BadInterval));
-    assert_eq!(rt; node.floor(), 2);
-    assert_eq!(rt; node.end(), 3);
-    assert_eq!(rt; node.history().len(), 5);
-    Ok(())
+fn a_view_shows_what_three_tells_came_to(rt: HostRuntime) {
+    let seen = seen_after_three(rt.alloc());
+    assert_eq!(rt; seen, Ok(((3, 5, 5), 4, false, true)));
 }
 
-// Whether the two know the same once the second has merged all that the first knows.
-fn agree(
-    first: &mut Coordinator<Rebuilder>,
-    second: &mut Coordinator<Rebuilder>,
-) -> Result<bool, Fail> {
-    let packet = cut(first, Range::Full)?.get().copy()?;
-    second.merge(0, packet)?;
-    Ok(first.knowledge() == second.knowledge())
+// Whether each is answered as is said beside it.
+fn are_answered(node: &mut Node, asked: &[(Asked, Result<(), Refusal>)]) -> bool {
+    for (it, expected) in asked {
+        if ask(node, *it) != *expected {
+            return false;
+        }
+    }
+    true
 }
 
-#[test]
-fn a_full_packet_tells_all(rt: HostRuntime) -> Result<(), Fail> {
-    let mut first = three_told(rt.alloc())?;
-    let mut second = coordinator(rt.alloc(), 2, 100)?;
-    assert!(rt; agree(&mut first, &mut second)?);
-    assert_eq!(rt; second.history().len(), 1);
-    Ok(())
+// Whether cuts and trims are answered so after three tells, and floor, end and entries then.
+fn kept(
+    alloc: Global,
+    asked: &[(Asked, Result<(), Refusal>)],
+) -> Result<(bool, u64, u64, usize), Refusal> {
+    let mut node = three_told(alloc)?;
+    let are_answered = are_answered(&mut node, asked);
+    Ok((are_answered, node.floor(), node.end(), node.history().len()))
 }
 
 #[test]
-fn a_full_history_takes_no_call(rt: HostRuntime) -> Result<(), Fail> {
-    let mut node = coordinator(rt.alloc(), 1, 1)?;
-    assert_eq!(rt; tell(&mut node, job()), Ok(()));
-    assert_eq!(rt; tell(&mut node, task()), Err(Refusal::HistoryFull));
-    assert_eq!(rt; node.history().len(), 1);
-    Ok(())
+fn cuts_and_trims_within_the_buffer_are_taken(rt: HostRuntime) {
+    let asked = [
+        (Asked::Cut(3, 3), Ok(())),
+        (Asked::Cut(4, 3), Err(Refusal::BadInterval)),
+        (Asked::Cut(0, 4), Err(Refusal::BadInterval)),
+        (Asked::Trim(2), Ok(())),
+        (Asked::Cut(1, 3), Err(Refusal::Trimmed(2))),
+        (Asked::Trim(1), Err(Refusal::BadInterval)),
+    ];
+    assert_eq!(rt; kept(rt.alloc(), &asked), Ok((true, 2, 3, 5)));
 }
 
-// The answers to a plan that places the task on the machine.
-fn placed(alloc: Global, node: &mut Coordinator<Rebuilder>) -> Result<Vec<Answer>, Fail> {
+// The coordinator with a packet of all that it knows.
+fn with_packet(mut node: Node) -> Result<(Node, Packet), Refusal> {
+    let shared = cut(&mut node, Range::Full)?;
+    let packet = shared.get().copy()?;
+    Ok((node, packet))
+}
+
+// A second coordinator, which merged the packet.
+fn merged(alloc: Global, packet: Packet) -> Result<Node, Refusal> {
+    let mut node = coordinator(alloc, 2, 100)?;
+    node.merge(0, packet)?;
+    Ok(node)
+}
+
+fn know_the_same(first: &Node, second: &Node) -> bool {
+    first.knowledge() == second.knowledge()
+}
+
+// Whether a second coordinator that merges the packet knows the same then, and its entries.
+fn told_the_same(alloc: Global, first: &Node, packet: Packet) -> Result<(bool, usize), Refusal> {
+    let second = merged(alloc, packet)?;
+    Ok((know_the_same(first, &second), second.history().len()))
+}
+
+// The same of a packet of all that a coordinator knows after three tells.
+fn told_by_a_packet(alloc: Global) -> Result<(bool, usize), Refusal> {
+    let (first, packet) = with_packet(three_told(alloc)?)?;
+    told_the_same(alloc, &first, packet)
+}
+
+#[test]
+fn a_full_packet_tells_all(rt: HostRuntime) {
+    assert_eq!(rt; told_by_a_packet(rt.alloc()), Ok((true, 1)));
+}
+
+// How two tells are answered where there is room for one entry, and how many there are then.
+fn told_twice(alloc: Global) -> Result<(bool, Result<(), Refusal>, usize), Refusal> {
+    let mut node = coordinator(alloc, 1, 1)?;
+    let is_told = tell(&mut node, job()).is_ok();
+    let again = tell(&mut node, task());
+    Ok((is_told, again, node.history().len()))
+}
+
+#[test]
+fn a_full_history_takes_no_call(rt: HostRuntime) {
+    let told = told_twice(rt.alloc());
+    assert_eq!(rt; told, Ok((true, Err(Refusal::HistoryFull), 1)));
+}
+
+// A plan that places the task on the machine.
+fn placing(alloc: Global) -> Result<Plan, Refusal> {
     let mut places = Vec::new(alloc);
     places.push(Place {
         task: TaskId::new(17),
         machine: MachineId::new(10),
         incarnation: 1,
     })?;
-    let plan = Plan {
+    Ok(Plan {
         places: Listed::new(places),
         preempts: Listed::new(Vec::new(alloc)),
-    };
-    let admitted = node.commit(0, plan)?;
-    let mut answers = Vec::new(alloc);
-    answers.extend_from_slice(admitted.get().answers.as_slice())?;
-    Ok(answers)
+    })
+}
+
+fn commit(node: &mut Node, plan: Plan) -> Result<Shared<Admitted>, Refusal> {
+    node.commit(0, plan)
+}
+
+// The only answer to the plan.
+fn answered(node: &mut Node, plan: Plan) -> Result<Option<Answer>, Refusal> {
+    let admitted = commit(node, plan)?;
+    match admitted.get().answers.as_slice() {
+        [answer] => Ok(Some(*answer)),
+        _ => Ok(None),
+    }
+}
+
+// The answer to a plan that places the task on the machine, who holds the task then, and the entries.
+type Placed = (Option<Answer>, Option<MachineId>, usize);
+
+fn placed(alloc: Global, mut node: Node) -> Result<Placed, Refusal> {
+    let answer = answered(&mut node, placing(alloc)?)?;
+    let holder = node.knowledge().holder(TaskId::new(17));
+    Ok((answer, holder, node.history().len()))
+}
+
+fn placed_after_three(alloc: Global) -> Result<Placed, Refusal> {
+    placed(alloc, three_told(alloc)?)
 }
 
 #[test]
-fn a_commit_places_a_task(rt: HostRuntime) -> Result<(), Fail> {
-    let mut node = three_told(rt.alloc())?;
-    let answers = placed(rt.alloc(), &mut node)?;
-    assert_eq!(rt; answers.as_slice(), [Answer::Accepted].as_slice());
-    assert_eq!(rt;
-        node.knowledge().holder(TaskId::new(17)),
-        Some(MachineId::new(10))
-    );
-    assert_eq!(rt; node.end(), 4);
-    Ok(())
+fn a_commit_places_a_task(rt: HostRuntime) {
+    let placed = placed_after_three(rt.alloc());
+    let machine = MachineId::new(10);
+    assert_eq!(rt; placed, Ok((Some(Answer::Accepted), Some(machine), 4)));
 }
 
-#[test]
-fn a_spent_attempt_is_not_placed(rt: HostRuntime) -> Result<(), Fail> {
-    let mut node = three_told(rt.alloc())?;
+// A coordinator that knows that the task's last attempt runs, and is proposed for a machine that is not known.
+fn spent(alloc: Global) -> Result<Node, Refusal> {
+    let mut node = three_told(alloc)?;
     let last = Op::Progress {
         id: TaskId::new(17),
         attempt: u32::MAX,
@@ -195,29 +280,43 @@ fn a_spent_attempt_is_not_placed(rt: HostRuntime) -> Result<(), Fail> {
         machine: MachineId::new(11),
         incarnation: 1,
     };
-    assert_eq!(rt; tell(&mut node, last), Ok(()));
-    assert_eq!(rt; tell(&mut node, elsewhere), Ok(()));
-    let answers = placed(rt.alloc(), &mut node)?;
-    assert_eq!(rt; answers.as_slice(), [Answer::AttemptsSpent].as_slice());
-    assert_eq!(rt; node.knowledge().holder(TaskId::new(17)), None);
-    assert_eq!(rt; node.history().len(), 6);
-    Ok(())
+    for op in [last, elsewhere] {
+        tell(&mut node, op)?;
+    }
+    Ok(node)
+}
+
+fn placed_where_spent(alloc: Global) -> Result<Placed, Refusal> {
+    placed(alloc, spent(alloc)?)
+}
+
+#[test]
+fn a_spent_attempt_is_not_placed(rt: HostRuntime) {
+    let placed = placed_where_spent(rt.alloc());
+    assert_eq!(rt; placed, Ok((Some(Answer::AttemptsSpent), None, 6)));
 }
 
 // The text of the node's network.
-fn dumped(alloc: Global, node: &mut Coordinator<Rebuilder>) -> Result<Vec<u8>, Fail> {
+fn dumped(alloc: Global, node: &mut Node) -> Result<Vec<u8>, Refusal> {
     let mut out = Over::new(Vec::new(alloc));
     node.dump(&mut out)?;
     Ok(out.into_inner())
 }
 
+// The text of a coordinator to which nothing happened, and its entries then.
+fn first_dump(alloc: Global) -> Result<(Vec<u8>, usize), Refusal> {
+    let mut node = coordinator(alloc, 1, 1)?;
+    let text = dumped(alloc, &mut node)?;
+    Ok((text, node.history().len()))
+}
+
 #[test]
-fn a_dump_of_nothing_is_the_sink(rt: HostRuntime) -> Result<(), Fail> {
-    let mut node = coordinator(rt.alloc(), 1, 1)?;
-    let text = dumped(rt.alloc(), &mut node)?;
-    assert_eq!(rt; text.as_slice(), b"c 1 S\np min 1 0\n".as_slice());
-    assert_eq!(rt; node.history().len(), 0);
-    Ok(())
+fn a_dump_of_nothing_is_the_sink(rt: HostRuntime) {
+    let is_sink = match first_dump(rt.alloc()) {
+        Ok((text, 0)) => text.as_slice() == b"c 1 S\np min 1 0\n".as_slice(),
+        _ => false,
+    };
+    assert!(rt; is_sink);
 }
 
 // A keeper that counts how often it builds, and the keys that it is handed.
@@ -260,8 +359,12 @@ impl NetKeeper for Counting {
     }
 }
 
-fn counted(alloc: Global) -> Result<Coordinator<Counting>, Fail> {
-    let number = CoordId::new(1).ok_or("no such number")?;
+type Counted = Coordinator<Counting>;
+
+fn counted(alloc: Global) -> Result<Counted, Refusal> {
+    let Some(number) = CoordId::new(1) else {
+        return Err(Refusal::NoCoordinator);
+    };
     let keeper = Counting {
         inner: Rebuilder::new(alloc)?,
         builds: 0,
@@ -270,8 +373,15 @@ fn counted(alloc: Global) -> Result<Coordinator<Counting>, Fail> {
     Ok(Coordinator::new(alloc, number, 1_000, keeper))
 }
 
-// Tells the coordinator of so many tasks, one by one.
-fn tell_tasks(node: &mut Coordinator<Counting>, many: u32) -> Result<(), Fail> {
+// What a coordinator that counts is asked for: to be told of so many tasks, one by one, to be looked at, or to be dumped.
+#[derive(Clone, Copy, Drop)]
+enum Want {
+    Tasks(u32),
+    View,
+    Dump,
+}
+
+fn tell_tasks(node: &mut Counted, many: u32) -> Result<(), Refusal> {
     for n in 0..many {
         node.tell(
             0,
@@ -289,44 +399,52 @@ fn tell_tasks(node: &mut Coordinator<Counting>, many: u32) -> Result<(), Fail> {
     Ok(())
 }
 
-fn see(node: &mut Coordinator<Counting>) -> Result<View, Refusal> {
-    node.view(0)
-}
-
-#[test]
-fn a_keeper_is_handed_what_is_new_alone(rt: HostRuntime) -> Result<(), Fail> {
-    let mut node = counted(rt.alloc())?;
-    tell_tasks(&mut node, 300)?;
-    assert_eq!(rt; node.keeper().keys, 300);
-    assert_eq!(rt; node.keeper().builds, 0);
+fn see_counted(node: &mut Counted) -> Result<(), Refusal> {
+    node.view(0)?;
     Ok(())
 }
 
-#[test]
-fn a_network_is_built_once_for_two_views(rt: HostRuntime) -> Result<(), Fail> {
-    let mut node = counted(rt.alloc())?;
-    tell_tasks(&mut node, 2)?;
-    see(&mut node)?;
-    see(&mut node)?;
-    assert_eq!(rt; node.keeper().builds, 1);
-    tell_tasks(&mut node, 1)?;
-    assert_eq!(rt; node.keeper().builds, 1);
-    Ok(())
-}
-
-fn dump_again(alloc: Global, node: &mut Coordinator<Counting>) -> Result<(), Refusal> {
+fn dump_counted(alloc: Global, node: &mut Counted) -> Result<(), Refusal> {
     let mut out = Over::new(Vec::new(alloc));
     node.dump(&mut out)
 }
 
+fn give(alloc: Global, node: &mut Counted, want: Want) -> Result<(), Refusal> {
+    match want {
+        Want::Tasks(many) => tell_tasks(node, many),
+        Want::View => see_counted(node),
+        Want::Dump => dump_counted(alloc, node),
+    }
+}
+
+// How many keys the keeper was handed and how often it built after these, and whether it is fresh then.
+fn counts(alloc: Global, wants: &[Want]) -> Result<(usize, usize, bool), Refusal> {
+    let mut node = counted(alloc)?;
+    for want in wants {
+        give(alloc, &mut node, *want)?;
+    }
+    let keeper = node.keeper();
+    Ok((keeper.keys, keeper.builds, node.is_fresh()))
+}
+
 #[test]
-fn a_network_is_built_once_for_two_dumps_and_a_view(rt: HostRuntime) -> Result<(), Fail> {
-    let mut node = counted(rt.alloc())?;
-    tell_tasks(&mut node, 2)?;
-    dump_again(rt.alloc(), &mut node)?;
-    assert!(rt; node.is_fresh());
-    dump_again(rt.alloc(), &mut node)?;
-    see(&mut node)?;
-    assert_eq!(rt; node.keeper().builds, 1);
-    Ok(())
+fn a_keeper_is_handed_what_is_new_alone(rt: HostRuntime) {
+    let counts = counts(rt.alloc(), &[Want::Tasks(300)]);
+    assert_eq!(rt; counts, Ok((300, 0, false)));
+}
+
+#[test]
+fn a_network_is_built_once_for_two_views(rt: HostRuntime) {
+    let twice = [Want::Tasks(2), Want::View, Want::View];
+    assert_eq!(rt; counts(rt.alloc(), &twice), Ok((2, 1, true)));
+    let more = [Want::Tasks(2), Want::View, Want::View, Want::Tasks(1)];
+    assert_eq!(rt; counts(rt.alloc(), &more), Ok((3, 1, false)));
+}
+
+#[test]
+fn a_network_is_built_once_for_two_dumps_and_a_view(rt: HostRuntime) {
+    let first = [Want::Tasks(2), Want::Dump];
+    assert_eq!(rt; counts(rt.alloc(), &first), Ok((2, 1, true)));
+    let all = [Want::Tasks(2), Want::Dump, Want::Dump, Want::View];
+    assert_eq!(rt; counts(rt.alloc(), &all), Ok((2, 1, true)));
 }

@@ -133,12 +133,20 @@ fn a_stranger_s_packet_is_waited_for(rt: HostRuntime) -> Result<(), Fail> {
     Ok(())
 }
 
+fn with_merge(mut node: Node, packet: Packet) -> Result<Node, Fail> {
+    node.merge(0, packet)?;
+    Ok(node)
+}
+
+fn with_cut(mut node: Node) -> Result<Node, Fail> {
+    node.cut(0, Range::Full)?;
+    Ok(node)
+}
+
 // A coordinator that cut a packet, after it merged one of another.
 fn in_ring(alloc: Global, number: u8, sender: u8) -> Result<Node, Fail> {
-    let mut made = node(alloc, number)?;
-    made.merge(0, packet(alloc, sender)?)?;
-    let _ = made.cut(0, Range::Full)?;
-    Ok(made)
+    let packet = packet(alloc, sender)?;
+    with_cut(with_merge(node(alloc, number)?, packet)?)
 }
 
 fn packet(alloc: Global, sender: u8) -> Result<Packet, Fail> {
