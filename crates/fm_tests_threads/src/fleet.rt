@@ -67,9 +67,9 @@ fn is(fact: bool, otherwise: &'static str) -> Result<(), Fail> {
 fn three_told(alloc: Global) -> Result<Coordinator<Rebuilder>, Fail> {
     let number = CoordId::new(1).ok_or("no such number")?;
     let mut coordinator = Coordinator::new(alloc, number, 1_000, Rebuilder::new(alloc)?);
-    coordinator.tell(0, job(1, 500))?;
-    coordinator.tell(0, machine())?;
-    coordinator.tell(0, task())?;
+    for op in [job(1, 500), machine(), task()] {
+        coordinator.tell(0, op)?;
+    }
     Ok(coordinator)
 }
 
@@ -118,42 +118,80 @@ fn picked<R: Threads + Wait + Sync>(
     play::<Brand, R>(rt, alloc, Blank::new(2), coordinator, scene)
 }
 
+// Functions that may be refused hold few values there: a proof looks at what is let go at each refusal.
+
+// What a wait beyond its range is answered, what a cut below the floor, and the number of the first packet.
+fn asked_in_turn<L: NodeName, R: Wait>(
+    rt: &R,
+    node: &Node<Rebuilder, L>,
+    seat: &mut Seat<L>,
+) -> Result<(Option<Refusal>, Option<Refusal>, u64), Refusal> {
+    let beyond = node.tell(rt, seat, job(2, u32::MAX)).err();
+    node.trim(rt, seat, 3)?;
+    let trimmed = node.cut(rt, seat, Range::Interval(0, 1)).err();
+    let packet = node.cut(rt, seat, Range::Full)?;
+    Ok((beyond, trimmed, packet.get().number))
+}
+
+// Asks as above, and hands the seat back where all is answered as it should be.
+fn answered_in_turn<L: NodeName, R: Wait>(
+    rt: &R,
+    node: &Node<Rebuilder, L>,
+    mut seat: Seat<L>,
+) -> Result<Seat<L>, Fail> {
+    let answers = asked_in_turn(rt, node, &mut seat)?;
+    let beyond = Some(Refusal::BadOp(Field::Wait));
+    let trimmed = Some(Refusal::Trimmed(3));
+    if answers != (beyond, trimmed, 1) {
+        return Err("a wait beyond its range, a cut below the floor, a first packet".into());
+    }
+    Ok(seat)
+}
+
+// The node and the seats, where it is not closed without the first one.
+fn refused_without<L: NodeName>(
+    node: Node<Rebuilder, L>,
+    seats: Vec<Seat<L>>,
+) -> Result<(Node<Rebuilder, L>, Vec<Seat<L>>), Fail> {
+    match close(node, seats) {
+        Ok(_) => Err("closed without a seat".into()),
+        Err(kept) => {
+            is(kept.refusal == Refusal::NotMine(1), "seat 1 is missing")?;
+            Ok((kept.node, kept.seats))
+        }
+    }
+}
+
+fn one_seat<L: NodeName>(alloc: Global, seat: Seat<L>) -> Result<Vec<Seat<L>>, Fail> {
+    let mut seats = Vec::new(alloc);
+    seats.push(seat)?;
+    Ok(seats)
+}
+
+// The closed node, where all its seats are there.
+fn closed_with<L: NodeName>(
+    node: Node<Rebuilder, L>,
+    mut seats: Vec<Seat<L>>,
+    last: Seat<L>,
+) -> Result<Closed<Rebuilder>, Fail> {
+    seats.push(last)?;
+    match close(node, seats) {
+        Ok(closed) => Ok(closed),
+        Err(_) => Err("all seats are there".into()),
+    }
+}
+
 fn calls_in_turn<L: NodeName, R: Wait>(
     rt: &R,
     alloc: Global,
     node: Node<Rebuilder, L>,
-    mut one: Seat<L>,
+    one: Seat<L>,
     two: Seat<L>,
 ) -> Result<(), Fail> {
-    let beyond = node.tell(rt, &mut one, job(2, u32::MAX)).err();
-    is(
-        beyond == Some(Refusal::BadOp(Field::Wait)),
-        "a wait beyond its range",
-    )?;
-    node.trim(rt, &mut one, 3)?;
-    let trimmed = node.cut(rt, &mut one, Range::Interval(0, 1)).err();
-    is(
-        trimmed == Some(Refusal::Trimmed(3)),
-        "a cut below the floor",
-    )?;
-    is(
-        node.cut(rt, &mut one, Range::Full)?.get().number == 1,
-        "the first packet",
-    )?;
-    let mut seats = Vec::new(alloc);
-    seats.push(two)?;
-    let (node, mut seats) = match close(node, seats) {
-        Ok(_) => return Err("closed without a seat".into()),
-        Err(kept) => {
-            is(kept.refusal == Refusal::NotMine(1), "seat 1 is missing")?;
-            (kept.node, kept.seats)
-        }
-    };
-    seats.push(one)?;
-    match close(node, seats) {
-        Ok(closed) => is(counts(&closed) == (3, 5, 2), "two entries since the start"),
-        Err(_) => Err("all seats are there".into()),
-    }
+    let one = answered_in_turn(rt, &node, one)?;
+    let (node, seats) = refused_without(node, one_seat(alloc, two)?)?;
+    let closed = closed_with(node, seats, one)?;
+    is(counts(&closed) == (3, 5, 2), "two entries since the start")
 }
 
 // The base, the entries, and those of the first seat, where the audit finds no fault.
@@ -200,35 +238,41 @@ fn two_threads<L: NodeName + Send + Sync, R: Threads + Wait + Sync>(
         move || tell_jobs(rt, shared, one, 1_000),
         move || tell_jobs(rt, shared, two, 2_000),
     );
-    let (one, seen_by_one) = one?;
-    let (two, seen_by_two) = two?;
-    is(seen_by_one && seen_by_two, "each sees its own")?;
-    let mut seats = Vec::new(alloc);
-    seats.push(two)?;
-    seats.push(one)?;
-    match close(node, seats) {
-        Ok(closed) => altered(closed),
-        Err(_) => Err("all seats are there".into()),
+    match (one, two) {
+        (Ok((one, true)), Ok((two, true))) => {
+            let seats = one_seat(alloc, two)?;
+            altered(closed_with(node, seats, one)?)
+        }
+        _ => Err("each sees its own".into()),
     }
 }
 
-// The first seat's last entry, a view, is made a trim.
-fn altered(mut closed: Closed<Rebuilder>) -> Result<(), Fail> {
-    is(
-        counts(&closed) == (3, 205, 101),
-        "a hundred tells and a view each",
-    )?;
-    let (Some(two), Some(mut one)) = (closed.logs.pop(), closed.logs.pop()) else {
-        return Err("no logs".into());
-    };
-    one.entries.pop();
-    one.entries.push(Entry {
+// The log of the first seat whose last entry, a view, is made a trim.
+fn with_a_trim(mut log: SeatLog) -> Result<SeatLog, Fail> {
+    log.entries.pop();
+    log.entries.push(Entry {
         by: 1,
         call: Call::Trim(0),
         reply: Reply::Nothing,
     })?;
-    closed.logs.push(one)?;
-    closed.logs.push(two)?;
+    Ok(log)
+}
+
+// The first seat's log is given a trim for its last entry.
+fn alter(logs: &mut Vec<SeatLog>) -> Result<(), Fail> {
+    let (Some(two), Some(one)) = (logs.pop(), logs.pop()) else {
+        return Err("no logs".into());
+    };
+    logs.push(with_a_trim(one)?)?;
+    logs.push(two)?;
+    Ok(())
+}
+
+fn altered(mut closed: Closed<Rebuilder>) -> Result<(), Fail> {
+    if counts(&closed) != (3, 205, 101) {
+        return Err("a hundred tells and a view each".into());
+    }
+    alter(&mut closed.logs)?;
     is(audit(&closed) == Err(Refusal::NotMine(1)), "seat 1 differs")
 }
 
@@ -266,6 +310,19 @@ fn answer<L: NodeName, G: Gate + Drop, R: Wait>(
     }
 }
 
+// The packet in which the second coordinator says this.
+fn packet_of(alloc: Global, op: &Op) -> Result<Packet, Refusal> {
+    op.check()?;
+    let Some(sender) = CoordId::new(2) else {
+        return Err(Refusal::NoCoordinator);
+    };
+    Ok(Packet {
+        sender,
+        number: 1,
+        value: Knowledge::delta_of(alloc, op)?,
+    })
+}
+
 // Merges that the task is done, once a round is held.
 fn merge_done<L: NodeName, R: Wait>(
     rt: &R,
@@ -280,14 +337,7 @@ fn merge_done<L: NodeName, R: Wait>(
         attempt: 0,
         phase: Phase::Done,
     };
-    let Some(sender) = CoordId::new(2) else {
-        return Err(Refusal::NoCoordinator);
-    };
-    let packet = Packet {
-        sender,
-        number: 1,
-        value: Knowledge::delta_of(alloc, &over)?,
-    };
+    let packet = packet_of(alloc, &over)?;
     for _ in 0..1_000_000u32 {
         if reached.load(Ordering::SeqCst) {
             break;

@@ -14,16 +14,15 @@ use std::thread;
 use std::thread::Threads;
 
 fn told(alloc: Global) -> Result<Vec<Op>, Fail> {
-    let mut tells = Vec::new(alloc);
-    tells.push(Op::Job {
+    let job = Op::Job {
         id: JobId::new(1),
         version: 1,
         writer: 1,
         withdrawn: false,
         wait: 500,
         preempt: 800,
-    })?;
-    tells.push(Op::Machine {
+    };
+    let machine = Op::Machine {
         id: MachineId::new(10),
         incarnation: 1,
         version: 1,
@@ -31,8 +30,8 @@ fn told(alloc: Global) -> Result<Vec<Op>, Fail> {
         up: true,
         slots: 2,
         nic: 1_000,
-    })?;
-    tells.push(Op::Spec {
+    };
+    let task = Op::Spec {
         id: TaskId::new(17),
         version: 1,
         writer: 1,
@@ -40,7 +39,8 @@ fn told(alloc: Global) -> Result<Vec<Op>, Fail> {
         job: JobId::new(1),
         request: 100,
         prefer: Prefer::default(),
-    })?;
+    };
+    let tells = [job, machine, task].to_vec(alloc)?;
     Ok(tells)
 }
 
@@ -55,16 +55,30 @@ fn member<G: Drop>(
     Ok(Member::new(coordinator, tells, gate))
 }
 
+// The first member tells, the second does not.
+fn two_members<G: Drop>(alloc: Global, one: G, two: G) -> Result<Vec<Member<Rebuilder, G>>, Fail> {
+    let one = member(alloc, 1, told(alloc)?, one)?;
+    let two = member(alloc, 2, Vec::new(alloc), two)?;
+    both(alloc, one, two)
+}
+
+fn both<T: Drop>(alloc: Global, one: T, two: T) -> Result<Vec<T>, Fail> {
+    let mut both = Vec::new(alloc);
+    both.push(one)?;
+    both.push(two)?;
+    Ok(both)
+}
+
 // Three tells, a cut and a merge of the one, a cut and a merge of the other, and a view and a commit of each.
 #[test]
 fn two_members_are_served(rt: HostRuntime) -> Result<(), Fail> {
-    let mut members = Vec::new(rt.alloc());
-    members.push(member(rt.alloc(), 1, told(rt.alloc())?, NoGate)?)?;
-    members.push(member(rt.alloc(), 2, Vec::new(rt.alloc()), NoGate)?)?;
+    let members = two_members(rt.alloc(), NoGate, NoGate)?;
     let served = run_fleet(&rt, rt.alloc(), members, 1)?;
-    assert_eq!(rt; served.len(), 2);
-    assert_eq!(rt; served[0].history().len(), 7);
-    assert_eq!(rt; served[1].history().len(), 4);
+    let is_served = match served.as_slice() {
+        [one, two] => one.history().len() == 7 && two.history().len() == 4,
+        _ => false,
+    };
+    assert!(rt; is_served);
     Ok(())
 }
 
@@ -108,9 +122,7 @@ fn served<'a, R: Threads + Wait + Sync>(
         other: first,
         saw: second_saw,
     };
-    let mut members = Vec::new(alloc);
-    members.push(member(alloc, 1, told(alloc)?, one)?)?;
-    members.push(member(alloc, 2, Vec::new(alloc), two)?)?;
+    let members = two_members(alloc, one, two)?;
     let served = run_fleet(rt, alloc, members, 1)?;
     Ok(served.len())
 }
