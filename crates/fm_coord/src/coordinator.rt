@@ -323,7 +323,8 @@ impl<N: NetKeeper> Coordinator<N> {
     }
 
     /// What is known now, with the count of entries before this one's, and the network, which is built first where it is
-    /// stale. O(n) in what is known.
+    /// stale. What is known is shared and not copied: a pointer for each block of records, and memory for each that was written
+    /// in since the last view. The network is copied, O(arcs).
     /// HistoryFull, OutOfMemory; then nothing has changed, but for a stale network that may be built or not.
     pub fn view(&mut self, by: u32) -> Result<View, Refusal>
         ensures ok { IfOk result (λ view. self.new.state ≡ noted self.old.state (entry by Call.View (Reply.Seen view.at view.knowledge))) }
@@ -339,7 +340,7 @@ impl<N: NetKeeper> Coordinator<N> {
     {
         self.known();
         self.check_room()?;
-        self.refresh()?;
+        self.prepare()?;
         let view = self.seen()?;
         let viewed = Entry {
             by,
@@ -348,6 +349,25 @@ impl<N: NetKeeper> Coordinator<N> {
         };
         self.note(viewed)?;
         Ok(view)
+    }
+
+    // Builds the network where it is stale, and has what is known shared, so that a copy of it costs a pointer for each block.
+    fn prepare(&mut self) -> Result<(), OutOfMemory>
+        ensures state { self.new.state ≡ self.old.state }
+        ensures fresh { OnOk result (IsTrue (N.fresh self.new.keeper)) }
+        ensures keeper { IsTrue (N.fresh self.old.keeper) → self.new.keeper ≡ self.old.keeper }
+    {
+        self.refresh()?;
+        self.share_known()
+    }
+
+    // Has what is known shared.
+    fn share_known(&mut self) -> Result<(), OutOfMemory>
+        ensures state { self.new.state ≡ self.old.state }
+        ensures keeper { self.new.keeper ≡ self.old.keeper }
+    {
+        let _ = self.knowledge.share()?;
+        Ok(())
     }
 
     // Builds the network where it is stale.

@@ -4,3 +4,4 @@ pub mod Running
 pub mod Growing
 pub mod Naming
 pub mod Visits
+pub mod Left

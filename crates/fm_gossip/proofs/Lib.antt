@@ -1,3 +1,4 @@
+mod Drained
 mod Ending
 mod Members
 mod Seated

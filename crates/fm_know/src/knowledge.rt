@@ -5,7 +5,7 @@ ghost use Rattle.fm_records.specs.declared.ops.Op.{Op};
 ghost use Rattle.fm_records.specs.Know.{know};
 ghost use Rattle.fm_records.specs.Joined.{table_join};
 
-use fm_lattice::join::{Join, OutOfMemory, copied};
+use fm_lattice::join::{Join, OutOfMemory};
 use fm_lattice::map::{JoinMap, join_four};
 use fm_lattice::plain::{Max, Min};
 use fm_records::ids::{CoordId, JobId, MachineId, TaskId};
@@ -103,11 +103,32 @@ impl Knowledge {
         )
     }
 
-    /// The knowledge again, in memory of its own. O(n).
+    /// The knowledge again. What is shared already costs a pointer for each block of records, and the rest is copied: O(n) where
+    /// nothing was shared.
     pub fn copy(&self) -> Result<Knowledge, OutOfMemory>
         ensures { IfOk result (λ k. k ≡ self.now) }
     {
-        copied(self)
+        Ok(Knowledge {
+            jobs: self.jobs.copy()?,
+            tasks: self.tasks.copy()?,
+            machines: self.machines.copy()?,
+            proposals: self.proposals.copy()?,
+        })
+    }
+
+    /// The knowledge again, with which this one shares its records: none is copied until one of both takes something in, and
+    /// then those of the blocks that it writes in. O(n / 32), and memory for each block written in since it was last shared.
+    /// After a refusal of memory nothing is known more or less than before.
+    pub fn share(&mut self) -> Result<Knowledge, OutOfMemory>
+        ensures ok { IfOk result (λ k. k ≡ self.old) }
+        ensures same { self.new ≡ self.old }
+    {
+        Ok(Knowledge {
+            jobs: self.jobs.share()?,
+            tasks: self.tasks.share()?,
+            machines: self.machines.share()?,
+            proposals: self.proposals.share()?,
+        })
     }
 }
 

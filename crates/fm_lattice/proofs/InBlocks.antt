@@ -3,7 +3,6 @@ use Rattle.std.proofs.Common.{◌≡◌, ℕ, zero, suc, ◌+◌, ◌<◌, List,
 use Rattle.std.specs.Prelude.{cond}
 use Rattle.std.specs.Ordering.{is_eq}
 use Rattle.std.specs.List.{insert}
-use Rattle.std.specs.declared.vec.Vec.{Vec}
 use Rattle.std.specs.Cmp.{IsTotalOrder}
 use Rattle.std.specs.declared.cmp.Ordering.{Ordering}
 use Rattle.std.specs.declared.cmp.Ordering.TheVariants.{Less}
@@ -11,6 +10,7 @@ use Rattle.fm_lattice.specs.Chains.{TellsApart, by_order, by_cases, less_greater
 use Rattle.fm_lattice.specs.Maps.{lookup, IsBelow, IsRising, put}
 use Rattle.fm_lattice.specs.MapLaws.{below_trans, lookup_below}
 use Rattle.fm_lattice.specs.Places.{IsAt, IsGap}
+use Rattle.fm_lattice.specs.Stocks.{Stock}
 use Rattle.fm_lattice.specs.Blocks.{pairs_of, BeginsWith, AreHeaded, IsAbove, IsBlockOf}
 use Rattle.fm_lattice.proofs.Places.{below_at}
 
@@ -77,27 +77,27 @@ module _ {K V : Type 0} (cmp : K → K → Ordering) (total : IsTotalOrder cmp) 
     put_back k v [] ys a = refl
     put_back k v (x ∷ xs) ys a = rw (less_greater cmp total x.0 k a.0) (ap (λ z. x ∷ z) (put_back k v xs ys a.1))
 
-  module _ {A : Type 0} where
+  module _ where
     -- the keys of blocks rise too
-    pub below_blocks : (k : K) (bs : List (K × Vec (K × V) A)) → AreHeaded bs → IsBelow cmp k (pairs_of bs) → IsBelow cmp k bs
+    pub below_blocks : (k : K) (bs : List (K × Stock (K × V))) → AreHeaded bs → IsBelow cmp k (pairs_of bs) → IsBelow cmp k bs
     below_blocks k [] h b = tt
     below_blocks k (c ∷ bs) h b = (below_first k c.0 c.1.items (pairs_of bs) h.0 b, below_blocks k bs h.1 (below_back k c.1.items (pairs_of bs) b))
 
-    pub blocks_rise : (bs : List (K × Vec (K × V) A)) → AreHeaded bs → IsRising cmp (pairs_of bs) → IsRising cmp bs
+    pub blocks_rise : (bs : List (K × Stock (K × V))) → AreHeaded bs → IsRising cmp (pairs_of bs) → IsRising cmp bs
     blocks_rise [] h r = tt
     blocks_rise (c ∷ bs) h r = (below_blocks c.0 bs h.1 (first_apart c.0 c.1.items (pairs_of bs) h.0 r), blocks_rise bs h.1 (rising_back c.1.items (pairs_of bs) r))
 
     -- a key below the first block is below all
-    pub below_all : (k : K) (bs : List (K × Vec (K × V) A)) → AreHeaded bs → IsRising cmp (pairs_of bs) → ((d : K × Vec (K × V) A) → 0 < length bs → cmp k (get_or bs 0 d).0 ≡ Less) → IsBelow cmp k (pairs_of bs)
+    pub below_all : (k : K) (bs : List (K × Stock (K × V))) → AreHeaded bs → IsRising cmp (pairs_of bs) → ((d : K × Stock (K × V)) → 0 < length bs → cmp k (get_or bs 0 d).0 ≡ Less) → IsBelow cmp k (pairs_of bs)
     below_all k [] h r first = tt
     below_all k (c ∷ bs) h r first = first_below k c.0 c.1.items (pairs_of bs) h.0 r (first c (omega arith))
 
     -- the key of a later block is above all before
-    above_block : (es : List (K × V)) (bs : List (K × Vec (K × V) A)) (i : ℕ) (d : K × Vec (K × V) A) → AreHeaded bs → IsRising cmp (es ++ pairs_of bs) → i < length bs → IsAbove cmp (get_or bs i d).0 es
+    above_block : (es : List (K × V)) (bs : List (K × Stock (K × V))) (i : ℕ) (d : K × Stock (K × V)) → AreHeaded bs → IsRising cmp (es ++ pairs_of bs) → i < length bs → IsAbove cmp (get_or bs i d).0 es
     above_block [] bs i d h r lt = tt
     above_block (x ∷ es) bs i d h r lt = (below_at cmp total same x.0 bs i d (below_blocks x.0 bs h (below_back x.0 es (pairs_of bs) r.0)) lt, above_block es bs i d h r.1 lt)
 
-    pub block_at : (bs : List (K × Vec (K × V) A)) (k : K) (i : ℕ) → AreHeaded bs → IsRising cmp (pairs_of bs) → IsAt cmp bs k i → IsBlockOf cmp k bs i
+    pub block_at : (bs : List (K × Stock (K × V))) (k : K) (i : ℕ) → AreHeaded bs → IsRising cmp (pairs_of bs) → IsAt cmp bs k i → IsBlockOf cmp k bs i
     block_at [] k i h r at = absurd (omega (arith, at.in_range))
     block_at (c ∷ bs) k zero h r at = subst (λ z. IsBelow cmp z (pairs_of bs)) (same c.0 k (at.has_key c)) (first_apart c.0 c.1.items (pairs_of bs) h.0 r)
     block_at (c ∷ bs) k (suc i) h r at =
@@ -106,7 +106,7 @@ module _ {K V : Type 0} (cmp : K → K → Ordering) (total : IsTotalOrder cmp) 
           block_at bs k i h.1 (rising_back c.1.items (pairs_of bs) r) (record { in_range = inside; has_key = λ d. at.has_key d }),
         )
 
-    pub block_before : (bs : List (K × Vec (K × V) A)) (k : K) (i : ℕ) → AreHeaded bs → IsRising cmp (pairs_of bs) → IsGap cmp bs k (suc i) → IsBlockOf cmp k bs i
+    pub block_before : (bs : List (K × Stock (K × V))) (k : K) (i : ℕ) → AreHeaded bs → IsRising cmp (pairs_of bs) → IsGap cmp bs k (suc i) → IsBlockOf cmp k bs i
     block_before [] k i h r gap = absurd (omega (arith, gap.in_range))
     block_before (c ∷ bs) k zero h r gap = below_all k bs h.1 (rising_back c.1.items (pairs_of bs) r) (λ d lt. greater_less cmp total (get_or bs 0 d).0 k (gap.after 1 d (omega arith) (omega arith)))
     block_before (c ∷ bs) k (suc i) h r gap =
@@ -115,102 +115,102 @@ module _ {K V : Type 0} (cmp : K → K → Ordering) (total : IsTotalOrder cmp) 
           block_before bs k i h.1 (rising_back c.1.items (pairs_of bs) r) (record { in_range = omega (arith, gap.in_range); before = λ j d lt. gap.before (suc j) d (omega arith); after = λ j d le lt. gap.after (suc j) d (omega arith) (omega arith) }),
         )
 
-    pub block_first : (bs : List (K × Vec (K × V) A)) (k : K) → AreHeaded bs → IsRising cmp (pairs_of bs) → 0 < length bs → IsGap cmp bs k 0 → IsBlockOf cmp k bs 0
+    pub block_first : (bs : List (K × Stock (K × V))) (k : K) → AreHeaded bs → IsRising cmp (pairs_of bs) → 0 < length bs → IsGap cmp bs k 0 → IsBlockOf cmp k bs 0
     block_first [] k h r some gap = absurd (omega arith)
     block_first (c ∷ bs) k h r some gap = below_back k c.1.items (pairs_of bs) (first_below k c.0 c.1.items (pairs_of bs) h.0 r (greater_less cmp total c.0 k (gap.after 0 c (omega arith) (omega arith))))
 
-    pub inside_blocks : (bs : List (K × Vec (K × V) A)) (k : K) (i : ℕ) → IsBlockOf cmp k bs i → i < length bs
+    pub inside_blocks : (bs : List (K × Stock (K × V))) (k : K) (i : ℕ) → IsBlockOf cmp k bs i → i < length bs
     inside_blocks [] k i is = absurd is
     inside_blocks (c ∷ bs) k zero is = omega arith
     inside_blocks (c ∷ bs) k (suc i) is = let rest = inside_blocks bs k i is.1 in omega arith
 
-    pub rising_in : (bs : List (K × Vec (K × V) A)) (i : ℕ) (d : K × Vec (K × V) A) → IsRising cmp (pairs_of bs) → i < length bs → IsRising cmp (get_or bs i d).1.items
+    pub rising_in : (bs : List (K × Stock (K × V))) (i : ℕ) (d : K × Stock (K × V)) → IsRising cmp (pairs_of bs) → i < length bs → IsRising cmp (get_or bs i d).1.items
     rising_in [] i d r lt = absurd (omega arith)
     rising_in (c ∷ bs) zero d r lt = rising_front c.1.items (pairs_of bs) r
     rising_in (c ∷ bs) (suc i) d r lt = rising_in bs i d (rising_back c.1.items (pairs_of bs) r) (omega arith)
 
-    pub lookup_in : (bs : List (K × Vec (K × V) A)) (k : K) (i : ℕ) (d : K × Vec (K × V) A) → IsBlockOf cmp k bs i → lookup cmp k (pairs_of bs) ≡ lookup cmp k (get_or bs i d).1.items
+    pub lookup_in : (bs : List (K × Stock (K × V))) (k : K) (i : ℕ) (d : K × Stock (K × V)) → IsBlockOf cmp k bs i → lookup cmp k (pairs_of bs) ≡ lookup cmp k (get_or bs i d).1.items
     lookup_in [] k i d is = absurd is
     lookup_in (c ∷ bs) k zero d is = lookup_front k c.1.items (pairs_of bs) is
     lookup_in (c ∷ bs) k (suc i) d is = lookup_back k c.1.items (pairs_of bs) is.0 ∙ lookup_in bs k i d is.1
 
-    pub put_in : (join : V → V → V) (bs : List (K × Vec (K × V) A)) (k : K) (v : V) (i : ℕ) (d c : K × Vec (K × V) A) → IsBlockOf cmp k bs i → c.1.items ≡ put cmp join k v (get_or bs i d).1.items → pairs_of (set bs i c) ≡ put cmp join k v (pairs_of bs)
+    pub put_in : (join : V → V → V) (bs : List (K × Stock (K × V))) (k : K) (v : V) (i : ℕ) (d c : K × Stock (K × V)) → IsBlockOf cmp k bs i → c.1.items ≡ put cmp join k v (get_or bs i d).1.items → pairs_of (set bs i c) ≡ put cmp join k v (pairs_of bs)
     put_in join [] k v i d c is e = absurd is
     put_in join (b ∷ bs) k v zero d c is e = ap (λ z. z ++ pairs_of bs) e ∙ sym (put_front join k v b.1.items (pairs_of bs) is)
     put_in join (b ∷ bs) k v (suc i) d c is e = ap (λ z. b.1.items ++ z) (put_in join bs k v i d c is.1 e) ∙ sym (put_back join k v b.1.items (pairs_of bs) is.0)
 
-    pub block_set : (bs : List (K × Vec (K × V) A)) (k : K) (i : ℕ) (c : K × Vec (K × V) A) → IsBlockOf cmp k bs i → IsBlockOf cmp k (set bs i c) i
+    pub block_set : (bs : List (K × Stock (K × V))) (k : K) (i : ℕ) (c : K × Stock (K × V)) → IsBlockOf cmp k bs i → IsBlockOf cmp k (set bs i c) i
     block_set [] k i c is = absurd is
     block_set (a ∷ bs) k zero c is = is
     block_set (a ∷ bs) k (suc i) c is = (is.0, block_set bs k i c is.1)
 
     -- a block in two
-    pub cut_left : (bs : List (K × Vec (K × V) A)) (k : K) (i : ℕ) (d b c : K × Vec (K × V) A) → IsRising cmp (pairs_of bs) → IsBlockOf cmp k bs i → b.1.items ++ c.1.items ≡ (get_or bs i d).1.items → BeginsWith c.0 c.1.items → cmp k c.0 ≡ Less → IsBlockOf cmp k (insert (set bs i b) (suc i) c) i
+    pub cut_left : (bs : List (K × Stock (K × V))) (k : K) (i : ℕ) (d b c : K × Stock (K × V)) → IsRising cmp (pairs_of bs) → IsBlockOf cmp k bs i → b.1.items ++ c.1.items ≡ (get_or bs i d).1.items → BeginsWith c.0 c.1.items → cmp k c.0 ≡ Less → IsBlockOf cmp k (insert (set bs i b) (suc i) c) i
     cut_left [] k i d b c r is parts begins less = absurd is
     cut_left (a ∷ bs) k zero d b c r is parts begins less =
         let whole : IsRising cmp (b.1.items ++ (c.1.items ++ pairs_of bs)) = rw (sym (append_assoc b.1.items c.1.items (pairs_of bs)), parts) r in
         first_below k c.0 c.1.items (pairs_of bs) begins (rising_back b.1.items (c.1.items ++ pairs_of bs) whole) less
     cut_left (a ∷ bs) k (suc i) d b c r is parts begins less = (is.0, cut_left bs k i d b c (rising_back a.1.items (pairs_of bs) r) is.1 parts begins less)
 
-    pub cut_right : (bs : List (K × Vec (K × V) A)) (k : K) (i : ℕ) (d b c : K × Vec (K × V) A) → IsBlockOf cmp k bs i → IsAbove cmp k b.1.items → IsBlockOf cmp k (insert (set bs i b) (suc i) c) (suc i)
+    pub cut_right : (bs : List (K × Stock (K × V))) (k : K) (i : ℕ) (d b c : K × Stock (K × V)) → IsBlockOf cmp k bs i → IsAbove cmp k b.1.items → IsBlockOf cmp k (insert (set bs i b) (suc i) c) (suc i)
     cut_right [] k i d b c is above = absurd is
     cut_right (a ∷ bs) k zero d b c is above = (above, is)
     cut_right (a ∷ bs) k (suc i) d b c is above = (is.0, cut_right bs k i d b c is.1 above)
 
-module _ {K V A : Type 0} where
-  pub pairs_cut : (bs : List (K × Vec (K × V) A)) (i : ℕ) (d b c : K × Vec (K × V) A) → i < length bs → b.1.items ++ c.1.items ≡ (get_or bs i d).1.items → pairs_of (insert (set bs i b) (suc i) c) ≡ pairs_of bs
+module _ {K V : Type 0} where
+  pub pairs_cut : (bs : List (K × Stock (K × V))) (i : ℕ) (d b c : K × Stock (K × V)) → i < length bs → b.1.items ++ c.1.items ≡ (get_or bs i d).1.items → pairs_of (insert (set bs i b) (suc i) c) ≡ pairs_of bs
   pairs_cut [] i d b c lt parts = absurd (omega arith)
   pairs_cut (a ∷ bs) zero d b c lt parts = sym (append_assoc b.1.items c.1.items (pairs_of bs)) ∙ ap (λ z. z ++ pairs_of bs) parts
   pairs_cut (a ∷ bs) (suc i) d b c lt parts = ap (λ z. a.1.items ++ z) (pairs_cut bs i d b c (omega arith) parts)
 
-  pub lower_at : (bs : List (K × Vec (K × V) A)) (i : ℕ) (b c d : K × Vec (K × V) A) → i < length bs → get_or (insert (set bs i b) (suc i) c) i d ≡ b
+  pub lower_at : (bs : List (K × Stock (K × V))) (i : ℕ) (b c d : K × Stock (K × V)) → i < length bs → get_or (insert (set bs i b) (suc i) c) i d ≡ b
   lower_at [] i b c d lt = absurd (omega arith)
   lower_at (a ∷ bs) zero b c d lt = refl
   lower_at (a ∷ bs) (suc i) b c d lt = lower_at bs i b c d (omega arith)
 
-  pub upper_at : (bs : List (K × Vec (K × V) A)) (i : ℕ) (b c d : K × Vec (K × V) A) → i < length bs → get_or (insert (set bs i b) (suc i) c) (suc i) d ≡ c
+  pub upper_at : (bs : List (K × Stock (K × V))) (i : ℕ) (b c d : K × Stock (K × V)) → i < length bs → get_or (insert (set bs i b) (suc i) c) (suc i) d ≡ c
   upper_at [] i b c d lt = absurd (omega arith)
   upper_at (a ∷ bs) zero b c d lt = refl
   upper_at (a ∷ bs) (suc i) b c d lt = upper_at bs i b c d (omega arith)
 
   -- a block in place of another with the same pairs
-  pub pairs_set : (bs : List (K × Vec (K × V) A)) (i : ℕ) (d c : K × Vec (K × V) A) → c.1.items ≡ (get_or bs i d).1.items → pairs_of (set bs i c) ≡ pairs_of bs
+  pub pairs_set : (bs : List (K × Stock (K × V))) (i : ℕ) (d c : K × Stock (K × V)) → c.1.items ≡ (get_or bs i d).1.items → pairs_of (set bs i c) ≡ pairs_of bs
   pairs_set [] i d c e = refl
   pairs_set (a ∷ bs) zero d c e = ap (λ z. z ++ pairs_of bs) e
   pairs_set (a ∷ bs) (suc i) d c e = ap (λ z. a.1.items ++ z) (pairs_set bs i d c e)
 
-  pub headed_set : (bs : List (K × Vec (K × V) A)) (i : ℕ) (c : K × Vec (K × V) A) → AreHeaded bs → BeginsWith c.0 c.1.items → AreHeaded (set bs i c)
+  pub headed_set : (bs : List (K × Stock (K × V))) (i : ℕ) (c : K × Stock (K × V)) → AreHeaded bs → BeginsWith c.0 c.1.items → AreHeaded (set bs i c)
   headed_set [] i c h begins = tt
   headed_set (a ∷ bs) zero c h begins = (begins, h.1)
   headed_set (a ∷ bs) (suc i) c h begins = (h.0, headed_set bs i c h.1 begins)
 
-  pub headed_insert : (bs : List (K × Vec (K × V) A)) (i : ℕ) (c : K × Vec (K × V) A) → AreHeaded bs → BeginsWith c.0 c.1.items → AreHeaded (insert bs i c)
+  pub headed_insert : (bs : List (K × Stock (K × V))) (i : ℕ) (c : K × Stock (K × V)) → AreHeaded bs → BeginsWith c.0 c.1.items → AreHeaded (insert bs i c)
   headed_insert [] zero c h begins = (begins, tt)
   headed_insert [] (suc i) c h begins = (begins, tt)
   headed_insert (a ∷ bs) zero c h begins = (begins, h)
   headed_insert (a ∷ bs) (suc i) c h begins = (h.0, headed_insert bs i c h.1 begins)
 
-  pub begins_at : (bs : List (K × Vec (K × V) A)) (i : ℕ) (d : K × Vec (K × V) A) → AreHeaded bs → i < length bs → BeginsWith (get_or bs i d).0 (get_or bs i d).1.items
+  pub begins_at : (bs : List (K × Stock (K × V))) (i : ℕ) (d : K × Stock (K × V)) → AreHeaded bs → i < length bs → BeginsWith (get_or bs i d).0 (get_or bs i d).1.items
   begins_at [] i d h lt = absurd (omega arith)
   begins_at (a ∷ bs) zero d h lt = h.0
   begins_at (a ∷ bs) (suc i) d h lt = begins_at bs i d h.1 (omega arith)
 
   -- how many pairs there are when a block changes
-  pub count_set : (bs : List (K × Vec (K × V) A)) (i : ℕ) (d c : K × Vec (K × V) A) → i < length bs → length (pairs_of (set bs i c)) + length (get_or bs i d).1.items ≡ length (pairs_of bs) + length c.1.items
+  pub count_set : (bs : List (K × Stock (K × V))) (i : ℕ) (d c : K × Stock (K × V)) → i < length bs → length (pairs_of (set bs i c)) + length (get_or bs i d).1.items ≡ length (pairs_of bs) + length c.1.items
   count_set [] i d c lt = absurd (omega arith)
   count_set (a ∷ bs) zero d c lt = omega (arith, length-append c.1.items (pairs_of bs), length-append a.1.items (pairs_of bs))
   count_set (a ∷ bs) (suc i) d c lt = omega (arith, length-append a.1.items (pairs_of (set bs i c)), length-append a.1.items (pairs_of bs), count_set bs i d c (omega arith))
 
   -- a pair at the end
-  pub pairs_push : (bs : List (K × Vec (K × V) A)) (c : K × Vec (K × V) A) → pairs_of (bs ++ c ∷ []) ≡ pairs_of bs ++ c.1.items
+  pub pairs_push : (bs : List (K × Stock (K × V))) (c : K × Stock (K × V)) → pairs_of (bs ++ c ∷ []) ≡ pairs_of bs ++ c.1.items
   pairs_push [] c = append-nil c.1.items
   pairs_push (a ∷ bs) c = ap (λ z. a.1.items ++ z) (pairs_push bs c) ∙ sym (append_assoc a.1.items (pairs_of bs) c.1.items)
 
-  pub headed_push : (bs : List (K × Vec (K × V) A)) (c : K × Vec (K × V) A) → AreHeaded bs → BeginsWith c.0 c.1.items → AreHeaded (bs ++ c ∷ [])
+  pub headed_push : (bs : List (K × Stock (K × V))) (c : K × Stock (K × V)) → AreHeaded bs → BeginsWith c.0 c.1.items → AreHeaded (bs ++ c ∷ [])
   headed_push [] c h begins = (begins, tt)
   headed_push (a ∷ bs) c h begins = (h.0, headed_push bs c h.1 begins)
 
-  pub pairs_last : (bs : List (K × Vec (K × V) A)) (i : ℕ) (d c : K × Vec (K × V) A) (es : List (K × V)) → i + 1 ≡ length bs → c.1.items ≡ (get_or bs i d).1.items ++ es → pairs_of (set bs i c) ≡ pairs_of bs ++ es
+  pub pairs_last : (bs : List (K × Stock (K × V))) (i : ℕ) (d c : K × Stock (K × V)) (es : List (K × V)) → i + 1 ≡ length bs → c.1.items ≡ (get_or bs i d).1.items ++ es → pairs_of (set bs i c) ≡ pairs_of bs ++ es
   pairs_last [] i d c es last e = absurd (omega arith)
   pairs_last (a ∷ []) zero d c es last e = rw (append-nil, append-nil) e
   pairs_last (a ∷ b ∷ bs) zero d c es last e = absurd (omega arith)

@@ -4,5 +4,7 @@ pub mod PlainLaws
 pub mod Maps
 pub mod MapLaws
 pub mod Places
+pub mod Stocks
+pub mod Held
 pub mod Blocks
 pub mod Plans

@@ -1,23 +1,25 @@
 //! Pairs whose keys rise, kept in blocks: finding a key, making room for one, and changing in place.
 
-ghost use Rattle.std.specs.Prelude.{◌≡◌, ◌+◌, ◌≤◌, ◌<◌, ◌++◌, ℕ, List, None, IfOk, OnOk, length, option_copied, slice_index_or, vec_len, vec_capacity};
+ghost use Rattle.std.specs.Prelude.{◌≡◌, ◌+◌, ◌≤◌, ◌<◌, ◌++◌, ℕ, List, None, true, IfOk, OnOk, length, option_copied, slice_index_or, vec_len, vec_capacity};
 ghost use Rattle.fm_lattice.specs.Maps.{IsRising, lookup, put, replaced};
-ghost use Rattle.fm_lattice.specs.Blocks.{pairs_of, BeginsWith, AreHeaded, IsBlockOf, IsFullAt, TakesKey, IsSpare};
+ghost use Rattle.fm_lattice.specs.Blocks.{pairs_of, BeginsWith, AreHeaded, IsBlockOf, IsHomeOf, GoesToOwned, IsOwnedAt, IsFullAt, TakesKey, IsSpare};
 
+use crate::block::Block;
 use crate::chain::Chain;
-use crate::join::OutOfMemory;
-use crate::rising::{place, set};
+use crate::join::{Join, OutOfMemory};
+use crate::rising::place;
 use std::cmp::Ordering;
 
 // A block of so many pairs is cut before it takes one more.
-pub(crate) const FULL: usize = 128;
+pub(crate) const FULL: usize = 64;
 
 // Where the key's block is. O(log n).
-pub(crate) fn block_of<K: Chain, V>(blocks: &[(K, Vec<(K, V)>)], key: &K) -> usize
+pub(crate) fn block_of<K: Chain, V>(blocks: &[(K, Block<K, V>)], key: &K) -> usize
     requires some { 0 < length blocks.now }
     requires headed { AreHeaded blocks.now }
     requires rising { IsRising K.cmp (pairs_of blocks.now) }
-    ensures { IsBlockOf K.cmp key.now blocks.now result }
+    ensures block { IsBlockOf K.cmp key.now blocks.now result }
+    ensures home { IsHomeOf K.cmp key.now blocks.now result }
 {
     match place(blocks, key) {
         Ok(at) => at,
@@ -27,7 +29,7 @@ pub(crate) fn block_of<K: Chain, V>(blocks: &[(K, Vec<(K, V)>)], key: &K) -> usi
 }
 
 // The value at the key, if the key is there. O(log n).
-pub(crate) fn value_at<'a, K: Chain, V>(blocks: &'a [(K, Vec<(K, V)>)], key: &K) -> Option<&'a V>
+pub(crate) fn value_at<'a, K: Chain, V>(blocks: &'a [(K, Block<K, V>)], key: &K) -> Option<&'a V>
     requires headed { AreHeaded blocks.now }
     requires rising { IsRising K.cmp (pairs_of blocks.now) }
     ensures { option_copied result ≡ lookup K.cmp key.now (pairs_of blocks.now) }
@@ -35,17 +37,54 @@ pub(crate) fn value_at<'a, K: Chain, V>(blocks: &'a [(K, Vec<(K, V)>)], key: &K)
     if blocks.is_empty() {
         return None;
     }
-    let pairs = &blocks[block_of(blocks, key)].1;
+    value_in(blocks[block_of(blocks, key)].1.pairs(), key)
+}
+
+// The value at the key, if the key is there. O(log n).
+pub(crate) fn value_in<'a, K: Chain, V>(pairs: &'a [(K, V)], key: &K) -> Option<&'a V>
+    requires { IsRising K.cmp pairs.now }
+    ensures { option_copied result ≡ lookup K.cmp key.now pairs.now }
+{
     match place(pairs, key) {
         Ok(at) => Some(&pairs[at].1),
         Err(_) => None,
     }
 }
 
+// Lets the map have the key's block alone, and answers where the block is. O(log n), and a copy of the block's pairs where
+// others share it. After a refusal of memory the pairs are as they were.
+pub(crate) fn own_block<K: Chain, V: Join>(
+    blocks: &mut Vec<(K, Block<K, V>)>,
+    key: &K,
+) -> Result<usize, OutOfMemory>
+    requires some { 0 < vec_len blocks.old }
+    requires headed { AreHeaded blocks.old.items }
+    requires rising { IsRising K.cmp (pairs_of blocks.old.items) }
+    ensures pairs { pairs_of blocks.new.items ≡ pairs_of blocks.old.items }
+    ensures headed { AreHeaded blocks.new.items }
+    ensures len { vec_len blocks.new ≡ vec_len blocks.old }
+    ensures block { IfOk result (IsBlockOf K.cmp key.now blocks.new.items) }
+    ensures alone { IfOk result (IsOwnedAt blocks.new.items) }
+    ensures owned { OnOk result (GoesToOwned K.cmp blocks.new.items key.now) }
+    ensures keeps { OnOk result ((k : K) → GoesToOwned K.cmp blocks.old.items k → GoesToOwned K.cmp blocks.new.items k) }
+{
+    let at = block_of(blocks, key);
+    own(&mut blocks[at])?;
+    Ok(at)
+}
+
+fn own<K: Chain, V: Join>(block: &mut (K, Block<K, V>)) -> Result<(), OutOfMemory>
+    ensures key { block.new.0 ≡ block.old.0 }
+    ensures items { block.new.1.items ≡ block.old.1.items }
+    ensures owned { OnOk result (block.new.1.owned ≡ true) }
+{
+    block.1.own()
+}
+
 // Makes room in the key's block, which is cut where it is full, and answers where the block is.
 // After a refusal of memory the pairs are as they were.
-pub(crate) fn make_room<K: Chain, V: Drop>(
-    blocks: &mut Vec<(K, Vec<(K, V)>)>,
+pub(crate) fn make_room<K: Chain, V: Join>(
+    blocks: &mut Vec<(K, Block<K, V>)>,
     key: &K,
 ) -> Result<usize, OutOfMemory>
     requires some { 0 < vec_len blocks.old }
@@ -55,8 +94,8 @@ pub(crate) fn make_room<K: Chain, V: Drop>(
     ensures pairs { pairs_of blocks.new.items ≡ pairs_of blocks.old.items }
     ensures headed { AreHeaded blocks.new.items }
 {
-    let at = block_of(blocks, key);
-    if blocks[at].1.len() < FULL {
+    let at = own_block(blocks, key)?;
+    if blocks[at].1.pairs().len() < FULL {
         reserve_one(&mut blocks[at])?;
         return Ok(at);
     }
@@ -65,37 +104,39 @@ pub(crate) fn make_room<K: Chain, V: Drop>(
     Ok(cut(blocks, at, spare, key))
 }
 
-fn reserve_one<K: Chain, V: Drop>(block: &mut (K, Vec<(K, V)>)) -> Result<(), OutOfMemory>
+fn reserve_one<K: Chain, V: Join>(block: &mut (K, Block<K, V>)) -> Result<(), OutOfMemory>
     ensures key { block.new.0 ≡ block.old.0 }
     ensures items { block.new.1.items ≡ block.old.1.items }
-    ensures room { OnOk result (vec_len block.new.1 < vec_capacity block.new.1) }
+    ensures owned { OnOk result (block.new.1.owned ≡ true) }
+    ensures room { OnOk result (length block.new.1.items < block.new.1.room) }
 {
-    block.1.reserve(1)?;
-    Ok(())
+    block.1.reserve_one()
 }
 
 // As `make_room`, with a spare block in place of the allocator, so nothing can fail.
 pub(crate) fn take_room<K: Chain, V: Drop>(
-    blocks: &mut Vec<(K, Vec<(K, V)>)>,
+    blocks: &mut Vec<(K, Block<K, V>)>,
     spare: Vec<(K, V)>,
     key: &K,
 ) -> usize
     requires some { 0 < vec_len blocks.old }
     requires headed { AreHeaded blocks.old.items }
     requires rising { IsRising K.cmp (pairs_of blocks.old.items) }
+    requires owned { GoesToOwned K.cmp blocks.old.items key.now }
     requires empty { vec_len spare ≡ 0 }
-    requires spare { lookup K.cmp key.now (pairs_of blocks.old.items) ≡ None → 128 ≤ vec_capacity spare }
+    requires spare { lookup K.cmp key.now (pairs_of blocks.old.items) ≡ None → 64 ≤ vec_capacity spare }
     requires room { vec_len blocks.old < vec_capacity blocks.old }
     ensures takes { TakesKey K.cmp key.now blocks.new.items result }
     ensures pairs { pairs_of blocks.new.items ≡ pairs_of blocks.old.items }
     ensures headed { AreHeaded blocks.new.items }
+    ensures owned { (k : K) → GoesToOwned K.cmp blocks.old.items k → GoesToOwned K.cmp blocks.new.items k }
     ensures keeps { vec_len blocks.old ≤ vec_len blocks.new }
     ensures grows { vec_len blocks.new ≤ vec_len blocks.old + 1 }
     ensures capacity { vec_capacity blocks.new ≡ vec_capacity blocks.old }
 {
     let at = block_of(blocks, key);
-    let len = blocks[at].1.len();
-    if len < blocks[at].1.capacity() {
+    let len = blocks[at].1.pairs().len();
+    if len < blocks[at].1.room() {
         return at;
     }
     // The key is there, and needs no room.
@@ -110,33 +151,36 @@ pub(crate) fn take_room<K: Chain, V: Drop>(
 }
 
 // Moves the block's pairs to the spare one, which has more room.
-fn enlarge<K: Chain, V: Drop>(block: &mut (K, Vec<(K, V)>), mut spare: Vec<(K, V)>)
-    requires spare { IsSpare 128 spare }
-    requires small { vec_len block.old.1 < 128 }
+fn enlarge<K: Chain, V: Drop>(block: &mut (K, Block<K, V>), spare: Vec<(K, V)>)
+    requires owned { block.old.1.owned ≡ true }
+    requires spare { IsSpare 64 spare }
+    requires small { length block.old.1.items < 64 }
     ensures key { block.new.0 ≡ block.old.0 }
     ensures items { block.new.1.items ≡ block.old.1.items }
-    ensures room { vec_len block.new.1 < vec_capacity block.new.1 }
+    ensures owned { block.new.1.owned ≡ true }
+    ensures room { length block.new.1.items < block.new.1.room }
 {
-    spare.append(&mut block.1).unwrap();
-    block.1 = spare;
+    block.1.enlarge(spare);
 }
 
 // Cuts a full block in two, the upper pairs into the spare one, and answers which of both is the key's.
 fn cut<K: Chain, V: Drop>(
-    blocks: &mut Vec<(K, Vec<(K, V)>)>,
+    blocks: &mut Vec<(K, Block<K, V>)>,
     at: usize,
     spare: Vec<(K, V)>,
     key: &K,
 ) -> usize
     requires block { IsBlockOf K.cmp key.now blocks.old.items at }
-    requires full { IsFullAt 128 blocks.old.items at }
+    requires owned { IsOwnedAt blocks.old.items at }
+    requires full { IsFullAt 64 blocks.old.items at }
     requires headed { AreHeaded blocks.old.items }
     requires rising { IsRising K.cmp (pairs_of blocks.old.items) }
-    requires spare { IsSpare 128 spare }
+    requires spare { IsSpare 64 spare }
     requires room { vec_len blocks.old < vec_capacity blocks.old }
     ensures takes { TakesKey K.cmp key.now blocks.new.items result }
     ensures pairs { pairs_of blocks.new.items ≡ pairs_of blocks.old.items }
     ensures headed { AreHeaded blocks.new.items }
+    ensures owned { (k : K) → GoesToOwned K.cmp blocks.old.items k → GoesToOwned K.cmp blocks.new.items k }
     ensures grows { vec_len blocks.new ≡ vec_len blocks.old + 1 }
     ensures capacity { vec_capacity blocks.new ≡ vec_capacity blocks.old }
 {
@@ -153,12 +197,18 @@ fn cut<K: Chain, V: Drop>(
 
 // How many pairs of a full block go to a new one: half of them, but the last alone where the key goes to the end of all,
 // so that keys that come in order leave full blocks behind.
-fn moved_count<K: Chain, V>(blocks: &[(K, Vec<(K, V)>)], at: usize, key: &K) -> usize
+fn moved_count<K: Chain, V>(blocks: &[(K, Block<K, V>)], at: usize, key: &K) -> usize
     requires { at < length blocks.now }
     ensures some { 0 < result }
-    ensures half { result ≤ 64 }
+    ensures half { result ≤ 32 }
 {
-    if at + 1 == blocks.len() && blocks[at].1.last().is_some_and(|pair| pair.0 < *key) {
+    if at + 1 == blocks.len()
+        && blocks[at]
+            .1
+            .pairs()
+            .last()
+            .is_some_and(|pair| pair.0 < *key)
+    {
         1
     } else {
         FULL / 2
@@ -167,46 +217,31 @@ fn moved_count<K: Chain, V>(blocks: &[(K, Vec<(K, V)>)], at: usize, key: &K) -> 
 
 // Moves the last pairs, so many of them, into the spare block.
 fn split<K: Chain, V: Drop>(
-    block: &mut (K, Vec<(K, V)>),
+    block: &mut (K, Block<K, V>),
     mut spare: Vec<(K, V)>,
     count: usize,
-) -> (K, Vec<(K, V)>)
-    requires spare { IsSpare 128 spare }
+) -> (K, Block<K, V>)
+    requires owned { block.old.1.owned ≡ true }
+    requires spare { IsSpare 64 spare }
     requires some { 0 < count }
-    requires half { count ≤ 64 }
-    requires full { 128 ≤ vec_len block.old.1 }
+    requires half { count ≤ 32 }
+    requires full { 64 ≤ length block.old.1.items }
     ensures parts { block.new.1.items ++ result.1.items ≡ block.old.1.items }
     ensures key { block.new.0 ≡ block.old.0 }
     ensures first { BeginsWith result.0 result.1.items }
     ensures lower { 0 < length block.new.1.items }
-    ensures lower_room { vec_len block.new.1 < vec_capacity block.new.1 }
-    ensures upper_room { vec_len result.1 < vec_capacity result.1 }
+    ensures lower_owned { block.new.1.owned ≡ true }
+    ensures lower_room { length block.new.1.items < block.new.1.room }
+    ensures upper_owned { result.1.owned ≡ true }
+    ensures upper_room { length result.1.items < result.1.room }
 {
-    move_last(&mut block.1, &mut spare, count);
-    (spare[0].0, spare)
-}
-
-fn move_last<X: Drop>(from: &mut Vec<X>, to: &mut Vec<X>, count: usize)
-    requires empty { vec_len to.old ≡ 0 }
-    requires enough { count ≤ vec_len from.old }
-    requires room { count ≤ vec_capacity to.old }
-    ensures parts { from.new.items ++ to.new.items ≡ from.old.items }
-    ensures len { vec_len to.new ≡ count }
-    ensures from_capacity { vec_capacity from.new ≡ vec_capacity from.old }
-    ensures to_capacity { vec_capacity to.old ≤ vec_capacity to.new }
-{
-    let keep = from.len() - count;
-    while from.len() > keep {
-        if let Some(last) = from.pop() {
-            to.push(last).unwrap();
-        }
-    }
-    to.reverse();
+    block.1.move_last(&mut spare, count);
+    (spare[0].0, Block::of(spare))
 }
 
 // Sets the value at the key in its block, which takes it, so nothing can fail. Answers how many pairs there are more.
 pub(crate) fn write<K: Chain, V: Drop>(
-    blocks: &mut Vec<(K, Vec<(K, V)>)>,
+    blocks: &mut Vec<(K, Block<K, V>)>,
     at: usize,
     key: K,
     value: V,
@@ -217,6 +252,7 @@ pub(crate) fn write<K: Chain, V: Drop>(
     ensures pairs { pairs_of blocks.new.items ≡ put K.cmp replaced key value (pairs_of blocks.old.items) }
     ensures headed { AreHeaded blocks.new.items }
     ensures counted { length (pairs_of blocks.new.items) ≡ length (pairs_of blocks.old.items) + result }
+    ensures owned { (k : K) → GoesToOwned K.cmp blocks.old.items k → GoesToOwned K.cmp blocks.new.items k }
     ensures few { result ≤ 1 }
     ensures len { vec_len blocks.new ≡ vec_len blocks.old }
     ensures capacity { vec_capacity blocks.new ≡ vec_capacity blocks.old }
@@ -224,16 +260,61 @@ pub(crate) fn write<K: Chain, V: Drop>(
     write_in(&mut blocks[at], key, value)
 }
 
-fn write_in<K: Chain, V: Drop>(block: &mut (K, Vec<(K, V)>), key: K, value: V) -> usize
+fn write_in<K: Chain, V: Drop>(block: &mut (K, Block<K, V>), key: K, value: V) -> usize
+    requires owned { block.old.1.owned ≡ true }
     requires rising { IsRising K.cmp block.old.1.items }
-    requires room { lookup K.cmp key block.old.1.items ≡ None → vec_len block.old.1 < vec_capacity block.old.1 }
+    requires room { lookup K.cmp key block.old.1.items ≡ None → length block.old.1.items < block.old.1.room }
     ensures items { block.new.1.items ≡ put K.cmp replaced key value block.old.1.items }
     ensures first { BeginsWith block.new.0 block.new.1.items }
+    ensures owned { block.new.1.owned ≡ true }
     ensures counted { length block.old.1.items + result ≡ length block.new.1.items }
     ensures few { result ≤ 1 }
 {
-    let before = block.1.len();
-    set(&mut block.1, key, value);
-    block.0 = block.1[0].0;
-    block.1.len() - before
+    let before = block.1.pairs().len();
+    block.1.set(key, value);
+    block.0 = block.1.pairs()[0].0;
+    block.1.pairs().len() - before
+}
+
+// The same blocks again: a pointer to each that is shared, a copy of each other.
+pub(crate) fn copied_blocks<K: Chain, V: Join>(
+    blocks: &Vec<(K, Block<K, V>)>,
+) -> Result<Vec<(K, Block<K, V>)>, OutOfMemory>
+    requires { AreHeaded blocks.now.items }
+    ensures pairs { IfOk result (λ copies. pairs_of copies.items ≡ pairs_of blocks.now.items) }
+    ensures headed { IfOk result (λ copies. AreHeaded copies.items) }
+{
+    let mut copies = Vec::with_capacity(*blocks.allocator(), blocks.len())?;
+    for block in blocks.as_slice() {
+        copies.push((block.0, block.1.copy()?))?;
+    }
+    Ok(copies)
+}
+
+// The same blocks again, each shared from then on. After a refusal of memory the pairs are as they were.
+pub(crate) fn shared_blocks<K: Chain, V: Drop>(
+    blocks: &mut Vec<(K, Block<K, V>)>,
+) -> Result<Vec<(K, Block<K, V>)>, OutOfMemory>
+    requires { AreHeaded blocks.old.items }
+    ensures same { pairs_of blocks.new.items ≡ pairs_of blocks.old.items }
+    ensures same_headed { AreHeaded blocks.new.items }
+    ensures pairs { IfOk result (λ others. pairs_of others.items ≡ pairs_of blocks.old.items) }
+    ensures headed { IfOk result (λ others. AreHeaded others.items) }
+{
+    let mut others = Vec::with_capacity(*blocks.allocator(), blocks.len())?;
+    for at in 0..blocks.len() {
+        others.push(share_one(&mut blocks[at])?)?;
+    }
+    Ok(others)
+}
+
+fn share_one<K: Chain, V: Drop>(
+    block: &mut (K, Block<K, V>),
+) -> Result<(K, Block<K, V>), OutOfMemory>
+    ensures key { block.new.0 ≡ block.old.0 }
+    ensures items { block.new.1.items ≡ block.old.1.items }
+    ensures other_key { IfOk result (λ other. other.0 ≡ block.old.0) }
+    ensures other_items { IfOk result (λ other. other.1.items ≡ block.old.1.items) }
+{
+    Ok((block.0, block.1.share()?))
 }

@@ -1,6 +1,7 @@
 //! Joins: values that merge, whatever the order and however often.
 #![tactic(auto)]
 
+mod block;
 mod blocks;
 pub mod chain;
 pub mod join;

@@ -4,9 +4,10 @@ ghost use Rattle.std.specs.Prelude.{◌≡◌, ◌↔◌, ◌<◌, ◌^◌, List
 ghost use Rattle.fm_lattice.specs.Maps.{IsMap, lookup, put, map_join, JoinsByKey};
 ghost use Rattle.fm_lattice.specs.MapLaws.{map_laws};
 
-use crate::blocks::{make_room, value_at, write};
+use crate::block::Block;
+use crate::blocks::{copied_blocks, make_room, shared_blocks, value_at, write};
 use crate::chain::Chain;
-use crate::join::{Join, OutOfMemory, copied};
+use crate::join::{Join, OutOfMemory};
 use crate::merging::{counted, is_below, joined_at, merged};
 pub use crate::pairs::Pairs;
 use crate::plan::{carry_out, plan_join};
@@ -17,7 +18,7 @@ use std::marker::Model;
 #[derive(Drop)]
 pub struct JoinMap<K: Chain, V: Join> {
     // Each block with its first key.
-    blocks: Vec<(K, Vec<(K, V)>)>,
+    blocks: Vec<(K, Block<K, V>)>,
     len: usize,
 }
 
@@ -88,7 +89,7 @@ impl<K: Chain, V: Join> JoinMap<K, V> {
         if self.blocks.is_empty() {
             let mut pairs = Vec::with_capacity(*self.blocks.allocator(), 1)?;
             pairs.push((key, value))?;
-            self.blocks.push((key, pairs))?;
+            self.blocks.push((key, Block::of(pairs)))?;
             self.len = 1;
             return Ok(());
         }
@@ -113,11 +114,29 @@ impl<K: Chain, V: Join> JoinMap<K, V> {
         Ok(())
     }
 
-    /// The map again, in memory of its own. O(n), and the copies of the values.
+    /// The map again. Blocks that are shared already cost a pointer each, and from the others each pair is copied: O(n), and
+    /// the copies of the values, where nothing was shared.
     pub fn copy(&self) -> Result<JoinMap<K, V>, OutOfMemory>
         ensures { IfOk result (λ r. r ≡ self.now) }
     {
-        copied(self)
+        Ok(JoinMap {
+            blocks: copied_blocks(&self.blocks)?,
+            len: self.len,
+        })
+    }
+
+    /// The map again, with which this one shares what it has: no pair is copied until one of both is written to, and then those
+    /// of the block that is written in. O(n / 32), and memory for each block that was written in since it was last shared.
+    /// After a refusal of memory the map is as it was.
+    pub fn share(&mut self) -> Result<JoinMap<K, V>, OutOfMemory>
+        ensures ok { IfOk result (λ r. r ≡ self.old) }
+        ensures same { self.new ≡ self.old }
+    {
+        let blocks = shared_blocks(&mut self.blocks)?;
+        Ok(JoinMap {
+            blocks,
+            len: self.len,
+        })
     }
 }
 

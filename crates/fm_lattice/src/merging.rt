@@ -2,9 +2,10 @@
 
 ghost use Rattle.std.specs.Prelude.{◌≡◌, ◌↔◌, IsTrue, ◌+◌, ◌≤◌, ◌<◌, ◌++◌, ◌∷◌, [], List, None, IfOk, OnOk, map, length, vec_len, vec_capacity};
 ghost use Rattle.fm_lattice.specs.Maps.{IsRising, lookup, put, map_join, replaced, joined_onto, joined_pair};
-ghost use Rattle.fm_lattice.specs.Blocks.{pairs_of, AreHeaded, HaveSpares};
+ghost use Rattle.fm_lattice.specs.Blocks.{pairs_of, AreHeaded, HaveSpares, GoesToOwned, GoToOwned};
 
-use crate::blocks::{FULL, take_room, value_at, write};
+use crate::block::Block;
+use crate::blocks::{FULL, own_block, take_room, value_at, value_in, write};
 use crate::chain::Chain;
 use crate::join::{Join, OutOfMemory, copied};
 use crate::pairs::Pairs;
@@ -14,9 +15,9 @@ use std::cmp::Ordering;
 // The pairs of both, joined where a key is in both, in blocks that are filled in order. O(n + m).
 pub(crate) fn merged<K: Chain, V: Join>(
     alloc: Global,
-    left: &[(K, Vec<(K, V)>)],
-    right: &[(K, Vec<(K, V)>)],
-) -> Result<Vec<(K, Vec<(K, V)>)>, OutOfMemory>
+    left: &[(K, Block<K, V>)],
+    right: &[(K, Block<K, V>)],
+) -> Result<Vec<(K, Block<K, V>)>, OutOfMemory>
     requires left_headed { AreHeaded left.now }
     requires right_headed { AreHeaded right.now }
     requires right_rises { IsRising K.cmp (pairs_of right.now) }
@@ -50,8 +51,8 @@ pub(crate) fn merged<K: Chain, V: Join>(
 
 // Whether the join of both is the right one: each pair of the left has its key there, with a value above its own. O(n + m).
 pub(crate) fn is_below<K: Chain, V: Join>(
-    left: &[(K, Vec<(K, V)>)],
-    right: &[(K, Vec<(K, V)>)],
+    left: &[(K, Block<K, V>)],
+    right: &[(K, Block<K, V>)],
 ) -> bool
     requires left_headed { AreHeaded left.now }
     requires right_headed { AreHeaded right.now }
@@ -81,7 +82,7 @@ pub(crate) fn is_below<K: Chain, V: Join>(
 
 // Adds a copy of each.
 fn append_rest<K: Chain, V: Join>(
-    blocks: &mut Vec<(K, Vec<(K, V)>)>,
+    blocks: &mut Vec<(K, Block<K, V>)>,
     mut rest: Pairs<'_, K, V>,
 ) -> Result<(), OutOfMemory>
     requires { AreHeaded blocks.old.items }
@@ -96,8 +97,8 @@ fn append_rest<K: Chain, V: Join>(
 }
 
 // Adds the pair at the end.
-fn append<K: Chain, V: Drop>(
-    blocks: &mut Vec<(K, Vec<(K, V)>)>,
+fn append<K: Chain, V: Join>(
+    blocks: &mut Vec<(K, Block<K, V>)>,
     key: K,
     value: V,
 ) -> Result<(), OutOfMemory>
@@ -106,46 +107,46 @@ fn append<K: Chain, V: Drop>(
     ensures headed { OnOk result (AreHeaded blocks.new.items) }
 {
     let count = blocks.len();
-    if count > 0 && blocks[count - 1].1.len() < FULL {
+    if count > 0 && blocks[count - 1].1.pairs().len() < FULL {
         push_in(&mut blocks[count - 1], key, value)?;
         return Ok(());
     }
     let room = if count == 0 { 1 } else { FULL };
     let mut pairs = Vec::with_capacity(*blocks.allocator(), room)?;
     pairs.push((key, value))?;
-    blocks.push((key, pairs))?;
+    blocks.push((key, Block::of(pairs)))?;
     Ok(())
 }
 
-fn push_in<K: Chain, V: Drop>(
-    block: &mut (K, Vec<(K, V)>),
+fn push_in<K: Chain, V: Join>(
+    block: &mut (K, Block<K, V>),
     key: K,
     value: V,
 ) -> Result<(), OutOfMemory>
     ensures key { block.new.0 ≡ block.old.0 }
     ensures items { OnOk result (block.new.1.items ≡ block.old.1.items ++ (key, value) ∷ []) }
 {
-    block.1.push((key, value))?;
-    Ok(())
+    block.1.push(key, value)
 }
 
 // How many pairs there are.
-pub(crate) fn counted<K, V>(blocks: &[(K, Vec<(K, V)>)]) -> Result<usize, OutOfMemory>
+pub(crate) fn counted<K, V>(blocks: &[(K, Block<K, V>)]) -> Result<usize, OutOfMemory>
     ensures { IfOk result (λ count. count ≡ length (pairs_of blocks.now)) }
 {
     let mut count = 0usize;
     for block in blocks {
-        if usize::MAX - count < block.1.len() {
+        let len = block.1.pairs().len();
+        if usize::MAX - count < len {
             return Err(OutOfMemory);
         }
-        count += block.1.len();
+        count += len;
     }
     Ok(count)
 }
 
 // The value joined to what stands at its key, if anything does. O(log n).
 pub(crate) fn joined_at<K: Chain, V: Join>(
-    blocks: &[(K, Vec<(K, V)>)],
+    blocks: &[(K, Block<K, V>)],
     key: &K,
     value: V,
 ) -> Result<V, OutOfMemory>
@@ -159,18 +160,25 @@ pub(crate) fn joined_at<K: Chain, V: Join>(
     }
 }
 
-// For each key of the right, what the join of both has there, and a spare block where the left lacks the key. O(m log n).
+// For each key of the right, what the join of both has there, and a spare block where the left lacks the key. The left
+// gets each block alone that one of the keys goes to. O(m log n), and a copy of each such block that others share.
+// After a refusal of memory the pairs are as they were.
 pub(crate) fn changes<K: Chain, V: Join>(
-    alloc: Global,
-    left: &[(K, Vec<(K, V)>)],
-    right: &[(K, Vec<(K, V)>)],
+    left: &mut Vec<(K, Block<K, V>)>,
+    right: &[(K, Block<K, V>)],
 ) -> Result<Vec<((K, V), Vec<(K, V)>)>, OutOfMemory>
-    requires left_headed { AreHeaded left.now }
-    requires left_rises { IsRising K.cmp (pairs_of left.now) }
+    requires some { 0 < vec_len left.old }
+    requires left_headed { AreHeaded left.old.items }
+    requires left_rises { IsRising K.cmp (pairs_of left.old.items) }
     requires right_headed { AreHeaded right.now }
-    ensures pairs { IfOk result (λ changes. map (λ c. c.0) changes.items ≡ map (joined_pair K.cmp V.join (pairs_of left.now)) (pairs_of right.now)) }
-    ensures spares { IfOk result (λ changes. HaveSpares K.cmp 128 (pairs_of left.now) changes.items) }
+    ensures left_pairs { pairs_of left.new.items ≡ pairs_of left.old.items }
+    ensures left_headed { AreHeaded left.new.items }
+    ensures left_len { vec_len left.new ≡ vec_len left.old }
+    ensures pairs { IfOk result (λ changes. map (λ c. c.0) changes.items ≡ map (joined_pair K.cmp V.join (pairs_of left.old.items)) (pairs_of right.now)) }
+    ensures spares { IfOk result (λ changes. HaveSpares K.cmp 64 (pairs_of left.old.items) changes.items) }
+    ensures owned { IfOk result (λ changes. GoToOwned K.cmp left.new.items changes.items) }
 {
+    let alloc = *left.allocator();
     let mut changes = Vec::new(alloc);
     let mut rest = Pairs::of(right);
     'rest: while let Some(pair) = rest.first() {
@@ -183,16 +191,36 @@ pub(crate) fn changes<K: Chain, V: Join>(
 
 fn change_at<K: Chain, V: Join>(
     alloc: Global,
-    left: &[(K, Vec<(K, V)>)],
+    left: &mut Vec<(K, Block<K, V>)>,
     pair: &(K, V),
 ) -> Result<((K, V), Vec<(K, V)>), OutOfMemory>
-    requires headed { AreHeaded left.now }
-    requires rises { IsRising K.cmp (pairs_of left.now) }
-    ensures pair { IfOk result (λ change. change.0 ≡ joined_pair K.cmp V.join (pairs_of left.now) pair.now) }
+    requires some { 0 < vec_len left.old }
+    requires headed { AreHeaded left.old.items }
+    requires rises { IsRising K.cmp (pairs_of left.old.items) }
+    ensures left_pairs { pairs_of left.new.items ≡ pairs_of left.old.items }
+    ensures left_headed { AreHeaded left.new.items }
+    ensures left_len { vec_len left.new ≡ vec_len left.old }
+    ensures pair { IfOk result (λ change. change.0 ≡ joined_pair K.cmp V.join (pairs_of left.old.items) pair.now) }
     ensures empty { IfOk result (λ change. vec_len change.1 ≡ 0) }
-    ensures spare { IfOk result (λ change. lookup K.cmp pair.now.0 (pairs_of left.now) ≡ None → 128 ≤ vec_capacity change.1) }
+    ensures spare { IfOk result (λ change. lookup K.cmp pair.now.0 (pairs_of left.old.items) ≡ None → 64 ≤ vec_capacity change.1) }
+    ensures owned { OnOk result (GoesToOwned K.cmp left.new.items pair.now.0) }
+    ensures keeps { OnOk result ((k : K) → GoesToOwned K.cmp left.old.items k → GoesToOwned K.cmp left.new.items k) }
 {
-    match value_at(left, &pair.0) {
+    let at = own_block(left, &pair.0)?;
+    change_in(alloc, left[at].1.pairs(), pair)
+}
+
+fn change_in<K: Chain, V: Join>(
+    alloc: Global,
+    there: &[(K, V)],
+    pair: &(K, V),
+) -> Result<((K, V), Vec<(K, V)>), OutOfMemory>
+    requires { IsRising K.cmp there.now }
+    ensures pair { IfOk result (λ change. change.0 ≡ joined_pair K.cmp V.join there.now pair.now) }
+    ensures empty { IfOk result (λ change. vec_len change.1 ≡ 0) }
+    ensures spare { IfOk result (λ change. lookup K.cmp pair.now.0 there.now ≡ None → 64 ≤ vec_capacity change.1) }
+{
+    match value_in(there, &pair.0) {
         Some(value) => Ok(((pair.0, value.joined(&pair.1)?), Vec::new(alloc))),
         None => Ok(((pair.0, copied(&pair.1)?), Vec::with_capacity(alloc, FULL)?)),
     }
@@ -201,13 +229,14 @@ fn change_at<K: Chain, V: Join>(
 // Makes each change, and answers how many pairs there are more. There is room for all, so nothing can fail.
 // O(m log n) and the moves within blocks.
 pub(crate) fn apply<K: Chain, V: Drop>(
-    blocks: &mut Vec<(K, Vec<(K, V)>)>,
+    blocks: &mut Vec<(K, Block<K, V>)>,
     changes: Vec<((K, V), Vec<(K, V)>)>,
 ) -> usize
     requires some { 0 < vec_len blocks.old }
     requires headed { AreHeaded blocks.old.items }
     requires rising { IsRising K.cmp (pairs_of blocks.old.items) }
-    requires spares { HaveSpares K.cmp 128 (pairs_of blocks.old.items) changes.items }
+    requires spares { HaveSpares K.cmp 64 (pairs_of blocks.old.items) changes.items }
+    requires owned { GoToOwned K.cmp blocks.old.items changes.items }
     requires room { vec_len blocks.old + vec_len changes ≤ vec_capacity blocks.old }
     ensures pairs { pairs_of blocks.new.items ≡ map_join K.cmp replaced (pairs_of blocks.old.items) (map (λ c. c.0) changes.items) }
     ensures headed { AreHeaded blocks.new.items }

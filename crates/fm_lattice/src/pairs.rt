@@ -4,13 +4,14 @@ ghost use Rattle.std.specs.Prelude.{◌≡◌, ◌∷◌, List, [], ◌++◌, dr
 ghost use Rattle.std.specs.Iterator.{YieldsFirstBy, item_count};
 ghost use Rattle.fm_lattice.specs.Blocks.{pairs_of, AreHeaded};
 
+use crate::block::Block;
 use std::marker::Model;
 
 /// The pairs of a map that are left, with keys rising.
 #[derive(Drop)]
 pub struct Pairs<'a, K, V> {
     rest: &'a [(K, V)],
-    later: &'a [(K, Vec<(K, V)>)],
+    later: &'a [(K, Block<K, V>)],
 }
 
 impl<'a, K, V> Model for Pairs<'a, K, V> {
@@ -23,7 +24,7 @@ impl<'a, K, V> Model for Pairs<'a, K, V> {
 
 impl<'a, K, V> Pairs<'a, K, V> {
     // The pairs of the blocks.
-    pub(crate) fn of(blocks: &'a [(K, Vec<(K, V)>)]) -> Pairs<'a, K, V>
+    pub(crate) fn of(blocks: &'a [(K, Block<K, V>)]) -> Pairs<'a, K, V>
         requires { AreHeaded blocks.now }
         ensures { result ≡ pairs_of blocks.now }
     {
@@ -41,7 +42,7 @@ impl<'a, K, V> Pairs<'a, K, V> {
             return Some(pair);
         }
         let (block, _) = self.later.split_first()?;
-        block.1.first()
+        block.1.pairs().first()
     }
 
     // Goes behind the first pair.
@@ -51,7 +52,7 @@ impl<'a, K, V> Pairs<'a, K, V> {
         if !self.rest.is_empty() {
             self.rest = &self.rest[1..];
         } else if let Some((block, later)) = self.later.split_first() {
-            self.rest = &block.1[1..];
+            self.rest = &block.1.pairs()[1..];
             self.later = later;
         }
     }

@@ -5,6 +5,7 @@ ghost use Rattle.fm_lattice.specs.Maps.{IsRising, map_join};
 ghost use Rattle.fm_lattice.specs.Blocks.{pairs_of, AreHeaded, IsKept};
 ghost use Rattle.fm_lattice.specs.Plans.{IsReady, outcome};
 
+use crate::block::Block;
 use crate::chain::Chain;
 use crate::join::{Join, OutOfMemory};
 use crate::merging::{apply, changes, counted, merged};
@@ -13,22 +14,24 @@ use crate::merging::{apply, changes, counted, merged};
 #[derive(Drop)]
 pub(crate) struct Plan<K: Chain, V: Drop> {
     pub(crate) aside: bool,
-    pub(crate) whole: Vec<(K, Vec<(K, V)>)>,
+    pub(crate) whole: Vec<(K, Block<K, V>)>,
     pub(crate) len: usize,
     pub(crate) changes: Vec<((K, V), Vec<(K, V)>)>,
 }
 
 // Plans to join the other pairs in: by changes where they are fewer than the blocks here, O(m log n), else by a merge
-// aside, O(n + m).
+// aside, O(n + m). The changes are of blocks that the map has alone. After a refusal of memory the pairs are as they were.
+#[tactic(auto, using(crate::proofs::Planned::kept_same))]
 pub(crate) fn plan_join<K: Chain, V: Join>(
-    blocks: &mut Vec<(K, Vec<(K, V)>)>,
+    blocks: &mut Vec<(K, Block<K, V>)>,
     len: usize,
-    other: &[(K, Vec<(K, V)>)],
+    other: &[(K, Block<K, V>)],
     count: usize,
 ) -> Result<Plan<K, V>, OutOfMemory>
     requires here { IsKept K.cmp V.is_value blocks.old.items len }
     requires there { IsKept K.cmp V.is_value other.now count }
-    ensures items { blocks.new.items ≡ blocks.old.items }
+    ensures pairs { pairs_of blocks.new.items ≡ pairs_of blocks.old.items }
+    ensures kept { IsKept K.cmp V.is_value blocks.new.items len }
     ensures ready { IfOk result (λ plan. IsReady K.cmp blocks.new len plan.aside plan.whole.items plan.len plan.changes) }
     ensures outcome { IfOk result (λ plan. outcome K.cmp (pairs_of blocks.old.items) plan.aside plan.whole.items plan.changes.items ≡ map_join K.cmp V.join (pairs_of blocks.old.items) (pairs_of other.now)) }
 {
@@ -36,7 +39,7 @@ pub(crate) fn plan_join<K: Chain, V: Join>(
     if blocks.is_empty() || blocks.len() < count {
         return plan_aside(blocks, other);
     }
-    let changes = changes(alloc, blocks, other)?;
+    let changes = changes(blocks, other)?;
     if usize::MAX - len < changes.len() {
         return Err(OutOfMemory);
     }
@@ -50,8 +53,8 @@ pub(crate) fn plan_join<K: Chain, V: Join>(
 }
 
 fn plan_aside<K: Chain, V: Join>(
-    blocks: &Vec<(K, Vec<(K, V)>)>,
-    other: &[(K, Vec<(K, V)>)],
+    blocks: &Vec<(K, Block<K, V>)>,
+    other: &[(K, Block<K, V>)],
 ) -> Result<Plan<K, V>, OutOfMemory>
     requires here { AreHeaded blocks.now.items }
     requires there { AreHeaded other.now }
@@ -74,7 +77,7 @@ fn plan_aside<K: Chain, V: Join>(
 
 // Carries the plan out, and answers how many pairs there are then.
 pub(crate) fn carry_out<K: Chain, V: Drop>(
-    blocks: &mut Vec<(K, Vec<(K, V)>)>,
+    blocks: &mut Vec<(K, Block<K, V>)>,
     len: usize,
     plan: Plan<K, V>,
 ) -> usize

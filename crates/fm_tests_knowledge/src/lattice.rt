@@ -209,6 +209,33 @@ fn the_laws_hold_of_lexicographic_values(rt: HostRuntime) -> Result<(), Fail> {
 
 type Counts = JoinMap<u32, Max<u8>>;
 
+// What is shared or copied stays as it was, in each of several blocks.
+#[test]
+fn what_is_shared_stays_as_it_was(rt: HostRuntime) -> Result<(), Fail> {
+    let mut map: Counts = JoinMap::new(rt.alloc());
+    for key in 0..400u32 {
+        map.put(key, Max(1))?;
+    }
+    let kept = map.share()?;
+    let copy = kept.copy()?;
+    map.put(7, Max(9))?;
+    map.put(500, Max(2))?;
+    let mut more: Counts = JoinMap::new(rt.alloc());
+    more.put(300, Max(8))?;
+    map.join_into(&more)?;
+    assert!(rt; is_same(&kept, &copy) && kept.leq(&map) && !map.leq(&kept));
+    assert_eq!(rt;
+        (kept.len(), kept.get(&7), kept.get(&300)),
+        (400, Some(&Max(1)), Some(&Max(1)))
+    );
+    assert_eq!(rt;
+        (map.len(), map.get(&7), map.get(&300)),
+        (401, Some(&Max(9)), Some(&Max(8)))
+    );
+    assert_eq!(rt; (kept.get(&500), map.get(&500)), (None, Some(&Max(2))));
+    Ok(())
+}
+
 // A map of each of so many keys.
 fn single_keys(alloc: Global, count: u32) -> Result<Vec<Counts>, Fail> {
     let mut maps = Vec::new(alloc);

@@ -1,7 +1,11 @@
-use Rattle.std.proofs.Common.{map, ap}
+use Rattle.std.proofs.Common.{map, ap, arith}
 use Rattle.fm_gossip.specs.Served.{IsServed, AreServed}
+use Rattle.fm_gossip.proofs.Drained.{none_served}
 use Rattle.fm_gossip.proofs.Members.{one_more, of_ok}
 use Rattle.fm_gossip.proofs.fleet.+serve_all.Goals as goal
+
+pub returns-in_default : goal.returns-in_default
+returns-in_default g t c = none_served c.new.result.items (λ z. z.state) c.args.works.items (omega (arith, c.in_default.ensures.cases.0, c.args.works.ok.0)) c.new.ensures.items
 
 pub returns : goal.returns
 returns g t c =

@@ -1,5 +1,11 @@
+use Rattle.std.proofs.Common.{rules, ◌+◌, ◌≤◌, vec_len, vec_capacity, arith}
 use Rattle.fm_gossip.proofs.Seated.{served, each_ok}
 use Rattle.fm_gossip.proofs.serving.serve.Goals as goal
+
+pub push_reserved-requires-2 : goal.push_reserved-requires-2
+push_reserved-requires-2 g c =
+    let room : vec_len c.reserve.new.self + 2 ≤ vec_capacity c.reserve.new.self = search rules in
+    omega (arith, room, c.push_reserved.ensures.len, c.push_reserved.ensures.capacity)
 
 pub returns : goal.returns
 returns g c =

@@ -3,13 +3,13 @@ use Rattle.fm_lattice.specs.Blocks.{pairs_of, BeginsWith, AreHeaded}
 use Rattle.fm_lattice.proofs.InBlocks.{begins_at, begins_more, headed_set, headed_push, pairs_last, pairs_push}
 use Rattle.fm_lattice.proofs.merging.append.Goals as goal
 
-pub returns-then-len-lt-FULL-clause-pairs : goal.returns-then-len-lt-FULL-clause-pairs
-returns-then-len-lt-FULL-clause-pairs g c =
+pub returns-then-pairs-lt-FULL-clause-pairs : goal.returns-then-pairs-lt-FULL-clause-pairs
+returns-then-pairs-lt-FULL-clause-pairs g c =
     let last : (c.len-count.result - 1) + 1 ≡ length c.args.blocks.now.items = search arith in
     pairs_last c.args.blocks.now.items (c.len-count.result - 1) c.index_mut.result.now c.push_in.new.block _ last (c.in_ok-push_in.ensures.items ∙ ap (λ z. z.1.items ++ (c.args.key, c.args.value) ∷ []) c.index_mut.ensures.value)
 
-pub returns-then-len-lt-FULL-clause-headed : goal.returns-then-len-lt-FULL-clause-headed
-returns-then-len-lt-FULL-clause-headed g c =
+pub returns-then-pairs-lt-FULL-clause-headed : goal.returns-then-pairs-lt-FULL-clause-headed
+returns-then-pairs-lt-FULL-clause-headed g c =
     let last : (c.len-count.result - 1) + 1 ≡ length c.args.blocks.now.items = search arith in
     let old = begins_at c.args.blocks.now.items (c.len-count.result - 1) c.index_mut.result.now c.requires (omega (arith, last)) in
     let block = c.index_mut.result.now in
@@ -19,10 +19,12 @@ returns-then-len-lt-FULL-clause-headed g c =
 
 pub returns-clause-pairs : goal.returns-clause-pairs
 returns-clause-pairs g c =
-    let block : c.push.new.self.items ≡ (c.args.key, c.args.value) ∷ [] = rw c.in_ok-pairs.ensures.items at c.in_ok-push.ensures.items in
-    ap pairs_of c.in_ok-push-2.ensures.items ∙ pairs_push c.args.blocks.now.items (c.args.key, c.push.new.self) ∙ ap (λ z. pairs_of c.args.blocks.now.items ++ z) block
+    let pushed : c.push.new.self.items ≡ (c.args.key, c.args.value) ∷ [] = rw c.in_ok-pairs.ensures.items at c.in_ok-push.ensures.items in
+    let block : c.of.result.items ≡ (c.args.key, c.args.value) ∷ [] = ap (λ z. z.items) c.of.ensures ∙ pushed in
+    ap pairs_of c.in_ok-push-2.ensures.items ∙ pairs_push c.args.blocks.now.items (c.args.key, c.of.result) ∙ ap (λ z. pairs_of c.args.blocks.now.items ++ z) block
 
 pub returns-clause-headed : goal.returns-clause-headed
 returns-clause-headed g c =
-    let block : c.push.new.self.items ≡ (c.args.key, c.args.value) ∷ [] = rw c.in_ok-pairs.ensures.items at c.in_ok-push.ensures.items in
-    subst AreHeaded (sym c.in_ok-push-2.ensures.items) (headed_push c.args.blocks.now.items (c.args.key, c.push.new.self) c.requires (subst (BeginsWith c.args.key) (sym block) refl))
+    let pushed : c.push.new.self.items ≡ (c.args.key, c.args.value) ∷ [] = rw c.in_ok-pairs.ensures.items at c.in_ok-push.ensures.items in
+    let block : c.of.result.items ≡ (c.args.key, c.args.value) ∷ [] = ap (λ z. z.items) c.of.ensures ∙ pushed in
+    subst AreHeaded (sym c.in_ok-push-2.ensures.items) (headed_push c.args.blocks.now.items (c.args.key, c.of.result) c.requires (subst (BeginsWith c.args.key) (sym block) refl))

@@ -1,13 +1,30 @@
-use Rattle.std.proofs.Common.{◌≡◌, map, ◌∙◌, ap}
+use Rattle.std.proofs.Common.{◌≡◌, ◌+◌, ◌<◌, ◌≤◌, ◌^◌, map, sym, ◌∙◌, ap, subst, arith, vec_len, vec_capacity}
+use mathlib.Core.Bool.{false≢true}
 use Rattle.fm_lattice.specs.Maps.{map_join, replaced, joined_pair}
 use Rattle.fm_lattice.specs.MapLaws.{overwritten}
-use Rattle.fm_lattice.specs.Blocks.{pairs_of}
+use Rattle.fm_lattice.specs.Blocks.{pairs_of, HaveSpares, GoToOwned}
 use Rattle.fm_lattice.proofs.plan.plan_join.Goals as goal
 
 pub returns-clause-outcome : goal.returns-clause-outcome
 returns-clause-outcome g c =
     let here = pairs_of c.args.blocks.now.items in
     let there = pairs_of c.args.other.now in
-    let news : map (λ c. c.0) c.in_ok-changes.changes.items ≡ map (joined_pair g.K.Ord.cmp g.V.Join.join here) there = rw c.deref.ensures.value at c.in_ok-changes.ensures.pairs in
+    let news : map (λ c. c.0) c.in_ok-changes.changes.items ≡ map (joined_pair g.K.Ord.cmp g.V.Join.join here) there = c.in_ok-changes.ensures.pairs in
     ap (map_join g.K.Ord.cmp replaced here) news
     ∙ overwritten g.K.Ord.cmp g.met.K.Ord.total g.met.K.Chain.same g.V.Join.join here there c.requires.here.map.rising c.requires.there.map.rising
+
+pub returns-clause-ready : goal.returns-clause-ready
+returns-clause-ready g c =
+    let pairs : pairs_of c.reserve.new.self.items ≡ pairs_of c.args.blocks.now.items = ap pairs_of c.in_ok-reserve.ensures.items ∙ c.in_ok-changes.ensures.left_pairs in
+    let some : 0 < vec_len c.reserve.new.self = search (arith, c.if-is_empty.ensures, c.in_ok-reserve.ensures.len, c.in_ok-changes.ensures.left_len) in
+    let room : vec_len c.reserve.new.self + vec_len c.in_ok-changes.changes ≤ vec_capacity c.reserve.new.self = search (arith, c.in_ok-reserve.ensures.ok, c.len-3.ensures) in
+    let fits : c.args.len + vec_len c.in_ok-changes.changes < 2 ^ 64 = search (arith, c.if-len.false, c.len-2.ensures) in
+    record {
+      headed = λ e. absurd (false≢true e);
+      counted = λ e. absurd (false≢true e);
+      some = λ _. some;
+      spares = λ _. subst (λ z. HaveSpares g.K.Ord.cmp 64 z c.in_ok-changes.changes.items) (sym pairs) c.in_ok-changes.ensures.spares;
+      owned = λ _. subst (λ z. GoToOwned g.K.Ord.cmp z c.in_ok-changes.changes.items) (sym c.in_ok-reserve.ensures.items) c.in_ok-changes.ensures.owned;
+      room = λ _. room;
+      fits = λ _. fits;
+    }

@@ -12,7 +12,7 @@ pub note-requires : goal.note-requires
 note-requires g c =
     let s : State = c.args.self.now.state in
     let room : room_fault (bounds s) ≡ None = search rules in
-    let same : c.refresh.new.self.state ≡ s = c.in_ok-refresh.ensures.state in
+    let same : c.prepare.new.self.state ≡ s = c.in_ok-prepare.ensures.state in
     let at : c.in_ok-view.view.at ≡ length s.history = c.in_ok-view.ensures.at ∙ ap (λ (t : State). length t.history) same in
     let seen : c.in_ok-share.field-0 ≡ s.knowledge = c.in_ok-share.ensures ∙ c.in_ok-view.ensures.knowledge ∙ ap (λ (t : State). t.knowledge) same in
     subst (λ (p : State × ℕ × Table). IsCoordinator (noted p.0 (entry c.args.by call.View (reply.Seen p.1 p.2)))) (λ i. (sym same i, sym at i, sym seen i))
@@ -22,7 +22,7 @@ pub returns-clause-event : goal.returns-clause-event
 returns-clause-event g c =
     let s : State = c.args.self.now.state in
     let room : room_fault (bounds s) ≡ None = search rules in
-    let same : c.refresh.new.self.state ≡ s = c.in_ok-refresh.ensures.state in
+    let same : c.prepare.new.self.state ≡ s = c.in_ok-prepare.ensures.state in
     let at : c.in_ok-view.view.at ≡ length s.history = c.in_ok-view.ensures.at ∙ ap (λ (t : State). length t.history) same in
     let known : c.in_ok-view.view.knowledge ≡ s.knowledge = c.in_ok-view.ensures.knowledge ∙ ap (λ (t : State). t.knowledge) same in
     let made : c.note.new.self.state ≡ noted s (entry c.args.by call.View (reply.Seen c.in_ok-view.view.at c.in_ok-view.view.knowledge)) = search rules in

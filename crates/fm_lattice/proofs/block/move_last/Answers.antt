@@ -1,6 +1,6 @@
 use Rattle.std.proofs.Common.{◌≡◌, List, [], ◌∷◌, ◌++◌, reverse, sym, ◌∙◌, ap, append_assoc, arith}
 use Rattle.std.proofs.lemmas.List.{reverse-append}
-use Rattle.fm_lattice.proofs.blocks.move_last.Goals as goal
+use Rattle.fm_lattice.proofs.block.move_last.Goals as goal
 
 -- the last of the one goes to the front of the other, which lies the other way round
 moved : {X : Type 0} (whole from_old from_new to_old to_new : List X) (x : X) → from_old ++ reverse to_old ≡ whole → from_old ≡ from_new ++ x ∷ [] → to_new ≡ to_old ++ x ∷ [] → from_new ++ reverse to_new ≡ whole

@@ -1,5 +1,5 @@
 use Rattle.std.proofs.Common.{◌≡◌, ◌+◌, ◌≤◌, ◌++◌, reverse, vec_len, vec_capacity}
-use Rattle.fm_lattice.proofs.blocks.move_last.Given as goal
+use Rattle.fm_lattice.proofs.block.move_last.Given as goal
 
 -- what was taken lies the other way round
 abbrev pub invariant-loop-from : goal.invariant-loop-from
