@@ -1,3 +1,4 @@
 pub mod Grown
 pub mod Limits
 pub mod AfterTelling
+pub mod Found

@@ -3,12 +3,13 @@
 ghost use Rattle.std.specs.Prelude.{◌≡◌, cond, option_map, sum_by, IfSome};
 ghost use Rattle.fm_records.specs.Facts.{job_of, spec_of, progress_of, is_done, live_spec, is_live, job_stands, open_state, is_open, is_present, used_of, winner_of, won_spot, holder_of, held_tasks, holds, request_of, load_of, spare_of};
 ghost use Rattle.fm_know.specs.Winners.{as_winner};
+ghost use Rattle.fm_know.specs.Records.{live_in, holder_in, state_in};
 ghost use Rattle.fm_know.specs.Limits.{JobWithin, SpecWithin, StateWithin};
 
 use crate::knowledge::Knowledge;
 use fm_records::ids::{CoordId, JobId, MachineId, TaskId};
 use fm_records::ops::Phase;
-use fm_records::records::{JobReg, MachineReg, Progress, SpecReg, Spot, TaskRec};
+use fm_records::records::{JobReg, MachineRec, MachineReg, Progress, SpecReg, Spot, TaskRec};
 
 /// The entry that wins an attempt of a task: who proposed it, and where it would run.
 #[derive(Debug, Clone, Copy, PartialEq, Eq, Drop)]
@@ -60,11 +61,10 @@ impl Knowledge {
         ensures record { result ≡ live_spec self.now task }
         ensures within { IfSome result SpecWithin }
     {
-        let spec = self.spec(task)?;
-        if spec.withdrawn || !self.job_stands(spec.job) || is_done(self.attempt(task).phase) {
-            return None;
+        match self.tasks.get(&task) {
+            Some(record) => live_in(self, record),
+            None => None,
         }
-        Some(spec)
     }
 
     /// Whether the task is live.
@@ -79,10 +79,9 @@ impl Knowledge {
         ensures record { result ≡ open_state self.now machine }
         ensures within { IfSome result StateWithin }
     {
-        let record = self.machines.get(&machine)?;
-        match &record.1.0.0 {
-            Some(state) if state.0.up => Some(state.0),
-            _ => None,
+        match self.machines.get(&machine) {
+            Some(record) => state_in(record),
+            None => None,
         }
     }
 
@@ -111,11 +110,20 @@ impl Knowledge {
     pub fn holder(&self, task: TaskId) -> Option<MachineId>
         ensures { result ≡ holder_of self.now task }
     {
-        if !self.is_live(task) {
+        match self.tasks.get(&task) {
+            Some(record) => self.holder_in(task, record),
+            None => None,
+        }
+    }
+
+    // The machine that holds the task with the record.
+    fn holder_in(&self, task: TaskId, record: &TaskRec) -> Option<MachineId>
+        ensures { result ≡ holder_in self.now task record.now }
+    {
+        if live_in(self, record).is_none() {
             return None;
         }
-        let progress = self.attempt(task);
-        let winner = self.winner(task, progress.attempt)?;
+        let winner = self.winner(task, record.1.0.attempt)?;
         let spot = Spot {
             machine: winner.machine,
             incarnation: winner.incarnation,
@@ -158,7 +166,7 @@ impl Knowledge {
         ensures { result ≡ is_present self.now spot }
     {
         match self.machines.get(&spot.machine) {
-            Some(record) => self.is_open(spot.machine) && record.0 == spot.incarnation,
+            Some(record) => state_in(record).is_some() && record.0 == spot.incarnation,
             None => false,
         }
     }
@@ -217,6 +225,27 @@ pub fn request_in(task: &TaskRec) -> u32
     match spec_in(task) {
         Some(spec) => spec.request,
         None => 0,
+    }
+}
+
+// The spec of the record, if the task is live.
+fn live_in(known: &Knowledge, task: &TaskRec) -> Option<SpecReg>
+    ensures { result ≡ live_in known.now task.now }
+{
+    let spec = spec_in(task)?;
+    if spec.withdrawn || !known.job_stands(spec.job) || is_done(task.1.0.phase) {
+        return None;
+    }
+    Some(spec)
+}
+
+// The state of the record, if the machine is open.
+fn state_in(machine: &MachineRec) -> Option<MachineReg>
+    ensures { result ≡ state_in machine.now }
+{
+    match &machine.1.0.0 {
+        Some(state) if state.0.up => Some(state.0),
+        _ => None,
     }
 }
 
