@@ -8,6 +8,7 @@ pub mod Results
 pub mod Accepted
 pub mod Turns
 pub mod Ready
+pub mod Counting
 pub mod Nic
 pub mod Pairing
 pub mod Over

@@ -14,7 +14,6 @@ use Rattle.fm_round.specs.declared.admission.Desk.{Desk}
 use Rattle.fm_round.specs.declared.parts.Place.{Place}
 use Rattle.fm_round.specs.declared.parts.Admitted.{Admitted}
 use Rattle.fm_round.specs.Admission.{told, place_attempt}
-use Rattle.fm_round.specs.Holdings.{AreHoldings}
 
 -- one entry more, or several, with these operations and answers, are dealt with
 pub record Took (more : Admitted) (old new : Desk) : Type 0 where
@@ -22,10 +21,9 @@ pub record Took (more : Admitted) (old new : Desk) : Type 0 where
   pub ops : new.ops.items ≡ old.ops.items ++ more.ops
   pub answers : new.answers.items ≡ old.answers.items ++ more.answers
 
--- the desk's counts are those of what is known, and what it added is in range
+-- what is known is a table, and what was added is in range
 pub record IsReady (desk : Desk) : Type 0 where
   pub table : IsTable desk.now
-  pub holdings : AreHoldings desk.now desk.holdings
   pub in_range : IsTrue (all_in_range desk.ops.items)
 
 -- the winner of an attempt once coordinator c has proposed the spot for it too

@@ -1,5 +1,5 @@
 -- What machines hold, counted.
-use Rattle.std.specs.Prelude.{◌≡◌, ℕ, ◌==◌, cond, unwrap_or, length, sum_by}
+use Rattle.std.specs.Prelude.{◌≡◌, ℕ, ◌==◌, Bool, IsTrue, cond, is_some, unwrap_or, length, sum_by}
 use Rattle.std.specs.Ordering.{nat_cmp}
 use Rattle.std.specs.BTreeMap.{get}
 use Rattle.fm_records.specs.Table.{Table}
@@ -10,6 +10,10 @@ use Rattle.fm_round.specs.declared.holdings.Holdings.{Holdings}
 abbrev pub nothing_held : Holding
 nothing_held = record { requests = 0; tasks = 0 }
 
+-- what the machine holds is counted
+abbrev pub is_counted : Holdings → ℕ → Bool
+is_counted holdings m = is_some (get nat_cmp holdings.by_machine m)
+
 abbrev pub holding_of : Holdings → ℕ → Holding
 holding_of holdings m = unwrap_or (get nat_cmp holdings.by_machine m) nothing_held
 
@@ -17,10 +21,10 @@ holding_of holdings m = unwrap_or (get nat_cmp holdings.by_machine m) nothing_he
 abbrev pub requests_of : Table → ℕ → ℕ
 requests_of k m = sum_by (λ e. request_of e.1.0) (held_tasks k m)
 
--- the sum of the requests, and the count, of the tasks that each machine holds
+-- the sum of the requests, and the count, of the tasks that each machine holds which is counted
 pub record AreHoldings (k : Table) (holdings : Holdings) : Type 0 where
-  pub requests : (m : ℕ) → (holding_of holdings m).requests ≡ requests_of k m
-  pub tasks : (m : ℕ) → (holding_of holdings m).tasks ≡ length (held_tasks k m)
+  pub requests : (m : ℕ) → IsTrue (is_counted holdings m) → (holding_of holdings m).requests ≡ requests_of k m
+  pub tasks : (m : ℕ) → IsTrue (is_counted holdings m) → (holding_of holdings m).tasks ≡ length (held_tasks k m)
 
 -- what a task with the request on machine n counts for machine m
 abbrev pub share : ℕ → ℕ → ℕ → ℕ

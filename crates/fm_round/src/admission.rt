@@ -9,6 +9,7 @@ ghost use Rattle.fm_records.specs.Facts.{attempt_of, open_state};
 ghost use Rattle.fm_know.specs.Limits.{StateWithin};
 ghost use Rattle.fm_round.specs.Admission.{told, is_accepted, last_attempt, has_proposal, place_ops, place_answer, preempt_ops, preempt_answer, one_entry, placed, preempted, admitted, got_place, is_within_nic};
 ghost use Rattle.fm_round.specs.Desks.{Took, IsReady};
+ghost use Rattle.fm_round.specs.Holdings.{is_counted, AreHoldings};
 
 use crate::holdings::Holdings;
 use crate::listed::Listed;
@@ -23,7 +24,8 @@ use std::alloc::Global;
 /// What the plan of the coordinator comes to: the places are judged in their order, and then the preempts, each on what is
 /// known with the operations of the earlier accepted entries, and the first rule that applies is the answer.
 /// A machine that got a place has a load of at most its nic after all that is added.
-/// O(n log n) in the records that are known, once, and for each entry O(log n) and the moves within a block of a map.
+/// O(log n) for each entry, with the moves within a block of a map; and where the plan has places, one walk over the tasks that
+/// are known, of which those that another machine won cost a look-up.
 /// Nothing but want of memory is refused.
 pub fn admit(
     alloc: Global,
@@ -42,13 +44,11 @@ pub fn admit(
     Ok(desk.into_admitted())
 }
 
-/// What is known with the operations of the entries that were accepted so far, what machines hold by that, these
-/// operations, and the answers so far.
+/// What is known with the operations of the entries that were accepted so far, these operations, and the answers so far.
 #[derive(Drop)]
 pub(crate) struct Desk {
     pub(crate) alloc: Global,
     pub(crate) now: Knowledge,
-    pub(crate) holdings: Holdings,
     pub(crate) ops: Vec<Op>,
     pub(crate) answers: Vec<Answer>,
 }
@@ -65,7 +65,6 @@ impl Desk {
         Ok(Desk {
             alloc,
             now: knowledge.copy()?,
-            holdings: Holdings::of(alloc, knowledge)?,
             ops: Vec::new(alloc),
             answers: Vec::new(alloc),
         })
@@ -87,8 +86,9 @@ impl Desk {
         ensures took { OnOk result (Took (placed coordinator self.old.now places.now) self.old self.new) }
         ensures ready { OnOk result (IsReady self.new) }
     {
+        let mut holdings = Holdings::of(self.alloc, &self.now, places)?;
         for place in places {
-            self.take_place(coordinator, place)?;
+            self.take_place(&mut holdings, coordinator, place)?;
         }
         Ok(())
     }
@@ -111,7 +111,6 @@ impl Desk {
         ensures now { OnOk result (self.new.now ≡ told self.old.now (op ∷ [])) }
         ensures ops { OnOk result (self.new.ops.items ≡ self.old.ops.items ++ op ∷ []) }
         ensures answers { self.new.answers.items ≡ self.old.answers.items }
-        ensures holdings { self.new.holdings ≡ self.old.holdings }
     {
         let delta = Knowledge::delta_of(self.alloc, &op)?;
         self.now.join_into(&delta)?;
@@ -124,7 +123,6 @@ impl Desk {
         ensures now { self.new.now ≡ self.old.now }
         ensures ops { self.new.ops.items ≡ self.old.ops.items }
         ensures answers { OnOk result (self.new.answers.items ≡ self.old.answers.items ++ answer ∷ []) }
-        ensures holdings { self.new.holdings ≡ self.old.holdings }
     {
         self.answers.push(answer)?;
         Ok(())
@@ -137,7 +135,6 @@ impl Desk {
         ensures now { OnOk result (self.new.now ≡ told self.old.now (place_ops coordinator self.old.now place.now)) }
         ensures ops { OnOk result (self.new.ops.items ≡ self.old.ops.items ++ place_ops coordinator self.old.now place.now) }
         ensures answers { self.new.answers.items ≡ self.old.answers.items }
-        ensures holdings { self.new.holdings ≡ self.old.holdings }
         ensures in_range { OnOk result (IsTrue (all_in_range self.old.ops.items) → IsTrue (all_in_range self.new.ops.items)) }
     {
         let attempt = self.now.attempt(place.task).attempt;
@@ -150,21 +147,30 @@ impl Desk {
     }
 
     // Accepts the place: what the machine holds is counted, and the operations are told.
-    fn accept_place(&mut self, coordinator: CoordId, place: &Place) -> Result<(), OutOfMemory>
+    fn accept_place(
+        &mut self,
+        holdings: &mut Holdings,
+        coordinator: CoordId,
+        place: &Place,
+    ) -> Result<(), OutOfMemory>
         requires ready { IsReady self.old }
+        requires holdings { AreHoldings self.old.now holdings.old }
+        requires counted { IsTrue (is_counted holdings.old place.now.machine) }
         requires accepted { is_accepted (place_answer coordinator self.old.now place.now) ≡ true }
         ensures now { OnOk result (self.new.now ≡ told self.old.now (place_ops coordinator self.old.now place.now)) }
         ensures ops { OnOk result (self.new.ops.items ≡ self.old.ops.items ++ place_ops coordinator self.old.now place.now) }
         ensures answers { self.new.answers.items ≡ self.old.answers.items }
         ensures ready { OnOk result (IsReady self.new) }
+        ensures holdings { OnOk result (AreHoldings self.new.now holdings.new) }
+        ensures same { OnOk result ((m : ℕ) → is_counted holdings.new m ≡ is_counted holdings.old m) }
     {
         law_limits(&self.now, place.machine);
         let request = request_of(&self.now, place.task);
-        self.holdings.add(place.machine, request)?;
+        holdings.add(place.machine, request)?;
         self.tell_place(coordinator, place)
     }
 
-    // Accepts the preempt: what the machine holds is counted, and the operation is told.
+    // Accepts the preempt: the operation is told.
     fn accept_preempt(&mut self, preempt: &Preempt) -> Result<(), OutOfMemory>
         requires ready { IsReady self.old }
         requires accepted { is_accepted (preempt_answer self.old.now preempt.now) ≡ true }
@@ -173,25 +179,29 @@ impl Desk {
         ensures answers { self.new.answers.items ≡ self.old.answers.items }
         ensures ready { OnOk result (IsReady self.new) }
     {
-        let request = request_of(&self.now, preempt.task);
-        let Some(machine) = self.now.holder(preempt.task) else {
-            unreachable!()
-        };
-        self.holdings.remove(machine, request)?;
         self.tell(pending(preempt.task, preempt.attempt + 1))
     }
 
     // Judges the place, and adds its operations where it is accepted.
-    fn take_place(&mut self, coordinator: CoordId, place: &Place) -> Result<(), OutOfMemory>
-        requires { IsReady self.old }
+    fn take_place(
+        &mut self,
+        holdings: &mut Holdings,
+        coordinator: CoordId,
+        place: &Place,
+    ) -> Result<(), OutOfMemory>
+        requires ready { IsReady self.old }
+        requires holdings { AreHoldings self.old.now holdings.old }
+        requires counted { IsTrue (is_counted holdings.old place.now.machine) }
         ensures took { OnOk result (Took (one_entry (place_answer coordinator self.old.now place.now) (place_ops coordinator self.old.now place.now)) self.old self.new) }
         ensures ready { OnOk result (IsReady self.new) }
+        ensures holdings { OnOk result (AreHoldings self.new.now holdings.new) }
+        ensures same { OnOk result ((m : ℕ) → is_counted holdings.new m ≡ is_counted holdings.old m) }
     {
-        let answer = place_answer(&self.now, &self.holdings, coordinator, place);
+        let answer = place_answer(&self.now, holdings, coordinator, place);
         if !is_accepted(answer) {
             return self.answer(answer);
         }
-        self.accept_place(coordinator, place)?;
+        self.accept_place(holdings, coordinator, place)?;
         self.answer(answer)
     }
 

@@ -1,12 +1,19 @@
-//! What each machine holds: counted in one walk, and kept as tasks come and go.
+//! What the machines of places hold: counted in one walk, and kept as tasks come.
 
-ghost use Rattle.std.specs.Prelude.{◌≡◌, ◌<◌, ◌≤◌, ◌+◌, ◌^◌, ℕ, IfOk, OnOk};
-ghost use Rattle.fm_round.specs.Holdings.{holding_of, share, AreHoldings};
+ghost use Rattle.std.specs.Prelude.{◌≡◌, ◌<◌, ◌+◌, ◌^◌, ℕ, Some, IfOk, OnOk, IsTrue};
+ghost use Rattle.std.specs.Ordering.{nat_cmp};
+ghost use Rattle.fm_lattice.specs.Maps.{lookup};
+ghost use Rattle.fm_records.specs.Sets.{IsMember};
+ghost use Rattle.fm_records.specs.Facts.{only_if, holder_of};
+ghost use Rattle.fm_round.specs.declared.parts.Place.{Place as Entry};
+ghost use Rattle.fm_round.specs.Holdings.{is_counted, holding_of, share, nothing_held, AreHoldings};
 
+use crate::parts::Place;
 use fm_know::facts::request_in;
 use fm_know::knowledge::Knowledge;
 use fm_lattice::join::OutOfMemory;
-use fm_records::ids::MachineId;
+use fm_records::ids::{MachineId, TaskId};
+use fm_records::records::TaskRec;
 use std::alloc::Global;
 use std::collections::BTreeMap;
 
@@ -17,65 +24,97 @@ pub(crate) struct Holding {
     pub(crate) tasks: u64,
 }
 
-/// The holding of each machine that ever held a task.
+// What a machine holds that holds nothing.
+const NOTHING: Holding = Holding {
+    requests: 0,
+    tasks: 0,
+};
+
+/// The holding of each machine that is counted.
 #[derive(Drop)]
 pub(crate) struct Holdings {
     pub(crate) by_machine: BTreeMap<MachineId, Holding>,
 }
 
 impl Holdings {
-    /// What each machine holds. O(n log n) in the tasks.
-    pub(crate) fn of(alloc: Global, knowledge: &Knowledge) -> Result<Holdings, OutOfMemory>
-        ensures { IfOk result (AreHoldings knowledge.now) }
+    /// What each machine of the places holds. Nothing is walked where there is no place; else O(n log n) in the tasks, where
+    /// one that no such machine won costs a look-up.
+    pub(crate) fn of(
+        alloc: Global,
+        knowledge: &Knowledge,
+        places: &[Place],
+    ) -> Result<Holdings, OutOfMemory>
+        ensures holdings { IfOk result (AreHoldings knowledge.now) }
+        ensures counted { IfOk result (λ holdings. (p : Entry) → IsMember p places.now → IsTrue (is_counted holdings p.machine)) }
+    {
+        let mut holdings = Holdings::none(alloc, places)?;
+        holdings.count(knowledge)?;
+        Ok(holdings)
+    }
+
+    // The machines of the places, none of which holds anything so far.
+    fn none(alloc: Global, places: &[Place]) -> Result<Holdings, OutOfMemory>
+        ensures nothing { IfOk result (λ holdings. (m : ℕ) → holding_of holdings m ≡ nothing_held) }
+        ensures counted { IfOk result (λ holdings. (p : Entry) → IsMember p places.now → IsTrue (is_counted holdings p.machine)) }
     {
         let mut holdings = Holdings {
             by_machine: BTreeMap::new(alloc),
         };
-        for (task, record) in knowledge.tasks().iter() {
-            if let Some(machine) = knowledge.holder(*task) {
-                holdings.add(machine, request_in(record))?;
-            }
+        for place in places {
+            holdings.by_machine.insert(place.machine, NOTHING)?;
         }
         Ok(holdings)
     }
 
-    /// What the machine holds. O(log n).
+    // Counts what the machines hold, of which nothing is counted so far.
+    fn count(&mut self, knowledge: &Knowledge) -> Result<(), OutOfMemory>
+        requires { (m : ℕ) → holding_of self.old m ≡ nothing_held }
+        ensures holdings { OnOk result (AreHoldings knowledge.now self.new) }
+        ensures counted { OnOk result ((m : ℕ) → is_counted self.new m ≡ is_counted self.old m) }
+    {
+        if self.by_machine.is_empty() {
+            return Ok(());
+        }
+        for (task, record) in knowledge.tasks().iter() {
+            if let Some(machine) = self.holder(knowledge, *task, record) {
+                self.add(machine, request_in(record))?;
+            }
+        }
+        Ok(())
+    }
+
+    // The machine that holds the task with the record, if it is counted. Whether the one that won it is, is asked first.
+    fn holder(&self, knowledge: &Knowledge, task: TaskId, record: &TaskRec) -> Option<MachineId>
+        requires { lookup nat_cmp task knowledge.now.tasks ≡ Some record.now }
+        ensures { result ≡ only_if (is_counted self.now) (holder_of knowledge.now task) }
+    {
+        let winner = knowledge.winner(task, record.1.0.attempt)?;
+        if !self.by_machine.contains_key(&winner.machine) {
+            return None;
+        }
+        knowledge.holder(task)
+    }
+
+    /// What the machine holds, if it is counted. O(log n).
     pub(crate) fn of_machine(&self, machine: MachineId) -> Holding
         ensures { result ≡ holding_of self.now machine }
     {
-        self.by_machine.get(&machine).copied().unwrap_or(Holding {
-            requests: 0,
-            tasks: 0,
-        })
+        self.by_machine.get(&machine).copied().unwrap_or(NOTHING)
     }
 
-    /// Counts a task that the machine holds now. O(log n).
+    /// Counts a task that the machine, which is counted, holds now. O(log n).
     pub(crate) fn add(&mut self, machine: MachineId, request: u32) -> Result<(), OutOfMemory>
+        requires counted { IsTrue (is_counted self.old machine) }
         requires requests_fit { (holding_of self.old machine).requests + request < 2 ^ 128 }
         requires tasks_fit { (holding_of self.old machine).tasks + 1 < 2 ^ 64 }
         ensures requests { OnOk result ((m : ℕ) → (holding_of self.new m).requests ≡ (holding_of self.old m).requests + share machine m request) }
         ensures tasks { OnOk result ((m : ℕ) → (holding_of self.new m).tasks ≡ (holding_of self.old m).tasks + share machine m 1) }
+        ensures counted { OnOk result ((m : ℕ) → is_counted self.new m ≡ is_counted self.old m) }
     {
         let Holding { requests, tasks } = self.of_machine(machine);
         let holding = Holding {
             requests: requests + u128::from(request),
             tasks: tasks + 1,
-        };
-        self.by_machine.insert(machine, holding)?;
-        Ok(())
-    }
-
-    /// Counts a task no more that the machine held. O(log n).
-    pub(crate) fn remove(&mut self, machine: MachineId, request: u32) -> Result<(), OutOfMemory>
-        requires requests_held { request ≤ (holding_of self.old machine).requests }
-        requires tasks_held { 1 ≤ (holding_of self.old machine).tasks }
-        ensures requests { OnOk result ((m : ℕ) → (holding_of self.new m).requests + share machine m request ≡ (holding_of self.old m).requests) }
-        ensures tasks { OnOk result ((m : ℕ) → (holding_of self.new m).tasks + share machine m 1 ≡ (holding_of self.old m).tasks) }
-    {
-        let Holding { requests, tasks } = self.of_machine(machine);
-        let holding = Holding {
-            requests: requests - u128::from(request),
-            tasks: tasks - 1,
         };
         self.by_machine.insert(machine, holding)?;
         Ok(())

@@ -1,11 +1,11 @@
 //! The rules by which an entry of a plan is judged.
 
-ghost use Rattle.std.specs.Prelude.{◌≡◌, ◌<◌, ◌≤◌, ◌+◌, ◌^◌, ◌==◌, ◌&&◌, ◌||◌, cond, not, true, false, option_map};
+ghost use Rattle.std.specs.Prelude.{◌≡◌, ◌<◌, ◌≤◌, ◌+◌, ◌^◌, ◌==◌, ◌&&◌, ◌||◌, cond, not, true, false, option_map, IsTrue};
 ghost use Rattle.fm_records.specs.Facts.{is_live, live_spec, is_open, is_present, attempt_of, spec_of, request_of, holds, has_room, passes};
 ghost use Rattle.fm_net.specs.Network.{is_held};
 ghost use Rattle.fm_round.specs.Admission.{told, last_attempt, has_proposal, has_incarnation, is_full, is_open_at, place_ops, place_answer, preempt_ops, preempt_answer};
 ghost use Rattle.fm_round.specs.Desks.{winner_with, as_pair, spot_of, is_spot_of};
-ghost use Rattle.fm_round.specs.Holdings.{AreHoldings};
+ghost use Rattle.fm_round.specs.Holdings.{is_counted, AreHoldings};
 
 use crate::holdings::Holdings;
 use crate::parts::{Answer, Place, Preempt};
@@ -24,7 +24,8 @@ pub(crate) fn place_answer(
     coordinator: CoordId,
     place: &Place,
 ) -> Answer
-    requires { AreHoldings known.now holdings.now }
+    requires holdings { AreHoldings known.now holdings.now }
+    requires counted { IsTrue (is_counted holdings.now place.now.machine) }
     ensures { result ≡ place_answer coordinator known.now place.now }
 {
     if !known.is_live(place.task) || !is_open_at(known, place.machine, place.incarnation) {
@@ -111,7 +112,8 @@ pub(crate) fn request_of(known: &Knowledge, task: TaskId) -> u32
 
 // Whether the machine holds as many tasks as it has slots, or more.
 fn is_full(known: &Knowledge, holdings: &Holdings, machine: MachineId) -> bool
-    requires { AreHoldings known.now holdings.now }
+    requires holdings { AreHoldings known.now holdings.now }
+    requires counted { IsTrue (is_counted holdings.now machine) }
     ensures { result ≡ is_full known.now machine }
 {
     match known.open_state(machine) {
@@ -122,7 +124,8 @@ fn is_full(known: &Knowledge, holdings: &Holdings, machine: MachineId) -> bool
 
 // Whether the machine has a spare, and it is the request or more.
 fn has_room(known: &Knowledge, holdings: &Holdings, machine: MachineId, request: u32) -> bool
-    requires { AreHoldings known.now holdings.now }
+    requires holdings { AreHoldings known.now holdings.now }
+    requires counted { IsTrue (is_counted holdings.now machine) }
     ensures { result ≡ has_room known.now machine request }
 {
     let Some(state) = known.open_state(machine) else {
