@@ -12,4 +12,5 @@ pub mod Counting
 pub mod Nic
 pub mod Pairing
 pub mod Over
+pub mod Asked
 pub mod Flows

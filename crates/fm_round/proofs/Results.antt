@@ -1,6 +1,6 @@
 -- What follows where an answer is Ok.
 use Rattle.std.proofs.Common.{Result, Ok, Err}
-use Rattle.std.specs.Result.{OnOk}
+use Rattle.std.specs.Result.{IfOk, OnOk}
 
 pub on_ok : {A E P Q : Type 0} → (P → Q) → (r : Result A E) → OnOk r P → OnOk r Q
 on_ok f (Ok x) h = f h
@@ -13,3 +13,7 @@ both_ok f (Err e) p q = tt
 pub always : {A E P : Type 0} → P → (r : Result A E) → OnOk r P
 always p (Ok x) = p
 always p (Err e) = tt
+
+pub if_ok : {A E : Type 0} {P Q : A → Type 0} → ((a : A) → P a → Q a) → (r : Result A E) → IfOk r P → IfOk r Q
+if_ok f (Ok x) h = f x h
+if_ok f (Err e) h = tt

@@ -3,6 +3,7 @@ pub mod SameLaws
 pub mod Admission
 pub mod Stopping
 pub mod Planned
+pub mod Asked
 pub mod Schedules
 pub mod Seating
 pub mod Desks
