@@ -4,7 +4,7 @@
 
 pub mod arcs;
 pub mod cancel;
-mod fit;
+pub mod confirming;
 pub mod improve;
 mod row;
 pub mod search;

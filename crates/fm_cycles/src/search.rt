@@ -6,7 +6,7 @@ ghost use Rattle.fm_cycles.specs.Residual.{residual, AreArcs};
 ghost use Rattle.fm_cycles.specs.Found.{costs_in, IsFound};
 
 use crate::arcs::{Arc, Step};
-use crate::fit::fit;
+use crate::confirming::are_potentials;
 use crate::row::next_row;
 use crate::walk::cycle_behind;
 use std::alloc::{AllocError, Global};
@@ -37,7 +37,7 @@ pub fn search(
     requires small { AreBounded (2 ^ 64) (costs_in first.items) }
     ensures { IfOk result (λ found. IsFound (residual arcs.now units.now) nodes found) }
 {
-    if fit(arcs, units, &first) {
+    if are_potentials(arcs, units, &first) {
         return Ok(Found::Potentials(first));
     }
     let mut costs = first;

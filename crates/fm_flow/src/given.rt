@@ -5,6 +5,7 @@ use fm_certificate::flow::Flow;
 use fm_lattice::join::OutOfMemory;
 use fm_net::network::Network;
 use fm_net::node::Node;
+use fm_numbered::numbered::Numbered;
 use std::alloc::Global;
 use std::cmp::Ordering;
 
@@ -33,10 +34,12 @@ impl<'a> Earlier<'a> {
             let Some((source, target, units)) = self.next else {
                 return 0;
             };
+            if source == *from && target == *to {
+                return units;
+            }
             match (source, target).cmp(&(*from, *to)) {
-                Ordering::Less => self.next = self.rest.next(),
-                Ordering::Equal => return units,
                 Ordering::Greater => return 0,
+                _ => self.next = self.rest.next(),
             }
         }
         0
@@ -48,12 +51,18 @@ impl<'a> Earlier<'a> {
 pub(crate) fn given_units(
     alloc: Global,
     network: &Network,
+    numbered: &Numbered,
     flow: &Flow,
 ) -> Result<Vec<u64>, OutOfMemory> {
-    let mut units = Vec::with_capacity(alloc, network.arcs_len())?;
+    let nodes: Vec<Node> = network.nodes().collect(alloc)?;
+    let mut units = Vec::with_capacity(alloc, numbered.arcs.len())?;
     let mut earlier = Earlier::of(flow);
-    for (from, to, _, _) in network.arcs() {
-        units.push(earlier.units(&from, &to))?;
+    for arc in numbered.arcs.iter() {
+        let sent = match (nodes.get(arc.from), nodes.get(arc.to)) {
+            (Some(from), Some(to)) => earlier.units(from, to),
+            _ => 0,
+        };
+        units.push(sent)?;
     }
     Ok(units)
 }

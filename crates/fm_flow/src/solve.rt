@@ -1,6 +1,6 @@
 //! The solver.
 
-ghost use Rattle.std.specs.Prelude.{◌≡◌, ◌^◌, length, IfOk, IfErr};
+ghost use Rattle.std.specs.Prelude.{◌≡◌, ◌^◌, length, IfOk, IfErr, IfSome};
 ghost use Rattle.fm_certificate.specs.Built.{IsBuilt};
 ghost use Rattle.fm_certificate.specs.Flows.{units_in, IsLeast};
 ghost use Rattle.fm_certificate.specs.Certificates.{IsCertified};
@@ -43,7 +43,7 @@ pub fn solve(alloc: Global, network: &Network) -> Result<(Flow, Potentials), Ref
 
 /// As `solve`, and starts with the task paths of the flow, of this network or an earlier one, that are still whole and
 /// fit; where that comes to no least flow, it starts anew. The caller owes a network that the policy can build. Refused as
-/// `solve` is.
+/// `solve` is. O(units) more than `solve`, and where it starts anew what the first start took.
 pub fn solve_from(
     alloc: Global,
     network: &Network,
@@ -57,13 +57,29 @@ pub fn solve_from(
     network.known();
     law_least();
     let numbered = Numbered::of(alloc, network)?;
-    let given = given_units(alloc, network, flow)?;
-    if let Some((units, values)) = resume(alloc, &numbered, &given)? {
+    if let Some((units, values)) = resumed(alloc, network, &numbered, flow)? {
         let found = certified(alloc, network, &numbered, &units, &values)?;
         return Ok(found);
     }
     let found = anew(alloc, network, &numbered)?;
     Ok(found)
+}
+
+// The flow that keeps the earlier one's task paths, and potentials that show it to be least, if it is.
+fn resumed(
+    alloc: Global,
+    network: &Network,
+    numbered: &Numbered,
+    flow: &Flow,
+) -> Result<Option<(Vec<u64>, Vec<i128>)>, OutOfMemory>
+    ensures flow { IfOk result (λ kept. IfSome kept (λ r. IsFlowOf numbered.now.places numbered.now.arcs.items r.0.items)) }
+    ensures potentials { IfOk result (λ kept. IfSome kept (λ r. ArePotentials (residual numbered.now.arcs.items r.0.items) (costs_in r.1.items))) }
+{
+    if flow.is_empty() {
+        return Ok(None);
+    }
+    let given = given_units(alloc, network, numbered, flow)?;
+    resume(alloc, numbered, &given)
 }
 
 // The least flow that cancelling makes of the start's, and potentials that certify it. Refused memory alone.

@@ -13,7 +13,7 @@ use crate::lanes::{Lanes, bandwidth, first_from, machine_of, price_at};
 use crate::loading::{FAR, Loading};
 use crate::paths::Paths;
 use crate::sorting::{Keyed, sorted};
-use fm_cycles::search::{Found, search};
+use fm_cycles::confirming::are_potentials;
 use fm_lattice::join::OutOfMemory;
 use fm_numbered::feasible::is_feasible;
 use fm_numbered::numbered::Numbered;
@@ -417,7 +417,8 @@ pub fn start(alloc: Global, numbered: &Numbered) -> Result<Vec<u64>, OutOfMemory
 
 /// The flow with the task paths of the given units that are still whole and fit, the other tasks placed by falling worth,
 /// and potentials that show it to be least. None where it is not least, and where the given units place too few of the tasks
-/// for that to be likely: those that stay would be in the way of others. It is searched once.
+/// for that to be likely: those that stay would be in the way of others. Nothing is searched: the potentials are worked out from
+/// the units, and tested. O(arcs log arcs).
 pub fn resume(
     alloc: Global,
     numbered: &Numbered,
@@ -430,13 +431,11 @@ pub fn resume(
         return Ok(None);
     }
     let units = placed_behind(alloc, numbered, given)?;
-    if !is_feasible(alloc, numbered, &units)? {
-        return Ok(None);
+    let potentials = potentials_from(alloc, numbered, &units)?;
+    if are_potentials(&numbered.arcs, &units, &potentials)
+        && is_feasible(alloc, numbered, &units)?
+    {
+        return Ok(Some((units, potentials)));
     }
-    let nodes = numbered.places.end;
-    let first = potentials_from(alloc, numbered, &units)?;
-    match search(alloc, nodes, &numbered.arcs, &units, first)? {
-        Found::Potentials(potentials) => Ok(Some((units, potentials))),
-        Found::Cycle(_) => Ok(None),
-    }
+    Ok(None)
 }
