@@ -1,8 +1,9 @@
 //! The edits of what was touched, in order.
 
-ghost use Rattle.std.specs.Prelude.{◌≡◌, ◌++◌, ◌∷◌, [], not, Option, option_to_list, option_map, IfOk, OnOk, IfSome};
+ghost use Rattle.std.specs.Prelude.{◌≡◌, ◌++◌, ◌∷◌, [], not, option_map, IfOk, OnOk, IfSome};
 ghost use Rattle.fm_records.specs.Options.{passes, when};
-ghost use Rattle.fm_net.specs.Edits.{same_value, has_arc};
+ghost use Rattle.fm_net.specs.declared.edit.Edit.{Edit as EditName};
+ghost use Rattle.fm_net.specs.Edits.{joins, same_value, has_arc};
 ghost use Rattle.fm_net.specs.Touched.{put_at};
 ghost use Rattle.fm_edit.specs.Sight.{seen_in};
 ghost use Rattle.fm_edit.specs.Index.{sum_in};
@@ -11,7 +12,7 @@ ghost use Rattle.fm_edit.specs.Listing.{arcs_that_go, nodes_that_go, nodes_that_
 
 use crate::index::Index;
 use crate::seen::Seen;
-use crate::shown::{Place, arc, arc_after, stands};
+use crate::shown::{Place, arc_after, stands};
 use crate::touched::Touched;
 use fm_lattice::join::OutOfMemory;
 use fm_net::edit::Edit;
@@ -92,7 +93,7 @@ fn add_arc(
 {
     match arc_after(seen, index, last, &pair.0, &pair.1) {
         None => {
-            if let Some(edit) = drop_arc(network, seen, index, pair) {
+            if let Some(edit) = drop_arc(network, pair) {
                 going.push(edit)?;
             }
         }
@@ -143,11 +144,11 @@ fn add_node(
     Ok(())
 }
 
-// The edit that drops the pair's arc, where one goes.
-fn drop_arc(network: &Network, seen: &Seen, index: &Index, pair: &(Node, Node)) -> Option<Edit>
-    ensures { option_to_list result ≡ arcs_that_go network.now (node_shown (seen_in seen.now) (sum_in index.now)) (arc_shown (seen_in seen.now) (sum_in index.now)) (pair.now ∷ []) }
+// The edit that drops the pair's arc, if that stands.
+fn drop_arc(network: &Network, pair: &(Node, Node)) -> Option<Edit>
+    ensures { result ≡ when (joins network.now pair.now) (EditName.DropArc pair.now.0 pair.now.1) }
 {
-    if network.arc(pair.0, pair.1).is_some() && arc(seen, index, &pair.0, &pair.1).is_none() {
+    if network.arc(pair.0, pair.1).is_some() {
         return Some(Edit::DropArc(pair.0, pair.1));
     }
     None

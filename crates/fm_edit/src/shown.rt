@@ -36,15 +36,8 @@ pub(crate) fn stands(seen: &Seen, index: &Index, node: &Node) -> bool
     }
 }
 
-/// The capacity and cost of the arc from one node to the other, if there is one.
-pub(crate) fn arc(seen: &Seen, index: &Index, from: &Node, to: &Node) -> Option<(u64, u32)>
-    ensures { result ≡ arc_shown (seen_in seen.now) (sum_in index.now) from.now to.now }
-{
-    let mut last = None;
-    arc_after(seen, index, &mut last, from, to)
-}
-
-/// The same, where a machine that was the last to be found is not looked up again.
+/// The capacity and cost of the arc from one node to the other, if there is one. A machine that was the last to be found is not
+/// looked up again.
 pub(crate) fn arc_after(
     seen: &Seen,
     index: &Index,
