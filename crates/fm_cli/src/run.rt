@@ -132,6 +132,8 @@ fn round(
     let flow = least_flow(alloc, &view, flows.get(&at))?;
     let plan = plan_of(alloc, &view, &flow)?;
     flows.insert(at, flow)?;
+    // With no view left, the commit edits the network in place.
+    drop(view);
     ask(world, at, WorldAct::Commit(plan))
 }
 
@@ -144,10 +146,10 @@ fn least_flow(alloc: Global, view: &View, earlier: Option<&Flow>) -> Result<Flow
     let knowledge = view.knowledge.get();
     law_can_be(knowledge);
     let Some(earlier) = earlier else {
-        let (flow, _) = solve(alloc, &view.network)?;
+        let (flow, _) = solve(alloc, view.network.get())?;
         return Ok(flow);
     };
-    let (flow, _) = solve_from(alloc, &view.network, earlier)?;
+    let (flow, _) = solve_from(alloc, view.network.get(), earlier)?;
     Ok(flow)
 }
 
@@ -159,6 +161,6 @@ fn plan_of(alloc: Global, view: &View, flow: &Flow) -> Result<Plan, Refusal>
     ensures err { IfErr result (λ refusal. refusal ≡ Refusal.OutOfMemory) }
 {
     let knowledge = view.knowledge.get();
-    let plan = plan(alloc, &view.network, flow, knowledge)?;
+    let plan = plan(alloc, view.network.get(), flow, knowledge)?;
     Ok(plan)
 }

@@ -18,7 +18,6 @@ ghost use Rattle.fm_coord.specs.Replays.{seen};
 ghost use Rattle.fm_coord.specs.States.{new_state, bounds, entry, took, gave, let_go, noted, cut_packet, range_value, StandsFor, IsEventAt, IsCoordinator};
 
 use crate::entry::{Call, Entry, Range, Reply};
-use crate::shared::Shared;
 use crate::view::View;
 use fm_delta::buffer::Buffer;
 use fm_delta::packet::Packet;
@@ -26,6 +25,7 @@ use fm_dimacs::dump::dump;
 use fm_dimacs::out::Out;
 use fm_know::knowledge::Knowledge;
 use fm_lattice::join::{Join, OutOfMemory};
+use fm_lattice::shared::Shared;
 use fm_policy::changed::changed_of;
 use fm_policy::keeper::NetKeeper;
 use fm_records::ids::CoordId;
@@ -324,7 +324,8 @@ impl<N: NetKeeper> Coordinator<N> {
 
     /// What is known now, with the count of entries before this one's, and the network, which is built first where it is
     /// stale. What is known is shared and not copied: a pointer for each block of records, and memory for each that was written
-    /// in since the last view. The network is copied, O(arcs).
+    /// in since the last view. The network is shared by one pointer; a keeper that edits copies it, O(arcs), the first time
+    /// that it edits it while the view is still held.
     /// HistoryFull, OutOfMemory; then nothing has changed, but for a stale network that may be built or not.
     pub fn view(&mut self, by: u32) -> Result<View, Refusal>
         ensures ok { IfOk result (λ view. self.new.state ≡ noted self.old.state (entry by Call.View (Reply.Seen view.at view.knowledge))) }
@@ -392,7 +393,7 @@ impl<N: NetKeeper> Coordinator<N> {
         Ok(View {
             at: self.history.len(),
             knowledge: Shared::new(self.alloc, self.knowledge.copy()?)?,
-            network: self.keeper.network().copy()?,
+            network: self.keeper.share()?,
         })
     }
 

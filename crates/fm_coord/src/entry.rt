@@ -1,8 +1,8 @@
 //! What a history is made of.
 
-use crate::shared::Shared;
 use fm_delta::packet::Packet;
 use fm_know::knowledge::Knowledge;
+use fm_lattice::shared::Shared;
 use fm_records::ops::Op;
 use fm_round::parts::{Admitted, Plan};
 

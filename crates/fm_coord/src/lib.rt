@@ -5,5 +5,7 @@ pub mod coordinator;
 pub mod entry;
 pub mod equal;
 pub mod laws;
-pub mod shared;
 pub mod view;
+
+// The values with several owners that are handed out.
+pub use fm_lattice::shared;

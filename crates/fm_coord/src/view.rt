@@ -1,7 +1,7 @@
 //! What a view hands out.
 
-use crate::shared::Shared;
 use fm_know::knowledge::Knowledge;
+use fm_lattice::shared::Shared;
 use fm_net::network::Network;
 
 /// What was known at a point of a history: the count of entries before it, the knowledge, and its network.
@@ -9,5 +9,5 @@ use fm_net::network::Network;
 pub struct View {
     pub at: usize,
     pub knowledge: Shared<Knowledge>,
-    pub network: Network,
+    pub network: Shared<Network>,
 }

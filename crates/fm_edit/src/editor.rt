@@ -3,7 +3,7 @@
 ghost use Rattle.std.specs.Prelude.{◌≡◌, ◌++◌, [], true, false, IsTrue, IfOk, OnOk, OnErr};
 ghost use Rattle.fm_records.specs.Know.{know};
 ghost use Rattle.fm_records.specs.Table.{Table};
-ghost use Rattle.fm_net.specs.Edits.{change};
+ghost use Rattle.fm_net.specs.Edits.{after, change, MayEditAll};
 ghost use Rattle.fm_net.specs.Network.{net_of};
 ghost use Rattle.fm_policy.specs.Keeping.{TookIn};
 ghost use Rattle.fm_edit.specs.Looking.{looks_of};
@@ -15,6 +15,7 @@ use crate::memory::Memory;
 use fm_know::knowledge::Knowledge;
 use fm_know::laws::law_can_be;
 use fm_lattice::join::OutOfMemory;
+use fm_lattice::shared::Shared;
 use fm_net::edit::Edit;
 use fm_net::making::make_all;
 use fm_net::network::Network;
@@ -27,7 +28,7 @@ use std::alloc::Global;
 #[derive(Drop)]
 pub struct Editor {
     memory: Memory,
-    network: Network,
+    network: Shared<Network>,
     fresh: bool,
 }
 
@@ -39,7 +40,7 @@ impl Editor {
     {
         Ok(Editor {
             memory: Memory::new(alloc),
-            network: Network::new(alloc)?,
+            network: Shared::new(alloc, Network::new(alloc)?)?,
             fresh: true,
         })
     }
@@ -66,18 +67,30 @@ pub fn edit<L: Look>(
     ensures err { OnErr result (is_fresh_editor editor.new ≡ false) }
 {
     editor.fresh = false;
-    let touched = editor.memory.follow(alloc, &editor.network, look, changed)?;
-    editor.network.known();
+    let network = editor.network.get();
+    let touched = editor.memory.follow(alloc, network, look, changed)?;
+    network.known();
     let edits = list(
         alloc,
-        &editor.network,
+        network,
         &editor.memory.seen,
         &editor.memory.index,
         &touched,
     )?;
-    make_all(&mut editor.network, edits.as_slice())?;
+    make(&mut editor.network, edits.as_slice())?;
     editor.fresh = true;
     Ok(edits)
+}
+
+// Makes the edits one after another. Where the network has other owners and there are edits to make, it is copied first.
+fn make(network: &mut Shared<Network>, edits: &[Edit]) -> Result<(), OutOfMemory>
+    requires { MayEditAll network.old edits.now }
+    ensures { OnOk result (network.new ≡ after edits.now network.old) }
+{
+    if edits.is_empty() {
+        return Ok(());
+    }
+    make_all(network.own()?, edits)
 }
 
 // Fresh, for what is known: from nothing known by one edit.
@@ -134,6 +147,10 @@ impl NetKeeper for Editor {
     }
 
     fn network(&self) -> &Network {
-        &self.network
+        self.network.get()
+    }
+
+    fn share(&self) -> Result<Shared<Network>, OutOfMemory> {
+        self.network.share()
     }
 }

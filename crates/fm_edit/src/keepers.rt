@@ -3,6 +3,7 @@
 use crate::editor::Editor;
 use fm_know::knowledge::Knowledge;
 use fm_lattice::join::OutOfMemory;
+use fm_lattice::shared::Shared;
 use fm_net::network::Network;
 use fm_policy::changed::Changed;
 use fm_policy::keeper::NetKeeper;
@@ -55,6 +56,13 @@ impl NetKeeper for Keeper {
         match self {
             Keeper::Edits(editor) => editor.network(),
             Keeper::Builds(rebuilder) => rebuilder.network(),
+        }
+    }
+
+    fn share(&self) -> Result<Shared<Network>, OutOfMemory> {
+        match self {
+            Keeper::Edits(editor) => editor.share(),
+            Keeper::Builds(rebuilder) => rebuilder.share(),
         }
     }
 }

@@ -51,6 +51,8 @@ pub fn run_round<N: NetKeeper, L: NodeName, G: Gate, R: Wait>(
         Ok(plan) => plan,
         Err(refusal) => return Err(refusal),
     };
+    // With no view left, the commit edits the network in place.
+    drop(view);
     node.commit(rt, seat, plan)
 }
 
@@ -64,6 +66,6 @@ pub fn plan_for(alloc: Global, view: &View) -> Result<Plan, Refusal>
 {
     let knowledge = view.knowledge.get();
     law_can_be(knowledge);
-    let (flow, _) = solve(alloc, &view.network)?;
-    Ok(plan(alloc, &view.network, &flow, knowledge)?)
+    let (flow, _) = solve(alloc, view.network.get())?;
+    Ok(plan(alloc, view.network.get(), &flow, knowledge)?)
 }

@@ -11,3 +11,4 @@ mod pairs;
 pub mod plain;
 mod plan;
 mod rising;
+pub mod shared;

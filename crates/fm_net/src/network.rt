@@ -12,7 +12,7 @@ use crate::cells::Cells;
 use crate::node::Node;
 use crate::walks::{Arcs, Nodes};
 use fm_lattice::join::OutOfMemory;
-use std::alloc::Global;
+use std::alloc::{AllocError, Global};
 use std::marker::Model;
 
 /// A network: a set of nodes with the sink, and at most one arc from one of them to another, with a capacity and a cost.
@@ -168,13 +168,25 @@ impl Network {
         self.arcs.len()
     }
 
-    /// An equal network, in memory of its own.
+    /// An equal network, in memory of its own. O(arcs).
     pub fn copy(&self) -> Result<Self, OutOfMemory>
         ensures { IfOk result (λ net. net ≡ self.now) }
     {
         let nodes = self.nodes.copy()?;
         let arcs = self.arcs.copy()?;
         Ok(Network { nodes, arcs })
+    }
+}
+
+impl Clone for Network {
+    ghost is_clone = { λ a b. b ≡ a };
+
+    /// An equal network, in memory of its own. O(arcs).
+    fn clone(&self) -> Result<Network, AllocError> {
+        match self.copy() {
+            Ok(network) => Ok(network),
+            Err(OutOfMemory) => Err(AllocError),
+        }
     }
 }
 

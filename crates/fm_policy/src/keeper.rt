@@ -1,6 +1,6 @@
 //! Keepers of the network of what is known.
 
-ghost use Rattle.std.specs.Prelude.{◌≡◌, Bool, false, IsTrue, OnOk, OnErr};
+ghost use Rattle.std.specs.Prelude.{◌≡◌, Bool, false, IsTrue, IfOk, OnOk, OnErr};
 ghost use Rattle.fm_records.specs.Table.{Table};
 ghost use Rattle.fm_net.specs.Network.{net_of};
 ghost use Rattle.fm_policy.specs.Changes.{Keys};
@@ -9,6 +9,7 @@ ghost use Rattle.fm_policy.specs.Keeping.{TookIn};
 use crate::changed::Changed;
 use fm_know::knowledge::Knowledge;
 use fm_lattice::join::OutOfMemory;
+use fm_lattice::shared::Shared;
 use fm_net::network::Network;
 use std::alloc::Global;
 
@@ -52,4 +53,10 @@ pub trait NetKeeper: Drop {
     /// The network. Of a stale keeper it may be any.
     fn network(&self) -> &Network
         ensures { IsTrue (fresh self.now) → (k : Table) → is_for self.now k → result.now ≡ net_of k };
+
+    /// The network, for one more owner: a pointer. It stays as it is while the keeper goes on: a keeper that edits copies the
+    /// network first, where another owner has it. Of a stale keeper it may be any.
+    /// It is refused where no more owners can be counted.
+    fn share(&self) -> Result<Shared<Network>, OutOfMemory>
+        ensures { IfOk result (λ network. IsTrue (fresh self.now) → (k : Table) → is_for self.now k → network ≡ net_of k) };
 }

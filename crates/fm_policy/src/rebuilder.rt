@@ -9,6 +9,7 @@ use crate::changed::Changed;
 use crate::keeper::NetKeeper;
 use fm_know::knowledge::Knowledge;
 use fm_lattice::join::OutOfMemory;
+use fm_lattice::shared::Shared;
 use fm_net::network::Network;
 use std::alloc::Global;
 use std::marker::Model;
@@ -16,7 +17,7 @@ use std::marker::Model;
 /// A keeper that any delta makes stale, and that builds the whole network anew where it is wanted.
 #[derive(Debug, Drop)]
 pub struct Rebuilder {
-    network: Network,
+    network: Shared<Network>,
     fresh: bool,
 }
 
@@ -35,10 +36,17 @@ impl Rebuilder {
         ensures { IfOk result (λ r. r ≡ Some (net_of (know []))) }
     {
         Ok(Rebuilder {
-            network: Network::new(alloc)?,
+            network: Shared::new(alloc, Network::new(alloc)?)?,
             fresh: true,
         })
     }
+}
+
+// The network of what is known, with one owner.
+fn network_of(alloc: Global, now: &Knowledge) -> Result<Shared<Network>, OutOfMemory>
+    ensures { IfOk result (λ network. network ≡ net_of now.now) }
+{
+    Shared::new(alloc, build(alloc, now)?)
 }
 
 impl NetKeeper for Rebuilder {
@@ -59,7 +67,7 @@ impl NetKeeper for Rebuilder {
     }
 
     fn rebuild(&mut self, alloc: Global, now: &Knowledge) -> Result<(), OutOfMemory> {
-        let built = build(alloc, now);
+        let built = network_of(alloc, now);
         self.fresh = built.is_ok();
         self.network = built?;
         Ok(())
@@ -70,6 +78,10 @@ impl NetKeeper for Rebuilder {
     }
 
     fn network(&self) -> &Network {
-        &self.network
+        self.network.get()
+    }
+
+    fn share(&self) -> Result<Shared<Network>, OutOfMemory> {
+        self.network.share()
     }
 }

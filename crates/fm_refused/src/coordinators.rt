@@ -275,5 +275,5 @@ pub(crate) fn is_lost(coordinator: &Either, kind: Kind) -> bool {
 /// Whether the network of the view is that of what was known.
 pub(crate) fn is_right_view(alloc: Global, seen: &View) -> Result<bool, Refusal> {
     let wanted = network_of(alloc, seen.knowledge.get())?;
-    Ok(networks::are_same(&seen.network, &wanted))
+    Ok(networks::are_same(seen.network.get(), &wanted))
 }

@@ -1,7 +1,8 @@
-use fm_lattice::join::{Join, copied, law_assoc, law_comm, law_idem};
+use fm_lattice::join::{Join, OutOfMemory, copied, law_assoc, law_comm, law_idem};
 use fm_lattice::map::JoinMap;
 use fm_lattice::plain::{Both, Lex, Max, Min, Opt};
-use std::alloc::Global;
+use fm_lattice::shared::Shared;
+use std::alloc::{AllocError, Global};
 use std::test::Fail;
 
 // The functions below have no contract: the tests are of what is answered, and proofs of them stay short.
@@ -234,6 +235,44 @@ fn what_is_shared_stays_as_it_was(rt: HostRuntime) -> Result<(), Fail> {
     );
     assert_eq!(rt; (kept.get(&500), map.get(&500)), (None, Some(&Max(2))));
     Ok(())
+}
+
+// What is written into a value that is owned, and what another owner sees then.
+fn written(alloc: Global) -> Result<(u8, u8), OutOfMemory> {
+    let mut value = Shared::new(alloc, 1u8)?;
+    let kept = value.share()?;
+    *value.own()? = 2;
+    Ok((*value.get(), *kept.get()))
+}
+
+#[test]
+fn what_is_owned_is_written_for_its_owner_alone(rt: HostRuntime) {
+    assert_eq!(rt; written(rt.alloc()), Ok((2, 1)));
+}
+
+// A value of which no memory suffices for a clone.
+#[derive(Drop)]
+struct Only;
+
+impl Clone for Only {
+    fn clone(&self) -> Result<Only, AllocError> {
+        Err(AllocError)
+    }
+}
+
+// Whether the value can be owned alone, with another owner, and alone again.
+fn owned(alloc: Global) -> Result<[bool; 3], OutOfMemory> {
+    let mut value = Shared::new(alloc, Only)?;
+    let alone = value.own().is_ok();
+    let other = value.share()?;
+    let together = value.own().is_ok();
+    drop(other);
+    Ok([alone, together, value.own().is_ok()])
+}
+
+#[test]
+fn what_has_one_owner_is_not_cloned(rt: HostRuntime) {
+    assert_eq!(rt; owned(rt.alloc()), Ok([true, false, true]));
 }
 
 // A map of each of so many keys.

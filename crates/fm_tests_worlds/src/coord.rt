@@ -119,7 +119,8 @@ fn view(node: &mut Node) -> Result<View, Refusal> {
 // At which entry a first view is, and of how many nodes and arcs.
 fn seen(node: &mut Node) -> Result<(usize, usize, usize), Refusal> {
     let seen = view(node)?;
-    Ok((seen.at, seen.network.nodes_len(), seen.network.arcs_len()))
+    let network = seen.network.get();
+    Ok((seen.at, network.nodes_len(), network.arcs_len()))
 }
 
 // The same after three tells, with the entries that there are then, and whether the network was fresh before and is now.
@@ -356,6 +357,10 @@ impl NetKeeper for Counting {
 
     fn network(&self) -> &Network {
         self.inner.network()
+    }
+
+    fn share(&self) -> Result<Shared<Network>, OutOfMemory> {
+        self.inner.share()
     }
 }
 

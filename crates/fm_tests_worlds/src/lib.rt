@@ -10,4 +10,6 @@ mod gather;
 #[cfg(test)]
 mod input;
 #[cfg(test)]
+mod views;
+#[cfg(test)]
 mod world;

@@ -1,8 +1,10 @@
 //! Values with several owners.
 
-ghost use Rattle.std.specs.Prelude.{◌≡◌, IfOk};
+ghost use Rattle.std.specs.Prelude.{◌≡◌, ◌⊎◌, IfOk};
+ghost use Rattle.std.specs.Borrow.{LendsSoOk, sem};
+ghost use Rattle.fm_lattice.specs.contracts.shared.Shared.{the_row};
 
-use fm_lattice::join::OutOfMemory;
+use crate::join::OutOfMemory;
 use std::alloc::Global;
 use std::marker::Model;
 use std::sync::Arc;
@@ -45,6 +47,16 @@ impl<T: Drop> Shared<T> {
         ensures { result.now ≡ self.now }
     {
         &self.inner
+    }
+}
+
+impl<T: Clone> Shared<T> {
+    /// The value, to write in. Where it has other owners, this one gets a clone of it first, and the others keep theirs.
+    pub fn own(&mut self) -> Result<&mut T, OutOfMemory>
+        ensures* writes_back { sem 𝓛 (LendsSoOk (the_row T.row) T.row self.entry result (λ n w. n ≡ w) (λ n. (n ≡ self.old) ⊎ T.is_clone self.old n)) }
+        ensures value { IfOk result (λ x. (x.now ≡ self.old) ⊎ T.is_clone self.old x.now) }
+    {
+        Ok(Arc::make_mut(&mut self.inner)?)
     }
 }
 
