@@ -145,11 +145,12 @@ fn least_flow(alloc: Global, view: &View, earlier: Option<&Flow>) -> Result<Flow
 {
     let knowledge = view.knowledge.get();
     law_can_be(knowledge);
+    let network = view.network.get();
     let Some(earlier) = earlier else {
-        let (flow, _) = solve(alloc, view.network.get())?;
+        let (flow, _) = solve(alloc, network)?;
         return Ok(flow);
     };
-    let (flow, _) = solve_from(alloc, view.network.get(), earlier)?;
+    let (flow, _) = solve_from(alloc, network, earlier)?;
     Ok(flow)
 }
 
@@ -161,6 +162,7 @@ fn plan_of(alloc: Global, view: &View, flow: &Flow) -> Result<Plan, Refusal>
     ensures err { IfErr result (λ refusal. refusal ≡ Refusal.OutOfMemory) }
 {
     let knowledge = view.knowledge.get();
-    let plan = plan(alloc, view.network.get(), flow, knowledge)?;
+    let network = view.network.get();
+    let plan = plan(alloc, network, flow, knowledge)?;
     Ok(plan)
 }

@@ -66,6 +66,7 @@ pub fn plan_for(alloc: Global, view: &View) -> Result<Plan, Refusal>
 {
     let knowledge = view.knowledge.get();
     law_can_be(knowledge);
-    let (flow, _) = solve(alloc, view.network.get())?;
-    Ok(plan(alloc, view.network.get(), &flow, knowledge)?)
+    let network = view.network.get();
+    let (flow, _) = solve(alloc, network)?;
+    Ok(plan(alloc, network, &flow, knowledge)?)
 }
