@@ -27,8 +27,8 @@ struct Answered {
     is_right: bool,
 }
 
-/// An Editor follows what machines, tasks and proposals are added to much. Where that is refused memory it is stale, and the
-/// next build is of what is known.
+/// An Editor whose network is shared follows what machines, tasks and proposals are added to much. Where that is refused memory
+/// it is stale, and the next build is of what is known.
 pub(crate) fn edited(memory: Memory) -> Result<Verdict, Refusal> {
     follows(memory, 48)
 }
@@ -63,7 +63,7 @@ fn follow(memory: Memory, now: &mut Knowledge, delta: &Knowledge) -> Result<Answ
     let mut editor = built(memory.alloc, now)?;
     let changed = changed_of(memory.alloc, delta)?;
     now.join_into(delta)?;
-    edits(memory, &mut editor, now, &changed)
+    edits_while_seen(memory, &mut editor, now, &changed)
 }
 
 fn built(alloc: Global, now: &Knowledge) -> Result<Editor, Refusal>
@@ -73,6 +73,23 @@ fn built(alloc: Global, now: &Knowledge) -> Result<Editor, Refusal>
     let mut editor = Editor::new(alloc)?;
     editor.rebuild(alloc, now)?;
     Ok(editor)
+}
+
+// What becomes of it while its network is shared, and stays as it was for who shares it.
+fn edits_while_seen(
+    memory: Memory,
+    editor: &mut Editor,
+    now: &Knowledge,
+    changed: &Changed,
+) -> Result<Answered, Refusal>
+    requires fresh { IsTrue (is_fresh_editor editor.old) }
+    requires took_in { TookIn true (IsFor editor.old) now.now changed.now }
+{
+    let seen = editor.share()?;
+    let before = seen.get().copy()?;
+    let mut answered = edits(memory, editor, now, changed)?;
+    answered.is_right = answered.is_right && are_same(seen.get(), &before);
+    Ok(answered)
 }
 
 fn edits(
