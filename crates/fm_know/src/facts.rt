@@ -117,13 +117,13 @@ impl Knowledge {
     }
 
     // The machine that holds the task with the record.
-    fn holder_in(&self, task: TaskId, record: &TaskRec) -> Option<MachineId>
-        ensures { result ≡ holder_in self.now task record.now }
+    fn holder_in(&self, task: TaskId, found: &TaskRec) -> Option<MachineId>
+        ensures { result ≡ holder_in self.now task found.now }
     {
-        if live_in(self, record).is_none() {
+        if live_in(self, found).is_none() {
             return None;
         }
-        let winner = self.winner(task, record.1.0.attempt)?;
+        let winner = self.winner(task, found.1.0.attempt)?;
         let spot = Spot {
             machine: winner.machine,
             incarnation: winner.incarnation,

@@ -84,11 +84,11 @@ impl Holdings {
     }
 
     // The machine that holds the task with the record, if it is counted. Whether the one that won it is, is asked first.
-    fn holder(&self, knowledge: &Knowledge, task: TaskId, record: &TaskRec) -> Option<MachineId>
-        requires { lookup nat_cmp task knowledge.now.tasks ≡ Some record.now }
+    fn holder(&self, knowledge: &Knowledge, task: TaskId, found: &TaskRec) -> Option<MachineId>
+        requires { lookup nat_cmp task knowledge.now.tasks ≡ Some found.now }
         ensures { result ≡ only_if (is_counted self.now) (holder_of knowledge.now task) }
     {
-        let winner = knowledge.winner(task, record.1.0.attempt)?;
+        let winner = knowledge.winner(task, found.1.0.attempt)?;
         if !self.by_machine.contains_key(&winner.machine) {
             return None;
         }
