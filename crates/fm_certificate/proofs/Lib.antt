@@ -8,6 +8,5 @@ pub mod Units
 pub mod Small
 pub mod Certified
 pub mod Priced
-pub mod Behind
 pub mod Leaving
 pub mod Inserted

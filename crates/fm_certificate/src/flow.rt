@@ -6,7 +6,7 @@ ghost use Rattle.fm_net.specs.Nodes.{ends_cmp, node_cmp};
 ghost use Rattle.fm_certificate.specs.Totals.{source, target, units_at, IsTotalled};
 
 use crate::entries::Entries;
-use crate::rising::{set, value_at, value_near};
+use fm_net::rising::{set, value_at, value_near};
 use crate::sources::sum_from;
 use crate::totals::{change, make_room, total_of, totals_of};
 use fm_lattice::join::OutOfMemory;

@@ -7,6 +7,5 @@ pub mod entries;
 pub mod flow;
 pub mod laws;
 pub mod potentials;
-mod rising;
 mod sources;
 mod totals;

@@ -8,3 +8,5 @@ pub mod Made
 pub mod Shown
 pub mod Copied
 pub mod Refilled
+pub mod Behind
+pub mod Taken

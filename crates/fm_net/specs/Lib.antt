@@ -2,6 +2,7 @@ pub mod Nodes
 pub mod NodeOrder
 pub mod Net
 pub mod Cells
+pub mod Ordered
 pub mod Walks
 pub mod Same
 pub mod Ends

@@ -1,10 +1,9 @@
 //! Pairs in cells, with an index by their keys.
 
-ghost use Rattle.std.specs.Prelude.{◌≡◌, ◌<◌, ◌^◌, ◌&&◌, [], length, is_some, option_map, IfOk, OnOk, OnErr};
+ghost use Rattle.std.specs.Prelude.{◌≡◌, ◌<◌, ◌^◌, [], length, is_some, option_map, IfOk, OnOk, OnErr};
 ghost use Rattle.std.specs.Iterator.{YieldsFirst, item_count};
 ghost use Rattle.std.specs.Map.{remove_entry};
 ghost use Rattle.std.specs.BTreeMap.{is_at};
-ghost use Rattle.std.specs.Cmp.Lexicographic.{pointwise};
 ghost use Rattle.fm_lattice.specs.Chains.{TellsApart};
 ghost use Rattle.fm_lattice.specs.Maps.{lookup, put, replaced, IsRising};
 ghost use Rattle.fm_net.specs.Cells.{IsPlainClone};
@@ -13,7 +12,6 @@ use fm_lattice::join::OutOfMemory;
 use slab::Slab;
 use std::alloc::Global;
 use std::collections::{BTreeMap, btree_map};
-use std::fmt;
 use std::marker::Model;
 
 /// A map whose pairs lie in cells of a slab; the index keeps the keys in order, each with the place of its cell.
@@ -122,26 +120,6 @@ impl<K: Ord + Copy, V: Copy> Cells<K, V> {
     }
 }
 
-impl<K: Ord + Copy, V: PartialEq + Copy> PartialEq for Cells<K, V> {
-    ghost use Rattle.std.specs.Cmp.{on_per, and_per};
-    ghost use Rattle.std.specs.Cmp.Lexicographic.{lists_per};
-
-    ghost eq = { λ a b. pointwise (λ p q. K.eq p.0 q.0 && V.eq p.1 q.1) a b };
-
-    ghost laws = { lists_per (and_per (on_per (λ p. p.0) K.PartialEq.laws) (on_per (λ p. p.1) V.laws)) };
-
-    /// Whether the pairs are the same.
-    fn eq(&self, other: &Self) -> bool {
-        same_pairs(self.iter(), other.iter())
-    }
-}
-
-impl<K: Ord + Copy + fmt::Debug, V: Copy + fmt::Debug> fmt::Debug for Cells<K, V> {
-    fn fmt<W: fmt::Write>(&self, f: &mut fmt::Formatter<W>) -> fmt::Result {
-        f.debug_map().entries(self.iter()).finish()
-    }
-}
-
 /// The pairs that are left of a walk, by rising key.
 #[derive(Drop)]
 pub(crate) struct Pairs<'a, K: Copy, V: Copy> {
@@ -184,26 +162,4 @@ fn value_of<K: Copy, V: Copy>(pair: Option<(K, V)>) -> Option<V>
         Some((_, value)) => Some(value),
         None => None,
     }
-}
-
-// Whether two walks give the same pairs.
-fn same_pairs<K: Ord + Copy, V: PartialEq + Copy>(
-    left: Pairs<'_, K, V>,
-    right: Pairs<'_, K, V>,
-) -> bool
-    ensures { result ≡ pointwise (λ p q. K.eq p.0 q.0 && V.eq p.1 q.1) left.entry right.entry }
-{
-    let mut left = left;
-    let mut right = right;
-    while let Some((key, value)) = left.next() {
-        match right.next() {
-            Some((other_key, other_value)) => {
-                if !(key == other_key && value == other_value) {
-                    return false;
-                }
-            }
-            None => return false,
-        }
-    }
-    right.next().is_none()
 }

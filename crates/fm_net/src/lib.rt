@@ -7,4 +7,6 @@ pub mod laws;
 pub mod making;
 pub mod network;
 pub mod node;
+mod ordered;
+pub mod rising;
 pub mod walks;

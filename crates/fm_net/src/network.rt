@@ -8,8 +8,8 @@ ghost use Rattle.std.specs.Map.{keys_of};
 ghost use Rattle.std.specs.List.{list_any};
 ghost use Rattle.fm_net.specs.Ends.{is_end};
 
-use crate::cells::Cells;
 use crate::node::Node;
+use crate::ordered::Ordered;
 use crate::walks::{Arcs, Nodes};
 use fm_lattice::join::OutOfMemory;
 use std::alloc::{AllocError, Global};
@@ -18,8 +18,8 @@ use std::marker::Model;
 /// A network: a set of nodes with the sink, and at most one arc from one of them to another, with a capacity and a cost.
 #[derive(Debug, Drop)]
 pub struct Network {
-    nodes: Cells<Node, ()>,
-    arcs: Cells<(Node, Node), (u64, u32)>,
+    nodes: Ordered<Node, ()>,
+    arcs: Ordered<(Node, Node), (u64, u32)>,
 }
 
 impl Model for Network {
@@ -38,11 +38,11 @@ impl Network {
     pub fn new(alloc: Global) -> Result<Self, OutOfMemory>
         ensures { IfOk result (λ net. net ≡ sink_alone) }
     {
-        let mut nodes = Cells::new(alloc);
+        let mut nodes = Ordered::new(alloc);
         nodes.put(Node::Sink, ())?;
         Ok(Network {
             nodes,
-            arcs: Cells::new(alloc),
+            arcs: Ordered::new(alloc),
         })
     }
 
@@ -207,7 +207,7 @@ impl PartialEq for Network {
 }
 
 // Whether an arc leaves or enters the node.
-fn touches(arcs: &Cells<(Node, Node), (u64, u32)>, node: &Node) -> bool
+fn touches(arcs: &Ordered<(Node, Node), (u64, u32)>, node: &Node) -> bool
     ensures { result ≡ list_any (λ arc. is_end node.now arc.0) arcs.now }
 {
     let mut rest = arcs.iter();

@@ -3,6 +3,7 @@
 ghost use Rattle.std.specs.Prelude.{◌≡◌};
 ghost use Rattle.fm_net.specs.Nodes.{by_kind_and_number, node_cmp, IsRequestInRange, IsInRange};
 
+use fm_lattice::chain::Chain;
 use fm_records::ids::{JobId, MachineId, TaskId};
 use std::cmp::Ordering;
 
@@ -19,6 +20,12 @@ pub enum Node {
     Machine(MachineId),
     /// A task, the source of one unit.
     Task(TaskId),
+}
+
+impl Chain for Node {
+    ghost use Rattle.fm_net.specs.NodeOrder.{node_exact};
+
+    ghost same = { node_exact };
 }
 
 /// The order of two nodes: by kind as listed, then by id or request.

@@ -5,8 +5,8 @@ ghost use Rattle.std.specs.Iterator.{YieldsFirst, YieldsFirstBy, item_count};
 ghost use Rattle.std.specs.Map.{keys_of};
 ghost use Rattle.fm_net.specs.Walks.{arc_entry};
 
-use crate::cells::{Cells, Pairs};
 use crate::node::Node;
+use crate::ordered::{Ordered, Pairs};
 use std::marker::Model;
 
 /// The nodes that are left of a walk, in node order.
@@ -26,7 +26,7 @@ impl<'a> Model for Nodes<'a> {
 }
 
 impl<'a> Nodes<'a> {
-    pub(crate) fn of(nodes: &'a Cells<Node, ()>) -> Self
+    pub(crate) fn of(nodes: &'a Ordered<Node, ()>) -> Self
         ensures all { result ≡ keys_of nodes.now }
         ensures fits { length (keys_of nodes.now) < 2 ^ 63 }
     {
@@ -65,7 +65,7 @@ impl<'a> Model for Arcs<'a> {
 }
 
 impl<'a> Arcs<'a> {
-    pub(crate) fn of(arcs: &'a Cells<(Node, Node), (u64, u32)>) -> Self
+    pub(crate) fn of(arcs: &'a Ordered<(Node, Node), (u64, u32)>) -> Self
         ensures all { result ≡ arcs.now }
         ensures fits { length arcs.now < 2 ^ 63 }
     {

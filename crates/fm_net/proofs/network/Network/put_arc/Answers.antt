@@ -9,9 +9,6 @@ use Rattle.fm_net.proofs.Kept.{after_put_arc}
 use Rattle.fm_net.proofs.Said.{arc_with}
 use Rattle.fm_net.proofs.network.Network.put_arc.Goals as goal
 
-pub put-requires : goal.put-requires
-put-requires c = ends_exact
-
 pub invariant_of-self-2 : goal.invariant_of-self-2
 invariant_of-self-2 c =
     let old : Net = record { nodes = keys_of c.self.inside.nodes; arcs = c.self.inside.arcs } in

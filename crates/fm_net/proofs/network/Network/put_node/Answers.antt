@@ -9,9 +9,6 @@ use Rattle.fm_net.proofs.Kept.{after_put_node, put_has}
 use Rattle.fm_net.proofs.Said.{same_lists, keys_put, found_key, has_with, rises_with, not_not}
 use Rattle.fm_net.proofs.network.Network.put_node.Goals as goal
 
-pub put-requires : goal.put-requires
-put-requires c = node_exact
-
 pub invariant_of-self-2 : goal.invariant_of-self-2
 invariant_of-self-2 c =
     let old : Net = record { nodes = keys_of c.self.inside.nodes; arcs = c.self.inside.arcs } in

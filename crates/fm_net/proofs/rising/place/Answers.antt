@@ -1,8 +1,8 @@
 use Rattle.std.proofs.Common.{rules, ◌-◌, length, arith}
 use Rattle.std.proofs.lemmas.List.Sorted.{answers_always}
 use Rattle.fm_lattice.proofs.Places.{searched}
-use Rattle.fm_certificate.proofs.Behind.{behind, less_of}
-use Rattle.fm_certificate.proofs.rising.place.Goals as goal
+use Rattle.fm_net.proofs.Behind.{behind, less_of}
+use Rattle.fm_net.proofs.rising.place.Goals as goal
 
 pub returns-then-is_lt-clause-absent : goal.returns-then-is_lt-clause-absent
 returns-then-is_lt-clause-absent g c = behind g.K.Ord.cmp g.met.K.Ord.total c.requires.exact c.args.pairs.now c.args.key.now (length c.args.pairs.now - 1) c.index-pairs-count.result c.requires.rising (omega arith) c.index-pairs-count.is (less_of _ (search rules))

@@ -1,7 +1,7 @@
 use Rattle.std.proofs.Common.{◌∙◌, ap, sym, Some, rules, arith}
 use Rattle.fm_lattice.proofs.Places.{lookup_at}
-use Rattle.fm_certificate.proofs.Behind.{equal_of, stands_at}
-use Rattle.fm_certificate.proofs.rising.value_near.Goals as goal
+use Rattle.fm_net.proofs.Behind.{equal_of, stands_at}
+use Rattle.fm_net.proofs.rising.value_near.Goals as goal
 
 pub returns-then-is_eq : goal.returns-then-is_eq
 returns-then-is_eq g c =

@@ -1,6 +1,8 @@
 //! Pairs in order of their keys: finding a key, and setting the value at one.
 
 ghost use Rattle.std.specs.Prelude.{◌≡◌, IfOk, IfErr, OnOk, OnErr};
+ghost use Rattle.std.specs.BTreeMap.{is_at};
+ghost use Rattle.std.specs.Map.{remove_entry};
 ghost use Rattle.fm_lattice.specs.Chains.{TellsApart};
 ghost use Rattle.fm_lattice.specs.Maps.{IsRising, lookup, put, replaced};
 ghost use Rattle.fm_lattice.specs.Places.{IsAt, IsGap};
@@ -25,7 +27,7 @@ fn place<K: Ord + Copy, V>(pairs: &[(K, V)], key: &K) -> Result<usize, usize>
 }
 
 /// The value at the key, if the key is there. O(log n).
-pub(crate) fn value_at<K: Ord + Copy, V: Copy>(pairs: &[(K, V)], key: &K) -> Option<V>
+pub fn value_at<K: Ord + Copy, V: Copy>(pairs: &[(K, V)], key: &K) -> Option<V>
     requires exact { TellsApart K.cmp }
     requires rising { IsRising K.cmp pairs.now }
     ensures { result ≡ lookup K.cmp key.now pairs.now }
@@ -37,11 +39,7 @@ pub(crate) fn value_at<K: Ord + Copy, V: Copy>(pairs: &[(K, V)], key: &K) -> Opt
 }
 
 /// As `value_at`, and looks at the place near before it searches: where the key is there, in one comparison.
-pub(crate) fn value_near<K: Ord + Copy, V: Copy>(
-    pairs: &[(K, V)],
-    near: usize,
-    key: &K,
-) -> Option<V>
+pub fn value_near<K: Ord + Copy, V: Copy>(pairs: &[(K, V)], near: usize, key: &K) -> Option<V>
     requires exact { TellsApart K.cmp }
     requires rising { IsRising K.cmp pairs.now }
     ensures { result ≡ lookup K.cmp key.now pairs.now }
@@ -58,7 +56,7 @@ pub(crate) fn value_near<K: Ord + Copy, V: Copy>(
 /// Sets the value at the key, and gives the one that was there. After a refusal of memory the pairs are as they were.
 /// A key behind the last is pushed, in amortised O(1); a key that is there is found in O(log n); before any other new key the
 /// pairs behind it move, in O(n).
-pub(crate) fn set<K: Ord + Copy, V: Copy>(
+pub fn set<K: Ord + Copy, V: Copy>(
     pairs: &mut Vec<(K, V)>,
     key: K,
     value: V,
@@ -68,6 +66,7 @@ pub(crate) fn set<K: Ord + Copy, V: Copy>(
     ensures ok { OnOk result (pairs.new.items ≡ put K.cmp replaced key value pairs.old.items) }
     ensures old { IfOk result (λ old. old ≡ lookup K.cmp key pairs.old.items) }
     ensures err { OnErr result (pairs.new.items ≡ pairs.old.items) }
+    ensures rises { IsRising K.cmp pairs.new.items }
 {
     match place(pairs, &key) {
         Ok(at) => {
@@ -79,5 +78,20 @@ pub(crate) fn set<K: Ord + Copy, V: Copy>(
             pairs.insert(at, (key, value))?;
             Ok(None)
         }
+    }
+}
+
+/// Takes the pair at the key out, and gives its value, if the key was there. It is found in O(log n), and the pairs behind it
+/// move, in O(n).
+pub fn take<K: Ord + Copy, V: Copy>(pairs: &mut Vec<(K, V)>, key: &K) -> Option<V>
+    requires exact { TellsApart K.cmp }
+    requires rising { IsRising K.cmp pairs.old.items }
+    ensures without { pairs.new.items ≡ remove_entry (is_at (K.cmp key.now)) pairs.old.items }
+    ensures rises { IsRising K.cmp pairs.new.items }
+    ensures stood { result ≡ lookup K.cmp key.now pairs.old.items }
+{
+    match place(pairs, key) {
+        Ok(at) => Some(pairs.remove(at).1),
+        Err(_) => None,
     }
 }

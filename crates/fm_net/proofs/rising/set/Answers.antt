@@ -1,7 +1,8 @@
-use Rattle.std.proofs.Common.{◌≡◌, get_or, sym, ◌∙◌, ap, Some}
-use Rattle.fm_lattice.specs.Maps.{replaced}
+use Rattle.std.proofs.Common.{◌≡◌, get_or, sym, ◌∙◌, ap, Some, subst}
+use Rattle.fm_lattice.specs.Maps.{replaced, IsRising}
+use Rattle.fm_lattice.specs.MapLaws.{rising_put}
 use Rattle.fm_lattice.proofs.Places.{lookup_at, lookup_gap, put_at, put_gap}
-use Rattle.fm_certificate.proofs.rising.set.Goals as goal
+use Rattle.fm_net.proofs.rising.set.Goals as goal
 
 -- the key is there, and its value is replaced
 pub returns-in-Ok-clause-ok : goal.returns-in-Ok-clause-ok
@@ -12,6 +13,9 @@ returns-in-Ok-clause-ok g c =
     let placed = put_at g.K.Ord.cmp g.met.K.Ord.total c.requires.exact replaced es c.args.key c.args.value c.in-Ok.at pair c.requires.rising at in
     let read : get_or es c.in-Ok.at pair ≡ pair = sym c.index_mut.ensures.value in
     sym (rw read at placed)
+
+pub returns-in-Ok-clause-rises : goal.returns-in-Ok-clause-rises
+returns-in-Ok-clause-rises g c = subst (IsRising g.K.Ord.cmp) (sym (returns-in-Ok-clause-ok g c)) (rising_put g.K.Ord.cmp g.met.K.Ord.total c.requires.exact replaced c.args.key c.args.value c.args.pairs.now.items c.requires.rising)
 
 pub returns-in-Ok-clause-old : goal.returns-in-Ok-clause-old
 returns-in-Ok-clause-old g c =
@@ -25,6 +29,9 @@ pub returns-in_ok-insert-in-Err-clause-ok : goal.returns-in_ok-insert-in-Err-cla
 returns-in_ok-insert-in-Err-clause-ok g c =
     let gap = rw c.deref.ensures.value at c.in-Err.ensures.absent in
     c.in_ok-insert-in-Err.ensures.items ∙ sym (put_gap g.K.Ord.cmp g.met.K.Ord.total c.requires.exact replaced c.args.pairs.now.items c.args.key c.args.value c.in-Err.at gap)
+
+pub returns-in_ok-insert-in-Err-clause-rises : goal.returns-in_ok-insert-in-Err-clause-rises
+returns-in_ok-insert-in-Err-clause-rises g c = subst (IsRising g.K.Ord.cmp) (sym (returns-in_ok-insert-in-Err-clause-ok g c)) (rising_put g.K.Ord.cmp g.met.K.Ord.total c.requires.exact replaced c.args.key c.args.value c.args.pairs.now.items c.requires.rising)
 
 pub returns-in_ok-insert-in-Err-clause-old : goal.returns-in_ok-insert-in-Err-clause-old
 returns-in_ok-insert-in-Err-clause-old g c =

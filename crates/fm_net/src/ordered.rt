@@ -1,0 +1,249 @@
+//! Pairs by rising key: packed one behind another while they come in order, and in cells once they are edited.
+
+ghost use Rattle.std.specs.Prelude.{◌≡◌, ◌<◌, ◌^◌, ◌&&◌, [], length, is_some, IfOk, OnOk, OnErr};
+ghost use Rattle.std.specs.Iterator.{YieldsFirst, item_count};
+ghost use Rattle.std.specs.Map.{remove_entry};
+ghost use Rattle.std.specs.BTreeMap.{is_at};
+ghost use Rattle.std.specs.Cmp.Lexicographic.{pointwise};
+ghost use Rattle.fm_lattice.specs.Maps.{lookup, put, replaced, IsRising};
+ghost use Rattle.fm_net.specs.Cells.{IsPlainClone};
+
+use crate::cells::{self, Cells};
+use crate::rising::{set, take, value_at};
+use fm_lattice::chain::Chain;
+use fm_lattice::join::OutOfMemory;
+use std::alloc::Global;
+use std::fmt;
+use std::marker::Model;
+
+// How many pairs may move for one that comes out of order, or goes.
+const FEW: usize = 64;
+
+/// A map of pairs. While keys come in order the pairs lie packed, so that a put is a push and a walk is one over memory. The
+/// first key that comes before others, or goes, moves them into cells, where each edit is a search. A few pairs stay packed.
+#[derive(Drop)]
+pub(crate) struct Ordered<K: Chain, V: Copy> {
+    form: Form<K, V>,
+}
+
+#[derive(Drop)]
+enum Form<K: Chain, V: Copy> {
+    Packed(Vec<(K, V)>),
+    Cells(Cells<K, V>),
+}
+
+impl<K: Chain, V: Copy> Model for Ordered<K, V> {
+    ghost use Rattle.std.specs.Prelude.{List};
+    ghost use Rattle.fm_net.specs.Ordered.{pairs_of, IsInOrder};
+
+    ghost Value = { List (K × V) };
+
+    ghost view = { λ o. pairs_of o.form };
+
+    ghost invariant = { λ o. IsInOrder K.cmp o.form };
+}
+
+impl<K: Chain, V: Copy> Ordered<K, V> {
+    /// No pairs. It takes no memory.
+    pub(crate) fn new(alloc: Global) -> Self
+        ensures { result ≡ [] }
+    {
+        Ordered {
+            form: Form::Packed(Vec::new(alloc)),
+        }
+    }
+
+    /// The value at the key, if it is there. O(log n).
+    pub(crate) fn get(&self, key: &K) -> Option<V>
+        ensures { result ≡ lookup K.cmp key.now self.now }
+    {
+        match &self.form {
+            Form::Packed(pairs) => value_at(pairs, key),
+            Form::Cells(cells) => cells.get(key),
+        }
+    }
+
+    /// Whether the key is there. O(log n).
+    pub(crate) fn has(&self, key: &K) -> bool
+        ensures { result ≡ is_some (lookup K.cmp key.now self.now) }
+    {
+        self.get(key).is_some()
+    }
+
+    /// Puts the value at the key in place of one that stood there, and answers what stood there.
+    /// After a refusal of memory the pairs are as they were. Amortised O(1) behind the last key of packed pairs, O(n) once, where
+    /// they move into cells, and O(log n) else.
+    pub(crate) fn put(&mut self, key: K, value: V) -> Result<Option<V>, OutOfMemory>
+        ensures ok { OnOk result (self.new ≡ put K.cmp replaced key value self.old) }
+        ensures stood { IfOk result (λ old. old ≡ lookup K.cmp key self.old) }
+        ensures err { OnErr result (self.new ≡ self.old) }
+    {
+        if self.comes_before_many(&key) {
+            self.scatter()?;
+        }
+        match &mut self.form {
+            Form::Packed(pairs) => set(pairs, key, value),
+            Form::Cells(cells) => cells.put(key, value),
+        }
+    }
+
+    /// Takes the pair at the key out, and answers its value, if it was there. Many packed pairs move into cells first, O(n) once;
+    /// where that is refused memory, those behind the key move instead. O(log n) else.
+    pub(crate) fn remove(&mut self, key: &K) -> Option<V>
+        ensures without { self.new ≡ remove_entry (is_at (K.cmp key.now)) self.old }
+        ensures stood { result ≡ lookup K.cmp key.now self.old }
+    {
+        if self.len() > FEW {
+            let _ = self.scatter();
+        }
+        match &mut self.form {
+            Form::Packed(pairs) => take(pairs, key),
+            Form::Cells(cells) => cells.remove(key),
+        }
+    }
+
+    /// How many pairs there are: fewer than 2^63.
+    pub(crate) fn len(&self) -> usize
+        ensures len { result ≡ length self.now }
+        ensures fits { result < 2 ^ 63 }
+    {
+        match &self.form {
+            Form::Packed(pairs) => pairs.len(),
+            Form::Cells(cells) => cells.len(),
+        }
+    }
+
+    /// The pairs, by rising key.
+    pub(crate) fn iter(&self) -> Pairs<'_, K, V>
+        ensures all { result ≡ self.now }
+        ensures fits { length self.now < 2 ^ 63 }
+    {
+        let rest = match &self.form {
+            Form::Packed(pairs) => Rest::Packed(pairs.as_slice()),
+            Form::Cells(cells) => Rest::Cells(cells.iter()),
+        };
+        Pairs { rest }
+    }
+
+    /// The same pairs, in memory of their own.
+    pub(crate) fn copy(&self) -> Result<Self, OutOfMemory>
+        requires key { IsPlainClone K.is_clone }
+        requires value { IsPlainClone V.is_clone }
+        ensures { IfOk result (λ copy. copy ≡ self.now) }
+    {
+        let form = match &self.form {
+            Form::Packed(pairs) => Form::Packed(pairs.clone()?),
+            Form::Cells(cells) => Form::Cells(cells.copy()?),
+        };
+        Ok(Ordered { form })
+    }
+
+    // Whether many packed pairs lie behind the place of a key that is not the last. It decides what a put costs, and no more.
+    fn comes_before_many(&self, key: &K) -> bool {
+        match &self.form {
+            Form::Packed(pairs) if pairs.len() > FEW => pairs[pairs.len() - FEW].0.cmp(key).is_gt(),
+            _ => false,
+        }
+    }
+
+    // Moves packed pairs into cells. After a refusal of memory they lie as they lay. O(n log n).
+    fn scatter(&mut self) -> Result<(), OutOfMemory>
+        ensures { self.new ≡ self.old }
+    {
+        if let Form::Packed(pairs) = &self.form {
+            self.form = Form::Cells(cells_of(*pairs.allocator(), pairs)?);
+        }
+        Ok(())
+    }
+}
+
+// The pairs in cells.
+fn cells_of<K: Chain, V: Copy>(alloc: Global, pairs: &[(K, V)]) -> Result<Cells<K, V>, OutOfMemory>
+    requires { IsRising K.cmp pairs.now }
+    ensures { IfOk result (λ cells. cells ≡ pairs.now) }
+{
+    let mut cells = Cells::new(alloc);
+    for (key, value) in pairs {
+        cells.put(*key, *value)?;
+    }
+    Ok(cells)
+}
+
+impl<K: Chain, V: PartialEq + Copy> PartialEq for Ordered<K, V> {
+    ghost use Rattle.std.specs.Cmp.{on_per, and_per};
+    ghost use Rattle.std.specs.Cmp.Lexicographic.{lists_per};
+
+    ghost eq = { λ a b. pointwise (λ p q. K.eq p.0 q.0 && V.eq p.1 q.1) a b };
+
+    ghost laws = { lists_per (and_per (on_per (λ p. p.0) K.PartialEq.laws) (on_per (λ p. p.1) V.laws)) };
+
+    /// Whether the pairs are the same.
+    fn eq(&self, other: &Self) -> bool {
+        same_pairs(self.iter(), other.iter())
+    }
+}
+
+impl<K: Chain + fmt::Debug, V: Copy + fmt::Debug> fmt::Debug for Ordered<K, V> {
+    fn fmt<W: fmt::Write>(&self, f: &mut fmt::Formatter<W>) -> fmt::Result {
+        f.debug_map().entries(self.iter()).finish()
+    }
+}
+
+/// The pairs that are left of a walk, by rising key.
+#[derive(Drop)]
+pub(crate) struct Pairs<'a, K: Chain, V: Copy> {
+    rest: Rest<'a, K, V>,
+}
+
+#[derive(Drop)]
+enum Rest<'a, K: Chain, V: Copy> {
+    Packed(&'a [(K, V)]),
+    Cells(cells::Pairs<'a, K, V>),
+}
+
+impl<'a, K: Chain, V: Copy> Model for Pairs<'a, K, V> {
+    ghost use Rattle.std.specs.Prelude.{List};
+    ghost use Rattle.fm_net.specs.Ordered.{pairs_left};
+
+    ghost Value = { List (K × V) };
+
+    ghost view = { λ s. pairs_left s.rest };
+}
+
+impl<'a, K: Chain, V: Copy> Iterator for Pairs<'a, K, V> {
+    type Item = (K, V);
+
+    ghost next_gives = { YieldsFirst (λ s. s) };
+
+    ghost remaining = { item_count (λ s. s) };
+
+    fn next(&mut self) -> Option<(K, V)> {
+        match &mut self.rest {
+            Rest::Packed(pairs) => {
+                let (first, later) = pairs.split_first()?;
+                *pairs = later;
+                Some(*first)
+            }
+            Rest::Cells(pairs) => pairs.next(),
+        }
+    }
+}
+
+// Whether two walks give the same pairs.
+fn same_pairs<K: Chain, V: PartialEq + Copy>(left: Pairs<'_, K, V>, right: Pairs<'_, K, V>) -> bool
+    ensures { result ≡ pointwise (λ p q. K.eq p.0 q.0 && V.eq p.1 q.1) left.entry right.entry }
+{
+    let mut left = left;
+    let mut right = right;
+    while let Some((key, value)) = left.next() {
+        match right.next() {
+            Some((other_key, other_value)) => {
+                if !(key == other_key && value == other_value) {
+                    return false;
+                }
+            }
+            None => return false,
+        }
+    }
+    right.next().is_none()
+}
