@@ -6,11 +6,11 @@ ghost use Rattle.fm_net.specs.Nodes.{ends_cmp, node_cmp};
 ghost use Rattle.fm_certificate.specs.Totals.{source, target, units_at, IsTotalled};
 
 use crate::entries::Entries;
-use fm_net::rising::{set, value_at, value_near};
 use crate::sources::sum_from;
 use crate::totals::{change, make_room, total_of, totals_of};
 use fm_lattice::join::OutOfMemory;
 use fm_net::node::Node;
+use fm_net::rising::{set, value_at, value_near};
 use std::alloc::Global;
 use std::collections::BTreeMap;
 use std::marker::Model;

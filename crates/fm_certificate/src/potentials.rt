@@ -6,10 +6,10 @@ ghost use Rattle.fm_net.specs.Nodes.{node_cmp};
 ghost use Rattle.fm_certificate.specs.Certificates.{potential_in};
 ghost use Rattle.fm_certificate.specs.Checks.{AreOf};
 
-use fm_net::rising::{set, value_at};
 use fm_lattice::join::OutOfMemory;
 use fm_net::network::Network;
 use fm_net::node::Node;
+use fm_net::rising::{set, value_at};
 use std::alloc::Global;
 use std::marker::Model;
 

@@ -1,24 +1,18 @@
 -- A network that is part of a table's and has all of it is the table's network.
 use Rattle.std.proofs.Common.{◌≡◌, ℕ, Bool, true, false, cond, List, [], ◌∷◌, Option, Some, None, refl, sym, ◌∙◌, ap, subst, inl, inr, IsTrue}
 use Rattle.std.specs.Prelude.{◌==◌, ◌&&◌, ◌||◌, not, is_some, option_map}
-use Rattle.std.specs.List.{list_any, filter_map, cons_option}
-use Rattle.std.specs.Ordering.{is_eq}
-use Rattle.std.specs.Cmp.{Equal-is}
+use Rattle.std.specs.List.{list_any}
 use borrow.Author.Tests.{eqb-true}
 use Rattle.fm_records.specs.declared.records.SpecReg.{SpecReg}
-use Rattle.fm_records.specs.Sets.{IsMember}
 use Rattle.fm_records.specs.Options.{when, and_then, only_if, passes}
 use Rattle.fm_records.specs.Table.{Table}
 use Rattle.fm_records.specs.Facts.{live_spec, open_state, is_open, is_present, won_spot, holder_of, holds}
 use Rattle.fm_net.specs.declared.node.Node.{Node}
 use Rattle.fm_net.specs.declared.node.Node.TheVariants.{Sink, Unscheduled, Request, Machine, Task}
-use Rattle.fm_net.specs.Nodes.{node_cmp}
-use Rattle.fm_net.specs.NodeOrder.{node_exact, node_total}
-use Rattle.std.proofs.lemmas.Cmp.{tied_itself}
 use Rattle.fm_net.specs.Net.{Net, CanBeNet, arc_at, sink_alone}
 use Rattle.fm_net.specs.Network.{IsNetworkOf, is_node, is_held, is_live_of, waits_for, preferred_arc, arc_of}
-use Rattle.fm_policy.specs.Building.{Stands, Leads, IsPart, HasWaiting, HasHolder, CoversMachine, CoversTask, CoversPlace, request_named}
-use Rattle.fm_policy.proofs.Arcs.{spec_tested, place_needs}
+use Rattle.fm_policy.specs.Building.{Stands, Leads, IsPart, HasWaiting, HasHolder, HasNodes, CoversJob, CoversMachine, CoversTask, CoversPlace}
+use Rattle.fm_policy.proofs.Parts.{spec_tested, place_needs}
 
 no_way : {A : Type 0} → false ≡ true → A
 no_way h = absurd (let no : ⊥ = cc in no)
@@ -27,11 +21,11 @@ or_right : (a b : Bool) → b ≡ true → a || b ≡ true
 or_right true b h = refl
 or_right false b h = h
 
-and_left : (a b : Bool) → a && b ≡ true → a ≡ true
+pub and_left : (a b : Bool) → a && b ≡ true → a ≡ true
 and_left true b h = refl
 and_left false b h = h
 
-and_right : (a b : Bool) → a && b ≡ true → b ≡ true
+pub and_right : (a b : Bool) → a && b ≡ true → b ≡ true
 and_right true b h = h
 and_right false b h = no_way h
 
@@ -42,33 +36,7 @@ sink_part k = record {
   arcs = λ a b leads. no_way leads;
 }
 
--- a request is among those named exactly where it is a node
-pub named_stands : (r : ℕ) (ns : List Node) → IsMember r (filter_map request_named ns) → list_any (λ m. is_eq (node_cmp (Request r) m)) ns ≡ true
-named_stands r [] h = absurd h
-named_stands r (Sink ∷ ns) h = named_stands r ns h
-named_stands r (Unscheduled j ∷ ns) h = named_stands r ns h
-named_stands r (Machine m ∷ ns) h = named_stands r ns h
-named_stands r (Task t ∷ ns) h = named_stands r ns h
-named_stands r (Request q ∷ ns) h = elim h [
-  | inl e ↦ let here : is_eq (node_cmp (Request r) (Request q)) ≡ true = ap (λ n. is_eq (node_cmp (Request r) (Request n))) e ∙ ap is_eq (tied_itself node_total (Request r)) in ap (λ b. b || list_any (λ m. is_eq (node_cmp (Request r) m)) ns) here
-  | inr later ↦ or_right (is_eq (node_cmp (Request r) (Request q))) _ (named_stands r ns later)
-]
-
-named_here : (r : ℕ) (n : Node) (ns : List Node) → Request r ≡ n → IsMember r (filter_map request_named (n ∷ ns))
-named_here r n ns e = subst (λ m. IsMember r (filter_map request_named (m ∷ ns))) e (inl refl)
-
-named_later : (r : ℕ) (n : Node) (ns : List Node) → IsMember r (filter_map request_named ns) → IsMember r (filter_map request_named (n ∷ ns))
-named_later r n ns later = elim (request_named n) as (λ o. IsMember r (cons_option o (filter_map request_named ns))) [ None ↦ later | Some q ↦ inr later ]
-
-pub stands_named : (r : ℕ) (ns : List Node) → list_any (λ m. is_eq (node_cmp (Request r) m)) ns ≡ true → IsMember r (filter_map request_named ns)
-stands_named r [] h = no_way h
-stands_named r (n ∷ ns) h =
-    elim (is_eq (node_cmp (Request r) n)) as (λ b. is_eq (node_cmp (Request r) n) ≡ b → b || list_any (λ m. is_eq (node_cmp (Request r) m)) ns ≡ true → IsMember r (filter_map request_named (n ∷ ns))) [
-      | true ↦ λ same _. named_here r n ns (node_exact (Request r) n ((Equal-is (node_cmp (Request r) n)).0 same))
-      | false ↦ λ _ rest. named_later r n ns (stands_named r ns rest)
-    ] refl h
-
-some_found : {V : Type 0} (test : ℕ → Bool) (es : List (ℕ × V)) → list_any (λ e. test e.0) es ≡ true → (t : ℕ) × (test t ≡ true)
+pub some_found : {V : Type 0} (test : ℕ → Bool) (es : List (ℕ × V)) → list_any (λ e. test e.0) es ≡ true → (t : ℕ) × (test t ≡ true)
 some_found test [] h = no_way h
 some_found test (e ∷ es) h = elim (test e.0) as (λ b. test e.0 ≡ b → b || list_any (λ x. test x.0) es ≡ true → (t : ℕ) × (test t ≡ true)) [ true ↦ λ is _. (e.0, is) | false ↦ λ _ rest. some_found test es rest ] refl h
 
@@ -103,24 +71,13 @@ module _ (k : Table) where
         let has = subst (λ o. HasHolder k t w.0.request o net) w.3 (tasks t w.0 w.1).holder in
         subst (λ q. HasWaiting k t q net) w.2 has
 
-    pub request_stands : (r : ℕ) → is_node k (Request r) ≡ true → Stands net (Request r)
-    request_stands r h = let found = some_found (waits_for k r) k.tasks h in (has_waiting r found.0 found.1).request
-
-    has_job : (j t : ℕ) → is_live_of k j t ≡ true → (Stands net (Unscheduled j)) × (Leads net (Unscheduled j) Sink) × (Leads net (Task t) (Unscheduled j))
+    has_job : (j t : ℕ) → is_live_of k j t ≡ true → Leads net (Task t) (Unscheduled j)
     has_job j t h =
         let live = spec_tested k (λ s. s.job == j) t h in
-        let has = tasks t live.0 live.1 in
         let is = eqb-true live.0.job j live.2 in
-        (subst (λ i. Stands net (Unscheduled i)) is has.job, subst (λ i. Leads net (Unscheduled i) Sink) is has.sink, subst (λ i. Leads net (Task t) (Unscheduled i)) is has.unscheduled)
+        subst (λ i. Leads net (Task t) (Unscheduled i)) is (tasks t live.0 live.1).unscheduled
 
-    module _ (can : CanBeNet net) (machines : (m : ℕ) → CoversMachine k m net) (places : (r : ℕ) → is_node k (Request r) ≡ true → (m : ℕ) → CoversPlace k r m net) where
-      all_nodes : (n : Node) → is_node k n ≡ true → Stands net n
-      all_nodes Sink h = can.has_sink
-      all_nodes (Unscheduled j) h = let found = some_found (is_live_of k j) k.tasks h in (has_job j found.0 found.1).0
-      all_nodes (Request r) h = request_stands r h
-      all_nodes (Machine m) h = (machines m h).node
-      all_nodes (Task t) h = let live = spec_tested k (λ s. true) t h in (tasks t live.0 live.1).node
-
+    module _ (can : CanBeNet net) (all_nodes : HasNodes k net) (jobs : (j : ℕ) → CoversJob k j net) (machines : (m : ℕ) → CoversMachine k m net) (places : (r : ℕ) → is_node k (Request r) ≡ true → (m : ℕ) → CoversPlace k r m net) where
       of_when : {A : Type 0} (b : Bool) (x : A) → is_some (when b x) ≡ true → b ≡ true
       of_when true x h = refl
       of_when false x h = h
@@ -146,9 +103,9 @@ module _ (k : Table) where
             let live = some_then (λ s. preferred_arc k s m) (live_spec k t) some in
             (subst (λ o. HasHolder k t live.0.request o net) free (tasks t live.0 live.1).holder).preferred m h
       ] refl
-      all_arcs (Task t) (Unscheduled j) h = (has_job j t (of_cond _ _ h)).2
-      all_arcs (Machine m) Sink h = let is_open_now : is_open k m ≡ true = elim (open_state k m) as (λ o. is_some {T = ℕ × ℕ} (option_map (λ state. (state.slots, 0)) o) ≡ true → passes (λ r. true) o ≡ true) [ None ↦ λ no. no | Some s ↦ λ _. refl ] h in (machines m is_open_now).sink
-      all_arcs (Unscheduled j) Sink h = let found = some_found (is_live_of k j) k.tasks (of_when _ _ h) in (has_job j found.0 found.1).1
+      all_arcs (Task t) (Unscheduled j) h = has_job j t (of_cond _ _ h)
+      all_arcs (Machine m) Sink h = let is_open_now : is_open k m ≡ true = elim (open_state k m) as (λ o. is_some {T = ℕ × ℕ} (option_map (λ state. (state.slots, 0)) o) ≡ true → passes (λ r. true) o ≡ true) [ None ↦ λ no. no | Some s ↦ λ _. refl ] h in machines m is_open_now
+      all_arcs (Unscheduled j) Sink h = jobs j (of_when _ _ h)
       all_arcs _ _ h = no_way h
 
       module _ (part : IsPart k net) where

@@ -1,9 +1,14 @@
 pub mod Adds
 pub mod Listed
-pub mod Arcs
+pub mod Parts
 pub mod Covered
 pub mod Members
 pub mod Finished
 pub mod Named
+pub mod Surveyed
+pub mod Alive
+pub mod Counted
+pub mod Roomy
+pub mod Summed
 mod Preferred
 mod Examples

@@ -57,7 +57,7 @@ has_insert x (z ∷ zs) q =
     (λ _ _. ap (λ b. is_eq (nat_cmp q z) || b) (has_insert x zs q) ∙ swapped (is_eq (nat_cmp q z)) (is_eq (nat_cmp q x)) (has zs q))
     refl
 
-has_rising : (xs : List ℕ) (q : ℕ) → has (rising nat_cmp xs) q ≡ has xs q
+pub has_rising : (xs : List ℕ) (q : ℕ) → has (rising nat_cmp xs) q ≡ has xs q
 has_rising [] q = refl
 has_rising (x ∷ xs) q = has_insert x (rising nat_cmp xs) q ∙ ap (λ b. is_eq (nat_cmp q x) || b) (has_rising xs q)
 

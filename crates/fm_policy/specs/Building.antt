@@ -1,7 +1,6 @@
 -- Steps towards the network of a table: nothing is put that is not the table's, and nothing is taken away.
 use Rattle.std.specs.Prelude.{◌≡◌, ◌≤◌, ℕ, List, Option, Some, None, IsTrue, IsSome}
 use Rattle.fm_records.specs.declared.records.SpecReg.{SpecReg}
-use Rattle.fm_records.specs.Sets.{IsMember}
 use Rattle.fm_records.specs.Table.{Table}
 use Rattle.fm_records.specs.Facts.{is_open, live_spec, holder_of}
 use Rattle.fm_net.specs.declared.node.Node.{Node}
@@ -34,17 +33,28 @@ pub record Adds (k : Table) (old new : Net) : Type 0 where
 abbrev pub IsWithinArcs : ℕ × ℕ → Type 0
 IsWithinArcs arc = (1 ≤ arc.0) × (arc.1 ≤ 1000000)
 
--- what an open machine, and a live task, have in the table's network, but for the arcs of requests to machines
+-- the node stands if it is one of the table's, and so do all
+abbrev pub HasNode : Table → Node → Net → Type 0
+HasNode k n net = IsTrue (is_node k n) → Stands net n
 
-pub record HasMachine (m : ℕ) (net : Net) : Type 0 where
-  pub node : Stands net (Machine m)
-  pub sink : Leads net (Machine m) Sink
+abbrev pub HasNodes : Table → Net → Type 0
+HasNodes k net = (n : Node) → HasNode k n net
+
+-- the arcs that jobs, requests, open machines and live tasks have in the table's network
+
+abbrev pub CoversJob : Table → ℕ → Net → Type 0
+CoversJob k j net = IsTrue (is_node k (Unscheduled j)) → Leads net (Unscheduled j) Sink
+
+abbrev pub CoversPlace : Table → ℕ → ℕ → Net → Type 0
+CoversPlace k r m net = IsSome (arc_of k (Request r) (Machine m)) → Leads net (Request r) (Machine m)
+
+abbrev pub CoversMachine : Table → ℕ → Net → Type 0
+CoversMachine k m net = IsTrue (is_open k m) → Leads net (Machine m) Sink
 
 abbrev pub CoversPreferred : Table → ℕ → ℕ → Net → Type 0
 CoversPreferred k t m net = IsSome (arc_of k (Task t) (Machine m)) → Leads net (Task t) (Machine m)
 
 pub record HasWaiting (k : Table) (t r : ℕ) (net : Net) : Type 0 where
-  pub request : Stands net (Request r)
   pub waits : Leads net (Task t) (Request r)
   pub preferred : (m : ℕ) → CoversPreferred k t m net
 
@@ -53,30 +63,8 @@ HasHolder k t r None net = HasWaiting k t r net
 HasHolder k t r (Some m) net = Leads net (Task t) (Machine m)
 
 pub record HasTask (k : Table) (t : ℕ) (spec : SpecReg) (net : Net) : Type 0 where
-  pub node : Stands net (Task t)
-  pub job : Stands net (Unscheduled spec.job)
-  pub sink : Leads net (Unscheduled spec.job) Sink
   pub unscheduled : Leads net (Task t) (Unscheduled spec.job)
   pub holder : HasHolder k t spec.request (holder_of k t) net
 
-abbrev pub CoversMachine : Table → ℕ → Net → Type 0
-CoversMachine k m net = IsTrue (is_open k m) → HasMachine m net
-
 abbrev pub CoversTask : Table → ℕ → Net → Type 0
 CoversTask k t net = (spec : SpecReg) → live_spec k t ≡ Some spec → HasTask k t spec net
-
-abbrev pub CoversPlace : Table → ℕ → ℕ → Net → Type 0
-CoversPlace k r m net = IsSome (arc_of k (Request r) (Machine m)) → Leads net (Request r) (Machine m)
-
--- the open machines are nodes
-abbrev pub MachinesStand : Table → Net → Type 0
-MachinesStand k net = (m : ℕ) → IsTrue (is_open k m) → Stands net (Machine m)
-
--- each of the requests is a node, of the network and of the table's
-abbrev pub EachStands : Table → List ℕ → Net → Type 0
-EachStands k requests net = (r : ℕ) → IsMember r requests → IsTrue (is_node k (Request r)) × Stands net (Request r)
-
--- the request that a node is of
-abbrev pub request_named : Node → Option ℕ
-request_named (Request r) = Some r
-request_named _ = None

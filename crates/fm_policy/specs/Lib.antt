@@ -1,4 +1,7 @@
-pub mod Tallying
 pub mod Building
-pub mod Changes
+pub mod Tallying
 pub mod Keeping
+pub mod Changes
+pub mod LiveTasks
+pub mod Rooms
+pub mod Surveys

@@ -1,8 +1,13 @@
 //! The network-aware policy: the network of what is known, and keepers of it.
 #![tactic(auto)]
 
+mod arcs;
 pub mod build;
 pub mod changed;
 pub mod keeper;
+mod live_task;
+mod nodes;
 pub mod rebuilder;
+mod room;
+mod survey;
 mod tallies;

@@ -1,13 +1,15 @@
 //! What one walk over the tasks adds up: the live tasks of each job, and what each machine holds.
 
 ghost use Rattle.std.specs.Prelude.{◌≡◌, ◌<◌, ◌+◌, ◌≤◌, ◌^◌, ℕ, cond, unwrap_or, IfOk, OnOk, length};
-ghost use Rattle.fm_records.specs.Facts.{is_open, load_of, used_of};
+ghost use Rattle.fm_records.specs.Facts.{load_of};
+ghost use Rattle.fm_policy.specs.LiveTasks.{all_live};
 ghost use Rattle.fm_policy.specs.Tallying.{live_in, held_in, counted, requested, IsTally};
 
-use fm_know::facts::request_in;
+use crate::live_task::LiveTask;
 use fm_know::knowledge::Knowledge;
+use fm_know::laws::law_can_be;
 use fm_lattice::join::OutOfMemory;
-use fm_records::ids::{JobId, MachineId, TaskId};
+use fm_records::ids::{JobId, MachineId};
 use std::alloc::Global;
 use std::collections::BTreeMap;
 
@@ -19,35 +21,39 @@ pub(crate) struct Tallies {
 }
 
 impl Tallies {
-    /// The tallies of all tasks. O(n log n).
-    pub(crate) fn of(alloc: Global, knowledge: &Knowledge) -> Result<Tallies, OutOfMemory>
+    /// The tallies of the live tasks. O(n log n).
+    pub(crate) fn of(
+        alloc: Global,
+        knowledge: &Knowledge,
+        live: &[LiveTask],
+    ) -> Result<Tallies, OutOfMemory>
+        requires live { live.now ≡ all_live knowledge.now }
         ensures { IfOk result (IsTally knowledge.now) }
     {
+        law_can_be(knowledge);
         let mut tallies = Tallies {
             live: BTreeMap::new(alloc),
             held: BTreeMap::new(alloc),
         };
-        for (task, record) in knowledge.tasks().iter() {
-            tallies.add(knowledge, *task, request_in(record))?;
+        for task in live {
+            tallies.add(task)?;
         }
         Ok(tallies)
     }
 
-    // Counts the task with its request, where it is live.
-    fn add(&mut self, knowledge: &Knowledge, task: TaskId, request: u32) -> Result<(), OutOfMemory>
+    // Counts the task for its job, and its request for the machine that holds it.
+    fn add(&mut self, live: &LiveTask) -> Result<(), OutOfMemory>
         requires live_fits { (j : ℕ) → live_in self.old j + 1 < 2 ^ 64 }
         requires held_fits { (m : ℕ) → held_in self.old m + 2 ^ 32 < 2 ^ 128 }
-        ensures live { OnOk result ((j : ℕ) → live_in self.new j ≡ live_in self.old j + counted knowledge.now j task) }
-        ensures held { OnOk result ((m : ℕ) → held_in self.new m ≡ held_in self.old m + requested knowledge.now m task request) }
+        ensures live { OnOk result ((j : ℕ) → live_in self.new j ≡ live_in self.old j + counted j live.now) }
+        ensures held { OnOk result ((m : ℕ) → held_in self.new m ≡ held_in self.old m + requested m live.now) }
     {
-        let Some(spec) = knowledge.live_spec(task) else {
-            return Ok(());
-        };
-        let live = self.live_of(spec.job);
-        self.live.insert(spec.job, live + 1)?;
-        if let Some(machine) = knowledge.holder(task) {
+        let count = self.live_of(live.spec.job);
+        self.live.insert(live.spec.job, count + 1)?;
+        if let Some(machine) = live.holder {
             let held = self.held_of(machine);
-            self.held.insert(machine, held + u128::from(request))?;
+            self.held
+                .insert(machine, held + u128::from(live.spec.request))?;
         }
         Ok(())
     }

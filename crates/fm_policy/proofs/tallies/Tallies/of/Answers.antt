@@ -1,10 +1,14 @@
-use Rattle.fm_records.specs.Table.{TaskValue}
-use Rattle.std.proofs.Common.{ℕ, ◌≡◌, ◌≤◌, ◌<◌, ◌+◌, ◌^◌, Bool, true, false, cond, arith, length}
-use Rattle.std.proofs.lemmas.List.Sums.{sum_by-cons}
-use Rattle.fm_records.specs.Facts.{holds, request_of}
-use Rattle.fm_net.specs.Network.{is_live_of}
-use Rattle.fm_policy.specs.Tallying.{live_in, held_in}
-use Rattle.fm_policy.proofs.Listed.{sum_picked}
+use Rattle.std.proofs.Common.{◌≡◌, ◌∙◌, ◌≤◌, ℕ, ◌+◌, Bool, true, false, cond, Some, take, subst, sym, ap, arith, rules}
+use Rattle.std.proofs.lemmas.List.{take_all}
+use Rattle.std.proofs.lemmas.List.Sums.{sum_by_more}
+use Rattle.std.specs.Prelude.{sum_by, ◌==◌}
+use Rattle.fm_records.specs.Options.{passes}
+use Rattle.fm_policy.specs.declared.live_task.LiveTask.{LiveTask}
+use Rattle.fm_policy.specs.LiveTasks.{live_task}
+use Rattle.fm_policy.specs.Tallying.{counted, requested}
+use Rattle.fm_policy.proofs.Alive.{task_named, its_request}
+use Rattle.fm_policy.proofs.Summed.{live_counted, held_summed}
+use Rattle.fm_policy.proofs.Surveyed.{AllFound, found_at, all_found}
 use Rattle.fm_policy.proofs.tallies.Tallies.of.Goals as goal
 
 chosen_le : (b : Bool) (n : ℕ) → cond b n 0 ≤ n
@@ -14,19 +18,28 @@ chosen_le false n = omega arith
 pub loop-task-preserved : goal.loop-task-preserved
 loop-task-preserved c =
     let k = c.args.knowledge.now in
+    let all = c.args.live.now in
+    let i = c.loop-task.task-index in
+    let item = c.task-item.result in
+    let each : AllFound (λ (x : LiveTask). x.task) (live_task k) all = subst (AllFound (λ (x : LiveTask). x.task) (live_task k)) (sym c.requires.live) (all_found (λ (x : LiveTask). x.task) (live_task k) (task_named k) k.tasks) in
+    let found = found_at (λ (x : LiveTask). x.task) (live_task k) all i item each c.loop-task-test.true in
+    let here : live_task k item.task ≡ Some item = subst (λ (x : LiveTask). live_task k x.task ≡ Some x) (sym c.task-item.is) found in
+    let request = its_request k c.law_can_be.ensures item.task item here in
     let so_far = c.loop-task.invariant in
-    let given = c.in-Some.ensures.steps in
     let added = c.in_ok-add.ensures in
-    let e : ℕ × TaskValue = (c.in-Some.task.now, c.in-Some.record.now) in
     record {
-      live = λ j. let plus : live_in c.add.new.self j ≡ live_in c.loop-task.tallies j + cond (is_live_of k j c.in-Some.task.now) 1 0 = added.live j in let before = rw given at so_far.live j in let split = sum_by-cons (λ x. cond (is_live_of k j x.0) 1 0) e c.next.new.self in omega (arith, before, split, plus);
-      held = λ m. let plus : held_in c.add.new.self m ≡ held_in c.loop-task.tallies m + cond (holds k m c.in-Some.task.now) (request_of c.in-Some.record.now.0) 0 = rw (← c.request_in.ensures) (added.held m) in let before = rw given at so_far.held m in let split = sum_picked (λ x. request_of x.1.0) (λ x. holds k m x.0) e c.next.new.self in omega (arith, before, split, plus);
-      few = λ j. let plus : live_in c.add.new.self j ≡ live_in c.loop-task.tallies j + cond (is_live_of k j c.in-Some.task.now) 1 0 = added.live j in let before = rw given at so_far.few j in omega (arith, before, plus, chosen_le (is_live_of k j c.in-Some.task.now) 1);
-      fits = λ m. let plus : held_in c.add.new.self m ≡ held_in c.loop-task.tallies m + cond (holds k m c.in-Some.task.now) c.request_in.result 0 = added.held m in let before = rw given at so_far.fits m in omega (arith, before, plus, chosen_le (holds k m c.in-Some.task.now) c.request_in.result, c.request_in.type_inv);
+      live = λ j. added.live j ∙ ap (λ n. n + counted j item) (so_far.live j) ∙ sym (sum_by_more (counted j) all i item c.loop-task-test.true ∙ ap (λ x. sum_by (counted j) (take i all) + counted j x) (sym c.task-item.is));
+      held = λ m. added.held m ∙ ap (λ n. n + requested m item) (so_far.held m) ∙ sym (sum_by_more (requested m) all i item c.loop-task-test.true ∙ ap (λ x. sum_by (requested m) (take i all) + requested m x) (sym c.task-item.is));
+      few = λ j. let plus = added.live j in let before = so_far.few j in omega (arith, before, plus, chosen_le (item.spec.job == j) 1);
+      fits = λ m. let plus = added.held m in let before = so_far.fits m in omega (arith, before, plus, chosen_le (passes (λ h. h == m) item.holder) item.spec.request, request);
     }
 
-pub add-requires-clause-live_fits : goal.add-requires-clause-live_fits
-add-requires-clause-live_fits c = λ j.
-    let before = rw c.in-Some.ensures.steps at c.loop-task.invariant.few j in
-    let fits : length c.args.knowledge.now.tasks < 2 ^ 64 = rw c.tasks.ensures at c.iter-task-items.ensures.fits in
-    omega (arith, before, fits)
+pub returns : goal.returns
+returns c =
+    let k = c.args.knowledge.now in
+    let all = c.args.live.now in
+    let whole = take_all c.loop-task.task-index all (search rules) in
+    record {
+      live = λ j. c.loop-task.invariant.live j ∙ ap (sum_by (counted j)) (whole ∙ c.requires.live) ∙ live_counted k j;
+      held = λ m. c.loop-task.invariant.held m ∙ ap (sum_by (requested m)) (whole ∙ c.requires.live) ∙ held_summed k c.law_can_be.ensures.table.tasks.rising m;
+    }

@@ -1,0 +1,85 @@
+//! What the open machines have left.
+
+ghost use Rattle.std.specs.Prelude.{◌≡◌, ◌≤◌, ◌+◌, IfOk, IfSome};
+ghost use Rattle.std.specs.List.{filter_map};
+ghost use Rattle.fm_policy.specs.Building.{IsWithinArcs};
+ghost use Rattle.fm_policy.specs.Rooms.{room_at, all_rooms, places_in, fit_in, RoomWithin};
+ghost use Rattle.fm_policy.specs.Tallying.{IsTally};
+
+use crate::tallies::Tallies;
+use fm_know::knowledge::Knowledge;
+use fm_lattice::join::OutOfMemory;
+use fm_records::ids::MachineId;
+use std::alloc::Global;
+
+/// An open machine whose load is within its bandwidth, and how much of that is spare.
+#[derive(Debug, Clone, Copy, Drop)]
+pub(crate) struct Room {
+    pub(crate) machine: MachineId,
+    slots: u32,
+    load: u32,
+    spare: u32,
+}
+
+impl Room {
+    /// The room on the machine, where it is open and its load is within its bandwidth. O(log n).
+    pub(crate) fn of(knowledge: &Knowledge, tallies: &Tallies, machine: MachineId) -> Option<Room>
+        requires tally { IsTally knowledge.now tallies.now }
+        ensures room { result ≡ room_at knowledge.now machine }
+        ensures within { IfSome result RoomWithin }
+    {
+        let state = knowledge.open_state(machine)?;
+        let load = tallies.load_of(knowledge, machine);
+        if load > u128::from(state.nic) {
+            return None;
+        }
+        let load = load as u32;
+        Some(Room {
+            machine,
+            slots: state.slots,
+            load,
+            spare: state.nic - load,
+        })
+    }
+
+    /// How many tasks of the request fit, and what each costs, where one fits.
+    pub(crate) fn fit(&self, request: u32) -> Option<(u64, u32)>
+        requires { RoomWithin self.now }
+        ensures fit { result ≡ fit_in self.now request }
+        ensures within { IfSome result IsWithinArcs }
+    {
+        if request > self.spare {
+            return None;
+        }
+        Some((u64::from(self.places(request)), request + self.load))
+    }
+
+    // How many tasks of the request fit into the slots and the spare bandwidth.
+    fn places(&self, request: u32) -> u32
+        ensures { result ≡ places_in self.now request }
+    {
+        if request == 0 {
+            self.slots
+        } else {
+            self.slots.min(self.spare / request)
+        }
+    }
+}
+
+/// The rooms, by rising id of their machines. O(n log n).
+pub(crate) fn rooms(
+    alloc: Global,
+    knowledge: &Knowledge,
+    tallies: &Tallies,
+) -> Result<Vec<Room>, OutOfMemory>
+    requires tally { IsTally knowledge.now tallies.now }
+    ensures { IfOk result (λ rooms. rooms.items ≡ all_rooms knowledge.now) }
+{
+    let mut rooms = Vec::new(alloc);
+    for (machine, _) in knowledge.machines().iter() {
+        if let Some(room) = Room::of(knowledge, tallies, *machine) {
+            rooms.push(room)?;
+        }
+    }
+    Ok(rooms)
+}
