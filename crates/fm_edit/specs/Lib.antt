@@ -1,3 +1,4 @@
+pub mod Adapting
 pub mod Completing
 pub mod Dirty
 pub mod Editing

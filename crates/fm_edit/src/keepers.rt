@@ -1,5 +1,6 @@
-//! Keepers of either kind.
+//! Keepers of any kind.
 
+use crate::adaptive::Adaptive;
 use crate::editor::Editor;
 use fm_know::knowledge::Knowledge;
 use fm_lattice::join::OutOfMemory;
@@ -10,11 +11,13 @@ use fm_policy::keeper::NetKeeper;
 use fm_policy::rebuilder::Rebuilder;
 use std::alloc::Global;
 
-/// A keeper that edits, or one that builds anew: so coordinators of both kinds can stand in one world.
+/// A keeper that edits, one that builds anew, or one that does what costs less: so coordinators of all kinds can stand in one
+/// world.
 #[derive(Drop)]
 pub enum Keeper {
     Edits(Editor),
     Builds(Rebuilder),
+    Adapts(Adaptive),
 }
 
 impl NetKeeper for Keeper {
@@ -35,6 +38,7 @@ impl NetKeeper for Keeper {
         match self {
             Keeper::Edits(editor) => editor.absorb(alloc, now, changed),
             Keeper::Builds(rebuilder) => rebuilder.absorb(alloc, now, changed),
+            Keeper::Adapts(adaptive) => adaptive.absorb(alloc, now, changed),
         }
     }
 
@@ -42,6 +46,7 @@ impl NetKeeper for Keeper {
         match self {
             Keeper::Edits(editor) => editor.rebuild(alloc, now),
             Keeper::Builds(rebuilder) => rebuilder.rebuild(alloc, now),
+            Keeper::Adapts(adaptive) => adaptive.rebuild(alloc, now),
         }
     }
 
@@ -49,6 +54,7 @@ impl NetKeeper for Keeper {
         match self {
             Keeper::Edits(editor) => editor.is_fresh(),
             Keeper::Builds(rebuilder) => rebuilder.is_fresh(),
+            Keeper::Adapts(adaptive) => adaptive.is_fresh(),
         }
     }
 
@@ -56,6 +62,7 @@ impl NetKeeper for Keeper {
         match self {
             Keeper::Edits(editor) => editor.network(),
             Keeper::Builds(rebuilder) => rebuilder.network(),
+            Keeper::Adapts(adaptive) => adaptive.network(),
         }
     }
 
@@ -63,6 +70,7 @@ impl NetKeeper for Keeper {
         match self {
             Keeper::Edits(editor) => editor.share(),
             Keeper::Builds(rebuilder) => rebuilder.share(),
+            Keeper::Adapts(adaptive) => adaptive.share(),
         }
     }
 }

@@ -1,6 +1,7 @@
 //! Networks edited instead of rebuilt: what a delta can change, and records looked up one by one.
 #![tactic(auto)]
 
+pub mod adaptive;
 mod completing;
 mod dirty;
 pub mod editor;

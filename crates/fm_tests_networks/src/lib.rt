@@ -2,6 +2,8 @@
 #![tactic(auto)]
 
 #[cfg(test)]
+mod adaptive;
+#[cfg(test)]
 mod dimacs;
 #[cfg(test)]
 mod edit;
