@@ -10,8 +10,9 @@ coordinator 1; with --gossip there is a second, which is delivered all of that i
 tasks prefer one to four machines, and nothing else differs.
 
 With --rounds so many rounds come behind, each after one task in 100 (--share) changed: of those a third are done, a third
-are new, and for each of the others a machine reports. Nothing is held at first. Coordinator 1 edits its network; --at 2 tells
-and asks one that builds it anew. With --quiet the rounds themselves are left out.
+are new, and for each of the others a machine reports. Nothing is held at first. Coordinator 1 edits its network once few records
+changed since the round before; --at 2 tells and asks one that always builds it anew. With --quiet the rounds themselves are left
+out.
 """
 import argparse
 import json

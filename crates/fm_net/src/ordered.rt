@@ -71,8 +71,8 @@ impl<K: Chain, V: Copy> Ordered<K, V> {
     }
 
     /// Puts the value at the key in place of one that stood there, and answers what stood there.
-    /// After a refusal of memory the pairs are as they were. Amortised O(1) behind the last key of packed pairs, O(n) once, where
-    /// they move into cells, and O(log n) else.
+    /// After a refusal of memory the pairs are as they were. Amortised O(1) behind the last key of packed pairs, O(n log n) once,
+    /// where they move into cells, and O(log n) else.
     pub(crate) fn put(&mut self, key: K, value: V) -> Result<Option<V>, OutOfMemory>
         ensures ok { OnOk result (self.new ≡ put K.cmp replaced key value self.old) }
         ensures stood { IfOk result (λ old. old ≡ lookup K.cmp key self.old) }
@@ -87,8 +87,8 @@ impl<K: Chain, V: Copy> Ordered<K, V> {
         }
     }
 
-    /// Takes the pair at the key out, and answers its value, if it was there. Many packed pairs move into cells first, O(n) once;
-    /// where that is refused memory, those behind the key move instead. O(log n) else.
+    /// Takes the pair at the key out, and answers its value, if it was there. Many packed pairs move into cells first, O(n log n)
+    /// once; where that is refused memory, those behind the key move instead. O(log n) else.
     pub(crate) fn remove(&mut self, key: &K) -> Option<V>
         ensures without { self.new ≡ remove_entry (is_at (K.cmp key.now)) self.old }
         ensures stood { result ≡ lookup K.cmp key.now self.old }

@@ -1,17 +1,15 @@
-ghost use Rattle.std.specs.Prelude.{IsTrue, OnOk};
+ghost use Rattle.std.specs.Prelude.{IsTrue};
 ghost use Rattle.fm_edit.specs.Editing.{is_fresh_editor, IsFor};
 
+use crate::following::{job, task, told};
 use fm_edit::editor::Editor;
 use fm_edit::keepers::Keeper;
 use fm_edit::look::{Key, KnowLook, Look};
 use fm_know::knowledge::Knowledge;
-use fm_know::laws::law_can_be;
 use fm_lattice::join::OutOfMemory;
-use fm_policy::changed::changed_of;
 use fm_policy::keeper::NetKeeper;
 use fm_records::ids::{JobId, MachineId, TaskId};
 use fm_records::ops::Op;
-use fm_records::prefer::Prefer;
 use fm_records::refusal::Refusal;
 use std::alloc::Global;
 
@@ -48,21 +46,6 @@ fn found(alloc: Global) -> Result<(bool, usize, bool), OutOfMemory> {
 #[test]
 fn each_look_stores_its_key(rt: HostRuntime) {
     assert_eq!(rt; found(rt.alloc()), Ok((false, 4, true)));
-}
-
-// Tells the operation to what is known and lets the Editor follow.
-fn told(alloc: Global, known: &mut Knowledge, editor: &mut Editor, op: &Op) -> Result<(), Refusal>
-    requires { IsTrue (is_fresh_editor editor.old) → IsFor editor.old known.old }
-    ensures { OnOk result (IsTrue (is_fresh_editor editor.new) → IsFor editor.new known.new) }
-{
-    op.check()?;
-    let delta = Knowledge::delta_of(alloc, op)?;
-    let changed = changed_of(alloc, &delta)?;
-    law_can_be(known);
-    law_can_be(&delta);
-    known.join_into(&delta)?;
-    editor.absorb(alloc, known, &changed)?;
-    Ok(())
 }
 
 // Whether its network is fresh, and how many nodes and arcs that has.
@@ -109,27 +92,9 @@ fn rebuilt(alloc: Global, all: Followed) -> Result<(bool, usize, usize), Refusal
     Ok(sizes(&editor))
 }
 
-// A job, and a task of it that requests 100.
+// A task, and its job.
 fn task_and_job() -> [Op; 2] {
-    [
-        Op::Spec {
-            id: TaskId::new(17),
-            version: 1,
-            writer: 1,
-            withdrawn: false,
-            job: JobId::new(1),
-            request: 100,
-            prefer: Prefer::default(),
-        },
-        Op::Job {
-            id: JobId::new(1),
-            version: 1,
-            writer: 1,
-            withdrawn: false,
-            wait: 500,
-            preempt: 800,
-        },
-    ]
+    [task(17), job()]
 }
 
 // Sizes after the first so many operations, each told by itself, and once it is built anew.

@@ -8,6 +8,8 @@ mod dimacs;
 #[cfg(test)]
 mod edit;
 #[cfg(test)]
+mod following;
+#[cfg(test)]
 mod net;
 #[cfg(test)]
 mod policy;
