@@ -22,7 +22,7 @@ use Rattle.fm_net.specs.Nodes.{IsInRange}
 use Rattle.fm_net.specs.Net.{CanBeNet}
 use Rattle.fm_net.specs.ListLaws.{some_member}
 use Rattle.fm_net.specs.Network.{is_held, is_live_of, waits_for, is_node, places, preferred_arc, arc_of, net_of}
-use Rattle.fm_net.specs.NetworkLaws.{passed, came_from, mapped_from, where_true, live_entry, open_entry, room_from, preferred_from, ends_of, is_network_of}
+use Rattle.fm_net.specs.NetworkLaws.{passed, mapped_from, where_true, live_entry, open_entry, room_from, preferred_from, ends_of, is_network_of}
 
 none : {A P : Type 0} {a : A} → None ≡ Some a → P
 none e = absurd (let no : ⊥ = cc in no)

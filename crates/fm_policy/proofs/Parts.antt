@@ -1,5 +1,5 @@
 -- The nodes and arcs of a table's network, one by one.
-use Rattle.std.proofs.Common.{◌≡◌, ℕ, ◌+◌, ◌-◌, ◌≤◌, Bool, true, false, cond, Option, Some, None, refl, sym, ◌∙◌, ap, eq-eqb}
+use Rattle.std.proofs.Common.{◌≡◌, ℕ, ◌-◌, Bool, true, false, cond, Option, Some, None, refl, sym, ◌∙◌, ap, eq-eqb}
 use Rattle.std.specs.Prelude.{◌==◌, ◌&&◌, not, nat_le, option_map, is_some}
 use Rattle.std.specs.Ordering.{nat_cmp}
 use Rattle.fm_lattice.specs.Maps.{lookup}
@@ -10,7 +10,7 @@ use Rattle.fm_records.specs.Options.{when, and_then, only_if, passes}
 use Rattle.fm_records.specs.Table.{Table}
 use Rattle.fm_records.specs.Facts.{job_of, spec_of, live_spec, state_of, open_state, is_open, holder_of, load_of, spare_of}
 use Rattle.fm_net.specs.declared.node.Node.TheVariants.{Sink, Unscheduled, Request, Machine, Task}
-use Rattle.fm_net.specs.Network.{is_node, is_held, is_live_of, waits_for, live_tasks, places, place_arc, room_arc, preferred_arc, arc_of}
+use Rattle.fm_net.specs.Network.{is_node, is_held, is_live_of, waits_for, live_tasks, place_arc, room_arc, preferred_arc, arc_of}
 use Rattle.fm_policy.proofs.Listed.{HasKey, listed, some_listed}
 
 -- what passes a test was there

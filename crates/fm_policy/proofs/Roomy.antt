@@ -1,7 +1,7 @@
 -- A room says of each request what the table's network does.
-use Rattle.std.proofs.Common.{◌≡◌, ◌∙◌, ℕ, ◌+◌, ◌-◌, ◌≤◌, true, Option, Some, None, refl, sym, ap, subst, arith, leb-true}
+use Rattle.std.proofs.Common.{◌≡◌, ◌∙◌, ℕ, ◌-◌, ◌≤◌, true, Some, None, refl, sym, ap, subst, arith, leb-true}
 use Rattle.std.specs.Prelude.{nat_le, option_map, is_some}
-use Rattle.fm_records.specs.Options.{when, and_then}
+use Rattle.fm_records.specs.Options.{and_then}
 use Rattle.fm_records.specs.Ranges.{CanBe}
 use Rattle.fm_records.specs.Table.{Table}
 use Rattle.fm_records.specs.Facts.{open_state, load_of, spare_of}

@@ -1,4 +1,4 @@
-use Rattle.std.proofs.Common.{◌≡◌, ◌∙◌, ap, take, add-one}
+use Rattle.std.proofs.Common.{◌∙◌, ap, take, add-one}
 use Rattle.fm_lattice.specs.Maps.{put, replaced}
 use Rattle.fm_net.proofs.Taken.{put_next}
 use Rattle.fm_net.proofs.ordered.cells_of.Goals as goal

@@ -1,4 +1,4 @@
-use Rattle.std.proofs.Common.{◌≡◌, get_or, sym, ◌∙◌, ap, Some, subst}
+use Rattle.std.proofs.Common.{sym, ◌∙◌, ap, Some, subst}
 use Rattle.fm_lattice.specs.Maps.{IsRising}
 use Rattle.fm_lattice.proofs.Places.{lookup_at, lookup_gap}
 use Rattle.fm_net.proofs.Taken.{taken_at, taken_gap, rising_taken}

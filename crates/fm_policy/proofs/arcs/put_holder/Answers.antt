@@ -1,4 +1,4 @@
-use Rattle.std.proofs.Common.{◌∙◌, sym}
+use Rattle.std.proofs.Common.{◌∙◌}
 use Rattle.fm_net.specs.declared.node.Node.TheVariants.{Machine, Task}
 use Rattle.fm_policy.proofs.Adds.{adds_arc}
 use Rattle.fm_policy.proofs.Parts.{task_to_machine}

@@ -1,6 +1,5 @@
-use Rattle.std.proofs.Common.{◌≡◌, ◌∙◌, ◌≤◌, Some, sym, ap, subst, arith}
+use Rattle.std.proofs.Common.{◌∙◌, Some, sym, ap, arith}
 use Rattle.fm_net.specs.declared.node.Node.TheVariants.{Sink, Unscheduled}
-use Rattle.fm_net.specs.Network.{live_tasks}
 use Rattle.fm_policy.proofs.Adds.{adds_arc}
 use Rattle.fm_policy.proofs.Counted.{job_counted, job_counts}
 use Rattle.fm_policy.proofs.Parts.{job_to_sink}

@@ -1,4 +1,4 @@
-use Rattle.std.proofs.Common.{◌≡◌, ◌∙◌, ℕ, Some, sym}
+use Rattle.std.proofs.Common.{◌∙◌, ℕ, Some, sym}
 use Rattle.fm_net.specs.declared.node.Node.TheVariants.{Request, Machine}
 use Rattle.fm_policy.proofs.Adds.{adds_arc}
 use Rattle.fm_policy.proofs.Parts.{request_to_machine}

@@ -1,4 +1,4 @@
-use Rattle.std.proofs.Common.{◌∙◌, get_or, subst, sym, ap, take, add-one, inl, inr, rules}
+use Rattle.std.proofs.Common.{◌∙◌, get_or, subst, sym, ap, add-one, inl, inr, rules}
 use Rattle.std.proofs.lemmas.List.{take_all}
 use Rattle.fm_records.specs.Sets.{IsMember}
 use Rattle.std.specs.List.{filter_map}

@@ -1,4 +1,4 @@
-use Rattle.std.proofs.Common.{◌≡◌, ◌∙◌, ℕ, true, subst, sym}
+use Rattle.std.proofs.Common.{ℕ, subst, sym}
 use Rattle.fm_net.specs.Network.{IsNetworkOf}
 use Rattle.fm_net.specs.NetworkLaws.{network_is}
 use Rattle.fm_policy.specs.Building.{IsPart}

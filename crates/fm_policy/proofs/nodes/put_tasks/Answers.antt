@@ -1,4 +1,4 @@
-use Rattle.std.proofs.Common.{◌≡◌, ◌∙◌, true, Some, get_or, take, subst, sym, ap, add-one, inl, inr, rules}
+use Rattle.std.proofs.Common.{◌≡◌, ◌∙◌, true, Some, get_or, subst, sym, ap, add-one, inl, inr, rules}
 use Rattle.std.proofs.lemmas.List.{take_all}
 use Rattle.fm_net.specs.declared.node.Node.TheVariants.{Task}
 use Rattle.fm_policy.specs.declared.live_task.LiveTask.{LiveTask}

@@ -4,7 +4,6 @@ use Rattle.fm_records.specs.Sets.{insert_once}
 use Rattle.fm_net.specs.declared.node.Node.{Node}
 use Rattle.fm_net.specs.Nodes.{node_cmp}
 use Rattle.fm_net.specs.Net.{Net, CanBeNet, has_node, with_node}
-use Rattle.fm_net.specs.NodeOrder.{node_exact}
 use Rattle.fm_net.proofs.Kept.{after_put_node, put_has}
 use Rattle.fm_net.proofs.Said.{same_lists, keys_put, found_key, has_with, rises_with, not_not}
 use Rattle.fm_net.proofs.network.Network.put_node.Goals as goal

@@ -1,4 +1,4 @@
-use Rattle.std.proofs.Common.{◌≡◌, ℕ, ◌+◌, ◌*◌, ◌≤◌, ◌^◌, length, take}
+use Rattle.std.proofs.Common.{◌≡◌, ℕ, ◌*◌, ◌≤◌, ◌^◌, take}
 use Rattle.std.specs.Prelude.{sum_by}
 use Rattle.fm_policy.specs.Tallying.{live_in, held_in, counted, requested}
 use Rattle.fm_policy.proofs.tallies.Tallies.of.Given as goal
