@@ -35,6 +35,20 @@ module _ {K V : Type 0} (cmp : K → K → Ordering) (total : IsTotalOrder cmp) 
   above_trans j k [] a e = tt
   above_trans j k (x ∷ es) a e = (total.trans x.0 j k a.0 e, above_trans j k es a.1 e)
 
+  pub above_append : (k : K) (xs ys : List (K × V)) → IsAbove cmp k xs → IsAbove cmp k ys → IsAbove cmp k (xs ++ ys)
+  above_append k [] ys a b = b
+  above_append k (x ∷ xs) ys a b = (a.0, above_append k xs ys a.1 b)
+
+  -- above the last of what rises is above all of it
+  pub above_last : (k : K) (es : List (K × V)) (i : ℕ) (d : K × V) → IsRising cmp es → i + 1 ≡ length es → cmp (get_or es i d).0 k ≡ Less → IsAbove cmp k es
+  above_last k [] i d r last less = absurd (omega (arith, last))
+  above_last k (x ∷ []) zero d r last less = (less, tt)
+  above_last k (x ∷ y ∷ es) zero d r last less = absurd (omega (arith, last))
+  above_last k (x ∷ []) (suc i) d r last less = absurd (omega (arith, last))
+  above_last k (x ∷ y ∷ es) (suc i) d r last less =
+      let rest = above_last k (y ∷ es) i d r.1 (omega (arith, last)) less in
+      (total.trans x.0 y.0 k r.0.0 rest.0, rest)
+
   -- what begins with a key
   pub first_below : (k j : K) (es ys : List (K × V)) → BeginsWith j es → IsRising cmp (es ++ ys) → cmp k j ≡ Less → IsBelow cmp k (es ++ ys)
   first_below k j [] ys h r e = absurd h
@@ -64,6 +78,26 @@ module _ {K V : Type 0} (cmp : K → K → Ordering) (total : IsTotalOrder cmp) 
   pub lookup_back : (k : K) (xs ys : List (K × V)) → IsAbove cmp k xs → lookup cmp k (xs ++ ys) ≡ lookup cmp k ys
   lookup_back k [] ys a = refl
   lookup_back k (x ∷ xs) ys a = rw (less_greater cmp total x.0 k a.0) (lookup_back k xs ys a.1)
+
+  -- above a key that the list begins with, where the list is above
+  first_above : (j k : K) (es ys : List (K × V)) → BeginsWith j es → IsAbove cmp k (es ++ ys) → cmp j k ≡ Less
+  first_above j k [] ys h a = absurd h
+  first_above j k (x ∷ es) ys h a = subst (λ z. cmp z k ≡ Less) h a.0
+
+  -- above the last block is above all
+  pub above_blocks : (k : K) (bs : List (K × Stock (K × V))) (i : ℕ) (d : K × Stock (K × V)) → AreHeaded bs → IsRising cmp (pairs_of bs) → i + 1 ≡ length bs → IsAbove cmp k (get_or bs i d).1.items → IsAbove cmp k (pairs_of bs)
+  above_blocks k [] i d h r last above = absurd (omega (arith, last))
+  above_blocks k (b ∷ []) zero d h r last above = above_append k b.1.items [] above tt
+  above_blocks k (b ∷ c ∷ bs) zero d h r last above = absurd (omega (arith, last))
+  above_blocks k (b ∷ []) (suc i) d h r last above = absurd (omega (arith, last))
+  above_blocks k (b ∷ c ∷ bs) (suc i) d h r last above =
+      let rest = above_blocks k (c ∷ bs) i d h.1 (rising_back b.1.items (pairs_of (c ∷ bs)) r) (omega (arith, last)) above in
+      let front : IsAbove cmp c.0 b.1.items = front_below c.0 b.1.items (pairs_of (c ∷ bs)) (begins_in c.0 c.1.items (pairs_of bs) h.1.0) r in
+      above_append k b.1.items (pairs_of (c ∷ bs)) (above_trans c.0 k b.1.items front (first_above c.0 k c.1.items (pairs_of bs) h.1.0 rest)) rest
+    where
+      begins_in : (j : K) (es ys : List (K × V)) → BeginsWith j es → BeginsWith j (es ++ ys)
+      begins_in j [] ys h = absurd h
+      begins_in j (x ∷ es) ys h = h
 
   module _ (join : V → V → V) where
     pub put_front : (k : K) (v : V) (xs ys : List (K × V)) → IsBelow cmp k ys → put cmp join k v (xs ++ ys) ≡ put cmp join k v xs ++ ys

@@ -1,6 +1,6 @@
 //! Blocks of pairs. A map has a block alone, and can write in it, or shares it with others, and can only read it.
 
-ghost use Rattle.std.specs.Prelude.{◌≡◌, ◌≤◌, ◌<◌, ◌+◌, ◌++◌, ◌∷◌, [], List, None, true, IfOk, OnOk, length, vec_len, vec_capacity};
+ghost use Rattle.std.specs.Prelude.{◌≡◌, ◌≤◌, ◌<◌, ◌+◌, ◌++◌, ◌∷◌, [], List, None, true, IfOk, OnOk, OnErr, length, vec_len, vec_capacity};
 ghost use Rattle.fm_lattice.specs.Maps.{IsRising, lookup, put, replaced};
 ghost use Rattle.fm_lattice.specs.Blocks.{IsSpare};
 ghost use Rattle.fm_lattice.specs.Stocks.{alone};
@@ -185,9 +185,10 @@ impl<K: Chain, V: Join> Block<K, V> {
         Ok(())
     }
 
-    // Adds the pair at the end.
+    // Adds the pair at the end. After a refusal of memory the pairs are as they were.
     pub(crate) fn push(&mut self, key: K, value: V) -> Result<(), OutOfMemory>
-        ensures { OnOk result (self.new.items ≡ self.old.items ++ (key, value) ∷ []) }
+        ensures ok { OnOk result (self.new.items ≡ self.old.items ++ (key, value) ∷ []) }
+        ensures err { OnErr result (self.new.items ≡ self.old.items) }
     {
         self.own()?;
         match &mut self.held {

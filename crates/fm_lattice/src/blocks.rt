@@ -1,8 +1,8 @@
 //! Pairs whose keys rise, kept in blocks: finding a key, making room for one, and changing in place.
 
-ghost use Rattle.std.specs.Prelude.{◌≡◌, ◌+◌, ◌≤◌, ◌<◌, ◌++◌, ℕ, List, None, true, IfOk, OnOk, length, option_copied, slice_index_or, vec_len, vec_capacity};
+ghost use Rattle.std.specs.Prelude.{◌≡◌, ◌+◌, ◌≤◌, ◌<◌, ◌++◌, ℕ, List, None, IsTrue, true, false, IfOk, OnOk, length, option_copied, slice_index_or, vec_len, vec_capacity};
 ghost use Rattle.fm_lattice.specs.Maps.{IsRising, lookup, put, replaced};
-ghost use Rattle.fm_lattice.specs.Blocks.{pairs_of, BeginsWith, AreHeaded, IsBlockOf, IsHomeOf, GoesToOwned, IsOwnedAt, IsFullAt, TakesKey, IsSpare};
+ghost use Rattle.fm_lattice.specs.Blocks.{pairs_of, BeginsWith, AreHeaded, IsAbove, IsBlockOf, IsHomeOf, GoesToOwned, IsOwnedAt, IsFullAt, TakesKey, IsSpare};
 
 use crate::block::Block;
 use crate::chain::Chain;
@@ -12,6 +12,26 @@ use std::cmp::Ordering;
 
 // A block of so many pairs is cut before it takes one more.
 pub(crate) const FULL: usize = 64;
+
+// Whether the key comes after all that stand there.
+pub(crate) fn comes_last<K: Chain, V>(blocks: &[(K, Block<K, V>)], key: &K) -> bool
+    requires headed { AreHeaded blocks.now }
+    requires rising { IsRising K.cmp (pairs_of blocks.now) }
+    ensures above { IsTrue result → IsAbove K.cmp key.now (pairs_of blocks.now) }
+    ensures some { result ≡ false → 0 < length blocks.now }
+{
+    let count = blocks.len();
+    count == 0 || ends_below(blocks[count - 1].1.pairs(), key)
+}
+
+// Whether there are pairs, and the key comes after them.
+fn ends_below<K: Chain, V>(pairs: &[(K, V)], key: &K) -> bool
+    requires { IsRising K.cmp pairs.now }
+    ensures { IsTrue result → IsAbove K.cmp key.now pairs.now }
+{
+    let count = pairs.len();
+    count > 0 && matches!(pairs[count - 1].0.cmp(key), Ordering::Less)
+}
 
 // Where the key's block is. O(log n).
 pub(crate) fn block_of<K: Chain, V>(blocks: &[(K, Block<K, V>)], key: &K) -> usize

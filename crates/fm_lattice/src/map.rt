@@ -5,10 +5,10 @@ ghost use Rattle.fm_lattice.specs.Maps.{IsMap, lookup, put, map_join, JoinsByKey
 ghost use Rattle.fm_lattice.specs.MapLaws.{map_laws};
 
 use crate::block::Block;
-use crate::blocks::{copied_blocks, make_room, shared_blocks, value_at, write};
+use crate::blocks::{comes_last, copied_blocks, make_room, shared_blocks, value_at, write};
 use crate::chain::Chain;
 use crate::join::{Join, OutOfMemory};
-use crate::merging::{counted, is_below, joined_at, merged};
+use crate::merging::{append, counted, is_below, joined_at, merged};
 pub use crate::pairs::Pairs;
 use crate::plan::{carry_out, plan_join};
 use std::alloc::Global;
@@ -75,7 +75,7 @@ impl<K: Chain, V: Join> JoinMap<K, V> {
         Pairs::of(&self.blocks)
     }
 
-    /// Joins the value in at the key. O(log n), and the moves within a block of bounded length.
+    /// Joins the value in at the key. O(log n), and the moves within a block of bounded length; O(1) behind the last key.
     /// After a refusal of memory the map is as it was.
     pub fn put(&mut self, key: K, value: V) -> Result<(), OutOfMemory>
         ensures ok { OnOk result (self.new ≡ put K.cmp V.join key value self.old) }
@@ -86,11 +86,9 @@ impl<K: Chain, V: Join> JoinMap<K, V> {
         if self.len == usize::MAX {
             return Err(OutOfMemory);
         }
-        if self.blocks.is_empty() {
-            let mut pairs = Vec::with_capacity(*self.blocks.allocator(), 1)?;
-            pairs.push((key, value))?;
-            self.blocks.push((key, Block::of(pairs)))?;
-            self.len = 1;
+        if comes_last(&self.blocks, &key) {
+            append(&mut self.blocks, key, value)?;
+            self.len += 1;
             return Ok(());
         }
         let joined = joined_at(&self.blocks, &key, value)?;

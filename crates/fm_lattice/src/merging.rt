@@ -1,6 +1,6 @@
 //! Joins of two maps kept in blocks: a merge aside, and changes in place.
 
-ghost use Rattle.std.specs.Prelude.{◌≡◌, ◌↔◌, IsTrue, ◌+◌, ◌≤◌, ◌<◌, ◌++◌, ◌∷◌, [], List, None, IfOk, OnOk, map, length, vec_len, vec_capacity};
+ghost use Rattle.std.specs.Prelude.{◌≡◌, ◌↔◌, IsTrue, ◌+◌, ◌≤◌, ◌<◌, ◌++◌, ◌∷◌, [], List, None, IfOk, OnOk, OnErr, map, length, vec_len, vec_capacity};
 ghost use Rattle.fm_lattice.specs.Maps.{IsRising, lookup, put, map_join, replaced, joined_onto, joined_pair};
 ghost use Rattle.fm_lattice.specs.Blocks.{pairs_of, AreHeaded, HaveSpares, GoesToOwned, GoToOwned};
 
@@ -96,8 +96,8 @@ fn append_rest<K: Chain, V: Join>(
     Ok(())
 }
 
-// Adds the pair at the end.
-fn append<K: Chain, V: Join>(
+// Adds the pair at the end. After a refusal of memory the pairs are as they were.
+pub(crate) fn append<K: Chain, V: Join>(
     blocks: &mut Vec<(K, Block<K, V>)>,
     key: K,
     value: V,
@@ -105,6 +105,7 @@ fn append<K: Chain, V: Join>(
     requires { AreHeaded blocks.old.items }
     ensures pairs { OnOk result (pairs_of blocks.new.items ≡ pairs_of blocks.old.items ++ (key, value) ∷ []) }
     ensures headed { OnOk result (AreHeaded blocks.new.items) }
+    ensures err { OnErr result ((pairs_of blocks.new.items ≡ pairs_of blocks.old.items) × AreHeaded blocks.new.items) }
 {
     let count = blocks.len();
     if count > 0 && blocks[count - 1].1.pairs().len() < FULL {
@@ -125,6 +126,7 @@ fn push_in<K: Chain, V: Join>(
 ) -> Result<(), OutOfMemory>
     ensures key { block.new.0 ≡ block.old.0 }
     ensures items { OnOk result (block.new.1.items ≡ block.old.1.items ++ (key, value) ∷ []) }
+    ensures err { OnErr result (block.new.1.items ≡ block.old.1.items) }
 {
     block.1.push(key, value)
 }

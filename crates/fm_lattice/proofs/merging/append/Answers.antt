@@ -1,6 +1,7 @@
-use Rattle.std.proofs.Common.{◌≡◌, ◌+◌, ◌-◌, ◌++◌, [], ◌∷◌, length, refl, sym, subst, ◌∙◌, ap, arith}
+use Rattle.std.proofs.Common.{◌≡◌, ◌+◌, ◌-◌, ◌<◌, ◌++◌, [], ◌∷◌, length, refl, sym, subst, ◌∙◌, ap, arith}
+use Rattle.std.proofs.lemmas.Result.{err_from_is_err_and}
 use Rattle.fm_lattice.specs.Blocks.{pairs_of, BeginsWith, AreHeaded}
-use Rattle.fm_lattice.proofs.InBlocks.{begins_at, begins_more, headed_set, headed_push, pairs_last, pairs_push}
+use Rattle.fm_lattice.proofs.InBlocks.{begins_at, begins_more, headed_set, headed_push, pairs_last, pairs_push, pairs_set}
 use Rattle.fm_lattice.proofs.merging.append.Goals as goal
 
 pub returns-then-pairs-lt-FULL-clause-pairs : goal.returns-then-pairs-lt-FULL-clause-pairs
@@ -28,3 +29,17 @@ returns-clause-headed g c =
     let pushed : c.push.new.self.items ≡ (c.args.key, c.args.value) ∷ [] = rw c.in_ok-pairs.ensures.items at c.in_ok-push.ensures.items in
     let block : c.of.result.items ≡ (c.args.key, c.args.value) ∷ [] = ap (λ z. z.items) c.of.ensures ∙ pushed in
     subst AreHeaded (sym c.in_ok-push-2.ensures.items) (headed_push c.args.blocks.now.items (c.args.key, c.of.result) c.requires (subst (BeginsWith c.args.key) (sym block) refl))
+
+pub returns-in_err-push_in-clause-err : goal.returns-in_err-push_in-clause-err
+returns-in_err-push_in-clause-err g c =
+    let at = c.len-count.result - 1 in
+    let inside : at < length c.args.blocks.now.items = search arith in
+    let items = c.in_err-push_in.ensures.err ∙ ap (λ z. z.1.items) c.index_mut.ensures.value in
+    let old = begins_at c.args.blocks.now.items at c.index_mut.result.now c.requires inside in
+    let block = c.index_mut.result.now in
+    let before : BeginsWith block.0 block.1.items = subst (λ z. BeginsWith z.0 z.1.items) (sym c.index_mut.ensures.value) old in
+    let p = err_from_is_err_and c.from_residual.result c.from_residual.ensures.1 in
+    rw p.1 (
+      pairs_set c.args.blocks.now.items at c.index_mut.result.now c.push_in.new.block items,
+      headed_set c.args.blocks.now.items at c.push_in.new.block c.requires (rw (c.in_err-push_in.ensures.key, c.in_err-push_in.ensures.err) before),
+    )
