@@ -1,6 +1,6 @@
 //! The text of a network.
 
-ghost use Rattle.std.specs.Prelude.{◌≡◌, ◌++◌, ◌∷◌, [], OnOk, OnErr, IfErr, IfSome, IsOkUnless, count_by, length, string_bytes};
+ghost use Rattle.std.specs.Prelude.{◌≡◌, ◌++◌, ◌∷◌, [], OnOk, OnErr, IfErr, IfSome, IsOkUnless, count_by, codes, decimal, length, string_bytes};
 ghost use Rattle.std.specs.List.{flat_map};
 ghost use Rattle.std.specs.Io.KnownBytes.{Appends};
 ghost use Rattle.fm_records.specs.TableLaws.{Rises};
@@ -9,8 +9,10 @@ ghost use Rattle.fm_net.specs.Walks.{arc_entry};
 ghost use Rattle.fm_dimacs.specs.Sending.{AppendsPrefix, StopsBy, IsSent};
 ghost use Rattle.fm_dimacs.specs.Text.{node_line, problem_line, is_task, demand_line, supply_line, arc_line, lines_from, id_in, dump_text};
 
+use crate::numbers::push_number;
 use crate::out::Out;
 use crate::pieces::put_all;
+use fm_lattice::join::OutOfMemory;
 use fm_net::network::Network;
 use fm_net::node::{Node, order};
 use fm_records::refusal::Refusal;
@@ -83,22 +85,27 @@ fn write_node(alloc: Global, line: &mut String, id: usize, node: &Node) -> Resul
     ensures ok { OnOk result (string_bytes line.new ≡ string_bytes line.old ++ node_line id node.now) }
     ensures err { IsOkUnless result Refusal.OutOfMemory }
 {
+    push_number(line, "c ", id as u64)?;
     match *node {
-        Node::Sink => write!(line, "c {id} S\n")?,
-        Node::Unscheduled(job) => {
-            let name = job.text(alloc)?;
-            write!(line, "c {id} U {name}\n")?;
+        Node::Sink => line.push_str(" S\n")?,
+        Node::Unscheduled(job) => write_name(line, " U ", &job.text(alloc)?)?,
+        Node::Request(request) => {
+            push_number(line, " R ", request as u64)?;
+            line.push_str("\n")?;
         }
-        Node::Request(request) => write!(line, "c {id} R {request}\n")?,
-        Node::Machine(machine) => {
-            let name = machine.text(alloc)?;
-            write!(line, "c {id} M {name}\n")?;
-        }
-        Node::Task(task) => {
-            let name = task.text(alloc)?;
-            write!(line, "c {id} T {name}\n")?;
-        }
+        Node::Machine(machine) => write_name(line, " M ", &machine.text(alloc)?)?,
+        Node::Task(task) => write_name(line, " T ", &task.text(alloc)?)?,
     }
+    Ok(())
+}
+
+// Appends the name behind its kind, and ends the line.
+fn write_name(line: &mut String, kind: &str, name: &str) -> Result<(), OutOfMemory>
+    ensures { OnOk result (string_bytes line.new ≡ string_bytes line.old ++ (kind.now ++ (name.now ++ codes "\n"))) }
+{
+    line.push_str(kind)?;
+    line.push_str(name)?;
+    line.push_str("\n")?;
     Ok(())
 }
 
@@ -176,7 +183,8 @@ pub(crate) fn write_supply(line: &mut String, id: usize, node: &Node) -> Result<
     ensures err { IsOkUnless result Refusal.OutOfMemory }
 {
     if is_task(node) {
-        write!(line, "n {id} 1\n")?;
+        push_number(line, "n ", id as u64)?;
+        line.push_str(" 1\n")?;
     }
     Ok(())
 }
@@ -225,8 +233,20 @@ fn put_arc<W: Out>(
     let target = id_near(nodes, &to, last.target);
     *last = Ends { source, target };
     line.clear();
-    write!(line, "a {source} {target} 0 {capacity} {cost}\n")?;
+    write_arc(line, last, capacity, cost)?;
     put_all(out, line.as_bytes())
+}
+
+// Appends the line of an arc between the ends.
+fn write_arc(line: &mut String, ends: &Ends, capacity: u64, cost: u32) -> Result<(), OutOfMemory>
+    ensures { OnOk result (string_bytes line.new ≡ string_bytes line.old ++ (codes "a " ++ (decimal ends.now.source ++ (codes " " ++ (decimal ends.now.target ++ (codes " 0 " ++ (decimal capacity ++ (codes " " ++ (decimal cost ++ codes "\n"))))))))) }
+{
+    push_number(line, "a ", ends.source as u64)?;
+    push_number(line, " ", ends.target as u64)?;
+    push_number(line, " 0 ", capacity)?;
+    push_number(line, " ", cost as u64)?;
+    line.push_str("\n")?;
+    Ok(())
 }
 
 /// The node's ID, which is found at once where it is the ID or the next one. O(log n) else.

@@ -4,6 +4,7 @@
 mod arc_lines;
 pub mod dump;
 pub mod laws;
+mod numbers;
 pub mod out;
 pub mod pieces;
 pub mod read;

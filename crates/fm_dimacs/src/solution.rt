@@ -12,6 +12,7 @@ ghost use Rattle.fm_dimacs.specs.Sending.{AppendsPrefix, StopsBy, IsSent};
 ghost use Rattle.fm_dimacs.specs.Solution.{cost_line, units_line, flow_line, solution_text};
 
 use crate::dump::id_near;
+use crate::numbers::push_number;
 use crate::out::Out;
 use crate::pieces::put_all;
 use fm_certificate::cost::cost;
@@ -149,6 +150,9 @@ fn write_units(
     let target = id_near(nodes, to, near.target);
     near.source = source;
     near.target = target;
-    write!(line, "f {source} {target} {units}\n")?;
+    push_number(line, "f ", source as u64)?;
+    push_number(line, " ", target as u64)?;
+    push_number(line, " ", units)?;
+    line.push_str("\n")?;
     Ok(())
 }
