@@ -1,9 +1,11 @@
 //! The facts that knowledge tells: what is live, open and held, and what a machine has left. None takes memory.
 
-ghost use Rattle.std.specs.Prelude.{◌≡◌, cond, option_map, sum_by, IfSome};
+ghost use Rattle.std.specs.Prelude.{◌≡◌, Some, cond, option_map, sum_by, IfSome};
+ghost use Rattle.std.specs.Ordering.{nat_cmp};
+ghost use Rattle.fm_lattice.specs.Maps.{lookup};
 ghost use Rattle.fm_records.specs.Facts.{job_of, spec_of, progress_of, is_done, live_spec, is_live, job_stands, open_state, is_open, is_present, used_of, winner_of, won_spot, holder_of, held_tasks, holds, request_of, load_of, spare_of};
 ghost use Rattle.fm_know.specs.Winners.{as_winner};
-ghost use Rattle.fm_know.specs.Records.{live_in, holder_in, state_in};
+ghost use Rattle.fm_know.specs.Records.{live_in, placed_in, holder_in, state_in};
 ghost use Rattle.fm_know.specs.Limits.{JobWithin, SpecWithin, StateWithin};
 
 use crate::knowledge::Knowledge;
@@ -116,6 +118,16 @@ impl Knowledge {
         }
     }
 
+    /// The spec of the task, if it is live, and the machine that holds it, if one does: `live_spec` and `holder` in one, for
+    /// who walks over the tasks. The caller owes the record that is known of the task.
+    pub fn live_task(&self, task: TaskId, found: &TaskRec) -> Option<(SpecReg, Option<MachineId>)>
+        requires { lookup nat_cmp task self.now.tasks ≡ Some found.now }
+        ensures { result ≡ option_map (λ s. (s, holder_of self.now task)) (live_spec self.now task) }
+    {
+        let spec = live_in(self, found)?;
+        Some((spec, self.placed_in(task, found)))
+    }
+
     // The machine that holds the task with the record.
     fn holder_in(&self, task: TaskId, found: &TaskRec) -> Option<MachineId>
         ensures { result ≡ holder_in self.now task found.now }
@@ -123,6 +135,13 @@ impl Knowledge {
         if live_in(self, found).is_none() {
             return None;
         }
+        self.placed_in(task, found)
+    }
+
+    // The machine that the winner of the record's attempt names, where that is open and at its present incarnation.
+    fn placed_in(&self, task: TaskId, found: &TaskRec) -> Option<MachineId>
+        ensures { result ≡ placed_in self.now task found.now }
+    {
         let winner = self.winner(task, found.1.0.attempt)?;
         let spot = Spot {
             machine: winner.machine,

@@ -12,3 +12,4 @@ pub mod Roomy
 pub mod Summed
 mod Preferred
 mod Examples
+pub mod Walked

@@ -1,15 +1,16 @@
 //! The live tasks of a knowledge, each looked up once.
 
-ghost use Rattle.std.specs.Prelude.{◌≡◌, IfOk, IfSome};
+ghost use Rattle.std.specs.Prelude.{◌≡◌, Some, IfOk, IfSome};
 ghost use Rattle.std.specs.List.{filter_map};
 ghost use Rattle.std.specs.Ordering.{nat_cmp};
+ghost use Rattle.fm_lattice.specs.Maps.{lookup};
 ghost use Rattle.fm_records.specs.Sets.{rising};
 ghost use Rattle.fm_policy.specs.LiveTasks.{live_task, all_live, waiting_request};
 
 use fm_know::knowledge::Knowledge;
 use fm_lattice::join::OutOfMemory;
 use fm_records::ids::{MachineId, TaskId};
-use fm_records::records::SpecReg;
+use fm_records::records::{SpecReg, TaskRec};
 use std::alloc::Global;
 use std::collections::BTreeSet;
 
@@ -22,16 +23,13 @@ pub(crate) struct LiveTask {
 }
 
 impl LiveTask {
-    // The task, where it is live.
-    fn of(knowledge: &Knowledge, task: TaskId) -> Option<LiveTask>
+    // The task, of which the record is known, where it is live.
+    fn of(knowledge: &Knowledge, task: TaskId, known: &TaskRec) -> Option<LiveTask>
+        requires { lookup nat_cmp task knowledge.now.tasks ≡ Some known.now }
         ensures { result ≡ live_task knowledge.now task }
     {
-        let spec = knowledge.live_spec(task)?;
-        Some(LiveTask {
-            task,
-            spec,
-            holder: knowledge.holder(task),
-        })
+        let (spec, holder) = knowledge.live_task(task, known)?;
+        Some(LiveTask { task, spec, holder })
     }
 
     // The request that the task waits for, where no machine holds it.
@@ -50,8 +48,8 @@ pub(crate) fn live_tasks(alloc: Global, knowledge: &Knowledge) -> Result<Vec<Liv
     ensures { IfOk result (λ live. live.items ≡ all_live knowledge.now) }
 {
     let mut live = Vec::new(alloc);
-    for (task, _) in knowledge.tasks().iter() {
-        if let Some(found) = LiveTask::of(knowledge, *task) {
+    for (task, known) in knowledge.tasks().iter() {
+        if let Some(found) = LiveTask::of(knowledge, *task, known) {
             live.push(found)?;
         }
     }
