@@ -58,6 +58,8 @@ impl Adaptive {
         ensures err { OnErr result (is_fresh_adaptive self.new ≡ false) }
     {
         self.fresh = false;
+        // The old network goes first, so that there are never two.
+        self.network = Shared::new(alloc, Network::new(alloc)?)?;
         if self.was_asked && self.changed <= FEW {
             let mut editor = Editor::new(alloc)?;
             editor.rebuild(alloc, now)?;
