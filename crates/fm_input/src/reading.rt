@@ -20,6 +20,7 @@ use fm_records::prefer::Prefer;
 use fm_records::refusal::Refusal;
 use serde_json::Value;
 use std::alloc::Global;
+use std::mem;
 
 /// The script that a JSON text spells: an object whose `coordinators` list at least one number, distinct ones from 1 to 64,
 /// and whose `steps` list objects of an `at` and one of `tell`, `cut`, `deliver`, `trim` and `round`. `BadScript(0)` where the
@@ -33,16 +34,16 @@ pub fn read_script(alloc: Global, text: &[u8]) -> Result<Script, Refusal>
     ensures distinct { IfOk result (λ s. AreDistinct s.coordinators.items) }
 {
     match Value::from_slice(alloc, text) {
-        Ok(value) => script_in(alloc, &value),
+        Ok(mut value) => script_in(alloc, &mut value),
         Err(error) if error.is_memory() => Err(Refusal::OutOfMemory),
         Err(_) => Err(Refusal::BadScript(0)),
     }
 }
 
-// The script that a value spells.
-fn script_in(alloc: Global, value: &Value) -> Result<Script, Refusal>
-    ensures ok { IfOk result (λ s. IsScriptOf (view value.now) s.coordinators.items s.names s.steps.items) }
-    ensures err { IfErr result (λ e. (e ≡ Refusal.OutOfMemory) ⊎ (option_map Refusal.BadScript (script_fault (view value.now)) ≡ Some e)) }
+// The script that a value spells, whose steps are let go one by one as they are read.
+fn script_in(alloc: Global, value: &mut Value) -> Result<Script, Refusal>
+    ensures ok { IfOk result (λ s. IsScriptOf (view value.old) s.coordinators.items s.names s.steps.items) }
+    ensures err { IfErr result (λ e. (e ≡ Refusal.OutOfMemory) ⊎ (option_map Refusal.BadScript (script_fault (view value.old)) ≡ Some e)) }
     ensures distinct { IfOk result (λ s. AreDistinct s.coordinators.items) }
 {
     let Some(listed) = items_in(value, "coordinators") else {
@@ -51,7 +52,7 @@ fn script_in(alloc: Global, value: &Value) -> Result<Script, Refusal>
     let Some(coordinators) = coordinators_in(alloc, listed)? else {
         return Err(Refusal::BadScript(0));
     };
-    let Some(items) = items_in(value, "steps") else {
+    let Some(items) = take_items(alloc, value, "steps") else {
         return Err(Refusal::BadScript(0));
     };
     let mut names = Names::new(alloc);
@@ -95,16 +96,16 @@ fn coordinator_in(item: &Value) -> Option<CoordId>
 }
 
 // The steps that the items spell, each one, with the names of the packets that they cut.
-fn steps_in(alloc: Global, items: &[Value], names: &mut Names) -> Result<Vec<Step>, Refusal>
+fn steps_in(alloc: Global, items: Vec<Value>, names: &mut Names) -> Result<Vec<Step>, Refusal>
     requires { names.old ≡ [] }
-    ensures ok { IfOk result (λ v. steps_of [] (map view items.now) ≡ map Some v.items) }
-    ensures names { OnOk result (names.new ≡ flat_map names_in (map view items.now)) }
-    ensures err { IfErr result (λ e. (e ≡ Refusal.OutOfMemory) ⊎ (option_map Refusal.BadScript (first_strange [] 1 (map view items.now)) ≡ Some e)) }
+    ensures ok { IfOk result (λ v. steps_of [] (map view items.items) ≡ map Some v.items) }
+    ensures names { OnOk result (names.new ≡ flat_map names_in (map view items.items)) }
+    ensures err { IfErr result (λ e. (e ≡ Refusal.OutOfMemory) ⊎ (option_map Refusal.BadScript (first_strange [] 1 (map view items.items)) ≡ Some e)) }
 {
     let mut steps = Vec::with_capacity(alloc, items.len())?;
-    for (place, item) in items.iter().enumerate() {
-        let step = step_in(item, names).ok_or(Refusal::BadScript(place + 1))?;
-        keep_name(item, names)?;
+    for item in items {
+        let step = step_in(&item, names).ok_or(Refusal::BadScript(steps.len() + 1))?;
+        keep_name(&item, names)?;
         steps.extend_from_slice(&[step])?;
     }
     Ok(steps)
@@ -391,4 +392,12 @@ pub(crate) fn items_in<'a>(value: &'a Value, name: &str) -> Option<&'a [Value]>
 {
     let items = value.get(name)?.as_array()?;
     Some(items.as_slice())
+}
+
+// Takes the items of the array in the member of the name, and leaves none there.
+pub(crate) fn take_items(alloc: Global, value: &mut Value, name: &str) -> Option<Vec<Value>>
+    ensures { option_map (λ v. map view v.items) result ≡ items_at name.now (view value.old) }
+{
+    let items = value.get_mut(name)?.as_array_mut()?;
+    Some(mem::replace(items, Vec::new(alloc)))
 }

@@ -8,7 +8,7 @@ ghost use Rattle.fm_input.specs.Script.{told_in, tell_of, first_untold, tells_fa
 ghost use Rattle.fm_input.specs.Texts.{SpellsTells, SpellsNoTells};
 
 use crate::names::Names;
-use crate::reading::{coordinators_in, items_in, step_in};
+use crate::reading::{coordinators_in, items_in, step_in, take_items};
 use crate::script::{Act, Step, Tell, Tells};
 use fm_records::refusal::Refusal;
 use serde_json::Value;
@@ -23,16 +23,16 @@ pub fn read_tells(alloc: Global, text: &[u8]) -> Result<Tells, Refusal>
     ensures distinct { IfOk result (λ s. AreDistinct s.coordinators.items) }
 {
     match Value::from_slice(alloc, text) {
-        Ok(value) => tells_in(alloc, &value),
+        Ok(mut value) => tells_in(alloc, &mut value),
         Err(error) if error.is_memory() => Err(Refusal::OutOfMemory),
         Err(_) => Err(Refusal::BadScript(0)),
     }
 }
 
 // The script of tells that a value spells.
-fn tells_in(alloc: Global, value: &Value) -> Result<Tells, Refusal>
-    ensures ok { IfOk result (λ s. AreTellsOf (view value.now) s.coordinators.items s.tells.items) }
-    ensures err { IfErr result (λ e. (e ≡ Refusal.OutOfMemory) ⊎ (option_map Refusal.BadScript (tells_fault (view value.now)) ≡ Some e)) }
+fn tells_in(alloc: Global, value: &mut Value) -> Result<Tells, Refusal>
+    ensures ok { IfOk result (λ s. AreTellsOf (view value.old) s.coordinators.items s.tells.items) }
+    ensures err { IfErr result (λ e. (e ≡ Refusal.OutOfMemory) ⊎ (option_map Refusal.BadScript (tells_fault (view value.old)) ≡ Some e)) }
     ensures distinct { IfOk result (λ s. AreDistinct s.coordinators.items) }
 {
     let Some(listed) = items_in(value, "coordinators") else {
@@ -41,7 +41,7 @@ fn tells_in(alloc: Global, value: &Value) -> Result<Tells, Refusal>
     let Some(coordinators) = coordinators_in(alloc, listed)? else {
         return Err(Refusal::BadScript(0));
     };
-    let Some(items) = items_in(value, "steps") else {
+    let Some(items) = take_items(alloc, value, "steps") else {
         return Err(Refusal::BadScript(0));
     };
     let tells = all_in(alloc, items)?;
@@ -52,14 +52,14 @@ fn tells_in(alloc: Global, value: &Value) -> Result<Tells, Refusal>
 }
 
 // What the items tell, each one.
-fn all_in(alloc: Global, items: &[Value]) -> Result<Vec<Tell>, Refusal>
-    ensures ok { IfOk result (λ v. map tell_of (map view items.now) ≡ map Some v.items) }
-    ensures err { IfErr result (λ e. (e ≡ Refusal.OutOfMemory) ⊎ (option_map Refusal.BadScript (first_untold 1 (map view items.now)) ≡ Some e)) }
+fn all_in(alloc: Global, items: Vec<Value>) -> Result<Vec<Tell>, Refusal>
+    ensures ok { IfOk result (λ v. map tell_of (map view items.items) ≡ map Some v.items) }
+    ensures err { IfErr result (λ e. (e ≡ Refusal.OutOfMemory) ⊎ (option_map Refusal.BadScript (first_untold 1 (map view items.items)) ≡ Some e)) }
 {
     let names = Names::new(alloc);
     let mut tells = Vec::with_capacity(alloc, items.len())?;
-    for (place, item) in items.iter().enumerate() {
-        let tell = tell_in(item, &names).ok_or(Refusal::BadScript(place + 1))?;
+    for item in items {
+        let tell = tell_in(&item, &names).ok_or(Refusal::BadScript(tells.len() + 1))?;
         tells.extend_from_slice(&[tell])?;
     }
     Ok(tells)
