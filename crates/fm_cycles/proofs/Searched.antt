@@ -1,60 +1,65 @@
 -- The rounds of a search.
-use Rattle.std.proofs.Common.{◌≡◌, ◌∙◌, ap, sym, subst, refl, inl, inr, ℕ, zero, suc, ◌⊎◌, ◌+◌, ◌*◌, ◌^◌, ◌≤◌, ◌<◌, true, false, List, [], ◌∷◌, ◌++◌, Option, Some, None, length, get_or, length-append, arith}
-use Rattle.std.specs.Prelude.{ℤ, pos, ◌≤ℤ◌, neg_ℤ, slice_get, slice_index}
+use Rattle.std.proofs.Common.{◌≡◌, ◌∙◌, ap, subst, refl, inl, inr, ℕ, zero, suc, ◌⊎◌, ◌+◌, ◌*◌, ◌^◌, ◌≤◌, ◌<◌, true, false, List, [], ◌∷◌, Option, Some, None, length, get_or, arith}
+use Rattle.std.specs.Prelude.{ℤ, pos, ◌+ℤ◌, ◌≤ℤ◌, neg_ℤ, slice_get, slice_index}
+use Rattle.std.specs.Option.{is_some}
 use lib.ListN.{replicate}
+use lib.Signed.{◌<ℤ◌}
 use Rattle.std.proofs.lemmas.Int.{ints}
-use Rattle.std.specs.declared.vec.Vec.{Vec}
-use Rattle.std.specs.declared.alloc.Global.{Global}
-use Rattle.fm_cycles.specs.Walks.{Costs, Steps, AreBounded, ArePotentials}
-use Rattle.fm_cycles.specs.Residual.{residual, cost_by, end_of, HasRoom, AreArcs}
+use Rattle.std.proofs.lemmas.Bool.{cases_lt}
+use Rattle.fm_cycles.specs.Walks.{Costs, Steps, IsWalk, walk_cost, AreBounded, ArePotentials}
+use Rattle.fm_cycles.specs.Residual.{residual, cost_by, HasRoom, AreArcs}
 use Rattle.fm_cycles.specs.Found.{costs_in}
-use Rattle.fm_cycles.specs.Rows.{Rows, lasts_in, IsEnd, IsAhead, IsRowAfter, past, row_of}
+use Rattle.fm_cycles.specs.Labels.{AreLabels, HasFallen, IsSwept, IsCorrectedWithin, IsAbove, costs_of, parents_of}
+use Rattle.fm_cycles.specs.Traced.{HasRoot}
 use Rattle.fm_cycles.specs.declared.arcs.Arc.{Arc}
 use Rattle.fm_cycles.specs.declared.arcs.Step.{Step}
-use Rattle.fm_cycles.specs.declared.row.Row.{Row}
-use Rattle.fm_cycles.proofs.Rows.{settled}
+use Rattle.fm_cycles.specs.declared.labels.Labels.{Labels}
+use Rattle.fm_cycles.proofs.Lowered.{at_most, is_walk}
 
 pub none_at : {A : Type 0} → (o : Option A) → o ≡ None → (n v : ℕ) → get_or (replicate n o) v None ≡ None
 none_at o is zero v = refl
 none_at o is (suc n) zero = is
 none_at o is (suc n) (suc v) = none_at o is n v
 
--- costs after so many rows
-abbrev Within : ℕ → Costs → Type 0
-Within rounds row = (v : ℕ) → (neg_ℤ (pos (2 ^ 64 + rounds * 2 ^ 32)) ≤ℤ row v) × (row v ≤ℤ pos (2 ^ 64))
+-- whether some node fell, from what a test says
+pub none_fell : (o : Option ℕ) → is_some o ≡ false → o ≡ None
+none_fell None is = refl
+none_fell (Some v) is = absurd (let no : ⊥ = cc in no)
 
-pub record IsSearching (g : Steps Step) (nodes : ℕ) (costs : List ℤ) (lists : List (Vec (Option Step) Global)) : Type 0 where
-  pub sized : length costs ≡ nodes
-  pub few : (length lists ≡ 0) ⊎ (length lists < nodes)
-  pub within : Within (length lists) (costs_in costs)
-  pub rows : Rows g (costs_in costs) (past lists (length lists))
+pub some_fell : (o : Option ℕ) → is_some o ≡ true → (v : ℕ) × (o ≡ Some v)
+some_fell None is = absurd (let no : ⊥ = cc in no)
+some_fell (Some v) is = (v, refl)
 
-abbrev Lists : Type 0
-Lists = List (Vec (Option Step) Global)
+pub no_items : {A : Type 0} → (xs : List A) → length xs ≡ 0 → xs ≡ []
+no_items [] is = refl
+no_items (x ∷ xs) is = absurd (omega arith)
 
--- one list more at the end
-get_push : (xs : Lists) (x : Vec (Option Step) Global) (i : ℕ) → i < length xs → slice_get (xs ++ x ∷ []) i ≡ slice_get xs i
-get_push [] x i less = absurd (omega arith)
-get_push (y ∷ ys) x zero less = refl
-get_push (y ∷ ys) x (suc i) less = get_push ys x i (omega arith)
+-- no cost is above that of a walk of at most so many steps
+abbrev pub Reached : Steps Step → Costs → Costs → ℕ → Type 0
+Reached g first costs most = (v u : ℕ) (steps : List Step) → IsWalk g v steps u → length steps ≤ most → costs v ≤ℤ (first u +ℤ walk_cost g steps)
 
-get_last : (xs : Lists) (x : Vec (Option Step) Global) → slice_get (xs ++ x ∷ []) (length xs) ≡ Some x
-get_last [] x = refl
-get_last (y ∷ ys) x = get_last ys x
+pub record IsSearching (g : Steps Step) (nodes : ℕ) (first : Costs) (labels : Labels) (sweeps : ℕ) : Type 0 where
+  pub sized : length labels.costs.items ≡ nodes
+  pub parents : length labels.parents.items ≡ nodes
+  pub few : (sweeps ≡ 0) ⊎ (sweeps < nodes)
+  pub grown : AreLabels g first (costs_of labels) (parents_of labels)
+  pub low : IsAbove (2 ^ 64 + nodes * 2 ^ 32) (costs_of labels)
+  pub high : (v : ℕ) → costs_of labels v ≤ℤ pos (2 ^ 64)
+  pub reached : Reached g first (costs_of labels) sweeps
 
-past_push : (xs : Lists) (x : Vec (Option Step) Global) (n : ℕ) → n ≤ length xs → past (xs ++ x ∷ []) n ≡ past xs n
-past_push xs x zero less = refl
-past_push xs x (suc n) less =
-    let rest = past_push xs x n (omega arith) in
-    let one = get_push xs x n (omega arith) in
-    λ i. row_of (one i) ∷ rest i
+-- labels that fell from the first costs in so many sweeps
+pub record IsGrown (g : Steps Step) (nodes : ℕ) (first : Costs) (labels : Labels) (sweeps : ℕ) : Type 0 where
+  pub sized : length labels.costs.items ≡ nodes
+  pub parents : length labels.parents.items ≡ nodes
+  pub grown : AreLabels g first (costs_of labels) (parents_of labels)
+  pub low : IsAbove (2 ^ 97) (costs_of labels)
+  pub high : (v : ℕ) → costs_of labels v ≤ℤ pos (2 ^ 64)
+  pub reached : Reached g first (costs_of labels) sweeps
 
-past_all : (xs : Lists) (x : Vec (Option Step) Global) → past (xs ++ x ∷ []) (length (xs ++ x ∷ [])) ≡ lasts_in x.items ∷ past xs (length xs)
-past_all xs x =
-    let more : length (xs ++ x ∷ []) ≡ suc (length xs) = omega (arith, length-append xs (x ∷ [])) in
-    let rest = past_push xs x (length xs) (omega arith) in
-    let last = get_last xs x in
-    ap (past (xs ++ x ∷ [])) more ∙ (λ i. row_of (last i) ∷ rest i)
+behind_end : (costs : List ℤ) (v : ℕ) → length costs ≤ v → costs_in costs v ≡ pos 0
+behind_end [] v all = refl
+behind_end (c ∷ costs) zero all = absurd (omega arith)
+behind_end (c ∷ costs) (suc v) all = behind_end costs v (omega arith)
 
 module _ (arcs : List Arc) (units : List ℕ) (nodes : ℕ) (known : AreArcs arcs nodes) where
   abbrev g : Steps Step
@@ -67,68 +72,110 @@ module _ (arcs : List Arc) (units : List ℕ) (nodes : ℕ) (known : AreArcs arc
         | Some a ↦ λ is _. let cost = (known s.arc a is).2 in elim s.forward as (λ b. neg_ℤ (pos (2 ^ 32)) ≤ℤ cost_by (Some a) b) [ true ↦ omega (arith, ints) | false ↦ omega (arith, ints) ]
       ] refl can
 
-  target_within : (s : Step) → g.is_open s → g.target s < nodes
-  target_within s can =
-      elim (slice_get arcs s.arc) as (λ o. slice_get arcs s.arc ≡ o → HasRoom o s.forward (slice_index units s.arc) → end_of o s.forward < nodes) [
-        | None ↦ λ _ no. absurd no
-        | Some a ↦ λ is _. elim s.forward as (λ b. end_of (Some a) b < nodes) [ true ↦ (known s.arc a is).1 | false ↦ (known s.arc a is).0 ]
-      ] refl can
+  low_walk : (v u : ℕ) (steps : List Step) → IsWalk g v steps u → neg_ℤ (pos (length steps * 2 ^ 32)) ≤ℤ walk_cost g steps
+  low_walk v u [] walk = omega (arith, ints)
+  low_walk v u (s ∷ steps) walk =
+      let one = low_cost s walk.0 in
+      let rest = low_walk (g.source s) u steps walk.2 in
+      omega (arith, ints)
 
-  pub start : (costs : List ℤ) (lists : Lists) → lists ≡ [] → length costs ≡ nodes → AreBounded (2 ^ 64) (costs_in costs) → IsSearching g nodes costs lists
-  start costs lists none sized first = subst (λ (l : Lists). IsSearching g nodes costs l) (sym none) (record {
+  pub start : (first : Costs) (labels : Labels) → ((v : ℕ) → costs_of labels v ≡ first v) → ((v : ℕ) → parents_of labels v ≡ None) → length labels.costs.items ≡ nodes → length labels.parents.items ≡ nodes → AreBounded (2 ^ 64) first → IsSearching g nodes first labels 0
+  start first labels same none sized parents bounded = record {
     sized = sized;
+    parents = parents;
     few = inl refl;
-    within = λ v. first v;
-    rows = tt;
-  })
+    grown = record {
+      opened = λ v s is. absurd (let no : ⊥ = (let e = none v in cc) in no);
+      ends = λ v s is. absurd (let no : ⊥ = (let e = none v in cc) in no);
+      sums = λ v s is. absurd (let no : ⊥ = (let e = none v in cc) in no);
+      roots = λ v _. same v;
+      negative = λ v s steps back. absurd (let no : ⊥ = (let e = none v in let h = back.0 in cc) in no);
+    };
+    low = λ v. let e = same v in let h = (bounded v).0 in omega (arith, ints);
+    high = λ v. let e = same v in let h = (bounded v).1 in omega (arith, ints);
+    reached = λ v u steps walk few. elim steps as (λ p. IsWalk g v p u → length p ≤ 0 → costs_of labels v ≤ℤ (first u +ℤ walk_cost g p)) [
+      | [] ↦ λ is _. let e = same v in let e2 = ap first is in omega (arith, ints)
+      | s ∷ more ↦ λ _ h. absurd (omega arith)
+    ] walk few;
+  }
 
-  pub small : nodes < 2 ^ 63 → (costs : List ℤ) (lists : Lists) → IsSearching g nodes costs lists → AreBounded (2 ^ 100) (costs_in costs)
-  small few costs lists st = λ v.
-      let in_reach = st.within v in
-      let most : length lists < 2 ^ 63 = elim st.few [ inl none ↦ omega arith | inr less ↦ omega arith ] in
-      let low = in_reach.0 in
-      let high = in_reach.1 in
-      (omega (arith, ints), omega (arith, ints))
+  pub above : nodes < 2 ^ 63 → (first : Costs) (labels : Labels) (sweeps : ℕ) → IsSearching g nodes first labels sweeps → IsAbove (2 ^ 96) (costs_of labels)
+  above few first labels sweeps st = λ v. let low = st.low v in omega (arith, ints)
 
-  pub done : nodes < 2 ^ 63 → (costs : List ℤ) (lists : Lists) (row : Row) → IsSearching g nodes costs lists → IsRowAfter g costs row → row.cheaper ≡ None → ArePotentials g (costs_in costs)
-  done few costs lists row st after none =
-      let ends : (v : ℕ) → lasts_in row.lasts.items v ≡ None = subst (λ (o : Option ℕ). IsEnd o (lasts_in row.lasts.items)) none after.ends in
-      let all = small few costs lists st in
-      record { fit = settled g (costs_in costs) (costs_in row.costs.items) (lasts_in row.lasts.items) after.next ends; bounded = all }
+  -- whatever the queue relaxes
+  pub quickened : nodes < 2 ^ 63 → (first : Costs) (labels now : Labels) (sweeps : ℕ) → IsSearching g nodes first labels sweeps → IsCorrectedWithin g (2 ^ 64) labels now → IsGrown g nodes first now sweeps
+  quickened few first labels now sweeps st more = record {
+    sized = more.2.costs ∙ st.sized;
+    parents = more.2.parents ∙ st.parents;
+    grown = more.2.labels first st.grown;
+    low = λ v. let most = more.1 in let low = more.2.low (2 ^ 96) (above few first labels sweeps st) v in omega (arith, ints);
+    high = λ v. let old = st.high v in let fall = more.2.falls v in omega (arith, ints);
+    reached = λ v u steps walk few. let old = st.reached v u steps walk few in let fall = more.2.falls v in omega (arith, ints);
+  }
 
-  -- one row more, of which some node became cheaper
-  module _ (costs : List ℤ) (lists : Lists) (row : Row) (st : IsSearching g nodes costs lists) (after : IsRowAfter g costs row) (node : ℕ) (some : row.cheaper ≡ Some node) where
-    last : (s : Step) × (lasts_in row.lasts.items node ≡ Some s)
-    last = subst (λ (o : Option ℕ). IsEnd o (lasts_in row.lasts.items)) some after.ends
+  pub done : (first : Costs) (labels new : Labels) (sweeps : ℕ) → IsGrown g nodes first labels sweeps → IsSwept g labels new → HasFallen new.fell nodes (costs_of labels) (costs_of new) → new.fell ≡ None → ArePotentials g (costs_of new)
+  done first labels new sweeps st swept fallen none =
+      let same : (v : ℕ) → costs_of new v ≡ costs_of labels v = subst (λ (o : Option ℕ). HasFallen o nodes (costs_of labels) (costs_of new)) none fallen in
+      record {
+        fit = λ s can.
+            let low = swept.relaxed s can in
+            let one = same (g.source s) in
+            omega (arith, ints);
+        bounded = λ v.
+            let e = same v in
+            let low = st.low v in
+            let high = st.high v in
+            (omega (arith, ints), omega (arith, ints));
+      }
 
-    pub within_end : node < nodes
-    within_end = subst (λ n. n < nodes) (after.next.ends node last.0 last.1) (target_within last.0 (after.next.opened node last.0 last.1))
+  module _ (first : Costs) (labels new : Labels) (sweeps : ℕ) (st : IsGrown g nodes first labels sweeps) (swept : IsSwept g labels new) where
+    pub grown2 : AreLabels g first (costs_of new) (parents_of new)
+    grown2 = swept.labels first st.grown
 
-    abbrev lists2 : Lists
-    lists2 = lists ++ row.lasts ∷ []
+    reached2 : Reached g first (costs_of new) (sweeps + 1)
+    reached2 v u [] walk few =
+        let old = st.reached v u [] walk (omega arith) in
+        let fall = swept.falls v in
+        omega (arith, ints)
+    reached2 v u (s ∷ steps) walk few =
+        let old = st.reached (g.source s) u steps walk.2 (omega arith) in
+        let fall = swept.relaxed s walk.0 in
+        let same = ap (costs_of new) walk.1 in
+        omega (arith, ints)
 
-    pub rows2 : Rows g (costs_in row.costs.items) (past lists2 (length lists2))
-    rows2 = subst (λ rs. Rows g (costs_in row.costs.items) rs) (sym (past_all lists row.lasts)) (costs_in costs, after.next, st.rows)
+    low2 : AreBounded (2 ^ 64) first → ((v : ℕ) → v < nodes → HasRoot g nodes (parents_of new) v) → length new.costs.items ≡ nodes → IsAbove (2 ^ 64 + nodes * 2 ^ 32) (costs_of new)
+    low2 bounded all sized v = elim (cases_lt v nodes) [
+      | inl less ↦
+          let rooted = all v less in
+          let most = at_most g first (costs_of new) (parents_of new) grown2 v rooted.root rooted.steps rooted.back in
+          let walk = low_walk v rooted.root rooted.steps (is_walk g first (costs_of new) (parents_of new) grown2 v rooted.root rooted.steps rooted.back) in
+          let from = grown2.roots rooted.root rooted.none in
+          let few = rooted.few in
+          let bound = (bounded rooted.root).0 in
+          omega (arith, ints)
+      | inr more ↦ let e = behind_end new.costs.items v (omega arith) in omega (arith, ints)
+    ]
 
-    pub ahead2 : IsAhead (past lists2 (length lists2)) node
-    ahead2 = subst (λ rs. IsAhead rs node) (sym (past_all lists row.lasts)) last
+    -- a walk back from a node that fell has more steps than there were sweeps
+    pub more_sweeps : (end : ℕ) → costs_of new end <ℤ costs_of labels end → HasRoot g nodes (parents_of new) end → sweeps + 1 < nodes
+    more_sweeps end fell rooted =
+        let most = at_most g first (costs_of new) (parents_of new) grown2 end rooted.root rooted.steps rooted.back in
+        let walk = is_walk g first (costs_of new) (parents_of new) grown2 end rooted.root rooted.steps rooted.back in
+        let from = grown2.roots rooted.root rooted.none in
+        let few = rooted.few in
+        elim (cases_lt sweeps (length rooted.steps)) [
+          | inl less ↦ omega arith
+          | inr more ↦ let old = st.reached end rooted.root rooted.steps walk (omega arith) in absurd (omega (arith, ints))
+        ]
 
-    within2 : Within (length lists2) (costs_in row.costs.items)
-    within2 v =
-        let old = st.within v in
-        let falls = after.next.falls v in
-        let more : length lists2 ≡ length lists + 1 = length-append lists (row.lasts ∷ []) in
-        let low : neg_ℤ (pos (2 ^ 64 + (length lists + 1) * 2 ^ 32)) ≤ℤ costs_in row.costs.items v =
-        elim (lasts_in row.lasts.items v) as (λ o. lasts_in row.lasts.items v ≡ o → neg_ℤ (pos (2 ^ 64 + (length lists + 1) * 2 ^ 32)) ≤ℤ costs_in row.costs.items v) [
-          | None ↦ λ is. let same = after.next.stays v is in let bound = old.0 in omega (arith, ints)
-          | Some s ↦ λ is.
-              let cost = after.next.sums v s is in
-              let price = low_cost s (after.next.opened v s is) in
-              let from = (st.within (g.source s)).0 in
-              omega (arith, ints)
-        ] refl in
-        let high = old.1 in
-        (subst (λ n. neg_ℤ (pos (2 ^ 64 + n * 2 ^ 32)) ≤ℤ costs_in row.costs.items v) (sym more) low, omega (arith, ints))
-
-    pub again : length lists2 < nodes → IsSearching g nodes row.costs.items lists2
-    again less = record { sized = after.sized ∙ st.sized; few = inr less; within = within2; rows = rows2 }
+    pub again : AreBounded (2 ^ 64) first → ((v : ℕ) → v < nodes → HasRoot g nodes (parents_of new) v) → (end : ℕ) → end < nodes → costs_of new end <ℤ costs_of labels end
+        → length new.costs.items ≡ nodes → length new.parents.items ≡ nodes → IsSearching g nodes first new (sweeps + 1)
+    again bounded all end within fell sized parents = record {
+      sized = sized;
+      parents = parents;
+      few = inr (more_sweeps end fell (all end within));
+      grown = grown2;
+      low = low2 bounded all sized;
+      high = λ v. let old = st.high v in let fall = swept.falls v in omega (arith, ints);
+      reached = reached2;
+    }

@@ -1,51 +1,129 @@
--- The walk back over the rows: what holds as it goes, one step further, and at its end.
-use Rattle.std.proofs.Common.{◌≡◌, ◌∙◌, ap, sym, subst, refl, inl, inr, ℕ, zero, suc, ◌⊎◌, ◌+◌, ◌-◌, ◌<◌, true, false, List, [], ◌∷◌, ◌++◌, Option, Some, None, length, drop, get_or, set, length-set, length-append, length-drop, get_or-set_same, arith}
-use lib.ListN.{replicate}
-use Rattle.std.proofs.lemmas.List.{drop-append-le, length-replicate}
+-- The walk back over parents: what holds as it goes, one step further, and at its end.
+use Rattle.std.proofs.Common.{◌≡◌, ◌∙◌, ap, sym, subst, refl, inl, inr, ℕ, zero, suc, ◌⊎◌, ◌+◌, ◌-◌, ◌≤◌, ◌<◌, true, false, List, [], ◌∷◌, ◌++◌, Option, Some, None, length, drop, get_or, set, length-set, length-append, length-drop, get_or-set_same, arith}
+use Rattle.std.proofs.lemmas.List.{drop-append-le}
 use Rattle.std.specs.Prelude.{slice_get, slice_index}
-use Rattle.std.specs.declared.vec.Vec.{Vec}
-use Rattle.std.specs.declared.alloc.Global.{Global}
-use Rattle.fm_cycles.specs.Walks.{Costs, Steps, AreApart, IsNegativeCycle}
+use Rattle.fm_cycles.specs.Walks.{Costs, Steps, TargetsOther, AreApart, IsNegativeCycle}
 use Rattle.fm_cycles.specs.Residual.{residual, HasRoom, start_of, AreArcs}
-use Rattle.fm_cycles.specs.Rows.{IsNext, Rows, IsAhead, past, row_of}
+use Rattle.fm_cycles.specs.Labels.{AreLabels, IsWalkBack}
+use Rattle.fm_cycles.specs.Traced.{marked, visit_of, IsVisited, AreBefore, HasRoot, AreRooted, IsClosedAt, IsWalkedBack}
+use Rattle.fm_cycles.specs.declared.walk.Visit.{Visit}
 use Rattle.fm_cycles.specs.declared.arcs.Arc.{Arc}
 use Rattle.fm_cycles.specs.declared.arcs.Step.{Step}
-use Rattle.fm_cycles.proofs.Rows.{earlier}
-use Rattle.fm_cycles.proofs.Counts.{marked, marked_set, marked_less}
-use Rattle.fm_cycles.proofs.Trails.{Trail, trail_more, trail_none, AreVisited, apart_more, apart_drop, visited_set, visited_more, cycle_of}
+use Rattle.fm_cycles.proofs.Lowered.{is_walk}
+use Rattle.fm_cycles.proofs.Counts.{marked_set, marked_most}
 
-no_mark : {P : Type 0} {k : ℕ} → ◌≡◌ {A = Option ℕ} None (Some k) → P
+no_mark : {P : Type 0} {x : Visit} → ◌≡◌ {A = Option Visit} None (Some x) → P
 no_mark e = absurd (let no : ⊥ = cc in no)
+
+-- what has no visit after one had none before
+still : (visits : List (Option Visit)) (v i : ℕ) (x : Visit) → get_or (set visits i (Some x)) v None ≡ None → get_or visits v None ≡ None
+still [] v i x none = none
+still (y ∷ ys) zero zero x none = absurd (let no : ⊥ = cc in no)
+still (y ∷ ys) zero (suc i) x none = none
+still (y ∷ ys) (suc v) zero x none = none
+still (y ∷ ys) (suc v) (suc i) x none = still ys v i x none
 
 drop_at : (walk : List Step) (s : Step) → drop (length walk) (walk ++ s ∷ []) ≡ s ∷ []
 drop_at [] s = refl
 drop_at (w ∷ ws) s = drop_at ws s
 
--- a mark is the newest one, or an older one
-mark_cases : (visits : List (Option ℕ)) (v n k i : ℕ) → get_or (set visits n (Some k)) v None ≡ Some i → ((v ≡ n) × (k ≡ i)) ⊎ (get_or visits v None ≡ Some i)
-mark_cases [] v n k i e = inr e
-mark_cases (x ∷ xs) zero zero k i e = inl (refl, (let is : k ≡ i = cc in is))
-mark_cases (x ∷ xs) zero (suc n) k i e = inr e
-mark_cases (x ∷ xs) (suc v) zero k i e = inr e
-mark_cases (x ∷ xs) (suc v) (suc n) k i e = elim (mark_cases xs v n k i e) [ inl h ↦ inl (ap (λ (m : ℕ). suc m) h.0, h.1) | inr h ↦ inr h ]
+-- a visit is the newest one, or an older one
+visit_cases : (visits : List (Option Visit)) (v n : ℕ) (x y : Visit) → get_or (set visits n (Some x)) v None ≡ Some y → ((v ≡ n) × (x ≡ y)) ⊎ (get_or visits v None ≡ Some y)
+visit_cases [] v n x y e = inr e
+visit_cases (z ∷ zs) zero zero x y e = inl (refl, (let is : x ≡ y = cc in is))
+visit_cases (z ∷ zs) zero (suc n) x y e = inr e
+visit_cases (z ∷ zs) (suc v) zero x y e = inr e
+visit_cases (z ∷ zs) (suc v) (suc n) x y e = elim (visit_cases zs v n x y e) [ inl h ↦ inl (ap (λ (m : ℕ). suc m) h.0, h.1) | inr h ↦ inr h ]
 
-module _ (arcs : List Arc) (units : List ℕ) (nodes : ℕ) (rows : List (Vec (Option Step) Global)) where
+-- a visited node has a visit
+visit_there : (o : Option Visit) → (o ≡ None → ⊥) → (x : Visit) × (o ≡ Some x)
+visit_there None some = absurd (some refl)
+visit_there (Some x) some = (x, refl)
+
+module _ (g : Steps Step) (parents : ℕ → Option Step) where
+  back_more : (v u : ℕ) (steps : List Step) (s : Step) → IsWalkBack g parents v steps u → parents u ≡ Some s → IsWalkBack g parents v (steps ++ s ∷ []) (g.source s)
+  back_more v u [] s back last = (ap parents back ∙ last, refl)
+  back_more v u (t ∷ steps) s back last = (back.0, back_more (g.source t) u steps s back.1 last)
+
+  back_on : (v u w : ℕ) (steps more : List Step) → IsWalkBack g parents v steps u → IsWalkBack g parents u more w → IsWalkBack g parents v (steps ++ more) w
+  back_on v u w [] more back on = subst (λ n. IsWalkBack g parents n more w) (sym back) on
+  back_on v u w (s ∷ steps) more back on = (back.0, back_on (g.source s) u w steps more back.1 on)
+
+  -- a root in fewer steps than a bound is one in fewer than a greater bound
+  pub more_few : (few more v : ℕ) → few ≤ more → HasRoot g few parents v → HasRoot g more parents v
+  more_few few more v le rooted = record { root = rooted.root; steps = rooted.steps; back = rooted.back; none = rooted.none; few = let less = rooted.few in omega arith }
+
+  -- each target of the steps is visited
+  abbrev pub AreVisited : List (Option Visit) → List Step → Type 0
+  AreVisited visits [] = Unit {0}
+  AreVisited visits (s ∷ ss) = (get_or visits (g.target s) None ≡ None → ⊥) × AreVisited visits ss
+
+  others_more : (t s : Step) (us : List Step) → TargetsOther g t us → (g.target t ≡ g.target s → ⊥) → TargetsOther g t (us ++ s ∷ [])
+  others_more t s [] others other = (other, tt)
+  others_more t s (u ∷ us) others other = (others.0, others_more t s us others.1 other)
+
+  apart_more : (visits : List (Option Visit)) (ss : List Step) (s : Step) → AreVisited visits ss → get_or visits (g.target s) None ≡ None → AreApart g ss → AreApart g (ss ++ s ∷ [])
+  apart_more visits [] s seen none apart = (tt, tt)
+  apart_more visits (t ∷ ts) s seen none apart =
+      let other = λ (e : g.target t ≡ g.target s). seen.0 (ap (λ n. get_or visits n None) e ∙ none) in
+      (others_more t s ts apart.0 other, apart_more visits ts s seen.1 none apart.1)
+
+  visited_set : (visits : List (Option Visit)) (ss : List Step) (i : ℕ) (x : Visit) → AreVisited visits ss → AreVisited (set visits i (Some x)) ss
+  visited_set visits [] i x seen = tt
+  visited_set visits (s ∷ ss) i x seen = (
+    λ none. seen.0 (still visits (g.target s) i x none),
+    visited_set visits ss i x seen.1,
+  )
+
+  visited_more : (visits : List (Option Visit)) (ss : List Step) (s : Step) → AreVisited visits ss → (get_or visits (g.target s) None ≡ None → ⊥) → AreVisited visits (ss ++ s ∷ [])
+  visited_more visits [] s seen one = (one, tt)
+  visited_more visits (t ∷ ts) s seen one = (seen.0, visited_more visits ts s seen.1 one)
+
+  apart_drop : (i : ℕ) (ss : List Step) → AreApart g ss → AreApart g (drop i ss)
+  apart_drop zero ss apart = apart
+  apart_drop (suc i) [] apart = tt
+  apart_drop (suc i) (s ∷ ss) apart = apart_drop i ss apart.1
+
+  cycle_of : (first costs : Costs) (v : ℕ) (steps : List Step) → AreLabels g first costs parents → IsWalkBack g parents v steps v → 0 < length steps → AreApart g steps → IsNegativeCycle g steps
+  cycle_of first costs v [] labels back some apart = absurd (omega arith)
+  cycle_of first costs v (s ∷ steps) labels back some apart = record {
+    node = v;
+    walk = is_walk g first costs parents labels v v (s ∷ steps) back;
+    negative = labels.negative v s steps back;
+    apart = apart;
+  }
+
+module _ (arcs : List Arc) (units : List ℕ) (nodes : ℕ) (parents : ℕ → Option Step) (start : ℕ) (old : List (Option Visit)) where
   abbrev g : Steps Step
   g = residual arcs units
 
-  pub record After (visits : List (Option ℕ)) (walk : List Step) (node left : ℕ) : Type 0 where
+  abbrev here : ℕ → Visit
+  here i = record { start = start; place = i }
+
+  -- as the walk goes: what is visited was so before or by this walk, whose visits tell their places
+  pub record State (visits : List (Option Visit)) (walk : List Step) (node : ℕ) : Type 0 where
     pub within : node < nodes
     pub sized : length visits ≡ nodes
-    pub counted : marked visits + left ≡ length rows
-    pub row : (row : Costs) × Rows g row (past rows left)
-    pub ahead : IsAhead (past rows left) node
-    pub marks : (v i : ℕ) → get_or visits v None ≡ Some i → (i < length walk) × Trail g v (drop i walk) node (past rows left)
-    pub seen : AreVisited g visits walk
+    pub counted : marked visits ≡ marked old + length walk
+    pub back : IsWalkBack g parents start walk node
+    pub visited : (v : ℕ) (x : Visit) → visit_of visits v ≡ Some x → (visit_of old v ≡ Some x) ⊎ ((x.start ≡ start) × (x.place < length walk) × IsWalkBack g parents v (drop x.place walk) node)
+    pub kept : (v : ℕ) → IsVisited old v → IsVisited visits v
+    pub begun : IsVisited visits start ⊎ (node ≡ start)
+    pub seen : AreVisited g parents visits walk
     pub apart : AreApart g walk
 
-  pub record State (visits : List (Option ℕ)) (walk : List Step) (node left : ℕ) : Type 0 where
-    pub after : After visits walk node left
-    pub new : get_or visits node None ≡ None
+  pub begin : start < nodes → length old ≡ nodes → (walk : List Step) → walk ≡ [] → State old walk start
+  begin within sized_old walk none = record {
+    within = within;
+    sized = sized_old;
+    counted = let zero_steps = ap (λ (p : List Step). length p) none in omega arith;
+    back = subst (λ (p : List Step). IsWalkBack g parents start p start) (sym none) refl;
+    visited = λ v x there. inl there;
+    kept = λ v there. there;
+    begun = inr refl;
+    seen = subst (λ (p : List Step). AreVisited g parents old p) (sym none) tt;
+    apart = subst (λ (p : List Step). AreApart g p) (sym none) tt;
+  }
 
   -- where an open step comes from a node
   source_within : AreArcs arcs nodes → (s : Step) → g.is_open s → g.source s < nodes
@@ -55,105 +133,151 @@ module _ (arcs : List Arc) (units : List ℕ) (nodes : ℕ) (rows : List (Vec (O
         | Some a ↦ λ is _. elim s.forward as (λ b. start_of (Some a) b < nodes) [ true ↦ (known s.arc a is).0 | false ↦ (known s.arc a is).1 ]
       ] refl can
 
-  -- the step is taken
-  module _ (known : AreArcs arcs nodes) (visits : List (Option ℕ)) (walk : List Step) (node k : ℕ) (s : Step) (last : row_of (slice_get rows k) node ≡ Some s) where
-    abbrev visits2 : List (Option ℕ)
-    visits2 = set visits node (Some (length walk))
+  -- a node without a visit is visited
+  module _ (visits : List (Option Visit)) (walk : List Step) (node : ℕ) (st : State visits walk node) (new : visit_of visits node ≡ None) where
+    abbrev visits2 : List (Option Visit)
+    visits2 = set visits node (Some (here (length walk)))
 
-    abbrev walk2 : List Step
-    walk2 = walk ++ s ∷ []
+    fits : node < length visits
+    fits = let h = st.within in let e = st.sized in omega arith
 
-    ahead2 : (j : ℕ) → ((row : Costs) × Rows g row (row_of (slice_get rows k) ∷ past rows j)) → IsAhead (past rows j) (g.source s)
-    ahead2 zero row = tt
-    ahead2 (suc j) row =
-        let prior = row_of (slice_get rows j) in
-        elim (prior (g.source s)) as (λ o. prior (g.source s) ≡ o → (t : Step) × (prior (g.source s) ≡ Some t)) [
-          | None ↦ λ none. absurd (earlier g row.0 (row_of (slice_get rows k)) prior (past rows j) row.1 node s last none)
-          | Some t ↦ λ is. (t, is)
-        ] refl
+    counted2 : marked visits2 ≡ marked old + length walk + 1
+    counted2 = let one = marked_set visits node (here (length walk)) fits new in let all = st.counted in omega arith
 
-    pub advanced : State visits walk node (suc k) → After visits2 walk2 (g.source s) k
-    advanced st =
-        let was = st.after in
-        let next : IsNext g was.row.1.0 was.row.0 (row_of (slice_get rows k)) = was.row.1.1 in
-        let at : g.target s ≡ node = next.ends node s last in
-        let new : get_or visits (g.target s) None ≡ None = ap (λ n. get_or visits n None) at ∙ st.new in
-        let fits : node < length visits = let h = was.within in let e = was.sized in omega arith in
-        let longer : length walk2 ≡ length walk + 1 = length-append walk (s ∷ []) in
-        record {
-          within = source_within known s (next.opened node s last);
-          sized = length-set visits node (Some (length walk)) ∙ was.sized;
-          counted = let one = marked_set visits node (length walk) fits st.new in let all = was.counted in omega arith;
-          row = (was.row.1.0, was.row.1.2);
-          ahead = ahead2 k was.row;
-          marks = λ v i mark. elim (mark_cases visits v node (length walk) i mark) [
-            | inl newest ↦ (
-              (let e = newest.1 in omega arith),
-              subst (λ n. Trail g n (drop i walk2) (g.source s) (past rows k)) (sym newest.0)
-                  (subst (λ n. Trail g node (drop n walk2) (g.source s) (past rows k)) newest.1
-                  (subst (λ p. Trail g node p (g.source s) (past rows k)) (sym (drop_at walk s))
-                  (trail_more g node node [] (row_of (slice_get rows k)) (past rows k) s (trail_none g node was.row.0 (past rows (suc k)) was.row.1) last))),
+    kept2 : (v : ℕ) → IsVisited visits v → IsVisited visits2 v
+    kept2 v there none = there (still visits v node (here (length walk)) none)
+
+    node2 : IsVisited visits2 node
+    node2 none = let some : get_or visits2 node None ≡ Some (here (length walk)) = get_or-set_same visits node (Some (here (length walk))) None fits in let no : ⊥ = no_mark (sym none ∙ some) in no
+
+    begun2 : IsVisited visits2 start
+    begun2 = elim st.begun [
+      | inl was ↦ kept2 start was
+      | inr is ↦ subst (λ n. IsVisited visits2 n) is node2
+    ]
+
+    -- one place less is left
+    pub short : (place : ℕ) → nodes - marked (set visits node (Some (here place))) < nodes - marked visits
+    short place =
+        let one = marked_set visits node (here place) fits new in
+        let most = marked_most (set visits node (Some (here place))) in
+        let same = length-set visits node (Some (here place)) in
+        let e = st.sized in
+        omega arith
+
+    -- the step is taken
+    module _ (known : AreArcs arcs nodes) (first costs : Costs) (labels : AreLabels g first costs parents) (s : Step) (last : parents node ≡ Some s) where
+      abbrev walk2 : List Step
+      walk2 = walk ++ s ∷ []
+
+      at : g.target s ≡ node
+      at = labels.ends node s last
+
+      longer : length walk2 ≡ length walk + 1
+      longer = length-append walk (s ∷ [])
+
+      pub advanced : State visits2 walk2 (g.source s)
+      advanced = record {
+        within = source_within known s (labels.opened node s last);
+        sized = length-set visits node (Some (here (length walk))) ∙ st.sized;
+        counted = let all = counted2 in let e = longer in omega arith;
+        back = back_more g parents start node walk s st.back last;
+        visited = λ v x there. elim (visit_cases visits v node (here (length walk)) x there) [
+          | inl newest ↦ inr (subst (λ (y : Visit). (y.start ≡ start) × (y.place < length walk2) × IsWalkBack g parents v (drop y.place walk2) (g.source s)) newest.1 (
+            refl,
+            (let e = longer in omega arith),
+            subst (λ n. IsWalkBack g parents n (drop (length walk) walk2) (g.source s)) (sym newest.0)
+                (subst (λ p. IsWalkBack g parents node p (g.source s)) (sym (drop_at walk s)) (last, refl)),
+          ))
+          | inr older ↦ elim (st.visited v x older) [
+            | inl was ↦ inl was
+            | inr mine ↦ inr (
+              mine.0,
+              (let h = mine.1 in let e = longer in omega arith),
+              subst (λ p. IsWalkBack g parents v p (g.source s)) (sym (drop-append-le x.place walk (s ∷ []) (let h = mine.1 in omega arith)))
+                  (back_more g parents v node (drop x.place walk) s mine.2 last),
             )
-            | inr older ↦
-                let old = was.marks v i older in (
-                  (let e = old.0 in omega arith),
-                  subst (λ p. Trail g v p (g.source s) (past rows k)) (sym (drop-append-le i walk (s ∷ []) (let e = old.0 in omega arith)))
-                      (trail_more g v node (drop i walk) (row_of (slice_get rows k)) (past rows k) s old.1 last),
-                )
+          ]
+        ];
+        kept = λ v there. kept2 v (st.kept v there);
+        begun = inl begun2;
+        seen = visited_more g parents visits2 walk s (visited_set g parents visits walk node (here (length walk)) st.seen) (subst (λ n. IsVisited visits2 n) (sym at) node2);
+        apart = apart_more g parents visits walk s st.seen (ap (λ n. visit_of visits n) at ∙ new) st.apart;
+      }
+
+    before2 : AreBefore start old → AreBefore (start + 1) visits2
+    before2 before v x there = elim (visit_cases visits v node (here (length walk)) x there) [
+      | inl newest ↦ let e = ap (λ (y : Visit). y.start) newest.1 in omega arith
+      | inr older ↦ elim (st.visited v x older) [
+        | inl was ↦ let h = before v x was in omega arith
+        | inr mine ↦ let e = mine.0 in omega arith
+      ]
+    ]
+
+    -- a node without a parent ends the walk
+    pub ended : length old ≡ nodes → AreBefore start old → parents node ≡ None → IsWalkedBack g parents start old visits2 walk None
+    ended sized_old before none = record {
+      sized = length-set visits node (Some (here (length walk))) ∙ st.sized ∙ sym sized_old;
+      before = before2 before;
+      kept = λ v there. kept2 v (st.kept v there);
+      started = begun2;
+      closed = tt;
+      rooted = λ _ were v there.
+          let x = visit_there (visit_of visits2 v) there in
+          elim (visit_cases visits v node (here (length walk)) x.0 x.1) [
+            | inl newest ↦ record { root = node; steps = []; back = newest.0; none = none; few = let all = counted2 in omega arith }
+            | inr older ↦ elim (st.visited v x.0 older) [
+              | inl was ↦ more_few g parents (marked old) (marked visits2) v (let all = counted2 in omega arith) (were v (λ no. no_mark (sym no ∙ was)))
+              | inr mine ↦ record { root = node; steps = drop x.0.place walk; back = mine.2; none = none; few = let all = counted2 in let e = length-drop x.0.place walk in omega arith }
+            ]
           ];
-          seen = visited_more g visits2 walk s (visited_set g visits walk node (length walk) was.seen)
-              (λ none. let some : get_or visits2 (g.target s) None ≡ Some (length walk) = ap (λ n. get_or visits2 n None) at ∙ get_or-set_same visits node (Some (length walk)) None fits in absurd (let no : ⊥ = no_mark (sym none ∙ some) in no));
-          apart = apart_more g visits walk s was.seen new was.apart;
-        }
+    }
 
-  -- a node that was visited closes a cycle
-  pub closed : (visits : List (Option ℕ)) (walk : List Step) (node left i : ℕ) → After visits walk node left → get_or visits node None ≡ Some i → IsNegativeCycle g (drop i walk)
-  closed visits walk node left i was mark =
-      let there = was.marks node i mark in
-      cycle_of g node (drop i walk) (past rows left) there.1 (let e = length-drop i walk in let h = there.0 in omega arith) (apart_drop g i walk was.apart)
+  -- the walk came to a visited node
+  module _ (visits : List (Option Visit)) (walk : List Step) (node : ℕ) (st : State visits walk node) (x : Visit) (there : visit_of visits node ≡ Some x) (before : AreBefore start old) where
+    begun_here : IsVisited visits start
+    begun_here = elim st.begun [
+      | inl was ↦ was
+      | inr is ↦ subst (λ n. IsVisited visits n) is (λ no. no_mark (sym no ∙ there))
+    ]
 
-  -- with no row left there are fewer rows than nodes
-  pub short : (visits : List (Option ℕ)) (walk : List Step) (node : ℕ) → State visits walk node 0 → length rows < nodes
-  short visits walk node st =
-      let was = st.after in
-      let less = marked_less visits node 0 (let h = was.within in let e = was.sized in omega arith) st.new in
-      let e = was.sized in
-      let all = was.counted in
-      omega arith
+    before_here : AreBefore (start + 1) visits
+    before_here v y is = elim (st.visited v y is) [
+      | inl was ↦ let h = before v y was in omega arith
+      | inr mine ↦ let e = mine.0 in omega arith
+    ]
 
-  abbrev none_of : Option ℕ
-  none_of = None
+    -- by this walk: it closed
+    pub closed_here : (first costs : Costs) → AreLabels g first costs parents → x.start ≡ start → IsNegativeCycle g (drop x.place walk)
+    closed_here first costs labels is = elim (st.visited node x there) [
+      | inl was ↦ let h = before node x was in absurd (omega arith)
+      | inr mine ↦ cycle_of g parents first costs node (drop x.place walk) labels mine.2 (let e = length-drop x.place walk in let h = mine.1 in omega arith) (apart_drop g parents x.place walk st.apart)
+    ]
 
-  none_marked : (n : ℕ) → marked (replicate n (none_of)) ≡ 0
-  none_marked zero = refl
-  none_marked (suc n) = none_marked n
+    -- by an earlier one: what holds of that holds of this
+    joined : (x.start ≡ start → ⊥) → AreRooted g parents old → AreRooted g parents visits
+    joined other were v came =
+        let was : visit_of old node ≡ Some x = elim (st.visited node x there) [ inl was ↦ was | inr mine ↦ absurd (other mine.0) ] in
+        let on = were node (λ no. no_mark (sym no ∙ was)) in
+        let all = st.counted in
+        let y = visit_there (visit_of visits v) came in
+        elim (st.visited v y.0 y.1) [
+          | inl older ↦ more_few g parents (marked old) (marked visits) v (omega arith) (were v (λ no. no_mark (sym no ∙ older)))
+          | inr mine ↦ record {
+            root = on.root;
+            steps = drop y.0.place walk ++ on.steps;
+            back = back_on g parents v node on.root (drop y.0.place walk) on.steps mine.2 on.back;
+            none = on.none;
+            few = let e = length-append (drop y.0.place walk) on.steps in let d = length-drop y.0.place walk in let less = on.few in omega arith;
+          }
+        ]
 
-  none_at : (n v : ℕ) → get_or (replicate n (none_of)) v None ≡ None
-  none_at zero v = refl
-  none_at (suc n) zero = refl
-  none_at (suc n) (suc v) = none_at n v
-
-  pub begun : (visits : List (Option ℕ)) (walk : List Step) (node : ℕ) → visits ≡ replicate nodes None → walk ≡ [] → node < nodes → ((row : Costs) × Rows g row (past rows (length rows))) → IsAhead (past rows (length rows)) node → State visits walk node (length rows)
-  begun visits walk node fresh none within row ahead = record {
-    after = record {
-      within = within;
-      sized = ap (λ (xs : List (Option ℕ)). length xs) fresh ∙ length-replicate nodes None;
-      counted = let no = ap (λ (xs : List (Option ℕ)). marked xs) fresh ∙ none_marked nodes in omega arith;
-      row = row;
-      ahead = ahead;
-      marks = λ v i mark. no_mark (sym (ap (λ (xs : List (Option ℕ)). get_or xs v None) fresh ∙ none_at nodes v) ∙ mark);
-      seen = subst (λ (p : List Step). AreVisited g visits p) (sym none) tt;
-      apart = subst (λ (p : List Step). AreApart g p) (sym none) tt;
-    };
-    new = ap (λ (xs : List (Option ℕ)). get_or xs node None) fresh ∙ none_at nodes node;
-  }
-
-  pub advanced_at : AreArcs arcs nodes → (visits : List (Option ℕ)) (walk walk3 : List Step) (node node3 left len : ℕ) (s : Step)
-      → walk3 ≡ walk ++ s ∷ [] → len ≡ length walk → row_of (slice_get rows (left - 1)) node ≡ Some s → node3 ≡ g.source s → 0 < left
-      → State visits walk node left → After (set visits node (Some len)) walk3 node3 (left - 1)
-  advanced_at known visits walk walk3 node node3 left len s is_walk is_len last is_node less st =
-      let is : left ≡ suc (left - 1) = omega arith in
-      let more = advanced known visits walk node (left - 1) s last (subst (λ n. State visits walk node n) is st) in
-      subst (λ n. After (set visits node (Some n)) walk3 node3 (left - 1)) (sym is_len)
-      (subst (λ p. After (set visits node (Some (length walk))) p node3 (left - 1)) (sym is_walk)
-      (subst (λ n. After (set visits node (Some (length walk))) (walk ++ s ∷ []) n (left - 1)) (sym is_node) more))
+    pub came : length old ≡ nodes → (found : Option ℕ) → IsClosedAt g walk found → (found ≡ None → x.start ≡ start → ⊥) → IsWalkedBack g parents start old visits walk found
+    came sized_old found closed other = record {
+      sized = st.sized ∙ sym sized_old;
+      before = before_here;
+      kept = st.kept;
+      started = begun_here;
+      closed = closed;
+      rooted = λ none were. joined (other none) were;
+    }

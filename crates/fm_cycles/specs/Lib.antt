@@ -2,5 +2,6 @@ pub mod Walks
 pub mod Residual
 pub mod Units
 pub mod Found
-pub mod Rows
+pub mod Labels
+pub mod Traced
 pub mod Sending

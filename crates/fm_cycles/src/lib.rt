@@ -1,11 +1,17 @@
-//! Units on arcs between numbered nodes: potentials that show them to cost least, or a cycle that makes them cheaper, and
-//! the cancelling of such cycles until none is left.
+//! Units on arcs between numbered nodes: potentials that show them to cost least, or a cycle around which they become
+//! cheaper, and the cancelling of such cycles until none is left.
+//!
+//! The search is label correcting, after Bellman, Ford and Moore, with a parent for each node and no rows: memory grows
+//! with the nodes alone. A walk back over parents that closes is a cycle of negative cost, in whatever order arcs are
+//! relaxed (Cherkassky and Goldberg, "Negative-cycle detection algorithms", 1999). Cancelling is Klein's (1967).
 #![tactic(auto)]
 
 pub mod arcs;
 pub mod cancel;
 pub mod confirming;
 pub mod improve;
-mod row;
+mod labels;
+mod lookup;
+mod queue;
 pub mod search;
 mod walk;

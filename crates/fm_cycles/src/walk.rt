@@ -1,12 +1,19 @@
-//! The walk back over the last steps of rows.
+//! The walks back over parents, and the cycles into which they run.
 
-ghost use Rattle.std.specs.Prelude.{◌≡◌, ◌<◌, length, None, IfOk, MatchOption, slice_get, slice_index_or, [], drop};
-ghost use Rattle.fm_cycles.specs.Walks.{Costs, IsNegativeCycle};
+ghost use Rattle.std.specs.Prelude.{◌≡◌, ◌<◌, length, IfOk, slice_index_or, None, [], drop};
 ghost use Rattle.fm_cycles.specs.Residual.{residual, AreArcs};
-ghost use Rattle.fm_cycles.specs.Rows.{Rows, IsAhead, past, row_of};
+ghost use Rattle.fm_cycles.specs.Labels.{parents_in, AreParents};
+ghost use Rattle.fm_cycles.specs.Traced.{AreBefore, AreCyclesOf, IsWalkedBack};
 
 use crate::arcs::{Arc, Step};
 use std::alloc::{AllocError, Global};
+
+/// A walk back came to a node: where the walk started, and how many steps it had.
+#[derive(Debug, Clone, Copy, Drop)]
+pub(crate) struct Visit {
+    pub(crate) start: usize,
+    pub(crate) place: usize,
+}
 
 // The node from which a step comes.
 fn source(arcs: &[Arc], step: Step) -> usize
@@ -19,18 +26,15 @@ fn source(arcs: &[Arc], step: Step) -> usize
     }
 }
 
-// The last step to a node in a row.
-fn last_at(rows: &[Vec<Option<Step>>], row: usize, node: usize) -> Option<Step>
-    ensures { result ≡ row_of (slice_get rows.now row) node }
+// The parent of a node.
+fn parent_at(parents: &[Option<Step>], node: usize) -> Option<Step>
+    ensures { result ≡ parents_in parents.now node }
 {
-    match rows.get(row) {
-        Some(lasts) => lasts.get(node).copied().unwrap_or(None),
-        None => None,
-    }
+    parents.get(node).copied().unwrap_or(None)
 }
 
-// The mark of a node.
-fn mark_at(visits: &[Option<usize>], node: usize) -> Option<usize>
+// The visit of a node, if a walk came there.
+fn visit_at(visits: &[Option<Visit>], node: usize) -> Option<Visit>
     ensures { result ≡ slice_index_or visits.now node None }
 {
     visits.get(node).copied().unwrap_or(None)
@@ -43,37 +47,64 @@ fn behind(alloc: Global, walk: &[Step], first: usize) -> Result<Vec<Step>, Alloc
     walk.iter().skip(first).copied().collect(alloc)
 }
 
-/// The cycle of a walk back from a node over the last steps, newest row first, if it comes to a node again. It does where
-/// there are as many rows as nodes.
-pub(crate) fn cycle_behind(
-    alloc: Global,
-    nodes: usize,
+// Walks back from a node until it comes to a visited one or there is no parent, and tells the first place of the walk that
+// belongs to a cycle, if the walk came to itself.
+fn walk_back(
     arcs: &[Arc],
     units: &[u64],
-    rows: &[Vec<Option<Step>>],
-    end: usize,
-) -> Result<Option<Vec<Step>>, AllocError>
-    requires arcs { AreArcs arcs.now nodes }
-    requires end { end < nodes }
-    requires rows { (row : Costs) × Rows (residual arcs.now units.now) row (past rows.now (length rows.now)) }
-    requires last { IsAhead (past rows.now (length rows.now)) end }
-    ensures { IfOk result (λ found. MatchOption found (length rows.now < nodes) (λ cycle. IsNegativeCycle (residual arcs.now units.now) cycle.items)) }
+    parents: &[Option<Step>],
+    start: usize,
+    visits: &mut [Option<Visit>],
+    walk: &mut Vec<Step>,
+) -> Result<Option<usize>, AllocError>
+    requires arcs { AreArcs arcs.now (length parents.now) }
+    requires start { start < length parents.now }
+    requires sized { length visits.old ≡ length parents.now }
+    requires labels { AreParents (residual arcs.now units.now) (parents_in parents.now) }
+    requires empty { walk.old.items ≡ [] }
+    requires before { AreBefore start visits.old }
+    ensures { IfOk result (IsWalkedBack (residual arcs.now units.now) (parents_in parents.now) start visits.old visits.new walk.new.items) }
 {
-    let mut visits: Vec<Option<usize>> = vec![in alloc; None; nodes]?;
-    let mut walk: Vec<Step> = Vec::new(alloc);
-    let mut node = end;
-    let mut left = rows.len();
-    while left > 0 {
-        left -= 1;
-        visits[node] = Some(walk.len());
-        let Some(step) = last_at(rows, left, node) else {
+    let mut node = start;
+    'back: loop {
+        if let Some(visit) = visit_at(visits, node) {
+            return Ok(if visit.start == start {
+                Some(visit.place)
+            } else {
+                None
+            });
+        }
+        let place = walk.len();
+        visits[node] = Some(Visit { start, place });
+        let Some(step) = parent_at(parents, node) else {
             return Ok(None);
         };
         walk.push(step)?;
         node = source(arcs, step);
-        if let Some(first) = mark_at(&visits, node) {
-            return Ok(Some(behind(alloc, &walk, first)?));
+    }
+}
+
+/// The cycles of the parents, each once: no two of them come to one node. If there is none, each walk back ends at a node
+/// without a parent. The caller must pass parents of labels. O(nodes) in time and memory. Refused if memory runs out.
+pub(crate) fn cycles_in(
+    alloc: Global,
+    arcs: &[Arc],
+    units: &[u64],
+    parents: &[Option<Step>],
+) -> Result<Vec<Vec<Step>>, AllocError>
+    requires arcs { AreArcs arcs.now (length parents.now) }
+    requires labels { AreParents (residual arcs.now units.now) (parents_in parents.now) }
+    ensures { IfOk result (λ cycles. AreCyclesOf (residual arcs.now units.now) (parents_in parents.now) (length parents.now) cycles.items) }
+{
+    let mut visits: Vec<Option<Visit>> = vec![in alloc; None; parents.len()]?;
+    let mut walk: Vec<Step> = Vec::new(alloc);
+    let mut cycles: Vec<Vec<Step>> = Vec::new(alloc);
+    for start in 0..parents.len() {
+        walk.clear();
+        if let Some(first) = walk_back(arcs, units, parents, start, &mut visits, &mut walk)? {
+            let cycle = behind(alloc, &walk, first)?;
+            cycles.push(cycle)?;
         }
     }
-    Ok(None)
+    Ok(cycles)
 }

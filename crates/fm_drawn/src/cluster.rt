@@ -39,7 +39,51 @@ fn one_of(draw: &mut Draw, count: u32) -> u32 {
     if count == 0 { 0 } else { draw.below(count) }
 }
 
+// What each task of a chain asks for, and what it saves at the first machine that it prefers: it costs 1 there, and 2 at
+// the second.
+const LINK: u32 = 1000;
+
+const CREDIT: u32 = LINK - 1;
+
+// The preference of a machine, and for one more of another.
+fn liked(near: u32, far: u32) -> Prefer {
+    let near = (MachineId::new(scattered(near)), CREDIT);
+    let far = (MachineId::new(scattered(far)), CREDIT - 1);
+    let entries = if near.0 < far.0 {
+        [near, far]
+    } else {
+        [far, near]
+    };
+    Prefer::new(&entries).unwrap_or_default()
+}
+
 impl Cluster {
+    /// A chain of so many machines of one slot, and one more behind them: a task of each prefers it and, a little less, the
+    /// next one, and one task more prefers the first two. So the least flow moves all tasks on but one.
+    pub(crate) fn chained(alloc: Global, machines: u32) -> Result<Cluster, Refusal> {
+        let sizes = Sizes {
+            jobs: 1,
+            machines: machines.saturating_add(1),
+            tasks: machines.saturating_add(1),
+            requests: 1,
+            wait: 1_000_000,
+        };
+        let mut cluster = Cluster {
+            alloc,
+            sizes,
+            known: Knowledge::empty(alloc),
+            tasks: sizes.tasks,
+            changes: 0,
+        };
+        cluster.tell_job(0, sizes.wait, sizes.wait)?;
+        for number in 0..sizes.machines {
+            cluster.tell_machine(number, 1, LINK)?;
+            let near = number.saturating_sub(1);
+            cluster.tell_task(number, 0, LINK, liked(near, near.saturating_add(1)))?;
+        }
+        Ok(cluster)
+    }
+
     /// Jobs, machines and tasks, of which every third is proposed for a machine.
     pub(crate) fn new(alloc: Global, draw: &mut Draw, sizes: Sizes) -> Result<Cluster, Refusal> {
         let mut cluster = Cluster {
@@ -72,45 +116,67 @@ impl Cluster {
         Ok(())
     }
 
-    fn add_job(&mut self, draw: &mut Draw, number: u32) -> Result<(), Refusal> {
-        let wait = one_of(draw, self.sizes.wait);
+    fn tell_job(&mut self, number: u32, wait: u32, preempt: u32) -> Result<(), Refusal> {
         self.tell(Op::Job {
             id: JobId::new(scattered(number)),
             version: 1,
             writer: 1,
             withdrawn: false,
             wait,
-            preempt: wait.saturating_add(draw.below(5000)),
+            preempt,
         })
     }
 
-    fn add_machine(&mut self, draw: &mut Draw, number: u32) -> Result<(), Refusal> {
+    fn tell_machine(&mut self, number: u32, slots: u32, nic: u32) -> Result<(), Refusal> {
         self.tell(Op::Machine {
             id: MachineId::new(scattered(number)),
             incarnation: 1,
             version: 1,
             writer: 1,
             up: true,
-            slots: draw.between(1, 20),
-            nic: draw.between(500, 20_000),
+            slots,
+            nic,
         })
+    }
+
+    fn tell_task(
+        &mut self,
+        number: u32,
+        job: u32,
+        request: u32,
+        prefer: Prefer,
+    ) -> Result<(), Refusal> {
+        self.tell(Op::Spec {
+            id: TaskId::new(scattered(number)),
+            version: 1,
+            writer: 1,
+            withdrawn: false,
+            job: JobId::new(scattered(job)),
+            request,
+            prefer,
+        })
+    }
+
+    fn add_job(&mut self, draw: &mut Draw, number: u32) -> Result<(), Refusal> {
+        let wait = one_of(draw, self.sizes.wait);
+        let preempt = wait.saturating_add(draw.below(5000));
+        self.tell_job(number, wait, preempt)
+    }
+
+    fn add_machine(&mut self, draw: &mut Draw, number: u32) -> Result<(), Refusal> {
+        let slots = draw.between(1, 20);
+        let nic = draw.between(500, 20_000);
+        self.tell_machine(number, slots, nic)
     }
 
     /// Adds a task, which waits.
     pub(crate) fn add_task(&mut self, draw: &mut Draw) -> Result<(), Refusal> {
         let number = self.tasks;
         self.tasks = self.tasks.saturating_add(1);
-        self.tell(Op::Spec {
-            id: TaskId::new(scattered(number)),
-            version: 1,
-            writer: 1,
-            withdrawn: false,
-            job: JobId::new(scattered(one_of(draw, self.sizes.jobs))),
-            request: one_of(draw, self.sizes.requests).saturating_mul(
-                1000 / self.sizes.requests.max(1),
-            ),
-            prefer: Prefer::default(),
-        })
+        let job = one_of(draw, self.sizes.jobs);
+        let step = 1000 / self.sizes.requests.max(1);
+        let request = one_of(draw, self.sizes.requests).saturating_mul(step);
+        self.tell_task(number, job, request, Prefer::default())
     }
 
     /// Proposes a machine for the task's first attempt.

@@ -1,7 +1,8 @@
 //! Clusters that are drawn, and solved. Without words: whether solving from an earlier flow costs what solving does, and how
-//! many cycles are cancelled after the start. With words, each a number of tasks: how long it takes.
+//! many cycles are cancelled after either start. With words, each a number of tasks: how long it takes.
 #![tactic(auto)]
 
+mod chains;
 mod cluster;
 mod draw;
 mod known;
@@ -24,6 +25,7 @@ fn main(rt: HostRuntime) -> Result<(), anyhow::Error> {
     if !is_timed {
         known::print(&rt, alloc)?;
         pairs::print(&rt, alloc)?;
+        chains::print(&rt, alloc)?;
     }
     Ok(())
 }

@@ -22,6 +22,7 @@ use fm_numbered::numbered::Numbered;
 use fm_numbered::unscheduled::law_unscheduled;
 use fm_policy::build::build;
 use fm_records::refusal::Refusal;
+use fm_simplex::simplex::simplex;
 use std::alloc::Global;
 
 // More cycles than are counted.
@@ -76,6 +77,19 @@ pub(crate) fn cycles_after_start(alloc: Global, network: &Network) -> Result<usi
     law_unscheduled();
     let numbered = Numbered::of(alloc, network)?;
     let units = start(alloc, &numbered)?;
+    let count = cycles(alloc, numbered.places.end, &numbered.arcs, units)?;
+    Ok(count)
+}
+
+/// What the simplex comes to on a network: how many cycles are cancelled after it, at most 1,000.
+pub(crate) fn cycles_after_simplex(alloc: Global, network: &Network) -> Result<usize, Refusal>
+    requires { IsBuilt network.now }
+{
+    network.known();
+    let numbered = Numbered::of(alloc, network)?;
+    let Some((units, _costs)) = simplex(alloc, &numbered)? else {
+        return Ok(MANY);
+    };
     let count = cycles(alloc, numbered.places.end, &numbered.arcs, units)?;
     Ok(count)
 }

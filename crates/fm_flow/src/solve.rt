@@ -1,10 +1,10 @@
 //! The solver.
 
-ghost use Rattle.std.specs.Prelude.{◌≡◌, ◌^◌, length, IfOk, IfErr, IfSome};
+ghost use Rattle.std.specs.Prelude.{◌≡◌, IfOk, IfErr, IfSome};
 ghost use Rattle.fm_certificate.specs.Built.{IsBuilt};
 ghost use Rattle.fm_certificate.specs.Flows.{units_in, IsLeast};
 ghost use Rattle.fm_certificate.specs.Certificates.{IsCertified};
-ghost use Rattle.fm_cycles.specs.Walks.{ArePotentials, AreBounded};
+ghost use Rattle.fm_cycles.specs.Walks.{ArePotentials};
 ghost use Rattle.fm_cycles.specs.Residual.{residual};
 ghost use Rattle.fm_cycles.specs.Found.{costs_in};
 ghost use Rattle.fm_numbered.specs.Numbered.{IsNumbered};
@@ -16,7 +16,6 @@ use crate::start::resume;
 use fm_certificate::flow::Flow;
 use fm_certificate::laws::law_least;
 use fm_certificate::potentials::Potentials;
-use fm_cycles::search::{Found, search};
 use fm_lattice::join::OutOfMemory;
 use fm_net::network::Network;
 use fm_numbered::improved::improved;
@@ -26,10 +25,13 @@ use fm_numbered::unscheduled::law_unscheduled;
 use fm_records::refusal::Refusal;
 use std::alloc::Global;
 
-/// A least flow of the network, and potentials that certify it. The caller owes a network that the policy can build.
-/// Refused memory and nothing else. A fast start places the tasks; then cycles of negative cost are cancelled until none is
-/// left. O(arcs log arcs), and what the start takes: some searches between requests for each class of tasks, or the pivots of a
-/// network simplex where tasks prefer machines.
+/// A least flow of the network, and potentials that certify it. The caller must pass a network that the policy can build.
+/// Refused if memory runs out, and for nothing else.
+///
+/// A fast start places the tasks; then cycles of negative cost are cancelled until none is left. O(arcs log arcs), and what
+/// the start takes: some searches between requests for each class of tasks, or the pivots of a network simplex where tasks
+/// prefer machines. If the start comes to no least flow, each search for cycles takes O(nodes * arcs) at worst. Memory
+/// O(nodes + arcs).
 pub fn solve(alloc: Global, network: &Network) -> Result<(Flow, Potentials), Refusal>
     requires built { IsBuilt network.now }
     ensures certified { IfOk result (λ found. IsCertified network.now found.0 found.1) }
@@ -42,8 +44,8 @@ pub fn solve(alloc: Global, network: &Network) -> Result<(Flow, Potentials), Ref
 }
 
 /// As `solve`, and starts with the task paths of the flow, of this network or an earlier one, that are still whole and
-/// fit; where that comes to no least flow, it starts anew. The caller owes a network that the policy can build. Refused as
-/// `solve` is. O(units) more than `solve`, and where it starts anew what the first start took.
+/// fit; if that comes to no least flow, it starts anew. The caller must pass a network that the policy can build. Refused as
+/// `solve` is. O(units) more than `solve`, and if it starts anew what the first start took.
 pub fn solve_from(
     alloc: Global,
     network: &Network,
@@ -82,7 +84,8 @@ fn resumed(
     resume(alloc, numbered, &given)
 }
 
-// The least flow that cancelling makes of the start's, and potentials that certify it. Refused memory alone.
+// The least flow that cancelling makes of the start's, and potentials that certify it. The search for cycles starts from the
+// start's numbers, so that it only confirms them if they are potentials.
 fn anew(
     alloc: Global,
     network: &Network,
@@ -97,30 +100,7 @@ fn anew(
     law_unscheduled();
     law_least();
     let (first, costs) = first_flow(alloc, numbered)?;
-    let (units, values) = least(alloc, numbered, first, costs)?;
+    let (units, values) = improved(alloc, numbered, first, costs)?;
     let found = certified(alloc, network, numbered, &units, &values)?;
     Ok(found)
-}
-
-// The flow, or one that cancelling makes of it, such that no cycle makes it cheaper, and potentials that show it. It is
-// searched once where the numbers are its potentials.
-fn least(
-    alloc: Global,
-    numbered: &Numbered,
-    units: Vec<u64>,
-    first: Vec<i128>,
-) -> Result<(Vec<u64>, Vec<i128>), OutOfMemory>
-    requires sized { length first.items ≡ numbered.now.places.end }
-    requires small { AreBounded (2 ^ 64) (costs_in first.items) }
-    requires flow { IsFlowOf numbered.now.places numbered.now.arcs.items units.items }
-    ensures flow { IfOk result (λ r. IsFlowOf numbered.now.places numbered.now.arcs.items r.0.items) }
-    ensures potentials { IfOk result (λ r. ArePotentials (residual numbered.now.arcs.items r.0.items) (costs_in r.1.items)) }
-{
-    match search(alloc, numbered.places.end, &numbered.arcs, &units, first)? {
-        Found::Potentials(potentials) => Ok((units, potentials)),
-        Found::Cycle(_) => {
-            let cancelled = improved(alloc, numbered, units)?;
-            Ok(cancelled)
-        }
-    }
 }

@@ -10,8 +10,8 @@ use fm_numbered::places::Kind;
 use fm_numbered::sums::at;
 use std::alloc::Global;
 
-/// The contracted network, with units that send each supply to the sink over links that hang its nodes on a tree. Its nodes
-/// are the sink, which is 0, then requests, machines and lone tasks.
+/// The contracted network, with units that send each supply straight to the sink, over the links that hang its nodes there.
+/// Its nodes are the sink, which is 0, then requests, machines and lone tasks.
 #[derive(Debug, Drop)]
 pub(crate) struct Contracted {
     pub(crate) nodes: usize,
@@ -21,9 +21,8 @@ pub(crate) struct Contracted {
     pub(crate) origins: Vec<Origin>,
     /// How many links stand before the artificial ones.
     pub(crate) own: usize,
-    /// The links that hang nodes on the sink, and those that hang nodes on requests.
+    /// The links that hang each node but the sink on the sink.
     pub(crate) trunks: Vec<usize>,
-    pub(crate) branches: Vec<usize>,
 }
 
 // A link, what its units stand for, and whether it hangs its node on the tree.
@@ -74,10 +73,9 @@ fn dearest(sketches: &[Sketch], nodes: usize) -> i64 {
     most.saturating_mul(nodes).saturating_add(1)
 }
 
-// So many links apart are neighbours in mixed order: the root of their count.
-fn stride_of(links: usize) -> usize {
-    links.isqrt().max(10)
-}
+// So many links apart are neighbours in mixed order: the root of their count, and this at least, so that few links are
+// mixed too.
+const LEAST_STRIDE: usize = 10;
 
 impl<'a> Sketches<'a> {
     // No links yet, and no supply.
@@ -142,18 +140,14 @@ impl<'a> Sketches<'a> {
         self.add(link, Origin::Arc(number), hangs)
     }
 
-    // Adds the links of a lone task's arcs, and sends the task to its request.
+    // Adds the links of a lone task's arcs, and leaves the task to its job: over that link alone, nothing bounds its units.
     fn add_loner(&mut self, node: usize, loner: &Loner) -> Result<(), OutOfMemory> {
         for number in loner.first..loner.end {
             if let Some(arc) = self.numbered.arcs.get(number) {
-                let hangs = matches!(self.numbered.places.kind(arc.to), Kind::Request(_));
-                let to = node_of(self.numbered, arc.to);
-                if hangs {
-                    self.supply(to, 1);
-                }
+                let hangs = matches!(self.numbered.places.kind(arc.to), Kind::Unscheduled(_));
                 let link = Link {
                     from: node,
-                    to,
+                    to: node_of(self.numbered, arc.to),
                     cost: i64::from(arc.cost),
                     capacity: AMPLE,
                     units: if hangs { 1 } else { 0 },
@@ -198,10 +192,9 @@ impl<'a> Sketches<'a> {
             links: Vec::with_capacity(alloc, sketches.len())?,
             origins: Vec::with_capacity(alloc, sketches.len())?,
             own: sketches.len(),
-            trunks: Vec::new(alloc),
-            branches: Vec::new(alloc),
+            trunks: Vec::with_capacity(alloc, nodes)?,
         };
-        let stride = stride_of(sketches.len());
+        let stride = sketches.len().isqrt().max(LEAST_STRIDE);
         for first in 0..stride {
             for sketch in sketches.iter().skip(first).step_by(stride) {
                 contracted.push(sketch)?;
@@ -216,11 +209,7 @@ impl Contracted {
     // Adds a link behind the others.
     fn push(&mut self, sketch: &Sketch) -> Result<(), OutOfMemory> {
         if sketch.hangs {
-            if sketch.link.to == 0 {
-                self.trunks.push(self.links.len())?;
-            } else {
-                self.branches.push(self.links.len())?;
-            }
+            self.trunks.push(self.links.len())?;
         }
         self.links.push(sketch.link)?;
         self.origins.push(sketch.origin)?;

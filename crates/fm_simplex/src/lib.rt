@@ -4,8 +4,10 @@
 
 mod alike;
 mod contracted;
+mod incidence;
 mod link;
 mod pivots;
+mod pricing;
 pub mod simplex;
 mod spread;
 mod tree;

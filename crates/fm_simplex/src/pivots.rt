@@ -1,16 +1,21 @@
 //! Pivots: a link that pays takes the place of one of the tree, until none pays.
 
 use crate::contracted::Contracted;
-use crate::link::Link;
+use crate::link::{Link, Origin};
+use crate::pricing::Pricing;
 use crate::tree::Tree;
 use fm_lattice::join::OutOfMemory;
 use std::alloc::Global;
+
+// On its way up a pivot looks at so many links whether they are empty, before it looks at the whole cycle.
+const PROBES: usize = 16;
 
 /// The simplex in hand.
 #[derive(Debug, Drop)]
 pub(crate) struct Pivots {
     pub(crate) links: Vec<Link>,
     pub(crate) tree: Tree,
+    pricing: Pricing,
 }
 
 // The cycle that a link closes with the tree: units go over the link in its direction or against it, into the end.
@@ -26,35 +31,36 @@ struct Cycle {
     join: usize,
 }
 
-// What sending units over the link where it has room would save: 0 where nothing.
-fn saving(link: &Link, reduced: i64) -> i64 {
-    if reduced < 0 && link.units < link.capacity || reduced > 0 && link.units > 0 {
-        reduced.saturating_abs()
+// Where units that go over the link come from, and where they go.
+fn ends_of(link: &Link, forward: bool) -> (usize, usize) {
+    if forward {
+        (link.from, link.to)
     } else {
-        0
+        (link.to, link.from)
     }
 }
 
 impl Pivots {
-    /// The first tree of the contracted network.
+    /// The first tree of the contracted network, and its first pivots: each node takes the best link out of it, lone tasks
+    /// before the others.
     pub(crate) fn new(alloc: Global, contracted: &Contracted) -> Result<Self, OutOfMemory> {
-        let tree = Tree::new(alloc, contracted)?;
-        let links = Vec::from_slice(alloc, &contracted.links)?;
-        Ok(Pivots { links, tree })
-    }
-
-    // The link of these that pays most, if one pays.
-    fn best(&self, first: usize, end: usize) -> Option<usize> {
-        let mut most = 0i64;
-        let mut best = None;
-        for (place, link) in self.links.get(first..end).unwrap_or(&[]).iter().enumerate() {
-            let saved = saving(link, self.tree.reduced(link));
-            if saved > most {
-                most = saved;
-                best = Some(first.saturating_add(place));
+        let Contracted {
+            nodes,
+            links,
+            own,
+            ..
+        } = contracted;
+        let mut pivots = Pivots {
+            links: Vec::from_slice(alloc, links)?,
+            tree: Tree::new(alloc, contracted)?,
+            pricing: Pricing::new(alloc, links, *own, *nodes)?,
+        };
+        for node in (1..*nodes).rev() {
+            if let Some(number) = pivots.pricing.leaving(&pivots.links, &pivots.tree, node) {
+                pivots.pivot(number)?;
             }
         }
-        best
+        Ok(pivots)
     }
 
     // How many units more go over the link between a node and its parent.
@@ -72,14 +78,28 @@ impl Pivots {
         }
     }
 
+    // The first node on the way up from where the cycle begins whose link takes no unit down, if it is near and the link is
+    // on the cycle: the cycle's end does not hang below it. Then no unit goes round, and this link leaves the tree. The way
+    // up from the cycle's end needs no look, since in this tree a unit can go up from each node.
+    fn stuck(&self, begin: usize, end: usize) -> Option<usize> {
+        let mut node = begin;
+        for _ in 0..PROBES {
+            if node == 0 {
+                return None;
+            }
+            if self.room(node, false) == 0 {
+                let is_on_cycle = !self.tree.hangs_below(end, node);
+                return is_on_cycle.then_some(node);
+            }
+            node = self.tree.knot(node).parent;
+        }
+        None
+    }
+
     // The cycle that a link closes. Of links that fill up at once, the last one on the way round from the join goes, so that
     // no pivot comes back.
     fn cycle(&self, link: &Link, forward: bool) -> Cycle {
-        let (begin, end) = if forward {
-            (link.from, link.to)
-        } else {
-            (link.to, link.from)
-        };
+        let (begin, end) = ends_of(link, forward);
         let mut cycle = Cycle {
             begin,
             end,
@@ -132,6 +152,10 @@ impl Pivots {
             return Ok(());
         };
         let forward = self.tree.reduced(&link) < 0;
+        let (begin, end) = ends_of(&link, forward);
+        if let Some(last) = self.stuck(begin, end) {
+            return self.tree.turn(begin, last, end, number, &link);
+        }
         let cycle = self.cycle(&link, forward);
         if cycle.units > 0 {
             if let Some(there) = self.links.get_mut(number) {
@@ -147,25 +171,46 @@ impl Pivots {
         }
     }
 
-    /// Pivots until none of the links up to the end pays, or the count of turns is up. Each turn looks at a block of them.
-    pub(crate) fn run(&mut self, end: usize, turns: usize) -> Result<(), OutOfMemory> {
-        let block = end.isqrt().max(20);
-        let mut first = 0usize;
-        let mut clean = 0usize;
-        for _ in 0..turns {
-            if clean >= end {
+    /// Pivots until no link pays, or so many times.
+    pub(crate) fn run(&mut self, most: usize) -> Result<(), OutOfMemory> {
+        for _ in 0..most {
+            let Some(number) = self.pricing.next(&self.links, &self.tree) else {
                 break;
-            }
-            let behind = first.saturating_add(block).min(end);
-            match self.best(first, behind) {
-                Some(number) => {
-                    self.pivot(number)?;
-                    clean = 0;
-                }
-                None => clean = clean.saturating_add(behind.saturating_sub(first)),
-            }
-            first = if behind < end { behind } else { 0 };
+            };
+            self.pivot(number)?;
         }
         Ok(())
+    }
+
+    // Leaves units of a node to the jobs of its tasks, as many as there are links for, and answers the others.
+    fn leave(&mut self, origins: &[Origin], node: usize, units: u64) -> u64 {
+        let mut rest = units;
+        for number in self.pricing.around(node) {
+            if let (Some(link), Some(Origin::Class(_))) = (
+                self.links.get_mut(*number),
+                origins.get(*number),
+            ) {
+                let more = link.room(true).min(rest);
+                link.shift(true, more);
+                rest = rest.saturating_sub(more);
+            }
+        }
+        rest
+    }
+
+    /// Leaves to their jobs the tasks whose units still go over artificial links. Where no link pays there are none; where
+    /// there are some, they are of the node's own tasks, since a way over such a link is dearer than any other.
+    pub(crate) fn settle(&mut self, own: usize, origins: &[Origin]) {
+        for number in own..self.links.len() {
+            let Some(Link { from, units, .. }) = self.links.get(number).copied() else {
+                return;
+            };
+            if units > 0 {
+                let rest = self.leave(origins, from, units);
+                if let Some(link) = self.links.get_mut(number) {
+                    link.units = rest;
+                }
+            }
+        }
     }
 }

@@ -3,6 +3,7 @@
 use crate::alike::{Alike, Choice};
 use crate::contracted::node_of;
 use crate::link::{Link, Origin};
+use crate::tree::Tree;
 use fm_lattice::join::OutOfMemory;
 use fm_numbered::numbered::Numbered;
 use fm_numbered::places::Kind;
@@ -69,16 +70,16 @@ pub(crate) fn spread(
     Ok(units)
 }
 
-/// What a unit costs from each node that is no task to the sink, by the potentials of the contracted network; 0 for tasks.
+/// What a unit costs from each node that is no task to the sink, by the potentials of the contracted network's tree; 0 for
+/// tasks.
 pub(crate) fn costs(
     alloc: Global,
     numbered: &Numbered,
-    potentials: &[i64],
+    tree: &Tree,
 ) -> Result<Vec<i64>, OutOfMemory> {
     let mut costs = vec![in alloc; 0i64; numbered.places.end]?;
     for (place, cost) in costs.iter_mut().enumerate() {
-        let potential = potentials.get(node_of(numbered, place)).copied();
-        *cost = 0i64.saturating_sub(potential.unwrap_or(0));
+        *cost = 0i64.saturating_sub(tree.potential(node_of(numbered, place)));
     }
     Ok(costs)
 }

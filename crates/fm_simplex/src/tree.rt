@@ -5,13 +5,15 @@ use crate::link::Link;
 use fm_lattice::join::OutOfMemory;
 use std::alloc::Global;
 
-/// How a node hangs on the tree. The sink, 0, is the root and nobody's child, so 0 stands for no child and no sibling too.
+/// A node of the tree. The sink, 0, is the root and nobody's child, so 0 stands for no child and no sibling too.
 #[derive(Debug, Clone, Copy, PartialEq, Eq, Drop)]
 pub(crate) struct Knot {
     pub(crate) parent: usize,
     /// The link between the node and its parent.
     pub(crate) link: usize,
     pub(crate) depth: usize,
+    /// With the potentials of its ends a link of the tree costs nothing.
+    pub(crate) potential: i64,
     /// The node's first child, and its siblings.
     child: usize,
     next: usize,
@@ -22,10 +24,8 @@ pub(crate) struct Knot {
 #[derive(Debug, Drop)]
 pub(crate) struct Tree {
     pub(crate) knots: Vec<Knot>,
-    /// With the potentials of its ends a link of the tree costs nothing.
-    pub(crate) potentials: Vec<i64>,
-    /// The nodes whose children are still to follow them, in one walk down the tree.
-    below: Vec<usize>,
+    /// The nodes that moved when a part of the tree was last hung elsewhere: each stands behind its parent.
+    pub(crate) moved: Vec<usize>,
 }
 
 // A node that hangs on nothing.
@@ -33,6 +33,7 @@ const LOOSE: Knot = Knot {
     parent: 0,
     link: 0,
     depth: 0,
+    potential: 0,
     child: 0,
     next: 0,
     previous: 0,
@@ -43,13 +44,15 @@ impl Tree {
     pub(crate) fn new(alloc: Global, contracted: &Contracted) -> Result<Self, OutOfMemory> {
         let mut tree = Tree {
             knots: vec![in alloc; LOOSE; contracted.nodes]?,
-            potentials: vec![in alloc; 0i64; contracted.nodes]?,
-            below: Vec::new(alloc),
+            moved: Vec::new(alloc),
         };
-        for number in contracted.trunks.iter().chain(contracted.branches.iter()) {
+        for number in contracted.trunks.iter() {
             if let Some(link) = contracted.links.get(*number) {
                 tree.hang(link.from, link.to, *number);
-                tree.put_potential(link.from, tree.over(link, link.from));
+                let potential = tree.over(link, link.from);
+                if let Some(knot) = tree.knots.get_mut(link.from) {
+                    knot.potential = potential;
+                }
             }
         }
         Ok(tree)
@@ -62,7 +65,10 @@ impl Tree {
 
     /// The potential of a node.
     pub(crate) fn potential(&self, node: usize) -> i64 {
-        self.potentials.get(node).copied().unwrap_or(0)
+        match self.knots.get(node) {
+            Some(knot) => knot.potential,
+            None => 0,
+        }
     }
 
     /// What a link costs with the potentials of its ends.
@@ -78,13 +84,6 @@ impl Tree {
             self.potential(link.to).saturating_sub(link.cost)
         } else {
             self.potential(link.from).saturating_add(link.cost)
-        }
-    }
-
-    // Sets the potential of a node.
-    fn put_potential(&mut self, node: usize, potential: i64) {
-        if let Some(there) = self.potentials.get_mut(node) {
-            *there = potential;
         }
     }
 
@@ -121,8 +120,48 @@ impl Tree {
         }
     }
 
+    // The node behind this one in a walk over all that hangs below the top, each node before its children; the top at the end.
+    fn next_below(&self, node: usize, top: usize) -> usize {
+        let child = self.knot(node).child;
+        if child > 0 {
+            return child;
+        }
+        let mut node = node;
+        for _ in 0..self.knots.len() {
+            let knot = self.knot(node);
+            if node == top {
+                return top;
+            }
+            if knot.next > 0 {
+                return knot.next;
+            }
+            node = knot.parent;
+        }
+        top
+    }
+
+    /// Whether a node is the top or hangs below it. Goes up from the node and over what hangs below the top by turns, until
+    /// either way ends: O(the shorter one).
+    pub(crate) fn hangs_below(&self, node: usize, top: usize) -> bool {
+        let depth = self.knot(top).depth;
+        let mut up = node;
+        let mut down = top;
+        for _ in 0..self.knots.len() {
+            let knot = self.knot(up);
+            if knot.depth <= depth {
+                return up == top;
+            }
+            down = self.next_below(down, top);
+            if down == top {
+                return false;
+            }
+            up = knot.parent;
+        }
+        false
+    }
+
     /// Hangs a node on another by the link, and turns the way from it up to the last node round, which hung on the tree's
-    /// other part before. The potentials of all below follow.
+    /// other part before. The potentials of all below follow. O(depth of what is turned, and the nodes that move).
     pub(crate) fn turn(
         &mut self,
         node: usize,
@@ -146,14 +185,13 @@ impl Tree {
         self.shift(node, shift)
     }
 
-    // Adds to the potentials of a node and all below it, and counts their depths anew.
+    // Adds to the potentials of a node and all below it, counts their depths anew, and lists them as moved.
     fn shift(&mut self, node: usize, by: i64) -> Result<(), OutOfMemory> {
-        let depth = self.knot(self.knot(node).parent).depth;
-        self.lift(node, depth.saturating_add(1), by);
-        self.below.clear();
-        self.below.push(node)?;
-        for _ in 0..self.knots.len() {
-            let Some(next) = self.below.pop() else {
+        self.moved.clear();
+        self.lift(node, by);
+        self.moved.push(node)?;
+        for place in 0..self.knots.len() {
+            let Some(next) = self.moved.get(place).copied() else {
                 break;
             };
             self.shift_children(next, by)?;
@@ -161,35 +199,29 @@ impl Tree {
         Ok(())
     }
 
-    // Adds to the potentials of a node's children, and leaves those that have children to be gone on with.
+    // Adds to the potentials of a node's children, and lists them.
     fn shift_children(&mut self, node: usize, by: i64) -> Result<(), OutOfMemory> {
-        let parent = self.knot(node);
-        let depth = parent.depth.saturating_add(1);
-        let mut child = parent.child;
+        let mut child = self.knot(node).child;
         for _ in 0..self.knots.len() {
             if child == 0 {
                 break;
             }
-            let knot = self.lift(child, depth, by);
-            if knot.child > 0 {
-                self.below.push(child)?;
-            }
-            child = knot.next;
+            self.moved.push(child)?;
+            child = self.lift(child, by);
         }
         Ok(())
     }
 
-    // Sets the depth of a node, adds to its potential, and answers how it hangs.
-    fn lift(&mut self, node: usize, depth: usize, by: i64) -> Knot {
-        if let Some(potential) = self.potentials.get_mut(node) {
-            *potential = potential.saturating_add(by);
-        }
+    // Counts the depth of a node anew, adds to its potential, and answers its next sibling.
+    fn lift(&mut self, node: usize, by: i64) -> usize {
+        let depth = self.knot(self.knot(node).parent).depth.saturating_add(1);
         match self.knots.get_mut(node) {
             Some(knot) => {
                 knot.depth = depth;
-                *knot
+                knot.potential = knot.potential.saturating_add(by);
+                knot.next
             }
-            None => LOOSE,
+            None => 0,
         }
     }
 }

@@ -23,7 +23,7 @@ use fm_numbered::unscheduled::unscheduled;
 use fm_policy::build::build;
 use fm_records::ids::{JobId, MachineId, TaskId};
 use fm_records::refusal::Refusal;
-use fm_simplex::simplex::simplex;
+use fm_simplex::simplex::{simplex, simplex_within};
 use std::alloc::Global;
 use std::test::Fail;
 
@@ -115,7 +115,8 @@ fn cancelled(alloc: Global, network: &Network) -> Result<Option<u128>, OutOfMemo
     if !is_feasible(alloc, &numbered, &units)? {
         return Ok(None);
     }
-    let (units, _) = improved(alloc, &numbered, units)?;
+    let first = vec![in alloc; 0i128; numbered.places.end]?;
+    let (units, _) = improved(alloc, &numbered, units, first)?;
     Ok(Some(total(&numbered, &units)))
 }
 
@@ -335,6 +336,61 @@ fn the_simplex_ends_at_a_least_flow(rt: HostRuntime) {
     assert_eq!(rt; pivoted_on(rt.alloc(), &moved_aside()), Ok(Some(330)));
     for seed in 1..=8u64 {
         assert_eq!(rt; is_pivoted(rt.alloc(), seed), Ok(true));
+    }
+}
+
+// A chain of so many machines of one slot, the last beside them, and ids in another order: a task of each prefers it and, for one
+// more, the next one, and one task more prefers the first.
+fn chained(alloc: Global, machines: u16) -> Result<Network, OutOfMemory> {
+    let mut network = Network::new(alloc)?;
+    let end = u128::from(machines) + 1;
+    lay(&mut network, &job(1, 1000))?;
+    for number in 0..end {
+        let id = number.wrapping_mul(23) % end;
+        lay(&mut network, &machine(id, 1))?;
+        lay(&mut network, &room(500, id, 1, 0))?;
+    }
+    for number in 0..end {
+        let id = number.wrapping_mul(17) % end;
+        lay(&mut network, &waits(id, 1, 9000))?;
+        lay(&mut network, &asks(id, 500))?;
+        let first = number.saturating_sub(1);
+        lay(&mut network, &goes(id, first.wrapping_mul(23) % end, 1))?;
+        if number > 0 {
+            lay(&mut network, &goes(id, number.wrapping_mul(23) % end, 2))?;
+        }
+    }
+    Ok(network)
+}
+
+// What the flow costs that the simplex ends at on a chain, where it is a least flow.
+fn pivoted_chain(alloc: Global, machines: u16) -> Result<Option<u128>, OutOfMemory> {
+    let network = chained(alloc, machines)?;
+    pivoted(alloc, &network)
+}
+
+#[test]
+fn chains_of_preferences_are_moved_on(rt: HostRuntime) {
+    assert_eq!(rt; pivoted_chain(rt.alloc(), 1), Ok(Some(3)));
+    assert_eq!(rt; pivoted_chain(rt.alloc(), 40), Ok(Some(81)));
+}
+
+// Whether the simplex hands out a flow however early it is stopped.
+fn is_stopped(alloc: Global, seed: u64) -> Result<bool, OutOfMemory> {
+    let network = drawn_preferring(alloc, seed, 8, 40)?;
+    let numbered = Numbered::of(alloc, &network)?;
+    for pivots in 0..30 {
+        if simplex_within(alloc, &numbered, pivots)?.is_none() {
+            return Ok(false);
+        }
+    }
+    Ok(true)
+}
+
+#[test]
+fn a_simplex_that_is_stopped_hands_out_a_flow(rt: HostRuntime) {
+    for seed in 1..=8u64 {
+        assert_eq!(rt; is_stopped(rt.alloc(), seed), Ok(true));
     }
 }
 
