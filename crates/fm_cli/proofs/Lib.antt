@@ -1,6 +1,4 @@
-pub mod Solving
 pub mod Rounds
 pub mod Opening
 pub mod Coming
-pub mod Asking
-pub mod Serving
+pub mod Answering

@@ -3,12 +3,7 @@ use Rattle.std.proofs.Common.{◌≡◌, ◌⊎◌, ℕ, Option, Some, None, Res
 use Rattle.fm_records.specs.declared.refusal.Refusal.{Refusal}
 use Rattle.fm_records.specs.declared.refusal.Refusal.TheVariants.{OutOfMemory, NoCoordinator}
 use Rattle.fm_records.specs.Options.{or_else}
-use Rattle.fm_records.specs.Table.{Table}
-use Rattle.fm_net.specs.Net.{Net}
-use Rattle.fm_net.specs.Network.{net_of}
-use Rattle.fm_flow.specs.Flows.{Units, IsLeast}
 use Rattle.fm_round.specs.declared.parts.Plan.{Plan}
-use Rattle.fm_round.specs.Planned.{units_over, planned}
 use Rattle.fm_coord.specs.declared.view.View.{View}
 use Rattle.fm_coord.specs.Events.{Viewed}
 use Rattle.fm_coord.specs.States.{State}
@@ -19,11 +14,6 @@ use Rattle.fm_world.proofs.Places.{Stood, stood, absent}
 use Rattle.fm_world.proofs.Runs.{if_err}
 use Rattle.fm_round.specs.Schedules.{IsPlanOf}
 use Rattle.fm_cli.specs.Running.{step_at, IsPlanAt, Takes, Rounds, StopsAfterView}
-
--- the plan of a least flow of the network of one table is one of the same table
-pub plan_is : (k l : Table) (net : Net) (units : Units) (plan : Plan) → l ≡ k → net ≡ net_of k → IsLeast net units → plan ≡ planned (units_over net units) l → IsPlanOf k plan
-plan_is k l net units plan same is least made =
-    record { units = units; least = subst (λ n. IsLeast n units) is least; planned = made ∙ (λ i. planned (units_over (is i) units) (same i)) }
 
 -- where nothing is shown of a view there is no coordinator, and what is shown of one is what it knows
 nothing_shown : (o : Option State) → None ≡ shown o world.View → o ≡ None

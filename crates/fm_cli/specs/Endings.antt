@@ -2,8 +2,8 @@
 use Rattle.std.specs.Prelude.{ℕ, string_bytes, List, [], ◌∷◌, cond, Option, Some, None, Result, Ok, Err}
 use Rattle.fm_records.specs.declared.refusal.Refusal.TheVariants.{NoCoordinator}
 use Rattle.fm_cli.specs.declared.fault.Fault.{Fault}
-use Rattle.fm_cli.specs.declared.serve.Ending.{Ending}
-use Rattle.fm_cli.specs.declared.serve.Ending.TheVariants.{Done, Differ, Wrong, Stopped}
+use Rattle.fm_cli.specs.declared.ending.Ending.{Ending}
+use Rattle.fm_cli.specs.declared.ending.Ending.TheVariants.{Done, Differ, Wrong, Stopped}
 use Rattle.fm_cli.specs.Faults.{fault_of, status_of, fault_text}
 use Rattle.fm_input.specs.Script.{is_listed}
 
@@ -22,7 +22,7 @@ ending_text (Wrong text) = string_bytes text
 ending_text (Stopped fault) = fault_text fault
 
 -- the coordinator that is asked: the one named, where it is listed, and the first listed where none is named
-abbrev pub asked_of : List ℕ → Option ℕ → Result ℕ Fault
-asked_of listed (Some number) = cond (is_listed listed number) (Ok number) (Err (fault_of NoCoordinator))
-asked_of [] None = Err (fault_of NoCoordinator)
-asked_of (first ∷ others) None = Ok first
+abbrev pub coordinator_asked : List ℕ → Option ℕ → Result ℕ Fault
+coordinator_asked listed (Some number) = cond (is_listed listed number) (Ok number) (Err (fault_of NoCoordinator))
+coordinator_asked [] None = Err (fault_of NoCoordinator)
+coordinator_asked (first ∷ others) None = Ok first

@@ -1,5 +1,5 @@
 -- The statuses and texts with which the program stops (this project's profile).
-use Rattle.std.specs.Prelude.{ℕ, ◌==◌, List, ◌++◌, Bool, true, false, cond, codes, decimal, Option, Some, None}
+use Rattle.std.specs.Prelude.{ℕ, ◌==◌, List, ◌++◌, cond, codes, decimal, Option, Some, None}
 use Rattle.fm_records.specs.declared.refusal.Refusal.{Refusal}
 use Rattle.fm_records.specs.declared.refusal.Refusal.TheVariants as refusal
 use Rattle.fm_records.specs.Refusals.{number_of}
@@ -20,14 +20,6 @@ status_of (refusal.NotMine seat) = 5
 status_of refusal.WriteFault = 6
 status_of refusal.Uncertified = 7
 status_of _ = 3
-
--- what a fault of writing is where memory alone is written to
-abbrev pub is_write_fault : Refusal → Bool
-is_write_fault refusal.WriteFault = true
-is_write_fault _ = false
-
-abbrev pub in_memory_of : Fault → Fault
-in_memory_of f = cond (is_write_fault f.refusal) (fault_of refusal.OutOfMemory) f
 
 -- the line that says what was refused, and where
 abbrev pub step_text : Option ℕ → List ℕ

@@ -1,9 +1,8 @@
 pub mod Faults
-pub mod Running
-pub mod Winners
-pub mod Output
 pub mod Endings
-pub mod Unpacked
-pub mod Refused
+pub mod Running
 pub mod Fleets
+pub mod Refused
 pub mod Answers
+pub mod Responses
+pub mod Served

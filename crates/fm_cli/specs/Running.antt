@@ -1,5 +1,5 @@
 -- What the steps of a script make of a world, and why one is refused (this project's profile).
-use Rattle.std.specs.Prelude.{◌≡◌, ◌⊎◌, ℕ, ◌+◌, List, [], ◌∷◌, map, take, slice_get, Some, None}
+use Rattle.std.specs.Prelude.{◌≡◌, ◌⊎◌, ℕ, ◌+◌, List, [], ◌∷◌, map, take, slice_get, Some, None, Result, OnOk, IfErr}
 use Rattle.fm_records.specs.declared.refusal.Refusal.{Refusal}
 use Rattle.fm_records.specs.declared.refusal.Refusal.TheVariants.{OutOfMemory}
 use Rattle.fm_records.specs.Know.{know}
@@ -66,6 +66,18 @@ Acts w at a v = Takes w (step_at at (asked a)) v
 abbrev pub Come : WorldOfSets → List Step → WorldOfSets → Type 0
 Come w [] v = w ≡ v
 Come w (s ∷ ss) v = (u : WorldOfSets) × Acts w s.at s.act u × Come u ss v
+
+-- of a call on a world that answers ok: whatever world of sets its coordinators stood for, they then stand for one that is made of it so
+abbrev pub Makes : {T E : Type 0} → Result T E → Kept → Kept → (WorldOfSets → WorldOfSets → Type 0) → Type 0
+Makes r old new Made = (w : WorldOfSets) → WorldStandsFor old w → OnOk r ((v : WorldOfSets) × Made w v × WorldStandsFor new v)
+
+-- of a call on a world that is refused: why, for whatever world of sets its coordinators stood for
+abbrev pub Fails : {T E : Type 0} → Result T E → Kept → (WorldOfSets → E → Type 0) → Type 0
+Fails r old Why = (w : WorldOfSets) → WorldStandsFor old w → IfErr r (Why w)
+
+-- the steps of the script came to a world of which this holds
+abbrev pub After : List ℕ → List Step → (WorldOfSets → Type 0) → Type 0
+After listed steps Holds = (w : WorldOfSets) × Come (opened listed) steps w × Holds w
 
 -- after its view a round is refused: memory was wanted for a plan, or the commit is
 pub record StopsAfterView (w : WorldOfSets) (at : ℕ) (refusal : Refusal) : Type 0 where

@@ -1,58 +1,56 @@
-//! What a command answers to a text, made whole in memory.
+//! What a command answers to a text.
 
-ghost use Rattle.std.specs.Prelude.{◌≡◌, ℕ, List, Option, Some, Ok, IfOk, IfErr};
+ghost use Rattle.std.specs.Prelude.{◌≡◌, ◌⊎◌, cond, Ok, IfOk, IfErr, Some};
 ghost use Rattle.fm_coord.specs.Numbers.{AreDistinct};
-ghost use Rattle.fm_input.specs.declared.words.Command.TheVariants as command;
-ghost use Rattle.fm_input.specs.declared.words.Question.TheVariants as asks;
-ghost use Rattle.fm_cli.specs.declared.serve.Ending.TheVariants as ending;
+ghost use Rattle.fm_ask.specs.Queries.{ForEachWorld};
 ghost use Rattle.fm_input.specs.Texts.{Spells};
-ghost use Rattle.fm_cli.specs.Answers.{IsUnread, AsksOf, Wants, IsRefused};
-ghost use Rattle.fm_cli.specs.Endings.{asked_of};
-ghost use Rattle.fm_cli.specs.Faults.{in_memory_of};
+ghost use Rattle.fm_records.specs.declared.refusal.Refusal.TheVariants as refused;
+ghost use Rattle.fm_words.specs.Telling.{asked_of};
+ghost use Rattle.fm_words.specs.Telling as told;
+ghost use Rattle.fm_cli.specs.declared.ending.Ending.TheVariants as ending;
+ghost use Rattle.fm_cli.specs.Answers.{IsNoScript, AnswersIn, LacksIn, IsOfScript, IsStopped, Wants, IsRefused, query_at, query_of};
+ghost use Rattle.fm_cli.specs.Endings.{coordinator_asked};
+ghost use Rattle.fm_cli.specs.Faults.{fault_of};
 
+use crate::ending::Ending;
 use crate::fault::Fault;
-use crate::output::{agreement, graph, packet, solution, winners};
 use crate::progress::Progress;
-use crate::serve::Ending;
-use crate::unpack::unpack;
-use fm_dimacs::out::Over;
+use crate::respond::Answered;
+use crate::run::run;
+use fm_ask::query::{Query, ask};
+use fm_ask::unpack::unpack;
+use fm_edit::keepers::Keeper;
 use fm_input::reading::read_script;
 use fm_input::script::Script;
-use fm_input::words::{Command, Question};
 use fm_records::ids::CoordId;
 use fm_records::refusal::Refusal;
+use fm_words::words::{Command, Question};
+use fm_world::world::World;
 use std::alloc::Global;
 
-/// What is to be written, and how the run then ends.
-#[derive(Debug, Drop)]
-pub struct Answered {
-    pub ending: Ending,
-    pub output: Vec<u8>,
-}
-
-/// What the command answers to the text. Refused where the text, a step of its script or what is asked for is at fault, or
-/// memory is wanted.
+/// What the command answers to the text. Refused if the text, the coordinator that is asked, a step or what is asked for is at
+/// fault, the first of these, or if memory is refused.
 pub fn answer(
     alloc: Global,
     progress: &Progress,
     command: Command,
     text: &[u8],
 ) -> Result<Answered, Fault>
-    ensures ok { IfOk result (λ a. Wants command.entry text.now a.ending a.output.items) }
-    ensures err { IfErr result (λ fault. IsRefused command.entry text.now fault) }
+    ensures ok { IfOk result (λ a. Wants (asked_of command.entry) text.now a.ending a.output.items) }
+    ensures err { IfErr result (λ fault. IsRefused (asked_of command.entry) text.now fault) }
 {
     match command {
         Command::Unpack => unpacked(alloc, text),
-        Command::Pack { name } => packed(alloc, progress, name, text),
-        Command::Agree => agreed(alloc, progress, text),
-        Command::Ask { question, at } => asked_in(alloc, progress, question, at, text),
+        Command::Ask { .. } | Command::Agree | Command::Pack { .. } => {
+            answer_script(alloc, progress, command, text)
+        }
     }
 }
 
 // The lines of the packet that the text spells.
 fn unpacked(alloc: Global, text: &[u8]) -> Result<Answered, Fault>
-    ensures ok { IfOk result (λ a. Wants command.Unpack text.now a.ending a.output.items) }
-    ensures err { IfErr result (λ fault. IsRefused command.Unpack text.now fault) }
+    ensures ok { IfOk result (λ a. Wants told.unpack text.now a.ending a.output.items) }
+    ensures err { IfErr result (λ fault. IsRefused told.unpack text.now fault) }
 {
     match unpack(alloc, text) {
         Ok(lines) => Ok(Answered {
@@ -63,145 +61,95 @@ fn unpacked(alloc: Global, text: &[u8]) -> Result<Answered, Fault>
     }
 }
 
-// The bytes of the packet of the name.
-fn packed(alloc: Global, progress: &Progress, name: &str, text: &[u8]) -> Result<Answered, Fault>
-    ensures ok { IfOk result (λ a. Wants (command.Pack name.entry) text.now a.ending a.output.items) }
-    ensures err { IfErr result (λ fault. IsRefused (command.Pack name.entry) text.now fault) }
-{
-    let script = match script_in(alloc, text) {
-        Ok(script) => script,
-        Err(fault) => return Err(fault),
-    };
-    let mut page = Over::new(Vec::new(alloc));
-    match packet(alloc, progress, &script, name, &mut page) {
-        Ok(()) => Ok(Answered {
-            ending: Ending::Done,
-            output: page.into_inner(),
-        }),
-        Err(fault) => Err(in_memory(fault)),
-    }
-}
-
-// Whether all coordinators know the same.
-fn agreed(alloc: Global, progress: &Progress, text: &[u8]) -> Result<Answered, Fault>
-    ensures ok { IfOk result (λ a. Wants command.Agree text.now a.ending a.output.items) }
-    ensures err { IfErr result (λ fault. IsRefused command.Agree text.now fault) }
-{
-    let script = match script_in(alloc, text) {
-        Ok(script) => script,
-        Err(fault) => return Err(fault),
-    };
-    let mut page = Over::new(Vec::new(alloc));
-    match agreement(alloc, progress, &script, &mut page) {
-        Ok(true) => Ok(Answered {
-            ending: Ending::Done,
-            output: page.into_inner(),
-        }),
-        Ok(false) => Ok(Answered {
-            ending: Ending::Differ,
-            output: page.into_inner(),
-        }),
-        Err(fault) => Err(in_memory(fault)),
-    }
-}
-
-// The answer to the question about the coordinator that is asked.
-fn asked_in(
+// What the script's world answers once its steps ran.
+fn answer_script(
     alloc: Global,
     progress: &Progress,
-    question: Question,
-    at: Option<u8>,
+    command: Command,
     text: &[u8],
 ) -> Result<Answered, Fault>
-    ensures ok { IfOk result (λ a. Wants (command.Ask question at) text.now a.ending a.output.items) }
-    ensures err { IfErr result (λ fault. IsRefused (command.Ask question at) text.now fault) }
+    ensures ok { IfOk result (λ a. IsOfScript (asked_of command.entry) text.now a.ending a.output.items) }
+    ensures err { IfErr result (λ fault. (fault ≡ fault_of refused.OutOfMemory)
+        ⊎ (IsNoScript text.now fault ⊎ IsStopped (asked_of command.entry) text.now fault)) }
 {
     let script = match script_in(alloc, text) {
         Ok(script) => script,
         Err(fault) => return Err(fault),
     };
-    let number = match asked(&script.coordinators, at) {
-        Ok(number) => number,
+    let query = match query_of(command, &script) {
+        Ok(query) => query,
         Err(fault) => return Err(fault),
     };
-    let output = match question {
-        Question::Graph => graphed(alloc, progress, &script, number),
-        Question::Solve => solved(alloc, progress, &script, number),
-        Question::Winners => won(alloc, progress, &script, number),
+    let mut world = match run(alloc, progress, &script) {
+        Ok(world) => world,
+        Err(fault) => return Err(fault),
     };
-    match output {
-        Ok(output) => Ok(Answered {
-            ending: Ending::Done,
-            output,
+    reply(alloc, &mut world, query)
+}
+
+// What the world answers to the query. NoPacket if there is none, since no packet has the name.
+fn reply(alloc: Global, world: &mut World<Keeper>, query: Option<Query>) -> Result<Answered, Fault>
+    ensures ok { ForEachWorld world.old (λ w. IfOk result (λ a. AnswersIn query w a.ending a.output.items)) }
+    ensures err { ForEachWorld world.old (λ w. IfErr result (λ fault.
+        (fault ≡ fault_of refused.OutOfMemory) ⊎ LacksIn query w fault)) }
+{
+    let Some(query) = query else {
+        return Err(Fault::from(Refusal::NoPacket));
+    };
+    match ask(alloc, world, query) {
+        Ok(answer) => Ok(Answered {
+            ending: ending_of(answer.differs),
+            output: answer.text,
         }),
-        Err(fault) => Err(fault),
+        Err(refusal) => Err(Fault::from(refusal)),
     }
 }
 
-// The network of what the coordinator took in.
-fn graphed(
-    alloc: Global,
-    progress: &Progress,
-    script: &Script,
-    at: CoordId,
-) -> Result<Vec<u8>, Fault>
-    requires { AreDistinct script.now.coordinators.items }
-    ensures ok { IfOk result (λ output. AsksOf script.now at (λ text a. Wants (command.Ask asks.Graph a) text ending.Done output.items)) }
-    ensures err { IfErr result (λ fault. AsksOf script.now at (λ text a. IsRefused (command.Ask asks.Graph a) text fault)) }
+// How a run ends that is answered.
+fn ending_of(differs: bool) -> Ending
+    ensures { result ≡ cond differs ending.Differ ending.Done }
 {
-    let mut page = Over::new(Vec::new(alloc));
-    match graph(alloc, progress, script, at, &mut page) {
-        Ok(()) => Ok(page.into_inner()),
-        Err(fault) => Err(in_memory(fault)),
+    if differs {
+        Ending::Differ
+    } else {
+        Ending::Done
     }
 }
 
-// Who won, by what the coordinator took in.
-fn won(alloc: Global, progress: &Progress, script: &Script, at: CoordId) -> Result<Vec<u8>, Fault>
-    requires { AreDistinct script.now.coordinators.items }
-    ensures ok { IfOk result (λ output. AsksOf script.now at (λ text a. Wants (command.Ask asks.Winners a) text ending.Done output.items)) }
-    ensures err { IfErr result (λ fault. AsksOf script.now at (λ text a. IsRefused (command.Ask asks.Winners a) text fault)) }
+// The query that the command comes to: none if no packet has the name. NoCoordinator if the one that is asked is not listed.
+fn query_of(command: Command, script: &Script) -> Result<Option<Query>, Fault>
+    ensures { result ≡ query_of (asked_of command.entry) script.now.coordinators.items script.now.names }
 {
-    let mut page = Over::new(Vec::new(alloc));
-    match winners(alloc, progress, script, at, &mut page) {
-        Ok(()) => Ok(page.into_inner()),
-        Err(fault) => Err(in_memory(fault)),
+    match command {
+        Command::Ask { question, at } => match asked(&script.coordinators, at) {
+            Ok(number) => Ok(Some(query_at(question, number))),
+            Err(fault) => Err(fault),
+        },
+        Command::Agree => Ok(Some(Query::Agree)),
+        Command::Pack { name } => match script.names.place(name) {
+            Some(place) => Ok(Some(Query::Packet(place))),
+            None => Ok(None),
+        },
+        Command::Unpack => Ok(None),
     }
 }
 
-// A least flow of the network of what the coordinator took in.
-fn solved(
-    alloc: Global,
-    progress: &Progress,
-    script: &Script,
-    at: CoordId,
-) -> Result<Vec<u8>, Fault>
-    requires { AreDistinct script.now.coordinators.items }
-    ensures ok { IfOk result (λ output. AsksOf script.now at (λ text a. Wants (command.Ask asks.Solve a) text ending.Done output.items)) }
-    ensures err { IfErr result (λ fault. AsksOf script.now at (λ text a. IsRefused (command.Ask asks.Solve a) text fault)) }
+// The question about the coordinator.
+fn query_at(question: Question, at: CoordId) -> Query
+    ensures { result ≡ query_at question at }
 {
-    let mut page = Over::new(Vec::new(alloc));
-    match solution(alloc, progress, script, at, &mut page) {
-        Ok(()) => Ok(page.into_inner()),
-        Err(fault) => Err(in_memory(fault)),
-    }
-}
-
-// The same fault of writing to memory alone, where it is want of memory.
-fn in_memory(fault: Fault) -> Fault
-    ensures { result ≡ in_memory_of fault }
-{
-    match fault.refusal {
-        Refusal::WriteFault => Fault::from(Refusal::OutOfMemory),
-        _ => fault,
+    match question {
+        Question::Graph => Query::Graph(at),
+        Question::Solve => Query::Solve(at),
+        Question::Winners => Query::Winners(at),
     }
 }
 
 // The script that the text spells.
 fn script_in(alloc: Global, text: &[u8]) -> Result<Script, Fault>
     ensures distinct { IfOk result (λ script. AreDistinct script.coordinators.items) }
-    ensures spelled { IfOk result (λ script. Spells text.now script.coordinators.items script.names script.steps.items) }
-    ensures unread { IfErr result (λ fault. IsUnread text.now fault) }
+    ensures spelled { IfOk result (λ s. Spells text.now s.coordinators.items s.names s.steps.items) }
+    ensures unread { IfErr result (λ fault. IsNoScript text.now fault) }
 {
     match read_script(alloc, text) {
         Ok(script) => Ok(script),
@@ -211,7 +159,7 @@ fn script_in(alloc: Global, text: &[u8]) -> Result<Script, Fault>
 
 // The coordinator that is asked: the one named, or else the first that the script lists.
 fn asked(listed: &[CoordId], at: Option<u8>) -> Result<CoordId, Fault>
-    ensures { result ≡ asked_of listed.now at }
+    ensures { result ≡ coordinator_asked listed.now at }
 {
     match at {
         Some(number) => named(listed, number),
@@ -224,7 +172,7 @@ fn asked(listed: &[CoordId], at: Option<u8>) -> Result<CoordId, Fault>
 
 // The coordinator with the number.
 fn named(listed: &[CoordId], number: u8) -> Result<CoordId, Fault>
-    ensures { result ≡ asked_of listed.now (Some number) }
+    ensures { result ≡ coordinator_asked listed.now (Some number) }
 {
     match listed.split_first() {
         None => Err(Fault::from(Refusal::NoCoordinator)),

@@ -1,25 +1,24 @@
 //! The program `firmament`: runs a script on a world of coordinators, and writes what is asked for.
 #![tactic(auto)]
 
-mod agree;
 mod answer;
+mod ending;
 mod fault;
 mod fleet;
-mod output;
-mod pack;
 mod progress;
 mod refusals;
+mod respond;
 mod run;
-mod sending;
 mod serve;
-mod unpack;
 mod watch;
-mod winners;
 
+use ending::Ending;
 use fault::Fault;
+use fm_dimacs::out::Over;
 use fm_records::refusal::Refusal;
+use fm_streams::source::Input;
 use progress::Progress;
-use serve::{Ending, serve};
+use serve::serve;
 use std::alloc::Global;
 use std::io::IsTerminal;
 use std::process::ExitCode;
@@ -30,13 +29,13 @@ fn main(rt: HostRuntime) -> ExitCode {
     let ending = match given_words(&rt) {
         Ok(words) => {
             let alloc = rt.alloc();
-            let mut reader = rt.reader();
-            let mut writer = io::writer(&rt);
+            let source = Input::new(rt.reader());
+            let sink = Over::new(io::writer(&rt));
             if rt.stderr().is_terminal() {
-                serve_watched(&rt, alloc, &words, &mut reader, &mut writer)
+                serve_watched(&rt, alloc, &words, source, sink).0
             } else {
-                let progress = Progress::new();
-                serve(&rt, alloc, &progress, &words, &mut reader, &mut writer)
+                let (mut source, mut sink) = (source, sink);
+                serve(&rt, alloc, &Progress::new(), &words, &mut source, &mut sink)
             }
         }
         Err(ending) => ending,
@@ -57,7 +56,7 @@ fn given_words(rt: &HostRuntime) -> Result<Vec<String>, Ending> {
     }
 }
 
-// How a run ends whose words cannot be read: one is no UTF-8, or memory is wanted.
+// How a run ends whose words cannot be read: one is no UTF-8, or memory is refused.
 fn no_words(alloc: Global, kind: io::ErrorKind) -> Ending {
     if kind == io::ErrorKind::InvalidData {
         let text =

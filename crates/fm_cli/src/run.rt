@@ -1,34 +1,25 @@
 //! Running a script's steps on a world of its coordinators.
 
 ghost use Rattle.std.specs.Prelude.{◌≡◌, ℕ, IfOk, IfErr, OnOk};
-ghost use Rattle.fm_net.specs.Network.{net_of};
-ghost use Rattle.fm_flow.specs.Flows.{units_in, IsLeast};
 ghost use Rattle.fm_world.specs.declared.step.Act.TheVariants as world_act;
 ghost use Rattle.fm_coord.specs.Numbers.{AreDistinct};
 ghost use Rattle.fm_world.specs.Worlds.{WorldOfSets, refusal_of};
 ghost use Rattle.fm_world.specs.Stands.{WorldStandsFor};
 ghost use Rattle.fm_input.specs.declared.script.Act.TheVariants as script_act;
-ghost use Rattle.fm_round.specs.Schedules.{IsPlanOf};
-ghost use Rattle.fm_cli.specs.Running.{opened, step_at, Takes, Acts, Come, Refuses, StopsIn, Stops, IsRun};
+ghost use Rattle.fm_cli.specs.Running.{opened, step_at, Takes, Acts, Come, Refuses, StopsIn, Stops, IsRun, Makes, Fails};
 
 use crate::fault::Fault;
 use crate::progress::Progress;
-use fm_coord::view::View;
 use fm_edit::keepers::Keeper;
-use fm_flow::flow::Flow;
-use fm_flow::solve::{solve, solve_from};
+use fm_fleet::round::plan_for;
 use fm_input::script::{Act, Script, Step};
-use fm_know::laws::law_can_be;
 use fm_lattice::join::OutOfMemory;
 use fm_muster::coordinators::coordinator_at;
 use fm_records::ids::CoordId;
 use fm_records::refusal::Refusal;
-use fm_round::parts::Plan;
-use fm_round::plan::plan;
 use fm_world::step::{Act as WorldAct, Step as WorldStep};
 use fm_world::world::World;
 use std::alloc::Global;
-use std::collections::BTreeMap;
 
 /// The world that the script's steps come to. A step that is refused is named: by NoCoordinator where its coordinator is not
 /// listed, by NoPacket where no packet of the name was cut, else as the coordinator's call, and a round also where memory is
@@ -39,8 +30,7 @@ pub fn run(alloc: Global, progress: &Progress, script: &Script) -> Result<World<
     ensures err { IfErr result (λ fault. Stops script.now.coordinators.items script.now.steps.items fault) }
 {
     let mut world = open(alloc, &script.coordinators)?;
-    let mut flows = BTreeMap::new(alloc);
-    take_all(alloc, progress, &mut world, &mut flows, &script.steps)?;
+    take_all(alloc, progress, &mut world, &script.steps)?;
     Ok(world)
 }
 
@@ -62,14 +52,13 @@ fn take_all(
     alloc: Global,
     progress: &Progress,
     world: &mut World<Keeper>,
-    flows: &mut BTreeMap<u8, Flow>,
     steps: &[Step],
 ) -> Result<(), Fault>
-    ensures ok { (w : WorldOfSets) → WorldStandsFor world.old w → OnOk result ((v : WorldOfSets) × Come w steps.now v × WorldStandsFor world.new v) }
-    ensures err { (w : WorldOfSets) → WorldStandsFor world.old w → IfErr result (λ fault. StopsIn w steps.now fault) }
+    ensures ok { Makes result world.old world.new (λ w v. Come w steps.now v) }
+    ensures err { Fails result world.old (λ w fault. StopsIn w steps.now fault) }
 {
     for (place, step) in steps.iter().enumerate() {
-        if let Err(refusal) = take(alloc, world, flows, step.at, step.act) {
+        if let Err(refusal) = take(alloc, world, step.at, step.act) {
             return Err(Fault {
                 refusal,
                 step: Some(place + 1),
@@ -81,29 +70,23 @@ fn take_all(
 }
 
 // What happens in a step.
-fn take(
-    alloc: Global,
-    world: &mut World<Keeper>,
-    flows: &mut BTreeMap<u8, Flow>,
-    at: u8,
-    act: Act,
-) -> Result<(), Refusal>
-    ensures ok { (w : WorldOfSets) → WorldStandsFor world.old w → OnOk result ((v : WorldOfSets) × Acts w at act v × WorldStandsFor world.new v) }
-    ensures err { (w : WorldOfSets) → WorldStandsFor world.old w → IfErr result (λ refusal. Refuses w at act refusal) }
+fn take(alloc: Global, world: &mut World<Keeper>, at: u8, act: Act) -> Result<(), Refusal>
+    ensures ok { Makes result world.old world.new (λ w v. Acts w at act v) }
+    ensures err { Fails result world.old (λ w refusal. Refuses w at act refusal) }
 {
     match act {
         Act::Tell(op) => ask(world, at, WorldAct::Tell(op)),
         Act::Cut(range) => ask(world, at, WorldAct::Cut(range)),
         Act::Deliver(packet) => ask(world, at, WorldAct::Deliver(packet)),
         Act::Trim(n) => ask(world, at, WorldAct::Trim(n)),
-        Act::Round => round(alloc, world, flows, at),
+        Act::Round => round(alloc, world, at),
     }
 }
 
 // One step of the world.
 fn ask(world: &mut World<Keeper>, at: u8, act: WorldAct) -> Result<(), Refusal>
-    ensures ok { (w : WorldOfSets) → WorldStandsFor world.old w → OnOk result ((v : WorldOfSets) × Takes w (step_at at act) v × WorldStandsFor world.new v) }
-    ensures err { (w : WorldOfSets) → WorldStandsFor world.old w → IfErr result (λ refusal. refusal ≡ refusal_of w (step_at at act)) }
+    ensures ok { Makes result world.old world.new (λ w v. Takes w (step_at at act) v) }
+    ensures err { Fails result world.old (λ w refusal. refusal ≡ refusal_of w (step_at at act)) }
 {
     match world.run(&[WorldStep { at, by: 0, act }]) {
         Ok(()) => Ok(()),
@@ -111,15 +94,10 @@ fn ask(world: &mut World<Keeper>, at: u8, act: WorldAct) -> Result<(), Refusal>
     }
 }
 
-// A round: what the coordinator sees is planned for, from the flow of its last round if it had one, and the plan is committed.
-fn round(
-    alloc: Global,
-    world: &mut World<Keeper>,
-    flows: &mut BTreeMap<u8, Flow>,
-    at: u8,
-) -> Result<(), Refusal>
-    ensures ok { (w : WorldOfSets) → WorldStandsFor world.old w → OnOk result ((v : WorldOfSets) × Acts w at script_act.Round v × WorldStandsFor world.new v) }
-    ensures err { (w : WorldOfSets) → WorldStandsFor world.old w → IfErr result (λ refusal. Refuses w at script_act.Round refusal) }
+// A round: what the coordinator sees is planned for, and the plan is committed.
+fn round(alloc: Global, world: &mut World<Keeper>, at: u8) -> Result<(), Refusal>
+    ensures ok { Makes result world.old world.new (λ w v. Acts w at script_act.Round v) }
+    ensures err { Fails result world.old (λ w refusal. Refuses w at script_act.Round refusal) }
 {
     let look = WorldStep {
         at,
@@ -129,40 +107,8 @@ fn round(
     let Some(view) = world.step(&look)? else {
         return Err(Refusal::NoCoordinator);
     };
-    let flow = least_flow(alloc, &view, flows.get(&at))?;
-    let plan = plan_of(alloc, &view, &flow)?;
-    flows.insert(at, flow)?;
+    let plan = plan_for(alloc, &view)?;
     // With no view left, the commit edits the network in place.
     drop(view);
     ask(world, at, WorldAct::Commit(plan))
-}
-
-// A least flow of the network that is seen, from the earlier one, if there is one. Refused memory and nothing else.
-fn least_flow(alloc: Global, view: &View, earlier: Option<&Flow>) -> Result<Flow, Refusal>
-    requires { view.now.network ≡ net_of view.now.knowledge }
-    ensures ok { IfOk result (λ flow. IsLeast view.now.network (units_in flow)) }
-    ensures err { IfErr result (λ refusal. refusal ≡ Refusal.OutOfMemory) }
-{
-    let knowledge = view.knowledge.get();
-    law_can_be(knowledge);
-    let network = view.network.get();
-    let Some(earlier) = earlier else {
-        let (flow, _) = solve(alloc, network)?;
-        return Ok(flow);
-    };
-    let (flow, _) = solve_from(alloc, network, earlier)?;
-    Ok(flow)
-}
-
-// The plan of a least flow of the network that is seen. Refused memory and nothing else.
-fn plan_of(alloc: Global, view: &View, flow: &Flow) -> Result<Plan, Refusal>
-    requires network { view.now.network ≡ net_of view.now.knowledge }
-    requires least { IsLeast view.now.network (units_in flow.now) }
-    ensures ok { IfOk result (λ plan. IsPlanOf view.now.knowledge plan) }
-    ensures err { IfErr result (λ refusal. refusal ≡ Refusal.OutOfMemory) }
-{
-    let knowledge = view.knowledge.get();
-    let network = view.network.get();
-    let plan = plan(alloc, network, flow, knowledge)?;
-    Ok(plan)
 }

@@ -1,13 +1,21 @@
 //! The line of progress: a thread that says on a terminal how far a run is, and takes the line away before anything is written.
 
+ghost use Rattle.std.specs.Prelude.{◌≡◌, map, string_bytes};
+ghost use Rattle.fm_words.specs.Heard.{heard};
+ghost use Rattle.fm_cli.specs.Served.{IsServed};
+
+use crate::ending::Ending;
 use crate::progress::Progress;
-use crate::serve::{Ending, serve};
+use crate::serve::serve;
+use fm_dimacs::out::Out;
+use fm_streams::sink::Sink;
+use fm_streams::source::Source;
 use std::alloc::Global;
-use std::io::{Eprint, Read, Write};
+use std::io::Eprint;
 use std::sync::{Condvar, CondvarTimeouts, Mutex, Wait};
+use std::thread;
 use std::thread::Threads;
 use std::time::{Clock, Duration};
-use std::{io, thread};
 
 /// How often the line is written anew, in milliseconds.
 const TICK: u64 = 100;
@@ -30,25 +38,73 @@ struct Line<'a> {
     over: Condvar,
 }
 
-/// Serves while a thread says on standard error how far the run is. What is served is what `serve` does without one; where no
-/// thread can be made there is no line.
-pub fn serve_watched<T: Threads + Wait + Clock + Eprint + Sync, R: Read, W: Write>(
+/// Serves while a thread says on standard error how far the run is, and gives the source and the sink back. What is read, written
+/// and answered is what `serve` says. If no thread can be made there is no line.
+pub fn serve_watched<T: Threads + Wait + Clock + Eprint + Sync, S: Source + Drop, W: Sink + Drop>(
     rt: &T,
     alloc: Global,
     words: &[String],
-    reader: &mut R,
-    writer: &mut W,
-) -> Ending {
+    source: S,
+    sink: W,
+) -> (Ending, S, W)
+    ensures { IsServed (heard (map string_bytes words.now)) (result.1 ≡ source) result.0 (record {
+      given = S.remaining source;
+      left = S.remaining result.1;
+      source_failed = S.has_failed result.1;
+      old = W.written sink;
+      new = W.written result.2;
+      had_failed = W.has_failed sink;
+      has_failed = W.has_failed result.2;
+    }) }
+{
     let progress = Progress::new();
     let line = Line::new(&progress);
     let line = &line;
-    thread::scope(thread::scope_env(), rt, move |scope| {
-        let _ = scope.spawn(move || line.tell(rt));
-        let mut writer = Clearing { rt, line, writer };
-        let ending = serve(rt, alloc, line.progress, words, reader, &mut writer);
-        line.end(rt);
-        ending
-    })
+    thread::scope(
+        thread::scope_env(),
+        rt,
+        move |scope| -> (Ending, S, W)
+            ensures { IsServed (heard (map string_bytes words.entry.now)) (result.1 ≡ source) result.0 (record {
+              given = S.remaining source;
+              left = S.remaining result.1;
+              source_failed = S.has_failed result.1;
+              old = W.written sink;
+              new = W.written result.2;
+              had_failed = W.has_failed sink;
+              has_failed = W.has_failed result.2;
+            }) }
+        {
+            let _ = scope.spawn(move || line.tell(rt));
+            let mut source = source;
+            let (ending, sink) = serve_beside(rt, alloc, line, words, &mut source, sink);
+            (ending, source, sink)
+        },
+    )
+}
+
+// Serves, and takes the line away before anything is written, and at the end. Gives the sink back.
+fn serve_beside<T: Threads + Wait + Eprint + Sync, S: Source, W: Sink + Drop>(
+    rt: &T,
+    alloc: Global,
+    line: &Line,
+    words: &[String],
+    source: &mut S,
+    sink: W,
+) -> (Ending, W)
+    ensures { IsServed (heard (map string_bytes words.now)) (source.new ≡ source.old) result.0 (record {
+      given = S.remaining source.old;
+      left = S.remaining source.new;
+      source_failed = S.has_failed source.new;
+      old = W.written sink;
+      new = W.written result.1;
+      had_failed = W.has_failed sink;
+      has_failed = W.has_failed result.1;
+    }) }
+{
+    let mut clearing = Clearing { rt, line, sink };
+    let ending = serve(rt, alloc, line.progress, words, source, &mut clearing);
+    line.end(rt);
+    (ending, clearing.sink)
 }
 
 impl<'a> Line<'a> {
@@ -112,22 +168,32 @@ impl Shown {
     }
 }
 
-/// A writer that has the line taken away before anything is written.
+/// A sink that has the line taken away before anything is written.
 #[derive(Drop)]
-struct Clearing<'a, 'b, R, W> {
+struct Clearing<'a, R, W> {
     rt: &'a R,
     line: &'a Line<'a>,
-    writer: &'b mut W,
+    sink: W,
 }
 
-impl<R: Wait + Eprint, W: Write> Write for Clearing<'_, '_, R, W> {
-    fn write(&mut self, piece: &[u8]) -> io::Result<usize> {
+impl<R: Wait + Eprint, W: Sink> Out for Clearing<'_, R, W> {
+    ghost written = { λ c. W.written c.sink };
+
+    ghost has_failed = { λ c. W.has_failed c.sink };
+
+    fn put(&mut self, piece: &[u8]) -> usize {
         self.line.end(self.rt);
-        self.writer.write(piece)
+        self.sink.put(piece)
     }
 
-    fn flush(&mut self) -> io::Result<()> {
+    fn failed(&self) -> bool {
+        self.sink.failed()
+    }
+}
+
+impl<R: Wait + Eprint, W: Sink> Sink for Clearing<'_, R, W> {
+    fn flush(&mut self) -> bool {
         self.line.end(self.rt);
-        self.writer.flush()
+        self.sink.flush()
     }
 }

@@ -1,10 +1,10 @@
 //! Where bytes go.
 
-ghost use Rattle.std.specs.Prelude.{◌≡◌, ◌≤◌, ◌||◌, ℕ, List, Bool, Option, false, length, take};
-ghost use Rattle.std.specs.Io.KnownBytes.{Appends};
+ghost use Rattle.std.specs.Prelude.{◌≡◌, ◌≤◌, ◌||◌, ℕ, List, Bool, Option, false, not, length, take};
+ghost use Rattle.std.specs.Io.KnownBytes.{Appends, Keeps};
 ghost use Rattle.fm_dimacs.specs.Sending.{fails_at};
 
-use std::io::Write;
+use std::io::{ErrorKind, Write};
 use std::marker::Model;
 
 /// What takes bytes.
@@ -26,7 +26,7 @@ pub trait Out {
         ensures { result ≡ has_failed self.now };
 }
 
-/// An `Out` over any writer, with 0 for its fault.
+/// An `Out` over any writer, with 0 for its fault. A write that was interrupted is made again.
 #[derive(Debug, Drop)]
 pub struct Over<W> {
     writer: W,
@@ -61,24 +61,52 @@ impl<W> Over<W> {
     }
 }
 
+impl<W: Write> Over<W> {
+    /// Has all that the writer took go out, and answers whether it did. A writer that cannot has failed.
+    pub fn flush(&mut self) -> bool
+        ensures keeps { Keeps (W.contents self.old.0) (W.contents self.new.0) }
+        ensures fails { self.new.1 ≡ (self.old.1 || not result) }
+    {
+        let went = self.writer.flush().is_ok();
+        if !went {
+            self.failed = true;
+        }
+        went
+    }
+}
+
 impl<W: Write> Out for Over<W> {
     ghost written = { λ o. W.Write.contents o.0 };
 
     ghost has_failed = { λ o. o.1 };
 
     fn put(&mut self, piece: &[u8]) -> usize {
-        match self.writer.write(piece) {
-            Ok(0) | Err(_) => {
-                if !piece.is_empty() {
-                    self.failed = true;
-                }
-                0
-            }
-            Ok(taken) => taken,
+        let taken = write_some(&mut self.writer, piece);
+        if taken == 0 && !piece.is_empty() {
+            self.failed = true;
         }
+        taken
     }
 
     fn failed(&self) -> bool {
         self.failed
     }
+}
+
+// How many bytes of the piece the writer takes: 0 if it fails. A write that was interrupted is made again.
+fn write_some<W: Write>(writer: &mut W, piece: &[u8]) -> usize
+    ensures within { result ≤ length piece.now }
+    ensures takes { Appends (W.contents writer.old) (W.contents writer.new) (take result piece.now) }
+{
+    for _ in 0..u64::MAX {
+        match writer.write(piece) {
+            Ok(taken) => return taken,
+            Err(error) => {
+                if error.kind() != ErrorKind::Interrupted {
+                    return 0;
+                }
+            }
+        }
+    }
+    0
 }

@@ -1,4 +1,3 @@
 pub mod Logs
 pub mod May
-pub mod Plans
 pub mod Seating

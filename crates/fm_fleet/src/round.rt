@@ -8,12 +8,10 @@ use crate::node::Node;
 use crate::seat::{NodeName, Seat};
 use fm_coord::shared::Shared;
 use fm_coord::view::View;
-use fm_flow::solve::solve;
-use fm_know::laws::law_can_be;
+use fm_plan::least::least_plan;
 use fm_policy::keeper::NetKeeper;
 use fm_records::refusal::Refusal;
 use fm_round::parts::{Admitted, Plan};
-use fm_round::plan::plan;
 use std::alloc::Global;
 use std::sync::Wait;
 
@@ -64,9 +62,5 @@ pub fn plan_for(alloc: Global, view: &View) -> Result<Plan, Refusal>
     ensures ok { IfOk result (λ plan. IsPlanOf view.now.knowledge plan) }
     ensures err { IfErr result (λ refusal. refusal ≡ Refusal.OutOfMemory) }
 {
-    let knowledge = view.knowledge.get();
-    law_can_be(knowledge);
-    let network = view.network.get();
-    let (flow, _) = solve(alloc, network)?;
-    Ok(plan(alloc, network, &flow, knowledge)?)
+    least_plan(alloc, view.knowledge.get(), view.network.get())
 }

@@ -1,4 +1,3 @@
 pub mod Json
 pub mod Script
 pub mod Texts
-pub mod Words

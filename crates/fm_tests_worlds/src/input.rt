@@ -1,8 +1,5 @@
-use fm_input::input::read_input;
 use fm_input::reading::read_script;
-use fm_records::refusal::Refusal;
 use std::alloc::Global;
-use std::io::{self, Read};
 use std::test::Fail;
 
 // One operation of each kind, with a number of its own in each field that takes one.
@@ -158,45 +155,5 @@ fn each_kind_of_step_is_read(rt: HostRuntime) -> Result<(), Fail> {
         )?;
         assert_eq!(rt; printed(alloc, text.as_str())?, wanted);
     }
-    Ok(())
-}
-
-// A reader that gives a byte at a time, and at the end of what it has fails or ends.
-#[derive(Drop)]
-struct Narrow<'a> {
-    bytes: &'a [u8],
-    fails: bool,
-}
-
-impl Read for Narrow<'_> {
-    fn read(&mut self, piece: &mut [u8]) -> io::Result<usize> {
-        if self.bytes.is_empty() && self.fails {
-            return Err(io::Error::from(io::ErrorKind::Other));
-        }
-        let n = piece.len().min(1).min(self.bytes.len());
-        let (front, back) = self.bytes.split_at(n);
-        piece[..n].copy_from_slice(front);
-        self.bytes = back;
-        Ok(n)
-    }
-}
-
-#[test]
-fn a_reader_fails_at_each_read_in_turn(rt: HostRuntime) -> Result<(), Fail> {
-    let alloc = rt.alloc();
-    let bytes = PROGRESS.as_bytes();
-    for end in 0..=bytes.len() {
-        let mut fails = Narrow {
-            bytes: &bytes[..end],
-            fails: true,
-        };
-        let fault = read_input(alloc, &mut fails).err();
-        assert_eq!(rt; fault, Some(Refusal::BadScript(0)), "after {end} reads");
-    }
-    let mut whole = Narrow {
-        bytes,
-        fails: false,
-    };
-    assert_eq!(rt; read_input(alloc, &mut whole)?.as_slice(), bytes);
     Ok(())
 }

@@ -10,6 +10,8 @@ mod gather;
 #[cfg(test)]
 mod input;
 #[cfg(test)]
+mod streams;
+#[cfg(test)]
 mod views;
 #[cfg(test)]
 mod world;

@@ -2,6 +2,7 @@ ghost use Rattle.std.specs.Prelude.{◌≡◌, [], IfOk};
 
 use fm_coord::coordinator::Coordinator;
 use fm_coord::entry::Range;
+use fm_delta::packet::Packet;
 use fm_dimacs::out::Over;
 use fm_policy::rebuilder::Rebuilder;
 use fm_records::ids::{CoordId, JobId};
@@ -134,6 +135,31 @@ fn dumped(alloc: Global, world: &mut World<Rebuilder>, number: u8) -> Result<usi
 fn a_dump_is_written(rt: HostRuntime) -> Result<(), Fail> {
     let mut world = world(rt.alloc(), 1)?;
     assert!(rt; dumped(rt.alloc(), &mut world, 2)? > 0);
+    Ok(())
+}
+
+// The whole of what coordinator 1 of a world of its own knows after two tells, as a packet.
+fn packet_of_another_world(alloc: Global) -> Result<Packet, Fail> {
+    let mut world = world(alloc, 100)?;
+    world
+        .run(&[tell(1, 500), tell(2, 600), step(1, Act::Cut(Range::Full))])
+        .map_err(|_| "a step was refused")?;
+    let packet = world.packet(0).ok_or("no packet was cut")?;
+    Ok(packet.copy()?)
+}
+
+#[test]
+fn a_packet_of_another_world_is_merged(rt: HostRuntime) -> Result<(), Fail> {
+    let alloc = rt.alloc();
+    let mut world = world(alloc, 100)?;
+    assert_eq!(rt; run(&mut world, &[tell(1, 500), tell(2, 600)]), None);
+    assert_eq!(rt; agree(&world, 1, 2), Some(false));
+    assert_eq!(rt; world.take(2, 0, packet_of_another_world(alloc)?), Ok(()));
+    assert_eq!(rt; agree(&world, 1, 2), Some(true));
+    assert_eq!(rt;
+        world.take(4, 0, packet_of_another_world(alloc)?),
+        Err(Refusal::NoCoordinator)
+    );
     Ok(())
 }
 

@@ -5,12 +5,13 @@
 
 mod followed;
 
-use fm_input::input::read_input;
 use fm_input::reading::read_script;
 use fm_input::script::{Act, Script};
 use fm_know::knowledge::Knowledge;
 use fm_records::ops::Op;
 use fm_records::refusal::Refusal;
+use fm_streams::input::read_input;
+use fm_streams::source::Input;
 use followed::{Followed, Taken};
 use std::alloc::Global;
 use std::env;
@@ -31,7 +32,7 @@ fn main(rt: HostRuntime) -> Result<(), anyhow::Error> {
 
 // The script on standard input.
 fn script(rt: &HostRuntime) -> Result<Script, Refusal> {
-    let text = read_input(rt.alloc(), &mut rt.reader())?;
+    let text = read_input(rt.alloc(), &mut Input::new(rt.reader()))?;
     read_script(rt.alloc(), text.as_slice())
 }
 

@@ -4,3 +4,4 @@ pub mod Steps
 pub mod Numbers
 pub mod Runs
 pub mod Reached
+pub mod Taking

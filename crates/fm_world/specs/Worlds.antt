@@ -4,6 +4,8 @@ use Rattle.std.specs.Prelude.{◌≡◌, ◌==◌, ℕ, cond, take, Result, Ok, 
 use Rattle.fm_records.specs.declared.refusal.Refusal.{Refusal}
 use Rattle.fm_records.specs.declared.refusal.Refusal.TheVariants.{OutOfMemory, NoCoordinator, NoPacket}
 use Rattle.fm_records.specs.Options.{or_else}
+use Rattle.fm_records.specs.Spelled.{ops}
+use Rattle.fm_delta.specs.declared.packet.Packet.{Packet}
 use Rattle.fm_coord.specs.Events.{Sent, Event, Told, Merged, Gave, LetGo, Viewed, Committed, Replica, opening, packet_of, happens}
 use Rattle.fm_coord.specs.Causes.{cause, bounds_of}
 use Rattle.fm_coord.specs.Replays.{call_of}
@@ -31,6 +33,10 @@ abbrev pub changed_at : ℕ → (Replica → Replica) → List Replica → List 
 changed_at n change [] = []
 changed_at n change (r ∷ rs) = cond (r.number == n) (change r ∷ rs) (r ∷ changed_at n change rs)
 
+-- a packet that another world cut, as the operations that its value spells out
+abbrev pub spelled_out : Packet → Sent
+spelled_out p = record { sender = p.sender; number = p.number; set = ops p.value }
+
 -- the event that an act comes to: a delivery is the merge of the packet that was cut as the i-th, counted from 0
 abbrev pub event_asked : List Sent → Act → Option Event
 event_asked sent (act.Tell op) = Some (Told op)
@@ -39,6 +45,7 @@ event_asked sent (act.Deliver i) = option_map Merged (slice_get sent i)
 event_asked sent (act.Trim n) = Some (LetGo n)
 event_asked sent act.View = Some Viewed
 event_asked sent (act.Commit plan) = Some (Committed plan)
+event_asked sent (act.Take packet) = Some (Merged (spelled_out packet))
 
 -- the replica after the event, if there is one
 abbrev pub acted : ℕ → Option Event → Replica → Replica
@@ -80,6 +87,10 @@ step_of w s =
       replicas = changed_at s.at (acted s.by (event_asked w.packets s.act)) w.replicas;
       packets = sent_at w.packets (with_number w.replicas s.at) (event_asked w.packets s.act);
     }
+
+-- the world after a replica merged a packet that another world cut
+abbrev pub taken_in : WorldOfSets → ℕ → ℕ → Sent → WorldOfSets
+taken_in w at by packet = record { replicas = changed_at at (λ r. happens r by (Merged packet)) w.replicas; packets = w.packets }
 
 -- the world after accepted steps
 abbrev pub run_of : WorldOfSets → List Step → WorldOfSets

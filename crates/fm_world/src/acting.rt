@@ -15,6 +15,7 @@ use fm_coord::entry::{Call, Range, Reply};
 use fm_coord::shared::Shared;
 use fm_coord::view::View;
 use fm_delta::packet::Packet;
+use fm_know::laws::law_spelled;
 use fm_lattice::join::OutOfMemory;
 use fm_policy::keeper::NetKeeper;
 use fm_records::refusal::Refusal;
@@ -59,6 +60,11 @@ pub(crate) fn act_at<N: NetKeeper>(
         Act::View => Ok(Some(coordinator.view(by)?)),
         Act::Commit(plan) => {
             commit_at(alloc, coordinator, by, plan)?;
+            Ok(None)
+        }
+        Act::Take(packet) => {
+            law_spelled(&packet.value);
+            deliver_at(coordinator, packet, by)?;
             Ok(None)
         }
     }

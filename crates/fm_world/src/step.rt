@@ -1,6 +1,7 @@
 //! What a world is run on.
 
 use fm_coord::entry::Range;
+use fm_delta::packet::Packet;
 use fm_records::ops::Op;
 use fm_records::refusal::Refusal;
 use fm_round::parts::Plan;
@@ -20,6 +21,8 @@ pub enum Act {
     View,
     /// Admit the plan, and take in what it comes to.
     Commit(Plan),
+    /// Merge the packet, which another world cut.
+    Take(Packet),
 }
 
 /// A step: the number of the coordinator, the number of the seat that asks, and what for.

@@ -5,18 +5,23 @@ ghost use Rattle.fm_net.specs.Network.{net_of};
 ghost use Rattle.fm_dimacs.specs.Sending.{AppendsPrefix, StopsBy};
 ghost use Rattle.fm_dimacs.specs.Text.{dump_text};
 ghost use Rattle.fm_coord.specs.Numbers.{AreDistinct};
-ghost use Rattle.fm_world.specs.Worlds.{WorldOfSets, opening_world, with_number, cause_of, refusal_of, step_of, run_of, AreAccepted, taken_by, StopsAt};
+ghost use Rattle.fm_records.specs.Know.{know};
+ghost use Rattle.fm_coord.specs.Events.{Sent};
+ghost use Rattle.fm_coord.specs.Replays.{seen};
+ghost use Rattle.fm_world.specs.declared.step.Act.TheVariants as act;
+ghost use Rattle.fm_world.specs.Worlds.{WorldOfSets, opening_world, with_number, cause_of, refusal_of, step_of, run_of, AreAccepted, taken_by, taken_in, StopsAt};
 ghost use Rattle.fm_world.specs.Agreement.{EachKnows, SameAgree, IsDumpOf};
 ghost use Rattle.fm_world.specs.Stands.{state_of, number_of, opening_of, AreUnused, AllStand, WorldStandsFor, IsReached, state_with, shown};
 
 use crate::acting::act_at;
 use crate::distinct::place_of;
-use crate::step::{RunStop, Step};
+use crate::step::{Act, RunStop, Step};
 use fm_coord::coordinator::Coordinator;
 use fm_coord::shared::Shared;
 use fm_coord::view::View;
 use fm_delta::packet::Packet;
 use fm_dimacs::out::Out;
+use fm_know::laws::law_spelled;
 use fm_policy::keeper::NetKeeper;
 use fm_records::ids::CoordId;
 use fm_records::refusal::Refusal;
@@ -118,6 +123,30 @@ impl<N: NetKeeper> World<N> {
                 step.by,
                 &step.act,
             ),
+        }
+    }
+
+    /// Merges a packet that another world cut, or another process. For whatever operations the packet may stand, the coordinators
+    /// then stand for the world in which these were merged: all that its sender took in, if the packet came from a cut of that.
+    /// NoCoordinator, HistoryFull, OutOfMemory. After a refusal nothing has changed, but for a network that is fresh or stale.
+    pub fn take(&mut self, at: u8, by: u32, packet: Packet) -> Result<(), Refusal>
+        ensures stands { (w : WorldOfSets) (sent : Sent) → WorldStandsFor self.old w → packet ≡ seen sent
+            → OnOk result (WorldStandsFor self.new (taken_in w at by sent)) }
+        ensures accepted { (w : WorldOfSets) → WorldStandsFor self.old w
+            → OnOk result (cause_of w (record { at = at; by = by; act = act.Take packet }) ≡ None) }
+        ensures err { (w : WorldOfSets) → WorldStandsFor self.old w
+            → IfErr result (λ refusal. refusal ≡ refusal_of w (record { at = at; by = by; act = act.Take packet })) }
+        ensures unchanged { OnErr result (self.new ≡ self.old) }
+    {
+        law_spelled(&packet.value);
+        let step = Step {
+            at,
+            by,
+            act: Act::Take(packet),
+        };
+        match self.step(&step) {
+            Ok(_) => Ok(()),
+            Err(refusal) => Err(refusal),
         }
     }
 

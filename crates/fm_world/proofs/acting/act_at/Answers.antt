@@ -2,13 +2,16 @@ use Rattle.std.proofs.Common.{◌≡◌, ◌<◌, ◌∙◌, ℕ, Option, get_or
 use Rattle.std.specs.Result.{IfErr}
 use Rattle.std.proofs.lemmas.Option.{slice_get-map, slice_get-get_or}
 use Rattle.fm_delta.specs.declared.packet.Packet.{Packet}
+use Rattle.fm_records.specs.Know.{know}
+use Rattle.fm_records.specs.Spelled.{ops}
+use Rattle.fm_records.specs.Table.{Table}
 use Rattle.fm_coord.specs.declared.entry.Call.TheVariants as call
 use Rattle.fm_coord.specs.declared.entry.Reply.TheVariants as reply
 use Rattle.fm_coord.specs.Events.{Sent, Told, Merged, Gave, LetGo, Committed, packet_of}
 use Rattle.fm_coord.specs.Causes.{refusal_for}
 use Rattle.fm_coord.specs.Replays.{seen}
 use Rattle.fm_coord.specs.States.{State, bounds}
-use Rattle.fm_world.specs.Worlds.{event_asked}
+use Rattle.fm_world.specs.Worlds.{event_asked, spelled_out}
 use Rattle.fm_world.proofs.Acts.{uncut, cut_off, is_acted, refused, by_cause}
 use Rattle.fm_world.proofs.acting.act_at.Goals as goal
 
@@ -80,3 +83,22 @@ returns-in_err-deliver_at-in-Deliver-clause-err g c =
     let q = sent_at c.args.packets.now.items sent is c.in-Deliver.i lt p at in
     by_cause c.from_residual-in_err-deliver_at-in-Deliver.result _ _
     (ap (λ (x : Packet). refusal_for (bounds s) (call.Merge x)) (sym q.is) ∙ refused r c.args.by sent c.args.act.now (Merged q.packet) (ap (event_asked sent) c.in-Deliver.is ∙ ap (option_map Merged) q.at) s st) e
+
+-- a packet is what the operations that spell it out come to
+as_spelled : (p : Packet) → know (ops p.value) ≡ p.value → p ≡ seen (spelled_out p)
+as_spelled p e = λ i. record { sender = p.sender; number = p.number; value = (sym e) i }
+
+pub returns-in_ok-deliver_at-in-Take-clause-acted : goal.returns-in_ok-deliver_at-in-Take-clause-acted
+returns-in_ok-deliver_at-in-Take-clause-acted g c = λ r sent st is.
+    let p : Packet = c.in-Take.packet in
+    is_acted r c.args.by sent c.args.act.now (Merged (spelled_out p)) (ap (event_asked sent) c.in-Take.is) c.deliver_at-in-Take.new.coordinator.state c.args.packets.now.items reply.Nothing
+    (c.in_ok-deliver_at-in-Take.ensures.event r (spelled_out p) st (as_spelled p c.law_spelled.ensures)) (uncut c.args.packets.now.items sent is)
+
+pub returns-in_err-deliver_at-in-Take-clause-err : goal.returns-in_err-deliver_at-in-Take-clause-err
+returns-in_err-deliver_at-in-Take-clause-err g c =
+    let s : State = c.args.coordinator.now.state in
+    let p : Packet = c.in-Take.packet in
+    let e : IfErr c.from_residual-in_err-deliver_at-in-Take.result (λ refusal. refusal ≡ refusal_for (bounds s) (call.Merge p)) = search rules in
+    λ r sent st is.
+    by_cause c.from_residual-in_err-deliver_at-in-Take.result _ _
+    (ap (λ (x : Packet). refusal_for (bounds s) (call.Merge x)) (as_spelled p c.law_spelled.ensures) ∙ refused r c.args.by sent c.args.act.now (Merged (spelled_out p)) (ap (event_asked sent) c.in-Take.is) s st) e

@@ -1,0 +1,73 @@
+//! A least flow of what a coordinator knows, and its plan, as text.
+
+ghost use Rattle.std.specs.Prelude.{◌≡◌, IfOk, IsOkUnless, string_bytes};
+ghost use Rattle.fm_net.specs.Network.{net_of};
+ghost use Rattle.fm_ask.specs.Plans.{IsPlanText};
+ghost use Rattle.fm_ask.specs.Texts.{IsSolution};
+
+use crate::plans::plan_text;
+use fm_coord::coordinator::Coordinator;
+use fm_dimacs::out::Over;
+use fm_dimacs::solution::write_solution;
+use fm_flow::solve::solve;
+use fm_know::knowledge::Knowledge;
+use fm_know::laws::law_can_be;
+use fm_net::network::Network;
+use fm_plan::least::least_plan;
+use fm_policy::build::build;
+use fm_policy::keeper::NetKeeper;
+use fm_records::refusal::Refusal;
+use std::alloc::Global;
+
+/// A least flow of the network of what the coordinator knows, its cost first, in DIMACS lines. Only memory is refused. The cost
+/// is that of building the network, if the coordinator has none that is fresh, and of solving it.
+pub fn solution_text<N: NetKeeper>(
+    alloc: Global,
+    coordinator: &Coordinator<N>,
+) -> Result<Vec<u8>, Refusal>
+    ensures ok { IfOk result (λ text. IsSolution (net_of coordinator.now.state.knowledge) text.items) }
+    ensures err { IsOkUnless result Refusal.OutOfMemory }
+{
+    let knowledge = coordinator.knowledge();
+    if coordinator.is_fresh() {
+        coordinator.known();
+        return solved(alloc, knowledge, coordinator.keeper().network());
+    }
+    let network = build(alloc, knowledge)?;
+    solved(alloc, knowledge, &network)
+}
+
+// A least flow of the network, which is that of what is known.
+fn solved(alloc: Global, knowledge: &Knowledge, network: &Network) -> Result<Vec<u8>, Refusal>
+    requires { network.now ≡ net_of knowledge.now }
+    ensures ok { IfOk result (λ text. IsSolution (net_of knowledge.now) text.items) }
+    ensures err { IsOkUnless result Refusal.OutOfMemory }
+{
+    law_can_be(knowledge);
+    let (flow, _) = solve(alloc, network)?;
+    let mut page = Over::new(Vec::new(alloc));
+    match write_solution(alloc, network, &flow, &mut page) {
+        Ok(()) => Ok(page.into_inner()),
+        Err(_) => Err(Refusal::OutOfMemory),
+    }
+}
+
+/// The plan of a least flow of the network of what the coordinator knows, a line for each place and each preempt. Only memory is
+/// refused. It costs as much as `solution_text`.
+pub fn least_plan_text<N: NetKeeper>(
+    alloc: Global,
+    coordinator: &Coordinator<N>,
+) -> Result<String, Refusal>
+    ensures ok { IfOk result (λ text. IsPlanText coordinator.now.state.knowledge (string_bytes text)) }
+    ensures err { IsOkUnless result Refusal.OutOfMemory }
+{
+    let knowledge = coordinator.knowledge();
+    if coordinator.is_fresh() {
+        coordinator.known();
+        let plan = least_plan(alloc, knowledge, coordinator.keeper().network())?;
+        return plan_text(alloc, &plan);
+    }
+    let network = build(alloc, knowledge)?;
+    let plan = least_plan(alloc, knowledge, &network)?;
+    plan_text(alloc, &plan)
+}

@@ -1,0 +1,4 @@
+//! Plans of what is known.
+#![tactic(auto)]
+
+pub mod least;

@@ -1,0 +1,121 @@
+-- Each command is told as it is defined.
+use Rattle.std.proofs.Common.{◌≡◌, ◌∙◌, refl, List, [], ◌∷◌, codes, arith}
+use Rattle.std.specs.Prelude.{⊤, unwrap_or}
+use Rattle.clap.proofs.OnLiterals.{clap_on_literals}
+use Rattle.fm_words.specs.declared.words.Question.TheVariants as question
+use Rattle.fm_words.specs.Telling.{Text, agree, ask, fleet, pack, run, unpack}
+use Rattle.fm_words.specs.Heard.{Form, asks, commands, fleets, given, nothing, packs}
+use Rattle.fm_words.specs.Parser.{tellings, told_as}
+use Rattle.fm_words.proofs.Leaf.{built_with, helper}
+use Rattle.fm_words.proofs.Entering.{enter}
+use Rattle.fm_words.proofs.Bare.{bare}
+use Rattle.fm_words.proofs.Named.{Named, takes_name}
+use Rattle.fm_words.proofs.Named as named
+use Rattle.fm_words.proofs.Numbered.{Numbered, shape, takes_number}
+
+abbrev pub IsTold : Form → Type 0
+IsTold c = (program : Text) (rest : List Text) → tellings (program ∷ c.name ∷ rest) ≡ given c.takes rest ∷ []
+
+-- P holds of each
+abbrev pub Each : (Form → Type 0) → List Form → Type 0
+Each P [] = ⊤
+Each P (c ∷ cs) = P c × Each P cs
+
+abbrev of_fleet : Numbered
+of_fleet = record {
+  called = codes "fleet";
+  option_name = codes "rounds";
+  most = 1000;
+  bits = 32;
+  give = λ rounds. fleet (unwrap_or rounds 0);
+  tell = told_as (codes "fleet");
+  itself = refl;
+  no_help = refl;
+  is_small = omega arith;
+  has_room = omega arith;
+  tells = λ rows. refl;
+}
+
+abbrev of_graph : Numbered
+of_graph = record {
+  called = codes "graph";
+  option_name = codes "at";
+  most = 255;
+  bits = 8;
+  give = λ at. run (ask question.Graph at);
+  tell = told_as (codes "graph");
+  itself = refl;
+  no_help = refl;
+  is_small = omega arith;
+  has_room = omega arith;
+  tells = λ rows. refl;
+}
+
+abbrev of_solve : Numbered
+of_solve = record {
+  called = codes "solve";
+  option_name = codes "at";
+  most = 255;
+  bits = 8;
+  give = λ at. run (ask question.Solve at);
+  tell = told_as (codes "solve");
+  itself = refl;
+  no_help = refl;
+  is_small = omega arith;
+  has_room = omega arith;
+  tells = λ rows. refl;
+}
+
+abbrev of_winners : Numbered
+of_winners = record {
+  called = codes "winners";
+  option_name = codes "at";
+  most = 255;
+  bits = 8;
+  give = λ at. run (ask question.Winners at);
+  tell = told_as (codes "winners");
+  itself = refl;
+  no_help = refl;
+  is_small = omega arith;
+  has_room = omega arith;
+  tells = λ rows. refl;
+}
+
+abbrev of_pack : Named
+of_pack = record {
+  called = codes "pack";
+  tell = told_as (codes "pack");
+  give = λ name. run (pack name);
+  tells = λ rows. refl;
+}
+
+agree_told : IsTold (record { name = codes "agree"; takes = nothing (run agree) })
+unfolding clap_on_literals
+agree_told program rest = enter program (codes "agree") rest (built_with (codes "agree") (helper ∷ [])) refl refl refl ∙ bare (codes "agree") (told_as (codes "agree")) (run agree) refl rest
+
+fleet_told : IsTold (record { name = codes "fleet"; takes = fleets })
+unfolding clap_on_literals
+fleet_told program rest = enter program (codes "fleet") rest (shape of_fleet) refl refl refl ∙ takes_number of_fleet rest
+
+graph_told : IsTold (record { name = codes "graph"; takes = asks question.Graph })
+unfolding clap_on_literals
+graph_told program rest = enter program (codes "graph") rest (shape of_graph) refl refl refl ∙ takes_number of_graph rest
+
+pack_told : IsTold (record { name = codes "pack"; takes = packs })
+unfolding clap_on_literals
+pack_told program rest = enter program (codes "pack") rest (built_with (codes "pack") named.rules) refl refl refl ∙ takes_name of_pack rest
+
+solve_told : IsTold (record { name = codes "solve"; takes = asks question.Solve })
+unfolding clap_on_literals
+solve_told program rest = enter program (codes "solve") rest (shape of_solve) refl refl refl ∙ takes_number of_solve rest
+
+unpack_told : IsTold (record { name = codes "unpack"; takes = nothing (run unpack) })
+unfolding clap_on_literals
+unpack_told program rest = enter program (codes "unpack") rest (built_with (codes "unpack") (helper ∷ [])) refl refl refl ∙ bare (codes "unpack") (told_as (codes "unpack")) (run unpack) refl rest
+
+winners_told : IsTold (record { name = codes "winners"; takes = asks question.Winners })
+unfolding clap_on_literals
+winners_told program rest = enter program (codes "winners") rest (shape of_winners) refl refl refl ∙ takes_number of_winners rest
+
+pub each_told : Each IsTold commands
+each_told = (agree_told, (fleet_told, (graph_told, (pack_told, (solve_told, (unpack_told, (winners_told, tt)))))))

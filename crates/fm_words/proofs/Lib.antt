@@ -1,0 +1,16 @@
+pub mod Same
+pub mod Looks
+pub mod Digits
+pub mod Leaf
+pub mod Faulty
+pub mod Fine
+pub mod Bare
+pub mod Named
+pub mod Numbered
+pub mod Matching
+pub mod Entering
+pub mod Commands
+pub mod Others
+pub mod Parsing
+pub mod Hearing
+pub mod Helping

@@ -1,0 +1,27 @@
+//! Laws of what words ask for.
+
+ghost use Rattle.std.specs.Prelude.{◌≡◌, ◌≤◌, ◌<◌, ◌^◌, ◌∷◌, [], ℕ, List, None, Some, codes, decimal};
+ghost use Rattle.fm_words.specs.Heard.{heard, number_in};
+ghost use Rattle.fm_words.specs.Telling.{Text, ask, fleet, help, pack, page, run, wrong};
+ghost use Rattle.fm_words.specs.declared.words.Question.TheVariants.{Graph, Solve, Winners};
+
+/// A number in range that is written in decimal digits, as the program itself writes numbers, is told as that number.
+pub fn law_number()
+    ensures { (n most : ℕ) → n ≤ most → n < 2 ^ 64 → number_in most (decimal n) ≡ Some n }
+{}
+
+/// The definition at some command lines. The program's own name may be any.
+pub fn law_examples()
+    ensures next { (p : Text) → heard (p ∷ codes "graph" ∷ codes "--at" ∷ codes "7" ∷ []) ≡ run (ask Graph (Some 7)) }
+    ensures own { (p : Text) → heard (p ∷ codes "solve" ∷ codes "--at=255" ∷ []) ≡ run (ask Solve (Some 255)) }
+    ensures above { (p : Text) → heard (p ∷ codes "solve" ∷ codes "--at=256" ∷ []) ≡ wrong }
+    ensures left_out { (p : Text) → heard (p ∷ codes "winners" ∷ []) ≡ run (ask Winners None) }
+    ensures twice { (p : Text) → heard (p ∷ codes "graph" ∷ codes "--at=1" ∷ codes "--at=1" ∷ []) ≡ wrong }
+    ensures no_rounds { (p : Text) → heard (p ∷ codes "fleet" ∷ []) ≡ fleet 0 }
+    ensures any_name { (p name : Text) → heard (p ∷ codes "pack" ∷ codes "--" ∷ name ∷ []) ≡ run (pack name) }
+    ensures flag { (p : Text) → heard (p ∷ codes "graph" ∷ codes "--at" ∷ codes "1" ∷ codes "-h" ∷ []) ≡ help }
+    ensures topic { (p : Text) → heard (p ∷ codes "help" ∷ codes "solve" ∷ []) ≡ help }
+    ensures refusals { (p : Text) → heard (p ∷ codes "help" ∷ codes "refusals" ∷ []) ≡ page }
+    ensures unknown { (p : Text) → heard (p ∷ codes "grapf" ∷ []) ≡ wrong }
+    ensures none { (p : Text) → heard (p ∷ []) ≡ wrong }
+{}

@@ -1,0 +1,7 @@
+use Rattle.std.proofs.Common.{◌∙◌}
+use Rattle.fm_world.proofs.Taking.{stands_alike, as_it_came}
+use Rattle.fm_world.proofs.world.World.take.Goals as goal
+
+pub returns-in-Ok-clause-stands : goal.returns-in-Ok-clause-stands
+returns-in-Ok-clause-stands g c = λ w sent h same.
+    stands_alike c.step.new.self w c.args.at c.args.by c.args.packet sent (as_it_came c.args.packet c.law_spelled.ensures ∙ same) (c.in-Ok.ensures.stands w h)

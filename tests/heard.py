@@ -1,0 +1,125 @@
+"""What the words of a command line ask for, worked out by docs/formats.md alone, and command lines for tests/run."""
+import itertools
+import json
+import re
+
+BARE = ("agree", "unpack")
+NUMBERED = {"fleet": ("rounds", 1000), "graph": ("at", 255), "solve": ("at", 255), "winners": ("at", 255)}
+TOPICS = (*BARE, *NUMBERED, "pack", "help")
+HELP, PAGE, WRONG = ("help",), ("refusals",), ("wrong",)
+# words of which there are all command lines of up to two
+WORDS = (*TOPICS, "refusals", "grapf", "--", "-", "", "--help", "--help=x", "-h", "-hx", "-x", "-é", "--at", "--at=7", "--rounds",
+         "--rounds=3", "--name", "7", "-7", "a", "a=b", "é")
+# and what may stand behind a command, and behind that
+NUMBERS = ("0", "7", "007", "+7", "-0", "-7", "-+7", "255", "256", "1000", "1001", "1.0", "x", "", "-")
+GIVEN = ([], ["a"], ["-"], [""], ["-x"], ["--", "a"], ["--", "-x"], ["--", "--"],
+         *([option, spelled] for option in ("--at", "--rounds") for spelled in NUMBERS),
+         *([option + "=" + spelled] for option in ("--at", "--rounds") for spelled in NUMBERS))
+BEHIND = ([], ["--"], ["--", "a"], ["a"], ["-h"], ["--help", "a"], ["--at", "7"], ["--rounds=3"])
+
+
+def is_flag(word):
+    return word.startswith("-") and word not in ("-", "--")
+
+
+def number(word, most):
+    """The number that the word spells, or None."""
+    found = re.fullmatch(r"([+-]?)([0-9]+)", word, re.ASCII)
+    value = int(found[2]) if found else most + 1
+    return value if value <= most and (value == 0 or found[1] != "-") else None
+
+
+def flag(word):
+    """A word that no command takes."""
+    return HELP if word == "--help" or word.startswith("-h") else WRONG
+
+
+def last(asked, rest):
+    """What is asked for where the words behind the last argument are these."""
+    if rest and rest[0] != "--":
+        return flag(rest[0])
+    return asked if len(rest) < 2 else WRONG
+
+
+def packet(rest):
+    """What `pack` asks for by the words behind it."""
+    if rest[:1] == ["--"]:
+        return ("pack", rest[1]) if len(rest) == 2 else WRONG
+    if not rest:
+        return WRONG
+    return flag(rest[0]) if is_flag(rest[0]) else last(("pack", rest[0]), rest[1:])
+
+
+def counted(command, rest):
+    """What a command with a number asks for by the words behind it."""
+    option, most = NUMBERED[command]
+    left_out = (command, 0 if command == "fleet" else None)
+    if not rest or rest[0].partition("=")[0] != "--" + option:
+        return last(left_out, rest)
+    _, equals, spelled = rest[0].partition("=")
+    rest = rest[1:]
+    if not equals:
+        if not rest or is_flag(rest[0]):
+            return WRONG
+        spelled, *rest = rest
+    value = number(spelled, most)
+    return WRONG if value is None else last((command, value), rest)
+
+
+def told(words):
+    """What the words behind the program's name ask for."""
+    if not words:
+        return WRONG
+    first, *rest = words
+    if first == "help":
+        if rest == ["refusals"]:
+            return PAGE
+        return HELP if not rest or (len(rest) == 1 and rest[0] in TOPICS) else WRONG
+    if first in BARE:
+        return last((first,), rest)
+    if first == "pack":
+        return packet(rest)
+    return counted(first, rest) if first in NUMBERED else flag(first)
+
+
+def shortest(asked):
+    """The shortest words that ask for it."""
+    command, *given = asked
+    if command == "refusals":
+        return ["help", "refusals"]
+    if command == "pack":
+        return ["pack", "--", *given]
+    if given and given[0] is not None and asked != ("fleet", 0):
+        return [command, "--" + NUMBERED[command][0], str(given[0])]
+    return [command]
+
+
+def command_lines():
+    """Command lines that ask for much and for little."""
+    for count in range(3):
+        yield from map(list, itertools.product(WORDS, repeat=count))
+    for command, given, behind in itertools.product(("agree", "pack", *NUMBERED), GIVEN, BEHIND):
+        yield [command, *given, *behind]
+
+
+def tells(number):
+    """Steps after which the coordinator knows of tasks of its own, as many as no other listed one, the first of which is placed."""
+    job, machine, *tasks = ("00000000-0000-0000-0000-%012x" % (1000 * kind + number) for kind in range(1, 3 + number // 3))
+    facts = [{"job": {"id": job, "version": 1, "writer": 1, "withdrawn": False, "wait": 500, "preempt": 800}},
+             {"machine": {"id": machine, "incarnation": 1, "version": 1, "writer": 1, "up": True, "slots": 2, "nic": 1000}},
+             *({"spec": {"id": task, "version": 1, "writer": 1, "withdrawn": False, "job": job, "request": 100}} for task in tasks),
+             {"propose": {"id": tasks[0], "attempt": 0, "coordinator": number, "machine": machine, "incarnation": 1}}]
+    return [{"at": number, "tell": fact} for fact in facts]
+
+
+# coordinators that know different things, and packets of names that are asked for, each of facts of its own
+LISTED = (3, 7)
+CUTS = [{"at": 7, "cut": {"name": name, "from": at % 4, "to": at % 4 + at // 4 + 1}}
+        for at, name in enumerate(("", "-", "a", "7", "-x", "--"))]
+
+
+def script_for(words):
+    """A script on which each command, each number that is listed and each name that is cut has another answer."""
+    if words[:1] == ["fleet"]:
+        return json.dumps({"coordinators": [3], "steps": tells(3)}).encode()
+    return json.dumps({"coordinators": LISTED, "steps": [step for at in LISTED for step in tells(at)] + CUTS}).encode()
