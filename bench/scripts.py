@@ -3,6 +3,7 @@
 
     bench/scripts.py --tasks N [--machines N] [--requests N] [--seed N] [--prefer SHARE] [--gossip]
     bench/scripts.py --tasks N --rounds N [--at 1|2] [--share N] [--quiet]
+    bench/scripts.py --tasks N --chain plain|ties|limits|many [--slots N] [--drawn]
 
 A tenth as many machines as tasks, a job for each fifty tasks, 20 to 50 sizes of requests. Every tenth task is held by a
 proposal, and every fourth machine has reported a use. Ids are random, so that they do not come in order. All is told to
@@ -13,6 +14,12 @@ With --rounds so many rounds come behind, each after one task in 100 (--share) c
 are new, and for each of the others a machine reports. Nothing is held at first. Coordinator 1 edits its network once few records
 changed since the round before; --at 2 tells and asks one that always builds it anew. With --quiet the rounds themselves are left
 out.
+
+With --chain about so many tasks are chained by what they prefer. As many tasks as a machine has slots prefer the first machine and,
+a little less, the second, as many the second and the third, and so on; one task more prefers the first machine alone. So the least
+flow moves a task of each machine on to the next. `plain` costs one more at the second machine; with `ties` all costs are
+the same; with `limits` credits are at their limit; with `many` several chains end in one machine. Ids are in the order of the chain, with
+--drawn in no order.
 """
 import argparse
 import json
@@ -98,6 +105,42 @@ def rounds(tasks, count, at=1, share=100, quiet=False, seed=1):
     return lines(steps, "[1]" if at == 1 else "[1,2]")
 
 
+# what a task saves at the first and at the second machine that it prefers, beyond what it asks for
+CREDITS = {"plain": (-1, -2), "many": (-1, -2), "ties": (0, 0), "limits": (10 ** 9, 10 ** 9 - 1)}
+
+
+def links_of_chain(count, slots, first, last):
+    """Which machines tasks prefer in a chain of so many machines and one more, the last; the others are numbered from the first on."""
+    machines = list(range(first, first + count)) + [last]
+    yield machines[:1]
+    for near, far in zip(machines, machines[1:]):
+        yield from [[near, far]] * slots
+
+
+def chain(tasks, kind="plain", slots=1, drawn=False, seed=1):
+    """The lines of the script of a chain, or of several that end in machine 0."""
+    chance = random.Random("chain %d %s %d %d" % (tasks, kind, slots, seed))
+    chains = max(2, int(tasks ** 0.5) // 2) if kind == "many" else 1
+    count = max(1, tasks // slots // chains)
+    liked = [link for number in range(chains) for link in links_of_chain(count, slots, 1 + number * count, 0)]
+    jobs, hosts, names = ids(chance, 1), ids(chance, 1 + chains * count), ids(chance, len(liked))
+    if not drawn:
+        # the machine in which chains end stands behind them
+        hosts.sort()
+        hosts = hosts[-1:] + hosts[:-1]
+        names.sort()
+    told = [{"job": {"id": jobs[0], "version": 1, "writer": 1, "withdrawn": False, "wait": 10 ** 9, "preempt": 10 ** 9}}]
+    told += [{"machine": {"id": host, "incarnation": 1, "version": 1, "writer": 1, "up": True, "slots": slots, "nic": 10 ** 6}}
+             for host in hosts]
+    request = 10 ** 6 // slots
+    for name, machines in zip(names, liked):
+        told.append(spec(name, jobs, [request], chance))
+        credits = [min(10 ** 9, request + more) for more in CREDITS[kind]]
+        told[-1]["spec"]["prefer"] = sorted(({"machine": hosts[machine], "credit": credit} for machine, credit in zip(machines, credits)),
+                                            key=lambda entry: entry["machine"])
+    return lines([{"at": 1, "tell": op} for op in told], "[1]")
+
+
 def lines(steps, coordinators):
     yield '{"coordinators":%s,"steps":[\n' % coordinators
     for place, step in enumerate(steps):
@@ -117,8 +160,13 @@ if __name__ == "__main__":
     words.add_argument("--at", type=int, choices=(1, 2), default=1)
     words.add_argument("--share", type=int, default=100)
     words.add_argument("--quiet", action="store_true")
+    words.add_argument("--chain", choices=tuple(CREDITS))
+    words.add_argument("--slots", type=int, default=1)
+    words.add_argument("--drawn", action="store_true")
     words = words.parse_args()
-    if words.rounds is None:
+    if words.chain:
+        sys.stdout.writelines(chain(words.tasks, words.chain, words.slots, words.drawn, words.seed))
+    elif words.rounds is None:
         sys.stdout.writelines(script(words.tasks, words.machines, words.requests, words.seed, words.gossip, words.prefer))
     else:
         sys.stdout.writelines(rounds(words.tasks, words.rounds, words.at, words.share, words.quiet, words.seed))

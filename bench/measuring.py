@@ -1,0 +1,58 @@
+"""Runs of the program, timed, and of LEMON's solvers beside it (bench/lemon.cc)."""
+import os
+import pathlib
+import re
+import shutil
+import subprocess
+import sys
+import tempfile
+import time
+
+HERE = pathlib.Path(__file__).resolve().parent
+
+
+def timed(program, words, script):
+    """What the program takes on the script, in seconds, and what it prints."""
+    with open(script, "rb") as source, tempfile.TemporaryFile() as out:
+        start = time.perf_counter()
+        status = subprocess.run([program, *words], stdin=source, stdout=out).returncode
+        taken = time.perf_counter() - start
+        if status:
+            sys.exit("bench: status %d" % status)
+        out.seek(0)
+        return taken, out.read()
+
+
+def used(program, words, script):
+    """What the program takes on the script, in seconds, and the most memory that it has, in bytes."""
+    with open(script, "rb") as source, tempfile.TemporaryFile() as out:
+        start = time.perf_counter()
+        run = subprocess.Popen([program, *words], stdin=source, stdout=out)
+        _, status, usage = os.wait4(run.pid, 0)
+        taken = time.perf_counter() - start
+    if status:
+        sys.exit("bench: status %d" % os.waitstatus_to_exitcode(status))
+    return taken, usage.ru_maxrss * 1024
+
+
+def lemon(folder):
+    """The program that runs LEMON's solvers, made in the folder; None, with a line that says why, where it cannot be made."""
+    compiler, program = shutil.which("g++"), pathlib.Path(folder) / "lemon"
+    if compiler is None:
+        print("bench: skips LEMON: no g++ here")
+        return None
+    made = subprocess.run([compiler, "-O2", "-w", "-o", program, HERE / "lemon.cc"], stderr=subprocess.PIPE, text=True)
+    if made.returncode:
+        print("bench: skips LEMON: %s" % made.stderr.strip().partition("\n")[0])
+        return None
+    return program
+
+
+def lemon_times(program, dump, cost):
+    """What `run()` of each of LEMON's solvers takes on the dump, and that with reading it and making the graph, in seconds, by the
+    solver's name; each has to find the cost."""
+    said = subprocess.run([program, dump], stdout=subprocess.PIPE, text=True, check=True).stdout
+    found = re.findall(r"^(\S+) cost (-?\d+) read (\S+) build (\S+) run (\S+)$", said, re.M)
+    if not found or any(int(line[1]) != cost for line in found):
+        sys.exit("bench: the costs differ: %d here, LEMON says\n%s" % (cost, said))
+    return {name: (float(run) / 1000, (float(read) + float(build) + float(run)) / 1000) for name, _, read, build, run in found}
