@@ -3,6 +3,7 @@
 
 mod arc_lines;
 pub mod dump;
+mod interrupted;
 pub mod laws;
 mod numbers;
 pub mod out;

@@ -4,7 +4,8 @@ ghost use Rattle.std.specs.Prelude.{◌≡◌, ◌≤◌, ◌||◌, ℕ, List, B
 ghost use Rattle.std.specs.Io.KnownBytes.{Appends, Keeps};
 ghost use Rattle.fm_dimacs.specs.Sending.{fails_at};
 
-use std::io::{ErrorKind, Write};
+use crate::interrupted::write_some;
+use std::io::Write;
 use std::marker::Model;
 
 /// What takes bytes.
@@ -91,22 +92,4 @@ impl<W: Write> Out for Over<W> {
     fn failed(&self) -> bool {
         self.failed
     }
-}
-
-// How many bytes of the piece the writer takes: 0 if it fails. A write that was interrupted is made again.
-fn write_some<W: Write>(writer: &mut W, piece: &[u8]) -> usize
-    ensures within { result ≤ length piece.now }
-    ensures takes { Appends (W.contents writer.old) (W.contents writer.new) (take result piece.now) }
-{
-    for _ in 0..u64::MAX {
-        match writer.write(piece) {
-            Ok(taken) => return taken,
-            Err(error) => {
-                if error.kind() != ErrorKind::Interrupted {
-                    return 0;
-                }
-            }
-        }
-    }
-    0
 }
