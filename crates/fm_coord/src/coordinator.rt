@@ -12,7 +12,7 @@ ghost use Rattle.std.specs.Io.KnownBytes.{Appends};
 ghost use Rattle.fm_dimacs.specs.Sending.{AppendsPrefix, StopsBy, IsSent};
 ghost use Rattle.fm_dimacs.specs.Text.{dump_text};
 ghost use Rattle.fm_round.specs.Admission.{admitted};
-ghost use Rattle.fm_coord.specs.Events.{Sent, Told, Merged, Gave, LetGo, Viewed, Committed, Replica};
+ghost use Rattle.fm_coord.specs.Events.{Sent, Told, Merged, Gave, LetGo, Viewed, Committed, Replica, packet_of};
 ghost use Rattle.fm_coord.specs.Causes.{cause, refusal_for, room_fault, range_fault, floor_fault};
 ghost use Rattle.fm_coord.specs.Replays.{seen};
 ghost use Rattle.fm_coord.specs.States.{new_state, bounds, entry, took, gave, let_go, noted, cut_packet, range_value, StandsFor, IsEventAt, IsCoordinator};
@@ -258,9 +258,7 @@ impl<N: NetKeeper> Coordinator<N> {
         ensures err { IfErr result (λ refusal. refusal ≡ refusal_for (bounds self.old.state) (Call.Cut range)) }
         ensures unchanged { OnErr result (self.new ≡ self.old) }
     {
-        self.check_range(range)?;
-        self.check_room()?;
-        let packet = self.packet_of(range)?;
+        let packet = self.packet_for(range)?;
         let given = Entry {
             by,
             call: Call::Cut(range),
@@ -269,6 +267,20 @@ impl<N: NetKeeper> Coordinator<N> {
         self.history.push(given)?;
         self.cuts += 1;
         Ok(packet)
+    }
+
+    /// The packet that a cut of the range would give now. Nothing is listed, and its number goes to the next cut. It costs what the
+    /// cut costs.
+    /// BadInterval, Trimmed, HistoryFull, OutOfMemory: as the cut would be refused.
+    pub fn packet_for(&self, range: Range) -> Result<Shared<Packet>, Refusal>
+        ensures ok { IfOk result (λ packet. packet ≡ cut_packet self.now.state range) }
+        ensures within { IsOk result → cause (bounds self.now.state) (Call.Cut range) ≡ None }
+        ensures seen { (r : Replica) → StandsFor self.now.state r → IfOk result (λ packet. packet ≡ seen (packet_of r range)) }
+        ensures err { IfErr result (λ refusal. refusal ≡ refusal_for (bounds self.now.state) (Call.Cut range)) }
+    {
+        self.check_range(range)?;
+        self.check_room()?;
+        self.packet_of(range)
     }
 
     // The packet of a cut.

@@ -1,6 +1,6 @@
 //! Coordinators, and every packet that they cut.
 
-ghost use Rattle.std.specs.Prelude.{◌≡◌, [], None, Some, IfOk, IfErr, OnOk, OnErr, MatchOption, map, option_map, slice_get};
+ghost use Rattle.std.specs.Prelude.{◌≡◌, [], None, Some, IfOk, IfErr, OnOk, OnErr, MatchOption, map, option_map, slice_get, length};
 ghost use Rattle.fm_net.specs.Network.{net_of};
 ghost use Rattle.fm_dimacs.specs.Sending.{AppendsPrefix, StopsBy};
 ghost use Rattle.fm_dimacs.specs.Text.{dump_text};
@@ -81,7 +81,14 @@ impl<N: NetKeeper> World<N> {
     pub fn coordinator(&self, number: CoordId) -> Option<&Coordinator<N>>
         ensures { option_map (λ c. c.now.state) result ≡ state_with self.now.coordinators number }
     {
-        match place_of(self.coordinators.as_slice(), number.value()) {
+        self.numbered(number.value())
+    }
+
+    /// The coordinator with the number, if there is one.
+    pub fn numbered(&self, number: u8) -> Option<&Coordinator<N>>
+        ensures { option_map (λ c. c.now.state) result ≡ state_with self.now.coordinators number }
+    {
+        match place_of(self.coordinators.as_slice(), number) {
             None => None,
             Some(place) => Some(&self.coordinators[place]),
         }
@@ -92,6 +99,13 @@ impl<N: NetKeeper> World<N> {
         ensures { map state_of result.now ≡ self.now.coordinators }
     {
         self.coordinators.as_slice()
+    }
+
+    /// How many packets were cut, over all coordinators.
+    pub fn packet_count(&self) -> usize
+        ensures { result ≡ length self.now.packets }
+    {
+        self.packets.len()
     }
 
     /// The packet that was cut as the one with the number, counted from 0 over all coordinators, if there is one.

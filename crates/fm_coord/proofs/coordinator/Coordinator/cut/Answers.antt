@@ -1,11 +1,10 @@
-use Rattle.std.proofs.Common.{◌≡◌, ◌∙◌, ◌+◌, List, None, ap, sym, subst}
+use Rattle.std.proofs.Common.{◌≡◌, ◌∙◌, ◌+◌, List, None, refl, ap, sym, subst}
 use Rattle.fm_delta.specs.declared.packet.Packet.{Packet}
 use Rattle.fm_coord.specs.declared.entry.Entry.{Entry}
 use Rattle.fm_coord.specs.declared.entry.Call.TheVariants as call
 use Rattle.fm_coord.specs.declared.entry.Reply.TheVariants as reply
-use Rattle.fm_coord.specs.Causes.{room_fault, range_fault}
+use Rattle.fm_coord.specs.Causes.{cause}
 use Rattle.fm_coord.specs.States.{State, bounds, entry, gave, cut_packet, IsCoordinator}
-use Rattle.fm_coord.specs.StepLaws.{no_cause}
 use Rattle.fm_coord.proofs.Said.{same_state}
 use Rattle.fm_coord.proofs.Keeps.{keeps_cut}
 use Rattle.fm_coord.proofs.Happens.{gave_packet}
@@ -16,15 +15,14 @@ invariant_of-self-2 g c =
     let a = c.self.inside in
     let s : State = record { number = a.number; limit = a.limit; knowledge = a.knowledge; deltas = a.buffer.deltas; cuts = a.cuts; history = a.history.items } in
     let is : s ≡ c.args.self.now.state = same_state c.self.view_is in
-    let room : room_fault (bounds s) ≡ None = subst (λ (t : State). room_fault (bounds t) ≡ None) (sym is) c.in_ok-check_room.ensures.ok in
-    let fault : range_fault (bounds s) c.args.range ≡ None = subst (λ (t : State). range_fault (bounds t) c.args.range ≡ None) (sym is) c.in_ok-check_range.ensures.ok in
+    let none : cause (bounds s) (call.Cut c.args.range) ≡ None = subst (λ (t : State). cause (bounds t) (call.Cut c.args.range) ≡ None) (sym is) (c.in_ok-packet.ensures.within refl) in
     let packet : c.in_ok-share.field-0 ≡ cut_packet s c.args.range = c.in_ok-share.ensures ∙ c.in_ok-packet.ensures.ok ∙ ap (λ (t : State). cut_packet t c.args.range) (sym is) in
     let items = c.in_ok-push.ensures.items in
     record {
       coordinator =
           subst (λ (es : List Entry). IsCoordinator (record { number = s.number; limit = s.limit; knowledge = s.knowledge; deltas = s.deltas; cuts = s.cuts + 1; history = es })) (sym items)
           (subst (λ (p : Packet). IsCoordinator (gave s (entry c.args.by (call.Cut c.args.range) (reply.Packet p)))) (sym packet)
-          (keeps_cut s c.self.invariant.coordinator c.args.by c.args.range (no_cause (bounds s) (call.Cut c.args.range) fault room)));
+          (keeps_cut s c.self.invariant.coordinator c.args.by c.args.range none));
       keeper = c.self.invariant.keeper;
     }
 
@@ -34,7 +32,7 @@ returns-clause-event g c =
     let s : State = c.args.self.now.state in
     let t : State = record { number = a.number; limit = a.limit; knowledge = a.knowledge; deltas = a.buffer.deltas; cuts = a.cuts; history = a.history.items } in
     let is : t ≡ s = same_state c.self.view_is in
-    let none = no_cause (bounds s) (call.Cut c.args.range) c.in_ok-check_range.ensures.ok c.in_ok-check_room.ensures.ok in
+    let none = c.in_ok-packet.ensures.within refl in
     let p : Packet = c.in_ok-packet.packet in
     let shared : c.in_ok-share.field-0 ≡ p = c.in_ok-share.ensures in
     let items = c.in_ok-push.ensures.items in
