@@ -1,3 +1,5 @@
 pub mod Views
 pub mod Naming
 pub mod Spelling
+pub mod Plainly
+pub mod Examples

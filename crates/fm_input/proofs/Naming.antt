@@ -5,11 +5,13 @@ use Rattle.std.specs.Map.{lookup, keys_of}
 use Rattle.std.specs.String.{string_eq}
 use Rattle.indexmap.specs.IndexMap.{insert_entry}
 use Rattle.serde_json.specs.Data.{Data}
+use Rattle.serde_json.specs.Find.{as_str}
 use Rattle.fm_records.specs.Options.{when}
 use Rattle.fm_coord.specs.declared.entry.Range.{Range}
 use Rattle.fm_input.specs.declared.script.Act.TheVariants.{Cut}
 use Rattle.fm_input.specs.Json.{given, text_at}
 use Rattle.fm_input.specs.Script.{is_text, is_named, range_of, cut_of}
+use Rattle.fm_input.specs.Requests.{Cuts, cut_under}
 
 module _ {X : Type 0} (p : X → Bool) where
   -- an item that passes has its place within the list
@@ -89,3 +91,9 @@ pub cut_of-parts : (names : List (List ℕ)) (d : Data) (name : List ℕ) (range
 cut_of-parts names d name range placed named ranged there =
     ap (λ b. when (not b) (Cut range)) (there ∙ is_some-position (is_text name) names)
     ∙ (λ i. given (named i) (λ name. given (ranged i) (λ range. when (not (is_named names name)) (Cut range))))
+
+-- what a cut under the name that a value is comes to
+pub cut_under-parts : (names : List (List ℕ)) (at : ℕ) (range : Range) (d : Data) (name : List ℕ) (placed : Bool) → Some name ≡ as_str d → placed ≡ is_some (position (is_text name) names) → when (not placed) (Cuts at range (Some name)) ≡ cut_under names at range d
+cut_under-parts names at range d name placed named there =
+    ap (λ b. when (not b) (Cuts at range (Some name))) (there ∙ is_some-position (is_text name) names)
+    ∙ ap (λ o. given o (λ name. when (not (is_named names name)) (Cuts at range (Some name)))) named

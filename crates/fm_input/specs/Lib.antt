@@ -1,3 +1,4 @@
 pub mod Json
 pub mod Script
 pub mod Texts
+pub mod Requests

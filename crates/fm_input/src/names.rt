@@ -1,6 +1,6 @@
 //! The names of packets.
 
-ghost use Rattle.std.specs.Prelude.{◌≡◌, ◌++◌, ◌∷◌, [], not, if◌then◌else◌, length, position, IfOk, OnOk, OnErr};
+ghost use Rattle.std.specs.Prelude.{◌≡◌, ◌++◌, ◌∷◌, [], not, if◌then◌else◌, length, take, position, IfOk, OnOk, OnErr};
 ghost use Rattle.fm_input.specs.Script.{is_text, is_named};
 
 use fm_lattice::join::OutOfMemory;
@@ -57,5 +57,12 @@ impl Names {
     {
         let key = String::from_str(self.alloc, name)?;
         Ok(self.places.insert(key, ())?.is_none())
+    }
+
+    /// Keeps the names before that place, or all if there are no more. It takes no memory and is never refused.
+    pub fn truncate(&mut self, len: usize)
+        ensures { self.new ≡ take len self.old }
+    {
+        self.places.truncate(len);
     }
 }

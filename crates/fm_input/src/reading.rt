@@ -164,7 +164,7 @@ fn cut_in(cut: &Value, names: &Names) -> Option<Act>
 }
 
 // What a cut's packet comes from.
-fn range_in(cut: &Value) -> Option<Range>
+pub(crate) fn range_in(cut: &Value) -> Option<Range>
     ensures { result ≡ range_of (view cut.now) }
 {
     match (cut.get("from"), cut.get("to")) {
@@ -346,7 +346,7 @@ fn phase_in(name: &str) -> Option<Phase>
 }
 
 // Whether the value is an object of that many members.
-fn is_object_of(value: &Value, members: usize) -> bool
+pub(crate) fn is_object_of(value: &Value, members: usize) -> bool
     ensures { result ≡ has_size members (view value.now) }
 {
     match value.as_object() {
@@ -368,7 +368,7 @@ fn number_32_in(fields: &Value, name: &str) -> Option<u32>
     u32::try_from(number_in(fields, name)?).ok()
 }
 
-fn number_8_in(fields: &Value, name: &str) -> Option<u8>
+pub(crate) fn number_8_in(fields: &Value, name: &str) -> Option<u8>
     ensures { result ≡ number_8_at name.now (view fields.now) }
 {
     u8::try_from(number_in(fields, name)?).ok()

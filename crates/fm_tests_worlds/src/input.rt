@@ -1,4 +1,6 @@
+use fm_input::names::Names;
 use fm_input::reading::read_script;
+use fm_input::requesting::read_request;
 use std::alloc::Global;
 use std::test::Fail;
 
@@ -124,6 +126,49 @@ static READ_STEPS: [(&str, &str, &str); 15] = [
     ),
 ];
 
+// Lines of a stream, as they are read.
+static READ_LINES: [(&str, &str); 15] = [
+    (
+        r#"{"coordinators":[64,1]}"#,
+        "Open([CoordId { number: 64 }, CoordId { number: 1 }])",
+    ),
+    (
+        r#"{"at":255,"trim":7}"#,
+        "Do(Step { at: 255, act: Trim(7) })",
+    ),
+    (
+        r#"{"deliver":"b","at":1}"#,
+        "Do(Step { at: 1, act: Deliver(1) })",
+    ),
+    (
+        r#"{"at":1,"cut":{}}"#,
+        "Cut { at: 1, range: Full, name: None }",
+    ),
+    (
+        r#"{"at":1,"cut":{"to":0,"more":[],"from":18446744073709551615}}"#,
+        "Cut { at: 1, range: Interval(18446744073709551615, 0), name: None }",
+    ),
+    (
+        r#"{"at":1,"cut":{"name":"b"}}"#,
+        r#"Cut { at: 1, range: Full, name: Some("b") }"#,
+    ),
+    (r#"{"at":0,"news":true}"#, "News { at: 0 }"),
+    (
+        r#"{"at":2,"take":"46444732"}"#,
+        r#"Take { at: 2, digits: "46444732" }"#,
+    ),
+    (r#"{"at":1,"ask":"graph"}"#, "Ask { at: 1, topic: Graph }"),
+    (r#"{"at":1,"ask":"solve"}"#, "Ask { at: 1, topic: Solve }"),
+    (r#"{"at":1,"ask":"plan"}"#, "Ask { at: 1, topic: Plan }"),
+    (
+        r#"{"at":1,"ask":"winners"}"#,
+        "Ask { at: 1, topic: Winners }",
+    ),
+    (r#"{"at":1,"ask":"stops"}"#, "Ask { at: 1, topic: Stops }"),
+    (r#" { "ask" : "agree" } "#, "Agree"),
+    (r#"{"renew":true}"#, "Renew"),
+];
+
 // The script that the text spells, as it is printed.
 fn printed(alloc: Global, text: &str) -> Result<String, Fail> {
     let script = read_script(alloc, text.as_bytes())?;
@@ -154,6 +199,19 @@ fn each_kind_of_step_is_read(rt: HostRuntime) -> Result<(), Fail> {
             "Script {{ coordinators: [CoordId {{ number: 1 }}], names: Names {{ alloc: Global, places: {names} }}, steps: {read} }}"
         )?;
         assert_eq!(rt; printed(alloc, text.as_str())?, wanted);
+    }
+    Ok(())
+}
+
+#[test]
+fn each_kind_of_line_is_read(rt: HostRuntime) -> Result<(), Fail> {
+    let alloc = rt.alloc();
+    let mut names = Names::new(alloc);
+    names.add("a")?;
+    for (line, read) in &READ_LINES {
+        let request = read_request(alloc, line.as_bytes(), &names)?;
+        let printed = format!(in alloc; "{request:?}")?;
+        assert_eq!(rt; printed.as_str(), *read);
     }
     Ok(())
 }

@@ -1,0 +1,54 @@
+//! What a line of a stream asks for, as data.
+
+use crate::script::Step;
+use fm_coord::entry::Range;
+use fm_records::ids::CoordId;
+
+/// What a coordinator is asked about.
+#[derive(Debug, Clone, Copy, PartialEq, Eq, Drop)]
+pub enum Topic {
+    /// The network of what it knows.
+    Graph,
+    /// A least flow of that network.
+    Solve,
+    /// What a round would place and preempt.
+    Plan,
+    /// Who won the present attempt of each task, by what it knows.
+    Winners,
+    /// Which copies of tasks are to stop, by what it knows.
+    Stops,
+}
+
+/// What a line of a stream asks for.
+#[derive(Debug, Drop)]
+pub enum Request {
+    /// The coordinators with which the stream begins: at least one, distinct.
+    Open(Vec<CoordId>),
+    /// What a coordinator does, as in a script: it is told an operation, takes in a packet, trims, or runs a round.
+    /// It cuts nothing.
+    Do(Step),
+    /// A coordinator cuts a packet, which has the name if there is one.
+    Cut {
+        at: u8,
+        range: Range,
+        name: Option<String>,
+    },
+    /// A coordinator cuts a packet of what came since it was last asked this.
+    News {
+        at: u8,
+    },
+    /// A coordinator takes in the packet that the hexadecimal digits spell, which are not yet checked.
+    Take {
+        at: u8,
+        digits: String,
+    },
+    /// A coordinator is asked.
+    Ask {
+        at: u8,
+        topic: Topic,
+    },
+    /// Whether all coordinators know the same.
+    Agree,
+    /// The coordinators are made anew.
+    Renew,
+}
