@@ -1,5 +1,7 @@
 pub mod Winners
 pub mod Unpacked
+pub mod Lines
 pub mod Plans
+pub mod Rounds
 pub mod Texts
 pub mod Queries

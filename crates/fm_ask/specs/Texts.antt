@@ -1,5 +1,5 @@
 -- The texts that answer queries (this project's profile).
-use Rattle.std.specs.Prelude.{◌≡◌, ℕ, List, [], ◌∷◌, ◌++◌, cond, codes, decimal, Option, Some, None, option_map, slice_get}
+use Rattle.std.specs.Prelude.{◌≡◌, ℕ, List, [], ◌∷◌, ◌++◌, cond, codes, decimal, Option, Some, None, option_map}
 use Rattle.hex.specs.Hex.{encode_lower}
 use Rattle.fm_records.specs.Table.{Table}
 use Rattle.fm_records.specs.Know.{know}
@@ -13,7 +13,6 @@ use Rattle.fm_dimacs.specs.Solution.{solution_text}
 use Rattle.fm_dimacs.specs.Text.{dump_text}
 use Rattle.fm_coord.specs.Events.{Sent, Replica}
 use Rattle.fm_coord.specs.Replays.{seen}
-use Rattle.fm_world.specs.Worlds.{WorldOfSets}
 use Rattle.fm_ask.specs.declared.agree.Disagreement.{Disagreement}
 use Rattle.fm_ask.specs.Winners.{winners_text}
 

@@ -14,7 +14,7 @@ use Rattle.fm_records.specs.declared.records.Spot.{Spot}
 use Rattle.fm_records.specs.declared.refusal.Refusal.{Refusal}
 use Rattle.fm_records.specs.declared.refusal.Refusal.TheVariants.{OutOfMemory, BadScript, BadPacket}
 use Rattle.fm_records.specs.Ids.{id_text}
-use Rattle.fm_records.specs.Table.{TaskValue, MachineValue}
+use Rattle.fm_records.specs.Table.{TaskValue, MachineValue, Table}
 use Rattle.fm_delta.specs.declared.packet.Packet.{Packet}
 use Rattle.fm_wire.specs.Grammar.{Spells, fault}
 
@@ -77,11 +77,13 @@ proposal_line at e =
 abbrev pub proposal_lines : (ℕ × ℕ) × List (ℕ × Spot) → List ℕ
 proposal_lines e = flat_map (proposal_line e.0) e.1
 
--- packet SENDER NUMBER, and then the records of jobs, tasks, machines and proposals
+-- the records of jobs, tasks, machines and proposals
+abbrev pub records_text : Table → List ℕ
+records_text k = flat_map job_line k.jobs ++ (flat_map task_lines k.tasks ++ (flat_map machine_lines k.machines ++ flat_map proposal_lines k.proposals))
+
+-- packet SENDER NUMBER, and then its records
 abbrev pub unpacked_text : Packet → List ℕ
-unpacked_text p =
-    (codes "packet " ++ (decimal p.sender ++ (codes " " ++ (decimal p.number ++ codes "\n"))))
-    ++ (flat_map job_line p.value.jobs ++ (flat_map task_lines p.value.tasks ++ (flat_map machine_lines p.value.machines ++ flat_map proposal_lines p.value.proposals)))
+unpacked_text p = (codes "packet " ++ (decimal p.sender ++ (codes " " ++ (decimal p.number ++ codes "\n")))) ++ records_text p.value
 
 -- the text without a line feed at its end
 abbrev pub ends_line : List ℕ → Bool
@@ -90,18 +92,25 @@ ends_line text = pointwise nat_eq (drop (length text - 1) text) (codes "\n")
 abbrev pub without_line_feed : List ℕ → List ℕ
 without_line_feed text = if ends_line text then take (length text - 1) text else text
 
--- the text is the lines of a packet, whose bytes, of either version, the input spells in hexadecimal digits, with at most one
--- line feed behind them
-pub record IsUnpacked (input text : List ℕ) : Type 0 where
+-- the digits spell the bytes of a packet, of either version
+pub record IsPacketIn (digits : List ℕ) (packet : Packet) : Type 0 where
   pub bytes : List ℕ
-  pub digits : decode_of (without_line_feed input) ≡ Ok bytes
-  pub packet : Packet
+  pub decoded : decode_of digits ≡ Ok bytes
   pub spelled : Spells bytes packet
+
+-- they are no digits, or their bytes are no packet's and the refusal names the first fault; or memory was refused
+abbrev pub IsNoPacketIn : List ℕ → Refusal → Type 0
+IsNoPacketIn digits refusal =
+    (refusal ≡ OutOfMemory)
+    ⊎ (((refusal ≡ BadScript 0) × (e : FromHexError) × (decode_of digits ≡ Err e))
+    ⊎ ((bytes : List ℕ) × (decode_of digits ≡ Ok bytes) × (option_map BadPacket (fault bytes) ≡ Some refusal)))
+
+-- the text is the lines of the packet that the input spells, with at most one line feed behind its digits
+pub record IsUnpacked (input text : List ℕ) : Type 0 where
+  pub packet : Packet
+  pub packet_in : IsPacketIn (without_line_feed input) packet
   pub lines : text ≡ unpacked_text packet
 
--- the input is no digits, or its bytes are no packet's and the refusal names the first fault; or memory was wanted
+-- the input, without a line feed at its end, spells no packet
 abbrev pub IsNotUnpacked : List ℕ → Refusal → Type 0
-IsNotUnpacked input refusal =
-    (refusal ≡ OutOfMemory)
-    ⊎ (((refusal ≡ BadScript 0) × (e : FromHexError) × (decode_of (without_line_feed input) ≡ Err e))
-    ⊎ ((bytes : List ℕ) × (decode_of (without_line_feed input) ≡ Ok bytes) × (option_map BadPacket (fault bytes) ≡ Some refusal)))
+IsNotUnpacked input = IsNoPacketIn (without_line_feed input)

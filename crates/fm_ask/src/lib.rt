@@ -2,9 +2,11 @@
 #![tactic(auto)]
 
 pub mod agree;
+mod lines;
 pub mod packets;
 pub mod plans;
 pub mod query;
+pub mod rounds;
 pub mod solution;
 pub mod stops;
 pub mod unpack;

@@ -2,6 +2,7 @@
 
 ghost use Rattle.std.specs.Prelude.{◌≡◌, IfOk, IsOkUnless, string_bytes};
 ghost use Rattle.fm_net.specs.Network.{net_of};
+ghost use Rattle.fm_round.specs.Schedules.{IsPlanOf};
 ghost use Rattle.fm_ask.specs.Plans.{IsPlanText};
 ghost use Rattle.fm_ask.specs.Texts.{IsSolution};
 
@@ -17,6 +18,7 @@ use fm_plan::least::least_plan;
 use fm_policy::build::build;
 use fm_policy::keeper::NetKeeper;
 use fm_records::refusal::Refusal;
+use fm_round::parts::Plan;
 use std::alloc::Global;
 
 /// A least flow of the network of what the coordinator knows, its cost first, in DIMACS lines. Only memory is refused. The cost
@@ -52,8 +54,25 @@ fn solved(alloc: Global, knowledge: &Knowledge, network: &Network) -> Result<Vec
     }
 }
 
-/// The plan of a least flow of the network of what the coordinator knows, a line for each place and each preempt. Only memory is
-/// refused. It costs as much as `solution_text`.
+/// The plan of a least flow of the network of what the coordinator knows. Only memory is refused. The cost is that of building the
+/// network, if the coordinator has none that is fresh, and of solving it.
+pub fn least_plan_of<N: NetKeeper>(
+    alloc: Global,
+    coordinator: &Coordinator<N>,
+) -> Result<Plan, Refusal>
+    ensures ok { IfOk result (λ plan. IsPlanOf coordinator.now.state.knowledge plan) }
+    ensures err { IsOkUnless result Refusal.OutOfMemory }
+{
+    let knowledge = coordinator.knowledge();
+    if coordinator.is_fresh() {
+        coordinator.known();
+        return least_plan(alloc, knowledge, coordinator.keeper().network());
+    }
+    let network = build(alloc, knowledge)?;
+    least_plan(alloc, knowledge, &network)
+}
+
+/// That plan as text, a line for each place and each preempt. Only memory is refused. It costs what `least_plan_of` does.
 pub fn least_plan_text<N: NetKeeper>(
     alloc: Global,
     coordinator: &Coordinator<N>,
@@ -61,13 +80,6 @@ pub fn least_plan_text<N: NetKeeper>(
     ensures ok { IfOk result (λ text. IsPlanText coordinator.now.state.knowledge (string_bytes text)) }
     ensures err { IsOkUnless result Refusal.OutOfMemory }
 {
-    let knowledge = coordinator.knowledge();
-    if coordinator.is_fresh() {
-        coordinator.known();
-        let plan = least_plan(alloc, knowledge, coordinator.keeper().network())?;
-        return plan_text(alloc, &plan);
-    }
-    let network = build(alloc, knowledge)?;
-    let plan = least_plan(alloc, knowledge, &network)?;
+    let plan = least_plan_of(alloc, coordinator)?;
     plan_text(alloc, &plan)
 }

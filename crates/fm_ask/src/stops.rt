@@ -1,10 +1,9 @@
 //! What a coordinator has to stop, as text.
 
-ghost use Rattle.std.specs.Prelude.{◌≡◌, ◌++◌, IfOk, OnOk, IsOkUnless, string_bytes};
-ghost use Rattle.std.specs.List.{flat_map};
-ghost use Rattle.fm_round.specs.Stopping.{stops_of};
-ghost use Rattle.fm_ask.specs.Plans.{stop_line, stops_text};
+ghost use Rattle.std.specs.Prelude.{◌≡◌, IfOk, IsOkUnless, string_bytes};
+ghost use Rattle.fm_ask.specs.Plans.{stops_text};
 
+use crate::lines::{LineText, write_lines};
 use fm_know::knowledge::Knowledge;
 use fm_records::ids::CoordId;
 use fm_records::refusal::Refusal;
@@ -24,30 +23,21 @@ pub fn stops_text(
 {
     let mut lines = String::new(alloc);
     let stops = stops(alloc, knowledge, coordinator)?;
-    write_stops(alloc, &stops, &mut lines)?;
+    write_lines(alloc, &stops, &mut lines)?;
     Ok(lines)
 }
 
-// Appends a line for each.
-fn write_stops(alloc: Global, stops: &[Stop], lines: &mut String) -> Result<(), Refusal>
-    ensures ok { OnOk result (string_bytes lines.new ≡ string_bytes lines.old ++ flat_map stop_line stops.now) }
-    ensures err { IsOkUnless result Refusal.OutOfMemory }
-{
-    for stop in stops {
-        write_stop(alloc, *stop, lines)?;
-    }
-    Ok(())
-}
+impl LineText for Stop {
+    ghost use Rattle.fm_ask.specs.Plans.{stop_text};
 
-// Appends the line of one.
-fn write_stop(alloc: Global, stop: Stop, lines: &mut String) -> Result<(), Refusal>
-    ensures ok { OnOk result (string_bytes lines.new ≡ string_bytes lines.old ++ stop_line stop) }
-    ensures err { IsOkUnless result Refusal.OutOfMemory }
-{
-    let task = stop.task.text(alloc)?;
-    let attempt = stop.attempt;
-    let machine = stop.machine.text(alloc)?;
-    let incarnation = stop.incarnation;
-    write!(lines, "stop {task} {attempt} {machine} {incarnation}\n")?;
-    Ok(())
+    ghost line_text = { stop_text };
+
+    fn write_text(&self, alloc: Global, lines: &mut String) -> Result<(), Refusal> {
+        let task = self.task.text(alloc)?;
+        let attempt = self.attempt;
+        let machine = self.machine.text(alloc)?;
+        let incarnation = self.incarnation;
+        write!(lines, "stop {task} {attempt} {machine} {incarnation}")?;
+        Ok(())
+    }
 }

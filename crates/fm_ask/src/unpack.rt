@@ -1,12 +1,12 @@
 //! Packets in hexadecimal digits, and their records as text.
 
-ghost use Rattle.std.specs.Prelude.{◌≡◌, ◌⊎◌, ◌++◌, Some, Ok, Err, IfOk, IfErr, OnOk, IsOkUnless, string_bytes};
+ghost use Rattle.std.specs.Prelude.{◌≡◌, ◌++◌, Some, IfOk, IfErr, OnOk, IsOkUnless, string_bytes};
 ghost use Rattle.std.specs.List.{flat_map};
-ghost use Rattle.hex.specs.Hex.{decode_of};
-ghost use Rattle.hex.specs.declared.error.FromHexError.{FromHexError};
-ghost use Rattle.fm_ask.specs.Unpacked.{IsUnpacked, IsNotUnpacked, without_line_feed, unpacked_text, job_line, task_lines, preferred_text, spec_line, machine_lines, state_line, report_line, proposal_line, proposal_lines};
+ghost use Rattle.fm_ask.specs.Unpacked.{IsUnpacked, IsNotUnpacked, without_line_feed, unpacked_text, records_text, preferred_text, spec_line, state_line, report_line, proposal_line};
 ghost use Rattle.fm_ask.specs.Unpacked.{phase_text as text_of_phase};
 
+use crate::lines::{EntryText, write_map};
+use crate::packets::packet_in;
 use fm_delta::packet::Packet;
 use fm_know::knowledge::Knowledge;
 use fm_lattice::map::JoinMap;
@@ -16,8 +16,6 @@ use fm_records::ops::Phase;
 use fm_records::prefer::Prefer;
 use fm_records::records::{JobReg, MachineRec, MachineReg, Report, SpecReg, Spot, TaskRec};
 use fm_records::refusal::Refusal;
-use fm_wire::reading::decode;
-use hex::FromHexError;
 use std::alloc::Global;
 
 /// The records of the packet that the text spells in hexadecimal digits of either case, a line each, in the packet's order.
@@ -27,24 +25,10 @@ pub fn unpack(alloc: Global, text: &[u8]) -> Result<String, Refusal>
     ensures ok { IfOk result (λ t. IsUnpacked text.now (string_bytes t)) }
     ensures err { IfErr result (λ refusal. IsNotUnpacked text.now refusal) }
 {
-    let bytes = bytes_of(alloc, text)?;
-    let packet = decode(alloc, &bytes)?;
+    let packet = packet_in(alloc, digits_in(text))?;
     let mut lines = String::new(alloc);
     write_packet(alloc, &packet, &mut lines)?;
     Ok(lines)
-}
-
-// The bytes that the digits spell.
-fn bytes_of(alloc: Global, text: &[u8]) -> Result<Vec<u8>, Refusal>
-    ensures ok { IfOk result (λ bytes. decode_of (without_line_feed text.now) ≡ Ok bytes.items) }
-    ensures err { IfErr result (λ refusal. (refusal ≡ Refusal.OutOfMemory)
-        ⊎ ((refusal ≡ Refusal.BadScript 0) × (e : FromHexError) × (decode_of (without_line_feed text.now) ≡ Err e))) }
-{
-    match hex::decode(alloc, digits_in(text)) {
-        Ok(bytes) => Ok(bytes),
-        Err(FromHexError::OutOfMemory) => Err(Refusal::OutOfMemory),
-        Err(_) => Err(Refusal::BadScript(0)),
-    }
 }
 
 // The text without a line feed at its end.
@@ -65,75 +49,56 @@ fn write_packet(alloc: Global, packet: &Packet, lines: &mut String) -> Result<()
     let sender = packet.sender.value();
     let number = packet.number;
     write!(lines, "packet {sender} {number}\n")?;
-    write_jobs(alloc, &packet.value, lines)?;
-    write_tasks(alloc, &packet.value, lines)?;
-    write_machines(alloc, &packet.value, lines)?;
-    write_proposals(alloc, &packet.value, lines)
+    write_records(alloc, &packet.value, lines)
 }
 
-// Appends the jobs.
-fn write_jobs(alloc: Global, knowledge: &Knowledge, lines: &mut String) -> Result<(), Refusal>
-    ensures ok { OnOk result (string_bytes lines.new ≡ string_bytes lines.old ++ flat_map job_line knowledge.now.jobs) }
+// Appends the records of what is known.
+fn write_records(alloc: Global, known: &Knowledge, lines: &mut String) -> Result<(), Refusal>
+    ensures ok { OnOk result (string_bytes lines.new ≡ string_bytes lines.old ++ records_text known.now) }
     ensures err { IsOkUnless result Refusal.OutOfMemory }
 {
-    for (job, register) in knowledge.jobs().iter() {
-        write_job(alloc, lines, *job, &register.0)?;
+    write_map(alloc, known.jobs(), lines)?;
+    write_map(alloc, known.tasks(), lines)?;
+    write_map(alloc, known.machines(), lines)?;
+    write_map(alloc, known.proposals(), lines)
+}
+
+// A job's line.
+impl EntryText<JobId> for Max<JobReg> {
+    ghost use Rattle.fm_ask.specs.Unpacked.{job_line};
+
+    ghost entry_text = { job_line };
+
+    fn write_text(&self, alloc: Global, job: JobId, lines: &mut String) -> Result<(), Refusal> {
+        let JobReg {
+            version,
+            writer,
+            withdrawn,
+            wait,
+            preempt,
+        } = self.0;
+        let job = job.text(alloc)?;
+        write!(
+            lines,
+            "job {job} {version} {writer} {withdrawn} {wait} {preempt}\n"
+        )?;
+        Ok(())
     }
-    Ok(())
 }
 
-// Appends a job's line.
-fn write_job(
-    alloc: Global,
-    lines: &mut String,
-    job: JobId,
-    register: &JobReg,
-) -> Result<(), Refusal>
-    ensures ok { OnOk result (string_bytes lines.new ≡ string_bytes lines.old ++ job_line (job, register.now)) }
-    ensures err { IsOkUnless result Refusal.OutOfMemory }
-{
-    let JobReg {
-        version,
-        writer,
-        withdrawn,
-        wait,
-        preempt,
-    } = *register;
-    let job = job.text(alloc)?;
-    write!(
-        lines,
-        "job {job} {version} {writer} {withdrawn} {wait} {preempt}\n"
-    )?;
-    Ok(())
-}
+// A task's line, and its spec's, if known.
+impl EntryText<TaskId> for TaskRec {
+    ghost use Rattle.fm_ask.specs.Unpacked.{task_lines};
 
-// Appends the tasks, each with its spec, if known.
-fn write_tasks(alloc: Global, knowledge: &Knowledge, lines: &mut String) -> Result<(), Refusal>
-    ensures ok { OnOk result (string_bytes lines.new
-        ≡ string_bytes lines.old ++ flat_map task_lines knowledge.now.tasks) }
-    ensures err { IsOkUnless result Refusal.OutOfMemory }
-{
-    for (task, known) in knowledge.tasks().iter() {
-        write_task(alloc, lines, *task, known)?;
+    ghost entry_text = { task_lines };
+
+    fn write_text(&self, alloc: Global, task: TaskId, lines: &mut String) -> Result<(), Refusal> {
+        let name = task.text(alloc)?;
+        let attempt = self.1.0.attempt;
+        let phase = phase_text(self.1.0.phase);
+        write!(lines, "task {name} {attempt} {phase}\n")?;
+        write_known_spec(alloc, lines, task, &self.0)
     }
-    Ok(())
-}
-
-// Appends a task's line, and its spec's, if known.
-fn write_task(
-    alloc: Global,
-    lines: &mut String,
-    task: TaskId,
-    known: &TaskRec,
-) -> Result<(), Refusal>
-    ensures ok { OnOk result (string_bytes lines.new ≡ string_bytes lines.old ++ task_lines (task, known.now)) }
-    ensures err { IsOkUnless result Refusal.OutOfMemory }
-{
-    let name = task.text(alloc)?;
-    let attempt = known.1.0.attempt;
-    let phase = phase_text(known.1.0.phase);
-    write!(lines, "task {name} {attempt} {phase}\n")?;
-    write_known_spec(alloc, lines, task, &known.0)
 }
 
 // Appends a spec's line, if it is known.
@@ -217,33 +182,24 @@ fn phase_text(phase: Phase) -> &'static str
     }
 }
 
-// Appends the machines, each with its state and its report, if known.
-fn write_machines(alloc: Global, knowledge: &Knowledge, lines: &mut String) -> Result<(), Refusal>
-    ensures ok { OnOk result (string_bytes lines.new
-        ≡ string_bytes lines.old ++ flat_map machine_lines knowledge.now.machines) }
-    ensures err { IsOkUnless result Refusal.OutOfMemory }
-{
-    for (machine, known) in knowledge.machines().iter() {
-        write_machine(alloc, lines, *machine, known)?;
-    }
-    Ok(())
-}
+// A machine's line, and its state's and its report's, if known.
+impl EntryText<MachineId> for MachineRec {
+    ghost use Rattle.fm_ask.specs.Unpacked.{machine_lines};
 
-// Appends a machine's line, and its state's and its report's, if known.
-fn write_machine(
-    alloc: Global,
-    lines: &mut String,
-    machine: MachineId,
-    known: &MachineRec,
-) -> Result<(), Refusal>
-    ensures ok { OnOk result (string_bytes lines.new ≡ string_bytes lines.old ++ machine_lines (machine, known.now)) }
-    ensures err { IsOkUnless result Refusal.OutOfMemory }
-{
-    let name = machine.text(alloc)?;
-    let incarnation = known.0;
-    write!(lines, "machine {name} {incarnation}\n")?;
-    write_state(alloc, lines, machine, &known.1.0)?;
-    write_report(alloc, lines, machine, &known.1.1)
+    ghost entry_text = { machine_lines };
+
+    fn write_text(
+        &self,
+        alloc: Global,
+        machine: MachineId,
+        lines: &mut String,
+    ) -> Result<(), Refusal> {
+        let name = machine.text(alloc)?;
+        let incarnation = self.0;
+        write!(lines, "machine {name} {incarnation}\n")?;
+        write_state(alloc, lines, machine, &self.1.0)?;
+        write_report(alloc, lines, machine, &self.1.1)
+    }
 }
 
 // Appends a state's line, if it is known.
@@ -293,16 +249,20 @@ fn write_report(
     Ok(())
 }
 
-// Appends the proposals, by task and attempt.
-fn write_proposals(alloc: Global, knowledge: &Knowledge, lines: &mut String) -> Result<(), Refusal>
-    ensures ok { OnOk result (string_bytes lines.new
-        ≡ string_bytes lines.old ++ flat_map proposal_lines knowledge.now.proposals) }
-    ensures err { IsOkUnless result Refusal.OutOfMemory }
-{
-    for (at, spots) in knowledge.proposals().iter() {
-        write_attempt(alloc, lines, at.0, at.1, spots)?;
+// The lines of an attempt's proposals.
+impl EntryText<(TaskId, u32)> for JoinMap<CoordId, Min<Spot>> {
+    ghost use Rattle.fm_ask.specs.Unpacked.{proposal_lines};
+
+    ghost entry_text = { proposal_lines };
+
+    fn write_text(
+        &self,
+        alloc: Global,
+        at: (TaskId, u32),
+        lines: &mut String,
+    ) -> Result<(), Refusal> {
+        write_attempt(alloc, lines, at.0, at.1, self)
     }
-    Ok(())
 }
 
 // Appends the proposals for an attempt, by coordinator.
