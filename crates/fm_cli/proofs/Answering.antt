@@ -1,5 +1,5 @@
 -- What the program answers, from what its parts answer.
-use Rattle.std.proofs.Common.{◌≡◌, ◌⊎◌, ℕ, List, Bool, true, false, cond, Option, Some, None, refl, inl, inr}
+use Rattle.std.proofs.Common.{◌≡◌, ◌⊎◌, ℕ, List, Bool, true, false, cond, Option, Some, None, inl, inr}
 use Rattle.fm_world.specs.Worlds.{WorldOfSets}
 use Rattle.fm_ask.specs.declared.query.Query.{Query}
 use Rattle.fm_ask.specs.Queries.{differs_in}

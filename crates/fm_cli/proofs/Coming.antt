@@ -7,7 +7,8 @@ use Rattle.fm_world.specs.Worlds.{WorldOfSets}
 use Rattle.fm_world.specs.Stands.{Kept, WorldStandsFor}
 use Rattle.fm_world.proofs.Runs.{each_knows, same_agree}
 use Rattle.fm_input.specs.declared.script.Step.{Step}
-use Rattle.fm_cli.specs.Running.{opened, Acts, Come, Refuses, StopsIn, IsRun}
+use Rattle.fm_opening.specs.Openings.{opened}
+use Rattle.fm_cli.specs.Running.{Acts, Come, Refuses, StopsIn, IsRun}
 
 come_more : (w v u : WorldOfSets) (ss : List Step) (s : Step) → Come w ss v → Acts v s.at s.act u → Come w (ss ++ s ∷ []) u
 come_more w v u [] s h a = (u, subst (λ x. Acts x s.at s.act u) (sym h) a, refl)

@@ -1,4 +1,3 @@
 pub mod Rounds
-pub mod Opening
 pub mod Coming
 pub mod Answering

@@ -13,7 +13,8 @@ use Rattle.fm_world.specs.Stands.{Kept, WorldStandsFor, state_with, shown}
 use Rattle.fm_world.proofs.Places.{Stood, stood, absent}
 use Rattle.fm_world.proofs.Runs.{if_err}
 use Rattle.fm_round.specs.Schedules.{IsPlanOf}
-use Rattle.fm_cli.specs.Running.{step_at, IsPlanAt, Takes, Rounds, StopsAfterView}
+use Rattle.fm_follow.specs.Acting.{step_at, IsPlanAt, Takes}
+use Rattle.fm_cli.specs.Running.{Rounds, StopsAfterView}
 
 -- where nothing is shown of a view there is no coordinator, and what is shown of one is what it knows
 nothing_shown : (o : Option State) → None ≡ shown o world.View → o ≡ None

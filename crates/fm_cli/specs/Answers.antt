@@ -18,7 +18,8 @@ use Rattle.fm_cli.specs.declared.ending.Ending.{Ending}
 use Rattle.fm_cli.specs.declared.ending.Ending.TheVariants.{Done, Differ}
 use Rattle.fm_cli.specs.Faults.{fault_of, script_fault_of}
 use Rattle.fm_cli.specs.Endings.{coordinator_asked}
-use Rattle.fm_cli.specs.Running.{opened, Come, Stops, After}
+use Rattle.fm_opening.specs.Openings.{opened}
+use Rattle.fm_cli.specs.Running.{Come, Stops, After}
 
 -- the text was not read as a script, and why
 pub record IsNoScript (text : List ℕ) (fault : Fault) : Type 0 where
@@ -30,6 +31,7 @@ pub record IsNoScript (text : List ℕ) (fault : Fault) : Type 0 where
 abbrev pub query_at : Question → ℕ → Query
 query_at question.Graph n = query.Graph n
 query_at question.Solve n = query.Solve n
+query_at question.Plan n = query.Plan n
 query_at question.Winners n = query.Winners n
 
 abbrev pub query_about : Question → Result ℕ Fault → Result (Option Query) Fault

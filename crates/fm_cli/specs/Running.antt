@@ -1,30 +1,20 @@
 -- What the steps of a script make of a world, and why one is refused (this project's profile).
-use Rattle.std.specs.Prelude.{◌≡◌, ◌⊎◌, ℕ, ◌+◌, List, [], ◌∷◌, map, take, slice_get, Some, None, Result, OnOk, IfErr}
+use Rattle.std.specs.Prelude.{◌≡◌, ◌⊎◌, ℕ, ◌+◌, List, [], ◌∷◌, take, slice_get, Some}
 use Rattle.fm_records.specs.declared.refusal.Refusal.{Refusal}
 use Rattle.fm_records.specs.declared.refusal.Refusal.TheVariants.{OutOfMemory}
-use Rattle.fm_records.specs.Know.{know}
 use Rattle.fm_round.specs.declared.parts.Plan.{Plan}
-use Rattle.fm_round.specs.Schedules.{IsPlanOf}
-use Rattle.fm_coord.specs.Events.{Replica}
 use Rattle.fm_world.specs.declared.step.Act.{Act as WorldAct}
 use Rattle.fm_world.specs.declared.step.Act.TheVariants as world
-use Rattle.fm_world.specs.declared.step.Step.{Step as WorldStep}
-use Rattle.fm_world.specs.Worlds.{WorldOfSets, opening_world, with_number, cause_of, refusal_of, step_of}
+use Rattle.fm_world.specs.Worlds.{WorldOfSets, refusal_of}
 use Rattle.fm_world.specs.Stands.{Kept, WorldStandsFor}
 use Rattle.fm_world.specs.Agreement.{EachKnows, SameAgree}
 use Rattle.fm_cli.specs.declared.fault.Fault.{Fault}
 use Rattle.fm_input.specs.declared.script.Act.{Act}
 use Rattle.fm_input.specs.declared.script.Act.TheVariants as act
 use Rattle.fm_input.specs.declared.script.Step.{Step}
+use Rattle.fm_opening.specs.Openings.{opened}
+use Rattle.fm_follow.specs.Acting.{step_at, IsPlanAt, Takes}
 use Rattle.fm_cli.specs.Faults.{fault_of}
-
--- how many entries a history of the program may have
-abbrev pub history_limit : ℕ
-history_limit = 1000000
-
--- the world in which a script begins: its coordinators, to which nothing happened
-abbrev pub opened : List ℕ → WorldOfSets
-opened listed = opening_world (map (λ n. (n, history_limit)) listed)
 
 -- what a step asks a coordinator for; a round asks it for a view first
 abbrev pub asked : Act → WorldAct
@@ -33,21 +23,6 @@ asked (act.Cut range) = world.Cut range
 asked (act.Deliver i) = world.Deliver i
 asked (act.Trim n) = world.Trim n
 asked act.Round = world.View
-
--- a step of the world at the coordinator with the number
-abbrev pub step_at : ℕ → WorldAct → WorldStep
-step_at at act = record { at = at; by = 0; act = act }
-
--- such a plan for the coordinator with the number, by what it took in
-pub record IsPlanAt (w : WorldOfSets) (at : ℕ) (plan : Plan) : Type 0 where
-  pub replica : Replica
-  pub there : with_number w.replicas at ≡ Some replica
-  pub plan_of : IsPlanOf (know replica.taken) plan
-
--- a step of the world that has no cause of refusal makes v of w
-pub record Takes (w : WorldOfSets) (s : WorldStep) (v : WorldOfSets) : Type 0 where
-  pub accepted : cause_of w s ≡ None
-  pub made : v ≡ step_of w s
 
 -- a round makes v of w: the view, and then the commit of a plan by what was known
 pub record Rounds (w : WorldOfSets) (at : ℕ) (v : WorldOfSets) : Type 0 where
@@ -66,14 +41,6 @@ Acts w at a v = Takes w (step_at at (asked a)) v
 abbrev pub Come : WorldOfSets → List Step → WorldOfSets → Type 0
 Come w [] v = w ≡ v
 Come w (s ∷ ss) v = (u : WorldOfSets) × Acts w s.at s.act u × Come u ss v
-
--- of a call on a world that answers ok: whatever world of sets its coordinators stood for, they then stand for one that is made of it so
-abbrev pub Makes : {T E : Type 0} → Result T E → Kept → Kept → (WorldOfSets → WorldOfSets → Type 0) → Type 0
-Makes r old new Made = (w : WorldOfSets) → WorldStandsFor old w → OnOk r ((v : WorldOfSets) × Made w v × WorldStandsFor new v)
-
--- of a call on a world that is refused: why, for whatever world of sets its coordinators stood for
-abbrev pub Fails : {T E : Type 0} → Result T E → Kept → (WorldOfSets → E → Type 0) → Type 0
-Fails r old Why = (w : WorldOfSets) → WorldStandsFor old w → IfErr r (Why w)
 
 -- the steps of the script came to a world of which this holds
 abbrev pub After : List ℕ → List Step → (WorldOfSets → Type 0) → Type 0

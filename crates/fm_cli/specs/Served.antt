@@ -1,13 +1,17 @@
 -- What a whole run reads and writes, and how it ends (this project's profile).
-use Rattle.std.specs.Prelude.{◌≡◌, ◌⊎◌, ℕ, List, Bool, true, false, Option, IfSome}
+use Rattle.std.specs.Prelude.{◌≡◌, ◌⊎◌, ℕ, List, Bool, true, false, Option, Some, None, IfSome, Result, Ok, Err}
 use Rattle.std.specs.Io.KnownBytes.{Appends}
+use Rattle.fm_records.specs.declared.ops.Op.{Op}
 use Rattle.fm_records.specs.declared.refusal.Refusal.{Refusal}
 use Rattle.fm_records.specs.declared.refusal.Refusal.TheVariants.{OutOfMemory, WriteFault}
+use Rattle.fm_delta.specs.declared.packet.Packet.{Packet}
 use Rattle.fm_dimacs.specs.Sending.{AppendsPrefix}
 use Rattle.fm_streams.specs.Sources.{IsUnread, Streams}
-use Rattle.fm_words.specs.Telling.{Telling, run, fleet}
+use Rattle.fm_lines.specs.Runs.{IsFollowed}
+use Rattle.fm_follow.specs.Following.{Following, StandBehind, Answers}
+use Rattle.fm_words.specs.Telling.{Telling, run, fleet, follow}
 use Rattle.fm_cli.specs.declared.ending.Ending.{Ending}
-use Rattle.fm_cli.specs.declared.ending.Ending.TheVariants.{Stopped}
+use Rattle.fm_cli.specs.declared.ending.Ending.TheVariants.{Done, Stopped}
 use Rattle.fm_cli.specs.Faults.{fault_of}
 use Rattle.fm_cli.specs.Responses.{Responds}
 
@@ -50,6 +54,28 @@ pub record IsStoppedEarly (t : Telling) (ending : Ending) (streams : Streams) : 
   pub nothing : streams.new ≡ streams.old
   pub fails_not : streams.has_failed ≡ streams.had_failed
 
+-- how many entries a history may have before the coordinators are made anew, if a stream is to be followed
+abbrev pub renewal_of : Telling → Option ℕ
+renewal_of (follow renew_after) = Some renew_after
+renewal_of _ = None
+
+-- how the following of a stream ends
+abbrev pub ending_of : Result (Unit {0}) Refusal → Ending
+ending_of (Ok done) = Done
+ending_of (Err refusal) = Stopped (fault_of refusal)
+
+-- the stream was followed from its first line; whatever operations stand behind the packets that it takes in, its answers went out
+pub record IsStreamed (renew_after : ℕ) (ending : Ending) (streams : Streams) : Type 0 where
+  pub result : Result (Unit {0}) Refusal
+  pub ends : ending ≡ ending_of result
+  pub followed : (behind : Packet → List Op) → StandBehind behind
+      → (next : Option Following) × IsFollowed (Answers renew_after behind) result None next streams
+
+-- a run that was not stopped before there was an input
+abbrev pub Runs : Option ℕ → Telling → Type 0 → Ending → Streams → Type 0
+Runs None t Untouched ending streams = IsAnswered t Untouched ending streams
+Runs (Some renew_after) t Untouched ending streams = IsStreamed renew_after ending streams
+
 -- a run for what the words ask for; `Untouched` says that nothing was read
 abbrev pub IsServed : Telling → Type 0 → Ending → Streams → Type 0
-IsServed t Untouched ending streams = IsAnswered t Untouched ending streams ⊎ IsStoppedEarly t ending streams
+IsServed t Untouched ending streams = Runs (renewal_of t) t Untouched ending streams ⊎ IsStoppedEarly t ending streams

@@ -141,6 +141,7 @@ fn query_at(question: Question, at: CoordId) -> Query
     match question {
         Question::Graph => Query::Graph(at),
         Question::Solve => Query::Solve(at),
+        Question::Plan => Query::Plan(at),
         Question::Winners => Query::Winners(at),
     }
 }

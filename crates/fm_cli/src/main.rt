@@ -20,16 +20,17 @@ use fm_streams::source::Input;
 use progress::Progress;
 use serve::serve;
 use std::alloc::Global;
-use std::io::IsTerminal;
+use std::io::{BufReader, IsTerminal};
 use std::process::ExitCode;
 use std::{env, io};
 use watch::serve_watched;
 
 fn main(rt: HostRuntime) -> ExitCode {
-    let ending = match given_words(&rt) {
-        Ok(words) => {
-            let alloc = rt.alloc();
-            let source = Input::new(rt.reader());
+    let alloc = rt.alloc();
+    // A stream is read byte by byte, so the reader reads ahead.
+    let ending = match (given_words(&rt), BufReader::new(alloc, rt.reader())) {
+        (Ok(words), Ok(reader)) => {
+            let source = Input::new(reader);
             let sink = Over::new(io::writer(&rt));
             if rt.stderr().is_terminal() {
                 serve_watched(&rt, alloc, &words, source, sink).0
@@ -38,7 +39,8 @@ fn main(rt: HostRuntime) -> ExitCode {
                 serve(&rt, alloc, &Progress::new(), &words, &mut source, &mut sink)
             }
         }
-        Err(ending) => ending,
+        (Ok(_), Err(_)) => Ending::Stopped(Fault::from(Refusal::OutOfMemory)),
+        (Err(ending), _) => ending,
     };
     let status = ending.status();
     let _ = eprint!(rt; "{ending}");

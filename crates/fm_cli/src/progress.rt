@@ -9,6 +9,7 @@ use std::sync::atomic::{AtomicBool, AtomicU64, Ordering};
 pub struct Progress {
     done: AtomicU64,
     is_fleet: AtomicBool,
+    is_hidden: AtomicBool,
 }
 
 impl Progress {
@@ -17,6 +18,7 @@ impl Progress {
         Progress {
             done: AtomicU64::new(0),
             is_fleet: AtomicBool::new(false),
+            is_hidden: AtomicBool::new(false),
         }
     }
 
@@ -29,6 +31,16 @@ impl Progress {
     pub fn rounds(&self) -> &AtomicU64 {
         self.is_fleet.store(true, Ordering::SeqCst);
         &self.done
+    }
+
+    /// From now on nothing is to be said: a stream says itself how far it is.
+    pub fn hide(&self) {
+        self.is_hidden.store(true, Ordering::SeqCst);
+    }
+
+    /// Whether nothing is to be said.
+    pub fn is_hidden(&self) -> bool {
+        self.is_hidden.load(Ordering::SeqCst)
     }
 
     /// Whether rounds of a fleet are counted.

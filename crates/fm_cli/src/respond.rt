@@ -38,10 +38,11 @@ impl Answered {
     }
 }
 
-/// What the program answers to its words and to the text of its input, which only a command or a fleet looks at: the whole
-/// output, and how the run then ends. It reads and writes nothing. Faults are found in this order: the text, the coordinator
-/// that is asked, the steps in turn, the name of a packet; a run that is stopped has no output. Only a fleet starts threads, and
-/// waits for them. How far the run is, is counted as it goes, and nothing that is answered depends on it.
+/// What the program answers to its words and to the text of its input, which only a command or a fleet looks at: the
+/// whole output, and how the run then ends. It reads and writes nothing. Faults are found in this order: the text, the
+/// coordinator that is asked, the steps in turn, the name of a packet; a run that is stopped has no output. Only a
+/// fleet starts threads, and waits for them. A stream has no answer here: `serve` follows it line by line. How far the
+/// run is, is counted as it goes, and nothing that is answered depends on it.
 pub fn respond<T: Threads + Wait + Sync>(
     rt: &T,
     alloc: Global,
@@ -54,6 +55,10 @@ pub fn respond<T: Threads + Wait + Sync>(
     match words {
         Words::Run(command) => run_command(alloc, progress, command, text),
         Words::Fleet { rounds } => run_fleet(rt, alloc, progress, rounds, text),
+        Words::Follow { .. } => Answered {
+            ending: Ending::Done,
+            output: Vec::new(alloc),
+        },
         Words::Help(page) => Answered {
             ending: Ending::Done,
             output: page.into_bytes(),

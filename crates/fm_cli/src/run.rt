@@ -6,16 +6,16 @@ ghost use Rattle.fm_coord.specs.Numbers.{AreDistinct};
 ghost use Rattle.fm_world.specs.Worlds.{WorldOfSets, refusal_of};
 ghost use Rattle.fm_world.specs.Stands.{WorldStandsFor};
 ghost use Rattle.fm_input.specs.declared.script.Act.TheVariants as script_act;
-ghost use Rattle.fm_cli.specs.Running.{opened, step_at, Takes, Acts, Come, Refuses, StopsIn, Stops, IsRun, Makes, Fails};
+ghost use Rattle.fm_follow.specs.Acting.{Makes, Fails};
+ghost use Rattle.fm_cli.specs.Running.{Acts, Come, Refuses, StopsIn, Stops, IsRun};
 
 use crate::fault::Fault;
 use crate::progress::Progress;
 use fm_edit::keepers::Keeper;
 use fm_fleet::round::plan_for;
+use fm_follow::acting::take_step;
 use fm_input::script::{Act, Script, Step};
-use fm_lattice::join::OutOfMemory;
-use fm_muster::coordinators::coordinator_at;
-use fm_records::ids::CoordId;
+use fm_opening::world::open;
 use fm_records::refusal::Refusal;
 use fm_world::step::{Act as WorldAct, Step as WorldStep};
 use fm_world::world::World;
@@ -32,19 +32,6 @@ pub fn run(alloc: Global, progress: &Progress, script: &Script) -> Result<World<
     let mut world = open(alloc, &script.coordinators)?;
     take_all(alloc, progress, &mut world, &script.steps)?;
     Ok(world)
-}
-
-// The world in which a script begins.
-fn open(alloc: Global, listed: &[CoordId]) -> Result<World<Keeper>, OutOfMemory>
-    requires { AreDistinct listed.now }
-    ensures { IfOk result (λ world. WorldStandsFor world (opened listed.now)) }
-{
-    let mut coordinators = Vec::with_capacity(alloc, listed.len())?;
-    for number in listed {
-        let coordinator = coordinator_at(alloc, *number, coordinators.len())?;
-        coordinators.push(coordinator)?;
-    }
-    Ok(World::new(coordinators))
 }
 
 // Takes the steps in order, up to the first that is refused, and counts them.
@@ -75,22 +62,11 @@ fn take(alloc: Global, world: &mut World<Keeper>, at: u8, act: Act) -> Result<()
     ensures err { Fails result world.old (λ w refusal. Refuses w at act refusal) }
 {
     match act {
-        Act::Tell(op) => ask(world, at, WorldAct::Tell(op)),
-        Act::Cut(range) => ask(world, at, WorldAct::Cut(range)),
-        Act::Deliver(packet) => ask(world, at, WorldAct::Deliver(packet)),
-        Act::Trim(n) => ask(world, at, WorldAct::Trim(n)),
+        Act::Tell(op) => take_step(world, at, WorldAct::Tell(op)),
+        Act::Cut(range) => take_step(world, at, WorldAct::Cut(range)),
+        Act::Deliver(packet) => take_step(world, at, WorldAct::Deliver(packet)),
+        Act::Trim(n) => take_step(world, at, WorldAct::Trim(n)),
         Act::Round => round(alloc, world, at),
-    }
-}
-
-// One step of the world.
-fn ask(world: &mut World<Keeper>, at: u8, act: WorldAct) -> Result<(), Refusal>
-    ensures ok { Makes result world.old world.new (λ w v. Takes w (step_at at act) v) }
-    ensures err { Fails result world.old (λ w refusal. refusal ≡ refusal_of w (step_at at act)) }
-{
-    match world.run(&[WorldStep { at, by: 0, act }]) {
-        Ok(()) => Ok(()),
-        Err(stop) => Err(stop.refusal),
     }
 }
 
@@ -110,5 +86,5 @@ fn round(alloc: Global, world: &mut World<Keeper>, at: u8) -> Result<(), Refusal
     let plan = plan_for(alloc, &view)?;
     // With no view left, the commit edits the network in place.
     drop(view);
-    ask(world, at, WorldAct::Commit(plan))
+    take_step(world, at, WorldAct::Commit(plan))
 }

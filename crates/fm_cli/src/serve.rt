@@ -3,12 +3,13 @@
 ghost use Rattle.std.specs.Prelude.{◌≡◌, IfOk, IfErr, map, string_bytes};
 ghost use Rattle.fm_words.specs.Heard.{heard};
 ghost use Rattle.fm_words.specs.Telling.{told_of};
-ghost use Rattle.fm_cli.specs.Served.{IsServed, IsStoppedReading, TakesIn, WentOut, reads};
+ghost use Rattle.fm_cli.specs.Served.{IsServed, IsStoppedReading, IsStreamed, TakesIn, WentOut, reads, renewal_of};
 
 use crate::ending::Ending;
 use crate::fault::Fault;
 use crate::progress::Progress;
 use crate::respond::{Answered, respond};
+use fm_follow::stream::follow_stream;
 use fm_records::refusal::Refusal;
 use fm_streams::input::read_input;
 use fm_streams::sending::send;
@@ -19,9 +20,10 @@ use std::alloc::Global;
 use std::sync::Wait;
 use std::thread::Threads;
 
-/// Runs the program on the words of its command line, its own name first: reads the input, if the words ask for one, and
-/// writes what `respond` answers. The words are the first to be at fault, then the input, then what `respond` finds, then the
-/// sink. The output is made whole before it goes out: all of it goes out, or nothing, or what the sink took before it failed.
+/// Runs the program on the words of its command line, its own name first: reads the input, if the words ask for one,
+/// and writes what `respond` answers; or follows a stream, line by line. The words are the first to be at fault, then
+/// the input, then what `respond` finds, then the sink. The output is made whole before it goes out: all of it goes
+/// out, or nothing, or what the sink took before it failed.
 pub fn serve<T: Threads + Wait + Sync, S: Source, W: Sink>(
     rt: &T,
     alloc: Global,
@@ -44,11 +46,50 @@ pub fn serve<T: Threads + Wait + Sync, S: Source, W: Sink>(
         Ok(words) => words,
         Err(refusal) => return Ending::Stopped(Fault::from(refusal)),
     };
+    if let Some(renew_after) = renewal_of(&words) {
+        return follow_lines(alloc, progress, renew_after, source, sink);
+    }
     let text = match input_for(alloc, &words, source) {
         Ok(text) => text,
         Err(refusal) => return Ending::Stopped(Fault::from(refusal)),
     };
     send_out(respond(rt, alloc, progress, words, &text), sink)
+}
+
+// How many entries a history may have before the coordinators are made anew, if the words ask to follow a stream.
+fn renewal_of(words: &Words) -> Option<u32>
+    ensures { result ≡ renewal_of (told_of words.now) }
+{
+    match words {
+        Words::Follow { renew_after } => Some(*renew_after),
+        Words::Run(_) | Words::Fleet { .. } | Words::Help(_) | Words::Refusals | Words::Wrong(_) =>
+            None,
+    }
+}
+
+// Follows the stream of the source's lines to its end.
+fn follow_lines<S: Source, W: Sink>(
+    alloc: Global,
+    progress: &Progress,
+    renew_after: u32,
+    source: &mut S,
+    sink: &mut W,
+) -> Ending
+    ensures { IsStreamed renew_after result (record {
+      given = S.remaining source.old;
+      left = S.remaining source.new;
+      source_failed = S.has_failed source.new;
+      old = W.written sink.old;
+      new = W.written sink.new;
+      had_failed = W.has_failed sink.old;
+      has_failed = W.has_failed sink.new;
+    }) }
+{
+    progress.hide();
+    match follow_stream(alloc, renew_after as usize, source, sink) {
+        Ok(()) => Ending::Done,
+        Err(refusal) => Ending::Stopped(Fault::from(refusal)),
+    }
 }
 
 // The input that the words ask for. If they ask for none, nothing is read.
@@ -60,7 +101,9 @@ fn input_for<S: Source>(alloc: Global, words: &Words, source: &mut S) -> Result<
 {
     match words {
         Words::Run(_) | Words::Fleet { .. } => read_input(alloc, source),
-        Words::Help(_) | Words::Refusals | Words::Wrong(_) => Ok(Vec::new(alloc)),
+        Words::Follow { .. } | Words::Help(_) | Words::Refusals | Words::Wrong(_) => {
+            Ok(Vec::new(alloc))
+        }
     }
 }
 

@@ -129,12 +129,18 @@ impl<'a> Line<'a> {
             if shown.is_over {
                 return;
             }
-            if ticks >= FIRST || (ticks > 0 && self.progress.is_fleet()) {
+            if self.is_due(ticks) {
                 shown.write(rt, self.progress);
             }
             shown = self.over.wait_timeout(rt, shown, tick).0;
             ticks = ticks.saturating_add(1);
         }
+    }
+
+    // Whether the line is written after so many ticks.
+    fn is_due(&self, ticks: u32) -> bool {
+        let first = if self.progress.is_fleet() { 1 } else { FIRST };
+        !self.progress.is_hidden() && ticks >= first
     }
 
     // Takes the line away, and has no other come. A fleet that ended before its first line shows it for a moment.

@@ -2,7 +2,6 @@
 #![tactic(auto)]
 
 mod agreeing;
-pub mod coordinators;
 mod counter;
 pub mod counts;
 mod members;

@@ -9,6 +9,7 @@ pub mod dimacs;
 pub mod fleet;
 pub mod know;
 pub mod lattice;
+pub mod lines;
 pub mod net;
 pub mod records;
 pub mod round;

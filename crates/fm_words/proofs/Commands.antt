@@ -2,10 +2,12 @@
 use Rattle.std.proofs.Common.{◌≡◌, ◌∙◌, refl, List, [], ◌∷◌, codes, arith}
 use Rattle.std.specs.Prelude.{⊤, unwrap_or}
 use Rattle.clap.proofs.OnLiterals.{clap_on_literals}
+use Rattle.clap.specs.Words.{Row}
+use Rattle.fm_words.specs.declared.words.Question.{Question}
 use Rattle.fm_words.specs.declared.words.Question.TheVariants as question
-use Rattle.fm_words.specs.Telling.{Text, agree, ask, fleet, pack, run, unpack}
-use Rattle.fm_words.specs.Heard.{Form, asks, commands, fleets, given, nothing, packs}
-use Rattle.fm_words.specs.Parser.{tellings, told_as}
+use Rattle.fm_words.specs.Telling.{Text, agree, ask, fleet, follow, pack, run, unpack}
+use Rattle.fm_words.specs.Heard.{Form, asks, commands, default_renew_after, fleets, follows, given, most_renew_after, nothing, packs}
+use Rattle.fm_words.specs.Parser.{tellings, told_as, told_with}
 use Rattle.fm_words.proofs.Leaf.{built_with, helper}
 use Rattle.fm_words.proofs.Entering.{enter}
 use Rattle.fm_words.proofs.Bare.{bare}
@@ -25,6 +27,7 @@ abbrev of_fleet : Numbered
 of_fleet = record {
   called = codes "fleet";
   option_name = codes "rounds";
+  least = 0;
   most = 1000;
   bits = 32;
   give = λ rounds. fleet (unwrap_or rounds 0);
@@ -36,50 +39,50 @@ of_fleet = record {
   tells = λ rows. refl;
 }
 
-abbrev of_graph : Numbered
-of_graph = record {
-  called = codes "graph";
-  option_name = codes "at";
-  most = 255;
-  bits = 8;
-  give = λ at. run (ask question.Graph at);
-  tell = told_as (codes "graph");
+abbrev of_follow : Numbered
+of_follow = record {
+  called = codes "follow";
+  option_name = codes "renew-after";
+  least = 1;
+  most = most_renew_after;
+  bits = 32;
+  give = λ n. follow (unwrap_or n default_renew_after);
+  tell = told_as (codes "follow");
   itself = refl;
   no_help = refl;
   is_small = omega arith;
   has_room = omega arith;
   tells = λ rows. refl;
 }
+
+-- the command of the name asks the question
+abbrev of_question : (name : Text) (q : Question) → ((rows : List Row) → told_as name rows ≡ told_with (asks q) rows) → Numbered
+of_question name q tells = record {
+  called = name;
+  option_name = codes "at";
+  least = 0;
+  most = 255;
+  bits = 8;
+  give = λ at. run (ask q at);
+  tell = told_as name;
+  itself = refl;
+  no_help = refl;
+  is_small = omega arith;
+  has_room = omega arith;
+  tells = tells;
+}
+
+abbrev of_graph : Numbered
+of_graph = of_question (codes "graph") question.Graph (λ rows. refl)
 
 abbrev of_solve : Numbered
-of_solve = record {
-  called = codes "solve";
-  option_name = codes "at";
-  most = 255;
-  bits = 8;
-  give = λ at. run (ask question.Solve at);
-  tell = told_as (codes "solve");
-  itself = refl;
-  no_help = refl;
-  is_small = omega arith;
-  has_room = omega arith;
-  tells = λ rows. refl;
-}
+of_solve = of_question (codes "solve") question.Solve (λ rows. refl)
+
+abbrev of_plan : Numbered
+of_plan = of_question (codes "plan") question.Plan (λ rows. refl)
 
 abbrev of_winners : Numbered
-of_winners = record {
-  called = codes "winners";
-  option_name = codes "at";
-  most = 255;
-  bits = 8;
-  give = λ at. run (ask question.Winners at);
-  tell = told_as (codes "winners");
-  itself = refl;
-  no_help = refl;
-  is_small = omega arith;
-  has_room = omega arith;
-  tells = λ rows. refl;
-}
+of_winners = of_question (codes "winners") question.Winners (λ rows. refl)
 
 abbrev of_pack : Named
 of_pack = record {
@@ -97,6 +100,10 @@ fleet_told : IsTold (record { name = codes "fleet"; takes = fleets })
 unfolding clap_on_literals
 fleet_told program rest = enter program (codes "fleet") rest (shape of_fleet) refl refl refl ∙ takes_number of_fleet rest
 
+follow_told : IsTold (record { name = codes "follow"; takes = follows })
+unfolding clap_on_literals
+follow_told program rest = enter program (codes "follow") rest (shape of_follow) refl refl refl ∙ takes_number of_follow rest
+
 graph_told : IsTold (record { name = codes "graph"; takes = asks question.Graph })
 unfolding clap_on_literals
 graph_told program rest = enter program (codes "graph") rest (shape of_graph) refl refl refl ∙ takes_number of_graph rest
@@ -109,6 +116,10 @@ solve_told : IsTold (record { name = codes "solve"; takes = asks question.Solve 
 unfolding clap_on_literals
 solve_told program rest = enter program (codes "solve") rest (shape of_solve) refl refl refl ∙ takes_number of_solve rest
 
+plan_told : IsTold (record { name = codes "plan"; takes = asks question.Plan })
+unfolding clap_on_literals
+plan_told program rest = enter program (codes "plan") rest (shape of_plan) refl refl refl ∙ takes_number of_plan rest
+
 unpack_told : IsTold (record { name = codes "unpack"; takes = nothing (run unpack) })
 unfolding clap_on_literals
 unpack_told program rest = enter program (codes "unpack") rest (built_with (codes "unpack") (helper ∷ [])) refl refl refl ∙ bare (codes "unpack") (told_as (codes "unpack")) (run unpack) refl rest
@@ -118,4 +129,4 @@ unfolding clap_on_literals
 winners_told program rest = enter program (codes "winners") rest (shape of_winners) refl refl refl ∙ takes_number of_winners rest
 
 pub each_told : Each IsTold commands
-each_told = (agree_told, (fleet_told, (graph_told, (pack_told, (solve_told, (unpack_told, (winners_told, tt)))))))
+each_told = (agree_told, (fleet_told, (follow_told, (graph_told, (pack_told, (solve_told, (plan_told, (unpack_told, (winners_told, tt)))))))))

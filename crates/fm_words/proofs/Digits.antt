@@ -37,13 +37,14 @@ and_false false = refl
 abbrev signed : Bool → ℕ → ℤ
 signed minus n = cond minus (neg_ℤ (pos n)) (pos n)
 
-abbrev Same : ℕ → Bool → Bool → ℕ → Type 0
-Same most numeral minus n = (numeral && (fits_i64 (signed minus n) && (int_le (pos 0) (signed minus n) && int_le (signed minus n) (pos most))))
-    ≡ is_some (if numeral && (nat_le n most && (not minus || n == 0)) then Some n else None)
+abbrev Same : ℕ → ℕ → Bool → Bool → ℕ → Type 0
+Same least most numeral minus n = (numeral && (fits_i64 (signed minus n) && (int_le (pos least) (signed minus n) && int_le (signed minus n) (pos most))))
+    ≡ is_some (if numeral && (nat_le least n && (nat_le n most && (not minus || n == 0))) then Some n else None)
 
-same_plain : (most n : ℕ) → most < 2 ^ 63 → (le : Bool) → nat_le n most ≡ le → Same most true false n
-same_plain most n few true h = rw (small n most (2 ^ 63) h few, le-leb 0 n (omega arith), h) refl
-same_plain most n few false h = rw (le-leb 0 n (omega arith), h, and_false) refl
+same_plain : (least most n : ℕ) → most < 2 ^ 63 → (ge le : Bool) → nat_le least n ≡ ge → nat_le n most ≡ le → Same least most true false n
+same_plain least most n few true true g h = rw (small n most (2 ^ 63) h few, g, h) refl
+same_plain least most n few true false g h = rw (g, h, and_false) refl
+same_plain least most n few false le g h = rw (g, and_false) refl
 
 positive : (k : ℕ) → (suc k == 0) ≡ false
 positive k = go (suc k == 0) refl
@@ -52,24 +53,29 @@ positive k = go (suc k == 0) refl
     go false e = e
     go true e = let bad : suc k ≡ 0 = eqb-true (suc k) 0 e in absurd (omega arith)
 
-same_minus : (most n : ℕ) → most < 2 ^ 63 → Same most true true n
-same_minus most zero few = rw (le-leb 0 most (omega arith)) refl
-same_minus most (suc k) few = rw (and_false (nat_lt k (2 ^ 63)), positive k, and_false (nat_le (suc k) most)) refl
+same_zero : (least most : ℕ) (ge : Bool) → nat_le least 0 ≡ ge → Same least most true true 0
+same_zero least most true g = rw (g, le-leb 0 most (omega arith)) refl
+same_zero least most false g = rw g refl
+
+same_minus : (least most n : ℕ) → most < 2 ^ 63 → Same least most true true n
+same_minus least most zero few = same_zero least most (nat_le least 0) refl
+same_minus least most (suc k) few = rw (and_false (nat_lt k (2 ^ 63)), positive k, and_false (nat_le (suc k) most), and_false (nat_le least (suc k))) refl
 
 -- the parser takes the value just where it spells a number in range
-pub taken : (most : ℕ) (v : Text) → most < 2 ^ 63 → is_signed_in (pos 0) (pos most) v ≡ is_some (number_in most v)
-taken most v few = go (is_numeral (without_leading_sign v)) (starts_with_minus v) (value v)
+pub taken : (least most : ℕ) (v : Text) → most < 2 ^ 63 → is_signed_in (pos least) (pos most) v ≡ is_some (number_in least most v)
+taken least most v few = go (is_numeral (without_leading_sign v)) (starts_with_minus v) (value v)
   where
-    go : (numeral minus : Bool) (n : ℕ) → Same most numeral minus n
+    go : (numeral minus : Bool) (n : ℕ) → Same least most numeral minus n
     go false minus n = refl
-    go true false n = same_plain most n few (nat_le n most) refl
-    go true true n = same_minus most n few
+    go true false n = same_plain least most n few (nat_le least n) (nat_le n most) refl refl
+    go true true n = same_minus least most n few
 
-parts : (numeral le ok : Bool) (m n : ℕ) → (if numeral && (le && ok) then Some m else None) ≡ Some n → (numeral ≡ true) × (le ≡ true) × (m ≡ n)
-parts true true true m n h = (refl, refl, cc)
-parts true true false m n h = cc
-parts true false ok m n h = cc
-parts false le ok m n h = cc
+parts : (numeral ge le ok : Bool) (m n : ℕ) → (if numeral && (ge && (le && ok)) then Some m else None) ≡ Some n → (numeral ≡ true) × (le ≡ true) × (m ≡ n)
+parts true true true true m n h = (refl, refl, cc)
+parts true true true false m n h = cc
+parts true true false ok m n h = cc
+parts true false le ok m n h = cc
+parts false ge le ok m n h = cc
 
 no_plus : (ds : Text) → is_numeral ds ≡ true → without_leading_plus ds ≡ ds
 no_plus [] h = refl
@@ -96,9 +102,9 @@ abbrev read : ℕ → Text → Option ℕ
 read bits ds = if is_numeral ds && nat_lt (digits_value 10 ds) (2 ^ bits) then Some (digits_value 10 ds) else None
 
 -- and then reads that number
-pub is_read : (most bits : ℕ) (v : Text) (n : ℕ) → most < 2 ^ bits → number_in most v ≡ Some n → number_of bits (without_minus v) ≡ Some n
-is_read most bits v n few is =
-    let all = parts (is_numeral (without_leading_sign v)) (nat_le (value v) most) (not (starts_with_minus v) || value v == 0) (value v) n is in
+pub is_read : (least most bits : ℕ) (v : Text) (n : ℕ) → most < 2 ^ bits → number_in least most v ≡ Some n → number_of bits (without_minus v) ≡ Some n
+is_read least most bits v n few is =
+    let all = parts (is_numeral (without_leading_sign v)) (nat_le least (value v)) (nat_le (value v) most) (not (starts_with_minus v) || value v == 0) (value v) n is in
     let below : nat_lt (value v) (2 ^ bits) ≡ true = small (value v) most (2 ^ bits) all.1 few in
     let made : read bits (without_leading_sign v) ≡ Some (value v) = rw (all.0, below) refl in
     ap (read bits) (same_digits v all.0) ∙ made ∙ ap Some all.2
@@ -115,8 +121,8 @@ no_minus (c ∷ cs) h = go (c == 45) refl
         let no_digit : false ≡ true = (both (nat_lt 0 (length (45 ∷ cs))) (list_all (λ d. nat_lt (digit_value d) 10) (45 ∷ cs)) bad).1 in cc
 
 -- a number that is written in decimal digits is read back
-pub written : (n most : ℕ) → n ≤ most → n < 2 ^ 64 → number_in most (decimal n) ≡ Some n
-written n most le few =
+pub written : (n least most : ℕ) → least ≤ n → n ≤ most → n < 2 ^ 64 → number_in least most (decimal n) ≡ Some n
+written n least most ge le few =
     let d = decimal_is_IsNumeral n few in
     let numeral : is_numeral (decimal n) ≡ true = rw (lt-ltb 0 (length (decimal n)) d.0.0, digits_back (decimal n) d.0.1) refl in
-    rw (no_minus (decimal n) numeral, no_plus (decimal n) numeral, numeral, d.1, le-leb n most le) refl
+    rw (no_minus (decimal n) numeral, no_plus (decimal n) numeral, numeral, d.1, le-leb least n ge, le-leb n most le) refl

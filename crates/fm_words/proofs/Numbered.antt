@@ -28,6 +28,7 @@ use Rattle.fm_words.proofs.Fine.{IsLast, Place, at_dashes, at_long, at_plain, at
 pub record Numbered : Type 0 where
   pub called : Text
   pub option_name : Text
+  pub least : ℕ
   pub most : ℕ
   pub bits : ℕ
   pub give : Option ℕ → Telling
@@ -39,7 +40,7 @@ pub record Numbered : Type 0 where
   pub tells : (rows : List Row) → tell rows ≡ give (number_read bits option_name rows)
 
 abbrev pub rules : Numbered → List Rule
-rules c = filled_from 1 (number_rule c.option_name c.most ∷ help_rule ∷ [])
+rules c = filled_from 1 (number_rule c.option_name c.least c.most ∷ help_rule ∷ [])
 
 abbrev pub shape : Numbered → Shape
 shape c = built_with c.called (rules c)
@@ -48,7 +49,7 @@ abbrev pub comes : Numbered → Walk → List Text → List Telling
 comes c walk rest = leaf_from (shape c) c.tell walk rest
 
 abbrev fits : Numbered → Text → Bool
-fits c z = is_signed_in (pos 0) (pos c.most) z
+fits c z = is_signed_in (pos c.least) (pos c.most) z
 
 abbrev row : Numbered → Text → Row
 row c z = record { id = c.option_name; values = z ∷ []; count = None; source = Some CommandLine; reading = reading.WithoutMinus }
@@ -229,35 +230,35 @@ own_ends c z n is (w ∷ rest) =
 
 -- ---- the number, as it is spelled
 
-does_fit : (c : Numbered) (z : Text) (o : Option ℕ) → number_in c.most z ≡ o → fits c z ≡ is_some o
-does_fit c z o is = taken c.most z c.is_small ∙ ap is_some is
+does_fit : (c : Numbered) (z : Text) (o : Option ℕ) → number_in c.least c.most z ≡ o → fits c z ≡ is_some o
+does_fit c z o is = taken c.least c.most z c.is_small ∙ ap is_some is
 
-in_next_word : (c : Numbered) (z : Text) (rest : List Text) → comes c (next c [] z) rest ≡ counts c.give (number_in c.most z) rest ∷ []
-in_next_word c z rest = go (number_in c.most z) refl
+in_next_word : (c : Numbered) (z : Text) (rest : List Text) → comes c (next c [] z) rest ≡ counts c.give (number_in c.least c.most z) rest ∷ []
+in_next_word c z rest = go (number_in c.least c.most z) refl
   where
-    go : (o : Option ℕ) → number_in c.most z ≡ o → comes c (next c [] z) rest ≡ counts c.give o rest ∷ []
-    go (Some n) is = next_ends c z (does_fit c z (Some n) is) n (is_read c.most c.bits z n c.has_room is) rest
+    go : (o : Option ℕ) → number_in c.least c.most z ≡ o → comes c (next c [] z) rest ≡ counts c.give o rest ∷ []
+    go (Some n) is = next_ends c z (does_fit c z (Some n) is) n (is_read c.least c.most c.bits z n c.has_room is) rest
     go None is = faulty (is_unfit c z (does_fit c z None is)) rest
 
 in_own_word : (c : Numbered) (w : Text) (rest : List Text) (n z : Text) → is_end w ≡ false → long_of w ≡ Some (n, Some z) → bytes_eq c.option_name n ≡ true
-    → comes c start (w ∷ rest) ≡ counts c.give (number_in c.most z) rest ∷ []
+    → comes c start (w ∷ rest) ≡ counts c.give (number_in c.least c.most z) rest ∷ []
 unfolding clap_on_literals
-in_own_word c w rest n z e l m = go (number_in c.most z) refl
+in_own_word c w rest n z e l m = go (number_in c.least c.most z) refl
   where
-    go : (o : Option ℕ) → number_in c.most z ≡ o → comes c start (w ∷ rest) ≡ counts c.give o rest ∷ []
+    go : (o : Option ℕ) → number_in c.least c.most z ≡ o → comes c start (w ∷ rest) ≡ counts c.give o rest ∷ []
     go (Some k) is =
         let good = does_fit c z (Some k) is in
-        passes (shape c) c.tell start (own c z) w rest (rw (e, l, m, good) refl) (rw (e, l, m) refl) ∙ own_ends c z k (is_read c.most c.bits z k c.has_room is) rest
+        passes (shape c) c.tell start (own c z) w rest (rw (e, l, m, good) refl) (rw (e, l, m) refl) ∙ own_ends c z k (is_read c.least c.most c.bits z k c.has_room is) rest
     go None is =
         let bad_value = does_fit c z None is in
         fails (shape c) c.tell start w rest kind.ValueValidation (rw (e, l, m, bad_value) refl)
 
-waits_number : (c : Numbered) (rest : List Text) → comes c (waits c []) rest ≡ number c.most c.give None rest ∷ []
+waits_number : (c : Numbered) (rest : List Text) → comes c (waits c []) rest ≡ number c.least c.most c.give None rest ∷ []
 waits_number c [] = bad.at_last (is_waiting c []) (waiting.option c.option_name)
 waits_number c (w ∷ rest) =
     let f = is_waiting c [] in
     let o = waiting.option c.option_name in
-    by_look w (λ look. comes c (waits c []) (w ∷ rest) ≡ number_at c.most c.give look w rest ∷ [])
+    by_look w (λ look. comes c (waits c []) (w ∷ rest) ≡ number_at c.least c.most c.give look w rest ∷ [])
     (bad.at_dashes f o w rest) (bad.at_long f o w rest) (bad.at_short f o w rest)
     (λ flags e l s p. waits_plain c [] w rest flags e l s p ∙ in_next_word c w rest)
 
@@ -280,20 +281,20 @@ unfolding clap_on_literals
 begun_is_last c = record { no_positional = refl; is_told = rw c.tells refl }
 
 named : (c : Numbered) (w : Text) (rest : List Text) (n : Text) (v : Option Text) → is_end w ≡ false → long_of w ≡ Some (n, v) → bytes_eq c.option_name n ≡ true
-    → comes c start (w ∷ rest) ≡ number c.most c.give v rest ∷ []
+    → comes c start (w ∷ rest) ≡ number c.least c.most c.give v rest ∷ []
 unfolding clap_on_literals
 named c w rest n None e l m = passes (shape c) c.tell start (waits c []) w rest (rw (e, l, m) refl) (rw (e, l, m) refl) ∙ waits_number c rest
 named c w rest n (Some z) e l m = in_own_word c w rest n z e l m
 
-pub takes_number : (c : Numbered) (rest : List Text) → comes c start rest ≡ with_option c.option_name c.most c.give rest ∷ []
+pub takes_number : (c : Numbered) (rest : List Text) → comes c start rest ≡ with_option c.option_name c.least c.most c.give rest ∷ []
 takes_number c [] = (begun_is_last c).is_told
 takes_number c (w ∷ rest) =
-    by_look w (λ look. comes c start (w ∷ rest) ≡ option_at c.option_name c.most c.give look rest ∷ [])
+    by_look w (λ look. comes c start (w ∷ rest) ≡ option_at c.option_name c.least c.most c.give look rest ∷ [])
     (at_dashes (begun c) (c.give None) (begun_is_last c) w rest) on_long (at_short (begun c) w rest) (at_plain (begun c) (c.give None) (begun_is_last c) w rest)
   where
-    on_long : (n : Text) (v : Option Text) → is_end w ≡ false → long_of w ≡ Some (n, v) → comes c start (w ∷ rest) ≡ option_at c.option_name c.most c.give (long n v) rest ∷ []
+    on_long : (n : Text) (v : Option Text) → is_end w ≡ false → long_of w ≡ Some (n, v) → comes c start (w ∷ rest) ≡ option_at c.option_name c.least c.most c.give (long n v) rest ∷ []
     on_long n v e l = go (bytes_eq c.option_name n) refl
       where
-        go : (b : Bool) → bytes_eq c.option_name n ≡ b → comes c start (w ∷ rest) ≡ option_at c.option_name c.most c.give (long n v) rest ∷ []
+        go : (b : Bool) → bytes_eq c.option_name n ≡ b → comes c start (w ∷ rest) ≡ option_at c.option_name c.least c.most c.give (long n v) rest ∷ []
         go true m = named c w rest n v e l m ∙ ap (λ t. t ∷ []) (sym (rw m refl))
         go false m = at_long (begun c) w rest n v e l (help_at c n m) ∙ ap (λ t. t ∷ []) (sym (rw m refl))

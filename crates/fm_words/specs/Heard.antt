@@ -8,7 +8,7 @@ use Rattle.clap.specs.Lexer.{long_of, short_of}
 use Rattle.clap.specs.ValueTests.{is_numeral}
 use Rattle.fm_words.specs.declared.words.Question.{Question}
 use Rattle.fm_words.specs.declared.words.Question.TheVariants as question
-use Rattle.fm_words.specs.Telling.{Telling, Text, agree, ask, fleet, help, pack, page, run, unpack, wrong}
+use Rattle.fm_words.specs.Telling.{Telling, Text, agree, ask, fleet, follow, help, pack, page, run, unpack, wrong}
 
 -- ---- one word
 
@@ -31,13 +31,14 @@ abbrev pub look_of : Text → Look
 look_of w = if bytes_eq w (codes "--") then dashes
     else flag_or_plain (long_of w) (option_and_then (λ flags. slice_get (chars flags) 0) (short_of w))
 
--- the whole number that a word spells, if it is no greater than the most: decimal digits, one at least, that may stand
--- behind `+`; behind `-` only 0
-abbrev pub number_in : ℕ → Text → Option ℕ
-number_in most v =
+-- the whole number that a word spells, if it is no less than the least and no greater than the most: decimal digits,
+-- one at least, that may stand behind `+`; behind `-` only 0
+abbrev pub number_in : ℕ → ℕ → Text → Option ℕ
+number_in least most v =
     let digits = without_leading_sign v in
     let n = digits_value 10 digits in
-    if is_numeral digits && (nat_le n most && (not (starts_with_minus v) || n == 0)) then Some n else None
+    if is_numeral digits && (nat_le least n && (nat_le n most && (not (starts_with_minus v) || n == 0)))
+    then Some n else None
 
 -- ---- the words behind the name of a command
 
@@ -74,42 +75,55 @@ counts give None rest = wrong
 counts give (Some n) rest = ends (give (Some n)) rest
 
 -- a number in a word of its own, which is no flag
-abbrev pub number_at : ℕ → (Option ℕ → Telling) → Look → Text → List Text → Telling
-number_at most give plain v rest = counts give (number_in most v) rest
-number_at most give look v rest = wrong
+abbrev pub number_at : ℕ → ℕ → (Option ℕ → Telling) → Look → Text → List Text → Telling
+number_at least most give plain v rest = counts give (number_in least most v) rest
+number_at least most give look v rest = wrong
 
 -- a number behind the `=` of its option, or else in the next word
-abbrev pub number : ℕ → (Option ℕ → Telling) → Option Text → List Text → Telling
-number most give (Some v) rest = counts give (number_in most v) rest
-number most give None [] = wrong
-number most give None (v ∷ rest) = number_at most give (look_of v) v rest
+abbrev pub number : ℕ → ℕ → (Option ℕ → Telling) → Option Text → List Text → Telling
+number least most give (Some v) rest = counts give (number_in least most v) rest
+number least most give None [] = wrong
+number least most give None (v ∷ rest) = number_at least most give (look_of v) v rest
 
 -- an option with its number, once; or no argument
-abbrev pub option_at : Text → ℕ → (Option ℕ → Telling) → Look → List Text → Telling
-option_at option most give (long n v) rest = if bytes_eq option n then number most give v rest else shown (long n v)
-option_at option most give look rest = ends_at look (give None) rest
+abbrev pub option_at : Text → ℕ → ℕ → (Option ℕ → Telling) → Look → List Text → Telling
+option_at option least most give (long n v) rest =
+    if bytes_eq option n then number least most give v rest else shown (long n v)
+option_at option least most give look rest = ends_at look (give None) rest
 
-abbrev pub with_option : Text → ℕ → (Option ℕ → Telling) → List Text → Telling
-with_option option most give [] = give None
-with_option option most give (w ∷ rest) = option_at option most give (look_of w) rest
+abbrev pub with_option : Text → ℕ → ℕ → (Option ℕ → Telling) → List Text → Telling
+with_option option least most give [] = give None
+with_option option least most give (w ∷ rest) = option_at option least most give (look_of w) rest
 
 -- ---- the commands
 
 -- what a command takes, and what it then asks for: nothing
 -- or one name
--- or an option `--NAME N`, where N is no greater than the most; or no option
+-- or an option `--NAME N`, where N is no less than the least and no greater than the most; or no option
 pub data Takes : Type 0 where
   nothing : Telling → Takes
   one_name : (Text → Telling) → Takes
-  one_number : Text → ℕ → (Option ℕ → Telling) → Takes
+  one_number : Text → (least most : ℕ) → (Option ℕ → Telling) → Takes
 
 -- `--at N`: the question about the coordinator N, or about the first of the script
 abbrev pub asks : Question → Takes
-asks q = one_number (codes "at") 255 (λ at. run (ask q at))
+asks q = one_number (codes "at") 0 255 (λ at. run (ask q at))
 
 -- `--rounds N`: a fleet for N rounds, or for none
 abbrev pub fleets : Takes
-fleets = one_number (codes "rounds") 1000 (λ rounds. fleet (unwrap_or rounds 0))
+fleets = one_number (codes "rounds") 0 1000 (λ rounds. fleet (unwrap_or rounds 0))
+
+-- where no N is told: an entry takes about a kilobyte, so that a history takes some 100 MB
+abbrev pub default_renew_after : ℕ
+default_renew_after = 100000
+
+-- as many entries as a history can have
+abbrev pub most_renew_after : ℕ
+most_renew_after = 1000000
+
+-- `--renew-after N`: coordinators that are kept running, and are made anew once a history has N entries, 1 at least
+abbrev pub follows : Takes
+follows = one_number (codes "renew-after") 1 most_renew_after (λ n. follow (unwrap_or n default_renew_after))
 
 -- `NAME`: the packet of the name
 abbrev pub packs : Takes
@@ -123,9 +137,11 @@ pub record Form : Type 0 where
 abbrev pub commands : List Form
 commands = record { name = codes "agree"; takes = nothing (run agree) }
     ∷ record { name = codes "fleet"; takes = fleets }
+    ∷ record { name = codes "follow"; takes = follows }
     ∷ record { name = codes "graph"; takes = asks question.Graph }
     ∷ record { name = codes "pack"; takes = packs }
     ∷ record { name = codes "solve"; takes = asks question.Solve }
+    ∷ record { name = codes "plan"; takes = asks question.Plan }
     ∷ record { name = codes "unpack"; takes = nothing (run unpack) }
     ∷ record { name = codes "winners"; takes = asks question.Winners }
     ∷ []
@@ -136,7 +152,7 @@ commands = record { name = codes "agree"; takes = nothing (run agree) }
 abbrev pub given : Takes → List Text → Telling
 given (nothing t) = ends t
 given (one_name give) = with_name give
-given (one_number option most give) = with_option option most give
+given (one_number option least most give) = with_option option least most give
 
 abbrev pub command_named : Text → Option Form
 command_named w = find (λ c. bytes_eq c.name w) commands

@@ -21,18 +21,18 @@ use Rattle.fm_words.specs.Heard.{Form, Takes, nothing, one_name, one_number, com
 abbrev pub name_rule : Rule
 name_rule = record (new_rule (codes "name")) { value_names = 1; required = true }
 
-abbrev pub number_rule : Text → ℕ → Rule
-number_rule option most = record (new_rule option) {
+abbrev pub number_rule : Text → ℕ → ℕ → Rule
+number_rule option least most = record (new_rule option) {
   long = Some option;
   value_names = 1;
   action = Some Set;
-  parser = Some (parser.Signed (pos 0) (pos most));
+  parser = Some (parser.Signed (pos least) (pos most));
 }
 
 abbrev pub command_app : Text → Takes → App
 command_app name (nothing t) = new_app name
 command_app name (one_name give) = with_rule (new_app name) name_rule
-command_app name (one_number option most give) = with_rule (new_app name) (number_rule option most)
+command_app name (one_number option least most give) = with_rule (new_app name) (number_rule option least most)
 
 abbrev pub no_commands : App
 no_commands = record {
@@ -64,7 +64,7 @@ bits_for most = if nat_le most 255 then 8 else 32
 abbrev pub told_with : Takes → List Row → Telling
 told_with (nothing t) rows = t
 told_with (one_name give) rows = option_map_or give (first_of (codes "name") rows) wrong
-told_with (one_number option most give) rows = give (number_read (bits_for most) option rows)
+told_with (one_number option least most give) rows = give (number_read (bits_for most) option rows)
 
 abbrev pub told_as : Text → List Row → Telling
 told_as name rows = option_map_or (λ c. told_with c.takes rows) (find (λ c. bytes_eq name c.name) commands) wrong

@@ -22,12 +22,14 @@ pub data Asked : Type 0 where
 
 -- what is asked for: the command's answer
 -- or a fleet that is run for so many rounds
+-- or coordinators that are kept running, and are made anew once a history has so many entries
 -- or a text of help
 -- or the page of refusals
 -- or nothing, since the words are wrong
 pub data Telling : Type 0 where
   run : Asked → Telling
   fleet : ℕ → Telling
+  follow : (renew_after : ℕ) → Telling
   help : Telling
   page : Telling
   wrong : Telling
@@ -42,6 +44,7 @@ asked_of command.Unpack = unpack
 abbrev pub told_of : Words → Telling
 told_of (words.Run command) = run (asked_of command)
 told_of (words.Fleet rounds) = fleet rounds
+told_of (words.Follow renew_after) = follow renew_after
 told_of (words.Help text) = help
 told_of words.Refusals = page
 told_of (words.Wrong text) = wrong

@@ -41,6 +41,15 @@ fn is_topic(word: &str) -> bool
 {
     matches!(
         word,
-        "agree" | "fleet" | "graph" | "pack" | "solve" | "unpack" | "winners" | "help"
+        "agree"
+            | "fleet"
+            | "follow"
+            | "graph"
+            | "pack"
+            | "solve"
+            | "plan"
+            | "unpack"
+            | "winners"
+            | "help"
     )
 }

@@ -2,12 +2,12 @@
 
 ghost use Rattle.std.specs.Prelude.{◌≡◌, ◌≤◌, ◌<◌, ◌^◌, ◌∷◌, [], ℕ, List, None, Some, codes, decimal};
 ghost use Rattle.fm_words.specs.Heard.{heard, number_in};
-ghost use Rattle.fm_words.specs.Telling.{Text, ask, fleet, help, pack, page, run, wrong};
-ghost use Rattle.fm_words.specs.declared.words.Question.TheVariants.{Graph, Solve, Winners};
+ghost use Rattle.fm_words.specs.Telling.{Text, ask, fleet, follow, help, pack, page, run, wrong};
+ghost use Rattle.fm_words.specs.declared.words.Question.TheVariants.{Graph, Plan, Solve, Winners};
 
 /// A number in range that is written in decimal digits, as the program itself writes numbers, is told as that number.
 pub fn law_number()
-    ensures { (n most : ℕ) → n ≤ most → n < 2 ^ 64 → number_in most (decimal n) ≡ Some n }
+    ensures { (n least most : ℕ) → least ≤ n → n ≤ most → n < 2 ^ 64 → number_in least most (decimal n) ≡ Some n }
 {}
 
 /// The definition at some command lines. The program's own name may be any.
@@ -17,7 +17,11 @@ pub fn law_examples()
     ensures above { (p : Text) → heard (p ∷ codes "solve" ∷ codes "--at=256" ∷ []) ≡ wrong }
     ensures left_out { (p : Text) → heard (p ∷ codes "winners" ∷ []) ≡ run (ask Winners None) }
     ensures twice { (p : Text) → heard (p ∷ codes "graph" ∷ codes "--at=1" ∷ codes "--at=1" ∷ []) ≡ wrong }
+    ensures plan { (p : Text) → heard (p ∷ codes "plan" ∷ codes "--at=7" ∷ []) ≡ run (ask Plan (Some 7)) }
     ensures no_rounds { (p : Text) → heard (p ∷ codes "fleet" ∷ []) ≡ fleet 0 }
+    ensures default { (p : Text) → heard (p ∷ codes "follow" ∷ []) ≡ follow 100000 }
+    ensures renewal { (p : Text) → heard (p ∷ codes "follow" ∷ codes "--renew-after=1" ∷ []) ≡ follow 1 }
+    ensures below { (p : Text) → heard (p ∷ codes "follow" ∷ codes "--renew-after=0" ∷ []) ≡ wrong }
     ensures any_name { (p name : Text) → heard (p ∷ codes "pack" ∷ codes "--" ∷ name ∷ []) ≡ run (pack name) }
     ensures flag { (p : Text) → heard (p ∷ codes "graph" ∷ codes "--at" ∷ codes "1" ∷ codes "-h" ∷ []) ≡ help }
     ensures topic { (p : Text) → heard (p ∷ codes "help" ∷ codes "solve" ∷ []) ≡ help }

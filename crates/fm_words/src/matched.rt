@@ -2,12 +2,12 @@
 
 ghost use Rattle.std.specs.Prelude.{◌≡◌, ◌≢◌, IfOk, codes, map, option_map, string_bytes};
 ghost use Rattle.clap.specs.Words.{first_of, found_of, kind_of, rows_of, subcommand_rows_of};
-ghost use Rattle.fm_words.specs.Heard.{asks, fleets, packs};
+ghost use Rattle.fm_words.specs.Heard.{asks, fleets, follows, packs};
 ghost use Rattle.fm_words.specs.Parser.{number_read, told_as, told_at_error, told_by, told_with};
 ghost use Rattle.fm_words.specs.Telling.{told_of};
 
 use super::help::{ask_for_help, begin_with_help};
-use super::words::{Command, Question, Words};
+use super::words::{Command, DEFAULT_RENEW_AFTER, Question, Words};
 use clap::error::ErrorKind;
 use clap::{ArgMatches, Error};
 use fm_lattice::join::OutOfMemory;
@@ -30,9 +30,11 @@ fn named_as<'a>(alloc: Global, name: &str, inner: &ArgMatches<'a>) -> Words<'a>
     match name {
         "agree" => Words::Run(Command::Agree),
         "fleet" => runs(inner),
+        "follow" => follows(inner),
         "graph" => asks(Question::Graph, inner),
         "pack" => packs(alloc, inner),
         "solve" => asks(Question::Solve, inner),
+        "plan" => asks(Question::Plan, inner),
         "unpack" => Words::Run(Command::Unpack),
         "winners" => asks(Question::Winners, inner),
         // The parser knows no other.
@@ -66,6 +68,20 @@ fn rounds_in<'a>(matches: &ArgMatches<'a>) -> Option<u32>
     ensures { result ≡ number_read 32 (codes "rounds") (rows_of (found_of matches.now)) }
 {
     matches.get_one::<u32>("rounds")
+}
+
+// Coordinators that are kept running, made anew after as many entries as are named.
+fn follows<'a>(matches: &ArgMatches<'a>) -> Words<'a>
+    ensures { told_of result ≡ told_with follows (rows_of (found_of matches.now)) }
+{
+    let renew_after = renew_after_in(matches).unwrap_or(DEFAULT_RENEW_AFTER);
+    Words::Follow { renew_after }
+}
+
+fn renew_after_in<'a>(matches: &ArgMatches<'a>) -> Option<u32>
+    ensures { result ≡ number_read 32 (codes "renew-after") (rows_of (found_of matches.now)) }
+{
+    matches.get_one::<u32>("renew-after")
 }
 
 // The name of a packet, which the command requires.

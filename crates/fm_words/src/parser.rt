@@ -1,35 +1,39 @@
 //! The commands that the parser knows, with their texts of help.
 
 ghost use Rattle.std.specs.Prelude.{◌≡◌, IfOk, codes, false};
-ghost use Rattle.clap.specs.Words.{app_of, rule_of};
+ghost use Rattle.clap.specs.Words.{app_of, new_app, rule_of, with_rule};
 ghost use Rattle.clap.specs.declared.builder.command.Command.TheViews.{out-Command};
-ghost use Rattle.fm_words.specs.Heard.{asks, fleets, nothing, packs};
+ghost use Rattle.fm_words.specs.Heard.{asks, fleets, follows, most_renew_after, nothing, packs};
 ghost use Rattle.fm_words.specs.Parser.{command_app, firmament, name_rule, no_commands, number_rule};
 ghost use Rattle.fm_words.specs.Telling.{agree, run, unpack};
 ghost use Rattle.fm_words.specs.declared.words.Question.TheVariants as question;
 
-use super::words::MOST_ROUNDS;
+use super::words::{MOST_RENEW_AFTER, MOST_ROUNDS};
 use clap::{Arg, ArgAction, Command, value_parser};
 use fm_lattice::join::OutOfMemory;
 use std::alloc::Global;
 
-/// The program, with its commands in the order of their names.
+/// The program, with its commands in the order of their names, but that `plan` is behind `solve`.
 pub fn parser<'a>(alloc: Global) -> Result<Command<'a>, OutOfMemory>
     ensures { IfOk result (λ c. app_of c ≡ firmament) }
 {
     let agree = agree(alloc);
     let fleet = fleet(alloc)?;
+    let follow = follow(alloc)?;
     let graph = graph(alloc)?;
     let pack = pack(alloc)?;
     let solve = solve(alloc)?;
+    let plan = plan(alloc)?;
     let unpack = unpack(alloc);
     let winners = winners(alloc)?;
     let with_agree = program(alloc)?.subcommand(agree)?;
     let with_fleet = with_agree.subcommand(fleet)?;
-    let with_graph = with_fleet.subcommand(graph)?;
+    let with_follow = with_fleet.subcommand(follow)?;
+    let with_graph = with_follow.subcommand(graph)?;
     let with_pack = with_graph.subcommand(pack)?;
     let with_solve = with_pack.subcommand(solve)?;
-    let with_unpack = with_solve.subcommand(unpack)?;
+    let with_plan = with_solve.subcommand(plan)?;
+    let with_unpack = with_plan.subcommand(unpack)?;
     let with_winners = with_unpack.subcommand(winners)?;
     Ok(with_winners)
 }
@@ -75,16 +79,30 @@ fn fleet<'a>(alloc: Global) -> Result<Command<'a>, OutOfMemory>
     Ok(command.arg(rounds(alloc))?)
 }
 
+fn follow<'a>(alloc: Global) -> Result<Command<'a>, OutOfMemory>
+    ensures app { IfOk result (λ c. app_of c ≡ command_app (codes "follow") follows) }
+    ensures local { IfOk result (λ c. (out-Command c).has_globals ≡ false) }
+{
+    let command = Command::new(alloc, "follow")
+        .about(
+            "Keeps coordinators running: reads one JSON object a line from standard input, and answers each at once, by its text and then `ok`, or by `refusal N`, before it reads the next",
+        )
+        .after_help(
+            "The first line lists the coordinators: {\"coordinators\":[1,2]}\nAll lines and their answers are described in docs/formats.md.\n\nThe status is 0 at the end of the input, 3 if the input cannot be read, and 6 if the output cannot be written.\n\nExample: firmament follow < examples/day.follow",
+        );
+    Ok(command.arg(renew_after(alloc))?)
+}
+
 fn graph<'a>(alloc: Global) -> Result<Command<'a>, OutOfMemory>
     ensures app { IfOk result (λ c. app_of c ≡ command_app (codes "graph") (asks question.Graph)) }
     ensures local { IfOk result (λ c. (out-Command c).has_globals ≡ false) }
 {
-    let command = Command::new(alloc, "graph")
-        .about(
-            "Prints the network of what a coordinator knows, as a minimum-cost flow problem in DIMACS lines",
-        )
-        .after_help("Example: firmament graph --at 1 < examples/first.json");
-    Ok(command.arg(at(alloc))?)
+    asking(
+        alloc,
+        "graph",
+        "Prints the network of what a coordinator knows, as a minimum-cost flow problem in DIMACS lines",
+        "Example: firmament graph --at 1 < examples/first.json",
+    )
 }
 
 fn pack<'a>(alloc: Global) -> Result<Command<'a>, OutOfMemory>
@@ -103,10 +121,24 @@ fn solve<'a>(alloc: Global) -> Result<Command<'a>, OutOfMemory>
     ensures app { IfOk result (λ c. app_of c ≡ command_app (codes "solve") (asks question.Solve)) }
     ensures local { IfOk result (λ c. (out-Command c).has_globals ≡ false) }
 {
-    let command = Command::new(alloc, "solve")
-        .about("Prints a least flow of that network, its cost first, in DIMACS lines: the schedule")
-        .after_help("Example: firmament solve < examples/first.json");
-    Ok(command.arg(at(alloc))?)
+    asking(
+        alloc,
+        "solve",
+        "Prints a least flow of that network, its cost first, in DIMACS lines: the schedule",
+        "Example: firmament solve < examples/first.json",
+    )
+}
+
+fn plan<'a>(alloc: Global) -> Result<Command<'a>, OutOfMemory>
+    ensures app { IfOk result (λ c. app_of c ≡ command_app (codes "plan") (asks question.Plan)) }
+    ensures local { IfOk result (λ c. (out-Command c).has_globals ≡ false) }
+{
+    asking(
+        alloc,
+        "plan",
+        "Prints what the schedule of `solve` changes: `place TASK MACHINE INCARNATION` for each task that it places, then `preempt TASK ATTEMPT` for each that it takes off its machine",
+        "Example: firmament plan < examples/first.json",
+    )
 }
 
 fn unpack<'a>(alloc: Global) -> Command<'a>
@@ -124,11 +156,25 @@ fn winners<'a>(alloc: Global) -> Result<Command<'a>, OutOfMemory>
     ensures app { IfOk result (λ c. app_of c ≡ command_app (codes "winners") (asks question.Winners)) }
     ensures local { IfOk result (λ c. (out-Command c).has_globals ≡ false) }
 {
-    let command = Command::new(alloc, "winners")
-        .about(
-            "Prints, for each task whose present attempt has a winner: TASK ATTEMPT COORDINATOR MACHINE INCARNATION, and held or free",
-        )
-        .after_help("Example: firmament winners < examples/held.json");
+    asking(
+        alloc,
+        "winners",
+        "Prints, for each task whose present attempt has a winner: TASK ATTEMPT COORDINATOR MACHINE INCARNATION, and held or free",
+        "Example: firmament winners < examples/held.json",
+    )
+}
+
+// A command that may be told which coordinator is asked.
+fn asking<'a>(
+    alloc: Global,
+    name: &'a str,
+    about: &'a str,
+    example: &'a str,
+) -> Result<Command<'a>, OutOfMemory>
+    ensures app { IfOk result (λ c. app_of c ≡ with_rule (new_app name.now) (number_rule (codes "at") 0 255)) }
+    ensures local { IfOk result (λ c. (out-Command c).has_globals ≡ false) }
+{
+    let command = Command::new(alloc, name).about(about).after_help(example);
     Ok(command.arg(at(alloc))?)
 }
 
@@ -145,7 +191,7 @@ fn name<'a>(alloc: Global) -> Arg<'a>
 
 // How many rounds each coordinator of a fleet runs.
 fn rounds<'a>(alloc: Global) -> Arg<'a>
-    ensures rule { rule_of result ≡ number_rule (codes "rounds") 1000 }
+    ensures rule { rule_of result ≡ number_rule (codes "rounds") 0 1000 }
     ensures local { result.global ≡ false }
 {
     Arg::new(alloc, "rounds")
@@ -156,9 +202,24 @@ fn rounds<'a>(alloc: Global) -> Arg<'a>
         .value_parser(value_parser!(u32).range(0..=MOST_ROUNDS))
 }
 
+// After how many entries coordinators that are kept running are made anew.
+fn renew_after<'a>(alloc: Global) -> Arg<'a>
+    ensures rule { rule_of result ≡ number_rule (codes "renew-after") 1 most_renew_after }
+    ensures local { result.global ≡ false }
+{
+    Arg::new(alloc, "renew-after")
+        .long("renew-after")
+        .value_name("N")
+        .help(
+            "Makes the coordinators anew from what they know once one of them has N entries in its history, 1 to 1000000 [default: 100000]",
+        )
+        .action(ArgAction::Set)
+        .value_parser(value_parser!(u32).range(1..=MOST_RENEW_AFTER))
+}
+
 // The coordinator that is asked.
 fn at<'a>(alloc: Global) -> Arg<'a>
-    ensures rule { rule_of result ≡ number_rule (codes "at") 255 }
+    ensures rule { rule_of result ≡ number_rule (codes "at") 0 255 }
     ensures local { result.global ≡ false }
 {
     Arg::new(alloc, "at")

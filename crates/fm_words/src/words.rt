@@ -16,6 +16,13 @@ use std::alloc::Global;
 /// The most rounds that a fleet may be asked for.
 pub const MOST_ROUNDS: i64 = 1_000;
 
+/// After how many entries of a history coordinators that are kept running are made anew, where no number is told. An
+/// entry takes about a kilobyte, so that a history takes some 100 MB; making them anew copies once what they know.
+pub const DEFAULT_RENEW_AFTER: u32 = 100_000;
+
+/// The most that may be told: as many entries as a history can have.
+pub const MOST_RENEW_AFTER: i64 = 1_000_000;
+
 /// What the program is asked to do.
 #[derive(Debug, Clone, Copy, PartialEq, Eq, Drop)]
 pub enum Command<'a> {
@@ -36,6 +43,8 @@ pub enum Question {
     Graph,
     /// A least flow of that network.
     Solve,
+    /// The plan of that flow: what it places, and what it preempts.
+    Plan,
     /// Who won the present attempt of each task, by what it knows.
     Winners,
 }
@@ -46,6 +55,8 @@ pub enum Words<'a> {
     Run(Command<'a>),
     /// Run the coordinators of a script of tells in threads, each with so many rounds.
     Fleet { rounds: u32 },
+    /// Keep coordinators running, and make them anew once one of them has so many entries in its history.
+    Follow { renew_after: u32 },
     /// A text that was asked for.
     Help(String),
     /// The page of refusals was asked for.

@@ -1,4 +1,4 @@
-use Rattle.fm_cli.specs.Running.{opened}
+use Rattle.fm_opening.specs.Openings.{opened}
 use Rattle.fm_cli.proofs.Coming.{is_run}
 use Rattle.fm_cli.proofs.run.run.Goals as goal
 

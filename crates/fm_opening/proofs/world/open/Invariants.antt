@@ -1,7 +1,7 @@
 use Rattle.std.proofs.Common.{◌≡◌, map, take}
 use Rattle.fm_world.specs.Stands.{number_of, opening_of, AreUnused}
-use Rattle.fm_cli.proofs.Opening.{limited}
-use Rattle.fm_cli.proofs.run.open.Given as goal
+use Rattle.fm_opening.proofs.Opening.{limited}
+use Rattle.fm_opening.proofs.world.open.Given as goal
 
 abbrev pub invariant-loop-number : goal.invariant-loop-number
 invariant-loop-number l = record {

@@ -2,8 +2,8 @@ use Rattle.std.proofs.Common.{◌<◌, length, map, sym, ap, ◌∙◌, subst, a
 use Rattle.fm_coord.specs.Numbers.{AreDistinct}
 use Rattle.fm_world.specs.Worlds.{opening_world}
 use Rattle.fm_world.specs.Stands.{number_of, opening_of, AreUnused, WorldStandsFor}
-use Rattle.fm_cli.proofs.Opening.{limited, numbers_more, openings_more, unused_more, all_taken}
-use Rattle.fm_cli.proofs.run.open.Goals as goal
+use Rattle.fm_opening.proofs.Opening.{limited, numbers_more, openings_more, unused_more, all_taken}
+use Rattle.fm_opening.proofs.world.open.Goals as goal
 
 pub loop-number-init : goal.loop-number-init
 loop-number-init c =

@@ -3,7 +3,7 @@ use Rattle.std.proofs.Common.{◌≡◌, ◌<◌, ◌≤◌, ◌+◌, ℕ, List,
 use Rattle.std.proofs.lemmas.List.{map-append, take_more, take_all}
 use Rattle.fm_coord.specs.States.{WithKeeper, new_state}
 use Rattle.fm_world.specs.Stands.{number_of, opening_of, AreUnused}
-use Rattle.fm_cli.specs.Running.{history_limit}
+use Rattle.fm_opening.specs.Openings.{history_limit}
 
 abbrev pub limited : ℕ → ℕ × ℕ
 limited n = (n, history_limit)

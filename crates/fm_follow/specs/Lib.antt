@@ -1,0 +1,4 @@
+pub mod Renewing
+pub mod Acting
+pub mod Following
+pub mod Desks

@@ -1,0 +1,73 @@
+//! Steps on a world of coordinators, and what is told of them.
+
+ghost use Rattle.std.specs.Prelude.{◌≡◌, None, IfOk, IsOkUnless, OnErr, OnOk};
+ghost use Rattle.fm_round.specs.Schedules.{IsPlanOf};
+ghost use Rattle.fm_world.specs.declared.step.Act.TheVariants as act;
+ghost use Rattle.fm_world.specs.Worlds.{WorldOfSets, cause_of, refusal_of};
+ghost use Rattle.fm_world.specs.Stands.{WorldStandsFor};
+ghost use Rattle.fm_follow.specs.Acting.{step_at, Takes, Rounds, IsCutLine, Makes, Fails};
+
+use fm_ask::packets::packet_line;
+use fm_ask::rounds::round_text;
+use fm_ask::solution::least_plan_of;
+use fm_coord::entry::Range;
+use fm_edit::keepers::Keeper;
+use fm_records::refusal::Refusal;
+use fm_round::admission::admit;
+use fm_world::step::{Act, Step};
+use fm_world::world::World;
+use std::alloc::Global;
+
+/// Takes one step at the coordinator. NoCoordinator, NoPacket, or as the coordinator's call; then nothing has changed.
+pub fn take_step(world: &mut World<Keeper>, at: u8, act: Act) -> Result<(), Refusal>
+    ensures ok { Makes result world.old world.new (λ w v. Takes w (step_at at act) v) }
+    ensures err { Fails result world.old (λ w refusal. refusal ≡ refusal_of w (step_at at act)) }
+    ensures unchanged { OnErr result (world.new ≡ world.old) }
+{
+    match world.step(&Step { at, by: 0, act }) {
+        Ok(_) => Ok(()),
+        Err(refusal) => Err(refusal),
+    }
+}
+
+/// The line of the packet that the coordinator would cut of the range now. Refused as the cut would be, and then also for want of
+/// memory for the line.
+pub(crate) fn cut_line(
+    alloc: Global,
+    world: &World<Keeper>,
+    at: u8,
+    range: Range,
+) -> Result<Vec<u8>, Refusal>
+    ensures ok { (w : WorldOfSets) → WorldStandsFor world.now w
+        → IfOk result (λ text. IsCutLine w at range text.items) }
+    ensures accepted { (w : WorldOfSets) → WorldStandsFor world.now w
+        → OnOk result (cause_of w (step_at at (act.Cut range)) ≡ None) }
+    ensures err { Fails result world.now (λ w refusal. refusal ≡ refusal_of w (step_at at (act.Cut range))) }
+{
+    let Some(coordinator) = world.numbered(at) else {
+        return Err(Refusal::NoCoordinator);
+    };
+    let packet = coordinator.packet_for(range)?;
+    Ok(packet_line(alloc, packet.get())?.into_bytes())
+}
+
+/// A round at the coordinator: a plan of a least flow of what it knows is committed. What admission answers to each entry of the
+/// plan is told. The history gets one entry, and the view none.
+/// NoCoordinator, HistoryFull, OutOfMemory; then nothing has changed. The cost is that of building the network, if the coordinator
+/// has none that is fresh, of solving it, and of admitting the plan twice.
+pub(crate) fn round(alloc: Global, world: &mut World<Keeper>, at: u8) -> Result<Vec<u8>, Refusal>
+    ensures ok { (w : WorldOfSets) → WorldStandsFor world.old w
+        → IfOk result (λ text. (v : WorldOfSets) × Rounds w at text.items v × WorldStandsFor world.new v) }
+    ensures err { Fails result world.old (λ w refusal. refusal ≡ refusal_of w (step_at at act.View)) }
+    ensures unchanged { OnErr result (world.new ≡ world.old) }
+{
+    let Some(coordinator) = world.numbered(at) else {
+        return Err(Refusal::NoCoordinator);
+    };
+    coordinator.check_room()?;
+    let plan = least_plan_of(alloc, coordinator)?;
+    let admitted = admit(alloc, coordinator.knowledge(), coordinator.number(), &plan)?;
+    let text = round_text(alloc, &plan, &admitted)?.into_bytes();
+    take_step(world, at, Act::Commit(plan))?;
+    Ok(text)
+}

@@ -1,0 +1,69 @@
+//! Whoever answers the lines of a stream: nobody knows anything before the line that lists the coordinators.
+
+ghost use Rattle.std.specs.Prelude.{◌≡◌, None, IfErr, OnErr};
+ghost use Rattle.fm_lines.specs.Replies.{refused};
+ghost use Rattle.fm_follow.specs.Following.{IsRefused};
+ghost use Rattle.fm_follow.specs.Desks.{Begins, IsIn};
+
+use crate::desk::Desk;
+use fm_input::names::Names;
+use fm_input::request::Request;
+use fm_input::requesting::read_request;
+use fm_lines::responder::Responder;
+use fm_opening::world::open;
+use fm_records::refusal::Refusal;
+use std::alloc::Global;
+
+/// Coordinators that answer lines, once a line lists them.
+#[derive(Drop)]
+pub struct Follower {
+    pub(crate) alloc: Global,
+    pub(crate) renew_after: usize,
+    pub(crate) desk: Option<Desk>,
+}
+
+impl Follower {
+    /// No coordinators yet. Between two lines all are made anew from what they know once a history has as many entries as
+    /// `renew_after`, if there is memory for it. It takes no memory.
+    pub fn new(alloc: Global, renew_after: usize) -> Follower
+        ensures most { result.renew_after ≡ renew_after }
+        ensures start { IsIn result.desk None }
+    {
+        Follower {
+            alloc,
+            renew_after,
+            desk: None,
+        }
+    }
+
+    // The coordinators that the line lists, and what it is answered.
+    fn begin(&mut self, line: &[u8]) -> Result<Vec<u8>, Refusal>
+        ensures most { self.new.renew_after ≡ self.old.renew_after }
+        ensures ok { Begins self.old.renew_after result self.new line.now }
+        ensures err { IfErr result (λ e. IsRefused None line.now (refused e) None) }
+        ensures unchanged { OnErr result (self.new ≡ self.old) }
+    {
+        match read_request(self.alloc, line, &Names::new(self.alloc))? {
+            Request::Open(listed) => {
+                let world = open(self.alloc, &listed)?;
+                self.desk = Some(Desk::new(self.alloc, world));
+                Ok(Vec::new(self.alloc))
+            }
+            _ => Err(Refusal::BadScript(0)),
+        }
+    }
+}
+
+impl Responder for Follower {
+    ghost use Rattle.fm_follow.specs.Desks.{AnswersSo};
+
+    ghost answers = { λ old line text new. AnswersSo old line text new };
+
+    fn answer(&mut self, line: &[u8]) -> Result<Vec<u8>, Refusal> {
+        let most = self.renew_after;
+        match &mut self.desk {
+            Some(desk) => desk.answer(most, line),
+            None => self.begin(line),
+        }
+    }
+}

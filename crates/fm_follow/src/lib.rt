@@ -1,0 +1,10 @@
+//! Coordinators that answer the lines of a stream, as long as it lasts.
+#![tactic(auto)]
+
+pub mod acting;
+mod desk;
+pub mod follower;
+pub mod laws;
+mod named;
+pub mod renewing;
+pub mod stream;

@@ -1,0 +1,59 @@
+//! Coordinators made anew from all that they know.
+
+ghost use Rattle.std.specs.Prelude.{◌≡◌, IfOk, IsOkUnless};
+ghost use Rattle.fm_coord.specs.Events.{Replica};
+ghost use Rattle.fm_coord.specs.Replays.{seen};
+ghost use Rattle.fm_coord.specs.States.{StandsFor};
+ghost use Rattle.fm_world.specs.Stands.{WorldStandsFor};
+ghost use Rattle.fm_world.specs.Worlds.{WorldOfSets};
+ghost use Rattle.fm_follow.specs.Renewing.{renewed, reopened, whole_of};
+
+use fm_coord::coordinator::Coordinator;
+use fm_delta::packet::Packet;
+use fm_edit::keepers::Keeper;
+use fm_lattice::join::OutOfMemory;
+use fm_opening::world::open;
+use fm_records::refusal::Refusal;
+use fm_world::world::World;
+use std::alloc::Global;
+
+/// A world of the same coordinators, made anew from what each knows: each has taken that in as one packet, its own, and nothing else
+/// has happened to it. Histories, deltas and packets are let go, and numbers of deltas and packets start anew. Only memory is
+/// refused. It costs a copy of what each knows, twice. The world that is handed in stays as it is.
+pub fn renewed(alloc: Global, world: &World<Keeper>) -> Result<World<Keeper>, Refusal>
+    ensures ok { (w : WorldOfSets) → WorldStandsFor world.now w
+        → IfOk result (λ anew. WorldStandsFor anew (renewed w)) }
+    ensures err { IsOkUnless result Refusal.OutOfMemory }
+{
+    world.known();
+    let mut anew = reopened(alloc, world)?;
+    for coordinator in world.coordinators() {
+        let number = coordinator.number();
+        let packet = whole_of(coordinator)?;
+        anew.take(number.value(), 0, packet)?;
+    }
+    Ok(anew)
+}
+
+// All that the coordinator knows, as a packet of its own.
+fn whole_of(coordinator: &Coordinator<Keeper>) -> Result<Packet, OutOfMemory>
+    ensures { (r : Replica) → StandsFor coordinator.now.state r → IfOk result (λ packet. packet ≡ seen (whole_of r)) }
+{
+    Ok(Packet {
+        sender: coordinator.number(),
+        number: 0,
+        value: coordinator.knowledge().copy()?,
+    })
+}
+
+// A world of coordinators of the same numbers, to which nothing has happened.
+fn reopened(alloc: Global, world: &World<Keeper>) -> Result<World<Keeper>, OutOfMemory>
+    ensures { (w : WorldOfSets) → WorldStandsFor world.now w → IfOk result (λ anew. WorldStandsFor anew (reopened w)) }
+{
+    world.known();
+    let mut numbers = Vec::new(alloc);
+    for coordinator in world.coordinators() {
+        numbers.push(coordinator.number())?;
+    }
+    open(alloc, &numbers)
+}
