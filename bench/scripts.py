@@ -79,28 +79,33 @@ def script(tasks, machines=None, requests=None, seed=1, gossip=False, prefer=0.0
     return lines(steps, "[1,2]" if gossip else "[1]")
 
 
-def rounds(tasks, count, at=1, share=100, quiet=False, seed=1):
-    """The lines of a script of rounds, each after a part of the tasks changed."""
+def changing(tasks, count, share=100, seed=1, machines=None):
+    """The operations of a cluster, one after another, and for each of so many rounds those of a part of its tasks that changed, and
+    then None."""
     chance = random.Random("rounds %d %d %d" % (tasks, share, seed))
     sizes = chance.sample(range(1, 1001), chance.randint(20, 50))
-    jobs, hosts, names = ids(chance, max(1, tasks // 50)), ids(chance, max(1, tasks // 10)), ids(chance, tasks)
-    told = list(told_before(chance, jobs, hosts, names, sizes))
+    jobs, hosts, names = ids(chance, max(1, tasks // 50)), ids(chance, machines or max(1, tasks // 10)), ids(chance, tasks)
+    yield from told_before(chance, jobs, hosts, names, sizes)
     reported = 0
-    for number in range(count):
+    for _ in range(count):
         for change in range(max(1, tasks // share)):
             if change % 3 == 0:
                 gone = chance.randrange(len(names))
                 names[gone], names[-1] = names[-1], names[gone]
-                told.append({"progress": {"id": names.pop(), "attempt": 0, "phase": "done"}})
+                yield {"progress": {"id": names.pop(), "attempt": 0, "phase": "done"}}
             elif change % 3 == 1:
                 names += ids(chance, 1)
-                told.append(spec(names[-1], jobs, sizes, chance))
+                yield spec(names[-1], jobs, sizes, chance)
             else:
                 reported += 1
-                told.append({"report": {"id": chance.choice(hosts), "incarnation": 1, "number": reported,
-                                        "used": chance.randint(0, 5000)}})
-        if not quiet:
-            told.append(None)
+                yield {"report": {"id": chance.choice(hosts), "incarnation": 1, "number": reported,
+                                  "used": chance.randint(0, 5000)}}
+        yield None
+
+
+def rounds(tasks, count, at=1, share=100, quiet=False, seed=1):
+    """The lines of a script of rounds, each after a part of the tasks changed."""
+    told = [op for op in changing(tasks, count, share, seed) if op is not None or not quiet]
     steps = [{"at": at, "round": True} if op is None else {"at": at, "tell": op} for op in told]
     return lines(steps, "[1]" if at == 1 else "[1,2]")
 

@@ -4,29 +4,31 @@ import json
 import re
 
 BARE = ("agree", "unpack")
-NUMBERED = {"fleet": ("rounds", 1000), "graph": ("at", 255), "solve": ("at", 255), "winners": ("at", 255)}
+QUESTIONS = ("graph", "solve", "plan", "winners")
+# the option of a command with its least and its most number, and the number of one that is left out
+NUMBERED = {"fleet": ("rounds", 0, 1000), "follow": ("renew-after", 1, 1000000), **dict.fromkeys(QUESTIONS, ("at", 0, 255))}
+LEFT_OUT = {"fleet": 0, "follow": 100000, **dict.fromkeys(QUESTIONS)}
+OPTIONS = tuple(dict.fromkeys("--" + option for option, _, _ in NUMBERED.values()))
 TOPICS = (*BARE, *NUMBERED, "pack", "help")
 HELP, PAGE, WRONG = ("help",), ("refusals",), ("wrong",)
 # words of which there are all command lines of up to two
 WORDS = (*TOPICS, "refusals", "grapf", "--", "-", "", "--help", "--help=x", "-h", "-hx", "-x", "-é", "--at", "--at=7", "--rounds",
-         "--rounds=3", "--name", "7", "-7", "a", "a=b", "é")
+         "--rounds=3", "--renew-after=3", "--name", "7", "-7", "a", "a=b", "é")
 # and what may stand behind a command, and behind that
-NUMBERS = ("0", "7", "007", "+7", "-0", "-7", "-+7", "255", "256", "1000", "1001", "1.0", "x", "", "-")
-GIVEN = ([], ["a"], ["-"], [""], ["-x"], ["--", "a"], ["--", "-x"], ["--", "--"],
-         *([option, spelled] for option in ("--at", "--rounds") for spelled in NUMBERS),
-         *([option + "=" + spelled] for option in ("--at", "--rounds") for spelled in NUMBERS))
-BEHIND = ([], ["--"], ["--", "a"], ["a"], ["-h"], ["--help", "a"], ["--at", "7"], ["--rounds=3"])
+NUMBERS = ("0", "1", "7", "007", "+7", "-0", "-7", "-+7", "255", "256", "1000", "1001", "1000000", "1000001", "1.0", "x", "", "-")
+GIVEN = ([], ["a"], ["-"], [""], ["-x"], ["--", "a"], ["--", "-x"], ["--", "--"])
+BEHIND = ([], ["--"], ["--", "a"], ["a"], ["-h"], ["--help", "a"], ["--at", "7"], ["--rounds=3"], ["--renew-after=3"])
 
 
 def is_flag(word):
     return word.startswith("-") and word not in ("-", "--")
 
 
-def number(word, most):
+def number(word, least, most):
     """The number that the word spells, or None."""
     found = re.fullmatch(r"([+-]?)([0-9]+)", word, re.ASCII)
     value = int(found[2]) if found else most + 1
-    return value if value <= most and (value == 0 or found[1] != "-") else None
+    return value if least <= value <= most and (value == 0 or found[1] != "-") else None
 
 
 def flag(word):
@@ -52,17 +54,16 @@ def packet(rest):
 
 def counted(command, rest):
     """What a command with a number asks for by the words behind it."""
-    option, most = NUMBERED[command]
-    left_out = (command, 0 if command == "fleet" else None)
+    option, least, most = NUMBERED[command]
     if not rest or rest[0].partition("=")[0] != "--" + option:
-        return last(left_out, rest)
+        return last((command, LEFT_OUT[command]), rest)
     _, equals, spelled = rest[0].partition("=")
     rest = rest[1:]
     if not equals:
         if not rest or is_flag(rest[0]):
             return WRONG
         spelled, *rest = rest
-    value = number(spelled, most)
+    value = number(spelled, least, most)
     return WRONG if value is None else last((command, value), rest)
 
 
@@ -89,17 +90,26 @@ def shortest(asked):
         return ["help", "refusals"]
     if command == "pack":
         return ["pack", "--", *given]
-    if given and given[0] is not None and asked != ("fleet", 0):
+    if given and given[0] != LEFT_OUT[command]:
         return [command, "--" + NUMBERED[command][0], str(given[0])]
     return [command]
+
+
+def options(own):
+    """An option with a number: a command's own with each, and any other with two."""
+    for option in OPTIONS:
+        for spelled in NUMBERS if option == own else ("7", "x"):
+            yield from ([option, spelled], [option + "=" + spelled])
 
 
 def command_lines():
     """Command lines that ask for much and for little."""
     for count in range(3):
         yield from map(list, itertools.product(WORDS, repeat=count))
-    for command, given, behind in itertools.product(("agree", "pack", *NUMBERED), GIVEN, BEHIND):
-        yield [command, *given, *behind]
+    for command in ("agree", "pack", *NUMBERED):
+        own = "--" + NUMBERED[command][0] if command in NUMBERED else None
+        for given, behind in itertools.product((*GIVEN, *options(own)), BEHIND):
+            yield [command, *given, *behind]
 
 
 def tells(number):
@@ -118,8 +128,19 @@ CUTS = [{"at": 7, "cut": {"name": name, "from": at % 4, "to": at % 4 + at // 4 +
         for at, name in enumerate(("", "-", "a", "7", "-x", "--"))]
 
 
+DELIVERIES = 1200
+
+
 def script_for(words):
-    """A script on which each command, each number that is listed and each name that is cut has another answer."""
+    """A script on which each command, each number that is listed and each name that is cut has another answer. Of
+    `follow` a stream, in which a packet has a name until the coordinators are made anew."""
+    if words[:1] == ["follow"]:
+        return b"\n".join([b'{"coordinators":[3,7]}', b'{"at":7,"cut":{"name":"a"}}'] + [b'{"at":3,"deliver":"a"}'] * DELIVERIES)
     if words[:1] == ["fleet"]:
         return json.dumps({"coordinators": [3], "steps": tells(3)}).encode()
     return json.dumps({"coordinators": LISTED, "steps": [step for at in LISTED for step in tells(at)] + CUTS}).encode()
+
+
+def shows(asked):
+    """Whether what is asked for has an answer of its own on its script: a stream must be longer than the number of entries."""
+    return asked[0] != "follow" or asked[1] < DELIVERIES

@@ -370,12 +370,16 @@ def unpacked(text):
     digits = re.fullmatch(b"((?:[0-9a-fA-F]{2})*)\n?", text)
     if not digits or len(text) > strict.LIMIT:
         raise Refused(16)
-    bytes_given = bytes.fromhex(digits[1].decode())
-    packet = read_packet(bytes_given)
-    lines, spelled = packed(packet, bytes_given[:4]) if packet else ("", "")
-    if spelled != digits[1].decode().lower() + "\n":
+    packet = packet_in(bytes.fromhex(digits[1].decode()))
+    if packet is None:
         raise Refused(6)
-    return lines
+    return packed(packet)[0]
+
+
+def packet_in(spelled):
+    """The packet that the bytes spell, or None: there is one spelling only in each version."""
+    packet = read_packet(spelled)
+    return packet if packet and packed(packet, spelled[:4])[1] == spelled.hex() + "\n" else None
 
 
 def read_packet(spelled):

@@ -74,33 +74,51 @@ class Admission:
         return kind, frozenset(fields.items())
 
     def place(self, task, machine, incarnation):
+        """What is answered to a place."""
         known = self.know(self.taken | self.added)
         if not known.is_live(task) or not known.is_open(machine) or known.incarnations[machine] != incarnation:
-            return
+            return "gone"
         attempt, next_one = known.attempt(task), (task, known.attempt(task)) in known.winners
-        if known.holder(task) is not None or next_one and attempt == LAST_ATTEMPT:
-            return
+        if known.holder(task) is not None:
+            return "held"
+        if next_one and attempt == LAST_ATTEMPT:
+            return "attempts-spent"
         attempt += next_one
         ops = {self.op("propose", id=self.name(task), attempt=attempt, coordinator=self.coordinator, machine=self.name(machine),
                        incarnation=incarnation)}
         if next_one:
             ops.add(self.op("progress", id=self.name(task), attempt=attempt, phase="pending"))
-        if self.know(self.taken | self.added | ops).holder(task) == machine and self.has_room(known, machine, known.specs[task][4]):
-            self.added |= ops
+        if self.know(self.taken | self.added | ops).holder(task) != machine:
+            return "contested"
+        return self.lacking(known, machine, known.specs[task][4]) or self.accepted(ops)
 
-    def has_room(self, known, machine, request):
-        """Whether there is a slot on the machine, and the bandwidth."""
+    def accepted(self, ops):
+        self.added |= ops
+        return "accepted"
+
+    def lacking(self, known, machine, request):
+        """What the machine has too little of for the request, or None."""
         held = [known.specs[task][4] for task in known.specs if known.holder(task) == machine]
         _, _, _, slots, nic = known.states[machine]
-        return len(held) < slots and max(known.reports.get(machine, (0, 0))[1], sum(held)) + request <= nic
+        if len(held) >= slots:
+            return "no-slot"
+        return None if max(known.reports.get(machine, (0, 0))[1], sum(held)) + request <= nic else "no-room"
 
     def preempt(self, task, attempt):
+        """What is answered to a preempt."""
         known = self.know(self.taken | self.added)
-        if known.holder(task) is None or known.attempt(task) != attempt or attempt == LAST_ATTEMPT:
-            return
+        if known.holder(task) is None or known.attempt(task) != attempt:
+            return "gone"
+        if attempt == LAST_ATTEMPT:
+            return "attempts-spent"
         op = self.op("progress", id=self.name(task), attempt=attempt + 1, phase="pending")
-        if self.know(self.taken | self.added | {op}).holder(task) is None:
-            self.added |= {op}
+        if self.know(self.taken | self.added | {op}).holder(task) is not None:
+            return "contested"
+        return self.accepted({op})
+
+    def plan(self, places, preempts):
+        """What is answered to each place of a plan, and to each preempt."""
+        return [self.place(*place) for place in places], [self.preempt(*preempt) for preempt in preempts]
 
 
 def outcomes(know, name, network, taken, coordinator):
@@ -108,12 +126,8 @@ def outcomes(know, name, network, taken, coordinator):
     known = know(taken)
     found = set()
     for chosen, seats in least_flows(*network):
-        places, preempts = plan_of(known, chosen, seats)
         admission = Admission(know, name, frozenset(taken), coordinator)
-        for place in places:
-            admission.place(*place)
-        for preempt in preempts:
-            admission.preempt(*preempt)
+        admission.plan(*plan_of(known, chosen, seats))
         found.add(admission.added)
     return sorted(found, key=sorted_text)
 

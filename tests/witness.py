@@ -46,8 +46,9 @@ def fault(balance, arcs, solution):
     return None if total == int(lines[0][1]) else "the flow costs %d" % total
 
 
-def least_cost(balance, arcs):
-    """The least cost of a flow that meets the balances: successive shortest paths (Ahuja, Magnanti and Orlin)."""
+def least_flow(balance, arcs):
+    """The least cost of a flow that meets the balances, and the units of one by the ends of arcs: successive shortest paths
+    (Ahuja, Magnanti and Orlin)."""
     out, residual = {}, []
     for source, target, capacity, cost in arcs:
         out.setdefault(source, []).append(len(residual))
@@ -82,7 +83,12 @@ def least_cost(balance, arcs):
                 residual[edge ^ 1][1] += 1
                 total += residual[edge][2]
                 node = residual[edge ^ 1][0]
-    return total
+    units = {ends[:2]: residual[2 * place + 1][1] for place, ends in enumerate(arcs)}
+    return total, {ends: many for ends, many in units.items() if many}
+
+
+def least_cost(balance, arcs):
+    return least_flow(balance, arcs)[0]
 
 
 def check(dump, solution):

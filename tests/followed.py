@@ -1,0 +1,358 @@
+#!/usr/bin/env python3
+"""What `firmament follow` answers to the lines of a stream, worked out by docs/formats.md alone, on the coordinators of
+tests/reference.py.
+
+    tests/followed.py [--renew-after N] < LINES
+
+Which least flow is found is not said. So a solution, a plan and what a round placed are not foretold where an answer was seen:
+they are judged. A solution is a flow of the least cost that tests/witness.py finds; a plan is one that such a flow comes to, of
+which nothing needs to be listed; and of a round's plan each answer is worked out, and what was admitted is taken in. Where
+nothing was seen, one answer that may come is made.
+"""
+import argparse
+import re
+import sys
+
+import reference
+import rounds
+import strict
+import witness
+
+RENEW_AFTER = 100000
+MOST_ENTRIES = 1000000
+TOPICS = "graph", "solve", "plan", "winners", "stops"
+STRANGE, NO_PACKET, NOBODY = 16, 6, 8
+END = re.compile(rb"ok\n|refusal [0-9]+\n")
+PLACE = re.compile(r"place (\S{36}) (\S{36}) ([0-9]+)(?: \S+)?")
+PREEMPT = re.compile(r"preempt (\S{36}) ([0-9]+)(?: \S+)?")
+
+
+class Refused(Exception):
+    """The line is refused, by that number."""
+
+    def __init__(self, number):
+        super().__init__(number)
+        self.number = number
+
+
+def lines_of(text):
+    """The lines of a stream, without their line feeds: what stands behind the last line feed is one, if it is not empty."""
+    lines = text.split(b"\n")
+    return lines if lines[-1] else lines[:-1]
+
+
+def answers_in(out):
+    """The answers one after another, each with its last line, and what stands behind them."""
+    found, begin = [], 0
+    answer = b""
+    while (feed := out.find(b"\n", begin)) >= 0:
+        line = out[begin:feed + 1]
+        answer, begin = answer + line, feed + 1
+        if END.fullmatch(line):
+            found, answer = found + [answer], b""
+    return found, answer + out[begin:]
+
+
+# lines
+
+def request_in(line, names):
+    """What the line asks for, as a kind and what belongs to it, where packets of the names were cut before."""
+    if len(line) > strict.LIMIT:
+        raise Refused(STRANGE)
+    try:
+        value = strict.read_json(line)
+    except (strict.Strange, RecursionError):
+        raise Refused(STRANGE)
+    request = None
+    if type(value) is dict and len(value) == 1:
+        request = alone(*next(iter(value.items())))
+    if type(value) is dict and len(value) == 2 and strict.fits(value.get("at"), strict.U8):
+        (kind, asked), = ((key, given) for key, given in value.items() if key != "at")
+        request = at_one(value["at"], kind, asked, names)
+    if request is None:
+        raise Refused(STRANGE)
+    return request
+
+
+def alone(kind, asked):
+    """What a line of one member asks for, or None."""
+    if kind == "coordinators":
+        numbers = asked if type(asked) is list else []
+        fine = numbers and all(type(n) is int and 1 <= n <= 64 for n in numbers) and len(set(numbers)) == len(numbers)
+        return ("open", numbers) if fine else None
+    if kind == "renew":
+        return ("renew",) if asked is True else None
+    return ("agree",) if kind == "ask" and asked == "agree" else None
+
+
+def at_one(at, kind, asked, names):
+    """What a line with the number of a coordinator asks for, or None."""
+    if kind == "news":
+        return ("news", at) if asked is True else None
+    if kind == "take":
+        return ("take", at, asked) if type(asked) is str else None
+    if kind == "ask":
+        return ("ask", at, asked) if type(asked) is str and asked in TOPICS else None
+    if kind == "cut" and type(asked) is dict and "name" not in asked:
+        read = strict.read_cut({**asked, "name": ""}, set())
+        return read and ("act", {"at": at, "cut": {**read, "name": None}})
+    step = strict.read_step({"at": at, kind: asked}, set(names))
+    return step and ("act", step)
+
+
+def packet_of(digits):
+    """The packet that hexadecimal digits spell."""
+    if not re.fullmatch("(?:[0-9a-fA-F]{2})*", digits):
+        raise Refused(STRANGE)
+    packet = reference.packet_in(bytes.fromhex(digits))
+    if packet is None:
+        raise Refused(NO_PACKET)
+    return packet
+
+
+# plans
+
+def network_of(known):
+    """The nodes in order, the arcs, and the least cost of a flow with the units of one, by the ends of arcs."""
+    nodes, arcs = reference.network(known)
+    numbers = {node: place for place, node in enumerate(nodes)}
+    tasks = [node for node in nodes if node[0] == 4]
+    balance = {numbers[task]: 1 for task in tasks}
+    balance[0] = -len(tasks)
+    listed = [(numbers[source], numbers[target], *of) for (source, target), of in sorted(arcs.items())]
+    cost, units = witness.least_flow(balance, listed) if tasks else (0, {})
+    return nodes, arcs, cost, {(nodes[source], nodes[target]): many for (source, target), many in units.items()}
+
+
+def least_plan(known):
+    """A plan that a least flow comes to: its places and its preempts."""
+    _, _, _, units = network_of(known)
+    chosen = {source: target for source, target in units if source[0] == 4}
+    seats = {ends: many for ends, many in units.items() if ends[0][0] == 2}
+    return rounds.plan_of(known, chosen, seats)
+
+
+def is_least_plan(known, places, preempts):
+    """Whether some least flow comes to the plan. A task goes straight to a machine that it prefers, if there is such an arc: that
+    costs no more than by its request, where it would take a seat."""
+    nodes, arcs, cost, _ = network_of(known)
+    waiting = {node[1] for node in nodes if node[0] == 4 and known.holder(node[1]) is None}
+    held = {node[1]: known.holder(node[1]) for node in nodes if node[0] == 4 and node[1] not in waiting}
+    if places != sorted(set(places)) or preempts != sorted(set(preempts)) or len({task for task, _, _ in places}) < len(places):
+        return False
+    if any(task not in waiting or not known.is_open(machine) or known.incarnations[machine] != incarnation
+           for task, machine, incarnation in places):
+        return False
+    if any(task not in held or known.attempt(task) != attempt for task, attempt in preempts):
+        return False
+    units = flow_of(known, arcs, waiting, held, places, {task for task, _ in preempts})
+    if units is None or any(many > arcs[ends][0] for ends, many in units.items()):
+        return False
+    return sum(arcs[ends][1] * many for ends, many in units.items()) == cost
+
+
+def flow_of(known, arcs, waiting, held, places, preempted):
+    """The units by which each placed task goes to its machine, and each other one waits, stays or is preempted; None where an arc
+    is not there, or where tasks of one request and their machines do not rise together."""
+    units, last = {}, {}
+    hosts = {task: machine for task, machine, _ in places}
+    for task in sorted(waiting | held.keys()):
+        node, request, job = (4, task), (2, known.specs[task][4]), (1, known.specs[task][3])
+        host = hosts.get(task, None if task in preempted else held.get(task))
+        if host is None:
+            path = [node, job, (0, 0)]
+        elif (node, (3, host)) in arcs:
+            path = [node, (3, host), (0, 0)]
+        else:
+            path = [node, request, (3, host), (0, 0)]
+            if host < last.get(request, host):
+                return None
+            last[request] = host
+        for ends in zip(path, path[1:]):
+            if ends not in arcs:
+                return None
+            units[ends] = units.get(ends, 0) + 1
+    return units
+
+
+def plan_in(text):
+    """The plan that the lines of a plan or of a round say, or None."""
+    places, preempts = [], []
+    for line in text.splitlines():
+        place, preempt = PLACE.fullmatch(line), PREEMPT.fullmatch(line)
+        try:
+            if place and not preempts:
+                places.append((reference.number(place[1]), reference.number(place[2]), int(place[3])))
+            elif preempt:
+                preempts.append((reference.number(preempt[1]), int(preempt[2])))
+            else:
+                return None
+        except ValueError:
+            return None
+    return places, preempts
+
+
+def plan_seen(known, seen):
+    """The plan that the text says, if some least flow comes to it, else another one."""
+    found = plan_in(seen)
+    return found if found and is_least_plan(known, *found) else least_plan(known)
+
+
+def plan_lines(plan):
+    """The lines of a plan, without line feeds."""
+    places, preempts = plan
+    return ["place %s %s %d" % (reference.name(task), reference.name(machine), incarnation) for task, machine, incarnation in places] \
+        + ["preempt %s %d" % (reference.name(task), attempt) for task, attempt in preempts]
+
+
+def solution(known, seen):
+    """The text of a least flow: the one that was seen, if it is one."""
+    dump = "".join(reference.graph(known))
+    try:
+        if witness.check(dump, seen) is None:
+            return seen
+    except (ValueError, IndexError, AssertionError):
+        pass
+    nodes, _, cost, units = network_of(known)
+    numbers = {node: place for place, node in enumerate(nodes, 1)}
+    flows = sorted((numbers[source], numbers[target], many) for (source, target), many in units.items())
+    return "s %d\n" % cost + "".join("f %d %d %d\n" % flow for flow in flows)
+
+
+def stops(known, coordinator):
+    """The lines of the entries of a coordinator that are no present holding."""
+    for task, attempt, proposer in sorted(known.spots):
+        machine, incarnation = known.spots[task, attempt, proposer]
+        is_now = known.attempt(task) == attempt and known.holder(task) == machine and known.incarnations[machine] == incarnation
+        if proposer == coordinator and not is_now:
+            yield "stop %s %d %s %d\n" % (reference.name(task), attempt, reference.name(machine), incarnation)
+
+
+# streams
+
+class Stream:
+    """The coordinators of a stream, and what its lines answer."""
+
+    def __init__(self, renew_after=RENEW_AFTER):
+        self.renew_after, self.world, self.entries, self.ends = renew_after, None, {}, {}
+
+    def answer(self, line, seen=b""):
+        """What is answered to the line: where several answers may come, the one that was seen, if it is one of them."""
+        try:
+            text = self.text(line, seen.rpartition(b"ok\n")[0].decode("utf-8", "replace"))
+        except Refused as refused:
+            return b"refusal %d\n" % refused.number
+        if any(count >= self.renew_after for count in self.entries.values()):
+            self.renew()
+        return text.encode() + b"ok\n"
+
+    def text(self, line, seen):
+        kind, *asked = request_in(line, self.world.packets if self.world else ())
+        if (kind == "open") != (self.world is None):
+            raise Refused(STRANGE)
+        if kind == "take":
+            # the digits are read before anybody is looked for
+            asked[1] = packet_of(asked[1])
+        if kind in ("news", "take", "ask") and asked[0] not in self.world.coordinators:
+            raise Refused(NOBODY)
+        return (self.ask(*asked, seen) if kind == "ask" else self.act(*asked, seen) if kind == "act"
+                else getattr(self, kind)(*asked)) or ""
+
+    def open(self, numbers):
+        self.world = reference.World({"coordinators": numbers, "steps": []})
+        self.entries, self.ends = dict.fromkeys(numbers, 0), dict.fromkeys(numbers, 0)
+
+    def renew(self):
+        """Each coordinator took in all that it knew, at once, and nothing else happened."""
+        known = {number: of.taken for number, of in self.world.coordinators.items()}
+        self.open(list(known))
+        for number, operations in known.items():
+            self.world.coordinators[number].take(operations)
+            self.entries[number] = 1
+
+    def act(self, step, seen):
+        """What happens as in a script."""
+        at = step["at"]
+        if "round" in step and at in self.world.coordinators:
+            return self.round(at, seen)
+        refused = self.world.act(**step)
+        if refused:
+            raise Refused(refused)
+        self.entries[at] += 1
+        return self.digits(step["cut"]["name"]) if "cut" in step else ""
+
+    def digits(self, name):
+        """The digits of the packet of the name, which nobody delivers if it has none."""
+        packet = self.world.packets[name] if name is not None else self.world.packets.pop(None)
+        return reference.packed(packet)[1]
+
+    def news(self, at):
+        sender, end = self.world.coordinators[at], self.ends[at]
+        self.ends[at] = len(sender.sets)
+        since = {"from": end, "to": len(sender.sets)} if sender.floor <= end else {}
+        return self.act({"at": at, "cut": {"name": None, **since}}, "")
+
+    def take(self, at, packet):
+        self.world.coordinators[at].take(packet.operations)
+        self.entries[at] += 1
+
+    def round(self, at, seen):
+        """A round: the plan that the text says, if it may be made, with what is admitted of it."""
+        coordinator = self.world.coordinators[at]
+        known = reference.Known(coordinator.taken)
+        plan = plan_seen(known, seen)
+        admission = rounds.Admission(reference.Known, reference.name, frozenset(coordinator.taken), at)
+        answers = sum(admission.plan(*plan), [])
+        coordinator.take(admission.added)
+        self.entries[at] += 1
+        return "".join("%s %s\n" % line for line in zip(plan_lines(plan), answers))
+
+    def ask(self, at, topic, seen):
+        known = reference.Known(self.world.coordinators[at].taken)
+        if topic == "solve":
+            return solution(known, seen)
+        if topic == "plan":
+            return "".join(line + "\n" for line in plan_lines(plan_seen(known, seen)))
+        if topic == "stops":
+            return "".join(stops(known, at))
+        return "".join({"graph": reference.graph, "winners": reference.winners}[topic](known))
+
+    def agree(self):
+        return reference.agree(self.world)[1]
+
+
+def foretold(text, renew_after=RENEW_AFTER):
+    """Answers that may come to the lines of a text."""
+    stream = Stream(renew_after)
+    return [stream.answer(line) for line in lines_of(text)]
+
+
+def wrong(text, out, renew_after=RENEW_AFTER, passed_over=None):
+    """What is wrong with the answers to the lines of a text, or None. A line with the answer that is passed over changed nothing."""
+    stream, (given, rest) = Stream(renew_after), answers_in(out)
+    lines = lines_of(text)
+    for place, line in enumerate(lines):
+        seen = given[place] if place < len(given) else b""
+        wanted = seen if seen and seen == passed_over else stream.answer(line, seen)
+        if seen != wanted:
+            return "line %d, %r: %r, and not %r" % (place + 1, line[:300], seen[-300:], wanted[-300:])
+    return "%d answers to %d lines, and %r" % (len(given), len(lines), rest[:100]) if rest or len(given) > len(lines) else None
+
+
+def main():
+    words = argparse.ArgumentParser(description=__doc__, formatter_class=argparse.RawDescriptionHelpFormatter)
+    words.add_argument("--renew-after", type=int, default=RENEW_AFTER)
+    words = words.parse_args()
+    stream, rest = Stream(words.renew_after), b""
+    while True:
+        piece = sys.stdin.buffer.read1(1 << 16)
+        *lines, rest = (rest + piece).split(b"\n")
+        for line in lines + ([rest] if rest and not piece else []):
+            sys.stdout.buffer.write(stream.answer(line))
+            sys.stdout.buffer.flush()
+        if not piece:
+            return
+
+
+if __name__ == "__main__":
+    main()
