@@ -1,0 +1,97 @@
+"""The process `firmament follow`: lines go in, and each is answered."""
+import os
+import re
+import selectors
+import subprocess
+from collections.abc import Sequence
+from typing import Optional
+
+from bridging.endings import FOLLOWER_ENDED, NO_PROGRAM, Failure
+
+# the program answers a line that is longer by refusal 16
+MOST_LINE = 16777216
+# what ends an answer
+END = re.compile(rb"^(?:ok|refusal [0-9]+)\n", re.MULTILINE)
+PIECE = 1 << 16
+OK = b"ok\n"
+NO_LINE = b"refusal 16\n"
+
+
+def is_accepted(answer: bytes) -> bool:
+    return answer.endswith(OK)
+
+
+class Follower:
+    """The process, with one coordinator of the number. Its memory, histories and renewals are those of docs/formats.md."""
+
+    def __init__(self, program: str, number: int, renew_after: int, patience: float) -> None:
+        command = [program, "follow", "--renew-after", str(renew_after)]
+        try:
+            # in a session of its own, so that an interrupt typed at a terminal ends the bridge and not the follower under it
+            self._run = subprocess.Popen(command, stdin=subprocess.PIPE, stdout=subprocess.PIPE, bufsize=0, start_new_session=True)
+        except OSError as why:
+            raise Failure(NO_PROGRAM, f"no program at {program}, which bin/build makes ({why.strerror})") from None
+        self._heard, self._scanned = bytearray(), 0
+        for pipe in self._run.stdin, self._run.stdout:
+            os.set_blocking(pipe.fileno(), False)
+        if self.ask([b'{"coordinators":[%d]}' % number], patience) != [OK]:
+            self._run.kill()
+            raise Failure(NO_PROGRAM, f"{program} does not begin a stream of coordinator {number}")
+
+    def ask(self, lines: Sequence[bytes], patience: Optional[float] = None) -> list[bytes]:
+        """The answers to the lines, one each, in order, or those that came before none came for so many seconds. Writes and reads at the
+        same time, so neither pipe can stop the other."""
+        left = memoryview(b"".join(line + b"\n" for line in lines))
+        answers: list[bytes] = []
+        with selectors.DefaultSelector() as ready:
+            ready.register(self._run.stdout, selectors.EVENT_READ)
+            if left:
+                ready.register(self._run.stdin, selectors.EVENT_WRITE)
+            while len(answers) < len(lines):
+                events = ready.select(patience)
+                if not events:
+                    break
+                for key, _ in events:
+                    if key.fileobj is self._run.stdout:
+                        answers += self._read()
+                        continue
+                    left = left[self._write(left[:PIECE]):]
+                    if not left:
+                        ready.unregister(self._run.stdin)
+        return answers
+
+    def _write(self, piece: memoryview) -> int:
+        try:
+            return os.write(self._run.stdin.fileno(), piece)
+        except BlockingIOError:
+            return 0
+        except BrokenPipeError:
+            raise self._ended() from None
+
+    def _read(self) -> list[bytes]:
+        """The answers that are whole with what can be read now."""
+        piece = os.read(self._run.stdout.fileno(), PIECE)
+        if not piece:
+            raise self._ended()
+        self._heard += piece
+        found, begin = [], 0
+        for end in END.finditer(self._heard, self._scanned):
+            found.append(bytes(self._heard[begin:end.end()]))
+            begin = end.end()
+        del self._heard[:begin]
+        self._scanned = self._heard.rfind(b"\n") + 1
+        return found
+
+    def _ended(self) -> Failure:
+        self._run.kill()
+        return Failure(FOLLOWER_ENDED, f"the follower ended (status {self._run.wait()})")
+
+    def close(self) -> None:
+        """Ends the process, which ends by itself at the end of its input."""
+        try:
+            self._run.stdin.close()
+            self._run.wait(timeout=5)
+        except (OSError, subprocess.TimeoutExpired):
+            self._run.kill()
+            self._run.wait()
+        self._run.stdout.close()

@@ -1,0 +1,139 @@
+"""What goes out: packets of a coordinator's own news, and states, which are packets of all that it knows and are kept by the broker."""
+import dataclasses
+import time
+from typing import Optional
+
+from bridging.broker import Broker
+from bridging.mailbox import Message
+from bridging.packets import Seen, content_of, digest_of
+from bridging.settings import Settings
+from bridging.telling import Counts, Telling
+
+
+@dataclasses.dataclass(frozen=True)
+class InFlight:
+    """A state that was sent and did not come back yet: its digest and that of what it says, how many accepted lines it has, and when."""
+
+    digest: bytes
+    content: bytes
+    accepted: int
+    sent: float
+
+
+class Outbox:
+    """Packets of news are sent once; they are not acknowledged by who takes them in, and not sent again. A state says all that they say,
+    so where one cannot be sent it is left to the state. A state is known to be kept once it came back from the broker."""
+
+    def __init__(self, broker: Broker, settings: Settings, counts: Counts, telling: Telling, most_packet: int) -> None:
+        self._broker, self._settings, self._counts, self._telling = broker, settings, counts, telling
+        self._most_packet = most_packet
+        self._waiting: dict[Message, float] = {}
+        self._sent, self._said = Seen(), Seen()
+        self._in_flight: Optional[InFlight] = None
+        self._kept: Optional[bytes] = None
+        self._due: Optional[float] = None
+        self._last_time = -settings.state_interval
+        self.last_state: Optional[bytes] = None
+        self.is_stale, self.is_too_large, self.confirmed = False, False, 0
+
+    # news
+
+    def send_news(self, packet: bytes) -> None:
+        if self._broker.is_connected and len(self._waiting) < self._settings.queue and len(packet) <= self._most_packet:
+            self._sent.add(digest_of(packet))
+            self._waiting[self._broker.publish("deltas", packet)] = time.monotonic()
+            self._counts.sent += 1
+            self._counts.sent_bytes += len(packet)
+        else:
+            # the number that is missing tells the others that the next state says more
+            self._counts.left_to_state += 1
+            self.want_state(0)
+        self.is_stale = True
+        self.want_state(self._settings.cut_interval if self._settings.is_confirmed else self._settings.state_interval)
+
+    def is_own(self, digest: bytes) -> bool:
+        """Whether a packet was sent from here."""
+        return digest in self._sent
+
+    def acknowledge(self, messages: list[Message]) -> None:
+        for message in messages:
+            self._waiting.pop(message, None)
+
+    # states
+
+    def want_state(self, interval: float, delay: float = 0) -> None:
+        """Makes a state due once so much time went by since the last, and so much from now."""
+        at = max(time.monotonic() + delay, self._last_time + interval)
+        self._due = at if self._due is None else min(self._due, at)
+
+    def is_state_due(self) -> bool:
+        return self._due is not None and self._due <= time.monotonic() and self._in_flight is None and self._broker.is_connected
+
+    def send_state(self, packet: bytes, accepted: int) -> bool:
+        """Sends a state that has the first so many accepted lines, if the broker does not keep one that says the same. False if no line
+        can hand it over."""
+        now, content = time.monotonic(), content_of(packet)
+        self._due, self._last_time, self.is_stale = None, now, False
+        self.is_too_large = len(packet) > self._most_packet
+        if self.is_too_large:
+            return False
+        if content == self._kept:
+            self.confirmed = max(self.confirmed, accepted)
+            return True
+        self.last_state = digest_of(packet)
+        self._sent.add(self.last_state)
+        self._said.add(content)
+        self._waiting[self._broker.publish("state", packet)] = now
+        self._in_flight = InFlight(self.last_state, content, accepted, now)
+        self._counts.states_sent += 1
+        self._counts.states_sent_bytes += len(packet)
+        return True
+
+    def says(self, content: bytes) -> bool:
+        """Whether a state was sent from here that said the same."""
+        return content in self._said
+
+    def came_back(self, digest: bytes) -> None:
+        """A state on the coordinator's own topic came from the broker."""
+        if self._in_flight is not None and digest == self._in_flight.digest:
+            self.confirmed, self._kept = max(self.confirmed, self._in_flight.accepted), self._in_flight.content
+            self._in_flight = None
+        elif digest != self.last_state:
+            self._kept = None
+
+    def is_gone(self) -> None:
+        """The broker does not keep the state that was sent last."""
+        self._kept, self.is_stale = None, True
+        self.want_state(0)
+
+    # what goes wrong
+
+    def lost(self) -> None:
+        """The connection is no more: what it did not carry is left to the next state."""
+        if self._waiting or self._in_flight is not None or self.is_stale:
+            self.is_stale = True
+            self.want_state(0)
+        self._counts.unacknowledged += len(self._waiting)
+        self._waiting.clear()
+        self._in_flight = None
+
+    def is_stuck(self) -> bool:
+        """Whether the broker did not acknowledge something in time."""
+        oldest = next(iter(self._waiting.values()), None)
+        return oldest is not None and time.monotonic() - oldest > self._settings.ack_wait
+
+    def is_unkept(self) -> bool:
+        """Whether a state was sent and did not come back in time; it is then sent again."""
+        if self._in_flight is None or time.monotonic() - self._in_flight.sent <= self._settings.ack_wait:
+            return False
+        self._in_flight = None
+        self.want_state(self._settings.ack_wait)
+        return True
+
+    def is_empty(self) -> bool:
+        """Whether all is known to be with the broker."""
+        return not (self._waiting or self._in_flight or self._due or self.is_stale or self.is_too_large)
+
+    def next_time(self) -> float:
+        """When a state can be sent, if nothing changes."""
+        return self._due if self._due is not None and self._in_flight is None else float("inf")
