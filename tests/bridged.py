@@ -5,7 +5,8 @@ come to one graph, that of the operations, and nothing is lost that was answered
     tests/bridged.py [--program FILE] [--kills N] [GROUP..]
 
 Runs the groups that are named, or all, which --help lists. --kills is how often a bridge is killed, 30 if it is not given. Ends in a
-line 'N passed, M failed', or says which Debian package is missing, and passes nothing. All traffic is on the loopback address.
+line 'N passed, M failed'. If a Debian package is missing, says which, and runs none but the group `skipped`. All traffic is on the
+loopback address.
 """
 import argparse
 import contextlib
@@ -29,7 +30,7 @@ import drawn
 import hostile
 import mqtt
 import reference
-from brokers import QUICK, Bridge, Broker, until
+from brokers import QUICK, Bridge, Broker, told as tell, until
 from lined import digits_of
 
 KILLS = 30
@@ -53,10 +54,6 @@ def graph_of(told):
     """The answer to the question for the graph, worked out from the operations."""
     known = reference.Known([reference.operation(kind, fields) for op in told for kind, fields in op.items()])
     return "".join(reference.graph(known)).encode() + b"ok\n"
-
-
-def tell(at, op):
-    return json.dumps({"at": at, "tell": op}).encode() + b"\n"
 
 
 def told_to(bridges, told):
@@ -126,6 +123,9 @@ def words(program):
 
 def guarded(program, folder):
     """A broker that lets in a user with a password, who may write on the topics of coordinator 1 alone."""
+    if shutil.which("mosquitto_passwd") is None:
+        print("bridged: passwords are not tested, since there is no mosquitto_passwd")
+        return
     secret, rules, passwords = folder / "secret", folder / "rules", folder / "passwords"
     secret.write_text("open sesame\n")
     rules.write_text("user one\ntopic read fetohamu/test/#\ntopic write fetohamu/test/+/1\n")
@@ -432,9 +432,8 @@ def strangers(program):
             client.publish("fetohamu/test/deltas/9", packet_of(older, b"FDG1"))
         yield "told after that", told_to(bridges, told[20:])
         yield "one graph", agree(bridges, told + older)
-        counts = [bridge.counts() for bridge in bridges]
         for kind, least in (("refused", 9), ("too_large", 2), ("strange", 7)):
-            yield "%s: %s" % (kind, [each[kind] for each in counts]), all(each[kind] >= least for each in counts)
+            yield "%s packets are counted" % kind, bool(until(lambda: all(bridge.counts().get(kind, 0) >= least for bridge in bridges)))
         with Bridge(broker.port, 4, *QUICK, program=program) as later:
             yield "one that comes later", agree([later], told + older)
         yield "ended", ended(bridges)
@@ -530,20 +529,42 @@ def secrets(program):
             yield "no TLS with a broker that wants it", plain[0] in (12, 13) and plain[2].count(b"\n") == 1
 
 
+def example(program):
+    """The example runs with one command, and ends in equal dumps."""
+    done = subprocess.run([ROOT / "examples/brokered/run", "--program", program], stdin=subprocess.DEVNULL, capture_output=True, timeout=300)
+    yield "the example: %s" % done.stdout.decode()[-300:], done.returncode == 0 and b"the three dumps are the same" in done.stdout
+
+
+def skipped(_program):
+    """Where a package is missing, it is named, and nothing fails but what cannot run: without a broker, and without paho-mqtt."""
+    for command, status in ([ROOT / "examples/brokered/run"], 10), ([ROOT / "tests/bridged.py", "words"], 0):
+        done = subprocess.run(command, env={**os.environ, "MOSQUITTO": "/nowhere"}, stdin=subprocess.DEVNULL, capture_output=True, timeout=60)
+        yield "%s without a broker" % command[0].name, done.returncode == status and b"mosquitto" in done.stdout + done.stderr
+    # without the folders of packages there is no paho-mqtt
+    done = subprocess.run([sys.executable, "-S", brokers.BRIDGE, "--cluster", "a", "--number", "1"], stdin=subprocess.DEVNULL,
+                          env={**os.environ, "FETOHAMU_BRIDGE_TRIED": "yes", "PYTHONPATH": ""}, capture_output=True, timeout=60)
+    yield "a bridge without paho-mqtt", is_refused((done.returncode, done.stdout, done.stderr), 10, b"python3-paho-mqtt")
+
+
 GROUPS = {"words": words, "lines": lines, "exchange": exchange, "quiet": quiet, "rounds": rounds, "late": late, "faults": faults,
           "cut_off": cut_off, "same_number": same_number, "kills": kills, "confirmed": confirmed, "brokers_killed": brokers_killed,
-          "followers": followers, "strangers": strangers, "limits": limits, "journals": journals, "signals": signals, "secrets": secrets}
+          "followers": followers, "strangers": strangers, "limits": limits, "journals": journals, "signals": signals, "secrets": secrets, "example": example,
+          "skipped": skipped}
 
 
 def all_tests(program, names=tuple(GROUPS), kills=KILLS):
     """Each test of the groups, by name; none, with a word, if a package is not installed."""
+    for name in runnable(names):
+        for told, fine in GROUPS[name](program, *([kills] if name == "kills" else [])):
+            yield "bridged: %s: %s" % (name, told), bool(fine)
+
+
+def runnable(names):
+    """The groups that can run here. Says so if a package is missing."""
     lacks = brokers.missing()
     if lacks:
         print("bridged: skipped, since there is no %s (Debian's packages)" % " and no ".join(lacks))
-        return
-    for name in names:
-        for told, fine in GROUPS[name](program, *([kills] if name == "kills" else [])):
-            yield "bridged: %s: %s" % (name, told), bool(fine)
+    return [name for name in names if not lacks or name == "skipped"]
 
 
 def main():
@@ -555,7 +576,7 @@ def main():
     if set(words.groups) - GROUPS.keys():
         sys.exit("tests/bridged.py: the groups are %s" % ", ".join(GROUPS))
     passed = failed = 0
-    for group in words.groups or GROUPS:
+    for group in runnable(words.groups or GROUPS):
         began, before = time.monotonic(), passed + failed
         for name, fine in all_tests(words.program, [group], words.kills):
             passed, failed = passed + fine, failed + (not fine)

@@ -5,6 +5,7 @@ import importlib.util
 import json
 import os
 import pathlib
+import re
 import shutil
 import signal
 import socket
@@ -19,6 +20,8 @@ BRIDGE = ROOT / "bin/bridge"
 PROGRAM = ROOT / "crates/fm_cli/out/fm_cli"
 # the longest that anything here is waited for
 PATIENCE = 60
+# the end of an answer
+END = re.compile(rb"(?m)^(?:ok|refusal [0-9]+)\n\Z")
 QUICK = ["--cut-interval", "0.05", "--state-interval", "0.3", "--refresh", "1", "--claim-wait", "0.3", "--ack-wait", "3"]
 
 
@@ -34,6 +37,11 @@ def missing():
     has_paho = importlib.util.find_spec("paho") is not None or subprocess.run(
         ["/usr/bin/python3", "-c", "import paho.mqtt"], stderr=subprocess.DEVNULL).returncode == 0
     return [name for name, there in (("mosquitto", mosquitto() is not None), ("python3-paho-mqtt", has_paho)) if not there]
+
+
+def told(number, op):
+    """The line that tells a coordinator an operation."""
+    return json.dumps({"at": number, "tell": op}, separators=(",", ":")).encode() + b"\n"
 
 
 def free_port():
@@ -96,7 +104,7 @@ class Bridge:
     """A bridge, whose answers are collected as they come, and what it says as JSON."""
 
     def __init__(self, port, number, *words, cluster="test", program=PROGRAM):
-        self.number, self.heard = number, b""
+        self.number, self.heard = number, bytearray()
         self.said = tempfile.TemporaryFile()
         command = [BRIDGE, "--cluster", cluster, "--number", str(number), "--broker", f"127.0.0.1:{port}", "--program", program, "--json", *words]
         self.run = subprocess.Popen(command, stdin=subprocess.PIPE, stdout=subprocess.PIPE, stderr=self.said, bufsize=0)
@@ -147,10 +155,9 @@ class Bridge:
         self.write((json.dumps(value) if isinstance(value, dict) else value).encode() + b"\n")
         end = time.monotonic() + patience
         with self.changed:
-            while not (b"\n" + self.heard[begin:]).endswith((b"\nok\n",)) and b"refusal " not in self.heard[begin:] \
-                    and self.reader.is_alive() and time.monotonic() < end:
+            while not END.search(self.heard, begin) and self.reader.is_alive() and time.monotonic() < end:
                 self.changed.wait(0.1)
-            return self.heard[begin:]
+            return bytes(self.heard[begin:])
 
     def graph(self):
         return self.ask({"at": self.number, "ask": "graph"})

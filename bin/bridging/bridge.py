@@ -17,6 +17,7 @@ from bridging.journal import Journal
 from bridging.lines import Lines
 from bridging.mailbox import Mailbox
 from bridging.outbox import Outbox
+from bridging.packets import number_of
 from bridging.settings import Settings, read_settings
 from bridging.telling import Counts, Telling
 
@@ -47,6 +48,7 @@ class Bridge:
         self._journal: Optional[Journal] = None
         self._connection = self._turn = self._newcomers = self._accepted = 0
         self._has_begun = False
+        self._answered: list[tuple[float, int]] = []
         self._oldest, self._back_at, self._refresh_at = 0.0, time.monotonic(), time.monotonic() + settings.refresh
         self._report_at = time.monotonic() + settings.report if settings.report else float("inf")
 
@@ -65,7 +67,7 @@ class Bridge:
                 self._step()
             return self._end()
         finally:
-            self._answers.close(1)
+            self._answers.close(self._settings.end_wait)
             self._broker.close()
             self._coordinator.close()
             if self._has_begun:
@@ -189,6 +191,8 @@ class Bridge:
             self._journal.add(again)
             self._counts.journaled += len(again)
         self._accepted += self._coordinator.deltas - before
+        if self._settings.is_traced:
+            self._answered.append((time.time(), self._coordinator.deltas - before))
         told = sum(map(is_accepted, answers))
         self._counts.told += told
         self._counts.refused_lines += len(answers) - told
@@ -218,7 +222,10 @@ class Bridge:
         """Cuts its own news and sends it, and then takes in what came."""
         is_back, turn = self._claim.is_back(), self._claim.came_back
         if self._coordinator.own_news():
-            self._outbox.send_news(self._coordinator.cut_own())
+            packet = self._coordinator.cut_own()
+            self._outbox.send_news(packet)
+            self._trace("cut", number=number_of(packet), answered=self._answered)
+            self._answered = []
         self._hear(with_packets=True)
         if self._coordinator.is_to_renew():
             self._coordinator.renew()
@@ -255,6 +262,11 @@ class Bridge:
         if wanted:
             self._inbox.judged(wanted, self._coordinator.take([parcel.packet for parcel in wanted]))
             self._outbox.is_stale = True
+            self._trace("took", packets=[(parcel.sender, number_of(parcel.packet), parcel.is_state) for parcel in wanted])
+
+    def _trace(self, event: str, **more: object) -> None:
+        if self._settings.is_traced:
+            self._telling.say(event, event, **more)
 
     def _can_send_state(self) -> bool:
         """Whether the broker is there, and what it kept came."""

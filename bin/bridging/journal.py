@@ -37,6 +37,7 @@ class Journal:
         head, *lines = whole.split(b"\n")[:-1] or [None]
         if head is None:
             self._append([self._head])
+            sync_folder(self._path.absolute().parent)
         elif head != self._head:
             raise Failure(JOURNAL_FAILED, f"{self._path} is no journal of this cluster and number")
         self._size = self._begun = max(len(whole), len(self._head) + 1)

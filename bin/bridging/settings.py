@@ -43,6 +43,7 @@ class Settings:
     renew_after: int
     program: str
     is_json: bool
+    is_traced: bool
     report: float
 
 
@@ -114,6 +115,7 @@ def parser() -> argparse.ArgumentParser:
     other = words.add_argument_group("other")
     other.add_argument("--stay", action="store_true", help="goes on at the end of standard input, until SIGTERM or SIGINT")
     other.add_argument("--json", action="store_true", help="says on standard error what it does as JSON, an object a line")
+    other.add_argument("--trace", action="store_true", help="says of each packet when its lines were answered, and when it was taken in")
     other.add_argument("--program", default=str(ROOT / "crates/fm_cli/out/fm_cli"), metavar="FILE", help="the proved program `firmament`")
     return words
 
@@ -172,4 +174,4 @@ def read_settings(given: Sequence[str]) -> Settings:
         is_confirmed=asked.confirmed, cut_count=asked.cut_count, cut_interval=asked.cut_interval, state_interval=asked.state_interval,
         refresh=asked.refresh, queue=asked.queue, connect_wait=asked.connect_wait, claim_wait=asked.claim_wait, ack_wait=asked.ack_wait,
         end_wait=asked.end_wait, stays=asked.stay, renew_after=asked.renew_after, program=asked.program, is_json=asked.json,
-        report=asked.report)
+        is_traced=asked.trace, report=asked.report)

@@ -47,7 +47,7 @@ class Telling:
 
     def say(self, event: str, text: str, **more: object) -> None:
         if self._is_json:
-            value = {"time": round(time.time(), 3), "bridge": self._number, "event": event, "text": text, **more}
+            value = {"time": round(time.time(), 6), "bridge": self._number, "event": event, "text": text, **more}
             line = json.dumps(value)
         else:
             line = f"bridge {self._number}: {text}"
