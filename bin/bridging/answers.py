@@ -1,4 +1,5 @@
-"""Answers on their way to standard output, in the order of their lines, some of which wait until what they say is kept."""
+"""Answers on their way to standard output, in the order of their lines, some of which wait until what they say is
+kept."""
 import collections
 import os
 import threading
@@ -8,8 +9,8 @@ MOST_UNREAD, MOST_HELD = 1 << 24, 20000
 
 
 class Answers:
-    """Answers are put in behind one another, each with how many lines were accepted up to it; they go out once so many are confirmed,
-    written by a thread, so that who does not read them does not stop the bridge."""
+    """Answers are put in behind one another, each with how many lines were accepted up to it; they go out once so
+    many are confirmed, written by a thread, so that who does not read them does not stop the bridge."""
 
     def __init__(self, descriptor: int, wake: threading.Condition) -> None:
         self._descriptor, self._wake = descriptor, wake

@@ -1,4 +1,5 @@
 """A bridge: one coordinator, its operator's lines, and the packets that it exchanges with the others."""
+import os
 import random
 import signal
 import threading
@@ -31,8 +32,8 @@ SPREAD = 0.2
 
 
 class Bridge:
-    """The loop of a bridge runs in one thread, which alone speaks with the follower. Other threads read lines, write answers, and keep
-    the connection."""
+    """The loop of a bridge runs in one thread, which alone speaks with the follower. Other threads read lines, write
+    answers, and keep the connection."""
 
     def __init__(self, settings: Settings) -> None:
         self._settings, self._counts = settings, Counts()
@@ -74,7 +75,8 @@ class Bridge:
                 self._telling.count("ended", self._counts)
 
     def stop(self, *_signal: object) -> None:
-        """Ends the bridge once it sent what it has. In a handler of signals: the lock may be held by the thread that it interrupts."""
+        """Ends the bridge once it sent what it has. In a handler of signals: the lock may be held by the thread that
+        it interrupts."""
         self._stopping = True
         with self._wake:
             self._wake.notify_all()
@@ -89,8 +91,8 @@ class Bridge:
             self._journal = Journal(self._settings.journal, self._settings.cluster, self._settings.number)
             lines = self._journal.lines
             self._tell_again(lines)
-        self._telling.say("connected", f"connected to {self._settings.host}:{self._settings.port}, cluster {self._settings.cluster}; "
-                                       f"{len(lines)} lines of a journal told", lines=len(lines))
+        place = f"{self._settings.host}:{self._settings.port}, cluster {self._settings.cluster}"
+        self._telling.say("connected", f"connected to {place}; {len(lines)} lines of a journal told", lines=len(lines))
         self._exchange()
         self._inbox.is_foreign = False
         self._outbox.last_state = self._inbox.own_state
@@ -98,12 +100,15 @@ class Bridge:
             self._outbox.is_stale = True
             self._outbox.want_state(0)
         if self._journal is not None and self._journal.is_long():
-            self._shorten()
+            self._shorten(self._journal)
 
     def _claim_number(self) -> None:
-        """Waits for whoever has the number to say so, and for the claim to come back behind the states that the broker keeps."""
+        """Waits for whoever has the number to say so, and for the claim to come back behind the states that the
+        broker keeps."""
         began = asked = time.monotonic()
-        while not self._claim.is_lost and not (self._claim.is_back() and time.monotonic() - began >= self._settings.claim_wait):
+        while not self._claim.is_lost:
+            if self._claim.is_back() and time.monotonic() - began >= self._settings.claim_wait:
+                break
             if time.monotonic() - began > self._settings.connect_wait + self._settings.claim_wait:
                 raise Failure(BROKER_REFUSES, "the broker does not hand back what this user publishes on "
                                               + self._broker.topic("hello", self._settings.number))
@@ -126,12 +131,13 @@ class Bridge:
             answers, _ = self._coordinator.tell(lines[first:first + AT_ONCE])
             refused = next((place for place, answer in enumerate(answers) if not is_accepted(answer)), None)
             if refused is not None:
-                raise Failure(JOURNAL_FAILED, f"line {first + refused + 2} of the journal is answered by {answers[refused].decode().strip()}")
+                answer = answers[refused].decode().strip()
+                raise Failure(JOURNAL_FAILED, f"line {first + refused + 2} of the journal is answered by {answer}")
         self._coordinator.own = self._coordinator.deltas
 
     def _end(self) -> int:
-        """Sends what is left, as long as the broker takes it in time. It is sent also if the number turned out to be another bridge's:
-        what was accepted is to be known."""
+        """Sends what is left, as long as the broker takes it in time. It is sent also if the number turned out to be
+        another bridge's: what was accepted is to be known."""
         end = time.monotonic() + self._settings.end_wait
         while not self._is_all_sent() and not self._outbox.is_too_large and time.monotonic() < end:
             if self._outbox.is_stale:
@@ -157,12 +163,19 @@ class Bridge:
     def _rest(self) -> None:
         """Waits for something to do."""
         with self._wake:
-            is_busy = (self._lines.is_waiting() and self._answers.has_room()) or self._is_exchange_due()
-            if not is_busy and not self._stopping:
-                times = [self._refresh_at, self._report_at]
-                times += [self._outbox.next_time()] if self._can_send_state() else []
-                times += [self._oldest + self._settings.cut_interval] if self._coordinator.own_news() else []
-                self._wake.wait(max(0.001, min(LONGEST_SLEEP, min(times) - time.monotonic())))
+            if self._has_work():
+                return
+            times = [self._refresh_at, self._report_at, time.monotonic() + LONGEST_SLEEP]
+            times += [self._outbox.next_time()] if self._can_send_state() else []
+            times += [self._oldest + self._settings.cut_interval] if self._coordinator.own_news() else []
+            self._wake.wait(max(0.001, min(times) - time.monotonic()))
+
+    def _has_work(self) -> bool:
+        """Whether a step would do something now, as far as other threads know of it."""
+        can_tell = self._lines.is_waiting() and self._answers.has_room() and not self._stopping
+        return (can_tell or self._mailbox.has_news() or self._is_exchange_due()
+                or (self._claim.is_lost and not self._stopping) or self._connection != self._broker.connection
+                or self._newcomers != self._claim.newcomers)
 
     def _step(self) -> None:
         self._look_at_connection()
@@ -181,7 +194,8 @@ class Bridge:
             self._stopping = True
         if self._stopping or not self._answers.has_room():
             return
-        lines, before = self._lines.take(AT_ONCE), self._coordinator.deltas
+        room = max(1, self._settings.cut_count - self._coordinator.own_news())
+        lines, before = self._lines.take(min(AT_ONCE, room)), self._coordinator.deltas
         if not lines:
             return
         if not self._coordinator.own_news():
@@ -198,15 +212,15 @@ class Bridge:
         self._counts.refused_lines += len(answers) - told
         self._answers.put(self._accepted, b"".join(answers))
         if self._journal is not None and self._journal.is_long():
-            self._shorten()
+            self._shorten(self._journal)
 
-    def _shorten(self) -> None:
+    def _shorten(self, journal: Journal) -> None:
         """Writes the journal anew as one packet of all that is known, if a line can hand that over."""
         packet = self._coordinator.cut_all()
         if len(packet) <= most_packet(self._settings.number):
-            self._journal.replace(take_line(self._settings.number, packet))
+            journal.replace(take_line(self._settings.number, packet))
         else:
-            self._journal.put_off()
+            journal.put_off()
 
     # exchanges
 
@@ -252,9 +266,10 @@ class Bridge:
         for text in mail.notes:
             self._telling.say("broker", text)
         if mail.dropped:
-            self._counts.dropped += sum(mail.dropped.values())
-            self._telling.say("full", f"{sum(mail.dropped.values())} packets came while {self._settings.queue} waited, and were dropped: "
-                                      "the states that the broker keeps are asked for again", dropped=sum(mail.dropped.values()))
+            dropped = sum(mail.dropped.values())
+            self._counts.dropped += dropped
+            self._telling.say("full", f"{dropped} packets came while {self._settings.queue} waited, and were dropped: "
+                                      "the states that the broker keeps are asked for again", dropped=dropped)
             for sender in mail.dropped:
                 self._inbox.coverage.missed(sender)
             self._refresh_at = min(self._refresh_at, time.monotonic() + 1)
@@ -262,7 +277,8 @@ class Bridge:
         if wanted:
             self._inbox.judged(wanted, self._coordinator.take([parcel.packet for parcel in wanted]))
             self._outbox.is_stale = True
-            self._trace("took", packets=[(parcel.sender, number_of(parcel.packet), parcel.is_state) for parcel in wanted])
+            took = [(parcel.sender, number_of(parcel.packet), parcel.is_state) for parcel in wanted]
+            self._trace("took", packets=took)
 
     def _trace(self, event: str, **more: object) -> None:
         if self._settings.is_traced:
@@ -275,7 +291,8 @@ class Bridge:
     def _send_state(self) -> None:
         packet = self._coordinator.cut_all()
         if not self._outbox.send_state(packet, self._accepted):
-            why = f"the state has {len(packet)} bytes, and no line can hand over more than {most_packet(self._settings.number)}"
+            most = most_packet(self._settings.number)
+            why = f"the state has {len(packet)} bytes, and no line can hand over more than {most}"
             if self._settings.is_confirmed:
                 raise Failure(NOT_ALL_SENT, why)
             self._telling.say("state", why + ": it is not sent", bytes=len(packet))
@@ -298,12 +315,13 @@ class Bridge:
     def _look_at_times(self) -> None:
         now = time.monotonic()
         if self._outbox.is_stuck():
-            self._telling.say("stuck", f"the broker acknowledges nothing for {self._settings.ack_wait:g} s: connecting again")
+            waited = f"{self._settings.ack_wait:g} s"
+            self._telling.say("stuck", f"the broker acknowledges nothing for {waited}: connecting again")
             self._outbox.lost()
             self._broker.drop()
         if self._outbox.is_unkept():
-            self._telling.say("unkept", "a state was sent and did not come back: the broker may have a limit for messages, or not let this "
-                                        "user write it")
+            self._telling.say("unkept", "a state was sent and did not come back: the broker may have a limit for "
+                                        "messages, or not let this user write it")
         if self._claim.is_back() or not self._broker.is_connected:
             self._back_at = now
         if now >= self._refresh_at or now - self._back_at > self._settings.ack_wait:
@@ -322,9 +340,21 @@ class Bridge:
             self._broker.ask_again(is_new=False)
 
 
+def is_open(descriptor: int) -> bool:
+    try:
+        os.fstat(descriptor)
+        return True
+    except OSError:
+        return False
+
+
 def main(given: Sequence[str]) -> int:
     """Runs a bridge for the words, and answers its status."""
     settings = read_settings(given)
+    for descriptor in range(3):
+        # one that was closed would be given to something else: now it has no lines, and cannot be written
+        if not is_open(descriptor):
+            os.open(os.devnull, os.O_RDONLY)
     bridge = Bridge(settings)
     for number in signal.SIGTERM, signal.SIGINT:
         signal.signal(number, bridge.stop)

@@ -21,12 +21,12 @@ NUMBERS = {str(number): number for number in range(1, 65)}
 
 
 class Broker:
-    """Each connection is a client of its own, in a clean session and under a name that nobody else has: what a connection that was lost
-    did not carry is not sent again by the client, since the next state says it."""
+    """Each connection is a client of its own, in a clean session and under a name that nobody else has: what a
+    connection that was lost did not carry is not sent again by the client, since the next state says it."""
 
     def __init__(self, settings: Settings, mailbox: Mailbox, claim: Claim) -> None:
         self._settings, self._mailbox, self._claim = settings, mailbox, claim
-        self._client: Optional[paho.Client] = None
+        self._client: Any = None
         self._keeper: Optional[threading.Thread] = None
         self._over, self._closing = threading.Event(), threading.Event()
         self._answer: Optional[str] = None
@@ -72,8 +72,8 @@ class Broker:
         self._client.loop_start()
 
     def _made(self) -> paho.Client:
-        named: dict[str, Any] = {"client_id": f"fm-{self._settings.number}-{self._claim.token}", "userdata": self.connection,
-                                 "reconnect_on_failure": False}
+        name = f"fm-{self._settings.number}-{self._claim.token}"
+        named: dict[str, Any] = {"client_id": name, "userdata": self.connection, "reconnect_on_failure": False}
         if self._settings.version == 5:
             named["protocol"] = paho.MQTTv5
         else:
@@ -163,7 +163,10 @@ class Broker:
         self._mailbox.put_acknowledged((connection, message))
 
     def _heard(self, client: paho.Client, _data: Any, message: paho.MQTTMessage) -> None:
-        kind, _, label = message.topic.rpartition("/")
+        try:
+            kind, _, label = message.topic.rpartition("/")
+        except UnicodeDecodeError:
+            kind, label = "", ""
         number = NUMBERS.get(label)
         if number is None:
             self._mailbox.put_strange()
@@ -197,4 +200,5 @@ class Broker:
     def publish(self, kind: str, packet: bytes) -> Message:
         """Sends a packet on the topic of the kind, to be kept by the broker if it is a state."""
         client, connection = self._client, self.connection
-        return connection, client.publish(self.topic(kind, self._settings.number), packet, QOS, retain=kind == "state").mid
+        sent = client.publish(self.topic(kind, self._settings.number), packet, QOS, retain=kind == "state")
+        return connection, sent.mid

@@ -1,8 +1,9 @@
 """Whose a coordinator's number is, told by messages on the number's own topic.
 
-A bridge claims its number each time that it connects. One that has the number already answers that it is taken. Of two that ask at the
-same time, or that both have the number since neither could hear the other, the lesser rank keeps it, and both work out the same.
-A claim comes back to its sender too, behind all states that the broker kept: so its return says that these are here.
+A bridge claims its number each time that it connects. One that has the number already answers that it is taken. Of two
+that ask at the same time, or that both have the number since neither could hear the other, the lesser rank keeps it,
+and both work out the same. A claim comes back to its sender too, behind all states that the broker kept: so its return
+says that these are here.
 """
 import dataclasses
 import json
@@ -17,7 +18,8 @@ Rank = tuple[bool, float, str]
 
 @dataclasses.dataclass(frozen=True)
 class Said:
-    """A claim, or the answer to one: whose it is, the how manieth of its sender, and to whom it answers that the number is taken."""
+    """A claim, or the answer to one: whose it is, the how manieth of its sender, and to whom it answers that the
+    number is taken."""
 
     rank: Rank
     turn: int
@@ -37,7 +39,8 @@ def said_in(text: bytes) -> Said:
 
 
 class Claim:
-    """The claim of one bridge. Messages are heard in the thread of the connection, so that it answers also while a round takes long."""
+    """The claim of one bridge. Messages are heard in the thread of the connection, so that it answers also while a
+    round takes long."""
 
     def __init__(self, number: int) -> None:
         self._number, self._token, self._since, self._turn = number, secrets.token_hex(8), time.time(), 0
@@ -67,7 +70,8 @@ class Claim:
         return self.came_back == self._turn
 
     def _text(self, is_new: bool, taken: Optional[str]) -> bytes:
-        value = {"token": self._token, "turn": self._turn, "running": self.is_running, "since": self._since, "new": is_new}
+        value = {"token": self._token, "turn": self._turn, "running": self.is_running, "since": self._since,
+                 "new": is_new}
         return json.dumps(value if taken is None else {**value, "taken": taken}).encode()
 
     def hear(self, number: int, text: bytes) -> Optional[bytes]:

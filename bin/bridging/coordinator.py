@@ -1,8 +1,9 @@
 """One coordinator behind a follower: which of its deltas are its own, and the packets that are cut of them.
 
-What is taken in from others becomes a delta too, and `news` would send it out again, from each coordinator to each for ever. So the
-deltas that came from others are kept apart: they are taken in only right after the coordinator's own were cut, and the next cut begins
-behind them (Enes and others, Efficient Synchronization of State-Based CRDTs, 2019: no back-propagation of delta groups).
+What is taken in from others becomes a delta too, and `news` would send it out again, from each coordinator to each for
+ever. So the deltas that came from others are kept apart: they are taken in only right after the coordinator's own were
+cut, and the next cut begins behind them (Enes and others, Efficient Synchronization of State-Based CRDTs, 2019: no
+back-propagation of delta groups).
 """
 import json
 from collections.abc import Sequence
@@ -13,7 +14,8 @@ from bridging.lines import Kind, kind_of
 
 # lines that are handed over at once have about so many bytes
 AT_ONCE = 1 << 20
-# the follower makes itself anew when its history is full, which would change the numbers of deltas: so it is never let come there
+# the follower makes itself anew when its history is full, which would change the numbers of deltas: so it is never let
+# come there
 FULL_HISTORY, MOST_ENTRIES = 1000000, 900000
 
 
@@ -27,7 +29,8 @@ def most_packet(number: int) -> int:
 
 
 class Coordinator:
-    """Deltas are numbered as in a stream, and entries counted as there, so that it is made anew before its history is full."""
+    """Deltas are numbered as in a stream, and entries counted as there, so that it is made anew before its history
+    is full."""
 
     def __init__(self, program: str, number: int, renew_after: int, patience: float) -> None:
         self.number, self._renew_after, self._renews_at = number, renew_after, renew_after
@@ -39,8 +42,8 @@ class Coordinator:
         return self.deltas - self.own
 
     def tell(self, lines: Sequence[bytes]) -> tuple[list[bytes], list[bytes]]:
-        """The answers to an operator's lines, and the lines that say again what the accepted ones did. A line that asks for what the
-        bridge does itself is refused here, as one of no kind."""
+        """The answers to an operator's lines, and the lines that say again what the accepted ones did. A line that
+        asks for what the bridge does itself is refused here, as one of no kind."""
         kinds = [kind_of(line) for line in lines]
         asked = [line for line, kind in zip(lines, kinds) if kind is not Kind.OURS]
         heard = iter(self._follower.ask(asked))
@@ -97,8 +100,9 @@ class Coordinator:
         return self._entries >= self._renews_at
 
     def renew(self) -> None:
-        """Makes the coordinator anew from what it knows, which lets its history go. All its own deltas were cut before. If there is no
-        memory for it, it is tried again later, and once the history is nearly full the bridge ends."""
+        """Makes the coordinator anew from what it knows, which lets its history go. All its own deltas were cut
+        before. If there is no memory for it, it is tried again later, and once the history is nearly full the bridge
+        ends."""
         assert self.own == self.deltas
         answer, = self._follower.ask([b'{"renew":true}'])
         if is_accepted(answer):

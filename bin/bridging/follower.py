@@ -22,47 +22,52 @@ def is_accepted(answer: bytes) -> bool:
 
 
 class Follower:
-    """The process, with one coordinator of the number. Its memory, histories and renewals are those of docs/formats.md."""
+    """The process, with one coordinator of the number. Its memory, histories and renewals are those of
+    docs/formats.md."""
 
     def __init__(self, program: str, number: int, renew_after: int, patience: float) -> None:
         command = [program, "follow", "--renew-after", str(renew_after)]
+        pipe = subprocess.PIPE
         try:
-            # in a session of its own, so that an interrupt typed at a terminal ends the bridge and not the follower under it
-            self._run = subprocess.Popen(command, stdin=subprocess.PIPE, stdout=subprocess.PIPE, bufsize=0, start_new_session=True)
+            # in a session of its own, so that an interrupt typed at a terminal ends the bridge and not the follower
+            # under it
+            self._run = subprocess.Popen(command, stdin=pipe, stdout=pipe, bufsize=0, start_new_session=True)
         except OSError as why:
             raise Failure(NO_PROGRAM, f"no program at {program}, which bin/build makes ({why.strerror})") from None
+        assert self._run.stdin is not None and self._run.stdout is not None
+        self._into, self._from = self._run.stdin, self._run.stdout
         self._heard, self._scanned = bytearray(), 0
-        for pipe in self._run.stdin, self._run.stdout:
-            os.set_blocking(pipe.fileno(), False)
+        for end in self._into, self._from:
+            os.set_blocking(end.fileno(), False)
         if self.ask([b'{"coordinators":[%d]}' % number], patience) != [OK]:
             self._run.kill()
             raise Failure(NO_PROGRAM, f"{program} does not begin a stream of coordinator {number}")
 
     def ask(self, lines: Sequence[bytes], patience: Optional[float] = None) -> list[bytes]:
-        """The answers to the lines, one each, in order, or those that came before none came for so many seconds. Writes and reads at the
-        same time, so neither pipe can stop the other."""
+        """The answers to the lines, one each, in order, or those that came before none came for so many seconds.
+        Writes and reads at the same time, so neither pipe can stop the other."""
         left = memoryview(b"".join(line + b"\n" for line in lines))
         answers: list[bytes] = []
         with selectors.DefaultSelector() as ready:
-            ready.register(self._run.stdout, selectors.EVENT_READ)
+            ready.register(self._from, selectors.EVENT_READ)
             if left:
-                ready.register(self._run.stdin, selectors.EVENT_WRITE)
+                ready.register(self._into, selectors.EVENT_WRITE)
             while len(answers) < len(lines):
                 events = ready.select(patience)
                 if not events:
                     break
                 for key, _ in events:
-                    if key.fileobj is self._run.stdout:
+                    if key.fileobj is self._from:
                         answers += self._read()
                         continue
                     left = left[self._write(left[:PIECE]):]
                     if not left:
-                        ready.unregister(self._run.stdin)
+                        ready.unregister(self._into)
         return answers
 
     def _write(self, piece: memoryview) -> int:
         try:
-            return os.write(self._run.stdin.fileno(), piece)
+            return os.write(self._into.fileno(), piece)
         except BlockingIOError:
             return 0
         except BrokenPipeError:
@@ -70,7 +75,7 @@ class Follower:
 
     def _read(self) -> list[bytes]:
         """The answers that are whole with what can be read now."""
-        piece = os.read(self._run.stdout.fileno(), PIECE)
+        piece = os.read(self._from.fileno(), PIECE)
         if not piece:
             raise self._ended()
         self._heard += piece
@@ -89,9 +94,9 @@ class Follower:
     def close(self) -> None:
         """Ends the process, which ends by itself at the end of its input."""
         try:
-            self._run.stdin.close()
+            self._into.close()
             self._run.wait(timeout=5)
         except (OSError, subprocess.TimeoutExpired):
             self._run.kill()
             self._run.wait()
-        self._run.stdout.close()
+        self._from.close()

@@ -9,8 +9,8 @@ from bridging.telling import Counts, Telling
 
 
 class Inbox:
-    """Packets that were sent from here come back too, and so do packets that came before: neither is taken in. What a packet says is
-    judged by the follower alone, which refuses bytes that are none."""
+    """Packets that were sent from here come back too, and so do packets that came before: neither is taken in. What
+    a packet says is judged by the follower alone, which refuses bytes that are none."""
 
     def __init__(self, number: int, outbox: Outbox, counts: Counts, telling: Telling) -> None:
         self._number, self._outbox, self._counts, self._telling = number, outbox, counts, telling
@@ -57,5 +57,5 @@ class Inbox:
                 self._seen.remove(content_of(parcel.packet))
                 self._digests.remove(digest_of(parcel.packet))
                 kind = "state" if parcel.is_state else "packet"
-                self._telling.say("refused", f"a {kind} of {len(parcel.packet)} bytes on the topic of coordinator {parcel.sender} is refused",
-                                  sender=parcel.sender, bytes=len(parcel.packet))
+                said = f"a {kind} of {len(parcel.packet)} bytes on the topic of coordinator {parcel.sender} is refused"
+                self._telling.say("refused", said, sender=parcel.sender, bytes=len(parcel.packet))

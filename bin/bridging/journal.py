@@ -1,4 +1,5 @@
-"""A journal of what a coordinator accepted, in a file, so that nothing that was answered `ok` is lost if the process is killed."""
+"""A journal of what a coordinator accepted, in a file, so that nothing that was answered `ok` is lost if the process
+is killed."""
 import fcntl
 import json
 import os
@@ -7,13 +8,15 @@ from collections.abc import Sequence
 
 from bridging.endings import JOURNAL_FAILED, Failure
 
-# a journal is written anew, as one packet of all that is known, if it has at least so many bytes and twice those that it began with
+# a journal is written anew, as one packet of all that is known, if it has at least so many bytes and twice those that
+# it began with
 LEAST_ANEW = 1 << 18
 
 
 class Journal:
-    """Lines of a stream, each accepted, behind a head that names cluster and coordinator. A last line without its line feed was not
-    written whole, so it was never answered, and is dropped. The file FILE.lock says that a process uses the journal."""
+    """Lines of a stream, each accepted, behind a head that names cluster and coordinator. A last line without its
+    line feed was not written whole, so it was never answered, and is dropped. The file FILE.lock says that a process
+    uses the journal."""
 
     def __init__(self, path: pathlib.Path, cluster: str, number: int) -> None:
         self._path = path
@@ -29,19 +32,20 @@ class Journal:
             raise self._failed(why) from None
 
     def _read(self) -> list[bytes]:
-        """The lines that stand in the file, whose head is made if there is none, and of which a last part of a line is cut off."""
+        """The lines that stand in the file, whose head is made if there is none, and of which a last part of a line
+        is cut off."""
         with open(self._path, "rb") as source:
             text = source.read()
         whole = text[:text.rfind(b"\n") + 1]
         os.ftruncate(self._file, len(whole))
-        head, *lines = whole.split(b"\n")[:-1] or [None]
-        if head is None:
+        lines = whole.split(b"\n")[:-1]
+        if not lines:
             self._append([self._head])
             sync_folder(self._path.absolute().parent)
-        elif head != self._head:
+        elif lines[0] != self._head:
             raise Failure(JOURNAL_FAILED, f"{self._path} is no journal of this cluster and number")
         self._size = self._begun = max(len(whole), len(self._head) + 1)
-        return lines
+        return lines[1:]
 
     def add(self, lines: Sequence[bytes]) -> None:
         """Appends the lines, and returns when they are on the disk."""
@@ -64,8 +68,8 @@ class Journal:
         self._begun = self._size
 
     def replace(self, line: bytes) -> None:
-        """Writes the journal anew with one line, which has to say all that the lines before it came to. The old file stands until the new
-        one is on the disk."""
+        """Writes the journal anew with one line, which has to say all that the lines before it came to. The old file
+        stands until the new one is on the disk."""
         try:
             made = os.open(f"{self._path}.new", os.O_RDWR | os.O_CREAT | os.O_TRUNC | os.O_APPEND, 0o600)
             write_all(made, self._head + b"\n" + line + b"\n")

@@ -22,8 +22,8 @@ class Kind(enum.Enum):
     STRANGE = "nothing, so the follower refuses it"
 
 
-KINDS = {"tell": Kind.TELL, "take": Kind.TELL, "round": Kind.ROUND, "ask": Kind.QUESTION, "cut": Kind.OURS, "coordinators": Kind.OURS,
-         "renew": Kind.OURS, "news": Kind.OURS, "trim": Kind.OURS, "deliver": Kind.OURS}
+KINDS = {"tell": Kind.TELL, "take": Kind.TELL, "round": Kind.ROUND, "ask": Kind.QUESTION,
+         **dict.fromkeys(("coordinators", "cut", "deliver", "news", "renew", "trim"), Kind.OURS)}
 # numbers stay texts, since those of too many digits are no `int` here and may be ignored by the follower
 DECODER = json.JSONDecoder(parse_int=str, parse_float=str)
 
@@ -44,8 +44,8 @@ def kind_of(line: bytes) -> Kind:
 
 
 class Lines:
-    """Lines that are read from a descriptor in a thread, and wait here. A line of too many bytes is read to its end and comes as an
-    empty one, which the follower refuses for the same cause."""
+    """Lines that are read from a descriptor in a thread, and wait here. A line of too many bytes is read to its end
+    and comes as an empty one, which the follower refuses for the same cause."""
 
     def __init__(self, descriptor: int, wake: threading.Condition) -> None:
         self._descriptor, self._wake = descriptor, wake

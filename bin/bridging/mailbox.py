@@ -21,8 +21,8 @@ class Parcel:
 
 @dataclasses.dataclass
 class Mail:
-    """What came since it was last collected: packets in order; the messages of one's own that the broker acknowledged; from whom a
-    packet was dropped; how many were too large, or of no sender; and what is to be said."""
+    """What came since it was last collected: packets in order; the messages of one's own that the broker
+    acknowledged; from whom a packet was dropped; how many were too large, or of no sender; and what is to be said."""
 
     parcels: list[Parcel] = dataclasses.field(default_factory=list)
     acknowledged: list[Message] = dataclasses.field(default_factory=list)
@@ -33,8 +33,8 @@ class Mail:
 
 
 class Mailbox:
-    """Mail is put in by one thread and collected by another. If too much waits, what comes then is dropped and counted: the states that
-    the broker keeps have it, so it is not lost."""
+    """Mail is put in by one thread and collected by another. If too much waits, what comes then is dropped and
+    counted: the states that the broker keeps have it, so it is not lost."""
 
     def __init__(self, wake: threading.Condition, most: int, most_packet: int) -> None:
         self._wake, self._most, self._most_packet = wake, most, most_packet
@@ -84,6 +84,10 @@ class Mailbox:
     def load(self) -> float:
         """How full it is, from 0 to 1."""
         return max(len(self._parcels) / self._most, self._bytes / MOST_BYTES)
+
+    def has_news(self) -> bool:
+        """Whether something other than packets is there."""
+        return bool(self._mail.acknowledged or self._mail.dropped or self._mail.notes)
 
     def has_packets(self) -> bool:
         return bool(self._parcels)

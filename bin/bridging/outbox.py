@@ -1,4 +1,5 @@
-"""What goes out: packets of a coordinator's own news, and states, which are packets of all that it knows and are kept by the broker."""
+"""What goes out: packets of a coordinator's own news, and states, which are packets of all that it knows and are
+kept by the broker."""
 import dataclasses
 import time
 from typing import Optional
@@ -12,7 +13,8 @@ from bridging.telling import Counts, Telling
 
 @dataclasses.dataclass(frozen=True)
 class InFlight:
-    """A state that was sent and did not come back yet: its digest and that of what it says, how many accepted lines it has, and when."""
+    """A state that was sent and did not come back yet: its digest and that of what it says, how many accepted lines
+    it has, and when."""
 
     digest: bytes
     content: bytes
@@ -21,8 +23,9 @@ class InFlight:
 
 
 class Outbox:
-    """Packets of news are sent once; they are not acknowledged by who takes them in, and not sent again. A state says all that they say,
-    so where one cannot be sent it is left to the state. A state is known to be kept once it came back from the broker."""
+    """Packets of news are sent once; they are not acknowledged by who takes them in, and not sent again. A state
+    says all that they say, so where one cannot be sent it is left to the state. A state is known to be kept once it
+    came back from the broker."""
 
     def __init__(self, broker: Broker, settings: Settings, counts: Counts, telling: Telling, most_packet: int) -> None:
         self._broker, self._settings, self._counts, self._telling = broker, settings, counts, telling
@@ -47,7 +50,6 @@ class Outbox:
         else:
             # the number that is missing tells the others that the next state says more
             self._counts.left_to_state += 1
-            self.want_state(0)
         self.is_stale = True
         self.want_state(self._settings.cut_interval if self._settings.is_confirmed else self._settings.state_interval)
 
@@ -67,11 +69,11 @@ class Outbox:
         self._due = at if self._due is None else min(self._due, at)
 
     def is_state_due(self) -> bool:
-        return self._due is not None and self._due <= time.monotonic() and self._in_flight is None and self._broker.is_connected
+        return self._due is not None and self._due <= time.monotonic() and self._in_flight is None
 
     def send_state(self, packet: bytes, accepted: int) -> bool:
-        """Sends a state that has the first so many accepted lines, if the broker does not keep one that says the same. False if no line
-        can hand it over."""
+        """Sends a state that has the first so many accepted lines, if the broker does not keep one that says the
+        same. False if no line can hand it over."""
         now, content = time.monotonic(), content_of(packet)
         self._due, self._last_time, self.is_stale = None, now, False
         self.is_too_large = len(packet) > self._most_packet

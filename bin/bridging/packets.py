@@ -1,4 +1,5 @@
-"""Packets as a bridge sees them: bytes whose head names a version, a sender and a number. All else in them is for the follower to judge."""
+"""Packets as a bridge sees them: bytes whose head names a version, a sender and a number. All else in them is for
+the follower to judge."""
 import collections
 import dataclasses
 import hashlib
@@ -45,8 +46,8 @@ class Seen:
 
 @dataclasses.dataclass
 class _Heard:
-    """What came from one coordinator: the number of its last packet, if none is missing before it; and whether a state came that was
-    sent after this bridge connected."""
+    """What came from one coordinator: the number of its last packet, if none is missing before it; and whether a
+    state came that was sent after this bridge connected."""
 
     last: Optional[int] = None
     is_current: bool = False
@@ -55,10 +56,10 @@ class _Heard:
 class Coverage:
     """Which states of others need not be taken in, since all that they say came in other packets.
 
-    A coordinator's packets are numbered one by one, so a state behind packets of which none is missing says nothing more, once a
-    state came that has what its sender knew when this bridge connected. Of the states that the broker kept this is not asked: they
-    come when they are asked for again, and then all are taken in that say something new. So a number that is wrong makes a state wait
-    until then, and no longer."""
+    A coordinator's packets are numbered one by one, so a state behind packets of which none is missing says nothing
+    more, once a state came that has what its sender knew when this bridge connected. Of the states that the broker
+    kept this is not asked: they come when they are asked for again, and then all are taken in that say something
+    new. So a number that is wrong makes a state wait until then, and no longer."""
 
     def __init__(self) -> None:
         self._heard: dict[int, _Heard] = collections.defaultdict(_Heard)
@@ -73,8 +74,8 @@ class Coverage:
         self._heard[sender] = _Heard()
 
     def covers(self, sender: int, number: Optional[int], was_kept: bool) -> bool:
-        """Whether a state of the sender says nothing that did not come before. Of one that the broker kept it is not known what was sent
-        behind it."""
+        """Whether a state of the sender says nothing that did not come before. Of one that the broker kept it is not
+        known what was sent behind it."""
         heard = self._heard[sender]
         follows = heard.last is not None and number == heard.last + 1
         is_covered = heard.is_current and follows and not was_kept

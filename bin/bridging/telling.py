@@ -32,15 +32,18 @@ class Counts:
     journaled: int = 0
 
     def text(self) -> str:
-        return (f"{self.told} lines told, {self.refused_lines} refused; {self.sent} packets ({self.sent_bytes} bytes) and {self.states_sent} "
-                f"states ({self.states_sent_bytes} bytes) sent, {self.left_to_state} left to a state; {self.received} received "
-                f"({self.received_bytes} bytes): {self.taken} taken in, {self.repeated} repeated, {self.covered} known by other packets, "
-                f"{self.refused} refused, {self.dropped} dropped, {self.too_large} too large, {self.strange} of no coordinator; "
-                f"{self.unacknowledged} not acknowledged, {self.lost_connections} connections lost")
+        return (f"{self.told} lines told, {self.refused_lines} refused; "
+                f"{self.sent} packets ({self.sent_bytes} bytes) and {self.states_sent} states "
+                f"({self.states_sent_bytes} bytes) sent, {self.left_to_state} left to a state; {self.received} received ({self.received_bytes} bytes): "
+                f"{self.taken} taken in, {self.repeated} repeated, {self.covered} known by other packets, "
+                f"{self.refused} refused, {self.dropped} dropped, {self.too_large} too large, "
+                f"{self.strange} of no coordinator; {self.unacknowledged} not acknowledged, "
+                f"{self.lost_connections} connections lost")
 
 
 class Telling:
-    """Says events: as a line behind the bridge's name, or as a JSON object with `event`, `time` and what belongs to it."""
+    """Says events: as a line behind the bridge's name, or as a JSON object with `event`, `time` and what belongs to
+    it."""
 
     def __init__(self, number: int, is_json: bool) -> None:
         self._number, self._is_json = number, is_json
