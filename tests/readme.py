@@ -1,0 +1,33 @@
+"""Tests that the README's commands print what it shows: each line that begins with `$ ` in a block of code, with the lines behind
+it. A command for which the page shows no output is not run."""
+import pathlib
+import subprocess
+
+ROOT = pathlib.Path(__file__).resolve().parent.parent
+
+
+def shown(text):
+    """Each command of the page with the output that is shown for it."""
+    command, lines = None, []
+    for line in text.splitlines():
+        if not line.startswith("    ") and line.strip():
+            if command:
+                yield command, "\n".join(lines).rstrip("\n") + "\n"
+            command, lines = None, []
+        elif line.startswith("    $ "):
+            if command:
+                yield command, "\n".join(lines).rstrip("\n") + "\n"
+            command, lines = line[len("    $ "):], []
+        elif command:
+            lines.append(line[4:])
+    if command:
+        yield command, "\n".join(lines).rstrip("\n") + "\n"
+
+
+def all_tests():
+    """Each test with whether it holds."""
+    found = [(command, output) for command, output in shown((ROOT / "README.md").read_text()) if output.strip()]
+    yield "the README shows what commands print", len(found) >= 4
+    for command, output in found:
+        done = subprocess.run(["bash", "-o", "pipefail", "-c", command], cwd=ROOT, stdout=subprocess.PIPE, stderr=subprocess.DEVNULL, timeout=300)
+        yield "README: " + command, done.stdout.decode() == output
