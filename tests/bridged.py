@@ -21,15 +21,17 @@ import stat
 import subprocess
 import sys
 import tempfile
+import threading
 import time
 
 ROOT = pathlib.Path(__file__).resolve().parent.parent
-sys.path[:0] = [str(ROOT / "bench"), str(ROOT / "tests")]
+sys.path[:0] = [str(ROOT / "bench"), str(ROOT / "tests"), str(ROOT / "bin")]
 import brokers
 import drawn
 import hostile
 import mqtt
 import reference
+from bridging import claims, lines as lines_of, mailbox, packets
 from brokers import QUICK, Bridge, Broker, told as tell, until
 from lined import digits_of
 
@@ -170,6 +172,67 @@ def lines(program):
         yield "a journal that cannot be", bridge.run.wait(timeout=30) == 16 and [said["event"] for said in bridge.events()] == ["failed"]
 
 
+# parts of the bridge by themselves
+
+def numbers(_program):
+    """Which states need not be taken in, by the numbers of packets: (what came, its number, whether it is wanted)."""
+    kept, state, delta = "kept", "state", "delta"
+    for name, came in (
+            ("nothing missing", [(kept, 3, 1), (state, 4, 1), (delta, 5, 1), (delta, 6, 1), (state, 7, 0), (delta, 8, 1), (state, 9, 0)]),
+            ("one missing", [(state, 4, 1), (delta, 6, 1), (delta, 7, 1), (state, 8, 1), (state, 9, 0)]),
+            ("two swapped", [(state, 4, 1), (delta, 6, 1), (delta, 5, 1), (state, 7, 1), (delta, 8, 1), (state, 9, 0)]),
+            ("begun again", [(state, 9, 1), (delta, 10, 1), (delta, 1, 1), (state, 2, 1), (state, 3, 0)]),
+            ("kept ones", [(state, 4, 1), (kept, 5, 1), (kept, 5, 1), (state, 5, 0)]),
+            ("the first that was sent", [(kept, 4, 1), (state, 5, 1), (state, 6, 0)]),
+            ("no number", [(state, None, 1), (delta, None, 1), (state, 1, 1), (state, 2, 0)])):
+        coverage, fine = packets.Coverage(), []
+        for kind, number, is_wanted in came:
+            if kind == delta:
+                coverage.delta(1, number)
+            else:
+                fine.append(coverage.covers(1, number, kind == kept) != bool(is_wanted))
+        yield "states: %s" % name, all(fine)
+        coverage.forget()
+        yield "states after a new connection: %s" % name, not coverage.covers(1, 10 ** 6, False)
+
+
+def parts(program):
+    """Numbers, claims, a mailbox that is full, and lines, by themselves."""
+    yield from numbers(program)
+    mine, other = claims.Claim(1), claims.Claim(1)
+    asked = other.ask(True)
+    mine.run()
+    reply = mine.hear(1, asked)
+    yield "who has a number says so", reply is not None and not mine.is_lost and other.hear(1, reply) is None and other.is_lost
+    yield "one's own claim comes back", mine.hear(1, mine.ask(True)) is None and mine.is_back() and not mine.is_lost
+    yield "a claim of another number", mine.hear(2, claims.Claim(2).ask(True)) is None and mine.newcomers == 1 and not mine.is_lost
+    for strange in (b"", b"7", b"{}", b'{"token":1,"turn":"x","running":0,"since":0,"new":0}', b"[" * 900, b"\xff", b" " * 2000):
+        try:
+            yield "a claim that is none: %r" % strange[:9], mine.hear(1, strange) is NotImplemented
+        except ValueError:
+            yield "a claim that is none: %r" % strange[:9], not mine.is_lost
+    box = mailbox.Mailbox(threading.Condition(), 3, 10)
+    for size, is_state in ((1, False), (2, False), (0, False), (11, False), (3, True), (4, True), (5, False)):
+        box.put(mailbox.Parcel(5, b"x" * size, is_state, False))
+    mail = box.collect(True)
+    sizes = [len(parcel.packet) for parcel in mail.parcels]
+    yield "a full mailbox", (sizes, mail.too_large, mail.dropped[5]) == ([1, 2, 4], 1, 1) and not box.collect(True).parcels
+    yield from split(b"one\n\ntwo\n" + b"x" * 16777217 + b"\nthree\nfour", [b"one", b"", b"two", b"", b"three", b"four"])
+
+
+def split(text, wanted):
+    """Lines that are read from a pipe are those that were written, of which one that is too long is empty."""
+    reader, writer = os.pipe()
+    with os.fdopen(writer, "wb") as into, os.fdopen(reader, "rb"):
+        source = lines_of.Lines(reader, threading.Condition())
+        source.start()
+        into.write(text)
+        into.close()
+        found = []
+        until(lambda: found.extend(source.take(2)) or source.is_ended())
+        yield "lines that are read", found == wanted
+
+
 # clusters
 
 def exchange(program):
@@ -188,13 +251,13 @@ def quiet(program):
     """What was taken in does not go round: once all is known, packets come to an end. And coordinators that are made anew agree."""
     told = list(cluster(200))
     with running(program, [1, 2, 3], "--renew-after", "40", "--report", "0.2") as (_, bridges):
-        yield "told", told_to(bridges, told)
+        yield "told", all([told_to(bridges, told[first:first + 50]) for first in range(0, len(told), 50) if not time.sleep(0.3)])
         yield "one graph, with renewals", agree(bridges, told)
-        time.sleep(2.5)
-        before = [bridge.counts()["sent"] + bridge.counts()["states_sent"] for bridge in bridges]
-        time.sleep(2.5)
-        after = [bridge.counts()["sent"] + bridge.counts()["states_sent"] for bridge in bridges]
-        yield "packets come to an end: %s, %s" % (before, after), before == after
+        counted = lambda: [bridge.counts()[kind] for bridge in bridges for kind in ("sent", "states_sent", "taken")]
+        time.sleep(3)
+        before = counted()
+        time.sleep(3)
+        yield "packets come to an end: %s, %s" % (before, counted()), before == counted()
         yield "ended", ended(bridges) and all(bridge.counts()["renewals"] for bridge in bridges)
 
 
@@ -216,6 +279,26 @@ def rounds(program):
             yield "one graph", brokers.have_one_graph(every) is not None
             winners = lambda: len({each.ask({"at": each.number, "ask": "winners"}) for each in every}) == 1
             yield "the same winners", bool(until(winners))
+    yield from rounds_alone(program)
+
+
+def rounds_alone(program):
+    """What a round placed on machines that others told of is in the journal, and not only that there was a round."""
+    told = list(cluster(20))
+    with tempfile.TemporaryDirectory() as folder, running(program, [2]) as (broker, (other,)):
+        journal = ["--journal", f"{folder}/journal"]
+        with Bridge(broker.port, 1, *QUICK, *journal, program=program) as bridge:
+            yield "told of tasks and of machines", told_to([bridge], told[:1] + told[11:]) and told_to([other], told[1:11])
+            yield "one graph of both", agree([bridge, other], told)
+            placed = bridge.ask({"at": 1, "round": True}).count(b" accepted\n")
+            bridge.kill()
+        other.kill()
+        broker.kill()
+        broker.forget()
+        broker.start()
+        with Bridge(broker.port, 1, *QUICK, *journal, program=program) as bridge:
+            yield "the places are known without the machines", placed > 9 and bridge.ask(
+                {"at": 1, "ask": "winners"}).count(b" free\n") == placed
 
 
 def late(program):
@@ -226,6 +309,8 @@ def late(program):
         yield "those of the beginning end", agree(bridges, told) and ended(bridges)
         with Bridge(broker.port, 4, *QUICK, program=program) as later:
             yield "one that comes when all are gone", agree([later], told)
+            # until it sent what it took in, and has nothing left to send
+            time.sleep(3)
             broker.kill()
             broker.forget()
             broker.start()
@@ -274,7 +359,7 @@ def cut_off(program):
 
 def same_number(program):
     """A number that is taken: who has it keeps it."""
-    with running(program, [1, 2]) as (broker, bridges):
+    with running(program, [1, 2], "--refresh", "60") as (broker, bridges):
         yield "told", told_to(bridges, cluster(9))
         found = refused(broker.port, "--number", "1", program=program)
         yield "a number that is taken", is_refused(found, 14, b"is taken by another bridge")
@@ -474,7 +559,10 @@ def journals(program):
         broker.forget()
         broker.start()
         with Bridge(broker.port, 1, *words, program=program) as bridge:
-            yield "a line that was not written whole is dropped", agree([bridge], told) and ended([bridge])
+            yield "a line that was not written whole is dropped", agree([bridge], told) and told_to([bridge], told[:2])
+            bridge.kill()
+        with Bridge(broker.port, 1, *words, program=program) as bridge:
+            yield "and the next ones are whole", agree([bridge], told) and ended([bridge])
         other = refused(broker.port, "--number", "2", "--claim-wait", "0", "--journal", str(file), program=program)
         yield "a journal of another number", is_refused(other, 16, b"no journal of this")
         with file.open("ab") as more:
@@ -546,7 +634,7 @@ def skipped(_program):
     yield "a bridge without paho-mqtt", is_refused((done.returncode, done.stdout, done.stderr), 10, b"python3-paho-mqtt")
 
 
-GROUPS = {"words": words, "lines": lines, "exchange": exchange, "quiet": quiet, "rounds": rounds, "late": late, "faults": faults,
+GROUPS = {"parts": parts, "words": words, "lines": lines, "exchange": exchange, "quiet": quiet, "rounds": rounds, "late": late, "faults": faults,
           "cut_off": cut_off, "same_number": same_number, "kills": kills, "confirmed": confirmed, "brokers_killed": brokers_killed,
           "followers": followers, "strangers": strangers, "limits": limits, "journals": journals, "signals": signals, "secrets": secrets, "example": example,
           "skipped": skipped}

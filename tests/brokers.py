@@ -19,7 +19,7 @@ ROOT = pathlib.Path(__file__).resolve().parent.parent
 BRIDGE = ROOT / "bin/bridge"
 PROGRAM = ROOT / "crates/fm_cli/out/fm_cli"
 # the longest that anything here is waited for
-PATIENCE = 60
+PATIENCE = float(os.environ.get("PATIENCE", 60))
 # the end of an answer
 END = re.compile(rb"(?m)^(?:ok|refusal [0-9]+)\n\Z")
 QUICK = ["--cut-interval", "0.05", "--state-interval", "0.3", "--refresh", "1", "--claim-wait", "0.3", "--ack-wait", "3"]
