@@ -11,7 +11,7 @@ pub mod cancel;
 pub mod confirming;
 pub mod improve;
 mod labels;
-mod lookup;
+pub mod lookup;
 mod queue;
 pub mod search;
 mod walk;

@@ -6,6 +6,7 @@ ghost use Rattle.fm_cycles.specs.Labels.{parents_in, AreParents};
 ghost use Rattle.fm_cycles.specs.Traced.{AreBefore, AreCyclesOf, IsWalkedBack};
 
 use crate::arcs::{Arc, Step};
+use crate::lookup::value_or;
 use std::alloc::{AllocError, Global};
 
 /// A walk back came to a node: where the walk started, and how many steps it had.
@@ -30,14 +31,14 @@ fn source(arcs: &[Arc], step: Step) -> usize
 fn parent_at(parents: &[Option<Step>], node: usize) -> Option<Step>
     ensures { result ≡ parents_in parents.now node }
 {
-    parents.get(node).copied().unwrap_or(None)
+    value_or(parents, node, None)
 }
 
 // The visit of a node, if a walk came there.
 fn visit_at(visits: &[Option<Visit>], node: usize) -> Option<Visit>
     ensures { result ≡ slice_index_or visits.now node None }
 {
-    visits.get(node).copied().unwrap_or(None)
+    value_or(visits, node, None)
 }
 
 // The steps of the walk from some place of it on.

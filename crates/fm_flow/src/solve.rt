@@ -1,21 +1,16 @@
 //! The solver.
 
-ghost use Rattle.std.specs.Prelude.{◌≡◌, IfOk, IfErr, IfSome};
+ghost use Rattle.std.specs.Prelude.{◌≡◌, IfOk, IfErr};
 ghost use Rattle.fm_certificate.specs.Built.{IsBuilt};
 ghost use Rattle.fm_certificate.specs.Flows.{units_in, IsLeast};
 ghost use Rattle.fm_certificate.specs.Certificates.{IsCertified};
-ghost use Rattle.fm_cycles.specs.Walks.{ArePotentials};
-ghost use Rattle.fm_cycles.specs.Residual.{residual};
-ghost use Rattle.fm_cycles.specs.Found.{costs_in};
 ghost use Rattle.fm_numbered.specs.Numbered.{IsNumbered};
-ghost use Rattle.fm_numbered.specs.Feasible.{IsFlowOf};
 
-use crate::first::first_flow;
-use crate::given::given_units;
-use crate::start::resume;
 use fm_certificate::flow::Flow;
 use fm_certificate::laws::law_least;
 use fm_certificate::potentials::Potentials;
+use fm_heuristics::first::first_flow;
+use fm_heuristics::start::resumed;
 use fm_lattice::join::OutOfMemory;
 use fm_net::network::Network;
 use fm_numbered::improved::improved;
@@ -45,7 +40,10 @@ pub fn solve(alloc: Global, network: &Network) -> Result<(Flow, Potentials), Ref
 
 /// As `solve`, and starts with the task paths of the flow, of this network or an earlier one, that are still whole and
 /// fit; if that comes to no least flow, it starts anew. The caller must pass a network that the policy can build. Refused as
-/// `solve` is. O(units) more than `solve`, and if it starts anew what the first start took.
+/// `solve` is.
+///
+/// O(arcs log arcs), and what `solve` takes if it starts anew. It took longer than `solve` wherever both were measured, since
+/// most of either call is numbering the network and naming the flow. The flow that is kept for it takes some 80 bytes an arc.
 pub fn solve_from(
     alloc: Global,
     network: &Network,
@@ -65,23 +63,6 @@ pub fn solve_from(
     }
     let found = anew(alloc, network, &numbered)?;
     Ok(found)
-}
-
-// The flow that keeps the earlier one's task paths, and potentials that show it to be least, if it is.
-fn resumed(
-    alloc: Global,
-    network: &Network,
-    numbered: &Numbered,
-    flow: &Flow,
-) -> Result<Option<(Vec<u64>, Vec<i128>)>, OutOfMemory>
-    ensures flow { IfOk result (λ kept. IfSome kept (λ r. IsFlowOf numbered.now.places numbered.now.arcs.items r.0.items)) }
-    ensures potentials { IfOk result (λ kept. IfSome kept (λ r. ArePotentials (residual numbered.now.arcs.items r.0.items) (costs_in r.1.items))) }
-{
-    if flow.is_empty() {
-        return Ok(None);
-    }
-    let given = given_units(alloc, network, numbered, flow)?;
-    resume(alloc, numbered, &given)
 }
 
 // The least flow that cancelling makes of the start's, and potentials that certify it. The search for cycles starts from the

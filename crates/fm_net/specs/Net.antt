@@ -32,7 +32,7 @@ abbrev pub IsArcKind : Node → Node → Type 0
 IsArcKind (Task t) (Request r) = Unit {0}
 -- a request to a machine with room for it
 IsArcKind (Request r) (Machine m) = Unit {0}
--- a task to the machine that holds it
+-- a task to the machine that holds it, or to one that it prefers
 IsArcKind (Task t) (Machine m) = Unit {0}
 -- a task to its job
 IsArcKind (Task t) (Unscheduled j) = Unit {0}

@@ -16,6 +16,7 @@ use crate::sums::{at, inflow, sum_at};
 use fm_certificate::flow::Flow;
 use fm_certificate::potentials::Potentials;
 use fm_cycles::arcs::Arc;
+use fm_cycles::lookup::value_or;
 use fm_lattice::join::OutOfMemory;
 use fm_net::network::Network;
 use fm_net::node::Node;
@@ -25,7 +26,7 @@ use std::alloc::Global;
 fn node_at(nodes: &[Node], place: usize) -> Node
     ensures { result ≡ name_at nodes.now place }
 {
-    nodes.get(place).copied().unwrap_or(Node::Sink)
+    value_or(nodes, place, Node::Sink)
 }
 
 // The units of the arcs, in order, by the nodes at their ends.
@@ -87,7 +88,7 @@ fn flow_of(
 fn value_at(values: &[i128], place: usize) -> i128
     ensures { result ≡ costs_in values.now place }
 {
-    values.get(place).copied().unwrap_or(0)
+    value_or(values, place, 0)
 }
 
 // The values of the nodes, in order.

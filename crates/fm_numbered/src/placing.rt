@@ -7,6 +7,7 @@ ghost use Rattle.fm_net.specs.Nodes.{node_cmp};
 ghost use Rattle.fm_numbered.specs.Places.{ArePlacesOf};
 
 use crate::places::{Places, range_of};
+use fm_cycles::lookup::value_or;
 use fm_net::node::Node;
 
 // Whether the node stands at the place.
@@ -53,17 +54,24 @@ pub(crate) fn place_of(nodes: &[Node], places: &Places, guess: usize, node: &Nod
     search(nodes, places, node)
 }
 
-/// How many guesses are kept.
+/// How many guesses are kept: in 64 KB, which stay in a processor's cache, one for each machine of some thousand.
 pub(crate) const GUESSES: usize = 8192;
+
+// Knuth's multiplier, a prime near 2^32 over the golden ratio: it spreads bandwidths, most of which are multiples of a round
+// number.
+const SPREAD: u64 = 2_654_435_761;
+
+// The lowest bits of a product depend on the lowest bits of the bandwidth alone, so the slot is taken above them.
+const LOWEST: u64 = 4096;
 
 // The slot of a node's guess: some number of its name.
 fn slot_of(node: &Node) -> usize {
     match node {
         Node::Sink => 0,
-        Node::Request(bandwidth) => (u64::from(*bandwidth) * 2_654_435_761 / 4096 % 8192) as usize,
-        Node::Unscheduled(job) => (job.value() % 8192) as usize,
-        Node::Machine(machine) => (machine.value() % 8192) as usize,
-        Node::Task(task) => (task.value() % 8192) as usize,
+        Node::Request(bandwidth) => (u64::from(*bandwidth) * SPREAD / LOWEST) as usize % GUESSES,
+        Node::Unscheduled(job) => (job.value() % GUESSES as u128) as usize,
+        Node::Machine(machine) => (machine.value() % GUESSES as u128) as usize,
+        Node::Task(task) => (task.value() % GUESSES as u128) as usize,
     }
 }
 
@@ -86,7 +94,7 @@ pub(crate) fn place_by(
         return behind;
     }
     let slot = slot_of(node);
-    let guess = guesses.get(slot).copied().unwrap_or(0);
+    let guess = value_or(guesses, slot, 0);
     if stands_at(nodes, guess, node) {
         return guess;
     }

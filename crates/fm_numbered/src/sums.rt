@@ -4,6 +4,7 @@ ghost use Rattle.std.specs.Prelude.{◌≡◌, ◌<◌, ℕ, vec_len, slice_inde
 ghost use Rattle.fm_cycles.specs.Units.{entering, leaving};
 
 use crate::numbered::Numbered;
+use fm_cycles::lookup::value_or;
 use fm_lattice::join::OutOfMemory;
 use std::alloc::Global;
 
@@ -11,14 +12,14 @@ use std::alloc::Global;
 pub fn at(numbers: &[u64], place: usize) -> u64
     ensures { result ≡ slice_index numbers.now place }
 {
-    numbers.get(place).copied().unwrap_or(0)
+    value_or(numbers, place, 0)
 }
 
 /// The sum at a place, 0 behind the end.
 pub fn sum_at(sums: &[u128], place: usize) -> u128
     ensures { result ≡ slice_index sums.now place }
 {
-    sums.get(place).copied().unwrap_or(0)
+    value_or(sums, place, 0)
 }
 
 /// The units that enter each node. O(arcs).

@@ -1,0 +1,83 @@
+//! The task paths of an earlier flow that are still whole and fit.
+
+use crate::lanes::Lanes;
+use crate::lenient::put;
+use crate::loading::Loading;
+use fm_cycles::lookup::value_or;
+use fm_lattice::join::OutOfMemory;
+use fm_numbered::numbered::Numbered;
+use fm_numbered::places::Kind;
+use fm_numbered::sums::at;
+use std::alloc::Global;
+
+/// The units of the earlier flow that no task has taken up yet.
+#[derive(Debug, Drop)]
+pub(crate) struct Kept {
+    given: Vec<u64>,
+    /// Each request's first arc, cheaper machines first, that may have such units and fit.
+    cursors: Vec<usize>,
+}
+
+impl Kept {
+    /// All units of the earlier flow.
+    pub(crate) fn new(
+        alloc: Global,
+        numbered: &Numbered,
+        given: &[u64],
+    ) -> Result<Self, OutOfMemory> {
+        Ok(Kept {
+            given: Vec::from_slice(alloc, given)?,
+            cursors: vec![in alloc; 0usize; numbered.places.requests_len()]?,
+        })
+    }
+
+    /// Takes up the path of a task over its arc to a request or machine, if it is whole and fits, and tells whether.
+    pub(crate) fn keep(
+        &mut self,
+        numbered: &Numbered,
+        lanes: &Lanes,
+        loading: &mut Loading,
+        place: usize,
+        arc: usize,
+    ) -> bool {
+        if at(&self.given, arc) == 0 {
+            return false;
+        }
+        match numbered.places.kind(place) {
+            Kind::Request(request) => self.keep_request(numbered, lanes, loading, request),
+            Kind::Machine(machine) if loading.free(machine) > 0 => {
+                loading.take_slots(numbered, lanes, machine, 1);
+                true
+            }
+            _ => false,
+        }
+    }
+
+    // Takes up a unit of a request.
+    fn keep_request(
+        &mut self,
+        numbered: &Numbered,
+        lanes: &Lanes,
+        loading: &mut Loading,
+        request: usize,
+    ) -> bool {
+        let arcs = lanes.by_request.group(request);
+        let first = value_or(&self.cursors, request, 0);
+        for place in first..arcs.len() {
+            let arc = arcs[place];
+            if at(&self.given, arc) > 0 && loading.send(numbered, lanes, &[], arc, 1) > 0 {
+                self.take(arc);
+                put(&mut self.cursors, request, place);
+                return true;
+            }
+        }
+        put(&mut self.cursors, request, arcs.len());
+        false
+    }
+
+    // Takes up a unit of an arc.
+    fn take(&mut self, arc: usize) {
+        let units = at(&self.given, arc);
+        put(&mut self.given, arc, units.saturating_sub(1));
+    }
+}

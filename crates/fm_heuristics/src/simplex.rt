@@ -1,0 +1,74 @@
+//! A flow by network simplex.
+
+ghost use Rattle.std.specs.Prelude.{IfOk, IfSome};
+ghost use Rattle.fm_numbered.specs.Feasible.{IsFlowOf};
+
+use crate::alike::Alike;
+use crate::contracted::Contracted;
+use crate::pivots::Pivots;
+use crate::spread::{costs, spread};
+use crate::tree::{Stop, Tree};
+use fm_lattice::join::OutOfMemory;
+use fm_numbered::feasible::is_feasible;
+use fm_numbered::numbered::Numbered;
+use std::alloc::Global;
+
+// The hardest networks known, chains of preferences and ties everywhere, take a pivot a link at most.
+const PIVOTS_A_LINK: usize = 16;
+
+/// The units of a flow of the network, and what a unit then costs from each node that is no task to the sink. None if the
+/// simplex comes to no flow or its tree breaks, which no network is known to cause. It ends where no link pays, or after 16
+/// pivots an arc. Where no link pays the flow is least, and the costs, turned round, show it: no clause says so, a search for
+/// cycles does. Refused if memory runs out, and for nothing else. O(arcs), and for each pivot a block of links, the part of the
+/// tree that moves, and the cycle on which units go round.
+pub fn simplex(
+    alloc: Global,
+    numbered: &Numbered,
+) -> Result<Option<(Vec<u64>, Vec<i64>)>, OutOfMemory>
+    ensures { IfOk result (λ found. IfSome found (λ r. IsFlowOf numbered.now.places numbered.now.arcs.items r.0.items)) }
+{
+    let most = numbered.arcs.len().saturating_mul(PIVOTS_A_LINK);
+    simplex_within(alloc, numbered, most)
+}
+
+/// As `simplex`, and ends after so many pivots, beside the first one of each node.
+pub fn simplex_within(
+    alloc: Global,
+    numbered: &Numbered,
+    most: usize,
+) -> Result<Option<(Vec<u64>, Vec<i64>)>, OutOfMemory>
+    ensures { IfOk result (λ found. IfSome found (λ r. IsFlowOf numbered.now.places numbered.now.arcs.items r.0.items)) }
+{
+    let alike = Alike::of(alloc, numbered)?;
+    let contracted = Contracted::of(alloc, numbered, &alike)?;
+    let Some(tree) = pivoted(alloc, contracted, most)? else {
+        return Ok(None);
+    };
+    let units = spread(alloc, numbered, &alike, &tree.links)?;
+    if !is_feasible(alloc, numbered, &units)? {
+        return Ok(None);
+    }
+    let costs = costs(alloc, numbered, &tree)?;
+    Ok(Some((units, costs)))
+}
+
+// The tree at which so many pivots end; none if it breaks.
+fn pivoted(
+    alloc: Global,
+    contracted: Contracted,
+    most: usize,
+) -> Result<Option<Tree>, OutOfMemory> {
+    match run(alloc, contracted, most) {
+        Ok(tree) => Ok(Some(tree)),
+        Err(Stop::Broken) => Ok(None),
+        Err(Stop::OutOfMemory) => Err(OutOfMemory),
+    }
+}
+
+// The same, with why it stops.
+fn run(alloc: Global, contracted: Contracted, most: usize) -> Result<Tree, Stop> {
+    let own = contracted.own;
+    let mut pivots = Pivots::new(alloc, contracted)?;
+    pivots.run(most)?;
+    Ok(pivots.settled(own))
+}
