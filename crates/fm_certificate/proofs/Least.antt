@@ -1,6 +1,6 @@
 -- What is certified is least: complementary slackness.
 use Rattle.std.proofs.Common.{◌≡◌, ◌∙◌, ap, sym, subst, refl, inl, inr, ℕ, ◌+◌, ◌-◌, ◌*◌, ◌≤◌, ◌<◌, cond, List, [], ◌∷◌, Some, IsTrue, arith}
-use Rattle.std.specs.Prelude.{ℤ}
+use Rattle.std.specs.Prelude.{ℤ, pos, ◌≤ℤ◌}
 use Rattle.std.proofs.lemmas.Int.{ints}
 use borrow.Author.Differences.{up, down}
 use Rattle.std.specs.List.{sum_by}
@@ -17,7 +17,7 @@ use Rattle.fm_net.specs.Net.{Net, CanBeNet, IsArc, IsArcKind, has_node, arc_at}
 use Rattle.fm_net.specs.Same.{same_node}
 use Rattle.fm_certificate.proofs.Alike.{other_node}
 use Rattle.fm_certificate.specs.Flows.{Units, units_in, leaving, entering, IsFeasible, IsLeast}
-use Rattle.fm_certificate.specs.Certificates.{potential_in, IsCertified}
+use Rattle.fm_certificate.specs.Certificates.{potential_in, reduced_cost, IsCertified}
 use Rattle.fm_certificate.proofs.Members.{member_lookup}
 use Rattle.fm_certificate.proofs.Sums.{sum_same, sum_none, sum_both, last_alike}
 use Rattle.fm_certificate.proofs.Exchange.{Arc, units_at, exchanged}
@@ -172,21 +172,23 @@ module _ (rising falling : Node → ℕ) (f g : Units) where
       let to = λ (weight : Node → ℕ) (p : Units). sum_by-cons (λ (b : Arc). weight b.0.1 * units_at p b) a arcs in
       omega (arith, cost f, cost g, from rising f, from rising g, from falling f, from falling g, to rising f, to rising g, to falling f, to falling g)
 
-pub certified_is_least : (net : Net) (flow : List ((Node × Node) × ℕ)) (potentials : List (Node × ℤ)) → CanBeNet net → IsCertified net flow potentials → IsLeast net (units_in flow)
-certified_is_least net flow potentials can cert =
-    let f = units_in flow in
-    let at = potential_in potentials in
+-- units and potentials as functions
+pub shown_is_least : (net : Net) (f : Units) (at : Node → ℤ) → CanBeNet net → IsFeasible net f → ((from to : Node) (arc : ℕ × ℕ) → arc_at net from to ≡ Some arc → f from to < arc.0 → pos 0 ≤ℤ reduced_cost arc.1 (at from) (at to)) → ((from to : Node) (arc : ℕ × ℕ) → arc_at net from to ≡ Some arc → 0 < f from to → reduced_cost arc.1 (at from) (at to) ≤ℤ pos 0) → IsLeast net f
+shown_is_least net f at can feasible no_gain no_waste =
     record {
-      feasible = cert.feasible;
+      feasible = feasible;
       least = λ g gg.
           let each = λ (a : Arc) (m : IsMember a net.arcs).
           let arc = arc_member net can a m in
-          let gain = λ (below : f a.0.0 a.0.1 < a.1.0). cert.no_gain a.0.0 a.0.1 a.1 arc below in
-          let waste = λ (above : 0 < f a.0.0 a.0.1). cert.no_waste a.0.0 a.0.1 a.1 arc above in
+          let gain = λ (below : f a.0.0 a.0.1 < a.1.0). no_gain a.0.0 a.0.1 a.1 arc below in
+          let waste = λ (above : 0 < f a.0.0 a.0.1). no_waste a.0.0 a.0.1 a.1 arc above in
           trade a.1.1 (up (at a.0.0)) (down (at a.0.0)) (up (at a.0.1)) (down (at a.0.1)) (f a.0.0 a.0.1) (g a.0.0 a.0.1) a.1.0 (gg.within a.0.0 a.0.1 a.1 arc)
           (λ below. let h = gain below in omega (arith, ints))
           (λ above. let h = waste above in omega (arith, ints))
           in
           let all = traded (λ n. up (at n)) (λ n. down (at n)) f g net.arcs each in
-          omega (arith, earns_alike net can f g cert.feasible gg (λ n. up (at n)), earns_alike net can f g cert.feasible gg (λ n. down (at n)));
+          omega (arith, earns_alike net can f g feasible gg (λ n. up (at n)), earns_alike net can f g feasible gg (λ n. down (at n)));
     }
+
+pub certified_is_least : (net : Net) (flow : List ((Node × Node) × ℕ)) (potentials : List (Node × ℤ)) → CanBeNet net → IsCertified net flow potentials → IsLeast net (units_in flow)
+certified_is_least net flow potentials can cert = shown_is_least net (units_in flow) (potential_in potentials) can cert.feasible cert.no_gain cert.no_waste

@@ -1,0 +1,5 @@
+pub mod Counted
+pub mod Lists
+pub mod Entries
+pub mod Turns
+pub mod Shown

@@ -1,0 +1,11 @@
+//! Plans of what is known from a tally of it: no network is built.
+#![tactic(auto)]
+
+mod board;
+mod checking;
+mod claim;
+mod counts;
+mod making;
+mod paths;
+pub mod planner;
+mod search;

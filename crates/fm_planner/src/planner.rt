@@ -1,0 +1,45 @@
+//! Plans of what is known, from a tally of it.
+
+ghost use Rattle.std.specs.Prelude.{IfOk, IfSome};
+ghost use Rattle.fm_round.specs.Schedules.{IsPlanOf};
+ghost use Rattle.fm_tally.specs.Tallies.{TallyIsFor};
+
+use crate::checking::passes;
+use crate::counts::Counts;
+use crate::making::plan_of;
+use crate::search::search;
+use fm_know::knowledge::Knowledge;
+use fm_know::laws::law_can_be;
+use fm_lattice::join::OutOfMemory;
+use fm_round::parts::Plan;
+use fm_tally::tally::Tally;
+use fm_ways::laws::law_moves;
+use std::alloc::Global;
+
+/// A plan of a least flow of the network of what is known, which is not built. The caller must pass the tally of what is known. A
+/// search comes to moves and prices, and a check decides whether these make a least flow, by complementary slackness. There is none if
+/// the check decides that they do not, if a waiting task prefers machines, or if more than 4,096 tasks wait; a plan of the network
+/// is then for the caller to make. Only memory is refused. O(n log n) in the tasks and machines, O(machines) for each request that
+/// waits, and a search over machines for each task that waits.
+pub fn plan_of_tally(
+    alloc: Global,
+    tally: &Tally,
+    knowledge: &Knowledge,
+) -> Result<Option<Plan>, OutOfMemory>
+    requires { TallyIsFor knowledge.now tally.now }
+    ensures { IfOk result (λ found. IfSome found (IsPlanOf knowledge.now)) }
+{
+    law_can_be(knowledge);
+    law_moves();
+    let _few = knowledge.tasks().len();
+    let Some(claim) = search(alloc, tally)? else {
+        return Ok(None);
+    };
+    let moves = claim.moves.pairs();
+    let counts = Counts::of(alloc, knowledge, moves)?;
+    if !passes(alloc, tally, &claim, &counts)? {
+        return Ok(None);
+    }
+    let plan = plan_of(alloc, knowledge, moves)?;
+    Ok(Some(plan))
+}

@@ -1,0 +1,42 @@
+-- The tally of a table: what plans need of each live task and of each open machine (this project's profile).
+use Rattle.std.specs.Prelude.{◌≡◌, ℕ, ◌-◌, Bool, true, false, cond, nat_le, List, [], ◌∷◌, Option, option_map, count_by}
+use Rattle.std.specs.List.{filter_map}
+use Rattle.std.specs.Ordering.{nat_cmp}
+use Rattle.fm_lattice.specs.Maps.{lookup}
+use Rattle.fm_records.specs.Options.{when, and_then}
+use Rattle.fm_records.specs.Sets.{with_value}
+use Rattle.fm_records.specs.Table.{Table}
+use Rattle.fm_records.specs.Facts.{job_of, live_spec, open_state, holder_of, holds, load_of, spare_of}
+use Rattle.fm_net.specs.Network.{is_held}
+use Rattle.fm_tally.specs.declared.tally.LiveTask.{LiveTask}
+use Rattle.fm_tally.specs.declared.tally.OpenMachine.{OpenMachine}
+use Rattle.fm_tally.specs.declared.tally.Tally.{Tally}
+
+-- there are preferences
+abbrev pub has_any : List (ℕ × ℕ) → Bool
+has_any [] = false
+has_any (e ∷ es) = true
+
+-- a live task: its job and request, what it costs to preempt it where it is held, and else to let it wait, and who holds it
+abbrev pub task_at : Table → ℕ → Option LiveTask
+task_at k t = and_then (λ s. option_map (λ job. record { job = s.job; request = s.request; price = cond (is_held k t) job.preempt job.wait; holder = holder_of k t; prefers = has_any s.prefer }) (job_of k s.job)) (live_spec k t)
+
+-- an open machine: its slots, load and spare, and how many tasks it holds
+abbrev pub machine_at : Table → ℕ → Option OpenMachine
+machine_at k m = option_map (λ state. record { slots = state.slots; load = load_of k m; spare = spare_of k m; held = count_by (λ e. holds k m e.0) k.tasks }) (open_state k m)
+
+-- what a load leaves of a bandwidth, none where the load is greater
+abbrev pub left_of : ℕ → ℕ → Option ℕ
+left_of nic load = when (nat_le load nic) (nic - load)
+
+-- the tally has just the live tasks and the open machines of the table
+pub record TallyIsFor (k : Table) (tally : Tally) : Type 0 where
+  pub tasks : (t : ℕ) → lookup nat_cmp t tally.tasks ≡ task_at k t
+  pub machines : (m : ℕ) → lookup nat_cmp m tally.machines ≡ machine_at k m
+
+-- the same as lists, by id
+abbrev pub all_tasks : Table → List (ℕ × LiveTask)
+all_tasks k = filter_map (λ e. with_value (task_at k) e.0) k.tasks
+
+abbrev pub all_machines : Table → List (ℕ × OpenMachine)
+all_machines k = filter_map (λ e. with_value (machine_at k) e.0) k.machines

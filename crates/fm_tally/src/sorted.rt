@@ -1,0 +1,71 @@
+//! Pairs by rising key, one behind another.
+
+ghost use Rattle.std.specs.Prelude.{◌≡◌, [], IfOk, OnOk, OnErr};
+ghost use Rattle.fm_lattice.specs.Maps.{lookup, put, replaced, IsRising};
+
+use fm_lattice::chain::Chain;
+use fm_lattice::join::OutOfMemory;
+use fm_net::rising::{set, value_at};
+use std::alloc::Global;
+use std::marker::Model;
+
+/// A map whose pairs lie in one vector, by rising key: quick to fill in order and to walk over.
+#[derive(Drop)]
+pub struct Sorted<K: Chain, V: Copy> {
+    pairs: Vec<(K, V)>,
+}
+
+impl<K: Chain, V: Copy> Model for Sorted<K, V> {
+    ghost use Rattle.std.specs.Prelude.{List};
+    ghost use Rattle.fm_lattice.specs.Maps.{IsRising};
+
+    ghost Value = { List (K × V) };
+
+    ghost view = { λ s. s.pairs.items };
+
+    ghost invariant = { λ s. IsRising K.cmp s.pairs.items };
+}
+
+impl<K: Chain, V: Copy> Sorted<K, V> {
+    /// No pairs. It takes no memory.
+    pub fn new(alloc: Global) -> Self
+        ensures { result ≡ [] }
+    {
+        Sorted {
+            pairs: Vec::new(alloc),
+        }
+    }
+
+    /// The map of these pairs, whose keys must rise.
+    pub fn of(pairs: Vec<(K, V)>) -> Self
+        requires { IsRising K.cmp pairs.items }
+        ensures { result ≡ pairs.items }
+    {
+        Sorted { pairs }
+    }
+
+    /// The value at the key, if it is there. O(log n).
+    pub fn get(&self, key: &K) -> Option<V>
+        ensures { result ≡ lookup K.cmp key.now self.now }
+    {
+        value_at(&self.pairs, key)
+    }
+
+    /// Puts the value at the key, and answers the one that was there. After a refusal of memory nothing has changed. Amortised O(1)
+    /// behind the last key, O(log n) at a key that is there, and O(n) before others.
+    pub fn put(&mut self, key: K, value: V) -> Result<Option<V>, OutOfMemory>
+        ensures ok { OnOk result (self.new ≡ put K.cmp replaced key value self.old) }
+        ensures stood { IfOk result (λ old. old ≡ lookup K.cmp key self.old) }
+        ensures err { OnErr result (self.new ≡ self.old) }
+    {
+        set(&mut self.pairs, key, value)
+    }
+
+    /// The pairs, by rising key.
+    pub fn pairs(&self) -> &[(K, V)]
+        ensures pairs { result.now ≡ self.now }
+        ensures rising { IsRising K.cmp result.now }
+    {
+        self.pairs.as_slice()
+    }
+}
