@@ -175,25 +175,29 @@ def lines(program):
 # parts of the bridge by themselves
 
 def numbers(_program):
-    """Which states need not be taken in, by the numbers of packets: (what came, its number, whether it is wanted)."""
-    kept, state, delta = "kept", "state", "delta"
+    """Which states need not be taken in, by the numbers of packets: what came, its number, and whether it is wanted, or of news whether
+    something is missing behind it."""
+    kept, state, news = "kept", "state", "news"
     for name, came in (
-            ("nothing missing", [(kept, 3, 1), (state, 4, 1), (delta, 5, 1), (delta, 6, 1), (state, 7, 0), (delta, 8, 1), (state, 9, 0)]),
-            ("one missing", [(state, 4, 1), (delta, 6, 1), (delta, 7, 1), (state, 8, 1), (state, 9, 0)]),
-            ("two swapped", [(state, 4, 1), (delta, 6, 1), (delta, 5, 1), (state, 7, 1), (delta, 8, 1), (state, 9, 0)]),
-            ("begun again", [(state, 9, 1), (delta, 10, 1), (delta, 1, 1), (state, 2, 1), (state, 3, 0)]),
-            ("kept ones", [(state, 4, 1), (kept, 5, 1), (kept, 5, 1), (state, 5, 0)]),
-            ("the first that was sent", [(kept, 4, 1), (state, 5, 1), (state, 6, 0)]),
-            ("no number", [(state, None, 1), (delta, None, 1), (state, 1, 1), (state, 2, 0)])):
+            ("nothing missing", [(kept, 2, 1), (news, 3, 1), (state, 4, 1), (news, 5, 0), (news, 7, 0), (state, 8, 0), (news, 9, 0)]),
+            ("one missing", [(state, 4, 1), (news, 7, 1), (news, 9, 1), (state, 10, 1), (news, 11, 0), (state, 12, 0)]),
+            ("a state missing, which is none", [(state, 4, 1), (news, 5, 0), (news, 7, 0), (state, 8, 0)]),
+            ("two swapped", [(state, 4, 1), (news, 7, 1), (news, 5, 1), (state, 8, 1), (news, 9, 0)]),
+            ("repeated", [(state, 4, 1), (news, 5, 0), (news, 5, 1)]),
+            ("begun again", [(state, 10, 1), (news, 11, 0), (news, 1, 1), (state, 2, 1), (news, 3, 0)]),
+            ("a state without news", [(state, 4, 1), (state, 6, 1), (news, 7, 0), (state, 8, 0)]),
+            ("kept ones", [(state, 4, 1), (kept, 4, 1), (news, 5, 0), (kept, 4, 1), (state, 6, 0)]),
+            ("no number", [(state, None, 1), (news, None, 1), (state, 2, 1), (news, None, 1)])):
         coverage, fine = packets.Coverage(), []
         for kind, number, is_wanted in came:
-            if kind == delta:
-                coverage.delta(1, number)
+            if kind == news:
+                coverage.news(1, number)
+                fine.append((1 in coverage.missing()) == bool(is_wanted))
             else:
                 fine.append(coverage.covers(1, number, kind == kept) != bool(is_wanted))
-        yield "states: %s" % name, all(fine)
+        yield "states: %s: %s" % (name, fine), all(fine)
         coverage.forget()
-        yield "states after a new connection: %s" % name, not coverage.covers(1, 10 ** 6, False)
+        yield "states after a new connection: %s" % name, coverage.missing() == set(range(1, 65))
 
 
 def parts(program):

@@ -183,8 +183,8 @@ class Bridge:
         self._tell()
         if self._is_exchange_due():
             self._exchange()
-        if self._outbox.is_state_due() and self._can_send_state():
-            self._send_state()
+        if self._outbox.is_state_due() and self._can_send_state() and not self._coordinator.own_news():
+            self._send_state(self._coordinator.cut_state())
         self._answers.let_go(self._outbox.confirmed if self._settings.is_confirmed else self._accepted)
         self._look_at_times()
 
@@ -216,7 +216,7 @@ class Bridge:
 
     def _shorten(self, journal: Journal) -> None:
         """Writes the journal anew as one packet of all that is known, if a line can hand that over."""
-        packet = self._coordinator.cut_all()
+        packet = self._coordinator.cut_state()
         if len(packet) <= most_packet(self._settings.number):
             journal.replace(take_line(self._settings.number, packet))
         else:
@@ -236,10 +236,7 @@ class Bridge:
         """Cuts its own news and sends it, and then takes in what came."""
         is_back, turn = self._claim.is_back(), self._claim.came_back
         if self._coordinator.own_news():
-            packet = self._coordinator.cut_own()
-            self._outbox.send_news(packet)
-            self._trace("cut", number=number_of(packet), answered=self._answered)
-            self._answered = []
+            self._send_news()
         self._hear(with_packets=True)
         if self._coordinator.is_to_renew():
             self._coordinator.renew()
@@ -251,11 +248,23 @@ class Bridge:
             self._turn = turn
             if self._inbox.own_state != self._outbox.last_state and self._coordinator.deltas:
                 self._outbox.is_gone()
+        if self._can_send_state():
+            self._broker.hear_states(self._inbox.coverage.missing() | {self._settings.number})
         if self._inbox.is_foreign:
             self._inbox.is_foreign = False
             self._counts.foreign += 1
             self._telling.say("foreign", "somebody else published a state on this coordinator's topic; it was taken in")
             self._outbox.want_state(self._settings.state_interval)
+
+    def _send_news(self) -> None:
+        """Cuts and sends its own news, and a state behind it if that is due."""
+        self._outbox.want_news()
+        packet, state = self._coordinator.cut_news(self._outbox.is_state_due() and self._can_send_state())
+        self._outbox.send_news(packet)
+        self._trace("cut", number=number_of(packet), answered=self._answered)
+        self._answered = []
+        if state is not None:
+            self._send_state(state)
 
     def _hear(self, with_packets: bool) -> None:
         """Looks at what came, and takes packets in."""
@@ -288,8 +297,7 @@ class Bridge:
         """Whether the broker is there, and what it kept came."""
         return self._broker.is_connected and self._claim.is_back()
 
-    def _send_state(self) -> None:
-        packet = self._coordinator.cut_all()
+    def _send_state(self, packet: bytes) -> None:
         if not self._outbox.send_state(packet, self._accepted):
             most = most_packet(self._settings.number)
             why = f"the state has {len(packet)} bytes, and no line can hand over more than {most}"

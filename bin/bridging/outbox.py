@@ -51,6 +51,9 @@ class Outbox:
             # the number that is missing tells the others that the next state says more
             self._counts.left_to_state += 1
         self.is_stale = True
+
+    def want_news(self) -> None:
+        """There is news, which is to be in a state in time."""
         self.want_state(self._settings.cut_interval if self._settings.is_confirmed else self._settings.state_interval)
 
     def is_own(self, digest: bytes) -> bool:
