@@ -147,7 +147,7 @@ def parts(program):
     reply = mine.hear(1, asked)
     yield "who has a number says so", reply is not None and not mine.is_lost and other.hear(1, reply) is None and other.is_lost
     yield "one's own claim comes back", mine.hear(1, mine.ask(True)) is None and mine.is_back() and not mine.is_lost
-    yield "a claim of another number", mine.hear(2, claims.Claim(2).ask(True)) is None and mine.newcomers == 1 and not mine.is_lost
+    yield "a claim of another number", mine.hear(2, claims.Claim(2).ask(True)) is None and list(mine.newcomers) == [2] and not mine.is_lost
     for strange in (b"", b"7", b"{}", b'{"token":1,"turn":"x","running":0,"since":0,"new":0}', b"[" * 900, b"\xff", b" " * 2000):
         try:
             yield "a claim that is none: %r" % strange[:9], mine.hear(1, strange) is NotImplemented

@@ -54,7 +54,7 @@ def rounds(program):
     """Rounds at several coordinators: all come to the same graph and the same winners, and a round that was answered
     outlasts a kill."""
     told = list(cluster(30))
-    with tempfile.TemporaryDirectory() as folder, running(program, [2, 3]) as (broker, bridges):
+    with tempfile.TemporaryDirectory() as folder, running(program, [2, 3], "--refresh", "3600") as (broker, bridges):
         journal = ["--journal", f"{folder}/journal", "--state-interval", "3600"]
         with Bridge(broker.port, 1, *QUICK, *journal, program=program) as bridge:
             yield "told", told_to([bridge], told)
@@ -89,6 +89,20 @@ def rounds_alone(program):
         with Bridge(broker.port, 1, *QUICK, *journal, program=program) as bridge:
             yield "the places are known without the machines", placed > 9 and bridge.ask(
                 {"at": 1, "ask": "winners"}).count(b" free\n") == placed
+
+
+def sent_later(program):
+    """What a journal has that was not sent comes to who was there, though that one does not ask for states again."""
+    told = list(cluster(30))
+    with tempfile.TemporaryDirectory() as folder, running(program, [2], "--refresh", "3600") as (broker, (other,)):
+        words = [*QUICK, "--journal", f"{folder}/journal"]
+        with Bridge(broker.port, 1, *words, program=program) as bridge:
+            yield "told and sent", told_to([bridge], told[:20]) and agree([bridge, other], told[:20])
+            time.sleep(1)
+        with Bridge(broker.port, 1, *words, "--cut-interval", "3600", program=program) as bridge:
+            yield "told and not sent", told_to([bridge], told[20:])
+        with Bridge(broker.port, 1, *words, program=program) as bridge:
+            yield "one graph of all", agree([bridge, other], told)
 
 
 def late(program):
@@ -132,8 +146,9 @@ def cut_off(program):
     with contextlib.ExitStack() as stack:
         broker = stack.enter_context(Broker(stack.enter_context(tempfile.TemporaryDirectory())))
         proxy = stack.enter_context(mqtt.Proxy(broker.port))
-        away = stack.enter_context(Bridge(proxy.port, 1, *QUICK, program=program))
-        there = stack.enter_context(Bridge(broker.port, 2, *QUICK, program=program))
+        # with a long time until states are asked for again, so that who comes back is heard for another reason
+        away, there = (stack.enter_context(Bridge(port, number, *QUICK, "--refresh", "3600", program=program))
+                       for port, number in ((proxy.port, 1), (broker.port, 2)))
         yield "told", told_to([away, there], told[:30]) and agree([away, there], told[:30])
         proxy.cut()
         yield "told while one is away", told_to([away, there], told[30:60])
@@ -263,6 +278,19 @@ def made(folder, name, text):
     return str(file)
 
 
+def short_queues(program):
+    """A queue of one packet on the way out, where the second of two packets is left to a state: the other hears of
+    that, though it does not ask for states again."""
+    told, each = list(cluster(9))[:10], {1: ["--queue", "1", "--cut-count", "1", "--state-interval", "0"]}
+    with running(program, [1, 2], "--refresh", "3600", each=each) as (_, bridges):
+        for end in range(2, len(told) + 1, 2):
+            yield "told two at once", told_to(bridges[:1], told[end - 2:end])
+            yield "one graph of %d" % end, agree(bridges, told[:end])
+            # until the last state came, behind which nothing is missing
+            time.sleep(0.2)
+        yield "news was left to states", ended(bridges) and bridges[0].counts()["left_to_state"] > 0
+
+
 def followers(program):
     """A follower that is slower than the rest, with a queue of three packets, and one that ends."""
     told = list(cluster(300))
@@ -335,6 +363,6 @@ def limits(program):
         yield "what the broker does not keep is not confirmed", is_said and bridge.count() < len(told)
 
 
-GROUPS = {"exchange": exchange, "quiet": quiet, "rounds": rounds, "late": late, "faults": faults, "cut_off": cut_off,
+GROUPS = {"exchange": exchange, "quiet": quiet, "rounds": rounds, "late": late, "sent_later": sent_later, "faults": faults, "cut_off": cut_off,
           "same_number": same_number, "kills": kills, "confirmed": confirmed, "brokers_killed": brokers_killed,
-          "followers": followers, "strangers": strangers, "limits": limits}
+          "followers": followers, "short_queues": short_queues, "strangers": strangers, "limits": limits}

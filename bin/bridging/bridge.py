@@ -47,7 +47,7 @@ class Bridge:
         self._inbox = Inbox(settings.number, self._outbox, self._counts, self._telling)
         self._lines, self._answers = Lines(0, self._wake), Answers(1, self._wake)
         self._journal: Optional[Journal] = None
-        self._connection = self._turn = self._newcomers = self._accepted = 0
+        self._connection = self._turn = self._accepted = 0
         self._has_begun = False
         self._answered: list[tuple[float, int]] = []
         self._oldest, self._back_at, self._refresh_at = 0.0, time.monotonic(), time.monotonic() + settings.refresh
@@ -175,7 +175,7 @@ class Bridge:
         can_tell = self._lines.is_waiting() and self._answers.has_room() and not self._stopping
         return (can_tell or self._mailbox.has_news() or self._is_exchange_due()
                 or (self._claim.is_lost and not self._stopping) or self._connection != self._broker.connection
-                or self._newcomers != self._claim.newcomers)
+                or bool(self._claim.newcomers))
 
     def _step(self) -> None:
         self._look_at_connection()
@@ -185,6 +185,11 @@ class Bridge:
             self._exchange()
         if self._outbox.is_state_due() and self._can_send_state() and not self._coordinator.own_news():
             self._send_state(self._coordinator.cut_state())
+        if self._outbox.is_unheard_of() and not self._coordinator.own_news():
+            # news of nothing, by whose number the others see that they want the state
+            self._outbox.send_news(self._coordinator.cut_news(with_state=False)[0])
+        if self._can_send_state():
+            self._broker.hear_states(self._inbox.coverage.missing() | {self._settings.number})
         self._answers.let_go(self._outbox.confirmed if self._settings.is_confirmed else self._accepted)
         self._look_at_times()
 
@@ -248,8 +253,6 @@ class Bridge:
             self._turn = turn
             if self._inbox.own_state != self._outbox.last_state and self._coordinator.deltas:
                 self._outbox.is_gone()
-        if self._can_send_state():
-            self._broker.hear_states(self._inbox.coverage.missing() | {self._settings.number})
         if self._inbox.is_foreign:
             self._inbox.is_foreign = False
             self._counts.foreign += 1
@@ -315,8 +318,9 @@ class Bridge:
             self._inbox.coverage.forget()
             self._inbox.own_state = None
             self._telling.say("connection", "the connection was lost and is made again", connection=self._connection)
-        if self._newcomers != self._claim.newcomers:
-            self._newcomers = self._claim.newcomers
+        while self._claim.newcomers:
+            # who comes, or comes back, may have sent what was not heard here
+            self._inbox.coverage.missed(self._claim.newcomers.popleft())
             if self._outbox.is_stale:
                 self._outbox.want_state(0, delay=random.uniform(0, SPREAD))
 

@@ -198,6 +198,8 @@ class Broker:
 
     def hear_states(self, numbers: set[int]) -> None:
         """Has the broker send the states of these coordinators alone."""
+        if numbers == self._states:
+            return
         more, less = numbers - self._states, self._states - numbers
         self._states = numbers
         if more:

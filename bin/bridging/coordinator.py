@@ -89,7 +89,8 @@ class Coordinator:
         self._cut({"from": self.deltas, "to": self.deltas})
 
     def cut_news(self, with_state: bool) -> tuple[bytes, Optional[bytes]]:
-        """A packet of its own deltas since the last such cut, and behind it one of all that it knows if that is asked for."""
+        """A packet of its own deltas since the last such cut, and behind it one of all that it knows if that is
+        asked for."""
         packet = self._cut({"from": self.own, "to": self.deltas})
         self.own = self.deltas
         if with_state:

@@ -48,19 +48,22 @@ class Seen:
 
 @dataclasses.dataclass
 class _Heard:
-    """What came from one coordinator: the number behind which its next news is to come, and whether nothing is missing up to there."""
+    """What came from one coordinator: the number behind which its next news is to come, and whether nothing is
+    missing up to there."""
 
     last: int = 0
     is_current: bool = False
 
 
 class Coverage:
-    """From whom packets are missing, and which states need not be taken in, since all that they say came in other packets.
+    """From whom packets are missing, and which states need not be taken in, since all that they say came in other
+    packets.
 
-    A coordinator's news has odd numbers, one after another, and a state behind news has the next number. So news that does
-    not follow says that something is missing. From then on the sender's states are wanted, until one comes that was sent
-    meanwhile. The states that the broker kept may be older. They come when they are asked for, and then all are taken in that
-    say something new, whatever the numbers are: so a wrong number makes a state wait until then, and no longer."""
+    A coordinator's news has odd numbers, one after another, and a state behind news has the next number. So news
+    that does not follow says that something is missing. From then on the sender's states are wanted, until one comes
+    that was sent meanwhile. The states that the broker kept may be older. They come when they are asked for, and
+    then all are taken in that say something new, whatever the numbers are: so a wrong number makes a state wait
+    until then, and no longer."""
 
     def __init__(self) -> None:
         self._heard: dict[int, _Heard] = collections.defaultdict(_Heard)
