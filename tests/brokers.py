@@ -1,5 +1,5 @@
-"""A broker and bridges as processes on the loopback address, for tests/bridged.py, examples/brokered/run and bench/bridge. All of them
-end with whoever started them, by `with`."""
+"""A broker and bridges as processes on the loopback address, for tests/bridged.py, examples/brokered/run and
+bench/bridge. All of them end with whoever started them, by `with`."""
 import getpass
 import importlib.util
 import json
@@ -26,7 +26,8 @@ QUICK = ["--cut-interval", "0.05", "--state-interval", "0.3", "--refresh", "1", 
 
 
 def mosquitto():
-    """The program of the broker, or None: the one that MOSQUITTO names, one that is found, or the one where Debian has it."""
+    """The program of the broker, or None: the one that MOSQUITTO names, one that is found, or the one where Debian
+    has it."""
     named = os.environ.get("MOSQUITTO")
     found = named or shutil.which("mosquitto") or "/usr/sbin/mosquitto"
     return found if os.access(found, os.X_OK) else None
@@ -106,8 +107,8 @@ class Bridge:
     def __init__(self, port, number, *words, cluster="test", program=PROGRAM):
         self.number, self.heard = number, bytearray()
         self.said = tempfile.TemporaryFile()
-        command = [BRIDGE, "--cluster", cluster, "--number", str(number), "--broker", f"127.0.0.1:{port}", "--program", program, "--json", *words]
-        self.run = subprocess.Popen(command, stdin=subprocess.PIPE, stdout=subprocess.PIPE, stderr=self.said, bufsize=0)
+        command = [BRIDGE, "--cluster", cluster, "--number", str(number), "--broker", f"127.0.0.1:{port}", "--program", program]
+        self.run = subprocess.Popen([*command, "--json", *words], stdin=subprocess.PIPE, stdout=subprocess.PIPE, stderr=self.said, bufsize=0)
         self.changed = threading.Condition()
         self.reader = threading.Thread(target=self.read, daemon=True)
         self.reader.start()

@@ -1,5 +1,5 @@
-"""MQTT 3.1.1 as far as tests/bridged.py wants it: a client that publishes and listens, and a proxy between bridges and broker that drops,
-repeats and swaps messages, or is cut off."""
+"""MQTT 3.1.1 as far as tests/bridged.py wants it: a client that publishes and listens, and a proxy between bridges
+and broker that drops, repeats and swaps messages, or is cut off."""
 import random
 import socket
 import struct
@@ -101,7 +101,8 @@ class End:
 
 
 class Way:
-    """One direction of a connection: packets go on from a source to a sink, and messages of the cluster meet with faults."""
+    """One direction of a connection: packets go on from a source to a sink, and messages of the cluster meet with
+    faults."""
 
     def __init__(self, proxy, near, far):
         self.proxy, self.near, self.far, self.held = proxy, near, far, None

@@ -47,7 +47,7 @@ class Bridge:
         self._inbox = Inbox(settings.number, self._outbox, self._counts, self._telling)
         self._lines, self._answers = Lines(0, self._wake), Answers(1, self._wake)
         self._journal: Optional[Journal] = None
-        self._connection = self._turn = self._newcomers = self._accepted = 0
+        self._connection = self._turn = self._accepted = 0
         self._has_begun = False
         self._answered: list[tuple[float, int]] = []
         self._oldest, self._back_at, self._refresh_at = 0.0, time.monotonic(), time.monotonic() + settings.refresh
@@ -175,7 +175,7 @@ class Bridge:
         can_tell = self._lines.is_waiting() and self._answers.has_room() and not self._stopping
         return (can_tell or self._mailbox.has_news() or self._is_exchange_due()
                 or (self._claim.is_lost and not self._stopping) or self._connection != self._broker.connection
-                or self._newcomers != self._claim.newcomers)
+                or bool(self._claim.newcomers))
 
     def _step(self) -> None:
         self._look_at_connection()
@@ -183,8 +183,13 @@ class Bridge:
         self._tell()
         if self._is_exchange_due():
             self._exchange()
-        if self._outbox.is_state_due() and self._can_send_state():
-            self._send_state()
+        if self._outbox.is_state_due() and self._can_send_state() and not self._coordinator.own_news():
+            self._send_state(self._coordinator.cut_state())
+        if self._outbox.is_unheard_of() and not self._coordinator.own_news():
+            # news of nothing, by whose number the others see that they want the state
+            self._outbox.send_news(self._coordinator.cut_news(with_state=False)[0])
+        if self._can_send_state():
+            self._broker.hear_states(self._inbox.coverage.missing() | {self._settings.number})
         self._answers.let_go(self._outbox.confirmed if self._settings.is_confirmed else self._accepted)
         self._look_at_times()
 
@@ -216,7 +221,7 @@ class Bridge:
 
     def _shorten(self, journal: Journal) -> None:
         """Writes the journal anew as one packet of all that is known, if a line can hand that over."""
-        packet = self._coordinator.cut_all()
+        packet = self._coordinator.cut_state()
         if len(packet) <= most_packet(self._settings.number):
             journal.replace(take_line(self._settings.number, packet))
         else:
@@ -236,10 +241,7 @@ class Bridge:
         """Cuts its own news and sends it, and then takes in what came."""
         is_back, turn = self._claim.is_back(), self._claim.came_back
         if self._coordinator.own_news():
-            packet = self._coordinator.cut_own()
-            self._outbox.send_news(packet)
-            self._trace("cut", number=number_of(packet), answered=self._answered)
-            self._answered = []
+            self._send_news()
         self._hear(with_packets=True)
         if self._coordinator.is_to_renew():
             self._coordinator.renew()
@@ -256,6 +258,16 @@ class Bridge:
             self._counts.foreign += 1
             self._telling.say("foreign", "somebody else published a state on this coordinator's topic; it was taken in")
             self._outbox.want_state(self._settings.state_interval)
+
+    def _send_news(self) -> None:
+        """Cuts and sends its own news, and a state behind it if that is due."""
+        self._outbox.want_news()
+        packet, state = self._coordinator.cut_news(self._outbox.is_state_due() and self._can_send_state())
+        self._outbox.send_news(packet)
+        self._trace("cut", number=number_of(packet), answered=self._answered)
+        self._answered = []
+        if state is not None:
+            self._send_state(state)
 
     def _hear(self, with_packets: bool) -> None:
         """Looks at what came, and takes packets in."""
@@ -288,8 +300,7 @@ class Bridge:
         """Whether the broker is there, and what it kept came."""
         return self._broker.is_connected and self._claim.is_back()
 
-    def _send_state(self) -> None:
-        packet = self._coordinator.cut_all()
+    def _send_state(self, packet: bytes) -> None:
         if not self._outbox.send_state(packet, self._accepted):
             most = most_packet(self._settings.number)
             why = f"the state has {len(packet)} bytes, and no line can hand over more than {most}"
@@ -307,8 +318,9 @@ class Bridge:
             self._inbox.coverage.forget()
             self._inbox.own_state = None
             self._telling.say("connection", "the connection was lost and is made again", connection=self._connection)
-        if self._newcomers != self._claim.newcomers:
-            self._newcomers = self._claim.newcomers
+        while self._claim.newcomers:
+            # who comes, or comes back, may have sent what was not heard here
+            self._inbox.coverage.missed(self._claim.newcomers.popleft())
             if self._outbox.is_stale:
                 self._outbox.want_state(0, delay=random.uniform(0, SPREAD))
 

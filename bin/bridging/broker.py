@@ -12,12 +12,13 @@ from paho.mqtt.subscribeoptions import SubscribeOptions
 from bridging.claims import Claim
 from bridging.endings import BROKER_REFUSES, NO_BROKER, Failure
 from bridging.mailbox import Mailbox, Message, Parcel
+from bridging.packets import NUMBERS
 from bridging.settings import Settings
 
 KEEP_ALIVE = 20
 FIRST_DELAY, LAST_DELAY = 0.25, 30.0
 QOS = 1
-NUMBERS = {str(number): number for number in range(1, 65)}
+LABELS = {str(number): number for number in NUMBERS}
 
 
 class Broker:
@@ -31,6 +32,7 @@ class Broker:
         self._over, self._closing = threading.Event(), threading.Event()
         self._answer: Optional[str] = None
         self.is_connected, self.connection = False, 0
+        self._states: set[int] = set()
 
     def topic(self, kind: str, number: Any = "+") -> str:
         return f"fetohamu/{self._settings.cluster}/{kind}/{number}"
@@ -167,7 +169,7 @@ class Broker:
             kind, _, label = message.topic.rpartition("/")
         except UnicodeDecodeError:
             kind, label = "", ""
-        number = NUMBERS.get(label)
+        number = LABELS.get(label)
         if number is None:
             self._mailbox.put_strange()
         elif not kind.endswith("/hello"):
@@ -189,9 +191,21 @@ class Broker:
 
     def ask_again(self, is_new: bool) -> None:
         """Has the broker send the states that it keeps once more, and behind them the claim."""
-        client = self._client
-        client.subscribe([(self.topic(kind), self._option(kind)) for kind in ("hello", "deltas", "state")])
+        client, self._states = self._client, set(NUMBERS)
+        topics = [(self.topic(kind), self._option(kind)) for kind in ("hello", "deltas")]
+        client.subscribe(topics + [(self.topic("state", number), self._option("state")) for number in NUMBERS])
         client.publish(self.topic("hello", self._settings.number), self._claim.ask(is_new), QOS)
+
+    def hear_states(self, numbers: set[int]) -> None:
+        """Has the broker send the states of these coordinators alone."""
+        if numbers == self._states:
+            return
+        more, less = numbers - self._states, self._states - numbers
+        self._states = numbers
+        if more:
+            self._client.subscribe([(self.topic("state", number), self._option("state")) for number in sorted(more)])
+        if less:
+            self._client.unsubscribe([self.topic("state", number) for number in sorted(less)])
 
     def _option(self, kind: str) -> Any:
         """How a topic is subscribed to: in version 5 without the packets that were sent from here."""

@@ -5,6 +5,7 @@ that ask at the same time, or that both have the number since neither could hear
 and both work out the same. A claim comes back to its sender too, behind all states that the broker kept: so its return
 says that these are here.
 """
+import collections
 import dataclasses
 import json
 import secrets
@@ -12,7 +13,7 @@ import threading
 import time
 from typing import Optional
 
-MOST_CLAIM = 1000
+MOST_CLAIM, MOST_NEWCOMERS = 1000, 64
 Rank = tuple[bool, float, str]
 
 
@@ -46,7 +47,9 @@ class Claim:
         self._number, self._token, self._since, self._turn = number, secrets.token_hex(8), time.time(), 0
         self._turning = threading.Lock()
         self.is_running = self.is_lost = False
-        self.came_back = self.newcomers = 0
+        self.came_back = 0
+        # the numbers of others that connected, which the thread of the bridge takes out
+        self.newcomers: collections.deque[int] = collections.deque(maxlen=MOST_NEWCOMERS)
 
     @property
     def token(self) -> str:
@@ -81,7 +84,8 @@ class Claim:
             if number == self._number and said.taken is None:
                 self.came_back = max(self.came_back, said.turn)
         elif number != self._number:
-            self.newcomers += said.is_new
+            if said.is_new:
+                self.newcomers.append(number)
         elif said.taken == self._token:
             self.is_lost = True
         elif said.taken is None and self.rank() < said.rank:

@@ -4,9 +4,13 @@ What is taken in from others becomes a delta too, and `news` would send it out a
 ever. So the deltas that came from others are kept apart: they are taken in only right after the coordinator's own were
 cut, and the next cut begins behind them (Enes and others, Efficient Synchronization of State-Based CRDTs, 2019: no
 back-propagation of delta groups).
+
+Packets of news have odd numbers, and those of all that is known even ones: each cut takes two numbers, one of them for
+nothing if need be. So whoever gets the news alone sees by its numbers whether some of it is missing.
 """
 import json
 from collections.abc import Sequence
+from typing import Optional
 
 from bridging.endings import FOLLOWER_ENDED, Failure
 from bridging.follower import MOST_LINE, NO_LINE, Follower, is_accepted
@@ -57,6 +61,8 @@ class Coordinator:
                 continue
             if kind is Kind.STRANGE:
                 raise Failure(FOLLOWER_ENDED, "the follower accepted a line that the bridge cannot read")
+            if kind is Kind.CUT:
+                self._skip()
             if kind in (Kind.TELL, Kind.ROUND):
                 if kind is Kind.ROUND and b" accepted\n" in answer:
                     rounds.append((len(again), self.deltas))
@@ -65,7 +71,10 @@ class Coordinator:
         # a round that is done again may come to something else, so what came of it is kept in its place
         for place, delta in rounds:
             again[place] = take_line(self.number, self._cut({"from": delta, "to": delta + 1}))
+            self._skip()
         return answers, again
+
+    # packets
 
     def _cut(self, interval: dict[str, int]) -> bytes:
         """A packet of the interval, or of all that is known if there is none."""
@@ -75,14 +84,23 @@ class Coordinator:
         self._entries += 1
         return bytes.fromhex(answer.partition(b"\n")[0].decode())
 
-    def cut_own(self) -> bytes:
-        """A packet of its own deltas since the last such cut."""
+    def _skip(self) -> None:
+        """Takes a number for a packet that is not sent."""
+        self._cut({"from": self.deltas, "to": self.deltas})
+
+    def cut_news(self, with_state: bool) -> tuple[bytes, Optional[bytes]]:
+        """A packet of its own deltas since the last such cut, and behind it one of all that it knows if that is
+        asked for."""
         packet = self._cut({"from": self.own, "to": self.deltas})
         self.own = self.deltas
-        return packet
+        if with_state:
+            return packet, self._cut({})
+        self._skip()
+        return packet, None
 
-    def cut_all(self) -> bytes:
+    def cut_state(self) -> bytes:
         """A packet of all that it knows."""
+        self._skip()
         return self._cut({})
 
     def take(self, packets: Sequence[bytes]) -> list[bool]:

@@ -42,7 +42,7 @@ class Inbox:
             self._counts.repeated += 1
             return False
         else:
-            self.coverage.delta(parcel.sender, number)
+            self.coverage.news(parcel.sender, number)
         self._digests.add(digest)
         self._seen.add(content)
         return True

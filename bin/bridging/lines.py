@@ -17,7 +17,8 @@ class Kind(enum.Enum):
 
     TELL = "an operation or a packet, which adds a delta if it is accepted"
     ROUND = "a round, which adds a delta if it is accepted"
-    QUESTION = "a question, or a cut of all that is known, which add none"
+    CUT = "a cut of all that is known, which adds no delta, and takes the number of a packet"
+    QUESTION = "a question, which adds nothing"
     OURS = "what the bridge does itself, and nobody else may"
     STRANGE = "nothing, so the follower refuses it"
 
@@ -39,7 +40,7 @@ def kind_of(line: bytes) -> Kind:
         return Kind.STRANGE
     (asked,) = others
     if asked == "cut" and value["cut"] == {}:
-        return Kind.QUESTION
+        return Kind.CUT
     return KINDS.get(asked, Kind.STRANGE)
 
 

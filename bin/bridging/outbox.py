@@ -38,19 +38,33 @@ class Outbox:
         self._last_time = -settings.state_interval
         self.last_state: Optional[bytes] = None
         self.is_stale, self.is_too_large, self.confirmed = False, False, 0
+        self._has_left = False
 
     # news
 
     def send_news(self, packet: bytes) -> None:
-        if self._broker.is_connected and len(self._waiting) < self._settings.queue and len(packet) <= self._most_packet:
+        if self._has_room() and len(packet) <= self._most_packet:
+            self._has_left = False
             self._sent.add(digest_of(packet))
             self._waiting[self._broker.publish("deltas", packet)] = time.monotonic()
             self._counts.sent += 1
             self._counts.sent_bytes += len(packet)
         else:
-            # the number that is missing tells the others that the next state says more
+            # the number that is missing tells the others, with the next news, that something is
+            self._has_left = True
             self._counts.left_to_state += 1
         self.is_stale = True
+
+    def _has_room(self) -> bool:
+        return self._broker.is_connected and len(self._waiting) < self._settings.queue
+
+    def is_unheard_of(self) -> bool:
+        """Whether news was left to a state that the broker now keeps, and others do not know yet that they miss
+        something."""
+        return self._has_left and self._in_flight is None and self._due is None and self._has_room()
+
+    def want_news(self) -> None:
+        """There is news, which is to be in a state in time."""
         self.want_state(self._settings.cut_interval if self._settings.is_confirmed else self._settings.state_interval)
 
     def is_own(self, digest: bytes) -> bool:
@@ -111,7 +125,8 @@ class Outbox:
     # what goes wrong
 
     def lost(self) -> None:
-        """The connection is no more: what it did not carry is left to the next state."""
+        """The connection is no more: what it did not carry is left to the next state. The claim of the next connection
+        tells the others that something may be missing."""
         if self._waiting or self._in_flight is not None or self.is_stale:
             self.is_stale = True
             self.want_state(0)

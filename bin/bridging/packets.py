@@ -6,6 +6,8 @@ import hashlib
 import struct
 from typing import Optional
 
+# the numbers of coordinators
+NUMBERS = range(1, 65)
 HEAD = struct.Struct(">4sBQ")
 # so many packets are remembered as taken in
 MOST_SEEN = 4096
@@ -46,45 +48,49 @@ class Seen:
 
 @dataclasses.dataclass
 class _Heard:
-    """What came from one coordinator: the number of its last packet, if none is missing before it; and whether a
-    state came that was sent after this bridge connected."""
+    """What came from one coordinator: the number behind which its next news is to come, and whether nothing is
+    missing up to there."""
 
-    last: Optional[int] = None
+    last: int = 0
     is_current: bool = False
 
 
 class Coverage:
-    """Which states of others need not be taken in, since all that they say came in other packets.
+    """From whom packets are missing, and which states need not be taken in, since all that they say came in other
+    packets.
 
-    A coordinator's packets are numbered one by one, so a state behind packets of which none is missing says nothing
-    more, once a state came that has what its sender knew when this bridge connected. Of the states that the broker
-    kept this is not asked: they come when they are asked for again, and then all are taken in that say something
-    new. So a number that is wrong makes a state wait until then, and no longer."""
+    A coordinator's news has odd numbers, one after another, and a state behind news has the next number. So news
+    that does not follow says that something is missing. From then on the sender's states are wanted, until one comes
+    that was sent meanwhile. The states that the broker kept may be older. They come when they are asked for, and
+    then all are taken in that say something new, whatever the numbers are: so a wrong number makes a state wait
+    until then, and no longer."""
 
     def __init__(self) -> None:
         self._heard: dict[int, _Heard] = collections.defaultdict(_Heard)
 
-    def delta(self, sender: int, number: Optional[int]) -> None:
+    def news(self, sender: int, number: Optional[int]) -> None:
         """A packet of the sender's news was taken in."""
         heard = self._heard[sender]
-        heard.last = number if number is not None and heard.last is not None and number == heard.last + 1 else None
+        heard.is_current = heard.is_current and number == heard.last + 1
+        heard.last += 2
 
     def missed(self, sender: int) -> None:
         """A packet of the sender was not taken in."""
-        self._heard[sender] = _Heard()
+        self._heard[sender].is_current = False
 
     def covers(self, sender: int, number: Optional[int], was_kept: bool) -> bool:
-        """Whether a state of the sender says nothing that did not come before. Of one that the broker kept it is not
-        known what was sent behind it."""
+        """Whether a state of the sender says nothing that did not come before."""
         heard = self._heard[sender]
-        follows = heard.last is not None and number == heard.last + 1
-        is_covered = heard.is_current and follows and not was_kept
-        if not was_kept or heard.last is None:
-            heard.last = number
-        heard.is_current = heard.is_current or not was_kept
+        if was_kept or number is None:
+            return False
+        is_covered = heard.is_current and number == heard.last
+        heard.last, heard.is_current = number, True
         return is_covered
+
+    def missing(self) -> set[int]:
+        """The numbers of those from whom something may be missing."""
+        return {number for number in NUMBERS if not self._heard[number].is_current}
 
     def forget(self) -> None:
         """The connection was lost, so packets may be missing of all."""
-        for heard in self._heard.values():
-            heard.last, heard.is_current = None, False
+        self._heard.clear()

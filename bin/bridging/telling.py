@@ -34,11 +34,11 @@ class Counts:
     def text(self) -> str:
         return (f"{self.told} lines told, {self.refused_lines} refused; "
                 f"{self.sent} packets ({self.sent_bytes} bytes) and {self.states_sent} states "
-                f"({self.states_sent_bytes} bytes) sent, {self.left_to_state} left to a state; {self.received} received ({self.received_bytes} bytes): "
-                f"{self.taken} taken in, {self.repeated} repeated, {self.covered} known by other packets, "
-                f"{self.refused} refused, {self.dropped} dropped, {self.too_large} too large, "
-                f"{self.strange} of no coordinator; {self.unacknowledged} not acknowledged, "
-                f"{self.lost_connections} connections lost")
+                f"({self.states_sent_bytes} bytes) sent, {self.left_to_state} left to a state; "
+                f"{self.received} received ({self.received_bytes} bytes): {self.taken} taken in, "
+                f"{self.repeated} repeated, {self.covered} known by other packets, {self.refused} refused, "
+                f"{self.dropped} dropped, {self.too_large} too large, {self.strange} of no coordinator; "
+                f"{self.unacknowledged} not acknowledged, {self.lost_connections} connections lost")
 
 
 class Telling:
