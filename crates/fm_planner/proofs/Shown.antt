@@ -1,20 +1,20 @@
 -- A claim that passes the checks makes a plan of a least flow.
-use Rattle.std.proofs.Common.{◌≡◌, ◌∙◌, sym, ap, subst, refl, inl, inr, ℕ, zero, suc, ◌+◌, ◌-◌, ◌<◌, ◌≤◌, ◌==◌, ◌&&◌, ◌⊎◌, not, Bool, true, false, cond, List, [], ◌∷◌, Some, None, option_map, count_by, IsTrue, eq-eqb, eqb-true, arith}
+use Rattle.std.proofs.Common.{◌≡◌, ◌∙◌, sym, ap, subst, refl, inl, inr, ℕ, zero, suc, ◌+◌, ◌-◌, ◌<◌, ◌≤◌, ◌==◌, ◌&&◌, ◌⊎◌, not, Bool, true, false, cond, List, [], ◌∷◌, Some, None, option_map, count_by, IsTrue, eq-eqb, eqb-true, arith, Option, min}
 use Rattle.std.specs.Ordering.{nat_cmp}
 use Rattle.fm_lattice.specs.Chains.{nat_same}
 use Rattle.fm_lattice.specs.Maps.{lookup, IsRising}
 use Rattle.fm_records.specs.declared.records.SpecReg.{SpecReg}
 use Rattle.fm_records.specs.declared.records.JobReg.{JobReg}
 use Rattle.fm_records.specs.declared.records.MachineReg.{MachineReg}
-use Rattle.fm_records.specs.Options.{or_else, passes}
+use Rattle.fm_records.specs.Options.{or_else, passes, and_then, when}
 use Rattle.fm_records.specs.Ranges.{CanBe}
 use Rattle.fm_records.specs.LookupLaws.{both_true}
 use Rattle.fm_records.specs.Table.{Table}
 use Rattle.fm_records.specs.Facts.{job_of, live_spec, is_live, open_state, holder_of, holds, load_of}
 use Rattle.fm_net.specs.ListLaws.{entry_member}
-use Rattle.fm_net.specs.declared.node.Node.TheVariants.{Request, Task}
-use Rattle.fm_net.specs.Network.{is_node, is_held, is_live_of, waits_for, room_arc, preferred_arc}
-use Rattle.fm_net.specs.NetworkLaws.{passed, came_from, room_from}
+use Rattle.fm_net.specs.declared.node.Node.TheVariants.{Unscheduled, Request, Machine, Task}
+use Rattle.fm_net.specs.Network.{is_node, is_held, is_live_of, waits_for, room_arc, preferred_arc, arc_of}
+use Rattle.fm_net.specs.NetworkLaws.{passed, came_from, mapped_from, room_from}
 use Rattle.fm_certificate.proofs.Members.{member_lookup}
 use Rattle.std.specs.Cmp.{nat_cmp_total}
 use Rattle.fm_tally.specs.declared.tally.LiveTask.{LiveTask}
@@ -24,7 +24,7 @@ use Rattle.fm_tally.specs.Tallies.{has_any, task_at, TallyIsFor}
 use Rattle.fm_ways.specs.declared.way.Way.{Way}
 use Rattle.fm_ways.specs.declared.way.Way.TheVariants.{ToJob, ByRequest, Straight}
 use Rattle.fm_ways.specs.Ways.{MayGo, ways_of, goes_by, takes_slot}
-use Rattle.fm_ways.specs.Prices.{cost_from, AreFair}
+use Rattle.fm_ways.specs.Prices.{first_node, arc_cost, cost_beyond, cost_from, AreFair}
 use Rattle.fm_ways.specs.Plans.{InTurn, all_at_jobs}
 use Rattle.fm_ways.specs.Moves.{rest_at, rest, moved, AreMoves, FitMoves}
 use Rattle.fm_ways.proofs.Moves.{asked_count, slot_count}
@@ -34,7 +34,7 @@ use Rattle.fm_planner.specs.declared.claim.Claim.{Claim}
 use Rattle.fm_planner.specs.declared.counts.Counts.{Counts}
 use Rattle.fm_planner.specs.Claims.{rise_of, price_of, offer_of}
 use Rattle.fm_planner.specs.Counts.{AreCounts}
-use Rattle.fm_planner.specs.Checks.{IsPlain, IsFairAtRest, IsFairTask, Leaves, Asks, IsFairMove, IsFairOffer, IsFairMachine, Passes, fits}
+use Rattle.fm_planner.specs.Checks.{AllOf, IsFairAtRest, IsFairTask, load_in, straight_cost, own_cost, HasRoom, IsNoCheaper, Leaves, Asks, GoesStraight, IsFairMove, HasMoreRoom, HasFairSlots, IsFairOffer, IsFairMachine, GoInTurn, Passes, fits}
 use Rattle.fm_planner.proofs.Lists.{all_at, counted_member}
 use Rattle.fm_planner.proofs.Entries.{task_found, entry_of, in_tally, open_of, machine_found, open_in_tally, room_is, spare_left}
 use Rattle.fm_planner.proofs.Turns.{in_turn}
@@ -48,9 +48,9 @@ some_is e = cc
 both_ways : {P : Type 0} {b : Bool} → b ≡ true → b ≡ false → P
 both_ways e f = absurd (let no : ⊥ = cc in no)
 
-none_preferred : {P : Type 0} (xs : List (ℕ × ℕ)) (m c : ℕ) → has_any xs ≡ false → lookup nat_cmp m xs ≡ Some c → P
-none_preferred [] m c none e = no_some e
-none_preferred (x ∷ xs) m c none e = both_ways refl none
+some_preferred : (xs : List (ℕ × ℕ)) (m c : ℕ) → lookup nat_cmp m xs ≡ Some c → has_any xs ≡ true
+some_preferred [] m c e = no_some e
+some_preferred (x ∷ xs) m c e = refl
 
 none_or_some : (n : ℕ) → (n ≡ 0) ⊎ (1 ≤ n)
 none_or_some zero = inl refl
@@ -66,15 +66,15 @@ job_straight e = absurd (let no : ⊥ = cc in no)
 straight_request : {P : Type 0} {p r m : ℕ} → Straight p ≡ ByRequest r m → P
 straight_request e = absurd (let no : ⊥ = cc in no)
 
-module _ (k : Table) (tally : Tally) (claim : Claim) (counts : Counts) (is_for : TallyIsFor k tally) (counted : AreCounts k claim.moves counts) (can_be : CanBe k) (rises : IsRising nat_cmp claim.moves) (tested : Passes tally claim counts) where
+module _ (k : Table) (tally : Tally) (claim : Claim) (counts : Counts) (is_for : TallyIsFor k tally) (counted : AreCounts k claim.moves counts) (can_be : CanBe k) (rises : IsRising nat_cmp claim.moves) (tested : Passes k tally claim counts) where
   abbrev way : ℕ → Way
   way = moved k claim.moves
 
-  fair_task : (t : ℕ) (x : LiveTask) → task_at k t ≡ Some x → IsFairTask claim (t, x)
-  fair_task t x e = all_at (IsFairTask claim) tally.tasks tested.tasks t x (is_for.tasks t ∙ e)
+  fair_task : (t : ℕ) (x : LiveTask) → task_at k t ≡ Some x → IsFairTask k tally claim (t, x)
+  fair_task t x e = all_at (IsFairTask k tally claim) tally.tasks tested.tasks t x (is_for.tasks t ∙ e)
 
-  fair_move : (t : ℕ) (w : Way) → lookup nat_cmp t claim.moves ≡ Some w → IsFairMove tally claim counts (t, w)
-  fair_move t w e = all_at (IsFairMove tally claim counts) claim.moves tested.moves t w e
+  fair_move : (t : ℕ) (w : Way) → lookup nat_cmp t claim.moves ≡ Some w → IsFairMove k tally claim counts (t, w)
+  fair_move t w e = all_at (IsFairMove k tally claim counts) claim.moves tested.moves t w e
 
   fair_machine : (m : ℕ) (state : MachineReg) → open_state k m ≡ Some state → IsFairMachine claim counts (m, open_of k m state)
   fair_machine m state e = all_at (IsFairMachine claim counts) tally.machines tested.machines m (open_of k m state) (is_for.machines m ∙ open_in_tally k m state e)
@@ -135,6 +135,61 @@ module _ (k : Table) (tally : Tally) (claim : Claim) (counts : Counts) (is_for :
         price = let price = a.price in omega (arith, load, price);
       }
 
+  -- the load of an open machine, by the tally
+  load_is : (m : ℕ) (state : MachineReg) → open_state k m ≡ Some state → load_in tally m ≡ load_of k m
+  load_is m state e = ap (λ (o : Option OpenMachine). or_else 0 (option_map (λ (y : OpenMachine). y.load) o)) (is_for.machines m ∙ open_in_tally k m state e)
+
+  record Straightly (t m : ℕ) : Type 0 where
+    pub spec : SpecReg
+    pub live : live_spec k t ≡ Some spec
+    pub free : is_held k t ≡ false
+    pub credit : ℕ
+    pub preferred : lookup nat_cmp m spec.prefer ≡ Some credit
+    pub load : load_in tally m ≡ load_of k m
+    pub arc : preferred_arc k spec m ≡ Some (1, spec.request + load_of k m - credit)
+    pub below_waiting : (job : JobReg) → job_of k spec.job ≡ Some job → spec.request + load_of k m - credit + rise_of claim m ≤ job.wait
+    pub below_request : spec.request + load_of k m - credit + rise_of claim m ≤ offer_of claim spec.request + spec.request
+
+  straightly : (t m : ℕ) → GoesStraight k tally claim t m → Straightly t m
+  straightly t m g =
+      let f = task_found k t g.task (sym (is_for.tasks t) ∙ g.found) in
+      let y = machine_found k m g.roomy.machine (sym (is_for.machines m) ∙ g.roomy.open_there) in
+      let one : f.spec ≡ g.spec = some_is (sym f.live ∙ g.live) in
+      let request : g.task.request ≡ g.spec.request = sym (ap (λ (x : LiveTask). x.request) f.is) ∙ ap (λ (x : SpecReg). x.request) one in
+      let free : is_held k t ≡ false = ap (passes (λ (x : ℕ). true)) (ap (λ (x : LiveTask). x.holder) f.is ∙ g.waits) in
+      let price : f.job.wait ≡ g.task.price = ap (λ b. cond b f.job.preempt f.job.wait) (sym free) ∙ ap (λ (x : LiveTask). x.price) f.is in
+      let load = load_is m y.0 y.1 in
+      let left = ap (λ (o : OpenMachine). o.spare) y.2 ∙ g.roomy.left in
+      let room = room_is k g.spec.request m y.0 g.roomy.spare y.1 left (let r = g.roomy.room in omega (arith, request, r)) in
+      let cost : straight_cost tally claim g.task.request (m, g.credit) ≡ g.spec.request + load_of k m - g.credit + rise_of claim m = λ i. request i + load i - g.credit + rise_of claim m in
+      record {
+        spec = g.spec;
+        live = g.live;
+        free = free;
+        credit = g.credit;
+        preferred = g.preferred;
+        load = load;
+        arc = ap (and_then (λ credit. option_map (λ (a : ℕ × ℕ). (1, a.1 - credit)) (room_arc k g.spec.request m))) g.preferred ∙ ap (option_map (λ (a : ℕ × ℕ). (1, a.1 - g.credit))) room;
+        below_waiting = λ job known.
+            let same : f.job ≡ job = some_is (sym f.known ∙ ap (λ (x : SpecReg). job_of k x.job) one ∙ known) in
+            let wait = ap (λ (x : JobReg). x.wait) same in
+            let below = g.below_waiting in
+            omega (arith, price, wait, cost, below);
+        below_request =
+            let below = g.below_request in
+            let paid : offer_of claim g.task.request + g.task.request ≡ offer_of claim g.spec.request + g.spec.request = ap (λ r. offer_of claim r + r) request in
+            omega (arith, cost, below, paid);
+      }
+
+  straight_arc : (t m : ℕ) (s : Straightly t m) → arc_of k (Task t) (Machine m) ≡ Some (1, s.spec.request + load_of k m - s.credit)
+  straight_arc t m s =
+      ap (λ b. cond b (when (holds k m t) (1, 0)) (and_then (λ x. preferred_arc k x m) (live_spec k t))) s.free
+      ∙ ap (and_then (λ x. preferred_arc k x m)) s.live
+      ∙ s.arc
+
+  move_straight : (t m : ℕ) → lookup nat_cmp t claim.moves ≡ Some (Straight m) → Straightly t m
+  move_straight t m e = straightly t m (fair_move t (Straight m) e)
+
   move_left : (t j : ℕ) → lookup nat_cmp t claim.moves ≡ Some (ToJob j) → Left t j
   move_left t j e = left_is t j (fair_move t (ToJob j) e)
 
@@ -170,7 +225,7 @@ module _ (k : Table) (tally : Tally) (claim : Claim) (counts : Counts) (is_for :
       live : (t : ℕ) (w : Way) → lookup nat_cmp t claim.moves ≡ Some w → is_live k t ≡ true
       live t (ToJob j) e = let l = move_left t j e in let s = passed (λ (s : SpecReg). s.job == j) (live_spec k t) l.live in ap (passes (λ (s : SpecReg). true)) s.1
       live t (ByRequest r m) e = let a = move_asked t r m e in let s = waits_spec k t r a.waits in ap (passes (λ (s : SpecReg). true)) s.1
-      live t (Straight m) e = absurd (fair_move t (Straight m) e)
+      live t (Straight m) e = ap (passes (λ (s : SpecReg). true)) (move_straight t m e).live
 
   asked_move : (r m : ℕ) → 1 ≤ count_by (goes_by r m) claim.moves → (t : ℕ) × Asked t r m
   asked_move r m some =
@@ -193,7 +248,7 @@ module _ (k : Table) (tally : Tally) (claim : Claim) (counts : Counts) (is_for :
       may : (t : ℕ) (w : Way) → lookup nat_cmp t claim.moves ≡ Some w → MayGo k t w
       may t (ToJob j) e = (move_left t j e).live
       may t (ByRequest r m) e = let a = move_asked t r m e in (a.waits, (a.capacity, r + load_of k m), a.room)
-      may t (Straight m) e = absurd (fair_move t (Straight m) e)
+      may t (Straight m) e = let s = move_straight t m e in ((1, s.spec.request + load_of k m - s.credit), straight_arc t m s)
 
       room : (r m : ℕ) (v : ℕ × ℕ) → room_arc k r m ≡ Some v → count_by (goes_by r m) claim.moves ≤ v.0
       room r m v arc = elim (none_or_some (count_by (goes_by r m) claim.moves)) [
@@ -209,6 +264,50 @@ module _ (k : Table) (tally : Tally) (claim : Claim) (counts : Counts) (is_for :
       slots : (m : ℕ) (state : MachineReg) → open_state k m ≡ Some state → count_by (λ e. holds k m e.0) k.tasks + count_by (takes_slot m) claim.moves ≤ state.slots + count_by (λ w. holds k m w.0) claim.moves
       slots m state e = let enough = (fair_machine m state e).slots.enough in omega (arith, enough, counted.arriving m, counted.leaving m)
 
+  -- what tasks cost
+
+  abbrev cost : ℕ → ℕ
+  cost t = cost_from k (price_of k claim) (offer_of claim) way (Task t)
+
+  cost_along : (t : ℕ) (w : Way) → way t ≡ w → cost t ≡ arc_cost k (Task t) (first_node w) + cost_beyond k (price_of k claim) (offer_of claim) (first_node w)
+  cost_along t w is = ap (λ x. arc_cost k (Task t) (first_node x) + cost_beyond k (price_of k claim) (offer_of claim) (first_node x)) is
+
+  cost_straight : (t m : ℕ) → way t ≡ Straight m → (s : Straightly t m) → cost t ≡ s.spec.request + load_of k m - s.credit + rise_of claim m
+  cost_straight t m is s =
+      let arc : arc_cost k (Task t) (Machine m) ≡ s.spec.request + load_of k m - s.credit = ap (λ (o : Option (ℕ × ℕ)). or_else 0 (option_map (λ (v : ℕ × ℕ). v.1) o)) (straight_arc t m s) in
+      omega (arith, cost_along t (Straight m) is, arc)
+
+  cost_at_job : (t : ℕ) (s : SpecReg) (job : JobReg) → live_spec k t ≡ Some s → job_of k s.job ≡ Some job → way t ≡ ToJob s.job → cost t ≡ cond (is_held k t) job.preempt job.wait
+  cost_at_job t s job live known is =
+      let own : is_live_of k s.job t ≡ true = ap (passes (λ (x : SpecReg). x.job == s.job)) live ∙ eq-eqb s.job s.job refl in
+      let arc : arc_of k (Task t) (Unscheduled s.job) ≡ Some (1, cond (is_held k t) job.preempt job.wait) = ap (λ b. cond b (option_map (λ (x : JobReg). (1, cond (is_held k t) x.preempt x.wait)) (job_of k s.job)) None) own ∙ ap (option_map (λ (x : JobReg). (1, cond (is_held k t) x.preempt x.wait))) known in
+      let there : arc_cost k (Task t) (Unscheduled s.job) ≡ cond (is_held k t) job.preempt job.wait = ap (λ (o : Option (ℕ × ℕ)). or_else 0 (option_map (λ (v : ℕ × ℕ). v.1) o)) arc in
+      omega (arith, cost_along t (ToJob s.job) is, there)
+
+  cost_asked : (t r m : ℕ) → way t ≡ ByRequest r m → waits_for k r t ≡ true → cost t ≡ offer_of claim r + r
+  cost_asked t r m is waits =
+      let there : arc_cost k (Task t) (Request r) ≡ 0 = ap (λ b. or_else 0 (option_map (λ (v : ℕ × ℕ). v.1) (when b (1, 0)))) waits in
+      omega (arith, cost_along t (ByRequest r m) is, there)
+
+  cost_own : (t : ℕ) (s : SpecReg) (job : JobReg) → live_spec k t ≡ Some s → job_of k s.job ≡ Some job → is_held k t ≡ false → cost t ≤ own_cost tally claim (entry_of k t s job) s.prefer (lookup nat_cmp t claim.moves)
+  cost_own t s job live known free = along (lookup nat_cmp t claim.moves) refl
+    where
+      along : (o : Option Way) → lookup nat_cmp t claim.moves ≡ o → cost t ≤ own_cost tally claim (entry_of k t s job) s.prefer o
+      along None e =
+          let rests : way t ≡ rest k t = ap (or_else (rest k t)) e in
+          let at_job : all_at_jobs k t ≡ ToJob s.job = ap (λ o. ToJob (or_else 0 (option_map (λ (x : SpecReg). x.job) o))) live in
+          omega (arith, cost_at_job t s job live known (rests ∙ free_rests t free ∙ at_job))
+      along (Some (ToJob j)) e = let l = move_left t j e in both_ways (ap (passes (λ (x : ℕ). true)) l.held) free
+      along (Some (ByRequest r m)) e = omega (arith, cost_asked t r m (ap (or_else (rest k t)) e) (move_asked t r m e).waits)
+      along (Some (Straight m)) e =
+          let g = move_straight t m e in
+          let one : g.spec ≡ s = some_is (sym g.live ∙ live) in
+          let credit : or_else 0 (lookup nat_cmp m s.prefer) ≡ g.credit = ap (or_else 0) (ap (λ (x : SpecReg). lookup nat_cmp m x.prefer) (sym one) ∙ g.preferred) in
+          let request : g.spec.request ≡ s.request = ap (λ (x : SpecReg). x.request) one in
+          let load = g.load in
+          let same : g.spec.request + load_of k m - g.credit + rise_of claim m ≡ straight_cost tally claim s.request (m, or_else 0 (lookup nat_cmp m s.prefer)) = λ i. request i + sym load i - sym credit i + rise_of claim m in
+          omega (arith, cost_straight t m (ap (or_else (rest k t)) e) g, same)
+
   -- the prices
 
   pub are_fair : AreFair k way (price_of k claim) (offer_of claim)
@@ -221,7 +320,7 @@ module _ (k : Table) (tally : Tally) (claim : Claim) (counts : Counts) (is_for :
     stays = stays;
     left = left;
     asks = λ t r j m job waits is live known. way_is t (ByRequest r m) _ is (λ _ rests. never_asks t r m _ rests) (λ e. (move_asked t r m e).pays j job live known);
-    goes = λ t r j m job waits is live known. way_is t (Straight m) _ is (λ _ rests. job_straight (sym (free_rests t (not_held k t r waits)) ∙ rests)) (λ e. absurd (fair_move t (Straight m) e));
+    goes = goes;
     prefers = prefers;
   }
     where
@@ -255,7 +354,23 @@ module _ (k : Table) (tally : Tally) (claim : Claim) (counts : Counts) (is_for :
           let is_held_here : is_held k t ≡ true = ap (passes (λ (x : ℕ). true)) held in
           let price : cond (is_held k t) job.preempt job.wait ≡ job.preempt = ap (λ b. cond b job.preempt job.wait) is_held_here in
           omega (arith, here, price))
-          (λ e. absurd (fair_move t (Straight p) e))
+          (λ e. both_ways (ap (passes (λ (x : ℕ). true)) held) (move_straight t p e).free)
+
+      goes : (t r j m : ℕ) (job : JobReg) → IsTrue (waits_for k r t) → way t ≡ Straight m → IsTrue (is_live_of k j t) → job_of k j ≡ Some job → cost t ≤ min job.wait (offer_of claim r + r)
+      goes t r j m job waits is live known = way_is t (Straight m) _ is
+          (λ _ rests. job_straight (sym (free_rests t (not_held k t r waits)) ∙ rests))
+          (λ e.
+          let g = move_straight t m e in
+          let s = passed (λ (s : SpecReg). s.job == j) (live_spec k t) live in
+          let one : g.spec ≡ s.0 = some_is (sym g.live ∙ s.1) in
+          let own : g.spec.job ≡ j = ap (λ (x : SpecReg). x.job) one ∙ eqb-true s.0.job j s.2 in
+          let q = waits_spec k t r waits in
+          let other : g.spec ≡ q.0 = some_is (sym g.live ∙ q.1) in
+          let request : g.spec.request ≡ r = ap (λ (x : SpecReg). x.request) other ∙ q.2 in
+          let paid : offer_of claim g.spec.request + g.spec.request ≡ offer_of claim r + r = ap (λ x. offer_of claim x + x) request in
+          let below = g.below_waiting job (ap (job_of k) own ∙ known) in
+          let pays = g.below_request in
+          omega (arith, cost_straight t m is g, below, pays, paid))
 
       left : (t r j : ℕ) (job : JobReg) → IsTrue (waits_for k r t) → way t ≡ ToJob j → job_of k j ≡ Some job → job.wait ≤ offer_of claim r + r
       left t r j job waits is known = way_is t (ToJob j) _ is
@@ -275,14 +390,25 @@ module _ (k : Table) (tally : Tally) (claim : Claim) (counts : Counts) (is_for :
           omega (arith, here, price, pays))
           (λ e. let l = move_left t j e in both_ways (ap (passes (λ (x : ℕ). true)) l.held) (not_held k t r waits))
 
-      prefers : (t m : ℕ) (s : SpecReg) (v : ℕ × ℕ) → IsTrue (waits_for k s.request t) → live_spec k t ≡ Some s → preferred_arc k s m ≡ Some v → cost_from k (price_of k claim) (offer_of claim) way (Task t) ≤ v.1 + (price_of k claim m - load_of k m)
+      prefers : (t m : ℕ) (s : SpecReg) (v : ℕ × ℕ) → IsTrue (waits_for k s.request t) → live_spec k t ≡ Some s → preferred_arc k s m ≡ Some v → cost t ≤ v.1 + (price_of k claim m - load_of k m)
       prefers t m s v waits live arc =
           let free = not_held k t s.request waits in
           let job = live_job k t s live in
           let x = in_tally k t s job.0 live job.1 in
-          let plain : has_any s.prefer ≡ false = subst (IsPlain (entry_of k t s job.0)) (no_holder t free) (fair_task t (entry_of k t s job.0) x).plain in
           let found = came_from (λ credit. option_map (λ (a : ℕ × ℕ). (1, a.1 - credit)) (room_arc k s.request m)) (lookup nat_cmp m s.prefer) v arc in
-          none_preferred s.prefer m found.0 plain found.1
+          let a = mapped_from (λ (a : ℕ × ℕ). (1, a.1 - found.0)) (room_arc k s.request m) v found.2 in
+          let room = room_from k s.request m a.0 a.1 in
+          let fair = (fair_task t (entry_of k t s job.0) x).preferred (no_holder t free) (some_preferred s.prefer m found.0 found.1) s live in
+          let own = own_cost tally claim (entry_of k t s job.0) s.prefer (lookup nat_cmp t claim.moves) in
+          let here = all_at (IsNoCheaper tally claim s.request own) s.prefer fair m found.0 found.1 in
+          let open_there = is_for.machines m ∙ open_in_tally k m room.state room.opened in
+          let no_cheaper = here (record { machine = open_of k m room.state; open_there = open_there; spare = room.state.nic - load_of k m; left = spare_left k m room.state room.opened room.within; room = room.room }) in
+          let load = load_is m room.state room.opened in
+          let there : straight_cost tally claim s.request (m, found.0) ≡ s.request + load_of k m - found.0 + rise_of claim m = λ i. s.request + load i - found.0 + rise_of claim m in
+          let value : a.0.1 - found.0 ≡ v.1 = ap (λ (y : ℕ × ℕ). y.1) a.2 in
+          let full : s.request + load_of k m ≡ a.0.1 = ap (λ (y : ℕ × ℕ). y.1) room.value in
+          let less : s.request + load_of k m - found.0 ≡ v.1 = ap (λ n. n - found.0) full ∙ value in
+          omega (arith, cost_own t s job.0 live job.1 free, no_cheaper, there, less)
 
   pub go_in_turn : InTurn k way
   go_in_turn t u r m n live_t live_u is_t is_u less =

@@ -1,7 +1,11 @@
 -- What the checks of a claim test, of each task, move and machine of a tally.
-use Rattle.std.specs.Prelude.{◌≡◌, ℕ, ◌+◌, ◌<◌, ◌≤◌, ◌/◌, ◌==◌, cond, false, List, [], ◌∷◌, Option, Some, None, min}
+use Rattle.std.specs.Prelude.{◌≡◌, ℕ, ◌+◌, ◌<◌, ◌≤◌, ◌/◌, ◌==◌, cond, false, List, [], ◌∷◌, Option, Some, None, option_map, min, ◌-◌, true}
 use Rattle.std.specs.Ordering.{nat_cmp, is_eq}
 use Rattle.fm_lattice.specs.Maps.{lookup}
+use Rattle.fm_records.specs.declared.records.SpecReg.{SpecReg}
+use Rattle.fm_records.specs.Options.{or_else}
+use Rattle.fm_records.specs.Table.{Table}
+use Rattle.fm_records.specs.Facts.{live_spec}
 use Rattle.fm_tally.specs.declared.tally.LiveTask.{LiveTask}
 use Rattle.fm_tally.specs.declared.tally.OpenMachine.{OpenMachine}
 use Rattle.fm_tally.specs.declared.tally.Tally.{Tally}
@@ -23,13 +27,38 @@ abbrev pub IsFairAtRest : Claim → LiveTask → Option ℕ → Type 0
 IsFairAtRest claim live (Some m) = rise_of claim m ≤ live.price
 IsFairAtRest claim live None = live.price ≤ offer_of claim live.request + live.request
 
--- whoever waits prefers no machine
-abbrev pub IsPlain : LiveTask → Option ℕ → Type 0
-IsPlain live (Some m) = Unit {0}
-IsPlain live None = live.prefers ≡ false
+-- what it costs a task to go straight to a machine that it prefers, by a tally and the rise of the machine
+abbrev pub load_in : Tally → ℕ → ℕ
+load_in tally m = or_else 0 (option_map (λ o. o.load) (lookup nat_cmp m tally.machines))
 
-pub record IsFairTask (claim : Claim) (e : ℕ × LiveTask) : Type 0 where
-  pub plain : IsPlain e.1 e.1.holder
+abbrev pub straight_cost : Tally → Claim → ℕ → ℕ × ℕ → ℕ
+straight_cost tally claim r e = r + load_in tally e.0 - e.1 + rise_of claim e.0
+
+-- what a task costs on its way, or at rest if it does not move
+abbrev pub own_cost : Tally → Claim → LiveTask → List (ℕ × ℕ) → Option Way → ℕ
+own_cost tally claim live prefer None = live.price
+own_cost tally claim live prefer (Some (ToJob j)) = live.price
+own_cost tally claim live prefer (Some (ByRequest r m)) = offer_of claim r + r
+own_cost tally claim live prefer (Some (Straight m)) = straight_cost tally claim live.request (m, or_else 0 (lookup nat_cmp m prefer))
+
+-- the machine is open, with room for the request
+pub record HasRoom (tally : Tally) (m r : ℕ) : Type 0 where
+  pub machine : OpenMachine
+  pub open_there : lookup nat_cmp m tally.machines ≡ Some machine
+  pub spare : ℕ
+  pub left : machine.spare ≡ Some spare
+  pub room : r ≤ spare
+
+-- a machine that a task prefers is no cheaper than this, if it has room
+abbrev pub IsNoCheaper : Tally → Claim → ℕ → ℕ → ℕ × ℕ → Type 0
+IsNoCheaper tally claim r cost e = HasRoom tally e.0 r → cost ≤ straight_cost tally claim r e
+
+-- no machine that a task prefers is cheaper than its own way
+abbrev pub IsPreferredFairly : Table → Tally → Claim → ℕ → LiveTask → Type 0
+IsPreferredFairly k tally claim t live = (s : SpecReg) → live_spec k t ≡ Some s → AllOf (IsNoCheaper tally claim live.request (own_cost tally claim live s.prefer (lookup nat_cmp t claim.moves))) s.prefer
+
+pub record IsFairTask (k : Table) (tally : Tally) (claim : Claim) (e : ℕ × LiveTask) : Type 0 where
+  pub preferred : e.1.holder ≡ None → e.1.prefers ≡ true → IsPreferredFairly k tally claim e.0 e.1
   pub rests : lookup nat_cmp e.0 claim.moves ≡ None → IsFairAtRest claim e.1 e.1.holder
 
 -- how many tasks of the request fit into slots and spare
@@ -60,10 +89,24 @@ pub record Asks (tally : Tally) (claim : Claim) (counts : Counts) (t r m : ℕ) 
   pub few : pairs_in counts r m ≤ fits machine.slots spare r
   pub price : machine.load + rise_of claim m ≤ offer_of claim r
 
-abbrev pub IsFairMove : Tally → Claim → Counts → ℕ × Way → Type 0
-IsFairMove tally claim counts (t, ToJob j) = Leaves tally claim t j
-IsFairMove tally claim counts (t, ByRequest r m) = Asks tally claim counts t r m
-IsFairMove tally claim counts (t, Straight m) = ⊥
+-- a waiting task that goes straight to a machine which it prefers, and which has room, for no more than it would cost over its job
+-- or its request
+pub record GoesStraight (k : Table) (tally : Tally) (claim : Claim) (t m : ℕ) : Type 0 where
+  pub task : LiveTask
+  pub found : lookup nat_cmp t tally.tasks ≡ Some task
+  pub waits : task.holder ≡ None
+  pub spec : SpecReg
+  pub live : live_spec k t ≡ Some spec
+  pub credit : ℕ
+  pub preferred : lookup nat_cmp m spec.prefer ≡ Some credit
+  pub roomy : HasRoom tally m task.request
+  pub below_waiting : straight_cost tally claim task.request (m, credit) ≤ task.price
+  pub below_request : straight_cost tally claim task.request (m, credit) ≤ offer_of claim task.request + task.request
+
+abbrev pub IsFairMove : Table → Tally → Claim → Counts → ℕ × Way → Type 0
+IsFairMove k tally claim counts (t, ToJob j) = Leaves tally claim t j
+IsFairMove k tally claim counts (t, ByRequest r m) = Asks tally claim counts t r m
+IsFairMove k tally claim counts (t, Straight m) = GoesStraight k tally claim t m
 
 -- more of the request fits
 pub record HasMoreRoom (counts : Counts) (m : ℕ) (machine : OpenMachine) (r : ℕ) : Type 0 where
@@ -103,8 +146,8 @@ GoInTurn last [] = Unit {0}
 GoInTurn last (e ∷ es) = IsNext last e.1 × GoInTurn (after_move last e.1) es
 
 -- all that is tested
-pub record Passes (tally : Tally) (claim : Claim) (counts : Counts) : Type 0 where
-  pub tasks : AllOf (IsFairTask claim) tally.tasks
-  pub moves : AllOf (IsFairMove tally claim counts) claim.moves
+pub record Passes (k : Table) (tally : Tally) (claim : Claim) (counts : Counts) : Type 0 where
+  pub tasks : AllOf (IsFairTask k tally claim) tally.tasks
+  pub moves : AllOf (IsFairMove k tally claim counts) claim.moves
   pub machines : AllOf (IsFairMachine claim counts) tally.machines
   pub turns : GoInTurn (λ r. None) claim.moves

@@ -1,15 +1,18 @@
-//! Whether a claim holds: a walk over the tasks, one over the moves, and one over the machines, with the requests at each.
+//! Whether a claim holds: a walk over the tasks, one over the moves, and one over the machines, with the requests at
+//! each.
 
 ghost use Rattle.std.specs.Prelude.{◌≡◌, ◌≤◌, ◌<◌, ◌+◌, ◌↔◌, ℕ, None, IsTrue, IfOk, IfSome, OnOk};
 ghost use Rattle.std.specs.Ordering.{nat_cmp};
 ghost use Rattle.std.specs.BTreeMap.{get};
 ghost use Rattle.fm_planner.specs.Claims.{rise_of, offer_of};
-ghost use Rattle.fm_planner.specs.Checks.{AllOf, IsFairTask, IsFairMove, IsFairMachine, IsFairOffer, HasFairSlots, HasMoreRoom, Leaves, Asks, GoInTurn, IsNext, after_move, fits, Passes};
+ghost use Rattle.fm_planner.specs.Checks.{AllOf, IsFairTask, IsFairMove, IsFairMachine, IsFairOffer, IsFairAtRest, IsPreferredFairly, IsNoCheaper, HasRoom, GoesStraight, own_cost, straight_cost, load_in, HasFairSlots, HasMoreRoom, Leaves, Asks, GoInTurn, IsNext, after_move, fits, Passes};
 
 use crate::claim::Claim;
 use crate::counts::Counts;
+use fm_know::knowledge::Knowledge;
 use fm_lattice::join::OutOfMemory;
 use fm_records::ids::{JobId, MachineId, TaskId};
+use fm_records::prefer::Prefer;
 use fm_tally::tally::{LiveTask, OpenMachine, Tally};
 use fm_ways::way::Way;
 use std::alloc::Global;
@@ -21,39 +24,178 @@ const MOST: u64 = 1 << 40;
 /// Whether the claim holds by these counts of its moves. O((tasks + machines * offers) log n) at worst.
 pub(crate) fn passes(
     alloc: Global,
+    knowledge: &Knowledge,
     tally: &Tally,
     claim: &Claim,
     counts: &Counts,
 ) -> Result<bool, OutOfMemory>
-    ensures { IfOk result (λ yes. IsTrue yes → Passes tally.now claim.now counts.now) }
+    ensures { IfOk result (λ yes. IsTrue yes → Passes knowledge.now tally.now claim.now counts.now) }
 {
     let in_turn = go_in_turn(alloc, claim.moves.pairs())?;
     Ok(
         in_turn
-            && are_fair_moves(tally, claim, counts)
+            && are_fair_moves(knowledge, tally, claim, counts)
             && are_fair_machines(tally, claim, counts)
-            && are_fair_tasks(tally, claim),
+            && are_fair_tasks(knowledge, tally, claim),
     )
 }
 
-// Whether each task that rests does so fairly, and none that waits prefers machines.
-fn are_fair_tasks(tally: &Tally, claim: &Claim) -> bool
-    ensures { IsTrue result → AllOf (IsFairTask claim.now) tally.now.tasks }
+// Whether each task that rests does so fairly, and none that waits would go cheaper to a machine that it prefers.
+fn are_fair_tasks(knowledge: &Knowledge, tally: &Tally, claim: &Claim) -> bool
+    ensures { IsTrue result → AllOf (IsFairTask knowledge.now tally.now claim.now) tally.now.tasks }
 {
     for (task, live) in tally.tasks.pairs() {
-        if !is_fair_task(claim, *task, live) {
+        if !is_fair_task(knowledge, tally, claim, *task, live) {
             return false;
         }
     }
     true
 }
 
-fn is_fair_task(claim: &Claim, task: TaskId, live: &LiveTask) -> bool
-    ensures { IsTrue result → IsFairTask claim.now (task, live.now) }
+fn is_fair_task(
+    knowledge: &Knowledge,
+    tally: &Tally,
+    claim: &Claim,
+    task: TaskId,
+    live: &LiveTask,
+) -> bool
+    ensures { IsTrue result → IsFairTask knowledge.now tally.now claim.now (task, live.now) }
+{
+    if !rests_fairly(claim, live) && !claim.has_move(task) {
+        return false;
+    }
+    live.holder.is_some()
+        || !live.prefers
+        || is_preferred_fairly(knowledge, tally, claim, task, live)
+}
+
+// Whether the task may rest: preempting it costs no less than the rise of its machine, or letting it wait no more than its request
+// pays.
+fn rests_fairly(claim: &Claim, live: &LiveTask) -> bool
+    ensures { IsTrue result → IsFairAtRest claim.now live.now live.now.holder }
 {
     match live.holder {
-        Some(machine) => claim.rise(machine) <= u64::from(live.price) || claim.has_move(task),
-        None => !live.prefers && (is_left_fairly(claim, live) || claim.has_move(task)),
+        Some(machine) => claim.rise(machine) <= u64::from(live.price),
+        None => is_left_fairly(claim, live),
+    }
+}
+
+// Whether no machine that the task prefers is cheaper than its own way.
+fn is_preferred_fairly(
+    knowledge: &Knowledge,
+    tally: &Tally,
+    claim: &Claim,
+    task: TaskId,
+    live: &LiveTask,
+) -> bool
+    ensures { IsTrue result → IsPreferredFairly knowledge.now tally.now claim.now task live.now }
+{
+    let Some(spec) = knowledge.live_spec(task) else {
+        return true;
+    };
+    let way = claim.moves.get(&task);
+    let Some(cost) = own_cost(tally, claim, live, &spec.prefer, &way) else {
+        return false;
+    };
+    are_no_cheaper(tally, claim, live.request, cost, spec.prefer.entries())
+}
+
+// What the task costs on its way, or at rest, if that is not beyond all bounds.
+fn own_cost(
+    tally: &Tally,
+    claim: &Claim,
+    live: &LiveTask,
+    prefer: &Prefer,
+    way: &Option<Way>,
+) -> Option<u64>
+    ensures { IfSome result (λ cost. cost ≡ own_cost tally.now claim.now live.now prefer.now way.now) }
+{
+    match *way {
+        None | Some(Way::ToJob(_)) => Some(u64::from(live.price)),
+        Some(Way::ByRequest(request, _)) => claim.offer(request).checked_add(u64::from(request)),
+        Some(Way::Straight(machine)) => {
+            let credit = prefer.credit(machine).unwrap_or(0);
+            straight_cost(tally, claim, live.request, machine, credit)
+        }
+    }
+}
+
+// What it costs to go straight to the machine with the credit, if that is not beyond all bounds.
+fn straight_cost(
+    tally: &Tally,
+    claim: &Claim,
+    request: u32,
+    machine: MachineId,
+    credit: u32,
+) -> Option<u64>
+    ensures { IfSome result (λ cost. cost ≡ straight_cost tally.now claim.now request (machine, credit)) }
+{
+    let load = load_in(tally, machine);
+    let rise = claim.rise(machine);
+    if load > u128::from(MOST) || rise > MOST {
+        return None;
+    }
+    let there = u64::from(request) + load as u64;
+    Some(there.saturating_sub(u64::from(credit)) + rise)
+}
+
+// The load of the machine, 0 if it is not open.
+fn load_in(tally: &Tally, machine: MachineId) -> u128
+    ensures { result ≡ load_in tally.now machine }
+{
+    match tally.machines.get(&machine) {
+        Some(open) => open.load,
+        None => 0,
+    }
+}
+
+// Whether the machine is open, with room for the request.
+fn has_room(tally: &Tally, machine: MachineId, request: u32) -> bool
+    ensures { IsTrue result ↔ HasRoom tally.now machine request }
+{
+    let Some(open) = tally.machines.get(&machine) else {
+        return false;
+    };
+    match open.spare {
+        Some(spare) => request <= spare,
+        None => false,
+    }
+}
+
+// Whether none of these machines, which a task of the request prefers, is cheaper.
+fn are_no_cheaper(
+    tally: &Tally,
+    claim: &Claim,
+    request: u32,
+    cost: u64,
+    preferred: &[(MachineId, u32)],
+) -> bool
+    ensures { IsTrue result → AllOf (IsNoCheaper tally.now claim.now request cost) preferred.now }
+{
+    for (machine, credit) in preferred {
+        if !is_no_cheaper(tally, claim, request, cost, *machine, *credit) {
+            return false;
+        }
+    }
+    true
+}
+
+fn is_no_cheaper(
+    tally: &Tally,
+    claim: &Claim,
+    request: u32,
+    cost: u64,
+    machine: MachineId,
+    credit: u32,
+) -> bool
+    ensures { IsTrue result → IsNoCheaper tally.now claim.now request cost (machine, credit) }
+{
+    if !has_room(tally, machine, request) {
+        return true;
+    }
+    match straight_cost(tally, claim, request, machine, credit) {
+        Some(straight) => cost <= straight,
+        None => false,
     }
 }
 
@@ -65,25 +207,67 @@ fn is_left_fairly(claim: &Claim, live: &LiveTask) -> bool
 }
 
 // Whether each move is fair.
-fn are_fair_moves(tally: &Tally, claim: &Claim, counts: &Counts) -> bool
-    ensures { IsTrue result → AllOf (IsFairMove tally.now claim.now counts.now) claim.now.moves }
+fn are_fair_moves(knowledge: &Knowledge, tally: &Tally, claim: &Claim, counts: &Counts) -> bool
+    ensures { IsTrue result → AllOf (IsFairMove knowledge.now tally.now claim.now counts.now) claim.now.moves }
 {
     for (task, way) in claim.moves.pairs() {
-        if !is_fair_move(tally, claim, counts, *task, *way) {
+        if !is_fair_move(knowledge, tally, claim, counts, *task, *way) {
             return false;
         }
     }
     true
 }
 
-fn is_fair_move(tally: &Tally, claim: &Claim, counts: &Counts, task: TaskId, way: Way) -> bool
-    ensures { IsTrue result → IsFairMove tally.now claim.now counts.now (task, way) }
+fn is_fair_move(
+    knowledge: &Knowledge,
+    tally: &Tally,
+    claim: &Claim,
+    counts: &Counts,
+    task: TaskId,
+    way: Way,
+) -> bool
+    ensures { IsTrue result → IsFairMove knowledge.now tally.now claim.now counts.now (task, way) }
 {
     match way {
         Way::ToJob(job) => leaves(tally, claim, task, job),
         Way::ByRequest(request, machine) => asks(tally, claim, counts, task, request, machine),
-        Way::Straight(_) => false,
+        Way::Straight(machine) => goes_straight(knowledge, tally, claim, task, machine),
     }
+}
+
+// Whether the task waits and prefers the machine, which has room for it and costs no more than its job or its request.
+fn goes_straight(
+    knowledge: &Knowledge,
+    tally: &Tally,
+    claim: &Claim,
+    task: TaskId,
+    machine: MachineId,
+) -> bool
+    ensures { IsTrue result → GoesStraight knowledge.now tally.now claim.now task machine }
+{
+    let Some(live) = tally.tasks.get(&task) else {
+        return false;
+    };
+    let Some(spec) = knowledge.live_spec(task) else {
+        return false;
+    };
+    let Some(credit) = spec.prefer.credit(machine) else {
+        return false;
+    };
+    let Some(cost) = straight_cost(tally, claim, live.request, machine, credit) else {
+        return false;
+    };
+    live.holder.is_none()
+        && has_room(tally, machine, live.request)
+        && cost <= u64::from(live.price)
+        && is_paid(claim, cost, live.request)
+}
+
+// Whether the cost is no more than what the request pays, and the request.
+fn is_paid(claim: &Claim, cost: u64, request: u32) -> bool
+    ensures { IsTrue result → cost ≤ offer_of claim.now request + request }
+{
+    cost.saturating_sub(u64::from(request)) <= claim.offer(request)
 }
 
 // Whether the task is held, and costs no more to preempt than the rise of its machine.

@@ -13,7 +13,8 @@ use fm_ways::way::Way;
 use std::alloc::Global;
 use std::collections::BTreeMap;
 
-/// Of some moves: how many go over each request to each machine, how many take a slot of each machine, and how many leave it.
+/// Of some moves: how many go over each request to each machine, how many take a slot of each machine, and how many
+/// leave it.
 #[derive(Drop)]
 pub(crate) struct Counts {
     pub(crate) pairs: BTreeMap<(u32, MachineId), u64>,

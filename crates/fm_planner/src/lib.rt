@@ -8,4 +8,5 @@ mod counts;
 mod making;
 mod paths;
 pub mod planner;
+mod prices;
 mod search;

@@ -16,11 +16,11 @@ use fm_tally::tally::Tally;
 use fm_ways::laws::law_moves;
 use std::alloc::Global;
 
-/// A plan of a least flow of the network of what is known, which is not built. The caller must pass the tally of what is known. A
-/// search comes to moves and prices, and a check decides whether these make a least flow, by complementary slackness. There is none if
-/// the check decides that they do not, if a waiting task prefers machines, or if more than 4,096 tasks wait; a plan of the network
-/// is then for the caller to make. Only memory is refused. O(n log n) in the tasks and machines, O(machines) for each request that
-/// waits, and a search over machines for each task that waits.
+/// A plan of a least flow of the network of what is known, which is not built. The caller must pass the tally of what is known.
+/// A search comes to moves and prices, and a check decides whether these make a least flow, by complementary slackness. There is
+/// no plan if the check decides that they do not, as it may if tasks prefer machines, or if more than 4,096 tasks wait: then a plan
+/// of the network is for the caller to make. Only memory is refused. O(n log n) in the tasks and machines, O(machines) for each
+/// request that waits, and a search over machines for each task that waits.
 pub fn plan_of_tally(
     alloc: Global,
     tally: &Tally,
@@ -32,12 +32,12 @@ pub fn plan_of_tally(
     law_can_be(knowledge);
     law_moves();
     let _few = knowledge.tasks().len();
-    let Some(claim) = search(alloc, tally)? else {
+    let Some(claim) = search(alloc, knowledge, tally)? else {
         return Ok(None);
     };
     let moves = claim.moves.pairs();
     let counts = Counts::of(alloc, knowledge, moves)?;
-    if !passes(alloc, tally, &claim, &counts)? {
+    if !passes(alloc, knowledge, tally, &claim, &counts)? {
         return Ok(None);
     }
     let plan = plan_of(alloc, knowledge, moves)?;
