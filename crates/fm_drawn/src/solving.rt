@@ -13,6 +13,7 @@ use fm_cycles::search::{Found, search};
 use fm_flow::cost::cost;
 use fm_flow::flow::Flow;
 use fm_flow::solve::{solve, solve_from};
+use fm_heuristics::simplex::simplex;
 use fm_heuristics::start::start;
 use fm_know::knowledge::Knowledge;
 use fm_know::laws::law_can_be;
@@ -22,7 +23,6 @@ use fm_numbered::numbered::Numbered;
 use fm_numbered::unscheduled::law_unscheduled;
 use fm_policy::build::build;
 use fm_records::refusal::Refusal;
-use fm_heuristics::simplex::simplex;
 use std::alloc::Global;
 
 // More cycles than are counted.

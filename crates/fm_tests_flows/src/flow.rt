@@ -10,6 +10,7 @@ use crate::round::{job as known_job, knowing, machine as known_machine, spec};
 use fm_certificate::cost::cost;
 use fm_cycles::search::{Found, search};
 use fm_flow::solve::{solve, solve_from};
+use fm_heuristics::simplex::{simplex, simplex_within};
 use fm_heuristics::start::{resume, start};
 use fm_know::knowledge::Knowledge;
 use fm_know::laws::law_can_be;
@@ -23,7 +24,6 @@ use fm_numbered::unscheduled::unscheduled;
 use fm_policy::build::build;
 use fm_records::ids::{JobId, MachineId, TaskId};
 use fm_records::refusal::Refusal;
-use fm_heuristics::simplex::{simplex, simplex_within};
 use std::alloc::Global;
 use std::test::Fail;
 
