@@ -7,6 +7,7 @@ mod claim;
 mod counts;
 mod making;
 mod paths;
+pub mod planned;
 pub mod planner;
 mod prices;
 mod search;
