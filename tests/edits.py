@@ -1,5 +1,7 @@
 """Tests of an Editor by what it does with each delta, which `fm_watch` prints: the edits are the change from the network before
-to the one after, as tests/reference.py works both out, and what is looked up are the keys of the delta, each once and dirty."""
+to the one after, as tests/reference.py works both out, and what is looked up are the keys of the delta, each once and dirty.
+And tests of two coordinators that are looked at after each delta, with `fm_watch looks`: one edits its network, as the counts of
+its edits and builds show, the other builds it, and both networks are that of what was told."""
 import json
 import random
 import re
@@ -114,8 +116,57 @@ def is_followed(program, groups):
     return True
 
 
+LOOK = re.compile(r"^look: same (true|false), (\d+) edits, (\d+) builds\n", re.MULTILINE)
+BEFORE = [[groupings.machine(0xF0)], [groupings.machine(0xF1)]]
+
+
+def looks_at(program, groups):
+    """What is seen at a look after each group: whether both networks are that of what was told, and the counts of the edits and
+    of the builds so far. None where the program does not answer."""
+    said = subprocess.run([program, "looks"], input=json.dumps(script(groups)).encode(), stdout=subprocess.PIPE, timeout=120)
+    found = LOOK.split(said.stdout.decode())
+    if said.returncode or found[0] or len(found) != 1 + 4 * len(groups):
+        return None
+    taken, seen = set(), []
+    for place, group in enumerate(groups):
+        taken |= operations(group)
+        same, edits, builds, text = found[1 + 4 * place:5 + 4 * place]
+        is_right = same == "true" and text == "".join(reference.graph(reference.Known(taken)))
+        seen.append((is_right, int(edits), int(builds)))
+    return seen
+
+
+def is_edited(program, groups):
+    """Whether every look but the first is answered by an edit, and every network is right. The groups are small."""
+    return looks_at(program, groups) == [(True, place, 1) for place in range(len(groups))]
+
+
+def is_edited_and_built(program, groups):
+    """Whether every network is right, and there are looks that are answered by edits and looks that are answered by builds."""
+    seen = looks_at(program, groups)
+    if not seen or not all(is_right and edits + builds == place for place, (is_right, edits, builds) in enumerate(seen, 1)):
+        return False
+    return seen[-1][1] > 0 and seen[-1][2] > 1
+
+
+def look_tests(program, seeds):
+    """Each test of looks with whether it holds."""
+    for name, told in groupings.ROWS.items():
+        for groups in groupings.groupings(len(told)):
+            after = [told[start:end] for start, end in groups]
+            yield "looks at %s, in %s" % (name, groups), is_edited(program, BEFORE + after)
+    for seed in range(seeds):
+        chance = random.Random("looks %d" % seed)
+        told = drawn.Lives(chance).operations(240)
+        for most in (1, 3, 12):
+            groups = [told[start:end] for start, end in drawn.groups_of(chance, len(told), most)]
+            holds = is_edited_and_built(program, [told[:40]] + groups + [told[40:80]] + groups[-3:])
+            yield "looks at life %d, in groups of up to %d" % (seed, most), holds
+
+
 def all_tests(program, seeds):
     """Each test with whether it holds."""
+    yield from look_tests(program, seeds)
     for name, told in groupings.ROWS.items():
         for groups in groupings.groupings(len(told)):
             yield "edits of %s, in %s" % (name, groups), is_followed(program, [told[start:end] for start, end in groups])

@@ -105,11 +105,21 @@ class Draw:
         for op in self.cluster() if self.odds() < 0.5 else ():
             steps.append({"at": coordinators[0], "tell": op})
             ends[coordinators[0]] += 1
+        if self.odds() < 0.95:
+            steps += self.rounds_at(coordinators[0])
+            ends[coordinators[0]] += len(steps)
         for _ in range(self.one_of((0, 2, 6, 12, 25))):
             at = self.one_of(coordinators) if self.odds() < 0.99 else self.chance.randint(0, 255)
             steps.append({"at": at, **self.act(ends.get(at, 0), names)})
             ends[at] = ends.get(at, 0) + (not {"tell", "deliver", "round"}.isdisjoint(steps[-1]))
         return {"coordinators": coordinators, "steps": steps}, names
+
+    def rounds_at(self, at):
+        """Rounds at a coordinator with few operations between them, so that its network is edited."""
+        for _ in range(self.one_of((2, 3, 3))):
+            for _ in range(self.one_of((1, 1, 1, 2))):
+                yield {"at": at, "tell": self.operation()}
+            yield {"at": at, "round": True}
 
     def act(self, end, names):
         draw = self.odds()
@@ -293,6 +303,51 @@ class Draw:
             count = self.one_of((0, 1, 2, 3, 255, 2 ** 32, 2 ** 60, 2 ** 63, 2 ** 64 - 1)).to_bytes(8, "big")
             return packet[:max(0, at)] + count + packet[max(0, at) + 8:]
         return packet + self.one_of((b"\x00", b"FDG2", packet))
+
+
+FEW, LONGEST = 8, 64
+
+
+class Keeper:
+    """When a keeper that follows late edits, at least: see `Deferred` of fm_edit. A packet may bring many keys."""
+
+    def __init__(self):
+        self.pending, self.edits, self.calm, self.wait, self.has_editor, self.much, self.fresh = 0, 0, 0, 1, False, False, True
+
+    def take(self, keys):
+        self.pending, self.fresh = self.pending + keys, False
+        if self.pending > FEW:
+            self.wait = min(2 * self.wait, LONGEST) if self.has_editor else self.wait
+            self.pending, self.has_editor, self.much, self.calm = 0, False, True, 0
+
+    def look(self):
+        if not self.fresh and self.has_editor:
+            self.edits += 1
+        elif not self.fresh:
+            self.calm = 0 if self.much else self.calm + 1
+            self.has_editor, self.much = self.calm >= self.wait, False
+        self.pending, self.fresh = 0, True
+
+
+def edits(text):
+    """How many looks at coordinators of the script are answered by an edit, at least; 0 of what is no script. The first of each
+    two coordinators that it lists has a keeper that edits. What a round takes in is not counted."""
+    try:
+        script = strict.read_script(text)
+    except (strict.Strange, RecursionError):
+        return 0
+    keepers = {at: Keeper() for at in script["coordinators"][::2]}
+    for step in script["steps"]:
+        keeper = keepers.get(step["at"])
+        if keeper and "tell" in step:
+            if reference.out_of_range(dict(reference.operation(*next(iter(step["tell"].items())))[1])):
+                break
+            keeper.take(1)
+        elif keeper and "deliver" in step:
+            keeper.take(FEW + 1)
+        elif keeper and "round" in step:
+            keeper.look()
+    return sum(keeper.edits for keeper in keepers.values())
 
 
 def walk(tree):

@@ -1,6 +1,6 @@
-"""Tests that networks which are edited and networks which are built anew dump the same: worked rows in every grouping of their
-deltas, and drawn lives of clusters in several. Of each two coordinators that a script lists the first edits and the second
-builds, and both are given the same packets."""
+"""Tests that coordinators dump the network of what they were told, in whatever groups of deltas it came: worked rows in every
+grouping, and drawn lives of clusters in several. Each coordinator is looked at once, so its network is built; tests/edits.py looks
+after each group, so that networks are edited."""
 import itertools
 import json
 

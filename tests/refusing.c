@@ -1,6 +1,6 @@
 /* Stands before the C library's allocator in a process (LD_PRELOAD), counts what is asked of it, and refuses some of it.
  *
- * The file that REFUSING names has room for seven numbers of 64 bits and is shared with who started the process:
+ * The file that REFUSING names has room for eight numbers of 64 bits and is shared with who started the process:
  *   0  which allocation is refused, counted from 1; 0 refuses none
  *   1  how many are refused from there on; 0 is all of them
  *   2  how many there were
@@ -8,6 +8,7 @@
  *   4  the most bytes that one of them asked for, refused ones too
  *   5  the bytes that are held
  *   6  the most bytes that were held at once
+ *   7  the bytes that all of them asked for together, refused ones too
  * A block that is to have another size is an allocation. Several threads are counted together: whose allocation is the n-th is then
  * theirs to say, and the most bytes held are about so many. ARM and ASK are for one thread.
  *
@@ -35,7 +36,7 @@ extern void *mmap(void *, size, int, int, int, long);
 #define ASK 1234567ul
 #define NO_MEMORY 12
 
-static number none[7];
+static number none[8];
 static number *numbers = none;
 static int begun;
 static number armed, since;
@@ -55,6 +56,7 @@ static int refused(size asked) {
     if (!begun) begin();
     number place = __atomic_add_fetch(&numbers[2], 1, __ATOMIC_SEQ_CST);
     if (asked > numbers[4]) numbers[4] = asked;
+    __atomic_add_fetch(&numbers[7], asked, __ATOMIC_SEQ_CST);
     int now = numbers[0] && place >= numbers[0] && (!numbers[1] || place < numbers[0] + numbers[1]);
     if (armed && !--armed) {
         now = 1;

@@ -8,7 +8,7 @@ import subprocess
 import tempfile
 
 HERE = pathlib.Path(__file__).resolve().parent
-FIELDS = "first many count refused greatest held most".split()
+FIELDS = "first many count refused greatest held most asked".split()
 
 
 class Refusing:
@@ -24,13 +24,13 @@ class Refusing:
     def run(self, program, words, text, first=0, many=1, **how):
         """The status and the texts of a run, and what was counted. The input is a file, which is read alike each time."""
         how.setdefault("timeout", 120)
-        self.numbers[:56] = struct.pack("7Q", first, many, 0, 0, 0, 0, 0)
+        self.numbers[:64] = struct.pack("8Q", first, many, 0, 0, 0, 0, 0, 0)
         env = {"LD_PRELOAD": self.library, "REFUSING": self.file.name}
         with tempfile.TemporaryFile(dir=self.folder.name) as given:
             given.write(text)
             given.seek(0)
             done = subprocess.run([program, *words], stdin=given, stdout=subprocess.PIPE, stderr=subprocess.PIPE, env=env, **how)
-        counted = dict(zip(FIELDS, struct.unpack("7Q", self.numbers[:56])))
+        counted = dict(zip(FIELDS, struct.unpack("8Q", self.numbers[:64])))
         return (done.returncode, done.stdout, done.stderr), counted
 
 

@@ -5,7 +5,7 @@ use Rattle.fm_records.specs.declared.refusal.Refusal.TheVariants.{OutOfMemory, N
 use Rattle.fm_records.specs.Options.{or_else}
 use Rattle.fm_round.specs.declared.parts.Plan.{Plan}
 use Rattle.fm_coord.specs.declared.view.View.{View}
-use Rattle.fm_coord.specs.Events.{Viewed}
+use Rattle.fm_coord.specs.Events as event
 use Rattle.fm_coord.specs.States.{State}
 use Rattle.fm_world.specs.declared.step.Act.TheVariants as world
 use Rattle.fm_world.specs.Worlds.{WorldOfSets, with_number, cause_at, cause_of, refusal_of, step_of}
@@ -36,7 +36,7 @@ on_ok (Err e) f h = tt
 
 module _ (k : Kept) (w : WorldOfSets) (at : ℕ) (h : WorldStandsFor k w) where
   pub unseen : None ≡ shown (state_with k.coordinators at) world.View → NoCoordinator ≡ refusal_of w (step_at at world.View)
-  unseen e = ap (λ o. or_else OutOfMemory (cause_at o (Some Viewed))) (sym (absent at k.coordinators w.replicas h.coordinators (nothing_shown _ e)))
+  unseen e = ap (λ o. or_else OutOfMemory (cause_at o (Some event.View))) (sym (absent at k.coordinators w.replicas h.coordinators (nothing_shown _ e)))
 
   pub plan_at : (view : View) (plan : Plan) → Some view ≡ shown (state_with k.coordinators at) world.View → IsPlanOf view.knowledge plan → IsPlanAt w at plan
   plan_at view plan e p =

@@ -29,7 +29,7 @@ impl Fault {
         Fault { refusal, step }
     }
 
-    /// The status that the program ends with: 4 for want of memory, 5 where coordinators do not agree, 6 for a write
+    /// The status that the program ends with: 4 if memory runs out, 5 if coordinators do not agree, 6 for a write
     /// fault, 7 where the solver failed, and else 3.
     pub fn status(&self) -> u8
         ensures { result ≡ status_of self.now.refusal }

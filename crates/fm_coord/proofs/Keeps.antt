@@ -12,7 +12,8 @@ use Rattle.fm_coord.specs.declared.entry.Call.TheVariants as call
 use Rattle.fm_coord.specs.declared.entry.Reply.TheVariants as reply
 use Rattle.fm_coord.specs.declared.entry.Entry.{Entry}
 use Rattle.fm_coord.specs.declared.entry.Range.{Range}
-use Rattle.fm_coord.specs.Events.{Event, Told, Merged, Gave, LetGo, Viewed, Committed, Replica, opening, moved, admitted_by}
+use Rattle.fm_coord.specs.Events.{Event, Replica, opening, moved, admitted_by}
+use Rattle.fm_coord.specs.Events as event
 use Rattle.fm_coord.specs.Causes.{cause, Bounds}
 use Rattle.fm_coord.specs.Replays.{call_of, event_of, reply_of, entered, replay, IsLegal}
 use Rattle.fm_coord.specs.States.{State, new_state, entry, bounds, took, gave, let_go, noted, cut_packet, after, StandsFor, replayed, IsCoordinator}
@@ -50,20 +51,20 @@ again (call.Commit plan) t = refl
 
 -- an event adds a delta at most, and counts a cut at most
 one_delta : (r : Replica) (event : Event) → length (moved r event).buffer ≤ length r.buffer + 1
-one_delta r (Told op) = omega (arith, length-append r.buffer ((op ∷ []) ∷ []))
-one_delta r (Merged p) = omega (arith, length-append r.buffer (p.set ∷ []))
-one_delta r (Gave range) = omega arith
-one_delta r (LetGo n) = omega arith
-one_delta r Viewed = omega arith
-one_delta r (Committed plan) = omega (arith, length-append r.buffer ((admitted_by r plan).ops ∷ []))
+one_delta r (event.Tell op) = omega (arith, length-append r.buffer ((op ∷ []) ∷ []))
+one_delta r (event.Merge p) = omega (arith, length-append r.buffer (p.set ∷ []))
+one_delta r (event.Cut range) = omega arith
+one_delta r (event.Trim n) = omega arith
+one_delta r event.View = omega arith
+one_delta r (event.Commit plan) = omega (arith, length-append r.buffer ((admitted_by r plan).ops ∷ []))
 
 one_cut : (r : Replica) (event : Event) → (moved r event).cuts ≤ r.cuts + 1
-one_cut r (Told op) = omega arith
-one_cut r (Merged p) = omega arith
-one_cut r (Gave range) = omega arith
-one_cut r (LetGo n) = omega arith
-one_cut r Viewed = omega arith
-one_cut r (Committed plan) = omega arith
+one_cut r (event.Tell op) = omega arith
+one_cut r (event.Merge p) = omega arith
+one_cut r (event.Cut range) = omega arith
+one_cut r (event.Trim n) = omega arith
+one_cut r event.View = omega arith
+one_cut r (event.Commit plan) = omega arith
 
 module _ (s : State) (e : Entry) where
   number_stays : (c : Call) → (after s e c).number ≡ s.number

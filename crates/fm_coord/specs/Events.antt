@@ -20,17 +20,17 @@ pub record Sent : Type 0 where
 -- what may happen at a replica
 pub data Event : Type 0 where
   -- an operation is told
-  Told : (op : Op) → Event
+  Tell : (op : Op) → Event
   -- a packet is merged
-  Merged : (packet : Sent) → Event
+  Merge : (packet : Sent) → Event
   -- a packet is cut
-  Gave : (range : Range) → Event
+  Cut : (range : Range) → Event
   -- the deltas below n are let go
-  LetGo : (n : ℕ) → Event
+  Trim : (n : ℕ) → Event
   -- what is known is looked at
-  Viewed : Event
+  View : Event
   -- a plan is admitted
-  Committed : (plan : Plan) → Event
+  Commit : (plan : Plan) → Event
 
 -- a replica
 pub record Replica : Type 0 where
@@ -69,12 +69,12 @@ added r S = record { number = r.number; limit = r.limit; taken = r.taken ++ S; b
 
 -- what an event does
 abbrev pub moved : Replica → Event → Replica
-moved r (Told op) = added r (op ∷ [])
-moved r (Merged packet) = added r packet.set
-moved r (Committed plan) = added r (admitted_by r plan).ops
-moved r (Gave range) = record { number = r.number; limit = r.limit; taken = r.taken; buffer = r.buffer; floor = r.floor; cuts = r.cuts + 1; steps = r.steps }
-moved r (LetGo n) = record { number = r.number; limit = r.limit; taken = r.taken; buffer = r.buffer; floor = n; cuts = r.cuts; steps = r.steps }
-moved r Viewed = r
+moved r (Tell op) = added r (op ∷ [])
+moved r (Merge packet) = added r packet.set
+moved r (Commit plan) = added r (admitted_by r plan).ops
+moved r (Cut range) = record { number = r.number; limit = r.limit; taken = r.taken; buffer = r.buffer; floor = r.floor; cuts = r.cuts + 1; steps = r.steps }
+moved r (Trim n) = record { number = r.number; limit = r.limit; taken = r.taken; buffer = r.buffer; floor = n; cuts = r.cuts; steps = r.steps }
+moved r View = r
 
 abbrev pub listed : Replica → ℕ → Event → Replica
 listed r by event = record { number = r.number; limit = r.limit; taken = r.taken; buffer = r.buffer; floor = r.floor; cuts = r.cuts; steps = r.steps ++ (by, event) ∷ [] }

@@ -8,7 +8,8 @@ use Rattle.fm_coord.specs.declared.entry.Call.TheVariants as call
 use Rattle.fm_coord.specs.declared.entry.Reply.{Reply}
 use Rattle.fm_coord.specs.declared.entry.Reply.TheVariants as reply
 use Rattle.fm_coord.specs.declared.entry.Entry.{Entry}
-use Rattle.fm_coord.specs.Events.{Sent, Event, Told, Merged, Gave, LetGo, Viewed, Committed, Replica, packet_of, admitted_by, happens}
+use Rattle.fm_coord.specs.Events.{Sent, Event, Replica, packet_of, admitted_by, happens}
+use Rattle.fm_coord.specs.Events as event
 use Rattle.fm_coord.specs.Causes.{cause, bounds_of}
 
 -- a packet as coordinators see it
@@ -17,31 +18,31 @@ seen p = record { sender = p.sender; number = p.number; value = know p.set }
 
 -- the call by which an event comes
 abbrev pub call_of : Event → Call
-call_of (Told op) = call.Tell op
-call_of (Merged packet) = call.Merge (seen packet)
-call_of (Gave range) = call.Cut range
-call_of (LetGo n) = call.Trim n
-call_of Viewed = call.View
-call_of (Committed plan) = call.Commit plan
+call_of (event.Tell op) = call.Tell op
+call_of (event.Merge packet) = call.Merge (seen packet)
+call_of (event.Cut range) = call.Cut range
+call_of (event.Trim n) = call.Trim n
+call_of event.View = call.View
+call_of (event.Commit plan) = call.Commit plan
 
 -- what an event is answered: a cut by its packet, a plan by what it comes to, and a view by the count of what happened
 -- before and what is known
 abbrev pub reply_of : Replica → Event → Reply
-reply_of r (Told op) = reply.Nothing
-reply_of r (Merged packet) = reply.Nothing
-reply_of r (Gave range) = reply.Packet (seen (packet_of r range))
-reply_of r (LetGo n) = reply.Nothing
-reply_of r Viewed = reply.Seen (length r.steps) (know r.taken)
-reply_of r (Committed plan) = reply.Admitted (admitted_by r plan)
+reply_of r (event.Tell op) = reply.Nothing
+reply_of r (event.Merge packet) = reply.Nothing
+reply_of r (event.Cut range) = reply.Packet (seen (packet_of r range))
+reply_of r (event.Trim n) = reply.Nothing
+reply_of r event.View = reply.Seen (length r.steps) (know r.taken)
+reply_of r (event.Commit plan) = reply.Admitted (admitted_by r plan)
 
 -- a call as an event: a packet that is merged stands for the operations that its value spells out
 abbrev pub event_of : Call → Event
-event_of (call.Tell op) = Told op
-event_of (call.Merge p) = Merged (record { sender = p.sender; number = p.number; set = ops p.value })
-event_of (call.Cut range) = Gave range
-event_of (call.Trim n) = LetGo n
-event_of call.View = Viewed
-event_of (call.Commit plan) = Committed plan
+event_of (call.Tell op) = event.Tell op
+event_of (call.Merge p) = event.Merge (record { sender = p.sender; number = p.number; set = ops p.value })
+event_of (call.Cut range) = event.Cut range
+event_of (call.Trim n) = event.Trim n
+event_of call.View = event.View
+event_of (call.Commit plan) = event.Commit plan
 
 -- the replica after an entry, and after the entries of a history
 abbrev pub entered : Replica → Entry → Replica

@@ -117,7 +117,8 @@ pub record IsCoordinator (s : State) : Type 0 where
   pub end_within : end_of s.deltas ≤ length s.history
   pub cuts_within : s.cuts ≤ length s.history
 
--- and its keeper is stale, or for what it knows
-pub record IsKept (s : State) (fresh : Bool) (is_for : Table → Type 0) : Type 0 where
+-- and its keeper is stale, or for what it knows; if it is said to follow, it follows what is known
+pub record IsKept (s : State) (fresh : Bool) (is_for : Table → Type 0) (said : Bool) (follows : Table → Type 0) : Type 0 where
   pub coordinator : IsCoordinator s
   pub keeper : IsTrue fresh → is_for s.knowledge
+  pub kept_up : IsTrue said → follows s.knowledge

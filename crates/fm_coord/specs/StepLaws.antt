@@ -14,7 +14,8 @@ use Rattle.fm_coord.specs.declared.entry.Call.{Call}
 use Rattle.fm_coord.specs.declared.entry.Entry.{Entry}
 use Rattle.fm_coord.specs.declared.entry.Range.{Range}
 use Rattle.fm_coord.specs.declared.entry.Range.TheVariants.{Interval, Full}
-use Rattle.fm_coord.specs.Events.{Event, Told, Merged, Gave, LetGo, Viewed, Committed, Replica, added, listed, happens, set_of, packet_of, admitted_by}
+use Rattle.fm_coord.specs.Events.{Event, Replica, added, listed, happens, set_of, packet_of, admitted_by}
+use Rattle.fm_coord.specs.Events as event
 use Rattle.fm_coord.specs.Causes.{Bounds, cause, call_fault, range_fault, floor_fault, room_fault, first_of, bounds_of}
 use Rattle.fm_coord.specs.Replays.{seen, call_of, entered, replay, Fits, IsLegal}
 use Rattle.fm_coord.specs.States.{State, bounds, took, gave, let_go, noted, asked, step_asked, range_value, cut_packet, after, StandsFor}
@@ -131,19 +132,19 @@ module _ (s : State) (r : Replica) (st : StandsFor s r) where
 
   -- after an accepted call it stands for the replica after the event by which the call comes
   pub stands_after : (e : Entry) (event : Event) → e.call ≡ call_of event → cause (bounds s) (call_of event) ≡ None → StandsFor (after s e (call_of event)) (happens r e.by event)
-  stands_after e (Told op) is h = stands_took e e.by (Told op) (λ i. (e.by, is i)) (op ∷ []) (know (op ∷ [])) refl
-  stands_after e (Merged p) is h = stands_took e e.by (Merged p) (λ i. (e.by, is i)) p.set (know p.set) refl
-  stands_after e (Gave range) is h = stands_gave e e.by (Gave range) (λ i. (e.by, is i))
-  stands_after e (LetGo n) is h =
+  stands_after e (event.Tell op) is h = stands_took e e.by (event.Tell op) (λ i. (e.by, is i)) (op ∷ []) (know (op ∷ [])) refl
+  stands_after e (event.Merge p) is h = stands_took e e.by (event.Merge p) (λ i. (e.by, is i)) p.set (know p.set) refl
+  stands_after e (event.Cut range) is h = stands_gave e e.by (event.Cut range) (λ i. (e.by, is i))
+  stands_after e (event.Trim n) is h =
       let out = test_failed (nat_lt n s.deltas.floor || nat_lt (end_of s.deltas) n) BadInterval None (no_fault (floor_fault (bounds s) n) (room_fault (bounds s)) h) in
       let above : s.deltas.floor ≤ n = ltb-false n s.deltas.floor (left_false (nat_lt n s.deltas.floor) (nat_lt (end_of s.deltas) n) out) in
       let below : n ≤ end_of s.deltas = ltb-false (end_of s.deltas) n (right_false (nat_lt n s.deltas.floor) (nat_lt (end_of s.deltas) n) out) in
       let f = st.floor in
       let l = st.end in
-      stands_let_go e e.by (LetGo n) (λ i. (e.by, is i)) n (omega arith) (omega arith)
-  stands_after e Viewed is h = stands_noted e e.by Viewed (λ i. (e.by, is i))
-  stands_after e (Committed plan) is h =
-      stands_took e e.by (Committed plan) (λ i. (e.by, is i)) (admitted_by r plan).ops (know (admitted s.knowledge s.number plan).ops)
+      stands_let_go e e.by (event.Trim n) (λ i. (e.by, is i)) n (omega arith) (omega arith)
+  stands_after e event.View is h = stands_noted e e.by event.View (λ i. (e.by, is i))
+  stands_after e (event.Commit plan) is h =
+      stands_took e e.by (event.Commit plan) (λ i. (e.by, is i)) (admitted_by r plan).ops (know (admitted s.knowledge s.number plan).ops)
       (sym (λ i. know (admitted (st.knowledge i) (st.number i) plan).ops))
 
 -- nothing is wrong with the call, and there is room

@@ -12,13 +12,14 @@ ghost use Rattle.std.specs.Io.KnownBytes.{Appends};
 ghost use Rattle.fm_dimacs.specs.Sending.{AppendsPrefix, StopsBy, IsSent};
 ghost use Rattle.fm_dimacs.specs.Text.{dump_text};
 ghost use Rattle.fm_round.specs.Admission.{admitted};
-ghost use Rattle.fm_coord.specs.Events.{Sent, Told, Merged, Gave, LetGo, Viewed, Committed, Replica, packet_of};
+ghost use Rattle.fm_coord.specs.Events.{Sent, Replica, packet_of};
+ghost use Rattle.fm_coord.specs.Events as event;
 ghost use Rattle.fm_coord.specs.Causes.{cause, refusal_for, room_fault, range_fault, floor_fault};
 ghost use Rattle.fm_coord.specs.Replays.{seen};
 ghost use Rattle.fm_coord.specs.States.{new_state, bounds, entry, took, gave, let_go, noted, cut_packet, range_value, StandsFor, IsEventAt, IsCoordinator};
 
 use crate::entry::{Call, Entry, Range, Reply};
-use crate::view::View;
+use crate::view::{Sight, View};
 use fm_delta::buffer::Buffer;
 use fm_delta::packet::Packet;
 use fm_dimacs::dump::dump;
@@ -26,6 +27,7 @@ use fm_dimacs::out::Out;
 use fm_know::knowledge::Knowledge;
 use fm_lattice::join::{Join, OutOfMemory};
 use fm_lattice::shared::Shared;
+use fm_net::network::Network;
 use fm_policy::changed::changed_of;
 use fm_policy::keeper::NetKeeper;
 use fm_records::ids::CoordId;
@@ -48,6 +50,8 @@ pub struct Coordinator<N: NetKeeper> {
     cuts: u64,
     history: Vec<Entry>,
     keeper: N,
+    // Whether the keeper follows what is known: it was fresh once, and was handed all keys since.
+    follows: bool,
 }
 
 impl<N: NetKeeper> Model for Coordinator<N> {
@@ -57,7 +61,7 @@ impl<N: NetKeeper> Model for Coordinator<N> {
 
     ghost view = { λ a. record { state = record { number = a.number; limit = a.limit; knowledge = a.knowledge; deltas = a.buffer.deltas; cuts = a.cuts; history = a.history.items }; keeper = a.keeper } };
 
-    ghost invariant = { λ a. IsKept (record { number = a.number; limit = a.limit; knowledge = a.knowledge; deltas = a.buffer.deltas; cuts = a.cuts; history = a.history.items }) (N.fresh a.keeper) (N.is_for a.keeper) };
+    ghost invariant = { λ a. IsKept (record { number = a.number; limit = a.limit; knowledge = a.knowledge; deltas = a.buffer.deltas; cuts = a.cuts; history = a.history.items }) (N.fresh a.keeper) (N.is_for a.keeper) a.follows (N.follows a.keeper) };
 }
 
 impl<N: NetKeeper> Coordinator<N> {
@@ -68,6 +72,7 @@ impl<N: NetKeeper> Coordinator<N> {
         ensures state { result.state ≡ new_state number limit }
         ensures keeper { result.keeper ≡ keeper }
     {
+        let follows = keeper.is_fresh();
         Coordinator {
             alloc,
             number,
@@ -77,6 +82,7 @@ impl<N: NetKeeper> Coordinator<N> {
             cuts: 0,
             history: Vec::new(alloc),
             keeper,
+            follows,
         }
     }
 
@@ -131,7 +137,7 @@ impl<N: NetKeeper> Coordinator<N> {
         self.buffer.end()
     }
 
-    /// Whether its network is that of what it knows. It is stale after a want of memory, or where the keeper leaves a delta
+    /// Whether its network is that of what it knows. It is stale after memory ran out, or if the keeper leaves a delta
     /// to the next build.
     pub fn is_fresh(&self) -> bool
         ensures { result ≡ N.fresh self.now.keeper }
@@ -206,7 +212,7 @@ impl<N: NetKeeper> Coordinator<N> {
         ensures ok { OnOk result (self.new.state ≡ took self.old.state (know (op ∷ [])) (entry by (Call.Tell op) Reply.Nothing)) }
         ensures keeper { OnOk result (N.absorbs self.old.keeper (changed_keys (know (op ∷ []))) self.new.keeper) }
         ensures within { IsOk result → cause (bounds self.old.state) (Call.Tell op) ≡ None }
-        ensures event { (r : Replica) → StandsFor self.old.state r → OnOk result (IsEventAt r by (Told op) Reply.Nothing self.new.state) }
+        ensures event { (r : Replica) → StandsFor self.old.state r → OnOk result (IsEventAt r by (event.Tell op) Reply.Nothing self.new.state) }
         ensures err { IfErr result (λ refusal. refusal ≡ refusal_for (bounds self.old.state) (Call.Tell op)) }
         ensures unchanged { OnErr result (self.new ≡ self.old) }
     {
@@ -223,20 +229,20 @@ impl<N: NetKeeper> Coordinator<N> {
         Ok(())
     }
 
-    /// Takes a packet's value in.
+    /// Takes a packet's value in. The history, the deltas and, if nothing was known before, what is known share its records.
     /// HistoryFull, OutOfMemory; then nothing has changed.
-    pub fn merge(&mut self, by: u32, packet: Packet) -> Result<(), Refusal>
+    pub fn merge(&mut self, by: u32, mut packet: Packet) -> Result<(), Refusal>
         ensures ok { OnOk result (self.new.state ≡ took self.old.state packet.value (entry by (Call.Merge packet) Reply.Nothing)) }
         ensures keeper { OnOk result (N.absorbs self.old.keeper (changed_keys packet.value) self.new.keeper) }
         ensures within { IsOk result → cause (bounds self.old.state) (Call.Merge packet) ≡ None }
-        ensures event { (r : Replica) (sent : Sent) → StandsFor self.old.state r → packet ≡ seen sent → OnOk result (IsEventAt r by (Merged sent) Reply.Nothing self.new.state) }
+        ensures event { (r : Replica) (sent : Sent) → StandsFor self.old.state r → packet ≡ seen sent → OnOk result (IsEventAt r by (event.Merge sent) Reply.Nothing self.new.state) }
         ensures err { IfErr result (λ refusal. refusal ≡ refusal_for (bounds self.old.state) (Call.Merge packet)) }
         ensures unchanged { OnErr result (self.new ≡ self.old) }
     {
         self.known();
         packet.value.known();
         self.check_room()?;
-        let delta = packet.value.copy()?;
+        let delta = packet.value.share()?;
         let merged = Entry {
             by,
             call: Call::Merge(packet),
@@ -246,18 +252,19 @@ impl<N: NetKeeper> Coordinator<N> {
         Ok(())
     }
 
-    /// A packet of what the range comes to: the join of an interval's deltas, or all that is known. Its number is 1 plus the
-    /// packets that were cut before.
+    /// A packet of what the range comes to: the join of an interval's deltas, or all that is known, which it then shares. Its
+    /// number is 1 plus the packets that were cut before.
     /// BadInterval, Trimmed, HistoryFull, OutOfMemory; then nothing has changed.
     pub fn cut(&mut self, by: u32, range: Range) -> Result<Shared<Packet>, Refusal>
         ensures ok { IfOk result (λ packet. self.new.state ≡ gave self.old.state (entry by (Call.Cut range) (Reply.Packet packet))) }
         ensures packet { IfOk result (λ packet. packet ≡ cut_packet self.old.state range) }
         ensures keeper { self.new.keeper ≡ self.old.keeper }
         ensures within { IsOk result → cause (bounds self.old.state) (Call.Cut range) ≡ None }
-        ensures event { (r : Replica) → StandsFor self.old.state r → IfOk result (λ packet. IsEventAt r by (Gave range) (Reply.Packet packet) self.new.state) }
+        ensures event { (r : Replica) → StandsFor self.old.state r → IfOk result (λ packet. IsEventAt r by (event.Cut range) (Reply.Packet packet) self.new.state) }
         ensures err { IfErr result (λ refusal. refusal ≡ refusal_for (bounds self.old.state) (Call.Cut range)) }
         ensures unchanged { OnErr result (self.new ≡ self.old) }
     {
+        self.share_for(range)?;
         let packet = self.packet_for(range)?;
         let given = Entry {
             by,
@@ -269,8 +276,20 @@ impl<N: NetKeeper> Coordinator<N> {
         Ok(packet)
     }
 
+    // Has all that is known shared, if it is to be cut.
+    fn share_for(&mut self, range: Range) -> Result<(), Refusal>
+        ensures same { self.new ≡ self.old }
+        ensures err { IfErr result (λ refusal. refusal ≡ refusal_for (bounds self.old.state) (Call.Cut range)) }
+    {
+        if range == Range::Full {
+            self.check_room()?;
+            self.share_known()?;
+        }
+        Ok(())
+    }
+
     /// The packet that a cut of the range would give now. Nothing is listed, and its number goes to the next cut. It costs what the
-    /// cut costs.
+    /// cut costs, and a copy of what is known but not shared yet.
     /// BadInterval, Trimmed, HistoryFull, OutOfMemory: as the cut would be refused.
     pub fn packet_for(&self, range: Range) -> Result<Shared<Packet>, Refusal>
         ensures ok { IfOk result (λ packet. packet ≡ cut_packet self.now.state range) }
@@ -290,12 +309,13 @@ impl<N: NetKeeper> Coordinator<N> {
         ensures ok { IfOk result (λ packet. packet ≡ cut_packet self.now.state range) }
         ensures err { IsOkUnless result Refusal.OutOfMemory }
     {
-        let value = self.value_of(range)?;
+        let mut value = self.value_of(range)?;
         let number = self.cuts + 1;
+        // Whoever gets a copy of the packet shares its records.
         let packet = Packet {
             sender: self.number,
             number,
-            value,
+            value: value.share()?,
         };
         Ok(Shared::new(self.alloc, packet)?)
     }
@@ -318,7 +338,7 @@ impl<N: NetKeeper> Coordinator<N> {
         ensures ok { OnOk result (self.new.state ≡ let_go self.old.state n (entry by (Call.Trim n) Reply.Nothing)) }
         ensures keeper { self.new.keeper ≡ self.old.keeper }
         ensures within { IsOk result → cause (bounds self.old.state) (Call.Trim n) ≡ None }
-        ensures event { (r : Replica) → StandsFor self.old.state r → OnOk result (IsEventAt r by (LetGo n) Reply.Nothing self.new.state) }
+        ensures event { (r : Replica) → StandsFor self.old.state r → OnOk result (IsEventAt r by (event.Trim n) Reply.Nothing self.new.state) }
         ensures err { IfErr result (λ refusal. refusal ≡ refusal_for (bounds self.old.state) (Call.Trim n)) }
         ensures unchanged { OnErr result (self.new ≡ self.old) }
     {
@@ -347,66 +367,92 @@ impl<N: NetKeeper> Coordinator<N> {
         ensures fresh { OnOk result (IsTrue (N.fresh self.new.keeper)) }
         ensures keeper { IsTrue (N.fresh self.old.keeper) → self.new.keeper ≡ self.old.keeper }
         ensures within { IsOk result → cause (bounds self.old.state) Call.View ≡ None }
-        ensures event { (r : Replica) → StandsFor self.old.state r → IfOk result (λ view. IsEventAt r by Viewed (Reply.Seen view.at view.knowledge) self.new.state) }
+        ensures event { (r : Replica) → StandsFor self.old.state r → IfOk result (λ view. IsEventAt r by event.View (Reply.Seen view.at view.knowledge) self.new.state) }
+        ensures err { IfErr result (λ refusal. refusal ≡ refusal_for (bounds self.old.state) Call.View) }
+        ensures unchanged { OnErr result (self.new.state ≡ self.old.state) }
+    {
+        self.check_room()?;
+        self.refresh()?;
+        let network = self.network()?;
+        let sight = self.see(by)?;
+        Ok(View {
+            at: sight.at,
+            knowledge: sight.knowledge,
+            network,
+        })
+    }
+
+    /// As `view`, but with no network: a stale one stays stale. The history has the same entry. It costs what sharing what is known
+    /// costs: a pointer for each block of records, and memory for each that was written in since the last view.
+    /// HistoryFull, OutOfMemory; then nothing has changed.
+    pub fn see(&mut self, by: u32) -> Result<Sight, Refusal>
+        ensures ok { IfOk result (λ sight. self.new.state ≡ noted self.old.state (entry by Call.View (Reply.Seen sight.at sight.knowledge))) }
+        ensures at { IfOk result (λ sight. sight.at ≡ length self.old.state.history) }
+        ensures knowledge { IfOk result (λ sight. sight.knowledge ≡ self.old.state.knowledge) }
+        ensures keeper { self.new.keeper ≡ self.old.keeper }
+        ensures within { IsOk result → cause (bounds self.old.state) Call.View ≡ None }
+        ensures event { (r : Replica) → StandsFor self.old.state r → IfOk result (λ sight. IsEventAt r by event.View (Reply.Seen sight.at sight.knowledge) self.new.state) }
         ensures err { IfErr result (λ refusal. refusal ≡ refusal_for (bounds self.old.state) Call.View) }
         ensures unchanged { OnErr result (self.new.state ≡ self.old.state) }
     {
         self.known();
         self.check_room()?;
-        self.prepare()?;
-        let view = self.seen()?;
-        let viewed = Entry {
+        self.share_known()?;
+        let sight = self.sight()?;
+        let seen = Entry {
             by,
             call: Call::View,
-            reply: Reply::Seen(view.at, view.knowledge.share()?),
+            reply: Reply::Seen(sight.at, sight.knowledge.share()?),
         };
-        self.note(viewed)?;
-        Ok(view)
+        self.note(seen)?;
+        Ok(sight)
     }
 
-    // Builds the network where it is stale, and has what is known shared, so that a copy of it costs a pointer for each block.
-    fn prepare(&mut self) -> Result<(), OutOfMemory>
-        ensures state { self.new.state ≡ self.old.state }
-        ensures fresh { OnOk result (IsTrue (N.fresh self.new.keeper)) }
-        ensures keeper { IsTrue (N.fresh self.old.keeper) → self.new.keeper ≡ self.old.keeper }
+    // What there is to see.
+    fn sight(&self) -> Result<Sight, OutOfMemory>
+        ensures at { IfOk result (λ sight. sight.at ≡ length self.now.state.history) }
+        ensures knowledge { IfOk result (λ sight. sight.knowledge ≡ self.now.state.knowledge) }
     {
-        self.refresh()?;
-        self.share_known()
+        Ok(Sight {
+            at: self.history.len(),
+            knowledge: Shared::new(self.alloc, self.knowledge.copy()?)?,
+        })
     }
 
     // Has what is known shared.
     fn share_known(&mut self) -> Result<(), OutOfMemory>
         ensures state { self.new.state ≡ self.old.state }
         ensures keeper { self.new.keeper ≡ self.old.keeper }
+        ensures same { self.new ≡ self.old }
     {
         let _ = self.knowledge.share()?;
         Ok(())
     }
 
-    // Builds the network where it is stale.
+    // Makes a stale network that of what is known: from what the keeper kept, or by building.
     fn refresh(&mut self) -> Result<(), OutOfMemory>
         ensures state { self.new.state ≡ self.old.state }
         ensures fresh { OnOk result (IsTrue (N.fresh self.new.keeper)) }
         ensures keeper { IsTrue (N.fresh self.old.keeper) → self.new.keeper ≡ self.old.keeper }
     {
-        if !self.keeper.is_fresh() {
-            self.keeper.rebuild(self.alloc, &self.knowledge)?;
+        if self.keeper.is_fresh() {
+            return Ok(());
         }
+        self.knowledge.known();
+        if self.follows {
+            return self.keeper.refresh(self.alloc, &self.knowledge);
+        }
+        self.keeper.rebuild(self.alloc, &self.knowledge)?;
+        self.follows = true;
         Ok(())
     }
 
-    // What a view hands out.
-    fn seen(&self) -> Result<View, OutOfMemory>
+    // The network, for one more owner.
+    fn network(&self) -> Result<Shared<Network>, OutOfMemory>
         requires { IsTrue (N.fresh self.now.keeper) }
-        ensures at { IfOk result (λ view. view.at ≡ length self.now.state.history) }
-        ensures knowledge { IfOk result (λ view. view.knowledge ≡ self.now.state.knowledge) }
-        ensures network { IfOk result (λ view. view.network ≡ net_of self.now.state.knowledge) }
+        ensures { IfOk result (λ network. network ≡ net_of self.now.state.knowledge) }
     {
-        Ok(View {
-            at: self.history.len(),
-            knowledge: Shared::new(self.alloc, self.knowledge.copy()?)?,
-            network: self.keeper.share()?,
-        })
+        self.keeper.share()
     }
 
     // Adds an entry alone.
@@ -427,7 +473,7 @@ impl<N: NetKeeper> Coordinator<N> {
         ensures keeper { IfOk result (λ admitted. N.absorbs self.old.keeper (changed_keys (know admitted.ops)) self.new.keeper) }
         ensures admitted { IfOk result (λ a. a ≡ admitted self.old.state.knowledge self.old.state.number plan) }
         ensures within { IsOk result → cause (bounds self.old.state) (Call.Commit plan) ≡ None }
-        ensures event { (r : Replica) → StandsFor self.old.state r → IfOk result (λ admitted. IsEventAt r by (Committed plan) (Reply.Admitted admitted) self.new.state) }
+        ensures event { (r : Replica) → StandsFor self.old.state r → IfOk result (λ admitted. IsEventAt r by (event.Commit plan) (Reply.Admitted admitted) self.new.state) }
         ensures err { IfErr result (λ refusal. refusal ≡ refusal_for (bounds self.old.state) (Call.Commit plan)) }
         ensures unchanged { OnErr result (self.new ≡ self.old) }
     {

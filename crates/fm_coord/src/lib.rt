@@ -1,6 +1,8 @@
 //! One coordinator with its history.
 #![tactic(auto)]
 
+pub mod answer;
+mod calling;
 pub mod coordinator;
 pub mod entry;
 pub mod equal;

@@ -1,4 +1,4 @@
-//! What a view hands out.
+//! What looks hand out.
 
 use fm_know::knowledge::Knowledge;
 use fm_lattice::shared::Shared;
@@ -10,4 +10,11 @@ pub struct View {
     pub at: usize,
     pub knowledge: Shared<Knowledge>,
     pub network: Shared<Network>,
+}
+
+/// The same with no network.
+#[derive(Drop)]
+pub struct Sight {
+    pub at: usize,
+    pub knowledge: Shared<Knowledge>,
 }

@@ -105,7 +105,7 @@ impl Buffer {
         Ok(group)
     }
 
-    /// Sets the floor, and lets go of the deltas below it. It takes no memory, and O(1) for each delta that it drops.
+    /// Sets the floor, and lets go of the deltas below it. It takes no memory, and O(s) for deltas with s entries that it drops.
     /// BadInterval where n is below the floor or above the end, and nothing has changed.
     pub fn trim(&mut self, n: u64) -> Result<(), Refusal>
         ensures answer { result ≡ (if can_trim self.old.deltas n then Ok tt else Err Refusal.BadInterval) }

@@ -15,15 +15,33 @@ pub struct Packet {
 }
 
 impl Packet {
-    /// The packet again, in memory of its own. O(n).
+    /// The packet again. It costs what `Knowledge::copy` costs: a pointer for each block of records that is shared, and a copy of
+    /// what is not.
     pub fn copy(&self) -> Result<Packet, OutOfMemory>
         ensures { IfOk result (λ p. p ≡ self.now) }
     {
-        Ok(Packet {
+        Ok(self.with(self.value.copy()?))
+    }
+
+    /// The packet again, with which this one shares its records, at the cost of `Knowledge::share`: a pointer for each block, and
+    /// memory for each that was not shared before. After a refusal of memory the packet is as it was.
+    pub fn share(&mut self) -> Result<Packet, OutOfMemory>
+        ensures ok { IfOk result (λ p. p ≡ self.old) }
+        ensures same { self.new ≡ self.old }
+    {
+        let value = self.value.share()?;
+        Ok(self.with(value))
+    }
+
+    // This packet's sender and number, with the value.
+    fn with(&self, value: Knowledge) -> Packet
+        ensures { result ≡ record { sender = self.now.sender; number = self.now.number; value = value } }
+    {
+        Packet {
             sender: self.sender,
             number: self.number,
-            value: self.value.copy()?,
-        })
+            value,
+        }
     }
 }
 
@@ -35,7 +53,7 @@ impl PartialEq for Packet {
 
     ghost laws = { packet_equivalence };
 
-    /// Whether sender, number and value are the same. O(n log n).
+    /// Whether sender, number and value are the same: two walks along both values at most, O(n + m).
     fn eq(&self, other: &Self) -> bool
         ensures value { result ≡ same_packet self.now other.now }
         ensures exact { IsTrue result ↔ (self.now ≡ other.now) }

@@ -5,6 +5,8 @@ pub mod Covered
 pub mod Edited
 mod Examples
 pub mod Followed
+pub mod Filled
+pub mod Late
 pub mod Listings
 pub mod Preferring
 pub mod Ranges

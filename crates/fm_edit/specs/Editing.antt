@@ -1,5 +1,5 @@
 -- What an Editor is: fresh or stale, and for which table. Own.
-use Rattle.std.specs.Prelude.{Bool}
+use Rattle.std.specs.Prelude.{ℕ, ◌+◌, ◌-◌, ◌^◌, Bool, min}
 use Rattle.fm_records.specs.Table.{Table}
 use Rattle.fm_edit.specs.declared.editor.Editor.{Editor}
 use Rattle.fm_edit.specs.Memory.{IsAt}
@@ -10,3 +10,7 @@ is_fresh_editor e = e.fresh
 -- it holds the network of the table, and remembers the table
 abbrev pub IsFor : Editor → Table → Type 0
 IsFor e k = IsAt e.memory e.network k
+
+-- a count of at most 2^64 - 1, with one more
+abbrev pub one_more : ℕ → ℕ
+one_more n = min (n + 1) (2 ^ 64 - 1)

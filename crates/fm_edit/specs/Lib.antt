@@ -1,10 +1,12 @@
-pub mod Adapting
+pub mod Deferring
+pub mod DeferringLaws
 pub mod Completing
 pub mod Dirty
 pub mod Editing
 pub mod Index
 pub mod LocalLaws
 pub mod Keepers
+pub mod KeeperLaws
 pub mod Listed
 pub mod Listing
 pub mod Looking

@@ -7,7 +7,7 @@ ghost use Rattle.fm_net.specs.Edits.{after, change, MayEditAll};
 ghost use Rattle.fm_net.specs.Network.{net_of};
 ghost use Rattle.fm_policy.specs.Keeping.{TookIn};
 ghost use Rattle.fm_edit.specs.Looking.{looks_of};
-ghost use Rattle.fm_edit.specs.Editing.{is_fresh_editor, IsFor};
+ghost use Rattle.fm_edit.specs.Editing.{is_fresh_editor, one_more, IsFor};
 
 use crate::listing::list;
 use crate::look::{KnowLook, Look};
@@ -19,17 +19,20 @@ use fm_lattice::shared::Shared;
 use fm_net::edit::Edit;
 use fm_net::making::make_all;
 use fm_net::network::Network;
+use fm_policy::build::build;
 use fm_policy::changed::{Changed, changed_of};
 use fm_policy::keeper::NetKeeper;
 use std::alloc::Global;
 
 /// A keeper that follows what is known by edits of its network: it remembers the records that it saw, and which tasks are
-/// listed and count where, so that a delta costs what it changes and not what is known.
+/// listed and count where, so that a delta costs what it changes and not what is known. It counts the edits that it made since
+/// its network was built.
 #[derive(Drop)]
 pub struct Editor {
     memory: Memory,
     network: Shared<Network>,
     fresh: bool,
+    edits: u64,
 }
 
 impl Editor {
@@ -37,12 +40,37 @@ impl Editor {
     pub fn new(alloc: Global) -> Result<Editor, OutOfMemory>
         ensures fresh { IfOk result (λ e. IsTrue (is_fresh_editor e)) }
         ensures nothing { IfOk result (λ e. IsFor e (know [])) }
+        ensures edits { IfOk result (λ e. e.edits ≡ 0) }
     {
         Ok(Editor {
             memory: Memory::new(alloc),
             network: Shared::new(alloc, Network::new(alloc)?)?,
             fresh: true,
+            edits: 0,
         })
+    }
+
+    /// Fresh, with a network that was built of what is known. What there is to remember is filled in from there: O(n log n).
+    pub(crate) fn of(alloc: Global, network: Network, now: &Knowledge) -> Result<Editor, OutOfMemory>
+        requires { network ≡ net_of now.now }
+        ensures fresh { IfOk result (λ e. IsTrue (is_fresh_editor e)) }
+        ensures given { IfOk result (λ e. IsFor e now.now) }
+        ensures edits { IfOk result (λ e. e.edits ≡ 0) }
+    {
+        law_can_be(now);
+        let all = changed_of(alloc, now)?;
+        let mut look = KnowLook::new(alloc, now);
+        let mut editor = Editor::new(alloc)?;
+        editor.memory = Memory::of(alloc, &mut look, &all)?;
+        editor.network = Shared::new(alloc, network)?;
+        Ok(editor)
+    }
+
+    /// How many deltas it followed by an edit since its network was built, at most 2^64 - 1.
+    pub fn edits(&self) -> u64
+        ensures { result ≡ self.now.edits }
+    {
+        self.edits
     }
 }
 
@@ -64,6 +92,7 @@ pub fn edit<L: Look>(
     ensures given { OnOk result (IsFor editor.new (L.table look.old)) }
     ensures looks { OnOk result (L.keys look.new ≡ L.keys look.old ++ looks_of (L.table look.old) changed.now) }
     ensures same { L.table look.new ≡ L.table look.old }
+    ensures counted { OnOk result (editor.new.edits ≡ one_more editor.old.edits) }
     ensures err { OnErr result (is_fresh_editor editor.new ≡ false) }
 {
     editor.fresh = false;
@@ -79,6 +108,7 @@ pub fn edit<L: Look>(
     )?;
     make(&mut editor.network, edits.as_slice())?;
     editor.fresh = true;
+    editor.edits = editor.edits.saturating_add(1);
     Ok(edits)
 }
 
@@ -93,25 +123,16 @@ fn make(network: &mut Shared<Network>, edits: &[Edit]) -> Result<(), OutOfMemory
     make_all(network.own()?, edits)
 }
 
-// Fresh, for what is known: from nothing known by one edit.
-fn built(alloc: Global, now: &Knowledge) -> Result<Editor, OutOfMemory>
-    ensures fresh { IfOk result (λ e. IsTrue (is_fresh_editor e)) }
-    ensures given { IfOk result (λ e. IsFor e now.now) }
-{
-    law_can_be(now);
-    let mut editor = Editor::new(alloc)?;
-    let changed = changed_of(alloc, now)?;
-    let mut look = KnowLook::new(alloc, now);
-    let _edits = edit(alloc, &mut editor, &mut look, &changed)?;
-    Ok(editor)
-}
-
 impl NetKeeper for Editor {
     ghost use Rattle.fm_edit.specs.Editing.{is_fresh_editor, IsFor};
 
     ghost fresh = { is_fresh_editor };
 
     ghost is_for = { IsFor };
+
+    ghost follows = { λ e k. IsTrue (is_fresh_editor e) → IsFor e k };
+
+    ghost fresh_follows = { λ _ _ _ _ given _. given };
 
     ghost absorbs = { λ _ _ _. Unit {0} };
 
@@ -127,6 +148,8 @@ impl NetKeeper for Editor {
         ensures follows { OnOk result (IsTrue (is_fresh_editor self.old) → IsTrue (is_fresh_editor self.new)) }
         ensures err { OnErr result (is_fresh_editor self.new ≡ false) }
         ensures stale { is_fresh_editor self.old ≡ false → is_fresh_editor self.new ≡ false }
+        ensures edits { IsTrue (is_fresh_editor self.old) → OnOk result (self.new.edits ≡ one_more self.old.edits) }
+        ensures keeps_up { TookIn true (λ k. IsTrue (is_fresh_editor self.old) → IsFor self.old k) now.now changed.now → IsTrue (is_fresh_editor self.new) → IsFor self.new now.now }
         ensures absorbs { Unit {0} }
     {
         if self.fresh {
@@ -138,7 +161,14 @@ impl NetKeeper for Editor {
 
     fn rebuild(&mut self, alloc: Global, now: &Knowledge) -> Result<(), OutOfMemory> {
         self.fresh = false;
-        *self = built(alloc, now)?;
+        *self = Editor::of(alloc, build(alloc, now)?, now)?;
+        Ok(())
+    }
+
+    fn refresh(&mut self, alloc: Global, now: &Knowledge) -> Result<(), OutOfMemory> {
+        if !self.fresh {
+            self.rebuild(alloc, now)?;
+        }
         Ok(())
     }
 

@@ -1,6 +1,6 @@
 //! Where tasks are listed, and what they add up to.
 
-ghost use Rattle.std.specs.Prelude.{◌≡◌, ℕ, ◌+◌, ◌-◌, ◌<◌, ◌^◌, ◌&&◌, true, false, is_some, [], cond, length, OnOk};
+ghost use Rattle.std.specs.Prelude.{◌≡◌, ℕ, Bool, ◌+◌, ◌-◌, ◌<◌, ◌^◌, ◌&&◌, true, false, is_some, [], cond, length, OnOk};
 ghost use Rattle.fm_records.specs.Know.{know};
 ghost use Rattle.std.specs.Ordering.{is_eq, nat_cmp};
 ghost use Rattle.fm_lattice.specs.Maps.{lookup};
@@ -35,7 +35,7 @@ pub(crate) struct Index {
 impl Index {
     /// Of no tasks.
     pub(crate) fn new(alloc: Global) -> Index
-        ensures { Counts none_out (know []) result }
+        ensures { (out : ℕ → Bool) → Counts out (know []) result }
     {
         Index {
             listed: BTreeSet::new(alloc),

@@ -1,6 +1,6 @@
 //! Keepers of any kind.
 
-use crate::adaptive::Adaptive;
+use crate::deferred::Deferred;
 use crate::editor::Editor;
 use fm_know::knowledge::Knowledge;
 use fm_lattice::join::OutOfMemory;
@@ -11,21 +11,26 @@ use fm_policy::keeper::NetKeeper;
 use fm_policy::rebuilder::Rebuilder;
 use std::alloc::Global;
 
-/// A keeper that edits, one that builds anew, or one that does what costs less: so coordinators of all kinds can stand in one
-/// world.
+/// A keeper that edits at each delta, one that builds anew, or one that edits or builds when somebody looks: so coordinators of
+/// all kinds can stand in one world.
 #[derive(Drop)]
 pub enum Keeper {
     Edits(Editor),
     Builds(Rebuilder),
-    Adapts(Adaptive),
+    Defers(Deferred),
 }
 
 impl NetKeeper for Keeper {
-    ghost use Rattle.fm_edit.specs.Keepers.{is_fresh_keeper, KeeperIsFor};
+    ghost use Rattle.fm_edit.specs.Keepers.{is_fresh_keeper, KeeperIsFor, KeeperFollows};
+    ghost use Rattle.fm_edit.specs.KeeperLaws.{fresh_keeper_follows};
 
     ghost fresh = { is_fresh_keeper };
 
     ghost is_for = { KeeperIsFor };
+
+    ghost follows = { KeeperFollows };
+
+    ghost fresh_follows = { fresh_keeper_follows };
 
     ghost absorbs = { λ _ _ _. Unit {0} };
 
@@ -38,7 +43,7 @@ impl NetKeeper for Keeper {
         match self {
             Keeper::Edits(editor) => editor.absorb(alloc, now, changed),
             Keeper::Builds(rebuilder) => rebuilder.absorb(alloc, now, changed),
-            Keeper::Adapts(adaptive) => adaptive.absorb(alloc, now, changed),
+            Keeper::Defers(deferred) => deferred.absorb(alloc, now, changed),
         }
     }
 
@@ -46,7 +51,15 @@ impl NetKeeper for Keeper {
         match self {
             Keeper::Edits(editor) => editor.rebuild(alloc, now),
             Keeper::Builds(rebuilder) => rebuilder.rebuild(alloc, now),
-            Keeper::Adapts(adaptive) => adaptive.rebuild(alloc, now),
+            Keeper::Defers(deferred) => deferred.rebuild(alloc, now),
+        }
+    }
+
+    fn refresh(&mut self, alloc: Global, now: &Knowledge) -> Result<(), OutOfMemory> {
+        match self {
+            Keeper::Edits(editor) => editor.refresh(alloc, now),
+            Keeper::Builds(rebuilder) => rebuilder.refresh(alloc, now),
+            Keeper::Defers(deferred) => deferred.refresh(alloc, now),
         }
     }
 
@@ -54,7 +67,7 @@ impl NetKeeper for Keeper {
         match self {
             Keeper::Edits(editor) => editor.is_fresh(),
             Keeper::Builds(rebuilder) => rebuilder.is_fresh(),
-            Keeper::Adapts(adaptive) => adaptive.is_fresh(),
+            Keeper::Defers(deferred) => deferred.is_fresh(),
         }
     }
 
@@ -62,7 +75,7 @@ impl NetKeeper for Keeper {
         match self {
             Keeper::Edits(editor) => editor.network(),
             Keeper::Builds(rebuilder) => rebuilder.network(),
-            Keeper::Adapts(adaptive) => adaptive.network(),
+            Keeper::Defers(deferred) => deferred.network(),
         }
     }
 
@@ -70,7 +83,7 @@ impl NetKeeper for Keeper {
         match self {
             Keeper::Edits(editor) => editor.share(),
             Keeper::Builds(rebuilder) => rebuilder.share(),
-            Keeper::Adapts(adaptive) => adaptive.share(),
+            Keeper::Defers(deferred) => deferred.share(),
         }
     }
 }

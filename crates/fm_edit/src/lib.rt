@@ -1,8 +1,8 @@
 //! Networks edited instead of rebuilt: what a delta can change, and records looked up one by one.
 #![tactic(auto)]
 
-pub mod adaptive;
 mod completing;
+pub mod deferred;
 mod dirty;
 pub mod editor;
 mod index;

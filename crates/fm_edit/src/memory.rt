@@ -4,6 +4,8 @@ ghost use Rattle.std.specs.Prelude.{◌≡◌, ◌<◌, ◌^◌, ◌++◌, [], t
 ghost use Rattle.fm_records.specs.Know.{know};
 ghost use Rattle.fm_net.specs.Network.{net_of};
 ghost use Rattle.fm_net.specs.Touched.{Touches};
+ghost use Rattle.fm_records.specs.Ranges.{CanBe};
+ghost use Rattle.fm_policy.specs.Changes.{changed_keys};
 ghost use Rattle.fm_policy.specs.Keeping.{TookIn};
 ghost use Rattle.fm_edit.specs.Looking.{looks_of};
 ghost use Rattle.fm_edit.specs.Memory.{Remembers, IsAt};
@@ -36,6 +38,24 @@ impl Memory {
             seen: Seen::new(alloc),
             index: Index::new(alloc),
         }
+    }
+
+    /// What there is to remember of the table that is looked into: the keys are those of all its records, and each is looked up.
+    pub(crate) fn of<L: Look>(
+        alloc: Global,
+        look: &mut L,
+        all: &Changed,
+    ) -> Result<Memory, OutOfMemory>
+        requires can_be { CanBe (L.table look.old) }
+        requires all { all.now ≡ changed_keys (L.table look.old) }
+        ensures { IfOk result (λ m. Remembers (L.table look.old) m) }
+    {
+        let mut memory = Memory::new(alloc);
+        let machines = machines_now(alloc, look, all.machines())?;
+        see(&mut memory.seen, look, all, machines.as_slice())?;
+        memory.seen.known();
+        memory.index.put_back_all(&memory.seen, all.tasks())?;
+        Ok(memory)
     }
 
     /// Follows the table into which a delta was taken, and answers the nodes and pairs of nodes that it touched: nothing else

@@ -1,12 +1,15 @@
 -- What contracts see of seats and of a closed node (this project's profile).
-use Rattle.std.specs.Prelude.{◌≡◌, ◌⊎◌, ℕ, ◌+◌, ◌<◌, List, [], ◌∷◌, ◌++◌, length, slice_get, Some}
+use Rattle.std.specs.Prelude.{◌≡◌, ◌⊎◌, ℕ, ◌+◌, ◌<◌, ◌≤◌, List, [], ◌∷◌, ◌++◌, length, slice_get, Some}
 use Rattle.fm_records.specs.declared.refusal.Refusal.{Refusal}
 use Rattle.fm_records.specs.declared.refusal.Refusal.TheVariants.{OutOfMemory}
 use Rattle.fm_coord.specs.declared.entry.Call.{Call}
 use Rattle.fm_coord.specs.declared.entry.Reply.{Reply}
 use Rattle.fm_coord.specs.declared.entry.Entry.{Entry}
 use Rattle.fm_coord.specs.Causes.{Bounds, refusal_for}
-use Rattle.fm_coord.specs.States.{entry}
+use Rattle.fm_coord.specs.States.{State, entry}
+use Rattle.fm_coord.specs.Answers.{said, answered}
+use Rattle.fm_coord.specs.declared.answer.Answer.{Answer}
+use Rattle.fm_coord.specs.declared.entry.Reply.TheVariants as reply
 use Rattle.fm_fleet.specs.declared.seat.SeatLog.{SeatLog}
 
 -- a seat's number, and the entries of its accepted calls
@@ -24,6 +27,16 @@ called s call reply = seen_seat s.number (s.log ++ entry s.number call reply ∷
 -- a refusal that a coordinator may answer to a call: want of memory, or the call's cause at some bounds
 abbrev pub MayRefuse : Call → Refusal → Type 0
 MayRefuse call refusal = (refusal ≡ OutOfMemory) ⊎ ((b : Bounds) × (refusal ≡ refusal_for b call))
+
+-- what a call may be answered: what some coordinator answers to it that has so many entries at least
+pub record IsAnswered (least : ℕ) (call : Call) (answer : Answer) : Type 0 where
+  pub state : State
+  pub is : answer ≡ answered state call
+  pub later : least ≤ length state.history
+
+-- such a call is answered with nothing more than that it is done
+abbrev pub IsDone : Call → Type 0
+IsDone call = (s : State) → said (answered s call) ≡ reply.Nothing
 
 -- so many seats, numbered from 1, that called nothing yet
 abbrev pub AreNew : ℕ → List SeatSeen → Type 0

@@ -1,11 +1,13 @@
 //! Nodes: coordinators that threads share, each by a seat of its own.
 ghost use Rattle.std.specs.Prelude.{◌≡◌, ◌<◌, ◌≤◌, ◌+◌, [], length, vec_len, vec_capacity, IfOk, IfErr, OnOk, OnErr};
 ghost use Rattle.fm_net.specs.Network.{net_of};
-ghost use Rattle.fm_fleet.specs.Seats.{called, MayRefuse, AreNew};
+ghost use Rattle.fm_coord.specs.Answers.{said};
+ghost use Rattle.fm_fleet.specs.Seats.{called, MayRefuse, IsAnswered, IsDone, AreNew};
 
 use crate::desk::Desk;
-use crate::owners::another;
+use crate::owners::listed;
 use crate::seat::{NodeName, Seat, SeatLog};
+use fm_coord::answer::Answer;
 use fm_coord::coordinator::Coordinator;
 use fm_coord::entry::{Call, Entry, Range, Reply};
 use fm_coord::shared::Shared;
@@ -112,9 +114,42 @@ fn seat_all<L: NodeName>(alloc: Global, seats: &mut Vec<Seat<L>>, all: &mut Shar
     }
 }
 
-// Each call is that of the coordinator by the seat's number, with the lock held for that call alone. The seat's list grows
-// by one place, and what goes into it is copied, before the lock is asked for, so nothing can fail behind it.
 impl<N: NetKeeper, L: NodeName> Node<N, L> {
+    /// Any call, as the coordinator's `call` by the seat's number, with the lock held for that call alone. The seat's list grows
+    /// by one place, and what goes into it is shared with what the coordinator gets, before the lock is asked for, so nothing can
+    /// fail behind it. The coordinator has at least as many entries before it as there were at the node's start and are in the
+    /// seat's list.
+    /// What that refuses, and OutOfMemory; then the seat is as it was.
+    pub fn call<R: Wait>(
+        &self,
+        rt: &R,
+        seat: &mut Seat<L>,
+        mut call: Call,
+    ) -> Result<Answer, Refusal>
+        ensures ok { IfOk result (λ answer. seat.new ≡ called seat.old call (said answer)) }
+        ensures answer { IfOk result (λ answer. IsAnswered (L.base + length seat.old.log) call answer) }
+        ensures cause { IfErr result (λ refusal. MayRefuse call refusal) }
+        ensures err { OnErr result (seat.new ≡ seat.old) }
+    {
+        if seat.log.reserve(1).is_err() {
+            return Err(Refusal::OutOfMemory);
+        }
+        let Ok(made) = call.share() else {
+            return Err(Refusal::OutOfMemory);
+        };
+        let Seat { number, log, share } = seat;
+        let answer = match self.desk.lock(rt).call(*number, call, share) {
+            Ok(answer) => answer,
+            Err(refusal) => return Err(refusal),
+        };
+        log.push_reserved(Entry {
+            by: *number,
+            call: made,
+            reply: listed(rt, &answer),
+        });
+        Ok(answer)
+    }
+
     /// Takes an operation in, as the coordinator's `tell`.
     /// What that refuses, and OutOfMemory; then the seat is as it was.
     pub fn tell<R: Wait>(&self, rt: &R, seat: &mut Seat<L>, op: Op) -> Result<(), Refusal>
@@ -122,20 +157,7 @@ impl<N: NetKeeper, L: NodeName> Node<N, L> {
         ensures cause { IfErr result (λ refusal. MayRefuse (Call.Tell op) refusal) }
         ensures err { OnErr result (seat.new ≡ seat.old) }
     {
-        if seat.log.reserve(1).is_err() {
-            return Err(Refusal::OutOfMemory);
-        }
-        let Seat { number, log, share } = seat;
-        let answer = self.desk.lock(rt).tell(*number, &op, share);
-        if let Err(refusal) = answer {
-            return Err(refusal);
-        }
-        log.push_reserved(Entry {
-            by: *number,
-            call: Call::Tell(op),
-            reply: Reply::Nothing,
-        });
-        Ok(())
+        self.done(rt, seat, Call::Tell(op))
     }
 
     /// Takes a packet's value in, as the coordinator's `merge`.
@@ -145,23 +167,7 @@ impl<N: NetKeeper, L: NodeName> Node<N, L> {
         ensures cause { IfErr result (λ refusal. MayRefuse (Call.Merge packet) refusal) }
         ensures err { OnErr result (seat.new ≡ seat.old) }
     {
-        if seat.log.reserve(1).is_err() {
-            return Err(Refusal::OutOfMemory);
-        }
-        let Ok(merged) = packet.copy() else {
-            return Err(Refusal::OutOfMemory);
-        };
-        let Seat { number, log, share } = seat;
-        let answer = self.desk.lock(rt).merge(*number, packet, share);
-        if let Err(refusal) = answer {
-            return Err(refusal);
-        }
-        log.push_reserved(Entry {
-            by: *number,
-            call: Call::Merge(merged),
-            reply: Reply::Nothing,
-        });
-        Ok(())
+        self.done(rt, seat, Call::Merge(packet))
     }
 
     /// Cuts a packet, as the coordinator's `cut`.
@@ -176,21 +182,11 @@ impl<N: NetKeeper, L: NodeName> Node<N, L> {
         ensures cause { IfErr result (λ refusal. MayRefuse (Call.Cut range) refusal) }
         ensures err { OnErr result (seat.new ≡ seat.old) }
     {
-        if seat.log.reserve(1).is_err() {
-            return Err(Refusal::OutOfMemory);
+        match self.call(rt, seat, Call::Cut(range)) {
+            Ok(Answer::Packet(packet)) => Ok(packet),
+            Ok(_) => unreachable!(),
+            Err(refusal) => Err(refusal),
         }
-        let Seat { number, log, share } = seat;
-        let answer = self.desk.lock(rt).cut(*number, range, share);
-        let packet = match answer {
-            Ok(packet) => packet,
-            Err(refusal) => return Err(refusal),
-        };
-        log.push_reserved(Entry {
-            by: *number,
-            call: Call::Cut(range),
-            reply: Reply::Packet(another(rt, &packet)),
-        });
-        Ok(packet)
     }
 
     /// Lets the deltas below n go, as the coordinator's `trim`.
@@ -200,20 +196,7 @@ impl<N: NetKeeper, L: NodeName> Node<N, L> {
         ensures cause { IfErr result (λ refusal. MayRefuse (Call.Trim n) refusal) }
         ensures err { OnErr result (seat.new ≡ seat.old) }
     {
-        if seat.log.reserve(1).is_err() {
-            return Err(Refusal::OutOfMemory);
-        }
-        let Seat { number, log, share } = seat;
-        let answer = self.desk.lock(rt).trim(*number, n, share);
-        if let Err(refusal) = answer {
-            return Err(refusal);
-        }
-        log.push_reserved(Entry {
-            by: *number,
-            call: Call::Trim(n),
-            reply: Reply::Nothing,
-        });
-        Ok(())
+        self.done(rt, seat, Call::Trim(n))
     }
 
     /// What is known, as the coordinator's `view`. There are at least as many entries before it as there were at the node's
@@ -226,21 +209,11 @@ impl<N: NetKeeper, L: NodeName> Node<N, L> {
         ensures cause { IfErr result (λ refusal. MayRefuse Call.View refusal) }
         ensures err { OnErr result (seat.new ≡ seat.old) }
     {
-        if seat.log.reserve(1).is_err() {
-            return Err(Refusal::OutOfMemory);
+        match self.call(rt, seat, Call::View) {
+            Ok(Answer::View(view)) => Ok(view),
+            Ok(_) => unreachable!(),
+            Err(refusal) => Err(refusal),
         }
-        let Seat { number, log, share } = seat;
-        let answer = self.desk.lock(rt).view(*number, share);
-        let view = match answer {
-            Ok(view) => view,
-            Err(refusal) => return Err(refusal),
-        };
-        log.push_reserved(Entry {
-            by: *number,
-            call: Call::View,
-            reply: Reply::Seen(view.at, another(rt, &view.knowledge)),
-        });
-        Ok(view)
     }
 
     /// Admits a plan and takes in what it comes to, as the coordinator's `commit`.
@@ -255,23 +228,23 @@ impl<N: NetKeeper, L: NodeName> Node<N, L> {
         ensures cause { IfErr result (λ refusal. MayRefuse (Call.Commit plan) refusal) }
         ensures err { OnErr result (seat.new ≡ seat.old) }
     {
-        if seat.log.reserve(1).is_err() {
-            return Err(Refusal::OutOfMemory);
+        match self.call(rt, seat, Call::Commit(plan)) {
+            Ok(Answer::Admitted(admitted)) => Ok(admitted),
+            Ok(_) => unreachable!(),
+            Err(refusal) => Err(refusal),
         }
-        let Ok(committed) = plan.copy() else {
-            return Err(Refusal::OutOfMemory);
-        };
-        let Seat { number, log, share } = seat;
-        let answer = self.desk.lock(rt).commit(*number, plan, share);
-        let admitted = match answer {
-            Ok(admitted) => admitted,
-            Err(refusal) => return Err(refusal),
-        };
-        log.push_reserved(Entry {
-            by: *number,
-            call: Call::Commit(committed),
-            reply: Reply::Admitted(another(rt, &admitted)),
-        });
-        Ok(admitted)
+    }
+
+    // A call that is answered with nothing more than that it is done.
+    fn done<R: Wait>(&self, rt: &R, seat: &mut Seat<L>, call: Call) -> Result<(), Refusal>
+        requires { IsDone call }
+        ensures ok { OnOk result (seat.new ≡ called seat.old call Reply.Nothing) }
+        ensures cause { IfErr result (λ refusal. MayRefuse call refusal) }
+        ensures err { OnErr result (seat.new ≡ seat.old) }
+    {
+        match self.call(rt, seat, call) {
+            Ok(_) => Ok(()),
+            Err(refusal) => Err(refusal),
+        }
     }
 }

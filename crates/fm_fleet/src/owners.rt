@@ -1,13 +1,16 @@
-//! One owner more of a shared value.
+//! One owner more of what was answered.
 ghost use Rattle.std.specs.Prelude.{◌≡◌};
+ghost use Rattle.fm_coord.specs.Answers.{said};
 
+use fm_coord::answer::Answer;
+use fm_coord::entry::Reply;
 use fm_coord::shared::Shared;
 use std::sync::Wait;
 use std::thread;
 
-/// The same value for one more owner. It waits while no more owners can be counted, of which there may be nearly 2^63: an
-/// answer that was given can be refused no more.
-pub fn another<T: Drop, R: Wait>(rt: &R, value: &Shared<T>) -> Shared<T>
+// The same value for one more owner. It waits while no more owners can be counted, of which there may be nearly 2^63: an
+// answer that was given can be refused no more.
+fn another<T: Drop, R: Wait>(rt: &R, value: &Shared<T>) -> Shared<T>
     ensures { result ≡ value.now }
 {
     for _ in rt.forever() {
@@ -17,4 +20,16 @@ pub fn another<T: Drop, R: Wait>(rt: &R, value: &Shared<T>) -> Shared<T>
         thread::yield_now();
     }
     unreachable!()
+}
+
+/// The answer as a list keeps it, with one owner more of what it holds. It waits as `another` does.
+pub fn listed<R: Wait>(rt: &R, answer: &Answer) -> Reply
+    ensures { result ≡ said answer.now }
+{
+    match answer {
+        Answer::Done => Reply::Nothing,
+        Answer::Packet(packet) => Reply::Packet(another(rt, packet)),
+        Answer::View(view) => Reply::Seen(view.at, another(rt, &view.knowledge)),
+        Answer::Admitted(admitted) => Reply::Admitted(another(rt, admitted)),
+    }
 }

@@ -7,7 +7,8 @@ use Rattle.fm_records.specs.declared.refusal.Refusal.TheVariants.{OutOfMemory}
 use Rattle.fm_records.specs.Options.{or_else}
 use Rattle.fm_records.specs.Sets.{IsMember}
 use Rattle.fm_delta.specs.declared.packet.Packet.{Packet}
-use Rattle.fm_coord.specs.Events.{Sent, Event, Told, Merged, Gave, LetGo, Viewed, Committed, Replica, opening, happens}
+use Rattle.fm_coord.specs.Events.{Sent, Event, Replica, opening, happens}
+use Rattle.fm_coord.specs.Events as event
 use Rattle.fm_coord.specs.Numbers.{AreDistinct}
 use Rattle.fm_coord.specs.Replays.{seen}
 use Rattle.fm_coord.specs.States.{State, WithKeeper, StandsFor}
@@ -22,17 +23,17 @@ abbrev pub number : Replica → ℕ
 number r = r.number
 
 -- no step changes a replica's number
-same_number : (by : ℕ) (event : Event) (r : Replica) → number (happens r by event) ≡ number r
-same_number by (Told op) r = refl
-same_number by (Merged packet) r = refl
-same_number by (Gave range) r = refl
-same_number by (LetGo n) r = refl
-same_number by Viewed r = refl
-same_number by (Committed plan) r = refl
+same_number : (by : ℕ) (e : Event) (r : Replica) → number (happens r by e) ≡ number r
+same_number by (event.Tell op) r = refl
+same_number by (event.Merge packet) r = refl
+same_number by (event.Cut range) r = refl
+same_number by (event.Trim n) r = refl
+same_number by event.View r = refl
+same_number by (event.Commit plan) r = refl
 
 same_acted : (by : ℕ) (o : Option Event) (r : Replica) → number (acted by o r) ≡ number r
 same_acted by None r = refl
-same_acted by (Some event) r = same_number by event r
+same_acted by (Some e) r = same_number by e r
 
 same_one : (b : Bool) (r s : Replica) (rs ss : List Replica) → number s ≡ number r → map number ss ≡ map number rs → map number (cond b (s ∷ rs) (r ∷ ss)) ≡ number r ∷ map number rs
 same_one true r s rs ss e h = ap (λ n. n ∷ map number rs) e
@@ -74,7 +75,7 @@ pub record IsNext (s : State) (i : ℕ) (rs : List Replica) : Type 0 where
   pub replica : Replica
   pub stands : StandsFor s replica
   pub untouched : with_number (halfway i rs) s.number ≡ Some (opening s.number history_limit)
-  pub taken : changed_at s.number (λ r. happens r 0 (Merged (whole_of replica))) (halfway i rs) ≡ halfway (suc i) rs
+  pub taken : changed_at s.number (λ r. happens r 0 (event.Merge (whole_of replica))) (halfway i rs) ≡ halfway (suc i) rs
 
 module _ {N : Type 0} where
   listed : (cs : List (WithKeeper N)) (i : ℕ) (c : WithKeeper N) → i < length cs → c ≡ get_or cs i c → IsMember c.state.number (map number_of cs)
@@ -90,7 +91,7 @@ module _ {N : Type 0} where
         replica = r;
         stands = st;
         untouched = ap (λ b. cond b (Some (opening r.number history_limit)) (with_number (halfway 0 rs) c.state.number)) on ∙ ap (λ n. Some (opening n history_limit)) (sym st.number);
-        taken = ap (λ b. cond b (renewed_replica r ∷ halfway 0 rs) (opening r.number history_limit ∷ changed_at c.state.number (λ x. happens x 0 (Merged (whole_of r))) (halfway 0 rs))) on;
+        taken = ap (λ b. cond b (renewed_replica r ∷ halfway 0 rs) (opening r.number history_limit ∷ changed_at c.state.number (λ x. happens x 0 (event.Merge (whole_of r))) (halfway 0 rs))) on;
       }
 
   later : (c : WithKeeper N) (i : ℕ) (r : Replica) (rs : List Replica) → (r.number ≡ c.state.number → ⊥) → IsNext c.state i rs → IsNext c.state (suc i) (r ∷ rs)
@@ -101,7 +102,7 @@ module _ {N : Type 0} where
         stands = h.stands;
         untouched = ap (λ b. cond b (Some (renewed_replica r)) (with_number (halfway i rs) c.state.number)) off ∙ h.untouched;
         taken =
-            ap (λ b. cond b (happens (renewed_replica r) 0 (Merged (whole_of h.replica)) ∷ halfway i rs) (renewed_replica r ∷ changed_at c.state.number (λ x. happens x 0 (Merged (whole_of h.replica))) (halfway i rs))) off
+            ap (λ b. cond b (happens (renewed_replica r) 0 (event.Merge (whole_of h.replica)) ∷ halfway i rs) (renewed_replica r ∷ changed_at c.state.number (λ x. happens x 0 (event.Merge (whole_of h.replica))) (halfway i rs))) off
             ∙ ap (λ xs. renewed_replica r ∷ xs) h.taken;
       }
 
@@ -160,9 +161,9 @@ module _ {N : Type 0} (cs : List (WithKeeper N)) (old : Kept) (those : map state
       its_turn : IsNext c.state i w.replicas
       its_turn = next cs w.replicas i c (all_stand w h) (are_distinct reached) lt is
 
-      merged : (n : ℕ) → n ≡ c.state.number → changed_at n (λ r. happens r 0 (Merged (whole_of its_turn.replica))) (halfway i w.replicas) ≡ halfway (i + 1) w.replicas
+      merged : (n : ℕ) → n ≡ c.state.number → changed_at n (λ r. happens r 0 (event.Merge (whole_of its_turn.replica))) (halfway i w.replicas) ≡ halfway (i + 1) w.replicas
       merged n e =
-          ap (λ m. changed_at m (λ r. happens r 0 (Merged (whole_of its_turn.replica))) (halfway i w.replicas)) e
+          ap (λ m. changed_at m (λ r. happens r 0 (event.Merge (whole_of its_turn.replica))) (halfway i w.replicas)) e
           ∙ its_turn.taken ∙ ap (λ k. halfway k w.replicas) (sym (add-one i))
 
       pub one_more : ((r : Replica) → StandsFor c.state r → packet ≡ seen (whole_of r)) → (after : Kept)
@@ -181,4 +182,4 @@ module _ {N : Type 0} (cs : List (WithKeeper N)) (old : Kept) (those : map state
         let w = run_of (opening_world reached.openings) reached.steps in
         let untouched = ap (with_number (halfway i w.replicas)) its ∙ (its_turn w reached.stands).untouched in
         why (halfway_world i w) (before w reached.stands)
-        ∙ ap (λ o. or_else OutOfMemory (cause_at o (Some (Merged (spelled_out packet))))) untouched
+        ∙ ap (λ o. or_else OutOfMemory (cause_at o (Some (event.Merge (spelled_out packet))))) untouched

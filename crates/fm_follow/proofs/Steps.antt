@@ -15,7 +15,8 @@ use Rattle.fm_coord.specs.declared.entry.Range.{Range}
 use Rattle.fm_coord.specs.declared.entry.Range.TheVariants.{Interval, Full}
 use Rattle.fm_delta.specs.Deltas.{end_of}
 use Rattle.fm_coord.specs.Causes.{cause, refusal_for, room_fault}
-use Rattle.fm_coord.specs.Events.{Gave, Viewed, Committed, Replica, packet_of}
+use Rattle.fm_coord.specs.Events.{Replica, packet_of}
+use Rattle.fm_coord.specs.Events as event
 use Rattle.fm_coord.specs.Replays.{seen}
 use Rattle.fm_coord.specs.States.{State, bounds, StandsFor}
 use Rattle.fm_coord.specs.StepLaws.{same_bounds}
@@ -58,7 +59,7 @@ pub counted : (k : Kept) (w : WorldOfSets) → WorldStandsFor k w → length k.p
 counted k w h = ap length h.packets ∙ length-map w.packets seen
 
 -- a commit is refused as a view would be
-same_cause : (o : Option Replica) (plan : Plan) → cause_at o (Some (Committed plan)) ≡ cause_at o (Some Viewed)
+same_cause : (o : Option Replica) (plan : Plan) → cause_at o (Some (event.Commit plan)) ≡ cause_at o (Some event.View)
 same_cause None plan = refl
 same_cause (Some r) plan = refl
 
@@ -86,10 +87,10 @@ module _ (k : Kept) (w : WorldOfSets) (at : ℕ) (h : WorldStandsFor k w) where
 
     -- the cause at the coordinator is that of the step
     pub cut_cause : (range : Range) → cause (bounds s) (call.Cut range) ≡ cause_of w (step_at at (act.Cut range))
-    cut_cause range = ap (λ b. cause b (call.Cut range)) (same_bounds s here.replica here.stands) ∙ ap (λ o. cause_at o (Some (Gave range))) (sym here.at)
+    cut_cause range = ap (λ b. cause b (call.Cut range)) (same_bounds s here.replica here.stands) ∙ ap (λ o. cause_at o (Some (event.Cut range))) (sym here.at)
 
     pub view_cause : cause (bounds s) call.View ≡ cause_of w (step_at at act.View)
-    view_cause = ap (λ b. cause b call.View) (same_bounds s here.replica here.stands) ∙ ap (λ o. cause_at o (Some Viewed)) (sym here.at)
+    view_cause = ap (λ b. cause b call.View) (same_bounds s here.replica here.stands) ∙ ap (λ o. cause_at o (Some event.View)) (sym here.at)
 
     -- a full history refuses a view
     pub full : (refusal : Refusal) → room_fault (bounds s) ≡ Some refusal → refusal ≡ refusal_of w (step_at at act.View)

@@ -1,6 +1,7 @@
 -- Coordinators made anew from all that they know, so that histories, deltas and packets are let go (this project's profile).
 use Rattle.std.specs.Prelude.{[], map}
-use Rattle.fm_coord.specs.Events.{Sent, Merged, Replica, opening, happens}
+use Rattle.fm_coord.specs.Events.{Sent, Replica, opening, happens}
+use Rattle.fm_coord.specs.Events as event
 use Rattle.fm_world.specs.Worlds.{WorldOfSets}
 use Rattle.fm_opening.specs.Openings.{history_limit, opened}
 
@@ -10,7 +11,7 @@ whole_of r = record { sender = r.number; number = 0; set = r.taken }
 
 -- a replica to which nothing happened but that it took that in
 abbrev pub renewed_replica : Replica → Replica
-renewed_replica r = happens (opening r.number history_limit) 0 (Merged (whole_of r))
+renewed_replica r = happens (opening r.number history_limit) 0 (event.Merge (whole_of r))
 
 -- the world of such replicas; no packet was cut
 abbrev pub renewed : WorldOfSets → WorldOfSets

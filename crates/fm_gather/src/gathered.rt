@@ -7,7 +7,6 @@ ghost use Rattle.fm_gather.specs.Listings.{CannotGo};
 use crate::packets::Packets;
 use fm_coord::entry::{Call, Entry, Reply};
 use fm_lattice::join::OutOfMemory;
-use fm_round::parts::Plan;
 use fm_world::step::{Act, Step};
 use std::alloc::Global;
 
@@ -77,9 +76,6 @@ fn act_of(call: &Call, packets: &Packets) -> Result<Option<Act>, OutOfMemory>
         Call::Cut(range) => Some(Act::Cut(*range)),
         Call::Trim(n) => Some(Act::Trim(*n)),
         Call::View => Some(Act::View),
-        Call::Commit(plan) => Some(Act::Commit(Plan {
-            places: plan.places.copy()?,
-            preempts: plan.preempts.copy()?,
-        })),
+        Call::Commit(plan) => Some(Act::Commit(plan.copy()?)),
     })
 }

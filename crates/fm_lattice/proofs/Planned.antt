@@ -1,12 +1,12 @@
 -- What is there when the plan of a join is carried out.
-use Rattle.std.proofs.Common.{◌≡◌, ℕ, Bool, List, length, sym, ◌∙◌, ap, subst}
+use Rattle.std.proofs.Common.{◌≡◌, ℕ, Bool, List, [], length, sym, ◌∙◌, ap, subst}
 use Rattle.std.specs.declared.vec.Vec.{Vec}
 use Rattle.std.specs.Cmp.{IsTotalOrder}
 use Rattle.std.specs.declared.cmp.Ordering.{Ordering}
 use Rattle.fm_lattice.specs.Chains.{TellsApart}
 use Rattle.fm_lattice.specs.Joins.{JoinLaws}
 use Rattle.fm_lattice.specs.Maps.{IsMap, map_join}
-use Rattle.fm_lattice.specs.MapLaws.{is_map_join}
+use Rattle.fm_lattice.specs.MapLaws.{is_map_join, map_laws}
 use Rattle.fm_lattice.specs.Stocks.{Stock}
 use Rattle.fm_lattice.specs.Blocks.{pairs_of, AreHeaded, IsKept}
 use Rattle.fm_lattice.specs.Plans.{outcome}
@@ -29,3 +29,11 @@ kept_same cmp is_value bs new count kept pairs headed = record {
   headed = headed;
   counted = kept.counted ∙ ap length (sym pairs);
 }
+
+-- what is joined where nothing is there, and where it tells nothing new
+module _ {K V : Type 0} (cmp : K → K → Ordering) (total : IsTotalOrder cmp) (same : TellsApart cmp) (join : V → V → V) (is_value : V → Type 0) (laws : JoinLaws is_value join) (es : List (K × V)) (is : IsMap cmp is_value es) where
+  pub joined_to_none : es ≡ map_join cmp join [] es
+  joined_to_none = (map_laws cmp total same join is_value laws).comm es [] is (record { rising = tt; values = tt })
+
+  pub tells_nothing : (here : List (K × V)) → IsMap cmp is_value here → map_join cmp join es here ≡ here → here ≡ map_join cmp join here es
+  tells_nothing here map below = sym below ∙ (map_laws cmp total same join is_value laws).comm es here is map

@@ -64,8 +64,8 @@ abbrev pub IsOwnedAt : {K V : Type 0} → List (K × Stock (K × V)) → ℕ →
 IsOwnedAt {K} {V} bs i = (d : K × Stock (K × V)) → (slice_index_or bs i d).1.owned ≡ true
 
 -- the block at place i has at least so many pairs
-abbrev pub IsFullAt : {K V : Type 0} → ℕ → List (K × Stock (K × V)) → ℕ → Type 0
-IsFullAt {K} {V} full bs i = (d : K × Stock (K × V)) → full ≤ length (slice_index_or bs i d).1.items
+abbrev pub HasAt : {K V : Type 0} → ℕ → List (K × Stock (K × V)) → ℕ → Type 0
+HasAt {K} {V} count bs i = (d : K × Stock (K × V)) → count ≤ length (slice_index_or bs i d).1.items
 
 -- the key's block is at place i, and takes the key: the map has it alone, with room for one more pair unless the key is there
 pub record TakesKey {K V : Type 0} (cmp : K → K → Ordering) (k : K) (bs : List (K × Stock (K × V))) (i : ℕ) : Type 0 where

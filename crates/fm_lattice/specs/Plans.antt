@@ -15,7 +15,7 @@ pub record IsReady {K V A : Type 0} (cmp : K → K → Ordering) (bs : Vec (K ×
   pub headed : aside ≡ true → AreHeaded whole
   pub counted : aside ≡ true → whole_len ≡ length (pairs_of whole)
   pub some : aside ≡ false → 0 < vec_len bs
-  pub spares : aside ≡ false → HaveSpares cmp 64 (pairs_of bs.items) changes.items
+  pub spares : aside ≡ false → HaveSpares cmp 2 (pairs_of bs.items) changes.items
   pub owned : aside ≡ false → GoToOwned cmp bs.items changes.items
   pub room : aside ≡ false → vec_len bs + vec_len changes ≤ vec_capacity bs
   pub fits : aside ≡ false → len + vec_len changes < 2 ^ 64

@@ -2,7 +2,6 @@
 
 ghost use Rattle.std.specs.Prelude.{◌≡◌, ◌≤◌, ◌<◌, ◌+◌, ◌++◌, ◌∷◌, [], List, None, true, IfOk, OnOk, OnErr, length, vec_len, vec_capacity};
 ghost use Rattle.fm_lattice.specs.Maps.{IsRising, lookup, put, replaced};
-ghost use Rattle.fm_lattice.specs.Blocks.{IsSpare};
 ghost use Rattle.fm_lattice.specs.Stocks.{alone};
 
 use crate::chain::Chain;
@@ -85,8 +84,8 @@ impl<K: Chain, V: Drop> Block<K, V> {
     // Moves the pairs to the spare block, which has more room.
     pub(crate) fn enlarge(&mut self, mut spare: Vec<(K, V)>)
         requires owned { self.old.owned ≡ true }
-        requires spare { IsSpare 64 spare }
-        requires small { length self.old.items < 64 }
+        requires empty { vec_len spare ≡ 0 }
+        requires more { length self.old.items < vec_capacity spare }
         ensures items { self.new.items ≡ self.old.items }
         ensures owned { self.new.owned ≡ true }
         ensures room { length self.new.items < self.new.room }
@@ -158,7 +157,7 @@ impl<K: Chain, V: Join> Block<K, V> {
         }
     }
 
-    // Lets the map have the block alone: where others share it, it gets a copy of each pair.
+    // Lets the map have the block alone: where it was shared, it gets a copy of each pair, also if no one else has it any more.
     // After a refusal of memory the pairs are as they were.
     pub(crate) fn own(&mut self) -> Result<(), OutOfMemory>
         ensures items { self.new.items ≡ self.old.items }
@@ -166,6 +165,20 @@ impl<K: Chain, V: Join> Block<K, V> {
     {
         if let Held::Shared(pairs) = &self.held {
             self.held = Held::Own(copied_pairs(pairs)?);
+        }
+        Ok(())
+    }
+
+    // Lets the map have the block alone, and asks for room for so many pairs more.
+    // After a refusal of memory the pairs are as they were.
+    pub(crate) fn own_for(&mut self, more: usize) -> Result<(), OutOfMemory>
+        ensures items { self.new.items ≡ self.old.items }
+        ensures owned { OnOk result (self.new.owned ≡ true) }
+    {
+        self.own()?;
+        match &mut self.held {
+            Held::Own(pairs) => pairs.reserve(more)?,
+            Held::Shared(_) => unreachable!(),
         }
         Ok(())
     }

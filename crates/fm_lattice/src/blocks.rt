@@ -2,16 +2,20 @@
 
 ghost use Rattle.std.specs.Prelude.{◌≡◌, ◌+◌, ◌≤◌, ◌<◌, ◌++◌, ℕ, List, None, IsTrue, true, false, IfOk, OnOk, length, option_copied, slice_index_or, vec_len, vec_capacity};
 ghost use Rattle.fm_lattice.specs.Maps.{IsRising, lookup, put, replaced};
-ghost use Rattle.fm_lattice.specs.Blocks.{pairs_of, BeginsWith, AreHeaded, IsAbove, IsBlockOf, IsHomeOf, GoesToOwned, IsOwnedAt, IsFullAt, TakesKey, IsSpare};
+ghost use Rattle.fm_lattice.specs.Blocks.{pairs_of, BeginsWith, AreHeaded, IsAbove, IsBlockOf, IsHomeOf, GoesToOwned, IsOwnedAt, HasAt, TakesKey, IsSpare};
 
 use crate::block::Block;
 use crate::chain::Chain;
 use crate::join::{Join, OutOfMemory};
 use crate::rising::place;
+use std::alloc::Global;
 use std::cmp::Ordering;
 
 // A block of so many pairs is cut before it takes one more.
 pub(crate) const FULL: usize = 64;
+
+// A spare block has room for so many pairs at least: a last pair, and a key behind it.
+pub(crate) const LEAST: usize = 2;
 
 // Whether the key comes after all that stand there.
 pub(crate) fn comes_last<K: Chain, V>(blocks: &[(K, Block<K, V>)], key: &K) -> bool
@@ -71,11 +75,12 @@ pub(crate) fn value_in<'a, K: Chain, V>(pairs: &'a [(K, V)], key: &K) -> Option<
     }
 }
 
-// Lets the map have the key's block alone, and answers where the block is. O(log n), and a copy of the block's pairs where
-// others share it. After a refusal of memory the pairs are as they were.
+// Lets the map have the key's block alone, asks there for room for so many pairs more, and answers where the block is.
+// O(log n), and a copy of the block's pairs where it was shared. After a refusal of memory the pairs are as they were.
 pub(crate) fn own_block<K: Chain, V: Join>(
     blocks: &mut Vec<(K, Block<K, V>)>,
     key: &K,
+    more: usize,
 ) -> Result<usize, OutOfMemory>
     requires some { 0 < vec_len blocks.old }
     requires headed { AreHeaded blocks.old.items }
@@ -89,16 +94,16 @@ pub(crate) fn own_block<K: Chain, V: Join>(
     ensures keeps { OnOk result ((k : K) → GoesToOwned K.cmp blocks.old.items k → GoesToOwned K.cmp blocks.new.items k) }
 {
     let at = block_of(blocks, key);
-    own(&mut blocks[at])?;
+    own(&mut blocks[at], more)?;
     Ok(at)
 }
 
-fn own<K: Chain, V: Join>(block: &mut (K, Block<K, V>)) -> Result<(), OutOfMemory>
+fn own<K: Chain, V: Join>(block: &mut (K, Block<K, V>), more: usize) -> Result<(), OutOfMemory>
     ensures key { block.new.0 ≡ block.old.0 }
     ensures items { block.new.1.items ≡ block.old.1.items }
     ensures owned { OnOk result (block.new.1.owned ≡ true) }
 {
-    block.1.own()
+    block.1.own_for(more)
 }
 
 // Makes room in the key's block, which is cut where it is full, and answers where the block is.
@@ -114,14 +119,15 @@ pub(crate) fn make_room<K: Chain, V: Join>(
     ensures pairs { pairs_of blocks.new.items ≡ pairs_of blocks.old.items }
     ensures headed { AreHeaded blocks.new.items }
 {
-    let at = own_block(blocks, key)?;
+    let at = own_block(blocks, key, 0)?;
     if blocks[at].1.pairs().len() < FULL {
         reserve_one(&mut blocks[at])?;
         return Ok(at);
     }
     blocks.reserve(1)?;
     let spare = Vec::with_capacity(*blocks.allocator(), FULL)?;
-    Ok(cut(blocks, at, spare, key))
+    let count = moved_count(blocks, at, key);
+    Ok(cut(blocks, at, spare, count, key))
 }
 
 fn reserve_one<K: Chain, V: Join>(block: &mut (K, Block<K, V>)) -> Result<(), OutOfMemory>
@@ -133,7 +139,9 @@ fn reserve_one<K: Chain, V: Join>(block: &mut (K, Block<K, V>)) -> Result<(), Ou
     block.1.reserve_one()
 }
 
-// As `make_room`, with a spare block in place of the allocator, so nothing can fail.
+// As `make_room`, with a spare block in place of the allocator, so nothing can fail. With a whole spare block the key's block
+// is cut in halves, also if it is not full, so that both have room for a few keys more. One that is full although the spare
+// block is small moves its last pair there.
 pub(crate) fn take_room<K: Chain, V: Drop>(
     blocks: &mut Vec<(K, Block<K, V>)>,
     spare: Vec<(K, V)>,
@@ -144,7 +152,7 @@ pub(crate) fn take_room<K: Chain, V: Drop>(
     requires rising { IsRising K.cmp (pairs_of blocks.old.items) }
     requires owned { GoesToOwned K.cmp blocks.old.items key.now }
     requires empty { vec_len spare ≡ 0 }
-    requires spare { lookup K.cmp key.now (pairs_of blocks.old.items) ≡ None → 64 ≤ vec_capacity spare }
+    requires spare { lookup K.cmp key.now (pairs_of blocks.old.items) ≡ None → 2 ≤ vec_capacity spare }
     requires room { vec_len blocks.old < vec_capacity blocks.old }
     ensures takes { TakesKey K.cmp key.now blocks.new.items result }
     ensures pairs { pairs_of blocks.new.items ≡ pairs_of blocks.old.items }
@@ -156,25 +164,43 @@ pub(crate) fn take_room<K: Chain, V: Drop>(
 {
     let at = block_of(blocks, key);
     let len = blocks[at].1.pairs().len();
-    if len < blocks[at].1.room() {
-        return at;
-    }
+    let room = blocks[at].1.room();
+    let capacity = spare.capacity();
     // The key is there, and needs no room.
-    if spare.capacity() < FULL {
+    if capacity < LEAST {
         return at;
     }
-    if len < FULL {
+    let whole = capacity >= FULL;
+    if !whole && len < room {
+        return at;
+    }
+    if len < FULL / 2 && len < capacity {
         enlarge(&mut blocks[at], spare);
         return at;
     }
-    cut(blocks, at, spare, key)
+    let count = fewer(moved_count(blocks, at, key), len, whole);
+    cut(blocks, at, spare, count, key)
+}
+
+// How many of a block's pairs go to the spare one: as many as they are to be, but no more than half of them; one, where the
+// spare block is small.
+fn fewer(count: usize, len: usize, whole: bool) -> usize
+    requires some { 0 < count }
+    requires half { count ≤ 32 }
+    requires two { 2 ≤ len }
+    ensures some { 0 < result }
+    ensures less { result + 1 ≤ len }
+    ensures half { result ≤ 32 }
+    ensures one { whole ≡ false → result ≡ 1 }
+{
+    if whole { count.min(len / 2) } else { 1 }
 }
 
 // Moves the block's pairs to the spare one, which has more room.
 fn enlarge<K: Chain, V: Drop>(block: &mut (K, Block<K, V>), spare: Vec<(K, V)>)
     requires owned { block.old.1.owned ≡ true }
-    requires spare { IsSpare 64 spare }
-    requires small { length block.old.1.items < 64 }
+    requires empty { vec_len spare ≡ 0 }
+    requires more { length block.old.1.items < vec_capacity spare }
     ensures key { block.new.0 ≡ block.old.0 }
     ensures items { block.new.1.items ≡ block.old.1.items }
     ensures owned { block.new.1.owned ≡ true }
@@ -183,19 +209,21 @@ fn enlarge<K: Chain, V: Drop>(block: &mut (K, Block<K, V>), spare: Vec<(K, V)>)
     block.1.enlarge(spare);
 }
 
-// Cuts a full block in two, the upper pairs into the spare one, and answers which of both is the key's.
+// Cuts a block in two, the last pairs, so many of them, into the spare one, and answers which of both is the key's.
 fn cut<K: Chain, V: Drop>(
     blocks: &mut Vec<(K, Block<K, V>)>,
     at: usize,
     spare: Vec<(K, V)>,
+    count: usize,
     key: &K,
 ) -> usize
     requires block { IsBlockOf K.cmp key.now blocks.old.items at }
     requires owned { IsOwnedAt blocks.old.items at }
-    requires full { IsFullAt 64 blocks.old.items at }
+    requires some { 0 < count }
+    requires more { HasAt (count + 1) blocks.old.items at }
     requires headed { AreHeaded blocks.old.items }
     requires rising { IsRising K.cmp (pairs_of blocks.old.items) }
-    requires spare { IsSpare 64 spare }
+    requires spare { IsSpare (count + 1) spare }
     requires room { vec_len blocks.old < vec_capacity blocks.old }
     ensures takes { TakesKey K.cmp key.now blocks.new.items result }
     ensures pairs { pairs_of blocks.new.items ≡ pairs_of blocks.old.items }
@@ -204,7 +232,6 @@ fn cut<K: Chain, V: Drop>(
     ensures grows { vec_len blocks.new ≡ vec_len blocks.old + 1 }
     ensures capacity { vec_capacity blocks.new ≡ vec_capacity blocks.old }
 {
-    let count = moved_count(blocks, at, key);
     let upper = split(&mut blocks[at], spare, count);
     let first = upper.0;
     blocks.insert(at + 1, upper).unwrap();
@@ -215,7 +242,7 @@ fn cut<K: Chain, V: Drop>(
     }
 }
 
-// How many pairs of a full block go to a new one: half of them, but the last alone where the key goes to the end of all,
+// How many pairs of a full block go to a new one: half of them, but the last alone if the key goes to the end of all,
 // so that keys that come in order leave full blocks behind.
 fn moved_count<K: Chain, V>(blocks: &[(K, Block<K, V>)], at: usize, key: &K) -> usize
     requires { at < length blocks.now }
@@ -242,10 +269,9 @@ fn split<K: Chain, V: Drop>(
     count: usize,
 ) -> (K, Block<K, V>)
     requires owned { block.old.1.owned ≡ true }
-    requires spare { IsSpare 64 spare }
+    requires spare { IsSpare (count + 1) spare }
     requires some { 0 < count }
-    requires half { count ≤ 32 }
-    requires full { 64 ≤ length block.old.1.items }
+    requires more { count + 1 ≤ length block.old.1.items }
     ensures parts { block.new.1.items ++ result.1.items ≡ block.old.1.items }
     ensures key { block.new.0 ≡ block.old.0 }
     ensures first { BeginsWith result.0 result.1.items }
@@ -298,14 +324,15 @@ fn write_in<K: Chain, V: Drop>(block: &mut (K, Block<K, V>), key: K, value: V) -
 
 // The same blocks again: a pointer to each that is shared, a copy of each other.
 pub(crate) fn copied_blocks<K: Chain, V: Join>(
-    blocks: &Vec<(K, Block<K, V>)>,
+    alloc: Global,
+    blocks: &[(K, Block<K, V>)],
 ) -> Result<Vec<(K, Block<K, V>)>, OutOfMemory>
-    requires { AreHeaded blocks.now.items }
-    ensures pairs { IfOk result (λ copies. pairs_of copies.items ≡ pairs_of blocks.now.items) }
+    requires { AreHeaded blocks.now }
+    ensures pairs { IfOk result (λ copies. pairs_of copies.items ≡ pairs_of blocks.now) }
     ensures headed { IfOk result (λ copies. AreHeaded copies.items) }
 {
-    let mut copies = Vec::with_capacity(*blocks.allocator(), blocks.len())?;
-    for block in blocks.as_slice() {
+    let mut copies = Vec::with_capacity(alloc, blocks.len())?;
+    for block in blocks {
         copies.push((block.0, block.1.copy()?))?;
     }
     Ok(copies)

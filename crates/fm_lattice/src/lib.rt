@@ -4,6 +4,7 @@
 mod block;
 mod blocks;
 pub mod chain;
+mod filling;
 pub mod join;
 pub mod map;
 mod merging;

@@ -97,9 +97,13 @@ impl<K: Chain, V: Join> JoinMap<K, V> {
         Ok(())
     }
 
-    /// Joins the other map in. Where the other has no more keys than there are blocks here, this is done in place: for each
-    /// of the other's m keys a search among the n here and the moves within a block, O(m log n). Else it is one merge of
-    /// both, O(n + m), put in the map's place.
+    /// Joins the other map in. If the other has no more keys than there are blocks here, this is done in place: for each of
+    /// the other's m keys a search among the n here and the moves within a block, O(m log n). Else it is one merge of both,
+    /// O(n + m), put in the map's place; but nothing is asked for if the other tells nothing new, and an empty map gets the
+    /// other's blocks, by a pointer each if they are shared.
+    /// In place it asks for each of the m pairs, for room for two more for each new key, for a copy of each shared block that
+    /// one of the keys goes to, and for a block of 64 pairs for each that may be cut: at most one for each 32 new keys that a
+    /// block does not hold, and for each 63 behind the last key.
     /// After a refusal of memory the map is as it was.
     pub fn join_into(&mut self, other: &JoinMap<K, V>) -> Result<(), OutOfMemory>
         ensures ok { OnOk result (self.new ≡ map_join K.cmp V.join self.old other.now) }
@@ -118,7 +122,7 @@ impl<K: Chain, V: Join> JoinMap<K, V> {
         ensures { IfOk result (λ r. r ≡ self.now) }
     {
         Ok(JoinMap {
-            blocks: copied_blocks(&self.blocks)?,
+            blocks: copied_blocks(*self.blocks.allocator(), &self.blocks)?,
             len: self.len,
         })
     }

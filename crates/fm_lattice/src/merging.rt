@@ -5,8 +5,11 @@ ghost use Rattle.fm_lattice.specs.Maps.{IsRising, lookup, put, map_join, replace
 ghost use Rattle.fm_lattice.specs.Blocks.{pairs_of, AreHeaded, HaveSpares, GoesToOwned, GoToOwned};
 
 use crate::block::Block;
-use crate::blocks::{FULL, own_block, take_room, value_at, value_in, write};
+use crate::blocks::{
+    FULL, LEAST, block_of, comes_last, own_block, take_room, value_at, value_in, write,
+};
 use crate::chain::Chain;
+use crate::filling::Filling;
 use crate::join::{Join, OutOfMemory, copied};
 use crate::pairs::Pairs;
 use std::alloc::Global;
@@ -162,12 +165,14 @@ pub(crate) fn joined_at<K: Chain, V: Join>(
     }
 }
 
-// For each key of the right, what the join of both has there, and a spare block where the left lacks the key. The left
-// gets each block alone that one of the keys goes to. O(m log n), and a copy of each such block that others share.
+// For each key of the right, what the join of both has there, and a spare block where the left lacks the key: a whole one where
+// a block may have to be cut for it, else one for two pairs. The left gets each block alone that one of the keys goes to, with
+// room for the new ones that it can hold. O(m log n), and a copy of each such block that was shared.
 // After a refusal of memory the pairs are as they were.
 pub(crate) fn changes<K: Chain, V: Join>(
     left: &mut Vec<(K, Block<K, V>)>,
     right: &[(K, Block<K, V>)],
+    count: usize,
 ) -> Result<Vec<((K, V), Vec<(K, V)>)>, OutOfMemory>
     requires some { 0 < vec_len left.old }
     requires left_headed { AreHeaded left.old.items }
@@ -177,14 +182,15 @@ pub(crate) fn changes<K: Chain, V: Join>(
     ensures left_headed { AreHeaded left.new.items }
     ensures left_len { vec_len left.new ≡ vec_len left.old }
     ensures pairs { IfOk result (λ changes. map (λ c. c.0) changes.items ≡ map (joined_pair K.cmp V.join (pairs_of left.old.items)) (pairs_of right.now)) }
-    ensures spares { IfOk result (λ changes. HaveSpares K.cmp 64 (pairs_of left.old.items) changes.items) }
+    ensures spares { IfOk result (λ changes. HaveSpares K.cmp 2 (pairs_of left.old.items) changes.items) }
     ensures owned { IfOk result (λ changes. GoToOwned K.cmp left.new.items changes.items) }
 {
     let alloc = *left.allocator();
-    let mut changes = Vec::new(alloc);
+    let mut changes = Vec::with_capacity(alloc, count)?;
+    let mut filling = Filling::new();
     let mut rest = Pairs::of(right);
     'rest: while let Some(pair) = rest.first() {
-        let change = change_at(alloc, left, pair)?;
+        let change = change_at(alloc, left, pair, &mut filling)?;
         changes.push(change)?;
         rest.skip_first();
     }
@@ -195,6 +201,7 @@ fn change_at<K: Chain, V: Join>(
     alloc: Global,
     left: &mut Vec<(K, Block<K, V>)>,
     pair: &(K, V),
+    filling: &mut Filling,
 ) -> Result<((K, V), Vec<(K, V)>), OutOfMemory>
     requires some { 0 < vec_len left.old }
     requires headed { AreHeaded left.old.items }
@@ -204,27 +211,50 @@ fn change_at<K: Chain, V: Join>(
     ensures left_len { vec_len left.new ≡ vec_len left.old }
     ensures pair { IfOk result (λ change. change.0 ≡ joined_pair K.cmp V.join (pairs_of left.old.items) pair.now) }
     ensures empty { IfOk result (λ change. vec_len change.1 ≡ 0) }
-    ensures spare { IfOk result (λ change. lookup K.cmp pair.now.0 (pairs_of left.old.items) ≡ None → 64 ≤ vec_capacity change.1) }
+    ensures spare { IfOk result (λ change. lookup K.cmp pair.now.0 (pairs_of left.old.items) ≡ None → 2 ≤ vec_capacity change.1) }
     ensures owned { OnOk result (GoesToOwned K.cmp left.new.items pair.now.0) }
     ensures keeps { OnOk result ((k : K) → GoesToOwned K.cmp left.old.items k → GoesToOwned K.cmp left.new.items k) }
 {
-    let at = own_block(left, &pair.0)?;
-    change_in(alloc, left[at].1.pairs(), pair)
+    let spare = spare_for(left, &pair.0, filling);
+    let at = own_block(left, &pair.0, filling.more())?;
+    change_in(alloc, left[at].1.pairs(), pair, spare)
+}
+
+// For how many pairs the key is to find a spare block.
+fn spare_for<K: Chain, V: Join>(left: &[(K, Block<K, V>)], key: &K, filling: &mut Filling) -> usize
+    requires some { 0 < length left.now }
+    requires headed { AreHeaded left.now }
+    requires rises { IsRising K.cmp (pairs_of left.now) }
+    ensures { 2 ≤ result }
+{
+    let at = block_of(left, key);
+    let is_new = value_at(left, key).is_none();
+    let len = left[at].1.pairs().len();
+    if is_new && filling.count(at, len, comes_last(left, key)) {
+        FULL
+    } else {
+        LEAST
+    }
 }
 
 fn change_in<K: Chain, V: Join>(
     alloc: Global,
     there: &[(K, V)],
     pair: &(K, V),
+    spare: usize,
 ) -> Result<((K, V), Vec<(K, V)>), OutOfMemory>
-    requires { IsRising K.cmp there.now }
+    requires rises { IsRising K.cmp there.now }
+    requires least { 2 ≤ spare }
     ensures pair { IfOk result (λ change. change.0 ≡ joined_pair K.cmp V.join there.now pair.now) }
     ensures empty { IfOk result (λ change. vec_len change.1 ≡ 0) }
-    ensures spare { IfOk result (λ change. lookup K.cmp pair.now.0 there.now ≡ None → 64 ≤ vec_capacity change.1) }
+    ensures spare { IfOk result (λ change. lookup K.cmp pair.now.0 there.now ≡ None → 2 ≤ vec_capacity change.1) }
 {
     match value_in(there, &pair.0) {
         Some(value) => Ok(((pair.0, value.joined(&pair.1)?), Vec::new(alloc))),
-        None => Ok(((pair.0, copied(&pair.1)?), Vec::with_capacity(alloc, FULL)?)),
+        None => Ok((
+            (pair.0, copied(&pair.1)?),
+            Vec::with_capacity(alloc, spare)?,
+        )),
     }
 }
 
@@ -237,7 +267,7 @@ pub(crate) fn apply<K: Chain, V: Drop>(
     requires some { 0 < vec_len blocks.old }
     requires headed { AreHeaded blocks.old.items }
     requires rising { IsRising K.cmp (pairs_of blocks.old.items) }
-    requires spares { HaveSpares K.cmp 64 (pairs_of blocks.old.items) changes.items }
+    requires spares { HaveSpares K.cmp 2 (pairs_of blocks.old.items) changes.items }
     requires owned { GoToOwned K.cmp blocks.old.items changes.items }
     requires room { vec_len blocks.old + vec_len changes ≤ vec_capacity blocks.old }
     ensures pairs { pairs_of blocks.new.items ≡ map_join K.cmp replaced (pairs_of blocks.old.items) (map (λ c. c.0) changes.items) }

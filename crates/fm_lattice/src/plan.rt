@@ -6,9 +6,11 @@ ghost use Rattle.fm_lattice.specs.Blocks.{pairs_of, AreHeaded, IsKept};
 ghost use Rattle.fm_lattice.specs.Plans.{IsReady, outcome};
 
 use crate::block::Block;
+use crate::blocks::copied_blocks;
 use crate::chain::Chain;
 use crate::join::{Join, OutOfMemory};
-use crate::merging::{apply, changes, counted, merged};
+use crate::merging::{apply, changes, counted, is_below, merged};
+use std::alloc::Global;
 
 // Blocks in place of those that are there, or changes of them.
 #[derive(Drop)]
@@ -19,8 +21,9 @@ pub(crate) struct Plan<K: Chain, V: Drop> {
     pub(crate) changes: Vec<((K, V), Vec<(K, V)>)>,
 }
 
-// Plans to join the other pairs in: by changes where they are fewer than the blocks here, O(m log n), else by a merge
-// aside, O(n + m). The changes are of blocks that the map has alone. After a refusal of memory the pairs are as they were.
+// Plans to join the other pairs in: by changes if they are no more than the blocks here, O(m log n), else by a merge aside,
+// O(n + m), unless nothing changes. The changes are of blocks that the map has alone. After a refusal of memory the pairs are
+// as they were.
 #[tactic(auto, using(crate::proofs::Planned::kept_same))]
 pub(crate) fn plan_join<K: Chain, V: Join>(
     blocks: &mut Vec<(K, Block<K, V>)>,
@@ -36,10 +39,21 @@ pub(crate) fn plan_join<K: Chain, V: Join>(
     ensures outcome { IfOk result (λ plan. outcome K.cmp (pairs_of blocks.old.items) plan.aside plan.whole.items plan.changes.items ≡ map_join K.cmp V.join (pairs_of blocks.old.items) (pairs_of other.now)) }
 {
     let alloc = *blocks.allocator();
-    if blocks.is_empty() || blocks.len() < count {
+    if blocks.is_empty() {
+        return plan_copy(alloc, other, count);
+    }
+    if blocks.len() < count {
+        if is_below(other, blocks) {
+            return Ok(Plan {
+                aside: false,
+                whole: Vec::new(alloc),
+                len,
+                changes: Vec::new(alloc),
+            });
+        }
         return plan_aside(blocks, other);
     }
-    let changes = changes(blocks, other)?;
+    let changes = changes(blocks, other, count)?;
     if usize::MAX - len < changes.len() {
         return Err(OutOfMemory);
     }
@@ -49,6 +63,27 @@ pub(crate) fn plan_join<K: Chain, V: Join>(
         whole: Vec::new(alloc),
         len,
         changes,
+    })
+}
+
+// The other's pairs, by a pointer to each block that is shared.
+fn plan_copy<K: Chain, V: Join>(
+    alloc: Global,
+    other: &[(K, Block<K, V>)],
+    count: usize,
+) -> Result<Plan<K, V>, OutOfMemory>
+    requires headed { AreHeaded other.now }
+    requires counted { count ≡ length (pairs_of other.now) }
+    ensures aside { IfOk result (λ plan. plan.aside ≡ true) }
+    ensures headed { IfOk result (λ plan. AreHeaded plan.whole.items) }
+    ensures counted { IfOk result (λ plan. plan.len ≡ length (pairs_of plan.whole.items)) }
+    ensures pairs { IfOk result (λ plan. (plan.aside ≡ true) × (pairs_of plan.whole.items ≡ pairs_of other.now)) }
+{
+    Ok(Plan {
+        aside: true,
+        whole: copied_blocks(alloc, other)?,
+        len: count,
+        changes: Vec::new(alloc),
     })
 }
 

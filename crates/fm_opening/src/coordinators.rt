@@ -6,7 +6,7 @@ ghost use Rattle.fm_edit.specs.Keepers.{is_fresh_keeper, KeeperIsFor};
 ghost use Rattle.fm_coord.specs.States.{new_state};
 
 use fm_coord::coordinator::Coordinator;
-use fm_edit::adaptive::Adaptive;
+use fm_edit::deferred::Deferred;
 use fm_edit::keepers::Keeper;
 use fm_lattice::join::OutOfMemory;
 use fm_policy::rebuilder::Rebuilder;
@@ -16,8 +16,8 @@ use std::alloc::Global;
 /// How many entries a coordinator's history may have.
 pub const HISTORY_LIMIT: usize = 1_000_000;
 
-/// A coordinator to which nothing happened, which is listed at the place, counted from 0: the first, the third and so on edit
-/// their networks once little changes between looks, the others build them anew. Only memory is refused.
+/// A coordinator to which nothing happened, which is listed at the place, counted from 0: the first, the third and so on
+/// edit their networks when somebody looks, once little changes between looks; the others build them anew. Only memory is refused.
 pub fn coordinator_at(
     alloc: Global,
     number: CoordId,
@@ -34,7 +34,7 @@ fn keeper_at(alloc: Global, place: usize) -> Result<Keeper, OutOfMemory>
     ensures { IfOk result (λ keeper. IsTrue (is_fresh_keeper keeper) → KeeperIsFor keeper (know [])) }
 {
     if place % 2 == 0 {
-        Ok(Keeper::Adapts(Adaptive::new(alloc)?))
+        Ok(Keeper::Defers(Deferred::new(alloc)?))
     } else {
         Ok(Keeper::Builds(Rebuilder::new(alloc)?))
     }

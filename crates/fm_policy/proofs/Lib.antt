@@ -13,3 +13,4 @@ pub mod Summed
 mod Preferred
 mod Examples
 pub mod Walked
+mod Keys

@@ -28,11 +28,11 @@ moved true true d = refl
 moved true false d = refl
 moved false c d = refl
 
-again : (b c : Bool) → (b || c) ≡ (b || (b || c))
+pub again : (b c : Bool) → (b || c) ≡ (b || (b || c))
 again true c = refl
 again false c = refl
 
-swapped : (b c d : Bool) → (b || (c || d)) ≡ (c || (b || d))
+pub swapped : (b c d : Bool) → (b || (c || d)) ≡ (c || (b || d))
 swapped true true d = refl
 swapped true false d = refl
 swapped false true d = refl
@@ -65,7 +65,7 @@ below_all : (n : ℕ) (ns : List ℕ) → AllByRecursion (λ m. nat_cmp n m ≡ 
 below_all n [] h = tt
 below_all n (m ∷ ns) h = (h.0, below_all n ns h.1)
 
-rises_said : (ns : List ℕ) → IsStrictlySortedBy nat_cmp ns → Rises nat_cmp ns
+pub rises_said : (ns : List ℕ) → IsStrictlySortedBy nat_cmp ns → Rises nat_cmp ns
 unfolding IsStrictlySortedBy
 rises_said [] h = tt
 rises_said (n ∷ ns) h = (below_all n ns h.0, rises_said ns h.1)

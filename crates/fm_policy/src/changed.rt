@@ -29,6 +29,21 @@ impl Model for Changed {
 }
 
 impl Changed {
+    // These keys.
+    pub(crate) fn of(
+        jobs: Vec<JobId>,
+        tasks: Vec<TaskId>,
+        machines: Vec<MachineId>,
+    ) -> Changed
+        ensures { result ≡ record { jobs = jobs.items; tasks = tasks.items; machines = machines.items } }
+    {
+        Changed {
+            jobs,
+            tasks,
+            machines,
+        }
+    }
+
     /// The jobs, ids rising.
     pub fn jobs(&self) -> &[JobId]
         ensures { result.now ≡ self.now.jobs }

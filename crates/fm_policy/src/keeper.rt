@@ -1,7 +1,8 @@
 //! Keepers of the network of what is known.
 
-ghost use Rattle.std.specs.Prelude.{◌≡◌, Bool, false, IsTrue, IfOk, OnOk, OnErr};
+ghost use Rattle.std.specs.Prelude.{◌≡◌, Bool, true, false, IsTrue, IfOk, OnOk, OnErr};
 ghost use Rattle.fm_records.specs.Table.{Table};
+ghost use Rattle.fm_records.specs.Ranges.{CanBe};
 ghost use Rattle.fm_net.specs.Network.{net_of};
 ghost use Rattle.fm_policy.specs.Changes.{Keys};
 ghost use Rattle.fm_policy.specs.Keeping.{TookIn};
@@ -23,6 +24,12 @@ pub trait NetKeeper: Drop {
     /// alone does not say what the next delta makes of it.
     ghost is_for: { Self → Table → Type 0 };
 
+    /// Whether a keeper, fresh or stale, can become fresh for the table from what it keeps.
+    ghost follows: { Self → Table → Type 0 };
+
+    /// One that is fresh, for a table, follows that table.
+    ghost fresh_follows: { (s : Self) (k : Table) → CanBe k → IsTrue (fresh s) → is_for s k → follows s k };
+
     /// What becomes of a keeper that takes in a delta with these keys.
     ghost absorbs: { Self → Keys → Self → Type 0 };
 
@@ -38,6 +45,7 @@ pub trait NetKeeper: Drop {
         ensures ok { OnOk result (IsTrue (fresh self.new) → is_for self.new now.now) }
         ensures err { OnErr result (fresh self.new ≡ false) }
         ensures stale { fresh self.old ≡ false → fresh self.new ≡ false }
+        ensures keeps_up { TookIn true (follows self.old) now.now changed.now → follows self.new now.now }
         ensures absorbs { absorbs self.old changed.now self.new };
 
     /// Builds the network of the knowledge, after which the keeper is fresh. After a refusal of memory it is stale.
@@ -45,6 +53,15 @@ pub trait NetKeeper: Drop {
         ensures fresh { OnOk result (IsTrue (fresh self.new)) }
         ensures given { OnOk result (is_for self.new now.now) }
         ensures err { OnErr result (fresh self.new ≡ false) };
+
+    /// Makes the network that of the knowledge, from what is kept or by building. The keeper must follow what is known, and still
+    /// does after a refusal of memory, if stale. A fresh keeper stays as it is.
+    fn refresh(&mut self, alloc: Global, now: &Knowledge) -> Result<(), OutOfMemory>
+        requires { follows self.old now.now }
+        ensures fresh { OnOk result (IsTrue (fresh self.new)) }
+        ensures given { OnOk result (is_for self.new now.now) }
+        ensures err { OnErr result (fresh self.new ≡ false) }
+        ensures follows { follows self.new now.now };
 
     /// Whether the network is the one that is built from what is known.
     fn is_fresh(&self) -> bool

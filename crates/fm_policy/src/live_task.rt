@@ -1,4 +1,4 @@
-//! The live tasks of a knowledge, each looked up once.
+//! The live tasks of a knowledge, in one walk over all tasks, with a look-up of the job and of the proposals of each.
 
 ghost use Rattle.std.specs.Prelude.{◌≡◌, Some, IfOk, IfSome};
 ghost use Rattle.std.specs.List.{filter_map};

@@ -1,6 +1,6 @@
 //! A keeper that builds anew.
 
-ghost use Rattle.std.specs.Prelude.{◌≡◌, [], Some, false, is_some, IfOk};
+ghost use Rattle.std.specs.Prelude.{◌≡◌, [], Some, false, is_some, IsTrue, IfOk};
 ghost use Rattle.fm_records.specs.Know.{know};
 ghost use Rattle.fm_net.specs.Network.{net_of};
 
@@ -54,6 +54,10 @@ impl NetKeeper for Rebuilder {
 
     ghost is_for = { λ r k. r ≡ Some (net_of k) };
 
+    ghost follows = { λ r k. IsTrue (is_some r) → r ≡ Some (net_of k) };
+
+    ghost fresh_follows = { λ _ _ _ _ given _. given };
+
     ghost absorbs = { λ _ _ new. is_some new ≡ false };
 
     fn absorb(
@@ -71,6 +75,13 @@ impl NetKeeper for Rebuilder {
         self.fresh = built.is_ok();
         self.network = built?;
         Ok(())
+    }
+
+    fn refresh(&mut self, alloc: Global, now: &Knowledge) -> Result<(), OutOfMemory> {
+        if self.fresh {
+            return Ok(());
+        }
+        self.rebuild(alloc, now)
     }
 
     fn is_fresh(&self) -> bool {

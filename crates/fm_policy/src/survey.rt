@@ -1,4 +1,4 @@
-//! What is looked up before a network is built, each record once.
+//! What is looked up before a network is built: in one walk over the tasks, and one over the machines.
 
 ghost use Rattle.std.specs.Prelude.{IfOk};
 ghost use Rattle.fm_policy.specs.Surveys.{IsSurvey};

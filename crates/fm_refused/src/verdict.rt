@@ -37,7 +37,7 @@ impl Verdict {
 }
 
 impl Verdict {
-    /// The same, but of a call that may have left the network stale, which an accepted one may do for want of memory.
+    /// The same, but of a call that may have left the network stale, which an accepted one may do if memory runs out.
     pub(crate) fn with_stale(self, is_stale: bool) -> Verdict {
         match self {
             Verdict::Done if is_stale => Verdict::DoneStale,

@@ -26,7 +26,7 @@ use std::alloc::Global;
 /// A machine that got a place has a load of at most its nic after all that is added.
 /// O(log n) for each entry, with the moves within a block of a map; and where the plan has places, one walk over the tasks that
 /// are known, of which those that another machine won cost a look-up.
-/// Nothing but want of memory is refused.
+/// It is refused only if memory runs out.
 pub fn admit(
     alloc: Global,
     knowledge: &Knowledge,

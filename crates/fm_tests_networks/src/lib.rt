@@ -2,8 +2,6 @@
 #![tactic(auto)]
 
 #[cfg(test)]
-mod adaptive;
-#[cfg(test)]
 mod dimacs;
 #[cfg(test)]
 mod edit;

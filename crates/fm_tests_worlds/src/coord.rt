@@ -1,4 +1,4 @@
-ghost use Rattle.std.specs.Prelude.{◌≡◌, Some, is_some};
+ghost use Rattle.std.specs.Prelude.{◌≡◌, Some, is_some, IsTrue};
 ghost use Rattle.fm_net.specs.Network.{net_of};
 
 use fm_coord::coordinator::Coordinator;
@@ -333,6 +333,10 @@ impl NetKeeper for Counting {
 
     ghost is_for = { λ c k. c.inner ≡ Some (net_of k) };
 
+    ghost follows = { λ c k. IsTrue (is_some c.inner) → c.inner ≡ Some (net_of k) };
+
+    ghost fresh_follows = { λ _ _ _ _ given _. given };
+
     ghost absorbs = { λ old _ new. new.builds ≡ old.builds };
 
     fn absorb(
@@ -349,6 +353,13 @@ impl NetKeeper for Counting {
     fn rebuild(&mut self, alloc: Global, now: &Knowledge) -> Result<(), OutOfMemory> {
         self.builds = self.builds.saturating_add(1);
         self.inner.rebuild(alloc, now)
+    }
+
+    fn refresh(&mut self, alloc: Global, now: &Knowledge) -> Result<(), OutOfMemory> {
+        if self.inner.is_fresh() {
+            return Ok(());
+        }
+        self.rebuild(alloc, now)
     }
 
     fn is_fresh(&self) -> bool {

@@ -4,6 +4,8 @@
 #[cfg(test)]
 mod coord;
 #[cfg(test)]
+mod deferred;
+#[cfg(test)]
 mod exchanges;
 #[cfg(test)]
 mod gather;

@@ -29,9 +29,9 @@ fn building(alloc: Global) -> Result<Node, Refusal> {
     Ok(Coordinator::new(alloc, number, 100, Keeper::Builds(rebuilder)))
 }
 
-// Tells of a machine of the number that is up, which is one more node and one more arc.
-fn tell(node: &mut Node, number: u128) -> Result<(), Refusal> {
-    let machine = Op::Machine {
+/// A machine of the number that is up, which is one more node and one more arc.
+pub(crate) fn machine(number: u128) -> Op {
+    Op::Machine {
         id: MachineId::new(number),
         incarnation: 1,
         version: 1,
@@ -39,8 +39,11 @@ fn tell(node: &mut Node, number: u128) -> Result<(), Refusal> {
         up: true,
         slots: 2,
         nic: 1_000,
-    };
-    node.tell(0, machine)
+    }
+}
+
+fn tell(node: &mut Node, number: u128) -> Result<(), Refusal> {
+    node.tell(0, machine(number))
 }
 
 fn view(node: &mut Node) -> Result<View, Refusal> {

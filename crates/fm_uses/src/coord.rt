@@ -9,7 +9,7 @@ use fm_policy::keeper::NetKeeper;
 use fm_records::refusal::Refusal;
 
 /// Hands all that `from` knows to `to`, which then knows what both did. Seat 0 asks for it at both.
-/// HistoryFull, PacketsSpent and the like where one of them is full, and want of memory: then `to` is as it was.
+/// HistoryFull if the history of one of them is full, OutOfMemory if memory runs out: then `to` is as it was.
 pub fn hand_over<N: NetKeeper>(
     from: &mut Coordinator<N>,
     to: &mut Coordinator<N>,

@@ -11,7 +11,7 @@ use fm_know::knowledge::Knowledge;
 use fm_records::refusal::Refusal;
 
 /// All that was kept from place `from` on, as one delta: what the operations of these places come to together. Refused for
-/// BadInterval where nothing lies from there on, for Trimmed where it was let go, or for want of memory.
+/// BadInterval if nothing lies from there on, for Trimmed if it was let go, or if memory runs out.
 pub fn since(buffer: &Buffer, from: u64) -> Result<Knowledge, Refusal>
     ensures { (Ss : List (List Op)) → between buffer.now.deltas from (end_of buffer.now.deltas) ≡ map know Ss → IfOk result (λ k. k ≡ know (union Ss)) }
 {

@@ -11,7 +11,7 @@ use fm_records::refusal::Refusal;
 use std::alloc::Global;
 
 /// Passes a dump on, byte for byte, where it is the text of a network. Refused for the first line that breaks a rule, and then
-/// nothing is written; by the writer; or for want of memory.
+/// nothing is written; by the writer; or if memory runs out.
 pub fn pass_on<W: Out>(alloc: Global, text: &[u8], out: &mut W) -> Result<(), Refusal>
     ensures ok { OnOk result (Appends (W.written out.old) (W.written out.new) text.now) }
 {

@@ -14,7 +14,7 @@ use fm_net::network::Network;
 use fm_records::refusal::Refusal;
 use std::alloc::Global;
 
-/// What a least flow of the network costs. Refused for want of memory alone.
+/// What a least flow of the network costs. Refused only if memory runs out.
 pub fn least_cost(alloc: Global, network: &Network) -> Result<u128, Refusal>
     requires { IsBuilt network.now }
     ensures least { IfOk result (λ least. (units : NodeName → NodeName → ℕ) × IsLeast network.now units × (least ≡ cost_of network.now units)) }

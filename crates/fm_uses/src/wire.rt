@@ -12,7 +12,7 @@ use fm_wire::writing::encode;
 use std::alloc::Global;
 
 /// The packet that the bytes spell, in whatever version, written anew in the version of today. Refused at the first byte that no
-/// packet has there, or for want of memory.
+/// packet has there, or if memory runs out.
 pub fn relayed(alloc: Global, bytes: &[u8]) -> Result<Vec<u8>, Refusal>
     ensures same { IfOk result (λ out. (p : Packet) × Spells bytes.now p × (out.items ≡ spelling p)) }
     ensures err { IfErr result (λ refusal. refusal ≡ or_else Refusal.OutOfMemory (option_map Refusal.BadPacket (fault bytes.now))) }

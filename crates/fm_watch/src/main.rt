@@ -1,9 +1,18 @@
 //! What an Editor makes of a script's operations: it reads a script and takes in the operations that are told, those before
 //! each cut as one delta, whoever is told them. For each delta it prints a line, the edits of the network, and the keys that
-//! were looked up; with any word instead how long the edit took, and how long a network that is built anew.
+//! were looked up. With the word `looks` two coordinators are told the operations, one that edits or builds its network and one
+//! that builds it, and are looked at at each cut: it prints whether both networks are equal, how many looks at the first were
+//! edits and how many builds, and the network. With the word `steps` and a number it takes so many steps of the script, of a
+//! round the view alone, and prints nothing: on an allocator that counts, this shows what a step asks for. With any other word it
+//! prints how long an edit took, and how long building takes.
 #![tactic(auto)]
 
 mod followed;
+mod looked;
+mod stepped;
+
+ghost use Rattle.std.specs.Prelude.{IfOk};
+ghost use Rattle.fm_coord.specs.Numbers.{AreDistinct};
 
 use fm_input::reading::read_script;
 use fm_input::script::{Act, Script};
@@ -13,25 +22,76 @@ use fm_records::refusal::Refusal;
 use fm_streams::input::read_input;
 use fm_streams::source::Input;
 use followed::{Followed, Taken};
+use looked::Looked;
+use stepped::take_first;
 use std::alloc::Global;
 use std::env;
 use std::time::Instant;
 
 fn main(rt: HostRuntime) -> Result<(), anyhow::Error> {
-    let is_timed = env::args(&rt)?.nth(1).is_some();
     let script = script(&rt)?;
+    match env::args(&rt)?.nth(1).as_deref() {
+        Some("looks") => looks(&rt, script),
+        Some("steps") => steps(&rt, &script),
+        word => edits(&rt, script, word.is_some()),
+    }
+}
+
+// Shows or times an edit for each delta.
+fn edits(rt: &HostRuntime, script: Script, is_timed: bool) -> Result<(), anyhow::Error> {
     let mut watch = Watch {
         followed: Followed::new(rt.alloc())?,
         delta: Knowledge::empty(rt.alloc()),
     };
     for step in script.steps {
-        watch = watch.step(&rt, step.act, is_timed)?;
+        watch = watch.step(rt, step.act, is_timed)?;
     }
     Ok(())
 }
 
+// Takes as many steps as the second word says.
+fn steps(rt: &HostRuntime, script: &Script) -> Result<(), anyhow::Error>
+    requires { AreDistinct script.now.coordinators.items }
+{
+    let Some(word) = env::args(rt)?.nth(2) else {
+        anyhow::bail!("how many steps?");
+    };
+    take_first(rt.alloc(), script, word.parse()?)?;
+    Ok(())
+}
+
+// Tells two coordinators the operations, and looks at each cut.
+fn looks(rt: &HostRuntime, script: Script) -> Result<(), anyhow::Error> {
+    let mut looked = Looked::new(rt.alloc())?;
+    for step in script.steps {
+        looked = looked_at(rt, looked, step.act)?;
+    }
+    Ok(())
+}
+
+// After a step of the script.
+fn looked_at(rt: &HostRuntime, looked: Looked, act: Act) -> Result<Looked, anyhow::Error> {
+    match act {
+        Act::Tell(op) => Ok(looked.told(op)?),
+        Act::Cut(_) => shown_at(rt, looked),
+        _ => Ok(looked),
+    }
+}
+
+// Looks, and prints what is seen.
+fn shown_at(rt: &HostRuntime, mut looked: Looked) -> Result<Looked, anyhow::Error> {
+    let seen = looked.look(rt.alloc())?;
+    let (same, edits, builds) = (seen.is_same, seen.edits, seen.builds);
+    println!(rt; "look: same {same}, {edits} edits, {builds} builds")?;
+    let text = String::from_utf8(seen.text)?;
+    print!(rt; "{text}")?;
+    Ok(looked)
+}
+
 // The script on standard input.
-fn script(rt: &HostRuntime) -> Result<Script, Refusal> {
+fn script(rt: &HostRuntime) -> Result<Script, Refusal>
+    ensures { IfOk result (λ s. AreDistinct s.coordinators.items) }
+{
     let text = read_input(rt.alloc(), &mut Input::new(rt.reader()))?;
     read_script(rt.alloc(), text.as_slice())
 }

@@ -5,7 +5,7 @@ ghost use Rattle.fm_wire.specs.declared.fault.ReadError.TheVariants.{Memory, Fau
 
 use fm_lattice::join::OutOfMemory;
 
-/// Want of memory, or a fault in the bytes.
+/// Memory ran out, or the bytes have a fault.
 #[derive(Debug, Clone, Copy, PartialEq, Eq, Drop)]
 pub(crate) enum ReadError {
     Memory,

@@ -13,7 +13,7 @@ use fm_lattice::join::{Join, OutOfMemory};
 use fm_records::ids::CoordId;
 use std::alloc::Global;
 
-/// The bytes of the packet: its one spelling in FDG2. O(n), and a search for each proposal.
+/// The bytes of the packet: its one spelling in FDG2. O(n).
 pub fn encode(alloc: Global, packet: &Packet) -> Result<Vec<u8>, OutOfMemory>
     ensures spelling { IfOk result (λ bytes. bytes.items ≡ spelling packet.now) }
     ensures packet { IsOk result → IsPacket packet.now }

@@ -1,15 +1,22 @@
 -- A step of a world that stands for a world of sets.
-use Rattle.std.proofs.Common.{◌≡◌, ◌==◌, ℕ, List, [], Option, Some, None, Result, Ok, Err, map, get_or, slice_set, position, sym, ap, ◌∙◌, subst}
+use Rattle.std.proofs.Common.{◌≡◌, ◌==◌, ℕ, List, [], Option, Some, None, Result, Ok, Err, length, map, get_or, slice_set, position, refl, sym, ap, ◌∙◌, subst}
 use Rattle.std.specs.Result.{IfOk, IfErr, OnOk, OnErr}
+use Rattle.std.proofs.lemmas.List.{append-nil}
 use Rattle.std.proofs.lemmas.List.Quantifiers.{position-Some}
 use Rattle.fm_records.specs.declared.refusal.Refusal.{Refusal}
 use Rattle.fm_records.specs.declared.refusal.Refusal.TheVariants.{OutOfMemory, NoCoordinator}
 use Rattle.fm_records.specs.Options.{or_else}
 use Rattle.fm_delta.specs.declared.packet.Packet.{Packet}
+use Rattle.fm_net.specs.Network.{net_of}
+use Rattle.fm_coord.specs.declared.entry.Reply.TheVariants as reply
 use Rattle.fm_coord.specs.declared.view.View.{View}
+use Rattle.fm_coord.specs.declared.view.Sight.{Sight}
 use Rattle.fm_coord.specs.Events.{Sent, Replica, opening}
+use Rattle.fm_coord.specs.Events as event
 use Rattle.fm_coord.specs.Replays.{seen, replay}
-use Rattle.fm_coord.specs.States.{State, WithKeeper, StandsFor, IsCoordinator}
+use Rattle.fm_coord.specs.States.{State, WithKeeper, StandsFor, IsEventAt, IsCoordinator}
+use Rattle.fm_world.specs.declared.step.Act.{Act}
+use Rattle.fm_world.specs.declared.step.Act.TheVariants as act
 use Rattle.fm_world.specs.declared.step.Step.{Step}
 use Rattle.fm_world.specs.Worlds.{WorldOfSets, with_number, event_asked, acted, cause_here, cause_at, cause_of, refusal_of, sent_at, step_of}
 use Rattle.fm_world.specs.Stands.{Kept, state_of, number_of, WorldStandsFor, state_with, shown, IsActed}
@@ -30,7 +37,7 @@ nobody cs ps step none k whole w h =
     ap (λ o. or_else OutOfMemory (cause_at o (event_asked w.packets step.act)))
     (sym (absent step.at (map state_of cs) w.replicas stands.coordinators (missing cs step.at none)))
 
-module _ {N : Type 0} (cs : List (WithKeeper N)) (ps : List Packet) (step : Step) (i : ℕ) (old new : WithKeeper N) (at : Some i ≡ position (λ c. number_of c == step.at) cs) (is : old ≡ get_or cs i old) (k : Kept) (whole : kept cs ps ≡ k) (result : Result (Option View) Refusal) where
+module _ {N T : Type 0} (cs : List (WithKeeper N)) (ps : List Packet) (step : Step) (i : ℕ) (old new : WithKeeper N) (at : Some i ≡ position (λ c. number_of c == step.at) cs) (is : old ≡ get_or cs i old) (k : Kept) (whole : kept cs ps ≡ k) (result : Result T Refusal) where
   here : state_with (map state_of cs) step.at ≡ Some old.state
   here = found_at cs step.at i old at is
 
@@ -46,9 +53,9 @@ module _ {N : Type 0} (cs : List (WithKeeper N)) (ps : List Packet) (step : Step
         by_cause result _ _ (ap (λ o. or_else OutOfMemory (cause_at o (event_asked w.packets step.act))) (sym one.at))
         (err one.replica w.packets one.stands stands.packets)
 
-  pub shows : IfOk result (λ view. view ≡ shown (Some old.state) step.act) → IfOk result (λ view. view ≡ shown (state_with k.coordinators step.at) step.act)
-  shows h =
-      subst (λ (o : Option State). IfOk result (λ view. view ≡ shown o step.act)) (sym (ap (λ (l : Kept). state_with l.coordinators step.at) (sym whole) ∙ here)) h
+  -- the coordinator that the number names
+  pub named : state_with k.coordinators step.at ≡ Some old.state
+  named = ap (λ (l : Kept). state_with l.coordinators step.at) (sym whole) ∙ here
 
   module _ (new_ps : List Packet) where
     after_it : (w : WorldOfSets) (h : WorldStandsFor k w) → IsActed new.state new_ps (one w h).replica w.packets step.by step.act → WorldStandsFor (kept (slice_set cs i new) new_ps) (step_of w step)
@@ -63,7 +70,7 @@ module _ {N : Type 0} (cs : List (WithKeeper N)) (ps : List Packet) (step : Step
         }
 
     module _ (acts : (r : Replica) (sent : List Sent) → StandsFor old.state r → ps ≡ map seen sent → OnOk result (IsActed new.state new_ps r sent step.by step.act)) (w : WorldOfSets) (h : WorldStandsFor k w) where
-      on_ok : {P Q : Type 0} (res : Result (Option View) Refusal) → (P → Q) → OnOk res P → OnOk res Q
+      on_ok : {P Q : Type 0} (res : Result T Refusal) → (P → Q) → OnOk res P → OnOk res Q
       on_ok (Ok v) f p = f p
       on_ok (Err e) f p = tt
 
@@ -78,9 +85,36 @@ module _ {N : Type 0} (cs : List (WithKeeper N)) (ps : List Packet) (step : Step
 
     pub stays : OnErr result (new.state ≡ old.state) → OnErr result (new_ps ≡ ps) → OnErr result (kept (slice_set cs i new) new_ps ≡ k)
     stays a b = stays_by result a b where
-      stays_by : (res : Result (Option View) Refusal) → OnErr res (new.state ≡ old.state) → OnErr res (new_ps ≡ ps) → OnErr res (kept (slice_set cs i new) new_ps ≡ k)
+      stays_by : (res : Result T Refusal) → OnErr res (new.state ≡ old.state) → OnErr res (new_ps ≡ ps) → OnErr res (kept (slice_set cs i new) new_ps ≡ k)
       stays_by (Ok v) s p = tt
       stays_by (Err e) s p =
           let place = position-Some (λ c. number_of c == step.at) cs i old (sym at) in
           let states = same_states cs i old new place.0 (s ∙ ap state_of is) in
           (λ j. record { coordinators = states j; packets = p j }) ∙ whole
+
+-- a view shows what the coordinator that the number names has to show
+pub shows : (o : Option State) (s : State) (a : Act) (result : Result (Option View) Refusal) → o ≡ Some s → IfOk result (λ view. view ≡ shown (Some s) a) → IfOk result (λ view. view ≡ shown o a)
+shows o s a result named h = subst (λ (p : Option State). IfOk result (λ view. view ≡ shown p a)) (sym named) h
+
+-- and so does a look without a network
+pub sees : (o : Option State) (s : State) (result : Result Sight Refusal) → o ≡ Some s → IfOk result (λ sight. sight.at ≡ length s.history) → IfOk result (λ sight. sight.knowledge ≡ s.knowledge)
+    → IfOk result (λ sight. shown o act.View ≡ Some (record { at = sight.at; knowledge = sight.knowledge; network = net_of sight.knowledge }))
+sees o s (Ok sight) named at known =
+    ap (λ p. shown p act.View) named ∙ (λ i. Some (record { at = (sym at) i; knowledge = (sym known) i; network = net_of ((sym known) i) }))
+sees o s (Err e) named at known = tt
+
+-- it is an accepted view
+pub seen_acted : (new : State) (r : Replica) (sent : List Sent) (ps : List Packet) (by : ℕ) (result : Result Sight Refusal) → ps ≡ map seen sent
+    → IfOk result (λ sight. IsEventAt r by event.View (reply.Seen sight.at sight.knowledge) new) → OnOk result (IsActed new ps r sent by act.View)
+seen_acted new r sent ps by (Ok sight) is e =
+    record {
+      accepted = e.accepted;
+      stands = e.stands;
+      packets = is ∙ ap (map seen) (sym (append-nil sent));
+    }
+seen_acted new r sent ps by (Err e) is h = tt
+
+-- what no refusal changes is as it was
+pub still : {A T : Type 0} (a : A) (result : Result T Refusal) → OnErr result (a ≡ a)
+still a (Ok t) = tt
+still a (Err e) = refl

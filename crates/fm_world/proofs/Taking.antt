@@ -9,7 +9,8 @@ use Rattle.fm_records.specs.Joined.{table_join}
 use Rattle.fm_records.specs.UnionLaws.{know_append}
 use Rattle.fm_delta.specs.declared.packet.Packet.{Packet}
 use Rattle.fm_coord.specs.declared.entry.Call.TheVariants as call
-use Rattle.fm_coord.specs.Events.{Sent, Merged, Replica, happens}
+use Rattle.fm_coord.specs.Events.{Sent, Replica, happens}
+use Rattle.fm_coord.specs.Events as event
 use Rattle.fm_coord.specs.Replays.{seen}
 use Rattle.fm_coord.specs.States.{State, StandsFor, asked, step_asked}
 use Rattle.fm_world.specs.declared.step.Step.{Step}
@@ -23,7 +24,7 @@ known_alike p q e = ap (λ (x : Packet). x.value) e
 
 module _ (by : ℕ) (p q : Sent) (alike : seen p ≡ seen q) where
   -- what one packet's merge leaves, the other's does
-  pub merged_alike : (s : State) (r : Replica) → StandsFor s (happens r by (Merged p)) → StandsFor s (happens r by (Merged q))
+  pub merged_alike : (s : State) (r : Replica) → StandsFor s (happens r by (event.Merge p)) → StandsFor s (happens r by (event.Merge q))
   merged_alike s r st =
       let e = known_alike p q alike in
       record {
@@ -38,27 +39,27 @@ module _ (by : ℕ) (p q : Sent) (alike : seen p ≡ seen q) where
         end = st.end ∙ length-append r.buffer (p.set ∷ []) ∙ sym (length-append r.buffer (q.set ∷ []));
         cuts = st.cuts;
         history =
-            st.history ∙ map-append step_asked r.steps ((by, Merged p) ∷ []) ∙ (λ i. map step_asked r.steps ++ (by, call.Merge (alike i)) ∷ [])
-            ∙ sym (map-append step_asked r.steps ((by, Merged q) ∷ []));
+            st.history ∙ map-append step_asked r.steps ((by, event.Merge p) ∷ []) ∙ (λ i. map step_asked r.steps ++ (by, call.Merge (alike i)) ∷ [])
+            ∙ sym (map-append step_asked r.steps ((by, event.Merge q) ∷ []));
       }
 
   one_alike : (n : ℕ) (s : State) (ss : List State) (r : Replica) (rs : List Replica) (b : Bool)
-      → (AllStand ss (changed_at n (λ x. happens x by (Merged p)) rs) → AllStand ss (changed_at n (λ x. happens x by (Merged q)) rs))
-      → AllStand (s ∷ ss) (cond b (happens r by (Merged p) ∷ rs) (r ∷ changed_at n (λ x. happens x by (Merged p)) rs))
-      → AllStand (s ∷ ss) (cond b (happens r by (Merged q) ∷ rs) (r ∷ changed_at n (λ x. happens x by (Merged q)) rs))
+      → (AllStand ss (changed_at n (λ x. happens x by (event.Merge p)) rs) → AllStand ss (changed_at n (λ x. happens x by (event.Merge q)) rs))
+      → AllStand (s ∷ ss) (cond b (happens r by (event.Merge p) ∷ rs) (r ∷ changed_at n (λ x. happens x by (event.Merge p)) rs))
+      → AllStand (s ∷ ss) (cond b (happens r by (event.Merge q) ∷ rs) (r ∷ changed_at n (λ x. happens x by (event.Merge q)) rs))
   one_alike n s ss r rs true rest k = (merged_alike s r k.0, k.1)
   one_alike n s ss r rs false rest k = (k.0, rest k.1)
 
-  none_alike : (r : Replica) (rs others more : List Replica) (b : Bool) → AllStand [] (cond b (happens r by (Merged p) ∷ rs) (r ∷ others)) → AllStand [] (cond b (happens r by (Merged q) ∷ rs) (r ∷ more))
+  none_alike : (r : Replica) (rs others more : List Replica) (b : Bool) → AllStand [] (cond b (happens r by (event.Merge p) ∷ rs) (r ∷ others)) → AllStand [] (cond b (happens r by (event.Merge q) ∷ rs) (r ∷ more))
   none_alike r rs others more true k = absurd k
   none_alike r rs others more false k = absurd k
 
-  pub all_alike : (n : ℕ) (ss : List State) (rs : List Replica) → AllStand ss (changed_at n (λ r. happens r by (Merged p)) rs) → AllStand ss (changed_at n (λ r. happens r by (Merged q)) rs)
+  pub all_alike : (n : ℕ) (ss : List State) (rs : List Replica) → AllStand ss (changed_at n (λ r. happens r by (event.Merge p)) rs) → AllStand ss (changed_at n (λ r. happens r by (event.Merge q)) rs)
   all_alike n ss [] h = h
-  all_alike n [] (r ∷ rs) h = none_alike r rs (changed_at n (λ x. happens x by (Merged p)) rs) (changed_at n (λ x. happens x by (Merged q)) rs) (r.number == n) h
+  all_alike n [] (r ∷ rs) h = none_alike r rs (changed_at n (λ x. happens x by (event.Merge p)) rs) (changed_at n (λ x. happens x by (event.Merge q)) rs) (r.number == n) h
   all_alike n (s ∷ ss) (r ∷ rs) h = one_alike n s ss r rs (r.number == n) (all_alike n ss rs) h
 
-uncut : (sent : List Sent) (o : Option Replica) (p : Sent) → sent_at sent o (Some (Merged p)) ≡ sent
+uncut : (sent : List Sent) (o : Option Replica) (p : Sent) → sent_at sent o (Some (event.Merge p)) ≡ sent
 uncut sent None p = refl
 uncut sent (Some r) p = append-nil sent
 

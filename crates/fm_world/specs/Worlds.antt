@@ -6,7 +6,8 @@ use Rattle.fm_records.specs.declared.refusal.Refusal.TheVariants.{OutOfMemory, N
 use Rattle.fm_records.specs.Options.{or_else}
 use Rattle.fm_records.specs.Spelled.{ops}
 use Rattle.fm_delta.specs.declared.packet.Packet.{Packet}
-use Rattle.fm_coord.specs.Events.{Sent, Event, Told, Merged, Gave, LetGo, Viewed, Committed, Replica, opening, packet_of, happens}
+use Rattle.fm_coord.specs.Events.{Sent, Event, Replica, opening, packet_of, happens}
+use Rattle.fm_coord.specs.Events as event
 use Rattle.fm_coord.specs.Causes.{cause, bounds_of}
 use Rattle.fm_coord.specs.Replays.{call_of}
 use Rattle.fm_world.specs.declared.step.Act.{Act}
@@ -39,13 +40,13 @@ spelled_out p = record { sender = p.sender; number = p.number; set = ops p.value
 
 -- the event that an act comes to: a delivery is the merge of the packet that was cut as the i-th, counted from 0
 abbrev pub event_asked : List Sent → Act → Option Event
-event_asked sent (act.Tell op) = Some (Told op)
-event_asked sent (act.Cut range) = Some (Gave range)
-event_asked sent (act.Deliver i) = option_map Merged (slice_get sent i)
-event_asked sent (act.Trim n) = Some (LetGo n)
-event_asked sent act.View = Some Viewed
-event_asked sent (act.Commit plan) = Some (Committed plan)
-event_asked sent (act.Take packet) = Some (Merged (spelled_out packet))
+event_asked sent (act.Tell op) = Some (event.Tell op)
+event_asked sent (act.Cut range) = Some (event.Cut range)
+event_asked sent (act.Deliver i) = option_map event.Merge (slice_get sent i)
+event_asked sent (act.Trim n) = Some (event.Trim n)
+event_asked sent act.View = Some event.View
+event_asked sent (act.Commit plan) = Some (event.Commit plan)
+event_asked sent (act.Take packet) = Some (event.Merge (spelled_out packet))
 
 -- the replica after the event, if there is one
 abbrev pub acted : ℕ → Option Event → Replica → Replica
@@ -54,7 +55,7 @@ acted by (Some event) r = happens r by event
 
 -- the packet of a cut
 abbrev pub cut_by : Replica → Option Event → List Sent
-cut_by r (Some (Gave range)) = packet_of r range ∷ []
+cut_by r (Some (event.Cut range)) = packet_of r range ∷ []
 cut_by r _ = []
 
 -- why a replica refuses an event: there is no such packet to deliver, or the cause of the call
@@ -90,7 +91,7 @@ step_of w s =
 
 -- the world after a replica merged a packet that another world cut
 abbrev pub taken_in : WorldOfSets → ℕ → ℕ → Sent → WorldOfSets
-taken_in w at by packet = record { replicas = changed_at at (λ r. happens r by (Merged packet)) w.replicas; packets = w.packets }
+taken_in w at by packet = record { replicas = changed_at at (λ r. happens r by (event.Merge packet)) w.replicas; packets = w.packets }
 
 -- the world after accepted steps
 abbrev pub run_of : WorldOfSets → List Step → WorldOfSets

@@ -1,31 +1,28 @@
 //! Acts at one coordinator.
 
-ghost use Rattle.std.specs.Prelude.{◌≡◌, ◌∷◌, ◌++◌, [], List, Some, IfOk, IfErr, OnOk, OnErr, map};
+ghost use Rattle.std.specs.Prelude.{◌≡◌, List, Some, IfOk, IfErr, OnErr, OnOk, map, vec_len, vec_capacity};
 ghost use Rattle.fm_records.specs.Options.{or_else};
-ghost use Rattle.fm_coord.specs.Events.{Sent, Merged, Gave, Committed, Replica, packet_of, admitted_by};
+ghost use Rattle.fm_coord.specs.Events.{Sent, Replica};
 ghost use Rattle.fm_coord.specs.Causes.{refusal_for};
 ghost use Rattle.fm_coord.specs.Replays.{seen};
-ghost use Rattle.fm_coord.specs.States.{bounds, StandsFor, IsEventAt};
+ghost use Rattle.fm_coord.specs.States.{bounds, StandsFor};
 ghost use Rattle.fm_world.specs.Worlds.{event_asked, cause_here};
 ghost use Rattle.fm_world.specs.Stands.{shown, IsActed};
+ghost use Rattle.fm_world.specs.Calls.{call_asked, HasRoomFor, IsSpelled, refusal_asked};
 
 use crate::step::Act;
+use fm_coord::answer::Answer;
 use fm_coord::coordinator::Coordinator;
-use fm_coord::entry::{Call, Range, Reply};
+use fm_coord::entry::Call;
 use fm_coord::shared::Shared;
 use fm_coord::view::View;
 use fm_delta::packet::Packet;
 use fm_know::laws::law_spelled;
-use fm_lattice::join::OutOfMemory;
 use fm_policy::keeper::NetKeeper;
 use fm_records::refusal::Refusal;
-use fm_round::listed::Listed;
-use fm_round::parts::Plan;
-use std::alloc::Global;
 
 // An act at the coordinator, or nothing.
 pub(crate) fn act_at<N: NetKeeper>(
-    alloc: Global,
     coordinator: &mut Coordinator<N>,
     packets: &mut Vec<Shared<Packet>>,
     by: u32,
@@ -37,102 +34,72 @@ pub(crate) fn act_at<N: NetKeeper>(
     ensures same_state { OnErr result (coordinator.new.state ≡ coordinator.old.state) }
     ensures same_packets { OnErr result (packets.new.items ≡ packets.old.items) }
 {
+    let asked = call_for(coordinator, packets, act)?;
+    let answer = coordinator.call(by, asked)?;
+    match answer {
+        Answer::Packet(packet) => {
+            packets.push(packet).unwrap();
+            Ok(None)
+        }
+        Answer::View(view) => Ok(Some(view)),
+        Answer::Done => Ok(None),
+        Answer::Admitted(_) => Ok(None),
+    }
+}
+
+// The call that the act comes to: a delivery looks its packet up. For a cut there is room for one more packet then.
+// NoPacket, or as the coordinator would refuse the call; then the packets are as they were.
+fn call_for<N: NetKeeper>(
+    coordinator: &Coordinator<N>,
+    packets: &mut Vec<Shared<Packet>>,
+    act: &Act,
+) -> Result<Call, Refusal>
+    ensures ok { IfOk result (λ call. call_asked packets.old.items act.now ≡ Some call) }
+    ensures room { IfOk result (λ call. HasRoomFor call (vec_len packets.new) (vec_capacity packets.new)) }
+    ensures err { IfErr result (λ refusal. refusal ≡ refusal_asked (bounds coordinator.now.state) (call_asked packets.old.items act.now)) }
+    ensures spelled { IsSpelled act.now }
+    ensures same { packets.new.items ≡ packets.old.items }
+{
     match act {
-        Act::Tell(op) => {
-            coordinator.tell(by, *op)?;
-            Ok(None)
-        }
+        Act::Tell(op) => Ok(Call::Tell(*op)),
         Act::Cut(range) => {
-            cut_at(coordinator, packets, by, *range)?;
-            Ok(None)
-        }
-        Act::Deliver(i) => {
-            if *i >= packets.len() {
-                return Err(Refusal::NoPacket);
+            if packets.reserve(1).is_err() {
+                coordinator.check_range(*range)?;
+                coordinator.check_room()?;
+                return Err(Refusal::OutOfMemory);
             }
-            deliver_at(coordinator, packets[*i].get(), by)?;
-            Ok(None)
+            Ok(Call::Cut(*range))
         }
-        Act::Trim(n) => {
-            coordinator.trim(by, *n)?;
-            Ok(None)
-        }
-        Act::View => Ok(Some(coordinator.view(by)?)),
-        Act::Commit(plan) => {
-            commit_at(alloc, coordinator, by, plan)?;
-            Ok(None)
-        }
+        Act::Deliver(i) => match packets.get(*i) {
+            None => Err(Refusal::NoPacket),
+            Some(packet) => merge_of(coordinator, packet.get()),
+        },
+        Act::Trim(n) => Ok(Call::Trim(*n)),
+        Act::View => Ok(Call::View),
+        Act::Commit(plan) => match plan.copy() {
+            Ok(plan) => Ok(Call::Commit(plan)),
+            Err(_) => {
+                coordinator.check_room()?;
+                Err(Refusal::OutOfMemory)
+            }
+        },
         Act::Take(packet) => {
             law_spelled(&packet.value);
-            deliver_at(coordinator, packet, by)?;
-            Ok(None)
+            merge_of(coordinator, packet)
         }
     }
 }
 
-// A cut whose packet is kept, or nothing.
-fn cut_at<N: NetKeeper>(
-    coordinator: &mut Coordinator<N>,
-    packets: &mut Vec<Shared<Packet>>,
-    by: u32,
-    range: Range,
-) -> Result<(), Refusal>
-    ensures event { (r : Replica) → StandsFor coordinator.old.state r → OnOk result (IsEventAt r by (Gave range) (Reply.Packet (seen (packet_of r range))) coordinator.new.state) }
-    ensures packets { (r : Replica) → StandsFor coordinator.old.state r → OnOk result (packets.new.items ≡ packets.old.items ++ seen (packet_of r range) ∷ []) }
-    ensures err { IfErr result (λ refusal. refusal ≡ refusal_for (bounds coordinator.old.state) (Call.Cut range)) }
-    ensures same_state { OnErr result (coordinator.new.state ≡ coordinator.old.state) }
-    ensures same_packets { OnErr result (packets.new.items ≡ packets.old.items) }
+// The merge of the packet, whose records are shared where they were.
+fn merge_of<N: NetKeeper>(coordinator: &Coordinator<N>, packet: &Packet) -> Result<Call, Refusal>
+    ensures ok { IfOk result (λ call. call ≡ Call.Merge packet.now) }
+    ensures err { IfErr result (λ refusal. refusal ≡ refusal_for (bounds coordinator.now.state) (Call.Merge packet.now)) }
 {
-    coordinator.check_range(range)?;
-    coordinator.check_room()?;
-    packets.reserve(1)?;
-    let packet = coordinator.cut(by, range)?;
-    packets.push(packet).unwrap();
-    Ok(())
-}
-
-// The delivery of a packet, or nothing.
-fn deliver_at<N: NetKeeper>(
-    coordinator: &mut Coordinator<N>,
-    packet: &Packet,
-    by: u32,
-) -> Result<(), Refusal>
-    ensures event { (r : Replica) (sent : Sent) → StandsFor coordinator.old.state r → packet.now ≡ seen sent → OnOk result (IsEventAt r by (Merged sent) Reply.Nothing coordinator.new.state) }
-    ensures err { IfErr result (λ refusal. refusal ≡ refusal_for (bounds coordinator.old.state) (Call.Merge packet.now)) }
-    ensures same_state { OnErr result (coordinator.new.state ≡ coordinator.old.state) }
-{
-    coordinator.check_room()?;
-    let copy = packet.copy()?;
-    coordinator.merge(by, copy)
-}
-
-// A commit of the plan, or nothing.
-fn commit_at<N: NetKeeper>(
-    alloc: Global,
-    coordinator: &mut Coordinator<N>,
-    by: u32,
-    plan: &Plan,
-) -> Result<(), Refusal>
-    ensures event { (r : Replica) → StandsFor coordinator.old.state r → OnOk result (IsEventAt r by (Committed plan.now) (Reply.Admitted (admitted_by r plan.now)) coordinator.new.state) }
-    ensures err { IfErr result (λ refusal. refusal ≡ refusal_for (bounds coordinator.old.state) (Call.Commit plan.now)) }
-    ensures same_state { OnErr result (coordinator.new.state ≡ coordinator.old.state) }
-{
-    coordinator.check_room()?;
-    let copy = plan_again(alloc, plan)?;
-    let _ = coordinator.commit(by, copy)?;
-    Ok(())
-}
-
-// The plan again, in memory of its own.
-fn plan_again(alloc: Global, plan: &Plan) -> Result<Plan, OutOfMemory>
-    ensures { IfOk result (λ copy. copy ≡ plan.now) }
-{
-    let mut places = Vec::new(alloc);
-    places.extend_from_slice(plan.places.as_slice())?;
-    let mut preempts = Vec::new(alloc);
-    preempts.extend_from_slice(plan.preempts.as_slice())?;
-    Ok(Plan {
-        places: Listed::new(places),
-        preempts: Listed::new(preempts),
-    })
+    match packet.copy() {
+        Ok(copy) => Ok(Call::Merge(copy)),
+        Err(_) => {
+            coordinator.check_room()?;
+            Err(Refusal::OutOfMemory)
+        }
+    }
 }

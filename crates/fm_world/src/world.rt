@@ -18,21 +18,19 @@ use crate::distinct::place_of;
 use crate::step::{Act, RunStop, Step};
 use fm_coord::coordinator::Coordinator;
 use fm_coord::shared::Shared;
-use fm_coord::view::View;
+use fm_coord::view::{Sight, View};
 use fm_delta::packet::Packet;
 use fm_dimacs::out::Out;
 use fm_know::laws::law_spelled;
 use fm_policy::keeper::NetKeeper;
 use fm_records::ids::CoordId;
 use fm_records::refusal::Refusal;
-use std::alloc::Global;
 use std::marker::Model;
 
 /// Coordinators, and every packet that they cut. Contracts see what the coordinators keep, without their networks. Each world
 /// was reached by accepted steps.
 #[derive(Drop)]
 pub struct World<N: NetKeeper> {
-    alloc: Global,
     coordinators: Vec<Coordinator<N>>,
     packets: Vec<Shared<Packet>>,
 }
@@ -60,7 +58,6 @@ impl<N: NetKeeper> World<N> {
         see_unused(coordinators.as_slice());
         let alloc = *coordinators.allocator();
         World {
-            alloc,
             coordinators,
             packets: Vec::new(alloc),
         }
@@ -131,7 +128,6 @@ impl<N: NetKeeper> World<N> {
         match place_of(self.coordinators.as_slice(), step.at) {
             None => Err(Refusal::NoCoordinator),
             Some(place) => act_at(
-                self.alloc,
                 &mut self.coordinators[place],
                 &mut self.packets,
                 step.by,
@@ -140,10 +136,30 @@ impl<N: NetKeeper> World<N> {
         }
     }
 
+    /// What the coordinator with this number knows, as a View shows it, but with no network: a stale one stays stale. The history
+    /// has the same entry.
+    /// NoCoordinator, HistoryFull, OutOfMemory. After a refusal nothing has changed.
+    pub fn see(&mut self, at: u8, by: u32) -> Result<Sight, Refusal>
+        ensures stands { (w : WorldOfSets) → WorldStandsFor self.old w
+            → OnOk result (WorldStandsFor self.new (step_of w (record { at = at; by = by; act = act.View }))) }
+        ensures accepted { (w : WorldOfSets) → WorldStandsFor self.old w
+            → OnOk result (cause_of w (record { at = at; by = by; act = act.View }) ≡ None) }
+        ensures sight { IfOk result (λ sight. shown (state_with self.old.coordinators at) act.View
+            ≡ Some (record { at = sight.at; knowledge = sight.knowledge; network = net_of sight.knowledge })) }
+        ensures err { (w : WorldOfSets) → WorldStandsFor self.old w
+            → IfErr result (λ refusal. refusal ≡ refusal_of w (record { at = at; by = by; act = act.View })) }
+        ensures unchanged { OnErr result (self.new ≡ self.old) }
+    {
+        match place_of(self.coordinators.as_slice(), at) {
+            None => Err(Refusal::NoCoordinator),
+            Some(place) => self.coordinators[place].see(by),
+        }
+    }
+
     /// Merges a packet that another world cut, or another process. For whatever operations the packet may stand, the coordinators
     /// then stand for the world in which these were merged: all that its sender took in, if the packet came from a cut of that.
     /// NoCoordinator, HistoryFull, OutOfMemory. After a refusal nothing has changed, but for a network that is fresh or stale.
-    pub fn take(&mut self, at: u8, by: u32, packet: Packet) -> Result<(), Refusal>
+    pub fn take(&mut self, at: u8, by: u32, mut packet: Packet) -> Result<(), Refusal>
         ensures stands { (w : WorldOfSets) (sent : Sent) → WorldStandsFor self.old w → packet ≡ seen sent
             → OnOk result (WorldStandsFor self.new (taken_in w at by sent)) }
         ensures accepted { (w : WorldOfSets) → WorldStandsFor self.old w
@@ -153,6 +169,8 @@ impl<N: NetKeeper> World<N> {
         ensures unchanged { OnErr result (self.new ≡ self.old) }
     {
         law_spelled(&packet.value);
+        // What the history keeps is shared with what is merged, if there is memory for that, else copied.
+        let _ = packet.share();
         let step = Step {
             at,
             by,

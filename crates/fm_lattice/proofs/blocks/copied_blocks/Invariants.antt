@@ -4,6 +4,6 @@ use Rattle.fm_lattice.proofs.blocks.copied_blocks.Given as goal
 
 abbrev pub invariant-loop-block : goal.invariant-loop-block
 invariant-loop-block g l = record {
-  pairs : pairs_of l.copies.items ≡ pairs_of (take l.block-index l.blocks.items);
+  pairs : pairs_of l.copies.items ≡ pairs_of (take l.block-index l.blocks);
   headed : AreHeaded l.copies.items;
 }

@@ -4,9 +4,6 @@ use Rattle.fm_lattice.proofs.InBlocks.{inside_blocks}
 use Rattle.fm_lattice.proofs.Cuts.{cut_pairs, cut_headed, cut_owned, takes_lower, takes_first, takes_later}
 use Rattle.fm_lattice.proofs.blocks.cut.Goals as goal
 
-pub moved_count-count-requires : goal.moved_count-count-requires
-moved_count-count-requires g c = rw c.deref.ensures.value (inside_blocks g.K.Ord.cmp g.met.K.Ord.total g.met.K.Chain.same c.args.blocks.now.items c.args.key.now c.args.at c.requires.block)
-
 pub index_mut-requires : goal.index_mut-requires
 index_mut-requires g c =
     let inside : c.args.at < length c.args.blocks.now.items = inside_blocks g.K.Ord.cmp g.met.K.Ord.total g.met.K.Chain.same c.args.blocks.now.items c.args.key.now c.args.at c.requires.block in

@@ -1,4 +1,4 @@
-use Rattle.std.proofs.Common.{◌<◌, ◌≤◌, length, ap, ◌∙◌, arith}
+use Rattle.std.proofs.Common.{◌<◌, ◌≤◌, ◌+◌, length, ap, ◌∙◌, arith}
 use Rattle.fm_lattice.proofs.InBlocks.{inside_blocks}
 use Rattle.fm_lattice.proofs.Cuts.{at_any, same_pairs, same_headed, takes_wider}
 use Rattle.fm_lattice.proofs.blocks.make_room.Goals as goal
@@ -40,8 +40,12 @@ returns-then-pairs-lt-FULL-clause-headed g c =
     let is = c.in_ok-at.ensures.block in
     same_headed g.K.Ord.cmp g.met.K.Ord.total g.met.K.Chain.same c.own_block.new.blocks.items c.args.key.now c.in_ok-at.at c.reserve_one.new.block c.index_mut.result.now is c.index_mut.ensures.value c.own_block.ensures.headed c.reserve_one.ensures.key c.reserve_one.ensures.items
 
-pub cut-requires-clause-full : goal.cut-requires-clause-full
-cut-requires-clause-full g c d =
+pub cut-requires-clause-more : goal.cut-requires-clause-more
+cut-requires-clause-more g c d =
     let is = c.in_ok-at.ensures.block in
-    let full : 64 ≤ length c.index.result.now.1.items = omega (arith, ap length c.pairs.ensures, c.if-pairs-lt-FULL.false) in
-    rw c.in_ok-reserve.ensures.items (at_any g.K.Ord.cmp g.met.K.Ord.total g.met.K.Chain.same c.own_block.new.blocks.items c.args.key.now c.in_ok-at.at c.index.result.now c.index.result.now is c.index.ensures (λ z. 64 ≤ length z.1.items) full d)
+    let more : c.moved_count-count.result + 1 ≤ length c.index.result.now.1.items = omega (arith, ap length c.pairs.ensures, c.if-pairs-lt-FULL.false, c.moved_count-count.ensures.half) in
+    rw c.in_ok-reserve.ensures.items (at_any g.K.Ord.cmp g.met.K.Ord.total g.met.K.Chain.same c.own_block.new.blocks.items c.args.key.now c.in_ok-at.at c.index.result.now c.index.result.now is c.index.ensures (λ z. c.moved_count-count.result + 1 ≤ length z.1.items) more d)
+
+pub moved_count-count-requires : goal.moved_count-count-requires
+moved_count-count-requires g c =
+    rw (c.deref.ensures.value, c.in_ok-reserve.ensures.items) (inside_blocks g.K.Ord.cmp g.met.K.Ord.total g.met.K.Chain.same c.own_block.new.blocks.items c.args.key.now c.in_ok-at.at c.in_ok-at.ensures.block)

@@ -9,7 +9,7 @@ invariant-loop-key g l = record {
   some : 0 < vec_len l.blocks;
   headed : AreHeaded l.blocks.items;
   rises : IsRising g.K.Ord.cmp (pairs_of l.blocks.items);
-  spares : HaveSpares g.K.Ord.cmp 64 (pairs_of l.blocks.items) (into_iter_items l.key-iterator);
+  spares : HaveSpares g.K.Ord.cmp 2 (pairs_of l.blocks.items) (into_iter_items l.key-iterator);
   owned : GoToOwned g.K.Ord.cmp l.blocks.items (into_iter_items l.key-iterator);
   room : vec_len l.blocks + into_iter_len l.key-iterator ≤ vec_capacity l.blocks;
   done : map_join g.K.Ord.cmp replaced (pairs_of l.blocks.items) (map (λ c. c.0) (into_iter_items l.key-iterator)) ≡ map_join g.K.Ord.cmp replaced (pairs_of l.fn.blocks.items) (map (λ c. c.0) l.fn.changes.items);

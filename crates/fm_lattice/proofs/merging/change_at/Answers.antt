@@ -14,7 +14,10 @@ change_in-requires g c =
     let left = c.own_block.new.blocks.items in
     let inside = inside_blocks g.K.Ord.cmp g.met.K.Ord.total g.met.K.Chain.same left c.args.pair.now.0 c.in_ok-at.at c.in_ok-at.ensures.block in
     let rises : IsRising g.K.Ord.cmp (pairs_of left) = subst (IsRising g.K.Ord.cmp) (sym c.in_ok-at.ensures.pairs) c.requires.rises in
-    subst (IsRising g.K.Ord.cmp) (sym (c.pairs.ensures ∙ ap (λ z. z.1.items) c.index.ensures)) (rising_in g.K.Ord.cmp g.met.K.Ord.total g.met.K.Chain.same left c.in_ok-at.at c.index.result.now rises inside)
+    record {
+      rises = subst (IsRising g.K.Ord.cmp) (sym (c.pairs.ensures ∙ ap (λ z. z.1.items) c.index.ensures)) (rising_in g.K.Ord.cmp g.met.K.Ord.total g.met.K.Chain.same left c.in_ok-at.at c.index.result.now rises inside);
+      least = c.spare_for-spare.ensures;
+    }
 
 pub returns-clause-pair : goal.returns-clause-pair
 returns-clause-pair g c =
@@ -32,4 +35,4 @@ returns-clause-spare g c =
     ap (lookup g.K.Ord.cmp key) (c.pairs.ensures ∙ ap (λ z. z.1.items) c.index.ensures)
     ∙ sym (lookup_in g.K.Ord.cmp g.met.K.Ord.total g.met.K.Chain.same c.own_block.new.blocks.items key c.in_ok-at.at c.index.result.now c.in_ok-at.ensures.block)
     ∙ ap (lookup g.K.Ord.cmp key) c.in_ok-at.ensures.pairs in
-    subst (λ z. IfOk c.change_in.result (λ change. z ≡ None → 64 ≤ vec_capacity change.1)) there c.change_in.ensures.spare
+    subst (λ z. IfOk c.change_in.result (λ change. z ≡ None → 2 ≤ vec_capacity change.1)) there c.change_in.ensures.spare

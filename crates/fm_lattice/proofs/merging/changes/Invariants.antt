@@ -9,7 +9,7 @@ invariant-rest g l = record {
   left_headed : AreHeaded l.left.items;
   left_len : vec_len l.left ≡ vec_len l.fn.left;
   pairs : map (λ c. c.0) l.changes.items ++ map (joined_pair g.K.Ord.cmp g.V.Join.join (pairs_of l.fn.left.items)) l.rest ≡ map (joined_pair g.K.Ord.cmp g.V.Join.join (pairs_of l.fn.left.items)) (pairs_of l.right);
-  spares : HaveSpares g.K.Ord.cmp 64 (pairs_of l.fn.left.items) l.changes.items;
+  spares : HaveSpares g.K.Ord.cmp 2 (pairs_of l.fn.left.items) l.changes.items;
   owned : GoToOwned g.K.Ord.cmp l.left.items l.changes.items;
 }
 

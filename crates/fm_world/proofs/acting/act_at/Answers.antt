@@ -1,104 +1,63 @@
-use Rattle.std.proofs.Common.{◌≡◌, ◌<◌, ◌∙◌, ℕ, Option, get_or, List, Some, None, length, map, option_map, slice_get, refl, sym, ap, subst, arith, rules}
+use Rattle.std.proofs.Common.{◌≡◌, ◌∙◌, List, [], ◌∷◌, ◌++◌, Some, refl, sym, ap, subst, rules}
 use Rattle.std.specs.Result.{IfErr}
-use Rattle.std.proofs.lemmas.Option.{slice_get-map, slice_get-get_or}
 use Rattle.fm_delta.specs.declared.packet.Packet.{Packet}
-use Rattle.fm_records.specs.Know.{know}
-use Rattle.fm_records.specs.Spelled.{ops}
-use Rattle.fm_records.specs.Table.{Table}
-use Rattle.fm_coord.specs.declared.entry.Call.TheVariants as call
-use Rattle.fm_coord.specs.declared.entry.Reply.TheVariants as reply
-use Rattle.fm_coord.specs.Events.{Sent, Told, Merged, Gave, LetGo, Committed, packet_of}
 use Rattle.fm_coord.specs.Causes.{refusal_for}
-use Rattle.fm_coord.specs.Replays.{seen}
 use Rattle.fm_coord.specs.States.{State, bounds}
-use Rattle.fm_world.specs.Worlds.{event_asked, spelled_out}
-use Rattle.fm_world.proofs.Acts.{uncut, cut_off, is_acted, refused, by_cause}
+use Rattle.fm_world.specs.Calls.{call_asked, refusal_asked}
+use Rattle.fm_world.specs.Stands.{IsActed}
+use Rattle.fm_world.proofs.Acts.{kept, refused, is_acted, by_cause}
 use Rattle.fm_world.proofs.acting.act_at.Goals as goal
 
-pub returns-in_err-tell-in-Tell-clause-err : goal.returns-in_err-tell-in-Tell-clause-err
-returns-in_err-tell-in-Tell-clause-err g c =
+pub returns-in_err-asked-clause-err : goal.returns-in_err-asked-clause-err
+returns-in_err-asked-clause-err g c =
     let s : State = c.args.coordinator.now.state in
-    let e : IfErr c.from_residual.result (λ refusal. refusal ≡ refusal_for (bounds s) (call.Tell c.in-Tell.op)) = search rules in
-    λ r sent st is. by_cause c.from_residual.result _ _ (refused r c.args.by sent c.args.act.now (Told c.in-Tell.op) (ap (event_asked sent) c.in-Tell.is) s st) e
+    let ps : List Packet = c.args.packets.now.items in
+    let e : IfErr c.from_residual.result (λ refusal. refusal ≡ refusal_asked (bounds s) (call_asked ps c.args.act.now)) = search rules in
+    λ r sent st is. by_cause c.from_residual.result _ _ (refused s r st ps sent is c.args.act.now c.in_err-asked.ensures.spelled) e
 
-pub returns-in_err-cut_at-in-Cut-clause-err : goal.returns-in_err-cut_at-in-Cut-clause-err
-returns-in_err-cut_at-in-Cut-clause-err g c =
+pub returns-in_err-answer-clause-err : goal.returns-in_err-answer-clause-err
+returns-in_err-answer-clause-err g c =
     let s : State = c.args.coordinator.now.state in
-    let e : IfErr c.from_residual-in_err-cut_at-in-Cut.result (λ refusal. refusal ≡ refusal_for (bounds s) (call.Cut c.in-Cut.range)) = search rules in
-    λ r sent st is. by_cause c.from_residual-in_err-cut_at-in-Cut.result _ _ (refused r c.args.by sent c.args.act.now (Gave c.in-Cut.range) (ap (event_asked sent) c.in-Cut.is) s st) e
-
-pub returns-in_ok-tell-in-Tell-clause-acted : goal.returns-in_ok-tell-in-Tell-clause-acted
-returns-in_ok-tell-in-Tell-clause-acted g c = λ r sent st is.
-    is_acted r c.args.by sent c.args.act.now (Told c.in-Tell.op) (ap (event_asked sent) c.in-Tell.is) c.tell.new.self.state c.args.packets.now.items reply.Nothing
-    (c.in_ok-tell-in-Tell.ensures.event r st) (uncut c.args.packets.now.items sent is)
-
-pub returns-in_ok-cut_at-in-Cut-clause-acted : goal.returns-in_ok-cut_at-in-Cut-clause-acted
-returns-in_ok-cut_at-in-Cut-clause-acted g c = λ r sent st is.
-    is_acted r c.args.by sent c.args.act.now (Gave c.in-Cut.range) (ap (event_asked sent) c.in-Cut.is) c.cut_at.new.coordinator.state c.cut_at.new.packets.items (reply.Packet (seen (packet_of r c.in-Cut.range)))
-    (c.in_ok-cut_at-in-Cut.ensures.event r st)
-    (c.in_ok-cut_at-in-Cut.ensures.packets r st ∙ cut_off c.args.packets.now.items sent (packet_of r c.in-Cut.range) is)
-
-pub returns-in_ok-trim-in-Trim-clause-acted : goal.returns-in_ok-trim-in-Trim-clause-acted
-returns-in_ok-trim-in-Trim-clause-acted g c = λ r sent st is.
-    is_acted r c.args.by sent c.args.act.now (LetGo c.in-Trim.n) (ap (event_asked sent) c.in-Trim.is) c.trim.new.self.state c.args.packets.now.items reply.Nothing
-    (c.in_ok-trim-in-Trim.ensures.event r st) (uncut c.args.packets.now.items sent is)
-
-pub returns-in_ok-commit_at-in-Commit-clause-acted : goal.returns-in_ok-commit_at-in-Commit-clause-acted
-returns-in_ok-commit_at-in-Commit-clause-acted g c = λ r sent st is.
-    is_acted r c.args.by sent c.args.act.now (Committed c.in-Commit.plan) (ap (event_asked sent) c.in-Commit.is) c.commit_at.new.coordinator.state c.args.packets.now.items _
-    (c.in_ok-commit_at-in-Commit.ensures.event r st) (uncut c.args.packets.now.items sent is)
-
--- the packet as the i-th of those that were sent
-record SentAs (o : Option Sent) (p : Packet) : Type 0 where
-  packet : Sent
-  at : o ≡ Some packet
-  is : seen packet ≡ p
-
-sent_as : (o : Option Sent) (p : Packet) → option_map seen o ≡ Some p → SentAs o p
-sent_as None p e = absurd (let no : ⊥ = cc in no)
-sent_as (Some q) p e = let same : seen q ≡ p = cc in record { packet = q; at = refl; is = same }
-
-sent_at : (ps : List Packet) (sent : List Sent) → ps ≡ map seen sent → (i : ℕ) → i < length ps → (p : Packet) → p ≡ get_or ps i p → SentAs (slice_get sent i) p
-sent_at ps sent is i lt p at =
-    sent_as (slice_get sent i) p
-    (sym (slice_get-map seen sent i) ∙ ap (λ qs. slice_get qs i) (sym is) ∙ slice_get-get_or ps i p lt ∙ ap (λ (q : Packet). Some q) (sym at))
-
-pub returns-in_ok-deliver_at-in-Deliver-clause-acted : goal.returns-in_ok-deliver_at-in-Deliver-clause-acted
-returns-in_ok-deliver_at-in-Deliver-clause-acted g c = λ r sent st is.
-    let p : Packet = c.get.result.now in
-    let lt : c.in-Deliver.i < length c.args.packets.now.items = omega arith in
-    let at : p ≡ get_or c.args.packets.now.items c.in-Deliver.i p = c.get.ensures ∙ c.index.ensures ∙ ap (λ (q : Packet). get_or c.args.packets.now.items c.in-Deliver.i q) (sym c.get.ensures) in
-    let q = sent_at c.args.packets.now.items sent is c.in-Deliver.i lt p at in
-    is_acted r c.args.by sent c.args.act.now (Merged q.packet) (ap (event_asked sent) c.in-Deliver.is ∙ ap (option_map Merged) q.at) c.deliver_at.new.coordinator.state c.args.packets.now.items reply.Nothing
-    (c.in_ok-deliver_at-in-Deliver.ensures.event r q.packet st (sym q.is)) (uncut c.args.packets.now.items sent is)
-
-pub returns-in_err-deliver_at-in-Deliver-clause-err : goal.returns-in_err-deliver_at-in-Deliver-clause-err
-returns-in_err-deliver_at-in-Deliver-clause-err g c =
-    let s : State = c.args.coordinator.now.state in
-    let p : Packet = c.get.result.now in
-    let e : IfErr c.from_residual-in_err-deliver_at-in-Deliver.result (λ refusal. refusal ≡ refusal_for (bounds s) (call.Merge p)) = search rules in
-    let lt : c.in-Deliver.i < length c.args.packets.now.items = omega arith in
-    let at : p ≡ get_or c.args.packets.now.items c.in-Deliver.i p = c.get.ensures ∙ c.index.ensures ∙ ap (λ (q : Packet). get_or c.args.packets.now.items c.in-Deliver.i q) (sym c.get.ensures) in
+    let ps : List Packet = c.args.packets.now.items in
+    let e : IfErr c.from_residual-in_err-answer.result (λ refusal. refusal ≡ refusal_for (bounds s) c.in_ok-asked.asked) = search rules in
     λ r sent st is.
-    let q = sent_at c.args.packets.now.items sent is c.in-Deliver.i lt p at in
-    by_cause c.from_residual-in_err-deliver_at-in-Deliver.result _ _
-    (ap (λ (x : Packet). refusal_for (bounds s) (call.Merge x)) (sym q.is) ∙ refused r c.args.by sent c.args.act.now (Merged q.packet) (ap (event_asked sent) c.in-Deliver.is ∙ ap (option_map Merged) q.at) s st) e
+    by_cause c.from_residual-in_err-answer.result _ _
+    (sym (ap (refusal_asked (bounds s)) c.in_ok-asked.ensures.ok) ∙ refused s r st ps sent is c.args.act.now c.in_ok-asked.ensures.spelled) e
 
--- a packet is what the operations that spell it out come to
-as_spelled : (p : Packet) → know (ops p.value) ≡ p.value → p ≡ seen (spelled_out p)
-as_spelled p e = λ i. record { sender = p.sender; number = p.number; value = (sym e) i }
-
-pub returns-in_ok-deliver_at-in-Take-clause-acted : goal.returns-in_ok-deliver_at-in-Take-clause-acted
-returns-in_ok-deliver_at-in-Take-clause-acted g c = λ r sent st is.
-    let p : Packet = c.in-Take.packet in
-    is_acted r c.args.by sent c.args.act.now (Merged (spelled_out p)) (ap (event_asked sent) c.in-Take.is) c.deliver_at-in-Take.new.coordinator.state c.args.packets.now.items reply.Nothing
-    (c.in_ok-deliver_at-in-Take.ensures.event r (spelled_out p) st (as_spelled p c.law_spelled.ensures)) (uncut c.args.packets.now.items sent is)
-
-pub returns-in_err-deliver_at-in-Take-clause-err : goal.returns-in_err-deliver_at-in-Take-clause-err
-returns-in_err-deliver_at-in-Take-clause-err g c =
+pub returns-in-Packet-clause-acted : goal.returns-in-Packet-clause-acted
+returns-in-Packet-clause-acted g c = λ r sent st is.
     let s : State = c.args.coordinator.now.state in
-    let p : Packet = c.in-Take.packet in
-    let e : IfErr c.from_residual-in_err-deliver_at-in-Take.result (λ refusal. refusal ≡ refusal_for (bounds s) (call.Merge p)) = search rules in
-    λ r sent st is.
-    by_cause c.from_residual-in_err-deliver_at-in-Take.result _ _
-    (ap (λ (x : Packet). refusal_for (bounds s) (call.Merge x)) (as_spelled p c.law_spelled.ensures) ∙ refused r c.args.by sent c.args.act.now (Merged (spelled_out p)) (ap (event_asked sent) c.in-Take.is) s st) e
+    let ps : List Packet = c.args.packets.now.items in
+    let items : c.push.new.self.items ≡ c.call_for.new.packets.items ++ c.in-Packet.packet ∷ [] = search rules in
+    let same : c.call_for.new.packets.items ≡ ps = c.in_ok-asked.ensures.same in
+    subst (λ qs. IsActed c.call.new.self.state qs r sent c.args.by c.args.act.now)
+    (ap (kept ps) c.in-Packet.is ∙ (λ i. sym same i ++ c.in-Packet.packet ∷ []) ∙ sym items)
+    (is_acted s r st ps sent is c.args.act.now c.in_ok-asked.ensures.spelled c.args.by c.in_ok-asked.asked c.call.new.self.state c.in_ok-answer.answer c.in_ok-asked.ensures.ok
+    (c.in_ok-answer.ensures.within refl) c.in_ok-answer.ensures.answer (λ event same. c.in_ok-answer.ensures.event r event st same))
+
+pub returns-in-View-clause-acted : goal.returns-in-View-clause-acted
+returns-in-View-clause-acted g c = λ r sent st is.
+    let s : State = c.args.coordinator.now.state in
+    let ps : List Packet = c.args.packets.now.items in
+    subst (λ qs. IsActed c.call.new.self.state qs r sent c.args.by c.args.act.now)
+    (ap (kept ps) c.in-View.is ∙ sym c.in_ok-asked.ensures.same)
+    (is_acted s r st ps sent is c.args.act.now c.in_ok-asked.ensures.spelled c.args.by c.in_ok-asked.asked c.call.new.self.state c.in_ok-answer.answer c.in_ok-asked.ensures.ok
+    (c.in_ok-answer.ensures.within refl) c.in_ok-answer.ensures.answer (λ event same. c.in_ok-answer.ensures.event r event st same))
+
+pub returns-in-Done-clause-acted : goal.returns-in-Done-clause-acted
+returns-in-Done-clause-acted g c = λ r sent st is.
+    let s : State = c.args.coordinator.now.state in
+    let ps : List Packet = c.args.packets.now.items in
+    subst (λ qs. IsActed c.call.new.self.state qs r sent c.args.by c.args.act.now)
+    (ap (kept ps) c.in-Done.is ∙ sym c.in_ok-asked.ensures.same)
+    (is_acted s r st ps sent is c.args.act.now c.in_ok-asked.ensures.spelled c.args.by c.in_ok-asked.asked c.call.new.self.state c.in_ok-answer.answer c.in_ok-asked.ensures.ok
+    (c.in_ok-answer.ensures.within refl) c.in_ok-answer.ensures.answer (λ event same. c.in_ok-answer.ensures.event r event st same))
+
+pub returns-clause-acted : goal.returns-clause-acted
+returns-clause-acted g c = λ r sent st is.
+    let s : State = c.args.coordinator.now.state in
+    let ps : List Packet = c.args.packets.now.items in
+    subst (λ qs. IsActed c.call.new.self.state qs r sent c.args.by c.args.act.now)
+    (ap (kept ps) c.in-Admitted.is ∙ sym c.in_ok-asked.ensures.same)
+    (is_acted s r st ps sent is c.args.act.now c.in_ok-asked.ensures.spelled c.args.by c.in_ok-asked.asked c.call.new.self.state c.in_ok-answer.answer c.in_ok-asked.ensures.ok
+    (c.in_ok-answer.ensures.within refl) c.in_ok-answer.ensures.answer (λ event same. c.in_ok-answer.ensures.event r event st same))

@@ -4,7 +4,7 @@ use Rattle.fm_coord.specs.declared.entry.Entry.{Entry}
 use Rattle.fm_coord.specs.declared.entry.Call.TheVariants as call
 use Rattle.fm_coord.specs.declared.entry.Reply.TheVariants as reply
 use Rattle.fm_coord.specs.Causes.{cause}
-use Rattle.fm_coord.specs.States.{State, bounds, entry, gave, cut_packet, IsCoordinator}
+use Rattle.fm_coord.specs.States.{State, bounds, entry, gave, cut_packet, StandsFor, IsCoordinator}
 use Rattle.fm_coord.proofs.Said.{same_state}
 use Rattle.fm_coord.proofs.Keeps.{keeps_cut}
 use Rattle.fm_coord.proofs.Happens.{gave_packet}
@@ -14,7 +14,7 @@ pub invariant_of-self-2 : goal.invariant_of-self-2
 invariant_of-self-2 g c =
     let a = c.self.inside in
     let s : State = record { number = a.number; limit = a.limit; knowledge = a.knowledge; deltas = a.buffer.deltas; cuts = a.cuts; history = a.history.items } in
-    let is : s ≡ c.args.self.now.state = same_state c.self.view_is in
+    let is : s ≡ c.share_for.new.self.state = same_state c.self.view_is in
     let none : cause (bounds s) (call.Cut c.args.range) ≡ None = subst (λ (t : State). cause (bounds t) (call.Cut c.args.range) ≡ None) (sym is) (c.in_ok-packet.ensures.within refl) in
     let packet : c.in_ok-share.field-0 ≡ cut_packet s c.args.range = c.in_ok-share.ensures ∙ c.in_ok-packet.ensures.ok ∙ ap (λ (t : State). cut_packet t c.args.range) (sym is) in
     let items = c.in_ok-push.ensures.items in
@@ -24,12 +24,14 @@ invariant_of-self-2 g c =
           (subst (λ (p : Packet). IsCoordinator (gave s (entry c.args.by (call.Cut c.args.range) (reply.Packet p)))) (sym packet)
           (keeps_cut s c.self.invariant.coordinator c.args.by c.args.range none));
       keeper = c.self.invariant.keeper;
+      kept_up = c.self.invariant.kept_up;
     }
 
 pub returns-clause-event : goal.returns-clause-event
 returns-clause-event g c =
     let a = c.self.inside in
-    let s : State = c.args.self.now.state in
+    let s : State = c.share_for.new.self.state in
+    let same : s ≡ c.args.self.now.state = same_state c.share_for.ensures.same in
     let t : State = record { number = a.number; limit = a.limit; knowledge = a.knowledge; deltas = a.buffer.deltas; cuts = a.cuts; history = a.history.items } in
     let is : t ≡ s = same_state c.self.view_is in
     let none = c.in_ok-packet.ensures.within refl in
@@ -41,4 +43,4 @@ returns-clause-event g c =
     ap (λ (es : List Entry). record { number = t.number; limit = t.limit; knowledge = t.knowledge; deltas = t.deltas; cuts = t.cuts + 1; history = es }) items
     ∙ ap (λ (q : Packet). gave t (entry c.args.by (call.Cut c.args.range) (reply.Packet q))) shared
     ∙ ap (λ (u : State). gave u (entry c.args.by (call.Cut c.args.range) (reply.Packet p))) is in
-    λ r st. gave_packet s r st c.args.by new c.args.range p c.in_ok-packet.ensures.ok none made
+    λ r st. gave_packet s r (subst (λ (u : State). StandsFor u r) (sym same) st) c.args.by new c.args.range p c.in_ok-packet.ensures.ok none made

@@ -1,7 +1,7 @@
 use Rattle.std.proofs.Common.{◌≡◌, None, sym, subst, rules}
 use Rattle.fm_records.specs.Table.{Table}
 use Rattle.fm_records.specs.Ranges.{CanBe}
-use Rattle.fm_coord.specs.declared.entry.Entry.{Entry}
+use Rattle.fm_delta.specs.declared.packet.Packet.{Packet}
 use Rattle.fm_coord.specs.declared.entry.Call.TheVariants as call
 use Rattle.fm_coord.specs.declared.entry.Reply.TheVariants as reply
 use Rattle.fm_coord.specs.Causes.{room_fault}
@@ -16,8 +16,10 @@ take_in-requires g c =
     let can : CanBe c.args.packet.value = search rules in
     let room : room_fault (bounds s) ≡ None = search rules in
     let delta : c.in_ok-delta.delta ≡ c.args.packet.value = search rules in
-    let merged : Entry = entry c.args.by (call.Merge c.args.packet) reply.Nothing in
-    subst (λ (d : Table). IsCoordinator (took s d merged)) (sym delta)
+    let shared : c.share.new.self ≡ c.args.packet.value = search rules in
+    let packet : c.args.packet ≡ record { sender = c.args.packet.sender; number = c.args.packet.number; value = c.share.new.self } =
+    λ i. record { sender = c.args.packet.sender; number = c.args.packet.number; value = sym shared i } in
+    subst (λ (p : Packet × Table). IsCoordinator (took s p.1 (entry c.args.by (call.Merge p.0) reply.Nothing))) (λ i. (packet i, sym delta i))
     (keeps_merge s c.known.ensures.coordinator c.args.by c.args.packet can.table room)
 
 pub returns-clause-event : goal.returns-clause-event

@@ -25,6 +25,7 @@ invariant_of-self-2 g c =
           subst (λ (p : Deltas × List Entry). IsCoordinator (record { number = s.number; limit = s.limit; knowledge = s.knowledge; deltas = p.0; cuts = s.cuts; history = p.1 })) (λ i. (sym deltas i, sym items i))
           (keeps_trim s c.self.invariant.coordinator c.args.by c.args.n (no_cause (bounds s) (call.Trim c.args.n) fault room));
       keeper = c.self.invariant.keeper;
+      kept_up = c.self.invariant.kept_up;
     }
 
 pub returns-clause-event : goal.returns-clause-event

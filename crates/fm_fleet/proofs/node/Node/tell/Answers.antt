@@ -1,7 +1,5 @@
-use Rattle.fm_coord.specs.declared.entry.Call.TheVariants as call
-use Rattle.fm_coord.specs.States.{bounds}
-use Rattle.fm_fleet.proofs.May.{may_refuse}
+use Rattle.std.proofs.Common.{refl}
 use Rattle.fm_fleet.proofs.node.Node.tell.Goals as goal
 
-pub returns-in-Err-clause-cause : goal.returns-in-Err-clause-cause
-returns-in-Err-clause-cause g c = may_refuse (bounds c.deref_mut.result.now.coordinator.state) (call.Tell c.args.op) c.in-Err.refusal c.in-Err.ensures.cause
+pub done-requires : goal.done-requires
+done-requires g c = λ s. refl

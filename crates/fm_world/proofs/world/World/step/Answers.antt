@@ -1,7 +1,7 @@
 use Rattle.std.proofs.Common.{◌==◌, position, ap, ◌∙◌, subst}
 use Rattle.fm_world.specs.Stands.{number_of, IsReached}
 use Rattle.fm_world.proofs.Reached.{reached_by}
-use Rattle.fm_world.proofs.Steps.{nobody, refuses, shows, stands_on, accepts, stays}
+use Rattle.fm_world.proofs.Steps.{nobody, named, refuses, shows, stands_on, accepts, stays}
 use Rattle.fm_world.proofs.world.World.step.Goals as goal
 
 pub returns-in-None-clause-err : goal.returns-in-None-clause-err
@@ -20,8 +20,10 @@ returns-in-Some-clause-accepted g c =
 
 pub returns-in-Some-clause-view : goal.returns-in-Some-clause-view
 returns-in-Some-clause-view g c =
-    shows c.self.inside.coordinators.items c.self.inside.packets.items c.args.step.now c.in-Some.place c.index_mut.result.now c.act_at.new.coordinator
-    (c.in-Some.ensures ∙ ap (position (λ d. number_of d == c.args.step.now.at)) c.as_slice.ensures.value) c.index_mut.ensures.value c.args.self.now c.self.view_is c.act_at.result c.act_at.ensures.view
+    shows _ _ c.args.step.now.act c.act_at.result
+    (named c.self.inside.coordinators.items c.self.inside.packets.items c.args.step.now c.in-Some.place c.index_mut.result.now c.act_at.new.coordinator
+    (c.in-Some.ensures ∙ ap (position (λ d. number_of d == c.args.step.now.at)) c.as_slice.ensures.value) c.index_mut.ensures.value c.args.self.now c.self.view_is c.act_at.result)
+    c.act_at.ensures.view
 
 pub returns-in-Some-clause-err : goal.returns-in-Some-clause-err
 returns-in-Some-clause-err g c = λ w h.

@@ -1,0 +1,68 @@
+//! One transition for all calls.
+
+ghost use Rattle.std.specs.Prelude.{◌≡◌, ◌⊎◌, ◌++◌, ◌∷◌, [], None, IsOk, IfOk, IfErr, OnOk, OnErr};
+ghost use Rattle.fm_coord.specs.Events.{Event, Replica};
+ghost use Rattle.fm_coord.specs.Causes.{cause, refusal_for};
+ghost use Rattle.fm_coord.specs.Replays.{call_of, reply_of};
+ghost use Rattle.fm_coord.specs.States.{bounds, entry, after, StandsFor, IsEventAt};
+ghost use Rattle.fm_coord.specs.Answers.{said, answered};
+
+use crate::answer::Answer;
+use crate::coordinator::Coordinator;
+use crate::entry::Call;
+use fm_lattice::join::OutOfMemory;
+use fm_policy::keeper::NetKeeper;
+use fm_records::refusal::Refusal;
+
+impl<N: NetKeeper> Coordinator<N> {
+    /// Does what is asked for, as the method of that name does and at its cost, and answers what that answers.
+    /// What is wrong with the call, else HistoryFull, else OutOfMemory; then nothing has changed, but for a stale network that a
+    /// view may have built or not.
+    pub fn call(&mut self, by: u32, call: Call) -> Result<Answer, Refusal>
+        ensures ok { IfOk result (λ answer. self.new.state ≡ after self.old.state (entry by call (said answer)) call) }
+        ensures answer { IfOk result (λ answer. answer ≡ answered self.old.state call) }
+        ensures history { IfOk result (λ answer. self.new.state.history ≡ self.old.state.history ++ entry by call (said answer) ∷ []) }
+        ensures within { IsOk result → cause (bounds self.old.state) call ≡ None }
+        ensures event { (r : Replica) (event : Event) → StandsFor self.old.state r → call ≡ call_of event
+            → OnOk result (IsEventAt r by event (reply_of r event) self.new.state) }
+        ensures err { IfErr result (λ refusal. refusal ≡ refusal_for (bounds self.old.state) call) }
+        ensures unchanged { OnErr result (self.new.state ≡ self.old.state) }
+        ensures same_keeper { OnErr result ((call ≡ Call.View) ⊎ (self.new.keeper ≡ self.old.keeper)) }
+    {
+        match call {
+            Call::Tell(op) => {
+                self.tell(by, op)?;
+                Ok(Answer::Done)
+            }
+            Call::Merge(packet) => {
+                self.merge(by, packet)?;
+                Ok(Answer::Done)
+            }
+            Call::Cut(range) => Ok(Answer::Packet(self.cut(by, range)?)),
+            Call::Trim(n) => {
+                self.trim(by, n)?;
+                Ok(Answer::Done)
+            }
+            Call::View => Ok(Answer::View(self.view(by)?)),
+            Call::Commit(plan) => Ok(Answer::Admitted(self.commit(by, plan)?)),
+        }
+    }
+}
+
+impl Call {
+    /// The call again, for a second list: a packet that is merged shares its records with this one's. It costs a pointer for each
+    /// block of these, and O(n) for the n entries of a plan. After a refusal of memory the call is as it was.
+    pub fn share(&mut self) -> Result<Call, OutOfMemory>
+        ensures ok { IfOk result (λ call. call ≡ self.old) }
+        ensures same { self.new ≡ self.old }
+    {
+        match self {
+            Call::Tell(op) => Ok(Call::Tell(*op)),
+            Call::Merge(packet) => Ok(Call::Merge(packet.share()?)),
+            Call::Cut(range) => Ok(Call::Cut(*range)),
+            Call::Trim(n) => Ok(Call::Trim(*n)),
+            Call::View => Ok(Call::View),
+            Call::Commit(plan) => Ok(Call::Commit(plan.copy()?)),
+        }
+    }
+}

@@ -1,0 +1,56 @@
+use Rattle.std.proofs.Common.{◌==◌, position, ap, ◌∙◌, subst}
+use Rattle.fm_coord.specs.declared.entry.Call.TheVariants as call
+use Rattle.fm_coord.specs.Causes.{refusal_for}
+use Rattle.fm_coord.specs.StepLaws.{same_bounds}
+use Rattle.fm_world.specs.declared.step.Act.TheVariants as act
+use Rattle.fm_world.specs.Stands.{number_of, IsReached}
+use Rattle.fm_world.proofs.Reached.{reached_by}
+use Rattle.fm_world.proofs.Acts.{by_cause}
+use Rattle.fm_world.proofs.Steps.{nobody, named, refuses, sees, seen_acted, still, stands_on, accepts, stays}
+use Rattle.fm_world.proofs.world.World.see.Goals as goal
+
+pub returns-in-None-clause-err : goal.returns-in-None-clause-err
+returns-in-None-clause-err g c =
+    nobody c.self.inside.coordinators.items c.self.inside.packets.items (record { at = c.args.at; by = c.args.by; act = act.View })
+    (c.in-None.ensures ∙ ap (position (λ d. number_of d == c.args.at)) c.as_slice.ensures.value) c.args.self.now c.self.view_is
+
+pub returns-in-Some-clause-stands : goal.returns-in-Some-clause-stands
+returns-in-Some-clause-stands g c =
+    stands_on c.self.inside.coordinators.items c.self.inside.packets.items (record { at = c.args.at; by = c.args.by; act = act.View }) c.in-Some.place c.index_mut.result.now c.see.new.self
+    (c.in-Some.ensures ∙ ap (position (λ d. number_of d == c.args.at)) c.as_slice.ensures.value) c.index_mut.ensures.value c.args.self.now c.self.view_is c.see.result c.self.inside.packets.items
+    (λ r sent st is. seen_acted c.see.new.self.state r sent c.self.inside.packets.items c.args.by c.see.result is (c.see.ensures.event r st))
+
+pub returns-in-Some-clause-accepted : goal.returns-in-Some-clause-accepted
+returns-in-Some-clause-accepted g c =
+    accepts c.self.inside.coordinators.items c.self.inside.packets.items (record { at = c.args.at; by = c.args.by; act = act.View }) c.in-Some.place c.index_mut.result.now c.see.new.self
+    (c.in-Some.ensures ∙ ap (position (λ d. number_of d == c.args.at)) c.as_slice.ensures.value) c.index_mut.ensures.value c.args.self.now c.self.view_is c.see.result c.self.inside.packets.items
+    (λ r sent st is. seen_acted c.see.new.self.state r sent c.self.inside.packets.items c.args.by c.see.result is (c.see.ensures.event r st))
+
+pub returns-in-Some-clause-sight : goal.returns-in-Some-clause-sight
+returns-in-Some-clause-sight g c =
+    sees _ _ c.see.result
+    (named c.self.inside.coordinators.items c.self.inside.packets.items (record { at = c.args.at; by = c.args.by; act = act.View }) c.in-Some.place c.index_mut.result.now c.see.new.self
+    (c.in-Some.ensures ∙ ap (position (λ d. number_of d == c.args.at)) c.as_slice.ensures.value) c.index_mut.ensures.value c.args.self.now c.self.view_is c.see.result)
+    c.see.ensures.at c.see.ensures.knowledge
+
+pub returns-in-Some-clause-err : goal.returns-in-Some-clause-err
+returns-in-Some-clause-err g c = λ w h.
+    refuses c.self.inside.coordinators.items c.self.inside.packets.items (record { at = c.args.at; by = c.args.by; act = act.View }) c.in-Some.place c.index_mut.result.now c.see.new.self
+    (c.in-Some.ensures ∙ ap (position (λ d. number_of d == c.args.at)) c.as_slice.ensures.value) c.index_mut.ensures.value c.args.self.now c.self.view_is c.see.result w h (λ r sent st is. by_cause c.see.result _ _ (ap (λ b. refusal_for b call.View) (same_bounds _ r st)) c.see.ensures.err)
+
+pub returns-in-Some-clause-unchanged : goal.returns-in-Some-clause-unchanged
+returns-in-Some-clause-unchanged g c =
+    stays c.self.inside.coordinators.items c.self.inside.packets.items (record { at = c.args.at; by = c.args.by; act = act.View }) c.in-Some.place c.index_mut.result.now c.see.new.self
+    (c.in-Some.ensures ∙ ap (position (λ d. number_of d == c.args.at)) c.as_slice.ensures.value) c.index_mut.ensures.value c.args.self.now c.self.view_is c.see.result c.self.inside.packets.items c.see.ensures.unchanged (still _ c.see.result)
+
+pub invariant_of-self : goal.invariant_of-self
+invariant_of-self g c =
+    reached_by c.see.result c.args.self.now _ (record { at = c.args.at; by = c.args.by; act = act.View }) (subst IsReached c.self.view_is c.self.invariant)
+    (stands_on c.self.inside.coordinators.items c.self.inside.packets.items (record { at = c.args.at; by = c.args.by; act = act.View }) c.in-Some.place c.index_mut.result.now c.see.new.self
+    (c.in-Some.ensures ∙ ap (position (λ d. number_of d == c.args.at)) c.as_slice.ensures.value) c.index_mut.ensures.value c.args.self.now c.self.view_is c.see.result c.self.inside.packets.items
+    (λ r sent st is. seen_acted c.see.new.self.state r sent c.self.inside.packets.items c.args.by c.see.result is (c.see.ensures.event r st)))
+    (accepts c.self.inside.coordinators.items c.self.inside.packets.items (record { at = c.args.at; by = c.args.by; act = act.View }) c.in-Some.place c.index_mut.result.now c.see.new.self
+    (c.in-Some.ensures ∙ ap (position (λ d. number_of d == c.args.at)) c.as_slice.ensures.value) c.index_mut.ensures.value c.args.self.now c.self.view_is c.see.result c.self.inside.packets.items
+    (λ r sent st is. seen_acted c.see.new.self.state r sent c.self.inside.packets.items c.args.by c.see.result is (c.see.ensures.event r st)))
+    (stays c.self.inside.coordinators.items c.self.inside.packets.items (record { at = c.args.at; by = c.args.by; act = act.View }) c.in-Some.place c.index_mut.result.now c.see.new.self
+    (c.in-Some.ensures ∙ ap (position (λ d. number_of d == c.args.at)) c.as_slice.ensures.value) c.index_mut.ensures.value c.args.self.now c.self.view_is c.see.result c.self.inside.packets.items c.see.ensures.unchanged (still _ c.see.result))

@@ -1,0 +1,64 @@
+"""Tests of what calls ask the allocator for: `fm_watch steps` takes the first steps of a script, with and without the last one, and
+tests/refusing.c counts. A record is a pair of a key and a value in a block of 64 pairs at most, which maps share."""
+import json
+
+import drawn
+
+# What a pair of a task takes at most, and so what one copy of a task that is known takes, in bytes.
+PAIR = 256
+# The fewest pairs of a block but the last.
+FULL = 32
+POINTER = 16
+
+
+def job():
+    return {"job": {"id": drawn.unique(1), "version": 1, "writer": 1, "withdrawn": False, "wait": 500, "preempt": 800}}
+
+
+def spec(number):
+    return {"spec": {"id": drawn.unique(1000 + number), "version": 1, "writer": 1, "withdrawn": False, "job": drawn.unique(1), "request": 100}}
+
+
+def told(at, first, count):
+    return [{"at": at, "tell": spec(number)} for number in range(first, first + count)]
+
+
+def counted(allocator, program, coordinators, steps, count):
+    """What was counted while the first steps of a script were taken."""
+    text = json.dumps({"coordinators": list(coordinators), "steps": steps}).encode()
+    (status, _, err), numbers = allocator.run(program, ["steps", str(count)], text)
+    assert status == 0, err
+    return numbers
+
+
+def more(allocator, program, coordinators, steps, field, last=1):
+    """By how much the last steps of the script raise a count."""
+    before, after = (counted(allocator, program, coordinators, steps, len(steps) - less)[field] for less in (last, 0))
+    return after - before
+
+
+def around(count):
+    """Full packets that go from the first of so many coordinators to the last, and from there to the first."""
+    steps = []
+    for at, after in zip(range(1, count + 1), [*range(2, count + 1), 1]):
+        steps += [{"at": at, "cut": {"name": "p%d" % at}}, {"at": after, "deliver": "p%d" % at}]
+    return steps
+
+
+def all_tests(allocator, program):
+    """Each test with whether it holds."""
+    known = [{"at": 1, "tell": job()}, *told(1, 0, 10000)]
+    blocks = 10000 // FULL + 8
+    asked = more(allocator, program, [1], known + told(1, 10000, 1), "asked")
+    yield "a new task among 10,000 asks for %d bytes, less than 4 KB" % asked, 0 < asked < 4096
+    packet = [*told(2, 20000, 100), {"at": 2, "cut": {"name": "p"}}, {"at": 1, "deliver": "p"}]
+    asked = more(allocator, program, [1, 2], known + packet, "asked")
+    yield "a packet of 100 new tasks to 10,000 asks for %d bytes, less than 200 KB" % asked, 0 < asked < 200000
+    look, cut = {"at": 1, "round": True}, {"at": 1, "cut": {"name": "q"}}
+    asked = more(allocator, program, [1], known + [look, look], "asked")
+    yield "a view after a view of 10,000 tasks asks for %d bytes, at most a pointer a block" % asked, 0 < asked < POINTER * blocks + 1024
+    asked = more(allocator, program, [1], known + [look, cut], "asked")
+    yield "a Full packet after a view of 10,000 tasks asks for %d bytes, at most a few pointers a block" % asked, 0 < asked < 4 * POINTER * blocks + 1024
+    ring, count = around(8), 20000
+    asked = more(allocator, program, range(1, 9), [{"at": 1, "tell": job()}, *told(1, 0, count), *ring], "asked", len(ring))
+    yield "a Full packet of 20,000 tasks round 8 coordinators asks for %d bytes, less than two copies" % asked, 0 < asked < 2 * PAIR * count
