@@ -12,12 +12,12 @@ ghost use Rattle.fm_cli.specs.Running.{Acts, Come, Refuses, StopsIn, Stops, IsRu
 use crate::fault::Fault;
 use crate::progress::Progress;
 use fm_edit::keepers::Keeper;
-use fm_fleet::round::plan_for;
 use fm_follow::acting::take_step;
 use fm_input::script::{Act, Script, Step};
 use fm_opening::world::open;
+use fm_planner::planned::plan_of;
 use fm_records::refusal::Refusal;
-use fm_world::step::{Act as WorldAct, Step as WorldStep};
+use fm_world::step::Act as WorldAct;
 use fm_world::world::World;
 use std::alloc::Global;
 
@@ -75,16 +75,7 @@ fn round(alloc: Global, world: &mut World<Keeper>, at: u8) -> Result<(), Refusal
     ensures ok { Makes result world.old world.new (λ w v. Acts w at script_act.Round v) }
     ensures err { Fails result world.old (λ w refusal. Refuses w at script_act.Round refusal) }
 {
-    let look = WorldStep {
-        at,
-        by: 0,
-        act: WorldAct::View,
-    };
-    let Some(view) = world.step(&look)? else {
-        return Err(Refusal::NoCoordinator);
-    };
-    let plan = plan_for(alloc, &view)?;
-    // With no view left, the commit edits the network in place.
-    drop(view);
+    let sight = world.see(at, 0)?;
+    let plan = plan_of(alloc, sight.knowledge.get())?;
     take_step(world, at, WorldAct::Commit(plan))
 }

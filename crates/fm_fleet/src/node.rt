@@ -5,13 +5,13 @@ ghost use Rattle.fm_coord.specs.Answers.{said};
 ghost use Rattle.fm_fleet.specs.Seats.{called, MayRefuse, IsAnswered, IsDone, AreNew};
 
 use crate::desk::Desk;
-use crate::owners::listed;
+use crate::owners::{another, listed};
 use crate::seat::{NodeName, Seat, SeatLog};
 use fm_coord::answer::Answer;
 use fm_coord::coordinator::Coordinator;
 use fm_coord::entry::{Call, Entry, Range, Reply};
 use fm_coord::shared::Shared;
-use fm_coord::view::View;
+use fm_coord::view::{Sight, View};
 use fm_delta::packet::Packet;
 use fm_policy::keeper::NetKeeper;
 use fm_records::ops::Op;
@@ -214,6 +214,31 @@ impl<N: NetKeeper, L: NodeName> Node<N, L> {
             Ok(_) => unreachable!(),
             Err(refusal) => Err(refusal),
         }
+    }
+
+    /// As `view`, but with no network, as the coordinator's `see`: a stale network stays stale.
+    /// What that refuses, and OutOfMemory; then the seat is as it was.
+    pub fn see<R: Wait>(&self, rt: &R, seat: &mut Seat<L>) -> Result<Sight, Refusal>
+        ensures ok { IfOk result (λ sight. seat.new ≡ called seat.old Call.View (Reply.Seen sight.at sight.knowledge)) }
+        ensures later { IfOk result (λ sight. L.base + length seat.old.log ≤ sight.at) }
+        ensures cause { IfErr result (λ refusal. MayRefuse Call.View refusal) }
+        ensures err { OnErr result (seat.new ≡ seat.old) }
+    {
+        if seat.log.reserve(1).is_err() {
+            return Err(Refusal::OutOfMemory);
+        }
+        let Seat { number, log, share } = seat;
+        let by = *number;
+        let sight = match self.desk.lock(rt).see(by, share) {
+            Ok(sight) => sight,
+            Err(refusal) => return Err(refusal),
+        };
+        log.push_reserved(Entry {
+            by,
+            call: Call::View,
+            reply: Reply::Seen(sight.at, another(rt, &sight.knowledge)),
+        });
+        Ok(sight)
     }
 
     /// Admits a plan and takes in what it comes to, as the coordinator's `commit`.

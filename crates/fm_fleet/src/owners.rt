@@ -10,7 +10,7 @@ use std::thread;
 
 // The same value for one more owner. It waits while no more owners can be counted, of which there may be nearly 2^63: an
 // answer that was given can be refused no more.
-fn another<T: Drop, R: Wait>(rt: &R, value: &Shared<T>) -> Shared<T>
+pub(crate) fn another<T: Drop, R: Wait>(rt: &R, value: &Shared<T>) -> Shared<T>
     ensures { result ≡ value.now }
 {
     for _ in rt.forever() {

@@ -9,6 +9,7 @@ use crate::seat::{NodeName, Seat};
 use fm_coord::shared::Shared;
 use fm_coord::view::View;
 use fm_plan::least::least_plan;
+use fm_planner::planned::plan_of;
 use fm_policy::keeper::NetKeeper;
 use fm_records::refusal::Refusal;
 use fm_round::parts::{Admitted, Plan};
@@ -28,7 +29,8 @@ impl Gate for NoGate {
     fn hold(&mut self) {}
 }
 
-/// A view, the gate, a plan of a least flow of the network that was seen, and the commit of that plan, whose answer this is.
+/// What is known is seen, the gate is called, and a plan of a least flow of the network of what was seen is committed. Answers what
+/// the commit does. No network is built if `plan_of` can do without.
 /// OutOfMemory, HistoryFull; then the seat is as it was, or has the view alone.
 pub fn run_round<N: NetKeeper, L: NodeName, G: Gate, R: Wait>(
     rt: &R,
@@ -40,17 +42,14 @@ pub fn run_round<N: NetKeeper, L: NodeName, G: Gate, R: Wait>(
     ensures ok { IfOk result (λ admitted. IsRound L.base seat.old seat.new admitted) }
     ensures err { IfErr result (λ refusal. IsRefusedRound L.base seat.old seat.new refusal) }
 {
-    let view = match node.view(rt, seat) {
-        Ok(view) => view,
+    let sight = match node.see(rt, seat) {
+        Ok(sight) => sight,
         Err(refusal) => return Err(refusal),
     };
     gate.hold();
-    let plan = match plan_for(alloc, &view) {
-        Ok(plan) => plan,
-        Err(refusal) => return Err(refusal),
+    let Ok(plan) = plan_of(alloc, sight.knowledge.get()) else {
+        return Err(Refusal::OutOfMemory);
     };
-    // With no view left, the commit edits the network in place.
-    drop(view);
     node.commit(rt, seat, plan)
 }
 
