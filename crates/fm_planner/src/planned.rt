@@ -49,6 +49,16 @@ pub fn plan_for(alloc: Global, tally: &Tally, knowledge: &Knowledge) -> Result<P
     })
 }
 
+/// The plan of `plan_for` by a tally that is made of what is known for this call. Only memory is refused. It costs what
+/// `Tally::of` does, O(n log n) in the records, and what `plan_for` does.
+pub fn plan_of(alloc: Global, knowledge: &Knowledge) -> Result<Plan, OutOfMemory>
+    ensures { IfOk result (IsPlanOf knowledge.now) }
+{
+    let tally = Tally::of(alloc, knowledge)?;
+    let planned = plan_for(alloc, &tally, knowledge)?;
+    Ok(planned.plan)
+}
+
 // The plan of the network, which is built and solved.
 fn plan_of_network(alloc: Global, knowledge: &Knowledge) -> Result<Plan, OutOfMemory>
     ensures { IfOk result (IsPlanOf knowledge.now) }
