@@ -83,6 +83,18 @@ fn preferred(number: u32) -> Prefer {
     }
 }
 
+// Two machines, each by its number and with its credit.
+fn preferring(one: (u32, u32), other: (u32, u32)) -> Prefer {
+    let first = (MachineId::new(scattered(one.0)), one.1);
+    let second = (MachineId::new(scattered(other.0)), other.1);
+    let entries = if first.0 < second.0 {
+        [first, second]
+    } else {
+        [second, first]
+    };
+    Prefer::new(&entries).unwrap_or_default()
+}
+
 fn progress(number: u32) -> Op {
     Op::Progress {
         id: TaskId::new(scattered(number)),
@@ -122,6 +134,54 @@ pub(crate) fn known(alloc: Global, from: u32, to: u32) -> Result<Knowledge, Refu
         tell(alloc, &mut known, &op(number))?;
     }
     Ok(known)
+}
+
+/// What is known of a chain of so many machines of one slot, and of one more behind them: a task of each prefers it and, a little
+/// less, the next one, and one task more prefers the first two. So all tasks but one have to move on.
+pub(crate) fn chain(alloc: Global, machines: u32) -> Result<Knowledge, Refusal> {
+    let mut known = Knowledge::empty(alloc);
+    tell(alloc, &mut known, &patient_job())?;
+    for number in 0..=machines {
+        let first = number.saturating_sub(1);
+        tell(alloc, &mut known, &narrow_machine(number))?;
+        tell(alloc, &mut known, &chained_task(number, first))?;
+    }
+    Ok(known)
+}
+
+fn patient_job() -> Op {
+    Op::Job {
+        id: JobId::new(scattered(0)),
+        version: 1,
+        writer: 1,
+        withdrawn: false,
+        wait: 1_000_000,
+        preempt: 1_000_000,
+    }
+}
+
+fn narrow_machine(number: u32) -> Op {
+    Op::Machine {
+        id: MachineId::new(scattered(number)),
+        incarnation: 1,
+        version: 1,
+        writer: 1,
+        up: true,
+        slots: 1,
+        nic: 1000,
+    }
+}
+
+fn chained_task(number: u32, first: u32) -> Op {
+    Op::Spec {
+        id: TaskId::new(scattered(number)),
+        version: 1,
+        writer: 1,
+        withdrawn: false,
+        job: JobId::new(scattered(0)),
+        request: 1000,
+        prefer: preferring((first, 20), (first.saturating_add(1), 10)),
+    }
 }
 
 /// Takes the operation in.

@@ -5,7 +5,7 @@ ghost use Rattle.fm_certificate.specs.Built.{IsBuilt};
 ghost use Rattle.fm_certificate.specs.Flows.{units_in, IsFeasible};
 ghost use Rattle.fm_net.specs.Network.{net_of};
 
-use crate::cluster::known;
+use crate::cluster::{chain, known};
 use crate::memory::Memory;
 use crate::verdict::{Verdict, judged};
 use fm_certificate::cost::cost;
@@ -31,6 +31,9 @@ const EARLIER: u32 = 280;
 const PLACED: u32 = 160;
 
 const PLACED_EARLIER: u32 = 150;
+
+/// How many machines a chain has.
+pub(crate) const CHAINED: u32 = 40;
 
 /// The network of what is known.
 pub(crate) fn network_of(alloc: Global, known: &Knowledge) -> Result<Network, Refusal>
@@ -165,6 +168,13 @@ fn reads_again(
 /// A network is solved.
 pub(crate) fn solved(memory: Memory) -> Result<Verdict, Refusal> {
     let network = told(memory.alloc, TOLD)?;
+    solves(memory, &network)
+}
+
+/// The network of a chain is solved.
+pub(crate) fn solved_chain(memory: Memory) -> Result<Verdict, Refusal> {
+    let known = chain(memory.alloc, CHAINED)?;
+    let network = network_of(memory.alloc, &known)?;
     solves(memory, &network)
 }
 

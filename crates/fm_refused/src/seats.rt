@@ -13,8 +13,9 @@ use fm_edit::keepers::Keeper;
 use fm_fleet::audit::audit;
 use fm_fleet::closing::{Closed, close};
 use fm_fleet::node::Node;
-use fm_fleet::round::{NoGate, plan_for, run_round};
+use fm_fleet::round::{NoGate, run_round};
 use fm_fleet::seat::{NodeName, Seat};
+use fm_planner::planned::plan_of;
 use fm_records::ops::Op;
 use fm_records::refusal::Refusal;
 use fm_round::parts::Plan;
@@ -256,8 +257,8 @@ fn ask(alloc: Global, coordinator: &mut Either, wanted: Wanted) -> Result<(), Re
 
 // A round, without a node.
 fn round(alloc: Global, coordinator: &mut Either) -> Result<(), Refusal> {
-    let seen = coordinator.view(SEAT)?;
-    let plan = plan_for(alloc, &seen)?;
+    let sight = coordinator.see(SEAT)?;
+    let plan = plan_of(alloc, sight.knowledge.get())?;
     commit(coordinator, SEAT, plan)
 }
 
