@@ -452,7 +452,9 @@ impl<N: NetKeeper> Coordinator<N> {
         requires { IsTrue (N.fresh self.now.keeper) }
         ensures { IfOk result (λ network. network ≡ net_of self.now.state.knowledge) }
     {
-        self.keeper.share()
+        self.known();
+        let network = self.keeper.share()?;
+        Ok(network)
     }
 
     // Adds an entry alone.

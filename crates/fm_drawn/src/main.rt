@@ -4,9 +4,11 @@
 
 mod chains;
 mod cluster;
+mod corners;
 mod draw;
 mod known;
 mod pairs;
+mod rounds;
 mod solving;
 mod timing;
 
@@ -26,6 +28,7 @@ fn main(rt: HostRuntime) -> Result<(), anyhow::Error> {
         known::print(&rt, alloc)?;
         pairs::print(&rt, alloc)?;
         chains::print(&rt, alloc)?;
+        rounds::print(&rt, alloc)?;
     }
     Ok(())
 }
