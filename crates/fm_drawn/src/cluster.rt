@@ -52,10 +52,13 @@ fn liked(near: u32, far: u32) -> Prefer {
     preferring((near, CREDIT), (far, CREDIT - 1))
 }
 
-/// The preference of two machines, each by its number and with its credit; of one machine twice there is none.
+/// The preference of two machines, each by its number and with its credit; of one machine twice, that of the first.
 pub(crate) fn preferring(near: (u32, u32), far: (u32, u32)) -> Prefer {
     let near = (MachineId::new(scattered(near.0)), near.1);
     let far = (MachineId::new(scattered(far.0)), far.1);
+    if near.0 == far.0 {
+        return Prefer::new(&[near]).unwrap_or_default();
+    }
     let entries = if near.0 < far.0 {
         [near, far]
     } else {
