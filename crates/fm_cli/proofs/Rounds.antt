@@ -16,7 +16,7 @@ use Rattle.fm_round.specs.Schedules.{IsPlanOf}
 use Rattle.fm_follow.specs.Acting.{step_at, IsPlanAt, Takes}
 use Rattle.fm_cli.specs.Running.{Rounds, StopsAfterView}
 
--- where nothing is shown of a view there is no coordinator, and what is shown of one is what it knows
+-- if nothing is shown of a view there is no coordinator, and what is shown of one is what it knows
 nothing_shown : (o : Option State) → None ≡ shown o world.View → o ≡ None
 nothing_shown None e = refl
 nothing_shown (Some s) e = absurd (let no : ⊥ = cc in no)

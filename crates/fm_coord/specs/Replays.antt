@@ -57,7 +57,7 @@ pub record Fits (r : Replica) (e : Entry) : Type 0 where
   pub accepted : cause (bounds_of r) e.call ≡ None
   pub reply : e.reply ≡ reply_of r (event_of e.call)
 
--- a history is legal where each entry fits the replica that those before it come to
+-- a history is legal if each entry fits the replica that those before it come to
 abbrev pub IsLegal : Replica → List Entry → Type 0
 IsLegal r [] = Unit {0}
 IsLegal r (e ∷ es) = Fits r e × IsLegal (entered r e) es

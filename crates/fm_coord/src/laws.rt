@@ -7,7 +7,7 @@ ghost use Rattle.fm_coord.specs.Causes.{cause, bounds_of};
 ghost use Rattle.fm_coord.specs.Replays.{call_of};
 ghost use Rattle.fm_coord.specs.States.{State, StandsFor, bounds, after};
 
-/// Where what is kept stands for a replica, calls have the same causes of refusal at both; and after a call that has none,
+/// If what is kept stands for a replica, calls have the same causes of refusal at both; and after a call that has none,
 /// what is kept stands for the replica after the event by which the call comes.
 pub fn law_step()
     ensures causes { (s : State) (r : Replica) → StandsFor s r → bounds s ≡ bounds_of r }

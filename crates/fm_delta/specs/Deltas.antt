@@ -44,7 +44,7 @@ joined_from k (delta ∷ deltas) = joined_from (table_join k delta) deltas
 abbrev pub joined_all : List Table → Table
 joined_all = joined_from (know [])
 
--- why a cut is refused, where it is not for want of memory: it ends before it starts or beyond the end, or it starts
+-- why a cut is refused, unless memory ran out: it ends before it starts or beyond the end, or it starts
 -- below the floor
 abbrev pub cut_fault : Deltas → ℕ → ℕ → Option Refusal
 cut_fault b from to = cond (nat_lt to from || nat_lt (end_of b) to) (Some BadInterval) (when (nat_lt from b.floor) (Trimmed b.floor))

@@ -84,9 +84,9 @@ impl Buffer {
         Ok(())
     }
 
-    /// The join of the deltas from, .., to - 1. Where each delta is what a set of operations comes to, it is what all of
+    /// The join of the deltas from, .., to - 1. If each delta is what a set of operations comes to, it is what all of
     /// these sets come to. O(s log d) for d deltas with s entries in all.
-    /// BadInterval where `from` is above `to` or `to` is above the end, else Trimmed where `from` is below the floor.
+    /// BadInterval if `from` is above `to` or `to` is above the end, else Trimmed if `from` is below the floor.
     pub fn cut(&self, from: u64, to: u64) -> Result<Knowledge, Refusal>
         ensures ok { IfOk result (λ k. k ≡ joined_all (between self.now.deltas from to)) }
         ensures union { (Ss : List (List Op)) → between self.now.deltas from to ≡ map know Ss → IfOk result (λ k. k ≡ know (union Ss)) }
@@ -105,8 +105,8 @@ impl Buffer {
         Ok(group)
     }
 
-    /// Sets the floor, and lets go of the deltas below it. It takes no memory, and O(s) for deltas with s entries that it drops.
-    /// BadInterval where n is below the floor or above the end, and nothing has changed.
+    /// Sets the floor, and lets go of the deltas below it. It takes no memory, and O(s) for deltas with s entries that
+    /// it drops. BadInterval if n is below the floor or above the end, and nothing has changed.
     pub fn trim(&mut self, n: u64) -> Result<(), Refusal>
         ensures answer { result ≡ (if can_trim self.old.deltas n then Ok tt else Err Refusal.BadInterval) }
         ensures ok { OnOk result (self.new.deltas ≡ trimmed self.old.deltas n) }

@@ -10,7 +10,7 @@ use std::marker::Model;
 
 /// What takes bytes.
 pub trait Out {
-    /// The bytes that it took, where they are known.
+    /// The bytes that it took, if they are known.
     ghost written: { Self → Option (List ℕ) };
 
     /// Whether it has failed.

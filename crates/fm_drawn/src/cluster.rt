@@ -34,13 +34,13 @@ fn scattered(number: u32) -> u128 {
     u128::from(number).wrapping_mul(0x9e37_79b9_7f4a_7c15_f39c_c060_5ced_c835)
 }
 
-// One of so many, 0 where there are none.
+// One of so many, 0 if there are none.
 fn one_of(draw: &mut Draw, count: u32) -> u32 {
     if count == 0 { 0 } else { draw.below(count) }
 }
 
-// What each task of a chain asks for, and what it saves at the first machine that it prefers: it costs 1 there, and 2 at
-// the second.
+// What each task of a chain asks for, and what it saves at the first machine that it prefers: it costs 1 there, and 2
+// at the second.
 const LINK: u32 = 1000;
 
 const CREDIT: u32 = LINK - 1;
@@ -58,8 +58,8 @@ fn liked(near: u32, far: u32) -> Prefer {
 }
 
 impl Cluster {
-    /// A chain of so many machines of one slot, and one more behind them: a task of each prefers it and, a little less, the
-    /// next one, and one task more prefers the first two. So the least flow moves all tasks on but one.
+    /// A chain of so many machines of one slot, and one more behind them: a task of each prefers it and, a little less,
+    /// the next one, and one task more prefers the first two. So the least flow moves all tasks on but one.
     pub(crate) fn chained(alloc: Global, machines: u32) -> Result<Cluster, Refusal> {
         let sizes = Sizes {
             jobs: 1,
@@ -201,8 +201,8 @@ impl Cluster {
         })
     }
 
-    /// Changes so many tasks: of three one is done, one is new, and one is proposed for a machine; for every sixth a machine
-    /// reports too.
+    /// Changes so many tasks: of three one is done, one is new, and one is proposed for a machine; for every sixth a
+    /// machine reports too.
     pub(crate) fn change(&mut self, draw: &mut Draw, count: u32) -> Result<(), Refusal> {
         for change in 0..count {
             let task = one_of(draw, self.tasks);

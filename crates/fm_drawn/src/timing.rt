@@ -21,7 +21,7 @@ fn sizes_of(tasks: u32) -> Sizes {
     }
 }
 
-// The functions below hold one value each where they may be refused: a proof looks at what is let go at each refusal.
+// The functions below hold one value each if they may be refused: a proof looks at what is let go at each refusal.
 
 // The network of what is known, and how many milliseconds building it took.
 fn built(rt: &HostRuntime, cluster: &Cluster) -> Result<(Network, u128), anyhow::Error>
@@ -109,8 +109,8 @@ fn print_times(
     Ok(())
 }
 
-/// Prints how long a cluster of so many tasks takes: from no flow, from its own, after one task in a hundred changed, and
-/// after half of them did.
+/// Prints how long a cluster of so many tasks takes: from no flow, from its own, after one task in a hundred changed,
+/// and after half of them did.
 pub(crate) fn print(rt: &HostRuntime, tasks: u32) -> Result<(), anyhow::Error> {
     let mut draw = Draw::new(u64::from(tasks));
     let cluster = Cluster::new(rt.alloc(), &mut draw, sizes_of(tasks))?;

@@ -30,8 +30,8 @@ pub fn law_clean_machine()
     ensures spare { (k after : Table) (keys : Keys) (turned : List ℕ) → SameBeyond k after keys turned → (m : ℕ) → ¬ IsDirtyMachine k after keys turned m → spare_of after m ≡ spare_of k m }
 {}
 
-/// A delta changes no node and no arc but those that the dirty jobs, tasks, machines and requests name. It holds as well
-/// where of the machines that the delta tells of only some turned: so a report alone dirties no task.
+/// A delta changes no node and no arc but those that the dirty jobs, tasks, machines and requests name. It holds as
+/// well if of the machines that the delta tells of only some turned: so a report alone dirties no task.
 pub fn law_local()
     ensures nodes { (k after : Table) (keys : Keys) (turned : List ℕ) → SameBeyond k after keys turned → (n : NodeName) → ¬ MayTurn k after keys turned n → is_node after n ≡ is_node k n }
     ensures arcs { (k after : Table) (keys : Keys) (turned : List ℕ) → SameBeyond k after keys turned → (a b : NodeName) → ¬ MayDiffer k after keys turned a b → arc_of after a b ≡ arc_of k a b }

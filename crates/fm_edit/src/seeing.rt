@@ -1,4 +1,4 @@
-//! Seeing records again: where what the others had is as it was, all is then as it is now.
+//! Seeing records again: if what the others had is as it was, all is then as it is now.
 
 ghost use Rattle.std.specs.Prelude.{◌≡◌, ◌++◌, ◌∷◌, [], ℕ, false, Option, map, IfOk, OnOk};
 ghost use Rattle.std.specs.Ordering.{nat_cmp};
@@ -140,8 +140,8 @@ fn see_spot<L: Look>(
     Ok(())
 }
 
-/// Sees again where the winners of the tasks' present attempts would run them, and looks up just these. The records of the
-/// tasks are seen already. O(m log n).
+/// Sees again where the winners of the tasks' present attempts would run them, and looks up just these. The records of
+/// the tasks are seen already. O(m log n).
 pub(crate) fn see_spots<L: Look>(
     spots: &mut BTreeMap<TaskId, Spot>,
     tasks: &BTreeMap<TaskId, TaskRec>,

@@ -13,8 +13,8 @@ use fm_policy::keeper::NetKeeper;
 use fm_records::refusal::Refusal;
 
 /// Whether the history after the base is what the seats' lists say: each seat's entries in order are its list, and each
-/// entry is some seat's. Where it is, the calls of all seats, each with the answer that it got, stand in one legal history,
-/// each once, in each seat's order. It takes no memory. O(n m) in entries and seats, times what entries hold.
+/// entry is some seat's. If it is, the calls of all seats, each with the answer that it got, stand in one legal
+/// history, each once, in each seat's order. It takes no memory. O(n m) in entries and seats, times what entries hold.
 /// NotMine with the least seat whose list differs, else with the number in the first entry of no seat.
 pub fn audit<N: NetKeeper>(closed: &Closed<N>) -> Result<(), Refusal>
     ensures exact { IsOk result ↔ IsAudited (drop closed.now.base closed.now.coordinator.state.history) closed.now.logs.items }
@@ -73,7 +73,7 @@ fn is_log(made: &[Entry], seat: u32, log: &[Entry]) -> bool
     rest.is_empty()
 }
 
-// What of a log is left after an entry, if the log goes on with it where it is the seat's.
+// What of a log is left after an entry, if the log goes on with it if it is the seat's.
 fn rest_after<'a>(seat: u32, entry: &Entry, log: &'a [Entry]) -> Option<&'a [Entry]>
     ensures { MatchOption result ((es : List Listed) → ¬ (of_seat seat (entry.now ∷ es) ≡ log.now)) (λ left. (es : List Listed) → (of_seat seat (entry.now ∷ es) ≡ log.now) ↔ (of_seat seat es ≡ left.now)) }
 {

@@ -7,7 +7,7 @@ ghost use Rattle.fm_world.specs.Worlds.{run_of, AreAccepted};
 ghost use Rattle.fm_world.specs.Stands.{WorldStandsFor};
 ghost use Rattle.fm_gather.specs.Listings.{Made, IsListing, IsStuck, IsMaximal, IsWhole, AreCoordinators, number_in, new_world, packets_of, steps_for, left_of};
 
-/// A listing that is stuck is maximal, and where it leaves entries no listing is whole. One that leaves none is whole; its
+/// A listing that is stuck is maximal, and if it leaves entries no listing is whole. One that leaves none is whole; its
 /// steps, run from a new world, are refused nowhere and come to a world that the coordinators stand for.
 pub fn law_listings()
     ensures maximal { (ss : List State) (ms : List Made) → IsStuck ss ms → IsMaximal ss ms }

@@ -3,8 +3,8 @@ ghost use Rattle.std.specs.Prelude.{◌≡◌, Ok, IfOk};
 
 use fm_records::refusal::Refusal;
 
-/// A call or a thread was refused; or nothing was, and the coordinator stopped since another was refused, or is not what it
-/// was to be.
+/// A call or a thread was refused; or nothing was, and the coordinator stopped since another was refused, or is not
+/// what it was to be.
 #[derive(Debug, Drop)]
 pub(crate) enum Halt {
     Refused(Refusal),
@@ -26,7 +26,7 @@ impl Halt {
     }
 }
 
-/// Both, where both were done. Else why not: the first that was refused counts, and where none was the first that is
+/// Both, if both were done. Else why not: the first that was refused counts, and if none was the first that is
 /// unfinished.
 pub(crate) fn both<A: Drop, B: Drop>(
     first: Result<A, Halt>,

@@ -1,5 +1,5 @@
-//! What a unit costs at least from each node to the sink, over arcs with room and backwards over arcs with units. Of a least
-//! flow these costs, turned round, are potentials, which a search has only to confirm.
+//! What a unit costs at least from each node to the sink, over arcs with room and backwards over arcs with units. Of a
+//! least flow these costs, turned round, are potentials, which a search has only to confirm.
 
 ghost use Rattle.std.specs.Prelude.{◌≡◌, ◌^◌, ◌≤ℤ◌, length, IfOk, neg_ℤ, pos};
 ghost use Rattle.fm_cycles.specs.Walks.{AreBounded};
@@ -13,8 +13,8 @@ use fm_lattice::join::OutOfMemory;
 use fm_numbered::numbered::Numbered;
 use std::alloc::Global;
 
-// More than a path costs on which there are fewer than a million requests: an arc into a machine costs 1,000,000 at most,
-// and the one to a job 1,000,000,000. A node from which no unit gets to the sink keeps it.
+// More than a path costs on which there are fewer than a million requests: an arc into a machine costs 1,000,000 at
+// most, and the one to a job 1,000,000,000. A node from which no unit gets to the sink keeps it.
 const LOST: i64 = 1 << 40;
 
 // After so many turns, each a pass over the arcs of requests, costs that still fall are left to the search for cycles.
@@ -144,9 +144,10 @@ fn turned_round(alloc: Global, nodes: usize, costs: &[i64]) -> Result<Vec<i128>,
     Ok(potentials)
 }
 
-/// A number for each node, none beyond 2^64 in size. Where the units are a least flow, tasks have one place each beside
+/// A number for each node, none beyond 2^64 in size. If the units are a least flow, tasks have one place each beside
 /// their job, and jobs and machines send on for nothing, these are potentials that show it: no clause says so, a search
-/// confirms it. O(arcs), and O(arcs of requests) for each machine at which a unit would change over on the longest path.
+/// confirms it. O(arcs), and O(arcs of requests) for each machine at which a unit would change over on the longest
+/// path.
 pub(crate) fn potentials_from(
     alloc: Global,
     numbered: &Numbered,
@@ -160,7 +161,7 @@ pub(crate) fn potentials_from(
     Ok(potentials)
 }
 
-/// As `potentials_from`, where what a unit costs from each node but the tasks is known. O(arcs).
+/// As `potentials_from`, if what a unit costs from each node but the tasks is known. O(arcs).
 pub(crate) fn potentials_over(
     alloc: Global,
     numbered: &Numbered,

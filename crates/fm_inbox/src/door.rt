@@ -59,7 +59,7 @@ impl Doors {
         Ok(Doors { inbox, ports })
     }
 
-    /// One of the ports that are left, or none where none is.
+    /// One of the ports that are left, or none if none is.
     /// OutOfMemory; then nothing has changed.
     pub fn open(&mut self) -> Result<Option<Door>, Refusal>
         ensures err { IsOkUnless result Refusal.OutOfMemory }

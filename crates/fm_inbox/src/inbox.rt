@@ -12,8 +12,8 @@ use std::alloc::Global;
 use std::marker::Model;
 use std::sync::Wait;
 
-/// The right to put packets into an inbox and to take packets from it. Contracts see which inbox that is, and all that was
-/// put and taken through this port.
+/// The right to put packets into an inbox and to take packets from it. Contracts see which inbox that is, and all that
+/// was put and taken through this port.
 #[derive(Drop)]
 pub struct Port {
     pass: QueuePass,
@@ -30,7 +30,8 @@ impl Model for Port {
     ghost invariant = { λ p. (p.pass.me.1 ≡ []) × ((known p.pass).parts ≡ 1) };
 }
 
-/// A bounded queue of packets, which threads share, each by a port of its own. Packets leave in the order in which they came.
+/// A bounded queue of packets, which threads share, each by a port of its own. Packets leave in the order in which they
+/// came.
 #[derive(Drop)]
 pub struct Inbox {
     queue: Queue,
@@ -66,9 +67,8 @@ pub struct InboxKept {
 }
 
 impl Inbox {
-    /// An inbox for so many packets at a time, and its ports, of which there is at least one, as there is room for at least
-    /// one packet. The room that closing takes is reserved.
-    /// OutOfMemory.
+    /// An inbox for so many packets at a time, and its ports, of which there is at least one, as there is room for at
+    /// least one packet. The room that closing takes is reserved. OutOfMemory.
     pub fn new(alloc: Global, ports: u32, size: usize) -> Result<(Inbox, Vec<Port>), Refusal>
         requires { (0 < ports) × (0 < size) }
         ensures inbox { IfOk result (λ r. (r.0.ports ≡ ports) × (r.0.size ≡ size)) }
@@ -124,9 +124,9 @@ impl Inbox {
         }
     }
 
-    /// Ends an inbox with all its ports, and gives the packets that are left. Each packet was put as often as it was taken or
-    /// is left. The caller owes ports of this inbox. It takes no memory.
-    /// NotMine(0) where a port is missing, with all that was handed in.
+    /// Ends an inbox with all its ports, and gives the packets that are left. Each packet was put as often as it was
+    /// taken or is left. The caller owes ports of this inbox. It takes no memory. NotMine(0) if a port is missing, with
+    /// all that was handed in.
     pub fn close<R: Wait>(self, rt: &R, ports: Vec<Port>) -> Result<Vec<Packet>, InboxKept>
         requires { All (IsPortOf self) ports.items }
         ensures ok { IfOk result (λ left. SamePackets (all_put ports.items) (all_taken ports.items ++ left.items)) }

@@ -23,7 +23,7 @@ module _ {X : Type 0} (p : X → Bool) where
         | false ↦ grind (arith, place_within xs)
       ]
 
-  -- where an item passes there is a place
+  -- if an item passes there is a place
   pub is_some-position : (xs : List X) → is_some (position p xs) ≡ list_any p xs
   is_some-position xs =
       elim (nat_lt (position_or_len p xs) (length xs)) as (λ b. is_some (cond b (Some (position_or_len p xs)) None) ≡ b) [ true ↦ refl | false ↦ refl ]

@@ -13,8 +13,8 @@ use fm_records::records::{JobReg, MachineRec, Spot, TaskRec};
 use std::alloc::Global;
 use std::marker::Model;
 
-/// What operations come to: the records of jobs, tasks, machines and proposals. It grows by joins alone, so what it holds
-/// depends on which operations were taken in, and not on their order, their grouping, or how often each came.
+/// What operations come to: the records of jobs, tasks, machines and proposals. It grows by joins alone, so what it
+/// holds depends on which operations were taken in, and not on their order, their grouping, or how often each came.
 #[derive(Drop)]
 pub struct Knowledge {
     pub(crate) jobs: JoinMap<JobId, Max<JobReg>>,
@@ -75,9 +75,9 @@ impl Knowledge {
         &self.proposals
     }
 
-    /// Joins the other in, all or nothing, each of its maps at the cost of `JoinMap::join_into`: so what has few entries
-    /// costs O(m log n), and moves within blocks of bounded length.
-    /// After a refusal of memory nothing has changed.
+    /// Joins the other in, all or nothing, each of its maps at the cost of `JoinMap::join_into`: so what has few
+    /// entries costs O(m log n), and moves within blocks of bounded length. After a refusal of memory nothing has
+    /// changed.
     pub fn join_into(&mut self, other: &Knowledge) -> Result<(), OutOfMemory>
         ensures ok { OnOk result (self.new ≡ table_join self.old other.now) }
         ensures union { (S T : List Op) → self.old ≡ know S → other.now ≡ know T → OnOk result (self.new ≡ know (S ++ T)) }
@@ -103,8 +103,8 @@ impl Knowledge {
         )
     }
 
-    /// The knowledge again. What is shared already costs a pointer for each block of records, and the rest is copied: O(n) where
-    /// nothing was shared.
+    /// The knowledge again. What is shared already costs a pointer for each block of records, and the rest is copied:
+    /// O(n) if nothing was shared.
     pub fn copy(&self) -> Result<Knowledge, OutOfMemory>
         ensures { IfOk result (λ k. k ≡ self.now) }
     {
@@ -116,9 +116,9 @@ impl Knowledge {
         })
     }
 
-    /// The knowledge again, with which this one shares its records: none is copied until one of both takes something in, and
-    /// then those of the blocks that it writes in. O(n / 32), and memory for each block written in since it was last shared.
-    /// After a refusal of memory nothing is known more or less than before.
+    /// The knowledge again, with which this one shares its records: none is copied until one of both takes something
+    /// in, and then those of the blocks that it writes in. O(n / 32), and memory for each block written in since it was
+    /// last shared. After a refusal of memory nothing is known more or less than before.
     pub fn share(&mut self) -> Result<Knowledge, OutOfMemory>
         ensures ok { IfOk result (λ k. k ≡ self.old) }
         ensures same { self.new ≡ self.old }

@@ -67,7 +67,7 @@ fn jobs_of(alloc: Global, op: &Op) -> Result<JoinMap<JobId, Max<JobReg>>, OutOfM
     }
 }
 
-// What the operation tells of a task: where it is a spec, the task is at attempt 0, pending.
+// What the operation tells of a task: if it is a spec, the task is at attempt 0, pending.
 fn tasks_of(alloc: Global, op: &Op) -> Result<JoinMap<TaskId, TaskRec>, OutOfMemory>
     requires { op_fault op.now ≡ None }
     ensures { IfOk result (λ tasks. tasks ≡ (know (op.now ∷ [])).tasks) }

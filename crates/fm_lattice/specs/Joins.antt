@@ -24,7 +24,7 @@ option_join join (Some v) (Some w) = Some (join v w)
 abbrev pub pair_join : {A B : Type 0} → (A → A → A) → (B → B → B) → A × B → A × B → A × B
 pair_join join_a join_b x y = (join_a x.0 y.0, join_b x.1 y.1)
 
--- the one with the greater first part; where the first parts are equal, the second parts join
+-- the one with the greater first part; if the first parts are equal, the second parts join
 abbrev pub lex_join : {K V : Type 0} → (K → K → Ordering) → (V → V → V) → K × V → K × V → K × V
 lex_join cmp join x y = by_order (cmp x.0 y.0) y (x.0, join x.1 y.1) x
 

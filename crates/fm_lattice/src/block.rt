@@ -143,7 +143,7 @@ impl<K: Chain, V: Drop> Block<K, V> {
 }
 
 impl<K: Chain, V: Join> Block<K, V> {
-    // The same pairs again: a pointer where they are shared, else a copy of each.
+    // The same pairs again: a pointer if they are shared, else a copy of each.
     pub(crate) fn copy(&self) -> Result<Block<K, V>, OutOfMemory>
         ensures { IfOk result (λ block. block.items ≡ self.now.items) }
     {
@@ -157,8 +157,8 @@ impl<K: Chain, V: Join> Block<K, V> {
         }
     }
 
-    // Lets the map have the block alone: where it was shared, it gets a copy of each pair, also if no one else has it any more.
-    // After a refusal of memory the pairs are as they were.
+    // Lets the map have the block alone: if it was shared, it gets a copy of each pair, also if no one else has it any
+    // more. After a refusal of memory the pairs are as they were.
     pub(crate) fn own(&mut self) -> Result<(), OutOfMemory>
         ensures items { self.new.items ≡ self.old.items }
         ensures owned { OnOk result (self.new.owned ≡ true) }

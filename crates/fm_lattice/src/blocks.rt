@@ -76,7 +76,7 @@ pub(crate) fn value_in<'a, K: Chain, V>(pairs: &'a [(K, V)], key: &K) -> Option<
 }
 
 // Lets the map have the key's block alone, asks there for room for so many pairs more, and answers where the block is.
-// O(log n), and a copy of the block's pairs where it was shared. After a refusal of memory the pairs are as they were.
+// O(log n), and a copy of the block's pairs if it was shared. After a refusal of memory the pairs are as they were.
 pub(crate) fn own_block<K: Chain, V: Join>(
     blocks: &mut Vec<(K, Block<K, V>)>,
     key: &K,
@@ -106,7 +106,7 @@ fn own<K: Chain, V: Join>(block: &mut (K, Block<K, V>), more: usize) -> Result<(
     block.1.own_for(more)
 }
 
-// Makes room in the key's block, which is cut where it is full, and answers where the block is.
+// Makes room in the key's block, which is cut if it is full, and answers where the block is.
 // After a refusal of memory the pairs are as they were.
 pub(crate) fn make_room<K: Chain, V: Join>(
     blocks: &mut Vec<(K, Block<K, V>)>,
@@ -139,9 +139,9 @@ fn reserve_one<K: Chain, V: Join>(block: &mut (K, Block<K, V>)) -> Result<(), Ou
     block.1.reserve_one()
 }
 
-// As `make_room`, with a spare block in place of the allocator, so nothing can fail. With a whole spare block the key's block
-// is cut in halves, also if it is not full, so that both have room for a few keys more. One that is full although the spare
-// block is small moves its last pair there.
+// As `make_room`, with a spare block in place of the allocator, so nothing can fail. With a whole spare block the key's
+// block is cut in halves, also if it is not full, so that both have room for a few keys more. One that is full although
+// the spare block is small moves its last pair there.
 pub(crate) fn take_room<K: Chain, V: Drop>(
     blocks: &mut Vec<(K, Block<K, V>)>,
     spare: Vec<(K, V)>,
@@ -182,8 +182,8 @@ pub(crate) fn take_room<K: Chain, V: Drop>(
     cut(blocks, at, spare, count, key)
 }
 
-// How many of a block's pairs go to the spare one: as many as they are to be, but no more than half of them; one, where the
-// spare block is small.
+// How many of a block's pairs go to the spare one: as many as they are to be, but no more than half of them; one, if
+// the spare block is small.
 fn fewer(count: usize, len: usize, whole: bool) -> usize
     requires some { 0 < count }
     requires half { count ≤ 32 }

@@ -30,7 +30,7 @@ module _ {K V : Type 0} (cmp : K → K → Ordering) (total : IsTotalOrder cmp) 
   rising_taken k [] r = r
   rising_taken k (e ∷ es) r = elim (is_eq (cmp k e.0)) as (λ t. IsRising cmp (cond t es (e ∷ remove_entry (is_at (cmp k)) es))) [ true ↦ r.1 | false ↦ (below_taken e.0 k es r.0, rising_taken k es r.1) ]
 
-  -- where the key is not there, nothing goes
+  -- if the key is not there, nothing goes
   pub taken_gap : (es : List (K × V)) (k : K) (i : ℕ) → IsGap cmp es k i → es ≡ remove_entry (is_at (cmp k)) es
   taken_gap [] k i gap = refl
   taken_gap (e ∷ es) k zero gap = rw (greater_less cmp total e.0 k (gap.after 0 e (omega arith) (omega arith))) (ap (λ z. e ∷ z) (taken_gap es k zero (record { in_range = omega arith; before = λ j d lt. absurd (omega arith); after = λ j d le lt. gap.after (suc j) d (omega arith) (omega arith) })))

@@ -27,7 +27,7 @@ use Rattle.fm_net.specs.NetworkLaws.{passed, mapped_from, where_true, live_entry
 none : {A P : Type 0} {a : A} → None ≡ Some a → P
 none e = absurd (let no : ⊥ = cc in no)
 
--- a field passes its test where none fails
+-- a field passes its test if none fails
 unfailing : (f : Field) (b : Bool) (rest : Option Field) → is_none (cond b rest (Some f)) ≡ true → (b ≡ true) × (is_none rest ≡ true)
 unfailing f true rest e = (refl, e)
 unfailing f false rest e = absurd (let no : ⊥ = cc in no)

@@ -1,5 +1,5 @@
--- What becomes of a plan: each entry is judged on what is known with the operations of the earlier accepted entries, and
--- the first rule that applies is its answer (this project's profile).
+-- What becomes of a plan: each entry is judged on what is known with the operations of the earlier accepted entries,
+-- and the first rule that applies is its answer (this project's profile).
 use Rattle.std.specs.Prelude.{ℕ, ◌+◌, Bool, true, false, cond, not, nat_le, ◌==◌, ◌&&◌, ◌||◌, List, [], ◌∷◌, ◌++◌, length, zip}
 use Rattle.std.specs.List.{list_any}
 use Rattle.fm_records.specs.declared.ops.Phase.TheVariants.{Pending}
@@ -21,7 +21,7 @@ use Rattle.fm_round.specs.declared.parts.Answer.TheVariants.{Gone, Held, Attempt
 unfoldable pub told : Table → List Op → Table
 told k ops = table_join k (know ops)
 
--- the answer of the first rule that applies, and Accepted where none does
+-- the answer of the first rule that applies, and Accepted if none does
 abbrev pub first_rule : List (Bool × Answer) → Answer
 first_rule [] = Accepted
 first_rule (rule ∷ rules) = cond rule.0 rule.1 (first_rule rules)
@@ -46,12 +46,12 @@ has_incarnation k m i = passes (λ n. n == i) (incarnation_of k m)
 abbrev pub is_open_at : Table → ℕ → ℕ → Bool
 is_open_at k m i = is_open k m && has_incarnation k m i
 
--- the attempt that a place is for: the present one where that has no proposal, else the next
+-- the attempt that a place is for: the present one if that has no proposal, else the next
 abbrev pub place_attempt : Table → Place → ℕ
 place_attempt k p = let a = attempt_of k p.task in cond (has_proposal k p.task a) (a + 1) a
 
--- the operations of a place by coordinator c: a proposal for the present attempt where that has none, else the next attempt,
--- pending, and a proposal for that
+-- the operations of a place by coordinator c: a proposal for the present attempt if that has none, else the next
+-- attempt, pending, and a proposal for that
 abbrev pub place_ops : ℕ → Table → Place → List Op
 place_ops c k p =
     let a = attempt_of k p.task in
@@ -103,7 +103,7 @@ is_accepted NoSlot = false
 is_accepted NoRoom = false
 is_accepted Accepted = true
 
--- an entry with its answer: its operations are added where it is accepted
+-- an entry with its answer: its operations are added if it is accepted
 abbrev pub one_entry : Answer → List Op → Admitted
 one_entry answer ops = record { ops = cond (is_accepted answer) ops []; answers = answer ∷ [] }
 
@@ -130,7 +130,7 @@ admitted k c plan =
     let first = placed c k plan.places in
     followed first (preempted (told k first.ops) plan.preempts)
 
--- some place on the machine was accepted, where the answers begin with those to the places
+-- some place on the machine was accepted, if the answers begin with those to the places
 abbrev pub got_place : List Place → List Answer → ℕ → Bool
 got_place places answers m = list_any (λ e. e.0.machine == m && is_accepted e.1) (zip places answers)
 

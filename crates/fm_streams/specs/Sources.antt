@@ -24,8 +24,8 @@ abbrev pub IsUnread : Refusal → Option (List ℕ) → Option (List ℕ) → Bo
 IsUnread refusal old new has_failed =
     (refusal ≡ OutOfMemory) ⊎ ((refusal ≡ BadScript 0) × ((has_failed ≡ true) ⊎ IsTooLong old new))
 
--- the two ends of a run: the bytes that the source had to give and has left, where they are known, and whether it has failed;
--- the bytes that the sink took before and after, where they are known, and whether it had failed and has
+-- the two ends of a run: the bytes that the source had to give and has left, if they are known, and whether it has
+-- failed; the bytes that the sink took before and after, if they are known, and whether it had failed and has
 pub record Streams : Type 0 where
   pub given : Option (List ℕ)
   pub left : Option (List ℕ)

@@ -113,7 +113,7 @@ asks q = one_number (codes "at") 0 255 (λ at. run (ask q at))
 abbrev pub fleets : Takes
 fleets = one_number (codes "rounds") 0 1000 (λ rounds. fleet (unwrap_or rounds 0))
 
--- where no N is told: an entry takes about a kilobyte, so that a history takes some 100 MB
+-- if no N is told: an entry takes about a kilobyte, so that a history takes some 100 MB
 abbrev pub default_renew_after : ℕ
 default_renew_after = 100000
 

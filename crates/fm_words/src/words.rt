@@ -16,7 +16,7 @@ use std::alloc::Global;
 /// The most rounds that a fleet may be asked for.
 pub const MOST_ROUNDS: i64 = 1_000;
 
-/// After how many entries of a history coordinators that are kept running are made anew, where no number is told. An
+/// After how many entries of a history coordinators that are kept running are made anew, if no number is told. An
 /// entry takes about a kilobyte, so that a history takes some 100 MB; making them anew copies once what they know.
 pub const DEFAULT_RENEW_AFTER: u32 = 100_000;
 
@@ -26,7 +26,7 @@ pub const MOST_RENEW_AFTER: i64 = 1_000_000;
 /// What the program is asked to do.
 #[derive(Debug, Clone, Copy, PartialEq, Eq, Drop)]
 pub enum Command<'a> {
-    /// Answer the question about a coordinator, the first that the script lists where none is named.
+    /// Answer the question about a coordinator, the first that the script lists if none is named.
     Ask { question: Question, at: Option<u8> },
     /// Say whether all coordinators know the same.
     Agree,

@@ -11,7 +11,7 @@ use Rattle.fm_coord.specs.States.{State}
 use Rattle.fm_world.specs.Worlds.{WorldOfSets, with_number}
 use Rattle.fm_world.specs.Stands.{Kept, state_with}
 
--- the coordinator with the number keeps s, where the world of sets has the replica r
+-- the coordinator with the number keeps s, if the world of sets has the replica r
 pub record IsAt (k : Kept) (w : WorldOfSets) (n : ℕ) (s : State) (r : Replica) : Type 0 where
   pub state : state_with k.coordinators n ≡ Some s
   pub replica : with_number w.replicas n ≡ Some r
@@ -31,7 +31,8 @@ pub record Agree (s t : State) : Type 0 where
 abbrev pub EachKnows : Kept → WorldOfSets → Type 0
 EachKnows k w = (n : ℕ) (s : State) (r : Replica) → IsAt k w n s r → Knows s r
 
--- any two coordinators whose replicas took in the same operations, in whatever order, as often and by whatever packets, agree
+-- any two coordinators whose replicas took in the same operations, in whatever order, as often and by whatever packets,
+-- agree
 abbrev pub SameAgree : Kept → WorldOfSets → Type 0
 SameAgree k w =
     (m n : ℕ) (s t : State) (a b : Replica) → IsAt k w m s a → IsAt k w n t b → HaveSameMembers a.taken b.taken → Agree s t

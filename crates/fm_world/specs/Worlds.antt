@@ -68,11 +68,11 @@ abbrev pub cause_at : Option Replica → Option Event → Option Refusal
 cause_at None event = Some NoCoordinator
 cause_at (Some r) event = cause_here r event
 
--- the cause for which a step is refused, where it is not for want of memory
+-- the cause for which a step is refused, unless memory ran out
 abbrev pub cause_of : WorldOfSets → Step → Option Refusal
 cause_of w s = cause_at (with_number w.replicas s.at) (event_asked w.packets s.act)
 
--- the refusal of a step that is refused: its cause, and want of memory where it has none
+-- the refusal of a step that is refused: its cause, and out of memory if it has none
 abbrev pub refusal_of : WorldOfSets → Step → Refusal
 refusal_of w s = or_else OutOfMemory (cause_of w s)
 

@@ -90,7 +90,7 @@ fn call_for<N: NetKeeper>(
     }
 }
 
-// The merge of the packet, whose records are shared where they were.
+// The merge of the packet, whose records are shared if they were.
 fn merge_of<N: NetKeeper>(coordinator: &Coordinator<N>, packet: &Packet) -> Result<Call, Refusal>
     ensures ok { IfOk result (λ call. call ≡ Call.Merge packet.now) }
     ensures err { IfErr result (λ refusal. refusal ≡ refusal_for (bounds coordinator.now.state) (Call.Merge packet.now)) }
