@@ -98,7 +98,7 @@ pub record IsPacketIn (digits : List ℕ) (packet : Packet) : Type 0 where
   pub decoded : decode_of digits ≡ Ok bytes
   pub spelled : Spells bytes packet
 
--- they are no digits, or their bytes are no packet's and the refusal names the first fault; or memory was refused
+-- they are no digits, or their bytes are no packet's and the refusal names the first fault; or memory ran out
 abbrev pub IsNoPacketIn : List ℕ → Refusal → Type 0
 IsNoPacketIn digits refusal =
     (refusal ≡ OutOfMemory)

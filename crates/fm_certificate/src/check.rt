@@ -14,7 +14,7 @@ use fm_net::node::Node;
 /// Whether the potentials certify that the flow is least: the flow is feasible, the keys of flow and potentials are
 /// just the network's arcs and nodes, no potential is beyond 2^100 in size, and, with potentials p, an arc from u to v
 /// of cost c has c + p(u) - p(v) >= 0 if a further unit fits, and <= 0 if it has a unit. Then no feasible flow costs
-/// less. Takes no memory. O((nodes + arcs) log nodes).
+/// less. Allocates nothing. O((nodes + arcs) log nodes).
 pub fn check(network: &Network, flow: &Flow, potentials: &Potentials) -> bool
     ensures exact { IsTrue result ↔ IsCertified network.now flow.now potentials.now }
     ensures least { IsTrue result → IsLeast network.now (units_in flow.now) }

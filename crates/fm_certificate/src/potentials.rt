@@ -45,7 +45,7 @@ impl Potentials {
         }
     }
 
-    /// These potentials, by their nodes. The caller owes nodes that rise. Takes no memory. O(1).
+    /// These potentials, by their nodes. The caller must pass nodes that rise. Allocates nothing. O(1).
     pub fn of(values: Vec<(Node, i128)>) -> Self
         requires { IsRising node_cmp values.items }
         ensures { result ≡ values.items }
@@ -53,7 +53,7 @@ impl Potentials {
         Potentials { values }
     }
 
-    /// Sets the node's potential. After a refusal of memory the potentials are as they were. Amortised O(1) for a node
+    /// Sets the node's potential. If memory runs out, the potentials are unchanged. Amortised O(1) for a node
     /// behind the last, and O(log n) for one that has a potential; for any other, those behind it move, in O(n).
     pub fn put(&mut self, node: Node, potential: i128) -> Result<(), OutOfMemory>
         ensures ok { OnOk result (self.new ≡ put node_cmp replaced node potential self.old) }

@@ -26,7 +26,7 @@ abbrev pub TakesIn : Bool → Type 0 → Option (List ℕ) → List ℕ → Type
 TakesIn true Untouched given text = IfSome given (λ all. text ≡ all)
 TakesIn false Untouched given text = Untouched
 
--- why there is no input: memory was refused, or one was wanted, and the source failed or gave too much
+-- why there is no input: memory ran out, or one was wanted, and the source failed or gave too much
 abbrev pub IsStoppedReading : Telling → Refusal → Option (List ℕ) → Option (List ℕ) → Bool → Type 0
 IsStoppedReading t refusal given left source_failed =
     (refusal ≡ OutOfMemory) ⊎ ((reads t ≡ true) × IsUnread refusal given left source_failed)
@@ -64,7 +64,8 @@ abbrev pub ending_of : Result (Unit {0}) Refusal → Ending
 ending_of (Ok done) = Done
 ending_of (Err refusal) = Stopped (fault_of refusal)
 
--- the stream was followed from its first line; whatever operations stand behind the packets that it takes in, its answers went out
+-- the stream was followed from its first line; whatever operations stand behind the packets that it takes in, its
+-- answers went out
 pub record IsStreamed (renew_after : ℕ) (ending : Ending) (streams : Streams) : Type 0 where
   pub result : Result (Unit {0}) Refusal
   pub ends : ending ≡ ending_of result

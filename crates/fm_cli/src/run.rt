@@ -22,8 +22,9 @@ use fm_world::world::World;
 use std::alloc::Global;
 
 /// The world that the script's steps come to. A step that is refused is named: by NoCoordinator if its coordinator is
-/// not listed, by NoPacket if no packet of the name was cut, else as the coordinator's call, and a round also if memory
-/// is wanted for its plan. Else only memory is wanted. The caller owes that no two coordinators have one number.
+/// not listed, by NoPacket if no packet of the name was cut, else as the coordinator's call, and a round also if
+/// memory runs out for its plan. Else it is refused only if memory runs out. The caller must ensure that no two
+/// coordinators have one number.
 pub fn run(alloc: Global, progress: &Progress, script: &Script) -> Result<World<Keeper>, Fault>
     requires { AreDistinct script.now.coordinators.items }
     ensures ok { IfOk result (λ world. IsRun script.now.coordinators.items script.now.steps.items world) }

@@ -56,7 +56,7 @@ pub fn serve<T: Threads + Wait + Sync, S: Source, W: Sink>(
     send_out(respond(rt, alloc, progress, words, &text), sink)
 }
 
-// How many entries a history may have before the coordinators are made anew, if the words ask to follow a stream.
+// How many entries a history may have before the coordinators are renewed, if the words ask to follow a stream.
 fn renewal_of(words: &Words) -> Option<u32>
     ensures { result ≡ renewal_of (told_of words.now) }
 {

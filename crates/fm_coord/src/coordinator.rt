@@ -50,7 +50,7 @@ pub struct Coordinator<N: NetKeeper> {
     cuts: u64,
     history: Vec<Entry>,
     keeper: N,
-    // Whether the keeper follows what is known: it was fresh once, and was handed all keys since.
+    // Whether the keeper follows what is known: it was fresh once, and was given all keys since.
     follows: bool,
 }
 
@@ -65,8 +65,8 @@ impl<N: NetKeeper> Model for Coordinator<N> {
 }
 
 impl<N: NetKeeper> Coordinator<N> {
-    /// A coordinator to which nothing happened, whose history may have as many entries as the limit. The caller owes a
-    /// keeper that, if fresh, is for nothing known. It takes no memory.
+    /// A coordinator to which nothing happened, whose history may have as many entries as the limit. The caller must
+    /// pass a keeper that, if fresh, is for nothing known. It allocates nothing.
     pub fn new(alloc: Global, number: CoordId, limit: usize, keeper: N) -> Coordinator<N>
         requires { IsTrue (N.fresh keeper) → N.is_for keeper (know []) }
         ensures state { result.state ≡ new_state number limit }
@@ -311,7 +311,7 @@ impl<N: NetKeeper> Coordinator<N> {
     {
         let mut value = self.value_of(range)?;
         let number = self.cuts + 1;
-        // Whoever gets a copy of the packet shares its records.
+        // Copies of the packet share its records.
         let packet = Packet {
             sender: self.number,
             number,
@@ -358,7 +358,7 @@ impl<N: NetKeeper> Coordinator<N> {
     /// stale. What is known is shared and not copied: a pointer for each block of records, and memory for each that was
     /// written in since the last view. The network is shared by one pointer; a keeper that edits copies it, O(arcs),
     /// the first time that it edits it while the view is still held. HistoryFull, OutOfMemory; then nothing has
-    /// changed, but for a stale network that may be built or not.
+    /// changed, except a stale network that may be built or not.
     pub fn view(&mut self, by: u32) -> Result<View, Refusal>
         ensures ok { IfOk result (λ view. self.new.state ≡ noted self.old.state (entry by Call.View (Reply.Seen view.at view.knowledge))) }
         ensures at { IfOk result (λ view. view.at ≡ length self.old.state.history) }

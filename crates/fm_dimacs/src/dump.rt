@@ -20,7 +20,7 @@ use std::alloc::Global;
 use std::cmp::Ordering;
 
 /// Writes the network's text. After a refusal a prefix of it is written: refused by the writer, which then has failed,
-/// in this call unless it had before; or refused memory. O(arcs log nodes).
+/// in this call unless it had before; or because memory ran out. O(arcs log nodes).
 pub fn dump<W: Out>(alloc: Global, network: &Network, out: &mut W) -> Result<(), Refusal>
     ensures ok { OnOk result (Appends (W.written out.old) (W.written out.new) (dump_text network.now)) }
     ensures ok_fails_not { OnOk result (W.has_failed out.new ≡ W.has_failed out.old) }

@@ -195,7 +195,7 @@ fn read_body(alloc: Global, nodes: &[Node], text: &[u8]) -> Result<Network, Refu
 
 /// The network that the text is of, if there is one, of which there is one at most. Refused with the number of the
 /// first line that breaks a rule, counted from 1, which is the line that is missing if the text ends too early; or
-/// refused memory. O(bytes log bytes).
+/// because memory ran out. O(bytes log bytes).
 pub fn read(alloc: Global, text: &[u8]) -> Result<Network, Refusal>
     ensures found { IfOk result (λ net. CanBeNet net × (text.now ≡ dump_text net)) }
     ensures only { (net : Net) → CanBeNet net → text.now ≡ dump_text net → MatchResult result (λ found. found ≡ net) (λ e. e ≡ refusal.OutOfMemory) }

@@ -78,8 +78,8 @@ impl Editor {
 /// Follows what is looked into, which took a delta with these keys in, and answers the edits that were made: just those
 /// that turn the network of what was known into that of what is known now, arcs that go, nodes that go, nodes that
 /// come, arcs that come or differ, each in node order. It looks up just the records that the delta tells of, and of
-/// each of its tasks the winner of the present attempt. The caller owes a fresh Editor, for what was known before.
-/// After a refusal of memory the Editor is stale.
+/// each of its tasks the winner of the present attempt. The caller must pass a fresh Editor, for what was known before.
+/// If memory runs out, the Editor is stale.
 pub fn edit<L: Look>(
     alloc: Global,
     editor: &mut Editor,
@@ -137,7 +137,7 @@ impl NetKeeper for Editor {
 
     ghost absorbs = { λ _ _ _. Unit {0} };
 
-    /// A fresh Editor follows by `edit`, and stays fresh unless memory is refused.
+    /// A fresh Editor follows by `edit`, and stays fresh unless memory runs out.
     fn absorb(
         &mut self,
         alloc: Global,

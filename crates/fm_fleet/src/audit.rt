@@ -14,8 +14,8 @@ use fm_records::refusal::Refusal;
 
 /// Whether the history after the base is what the seats' lists say: each seat's entries in order are its list, and each
 /// entry is some seat's. If it is, the calls of all seats, each with the answer that it got, stand in one legal
-/// history, each once, in each seat's order. It takes no memory. O(n m) in entries and seats, times what entries hold.
-/// NotMine with the least seat whose list differs, else with the number in the first entry of no seat.
+/// history, each once, in each seat's order. It allocates nothing. O(n m) in entries and seats, times what entries
+/// hold. NotMine with the least seat whose list differs, else with the number in the first entry of no seat.
 pub fn audit<N: NetKeeper>(closed: &Closed<N>) -> Result<(), Refusal>
     ensures exact { IsOk result ↔ IsAudited (drop closed.now.base closed.now.coordinator.state.history) closed.now.logs.items }
     ensures ok { OnOk result (StandInOne closed.now.coordinator.state closed.now.base closed.now.logs.items) }

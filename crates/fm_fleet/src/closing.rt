@@ -20,7 +20,7 @@ pub struct Closed<N: NetKeeper> {
     pub logs: Vec<SeatLog>,
 }
 
-/// Why a node was not closed, with what was handed in.
+/// Why a node was not closed, with what was passed.
 #[derive(Drop)]
 pub struct NotClosed<N: NetKeeper, L: NodeName> {
     pub refusal: Refusal,
@@ -28,9 +28,9 @@ pub struct NotClosed<N: NetKeeper, L: NodeName> {
     pub seats: Vec<Seat<L>>,
 }
 
-/// Ends a node with all its seats: their lists, by the numbers of the seats. The history has just as many entries more than
-/// at the start as the lists have. It takes no memory. O(n^2) in the seats.
-/// NotMine with the least seat that is missing, with the node and the seats.
+/// Ends a node with all its seats: their lists, by the numbers of the seats. The history has just as many entries more
+/// than at the start as the lists have. It allocates nothing. O(n^2) in the seats. NotMine with the least seat that is
+/// missing, with the node and the seats.
 pub fn close<N: NetKeeper, L: NodeName>(
     node: Node<N, L>,
     seats: Vec<Seat<L>>,

@@ -28,8 +28,8 @@ impl Gate for NoGate {
     fn hold(&mut self) {}
 }
 
-/// A view, the gate, a plan of a least flow of the network that was seen, and the commit of that plan, whose answer this is.
-/// OutOfMemory, HistoryFull; then the seat is as it was, or has the view alone.
+/// A view, the gate, a plan of a least flow of the network that was seen, and the commit of that plan, whose answer
+/// this is. OutOfMemory, HistoryFull; then the seat is unchanged, or has the view alone.
 pub fn run_round<N: NetKeeper, L: NodeName, G: Gate, R: Wait>(
     rt: &R,
     alloc: Global,
@@ -54,9 +54,8 @@ pub fn run_round<N: NetKeeper, L: NodeName, G: Gate, R: Wait>(
     node.commit(rt, seat, plan)
 }
 
-/// The plan of a least flow of the network that was seen. The caller owes that the network is that of the knowledge, as in
-/// each view that is answered.
-/// OutOfMemory alone.
+/// The plan of a least flow of the network that was seen. The caller must ensure that the network is that of the
+/// knowledge, as in each view that is answered. OutOfMemory alone.
 pub fn plan_for(alloc: Global, view: &View) -> Result<Plan, Refusal>
     requires { view.now.network ≡ net_of view.now.knowledge }
     ensures ok { IfOk result (λ plan. IsPlanOf view.now.knowledge plan) }

@@ -39,12 +39,12 @@ pub fn solve(alloc: Global, network: &Network) -> Result<(Flow, Potentials), Ref
 }
 
 /// As `solve`, and starts with the task paths of the flow, of this network or an earlier one, that are still whole and
-/// fit; if that comes to no least flow, it starts anew. The caller must pass a network that the policy can build.
-/// Refused as `solve` is.
+/// fit; if that comes to no least flow, it starts from nothing. The caller must pass a network that the policy can
+/// build. Refused as `solve` is.
 ///
-/// O(arcs log arcs), and what `solve` takes if it starts anew. It took longer than `solve` wherever both were measured,
-/// since most of either call is numbering the network and naming the flow. The flow that is kept for it takes some 80
-/// bytes an arc.
+/// O(arcs log arcs), and what `solve` takes if it starts from nothing. It took longer than `solve` wherever both were
+/// measured, since most of either call is numbering the network and naming the flow. The flow that is kept for it takes
+/// some 80 bytes an arc.
 pub fn solve_from(
     alloc: Global,
     network: &Network,

@@ -69,8 +69,8 @@ halfway (suc i) (r ∷ rs) = renewed_replica r ∷ halfway i rs
 abbrev pub halfway_world : ℕ → WorldOfSets → WorldOfSets
 halfway_world i w = record { replicas = halfway i w.replicas; packets = [] }
 
--- the coordinator s is next after the first i: the replica for which it stands is still the one of its number to which nothing
--- happened, and what that one takes in makes it anew
+-- the coordinator s is next after the first i: the replica for which it stands is still the one of its number to which
+-- nothing happened, and what that one takes in makes it anew
 pub record IsNext (s : State) (i : ℕ) (rs : List Replica) : Type 0 where
   pub replica : Replica
   pub stands : StandsFor s replica
@@ -174,7 +174,7 @@ module _ {N : Type 0} (cs : List (WithKeeper N)) (old : Kept) (those : map state
           subst (λ (rs : List Replica). WorldStandsFor after (record { replicas = rs; packets = [] })) (merged at its)
           (take (halfway_world i w) (whole_of its_turn.replica) before (whole its_turn.replica its_turn.stands))
 
-    -- which is refused for memory alone: nothing had happened to it
+    -- which is refused only if memory runs out: nothing had happened to it
     pub for_memory : ((w : WorldOfSets) → WorldStandsFor old w → WorldStandsFor anew (halfway_world i w)) → (refusal : Refusal)
         → ((v : WorldOfSets) → WorldStandsFor anew v → refusal ≡ refusal_of v (record { at = at; by = 0; act = act.Take packet }))
         → refusal ≡ OutOfMemory

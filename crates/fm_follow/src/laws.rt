@@ -19,15 +19,16 @@ pub fn law_same_answers()
     ensures winners { (a b : Replica) → HaveSameMembers a.taken b.taken → winners_of a ≡ winners_of b }
 {}
 
-/// What may stand behind packets: what each spells out; and, of a packet that a coordinator cut, all the operations that this one
-/// took in for it, also those that others beat. So the operations of one process are followed into another.
+/// What may stand behind packets: what each spells out; and, of a packet that a coordinator cut, all the operations
+/// that this one took in for it, also those that others beat. So the operations of one process are followed into
+/// another.
 pub fn law_behind()
     ensures spelled { StandBehind (λ p. ops p.value) }
     ensures sent { (behind : Packet → List Op) (p : Sent) → StandBehind behind
         → StandBehind (but_behind (seen p) p.set behind) }
 {}
 
-/// A replica that is made anew took in the same operations, so all that it tells of what it knows stays the same.
+/// A renewed replica has received the same operations, so all that it tells of what it knows stays the same.
 pub fn law_renewed()
     ensures taken { (r : Replica) → HaveSameMembers (renewed_replica r).taken r.taken }
     ensures known { (r : Replica) → know (renewed_replica r).taken ≡ know r.taken }

@@ -26,9 +26,9 @@ pub struct GatherFault {
 /// The histories of the coordinators as one list of steps: run on new coordinators with these numbers and limits, no
 /// step has a cause of refusal, and they come to what these are. Each entry stands once, those of a coordinator in its
 /// order, and a merge names the earliest packet that is equal. The coordinators are swept in the order given, as often
-/// as an entry can be taken. The caller owes that no two of them have one number. O(n log n) in the entries, for each
-/// coordinator at worst. Stuck, if each coordinator that has entries left goes on with a merge of a packet that none of
-/// the steps cuts: then no list has more of any history. OutOfMemory.
+/// as an entry can be taken. The caller must ensure that no two of them have one number. O(n log n) in the entries, for
+/// each coordinator at worst. Stuck, if each coordinator that has entries left goes on with a merge of a packet that
+/// none of the steps cuts: then no list has more of any history. OutOfMemory.
 pub fn gather<N: NetKeeper>(
     alloc: Global,
     coordinators: &[Coordinator<N>],

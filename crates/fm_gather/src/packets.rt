@@ -31,7 +31,7 @@ impl Model for Packets {
 }
 
 impl Packets {
-    /// No packets. It takes no memory.
+    /// No packets. It allocates nothing.
     pub(crate) fn new(alloc: Global) -> Self
         ensures { result ≡ [] }
     {

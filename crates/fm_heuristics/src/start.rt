@@ -27,7 +27,7 @@ use fm_numbered::places::Kind;
 use fm_numbered::unscheduled::unscheduled;
 use std::alloc::Global;
 
-// What a place is worth to a task that saves so much there: what a unit through it saves in all, but for the price of
+// What a place is worth to a task that saves so much there: what a unit through it saves in all, except the price of
 // the slot.
 fn worth(numbered: &Numbered, lanes: &Lanes, place: usize, saving: i64) -> i64 {
     match numbered.places.kind(place) {

@@ -389,7 +389,7 @@ impl Tree {
         self.shift(node, by)
     }
 
-    // Adds to the potentials of a node and all below it, counts their depths anew, and lists them as moved.
+    // Adds to the potentials of a node and all below it, counts their depths again, and lists them as moved.
     fn shift(&mut self, node: usize, by: i64) -> Result<(), Stop>
         requires { node < vec_len self.old.knots }
         ensures { OnOk result ((vec_len self.new.knots ≡ vec_len self.old.knots) × (vec_len self.new.links ≡ vec_len self.old.links)) }
@@ -420,7 +420,7 @@ impl Tree {
         Ok(())
     }
 
-    // Counts the depth of a node anew, and adds to its potential. A node that is as deep as there are nodes is in no
+    // Counts the depth of a node again, and adds to its potential. A node that is as deep as there are nodes is in no
     // tree.
     fn lift(&mut self, node: usize, by: i64) -> Result<(), Stop>
         requires { node < vec_len self.old.knots }

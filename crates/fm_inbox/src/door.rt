@@ -39,7 +39,7 @@ impl Door {
     }
 }
 
-/// An inbox with those of its ports that are still to be handed out.
+/// An inbox with those of its ports that were not given out yet.
 #[derive(Drop)]
 pub struct Doors {
     inbox: Arc<Inbox, Global>,

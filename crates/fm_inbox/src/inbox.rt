@@ -58,7 +58,7 @@ pub struct PutFault {
     pub packet: Packet,
 }
 
-/// Why an inbox was not closed, with the inbox and the ports that were handed in.
+/// Why an inbox was not closed, with the inbox and the ports that were passed.
 #[derive(Drop)]
 pub struct InboxKept {
     pub refusal: Refusal,
@@ -91,7 +91,7 @@ impl Inbox {
         Ok((Inbox { queue, ports, room }, made))
     }
 
-    /// Puts a packet behind those that are there. The caller owes a port of this inbox.
+    /// Puts a packet behind those that are there. The caller must pass a port of this inbox.
     /// InboxFull, with the packet; then nothing has changed.
     pub fn put<R: Wait>(&self, rt: &R, port: &mut Port, packet: Packet) -> Result<(), PutFault>
         requires { IsPortOf self.now port.old }
@@ -109,7 +109,7 @@ impl Inbox {
         }
     }
 
-    /// Takes the packet that came first. The caller owes a port of this inbox.
+    /// Takes the packet that came first. The caller must pass a port of this inbox.
     /// InboxEmpty; then nothing has changed.
     pub fn take<R: Wait>(&self, rt: &R, port: &mut Port) -> Result<Packet, Refusal>
         requires { IsPortOf self.now port.old }
@@ -125,8 +125,8 @@ impl Inbox {
     }
 
     /// Ends an inbox with all its ports, and gives the packets that are left. Each packet was put as often as it was
-    /// taken or is left. The caller owes ports of this inbox. It takes no memory. NotMine(0) if a port is missing, with
-    /// all that was handed in.
+    /// taken or is left. The caller must pass ports of this inbox. It allocates nothing. NotMine(0) if a port is
+    /// missing, with all that was passed.
     pub fn close<R: Wait>(self, rt: &R, ports: Vec<Port>) -> Result<Vec<Packet>, InboxKept>
         requires { All (IsPortOf self) ports.items }
         ensures ok { IfOk result (λ left. SamePackets (all_put ports.items) (all_taken ports.items ++ left.items)) }

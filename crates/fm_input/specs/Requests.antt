@@ -100,7 +100,7 @@ pub record Requests (names : List (List ℕ)) (line : List ℕ) (asked : Asked) 
   pub read : read_text line ≡ Some value
   pub asks : request_of names value ≡ Some asked
 
--- the line is no JSON, or its value asks for nothing known; or memory was refused
+-- the line is no JSON, or its value asks for nothing known; or memory ran out
 abbrev pub RequestsNothing : List (List ℕ) → List ℕ → Refusal → Type 0
 RequestsNothing names line refusal =
     (refusal ≡ OutOfMemory)

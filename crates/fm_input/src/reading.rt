@@ -41,7 +41,7 @@ pub fn read_script(alloc: Global, text: &[u8]) -> Result<Script, Refusal>
     }
 }
 
-// The script that a value spells, whose steps are let go one by one as they are read.
+// The script that a value spells, whose steps are dropped one by one as they are read.
 fn script_in(alloc: Global, value: &mut Value) -> Result<Script, Refusal>
     ensures ok { IfOk result (λ s. IsScriptOf (view value.old) s.coordinators.items s.names s.steps.items) }
     ensures err { IfErr result (λ e. (e ≡ Refusal.OutOfMemory) ⊎ (option_map Refusal.BadScript (script_fault (view value.old)) ≡ Some e)) }

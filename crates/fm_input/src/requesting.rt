@@ -20,7 +20,7 @@ use std::alloc::Global;
 /// member (`coordinators`, `renew`, `ask`), or of an `at` and one of `cut`, `news`, `take`, `ask`, `tell`, `deliver`,
 /// `trim` and `round`. Further members of an operation and of a cut are ignored, and of equal members the last counts.
 /// `BadScript(0)` if the line is no JSON or asks for nothing known, as a cut under one of the names; `OutOfMemory` if
-/// memory is refused. It costs the reading of the line as JSON, and a look-up of a name.
+/// memory runs out. It costs the reading of the line as JSON, and a look-up of a name.
 pub fn read_request(alloc: Global, line: &[u8], names: &Names) -> Result<Request, Refusal>
     ensures ok { IfOk result (λ q. Requests names.now line.now (asked_of q)) }
     ensures err { IfErr result (λ e. RequestsNothing names.now line.now e) }

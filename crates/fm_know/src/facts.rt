@@ -1,4 +1,4 @@
-//! The facts that knowledge tells: what is live, open and held, and what a machine has left. None takes memory.
+//! The facts that knowledge tells: what is live, open and held, and what a machine has left. None allocates.
 
 ghost use Rattle.std.specs.Prelude.{◌≡◌, Some, cond, option_map, sum_by, IfSome};
 ghost use Rattle.std.specs.Ordering.{nat_cmp};
@@ -119,7 +119,7 @@ impl Knowledge {
     }
 
     /// The spec of the task, if it is live, and the machine that holds it, if one does: `live_spec` and `holder` in
-    /// one, for who walks over the tasks. The caller owes the record that is known of the task.
+    /// one, for callers that iterate over the tasks. The caller must pass the record that is known of the task.
     pub fn live_task(&self, task: TaskId, found: &TaskRec) -> Option<(SpecReg, Option<MachineId>)>
         requires { lookup nat_cmp task self.now.tasks ≡ Some found.now }
         ensures { result ≡ option_map (λ s. (s, holder_of self.now task)) (live_spec self.now task) }

@@ -35,7 +35,7 @@ impl Model for Knowledge {
 }
 
 impl Knowledge {
-    /// What no operation comes to. It takes no memory.
+    /// What no operation comes to. It allocates nothing.
     pub fn empty(alloc: Global) -> Knowledge
         ensures { result ≡ know [] }
     {
@@ -76,7 +76,7 @@ impl Knowledge {
     }
 
     /// Joins the other in, all or nothing, each of its maps at the cost of `JoinMap::join_into`: so what has few
-    /// entries costs O(m log n), and moves within blocks of bounded length. After a refusal of memory nothing has
+    /// entries costs O(m log n), and moves within blocks of bounded length. If memory runs out, nothing has
     /// changed.
     pub fn join_into(&mut self, other: &Knowledge) -> Result<(), OutOfMemory>
         ensures ok { OnOk result (self.new ≡ table_join self.old other.now) }
@@ -118,7 +118,7 @@ impl Knowledge {
 
     /// The knowledge again, with which this one shares its records: none is copied until one of both takes something
     /// in, and then those of the blocks that it writes in. O(n / 32), and memory for each block written in since it was
-    /// last shared. After a refusal of memory nothing is known more or less than before.
+    /// last shared. If memory runs out, nothing is known more or less than before.
     pub fn share(&mut self) -> Result<Knowledge, OutOfMemory>
         ensures ok { IfOk result (λ k. k ≡ self.old) }
         ensures same { self.new ≡ self.old }

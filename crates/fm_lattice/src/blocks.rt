@@ -76,7 +76,7 @@ pub(crate) fn value_in<'a, K: Chain, V>(pairs: &'a [(K, V)], key: &K) -> Option<
 }
 
 // Lets the map have the key's block alone, asks there for room for so many pairs more, and answers where the block is.
-// O(log n), and a copy of the block's pairs if it was shared. After a refusal of memory the pairs are as they were.
+// O(log n), and a copy of the block's pairs if it was shared. If memory runs out, the pairs are unchanged.
 pub(crate) fn own_block<K: Chain, V: Join>(
     blocks: &mut Vec<(K, Block<K, V>)>,
     key: &K,
@@ -107,7 +107,7 @@ fn own<K: Chain, V: Join>(block: &mut (K, Block<K, V>), more: usize) -> Result<(
 }
 
 // Makes room in the key's block, which is cut if it is full, and answers where the block is.
-// After a refusal of memory the pairs are as they were.
+// If memory runs out, the pairs are unchanged.
 pub(crate) fn make_room<K: Chain, V: Join>(
     blocks: &mut Vec<(K, Block<K, V>)>,
     key: &K,
@@ -338,7 +338,7 @@ pub(crate) fn copied_blocks<K: Chain, V: Join>(
     Ok(copies)
 }
 
-// The same blocks again, each shared from then on. After a refusal of memory the pairs are as they were.
+// The same blocks again, each shared from then on. If memory runs out, the pairs are unchanged.
 pub(crate) fn shared_blocks<K: Chain, V: Drop>(
     blocks: &mut Vec<(K, Block<K, V>)>,
 ) -> Result<Vec<(K, Block<K, V>)>, OutOfMemory>

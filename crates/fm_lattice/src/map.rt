@@ -34,7 +34,7 @@ impl<K: Chain, V: Join> Model for JoinMap<K, V> {
 }
 
 impl<K: Chain, V: Join> JoinMap<K, V> {
-    /// The empty map. It takes no memory.
+    /// The empty map. It allocates nothing.
     pub fn new(alloc: Global) -> JoinMap<K, V>
         ensures { result ≡ [] }
     {
@@ -76,7 +76,7 @@ impl<K: Chain, V: Join> JoinMap<K, V> {
     }
 
     /// Joins the value in at the key. O(log n), and the moves within a block of bounded length; O(1) behind the last
-    /// key. After a refusal of memory the map is as it was.
+    /// key. If memory runs out, the map is unchanged.
     pub fn put(&mut self, key: K, value: V) -> Result<(), OutOfMemory>
         ensures ok { OnOk result (self.new ≡ put K.cmp V.join key value self.old) }
         ensures by_key { OnOk result (JoinsByKey K.cmp V.join self.old ((key, value) ∷ []) self.new) }
@@ -103,7 +103,7 @@ impl<K: Chain, V: Join> JoinMap<K, V> {
     /// empty map gets the other's blocks, by a pointer each if they are shared. In place it asks for each of the m
     /// pairs, for room for two more for each new key, for a copy of each shared block that one of the keys goes to, and
     /// for a block of 64 pairs for each that may be cut: at most one for each 32 new keys that a block does not hold,
-    /// and for each 63 behind the last key. After a refusal of memory the map is as it was.
+    /// and for each 63 behind the last key. If memory runs out, the map is unchanged.
     pub fn join_into(&mut self, other: &JoinMap<K, V>) -> Result<(), OutOfMemory>
         ensures ok { OnOk result (self.new ≡ map_join K.cmp V.join self.old other.now) }
         ensures by_key { OnOk result (JoinsByKey K.cmp V.join self.old other.now self.new) }
@@ -128,7 +128,7 @@ impl<K: Chain, V: Join> JoinMap<K, V> {
 
     /// The map again, with which this one shares what it has: no pair is copied until one of both is written to, and
     /// then those of the block that is written in. O(n / 32), and memory for each block that was written in since it
-    /// was last shared. After a refusal of memory the map is as it was.
+    /// was last shared. If memory runs out, the map is unchanged.
     pub fn share(&mut self) -> Result<JoinMap<K, V>, OutOfMemory>
         ensures ok { IfOk result (λ r. r ≡ self.old) }
         ensures same { self.new ≡ self.old }
@@ -170,7 +170,7 @@ impl<K: Chain, V: Join> Join for JoinMap<K, V> {
 }
 
 /// Joins each of four maps into one of four others, all or none, each at the cost of `JoinMap::join_into`.
-/// After a refusal of memory all are as they were.
+/// If memory runs out, all are unchanged.
 pub fn join_four<
     K1: Chain,
     V1: Join,

@@ -100,7 +100,7 @@ fn append_rest<K: Chain, V: Join>(
     Ok(())
 }
 
-// Adds the pair at the end. After a refusal of memory the pairs are as they were.
+// Adds the pair at the end. If memory runs out, the pairs are unchanged.
 pub(crate) fn append<K: Chain, V: Join>(
     blocks: &mut Vec<(K, Block<K, V>)>,
     key: K,
@@ -169,7 +169,7 @@ pub(crate) fn joined_at<K: Chain, V: Join>(
 // For each key of the right, what the join of both has there, and a spare block if the left lacks the key: a whole one
 // if a block may have to be cut for it, else one for two pairs. The left gets each block alone that one of the keys
 // goes to, with room for the new ones that it can hold. O(m log n), and a copy of each such block that was shared.
-// After a refusal of memory the pairs are as they were.
+// If memory runs out, the pairs are unchanged.
 pub(crate) fn changes<K: Chain, V: Join>(
     left: &mut Vec<(K, Block<K, V>)>,
     right: &[(K, Block<K, V>)],

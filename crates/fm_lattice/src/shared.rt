@@ -24,7 +24,7 @@ impl<T> Model for Shared<T> {
 }
 
 impl<T: Drop> Shared<T> {
-    /// The value, with one owner. After a refusal of memory it is dropped.
+    /// The value, with one owner. If memory runs out, it is dropped.
     pub fn new(alloc: Global, value: T) -> Result<Shared<T>, OutOfMemory>
         ensures { IfOk result (λ s. s ≡ value) }
     {

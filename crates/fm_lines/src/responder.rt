@@ -5,9 +5,9 @@ ghost use Rattle.fm_lines.specs.Replies.{accepted, refused};
 
 use fm_records::refusal::Refusal;
 
-/// Whoever answers lines, one after another.
+/// Responders: what answers lines, one after another.
 pub trait Responder {
-    /// A line is answered so, and that is what becomes of whoever answers.
+    /// How a line is answered in a state of the responder, and its next state.
     ghost answers: { Self → List ℕ → List ℕ → Self → Type 0 };
 
     /// The text that the line comes to. A line that is refused changes nothing.

@@ -45,7 +45,7 @@ impl<K: Chain, V: Copy> Model for Ordered<K, V> {
 }
 
 impl<K: Chain, V: Copy> Ordered<K, V> {
-    /// No pairs. It takes no memory.
+    /// No pairs. It allocates nothing.
     pub(crate) fn new(alloc: Global) -> Self
         ensures { result ≡ [] }
     {
@@ -71,9 +71,9 @@ impl<K: Chain, V: Copy> Ordered<K, V> {
         self.get(key).is_some()
     }
 
-    /// Puts the value at the key in place of one that stood there, and answers what stood there. After a refusal of
-    /// memory the pairs are as they were. Amortised O(1) behind the last key of packed pairs, O(n log n) once, when
-    /// they move into cells, and O(log n) else.
+    /// Puts the value at the key in place of one that stood there, and answers what stood there. If memory runs out,
+    /// the pairs are unchanged. Amortised O(1) behind the last key of packed pairs, O(n log n) once, when they move
+    /// into cells, and O(log n) else.
     pub(crate) fn put(&mut self, key: K, value: V) -> Result<Option<V>, OutOfMemory>
         ensures ok { OnOk result (self.new ≡ put K.cmp replaced key value self.old) }
         ensures stood { IfOk result (λ old. old ≡ lookup K.cmp key self.old) }
@@ -89,7 +89,7 @@ impl<K: Chain, V: Copy> Ordered<K, V> {
     }
 
     /// Takes the pair at the key out, and answers its value, if it was there. Many packed pairs move into cells first,
-    /// O(n log n) once; if that is refused memory, those behind the key move instead. O(log n) else.
+    /// O(n log n) once; if that runs out of memory, those behind the key move instead. O(log n) else.
     pub(crate) fn remove(&mut self, key: &K) -> Option<V>
         ensures without { self.new ≡ remove_entry (is_at (K.cmp key.now)) self.old }
         ensures stood { result ≡ lookup K.cmp key.now self.old }
@@ -148,7 +148,7 @@ impl<K: Chain, V: Copy> Ordered<K, V> {
         }
     }
 
-    // Moves packed pairs into cells. After a refusal of memory they lie as they lay. O(n log n).
+    // Moves packed pairs into cells. If memory runs out, they lie as they lay. O(n log n).
     fn scatter(&mut self) -> Result<(), OutOfMemory>
         ensures { self.new ≡ self.old }
     {

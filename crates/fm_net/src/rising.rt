@@ -53,7 +53,7 @@ pub fn value_near<K: Ord + Copy, V: Copy>(pairs: &[(K, V)], near: usize, key: &K
     value_at(pairs, key)
 }
 
-/// Sets the value at the key, and gives the one that was there. After a refusal of memory the pairs are as they were. A
+/// Sets the value at the key, and gives the one that was there. If memory runs out, the pairs are unchanged. A
 /// key behind the last is pushed, in amortised O(1); a key that is there is found in O(log n); before any other new key
 /// the pairs behind it move, in O(n).
 pub fn set<K: Ord + Copy, V: Copy>(

@@ -46,7 +46,7 @@ fn units_of(
     Ok(entries)
 }
 
-// What enters the nodes, in order, but for those that nothing enters.
+// What enters the nodes, in order, except those that nothing enters.
 fn entered_of(
     alloc: Global,
     nodes: &[Node],
@@ -121,8 +121,8 @@ fn potentials_of(
     Ok(Potentials::of(pairs))
 }
 
-/// The flow and the potentials by their names in the network. The caller owes a flow of this network by numbers, and
-/// potentials that show it to be least: then they certify it. Refused memory alone.
+/// The flow and the potentials by their names in the network. The caller must pass a flow of this network by numbers,
+/// and potentials that show it to be least: then they certify it. Refused memory alone.
 pub fn certified(
     alloc: Global,
     network: &Network,

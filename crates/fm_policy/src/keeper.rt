@@ -33,8 +33,8 @@ pub trait NetKeeper: Drop {
     /// What becomes of a keeper that takes in a delta with these keys.
     ghost absorbs: { Self → Keys → Self → Type 0 };
 
-    /// Follows the knowledge, which took a delta with these keys in. The caller owes that the keeper, if fresh, was for
-    /// what was known before. After a refusal of memory the keeper is stale; a stale one stays stale.
+    /// Follows the knowledge, which took a delta with these keys in. The caller must ensure that the keeper, if fresh,
+    /// was for what was known before. If memory runs out, the keeper is stale; a stale one stays stale.
     fn absorb(
         &mut self,
         alloc: Global,
@@ -48,14 +48,14 @@ pub trait NetKeeper: Drop {
         ensures keeps_up { TookIn true (follows self.old) now.now changed.now → follows self.new now.now }
         ensures absorbs { absorbs self.old changed.now self.new };
 
-    /// Builds the network of the knowledge, after which the keeper is fresh. After a refusal of memory it is stale.
+    /// Builds the network of the knowledge, after which the keeper is fresh. If memory runs out, it is stale.
     fn rebuild(&mut self, alloc: Global, now: &Knowledge) -> Result<(), OutOfMemory>
         ensures fresh { OnOk result (IsTrue (fresh self.new)) }
         ensures given { OnOk result (is_for self.new now.now) }
         ensures err { OnErr result (fresh self.new ≡ false) };
 
     /// Makes the network that of the knowledge, from what is kept or by building. The keeper must follow what is known,
-    /// and still does after a refusal of memory, if stale. A fresh keeper stays as it is.
+    /// and still does if memory runs out,, if stale. A fresh keeper stays as it is.
     fn refresh(&mut self, alloc: Global, now: &Knowledge) -> Result<(), OutOfMemory>
         requires { follows self.old now.now }
         ensures fresh { OnOk result (IsTrue (fresh self.new)) }

@@ -12,8 +12,8 @@ use std::alloc::Global;
 use std::collections::BTreeSet;
 use std::marker::Model;
 
-/// The jobs, tasks and machines of which some deltas told something: each once, ids rising. It is of the size of these keys,
-/// however many deltas there were.
+/// The jobs, tasks and machines of which some deltas told something: each once, ids rising. It is of the size of these
+/// keys, however many deltas there were.
 #[derive(Drop)]
 pub struct Pending {
     jobs: BTreeSet<JobId>,
@@ -30,7 +30,7 @@ impl Model for Pending {
 }
 
 impl Pending {
-    /// No delta. It takes no memory.
+    /// No delta. It allocates nothing.
     pub fn new(alloc: Global) -> Pending
         ensures { result ≡ no_keys }
     {

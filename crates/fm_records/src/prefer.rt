@@ -15,7 +15,7 @@ use std::cmp::Ordering;
 use std::marker::Model;
 
 /// Machines that a task prefers, up to four, each with a credit: by how much less it costs to run the task there. A
-/// fixed row, which takes no memory. Ordered entry by entry, each by machine and then credit; a list that begins
+/// fixed row, which allocates nothing. Ordered entry by entry, each by machine and then credit; a list that begins
 /// another is less.
 #[derive(Debug, Clone, Copy, Drop)]
 pub struct Prefer {

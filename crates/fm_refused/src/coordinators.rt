@@ -51,7 +51,7 @@ pub(crate) enum Kind {
     /// By edits, of which one was refused this allocation: so the network is stale, unless no allocation is refused at
     /// all.
     Stale(u32),
-    /// Built anew where it is wanted.
+    /// Built on demand.
     Builds,
 }
 

@@ -28,7 +28,7 @@ struct Answered {
     is_right: bool,
 }
 
-/// An Editor whose network is shared follows what machines, tasks and proposals are added to much. If that is refused
+/// An Editor whose network is shared follows what machines, tasks and proposals are added to much. If that runs out of
 /// memory it is stale, and the next build is of what is known.
 pub(crate) fn edited(memory: Memory) -> Result<Verdict, Refusal> {
     follows(memory, 48)

@@ -1,4 +1,4 @@
-//! Calls that are refused memory, and a look at what that leaves. Each is made on values that are made anew for it, and
+//! Calls that run out of memory, and a look at what that leaves. Each is made on values that are made again for it, and
 //! a line says what became of it: its name, and a verdict.
 //!
 //! With no word memory is ample. If this program runs on the allocator of tests/refusing.c, words can ask for more:

@@ -226,7 +226,7 @@ fn is_solution_written(memory: Memory, network: &Network, flow: &Flow) -> Result
     Ok(judged(refusal, is_right))
 }
 
-/// A network is solved from the flow of an earlier one. So few tasks are placed that it is solved anew.
+/// A network is solved from the flow of an earlier one. So few tasks are placed that it is solved from nothing.
 pub(crate) fn solved_from(memory: Memory) -> Result<Verdict, Refusal> {
     let start = earlier_flow(memory.alloc, EARLIER)?;
     solved_from_flow(memory, TOLD, &start)

@@ -19,7 +19,7 @@ pub record IsTooLong (old new : Option (List ℕ)) : Type 0 where
   pub consumed : Consumes old new bytes
   pub beyond : most_bytes < length bytes
 
--- why an input was not read: memory was refused, the source failed, or it gave too much
+-- why an input was not read: memory ran out, the source failed, or it gave too much
 abbrev pub IsUnread : Refusal → Option (List ℕ) → Option (List ℕ) → Bool → Type 0
 IsUnread refusal old new has_failed =
     (refusal ≡ OutOfMemory) ⊎ ((refusal ≡ BadScript 0) × ((has_failed ≡ true) ⊎ IsTooLong old new))

@@ -375,7 +375,7 @@ fn chains_of_preferences_are_moved_on(rt: HostRuntime) {
     assert_eq!(rt; pivoted_chain(rt.alloc(), 40), Ok(Some(81)));
 }
 
-// Whether the simplex hands out a flow however early it is stopped.
+// Whether the simplex returns a flow however early it is stopped.
 fn is_stopped(alloc: Global, seed: u64) -> Result<bool, OutOfMemory> {
     let network = drawn_preferring(alloc, seed, 8, 40)?;
     let numbered = Numbered::of(alloc, &network)?;

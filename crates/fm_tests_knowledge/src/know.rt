@@ -146,7 +146,7 @@ fn has_joined(known: &mut Knowledge, other: &Knowledge) -> bool {
     known.join_into(other).is_ok()
 }
 
-// Whether it has a key more in each map, or if memory was refused in none.
+// Whether it has a key more in each map, or if memory ran out in none.
 fn joins_or_not(known: &mut Knowledge, other: &Knowledge) -> bool {
     let before = keys(known);
     let more = usize::from(has_joined(known, other));

@@ -211,7 +211,7 @@ fn the_laws_hold_of_lexicographic_values(rt: HostRuntime) -> Result<(), Fail> {
 
 type Counts = JoinMap<u32, Max<u8>>;
 
-// What is shared or copied stays as it was, in each of several blocks.
+// What is shared or copied stays unchanged, in each of several blocks.
 #[test]
 fn what_is_shared_stays_as_it_was(rt: HostRuntime) -> Result<(), Fail> {
     let mut map: Counts = JoinMap::new(rt.alloc());
@@ -287,7 +287,7 @@ fn single_keys(alloc: Global, count: u32) -> Result<Vec<Counts>, Fail> {
     Ok(maps)
 }
 
-// Whether it has a key more, or if memory was refused as many as before.
+// Whether it has a key more, or if memory ran out as many as before.
 fn joins_or_not(map: &mut Counts, other: &Counts) -> bool {
     let before = map.len();
     match map.join_into(other) {

@@ -98,7 +98,7 @@ fn task_and_job() -> [Op; 2] {
     [task(17), job()]
 }
 
-// Sizes after the first so many operations, each told by itself, and once it is built anew.
+// Sizes after the first so many operations, each told by itself, and once it is rebuilt.
 fn sizes_after(
     alloc: Global,
     count: usize,

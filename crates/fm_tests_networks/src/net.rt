@@ -12,8 +12,8 @@ use fm_records::ids::{JobId, MachineId, TaskId};
 use std::alloc::Global;
 use std::cmp::Ordering;
 
-// The functions below have no contract beside what the next one owes: the tests are of what is answered, and proofs of
-// them stay short.
+// The functions below have no contract except what the next one requires: the tests are of what is answered, and
+// proofs of them stay short.
 
 fn machine() -> Node {
     Node::Machine(MachineId::new(10))

@@ -118,7 +118,7 @@ fn picked<R: Threads + Wait + Sync>(
     play::<Brand, R>(rt, alloc, Blank::new(2), coordinator, scene)
 }
 
-// Functions that may be refused hold few values there: a proof looks at what is let go at each refusal.
+// Functions that may be refused hold few values there: a proof looks at what is dropped at each refusal.
 
 // What a wait beyond its range is answered, what a cut below the floor, and the number of the first packet.
 fn asked_in_turn<L: NodeName, R: Wait>(
@@ -133,7 +133,7 @@ fn asked_in_turn<L: NodeName, R: Wait>(
     Ok((beyond, trimmed, packet.get().number))
 }
 
-// Asks as above, and hands the seat back if all is answered as it should be.
+// Asks as above, and returns the seat if all is answered as it should be.
 fn answered_in_turn<L: NodeName, R: Wait>(
     rt: &R,
     node: &Node<Rebuilder, L>,

@@ -57,7 +57,7 @@ fn task() -> Op {
 }
 
 // The functions below have no contract: the tests are of what is answered, and proofs of them stay short. Each may be
-// refused at few places, and holds few values there: a proof looks at what is let go at each.
+// refused at few places, and holds few values there: a proof looks at what is dropped at each.
 
 type Node = Coordinator<Rebuilder>;
 
@@ -321,7 +321,7 @@ fn a_dump_of_nothing_is_the_sink(rt: HostRuntime) {
     assert!(rt; is_sink);
 }
 
-// A keeper that counts how often it builds, and the keys that it is handed.
+// A keeper that counts how often it builds, and the keys that it is given.
 #[derive(Drop)]
 struct Counting {
     inner: Rebuilder,
@@ -435,7 +435,7 @@ fn give(alloc: Global, node: &mut Counted, want: Want) -> Result<(), Refusal> {
     }
 }
 
-// How many keys the keeper was handed and how often it built after these, and whether it is fresh then.
+// How many keys the keeper was given and how often it built after these, and whether it is fresh then.
 fn counts(alloc: Global, wants: &[Want]) -> Result<(usize, usize, bool), Refusal> {
     let mut node = counted(alloc)?;
     for want in wants {

@@ -63,7 +63,7 @@ impl Followed {
         })
     }
 
-    /// The network of what is known, built anew.
+    /// The network of what is known, built from nothing.
     pub(crate) fn built(&self, alloc: Global) -> Result<Network, Refusal> {
         law_can_be(&self.known);
         let network = build(alloc, &self.known)?;

@@ -20,7 +20,7 @@ use fm_records::refusal::Refusal;
 use std::alloc::Global;
 
 /// The place of the first fault, counted from 0; none if the bytes are a packet's spelling in one of the versions. It
-/// takes no memory. O(n).
+/// allocates nothing. O(n).
 pub fn fault_of(bytes: &[u8]) -> Option<usize>
     ensures { result ≡ fault bytes.now }
 {

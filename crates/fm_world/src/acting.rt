@@ -48,7 +48,7 @@ pub(crate) fn act_at<N: NetKeeper>(
 }
 
 // The call that the act comes to: a delivery looks its packet up. For a cut there is room for one more packet then.
-// NoPacket, or as the coordinator would refuse the call; then the packets are as they were.
+// NoPacket, or as the coordinator would refuse the call; then the packets are unchanged.
 fn call_for<N: NetKeeper>(
     coordinator: &Coordinator<N>,
     packets: &mut Vec<Shared<Packet>>,

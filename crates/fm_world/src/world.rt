@@ -47,8 +47,8 @@ impl<N: NetKeeper> Model for World<N> {
 }
 
 impl<N: NetKeeper> World<N> {
-    /// The coordinators with no packets. The caller owes that no two of them have one number, and that nothing happened
-    /// to them. It takes no memory.
+    /// The coordinators with no packets. The caller must ensure that no two of them have one number, and that nothing
+    /// happened to them. It allocates nothing.
     pub fn new(coordinators: Vec<Coordinator<N>>) -> World<N>
         requires distinct { AreDistinct (map number_of coordinators.items) }
         requires unused { AreUnused coordinators.items }
@@ -91,7 +91,7 @@ impl<N: NetKeeper> World<N> {
         }
     }
 
-    /// The coordinators, as they were handed in.
+    /// The coordinators, as they were passed.
     pub fn coordinators(&self) -> &[Coordinator<N>]
         ensures { map state_of result.now ≡ self.now.coordinators }
     {
@@ -117,7 +117,7 @@ impl<N: NetKeeper> World<N> {
 
     /// Takes a step, and answers the view of a View.
     /// NoCoordinator, NoPacket, then as the coordinator's call: BadOp, BadInterval, Trimmed, HistoryFull, OutOfMemory.
-    /// After a refusal nothing has changed, but for a network that is fresh or stale.
+    /// After a refusal nothing has changed, except a network that is fresh or stale.
     pub fn step(&mut self, step: &Step) -> Result<Option<View>, Refusal>
         ensures stands { (w : WorldOfSets) → WorldStandsFor self.old w → OnOk result (WorldStandsFor self.new (step_of w step.now)) }
         ensures accepted { (w : WorldOfSets) → WorldStandsFor self.old w → OnOk result (cause_of w step.now ≡ None) }
@@ -157,7 +157,7 @@ impl<N: NetKeeper> World<N> {
 
     /// Merges a packet that another world cut, or another process. For whatever operations the packet may stand, the
     /// coordinators then stand for the world in which these were merged: all that its sender took in, if the packet
-    /// came from a cut of that. NoCoordinator, HistoryFull, OutOfMemory. After a refusal nothing has changed, but for a
+    /// came from a cut of that. NoCoordinator, HistoryFull, OutOfMemory. After a refusal nothing has changed, except a
     /// network that is fresh or stale.
     pub fn take(&mut self, at: u8, by: u32, mut packet: Packet) -> Result<(), Refusal>
         ensures stands { (w : WorldOfSets) (sent : Sent) → WorldStandsFor self.old w → packet ≡ seen sent
