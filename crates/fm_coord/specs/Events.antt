@@ -25,7 +25,7 @@ pub data Event : Type 0 where
   Merge : (packet : Sent) → Event
   -- a packet is cut
   Cut : (range : Range) → Event
-  -- the deltas below n are let go
+  -- the deltas below n are dropped
   Trim : (n : ℕ) → Event
   -- what is known is looked at
   View : Event

@@ -49,7 +49,7 @@ took s delta e = record { number = s.number; limit = s.limit; knowledge = table_
 abbrev pub gave : State → Entry → State
 gave s e = record { number = s.number; limit = s.limit; knowledge = s.knowledge; deltas = s.deltas; cuts = s.cuts + 1; history = s.history ++ e ∷ [] }
 
--- the deltas below n are let go
+-- the deltas below n are dropped
 abbrev pub let_go : State → ℕ → Entry → State
 let_go s n e = record { number = s.number; limit = s.limit; knowledge = s.knowledge; deltas = trimmed s.deltas n; cuts = s.cuts; history = s.history ++ e ∷ [] }
 
@@ -96,8 +96,8 @@ pub record StandsFor (s : State) (r : Replica) : Type 0 where
   -- its history is just what happened
   pub history : map asked s.history ≡ map step_asked r.steps
 
--- an accepted call was the event at the replica: there was no cause to refuse it, the reply is the event's, and what is kept now
--- stands for the replica after it
+-- an accepted call was the event at the replica: there was no cause to refuse it, the reply is the event's, and what is
+-- kept now stands for the replica after it
 pub record IsEventAt (r : Replica) (by : ℕ) (event : Event) (reply : Reply) (s : State) : Type 0 where
   pub accepted : cause (bounds_of r) (call_of event) ≡ None
   pub answered : reply ≡ reply_of r event

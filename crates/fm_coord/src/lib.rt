@@ -1,4 +1,4 @@
-//! One coordinator with its history.
+//! One coordinator: its state, deltas and network, with the history of its calls.
 #![tactic(auto)]
 
 pub mod answer;

@@ -9,7 +9,7 @@ use Rattle.fm_records.specs.Table.{Table}
 use Rattle.fm_records.specs.Know.{know}
 use Rattle.fm_records.specs.Joined.{table_join}
 
--- the deltas that were pushed, counted from 0: those below the floor were let go, the others are kept in order
+-- the deltas that were pushed, counted from 0: those below the floor were dropped, the others are kept in order
 pub record Deltas : Type 0 where
   pub floor : ℕ
   pub kept : List Table

@@ -39,7 +39,7 @@ abbrev pub lines_from : (ℕ → Node → List ℕ) → ℕ → List Node → Li
 lines_from line id [] = []
 lines_from line id (n ∷ ns) = line id n ++ lines_from line (id + 1) ns
 
--- the node's ID: its place, counted from this one on; 0 if it does not stand
+-- the node's ID: its place, counted from this one on; 0 if it is not there
 abbrev pub id_from : ℕ → List Node → Node → ℕ
 id_from id [] n = 0
 id_from id (m ∷ ms) n = cond (is_eq (node_cmp m n)) id (id_from (id + 1) ms n)

@@ -263,7 +263,7 @@ pub(crate) fn id_near(nodes: &[Node], node: &Node, id: usize) -> usize
     id_of(nodes, node)
 }
 
-// The node's ID, if it stands at the place.
+// The node's ID, if it is at the place.
 fn id_at(nodes: &[Node], node: &Node, place: usize) -> Option<usize>
     requires { Rises node_cmp nodes.now }
     ensures { IfSome result (λ id. id ≡ id_in nodes.now node.now) }

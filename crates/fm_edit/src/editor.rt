@@ -1,4 +1,4 @@
-//! A keeper that edits.
+//! A keeper that edits its network: incremental view maintenance.
 
 ghost use Rattle.std.specs.Prelude.{◌≡◌, ◌++◌, [], true, false, IsTrue, IfOk, OnOk, OnErr};
 ghost use Rattle.fm_records.specs.Know.{know};
@@ -24,9 +24,9 @@ use fm_policy::changed::{Changed, changed_of};
 use fm_policy::keeper::NetKeeper;
 use std::alloc::Global;
 
-/// A keeper that follows what is known by edits of its network: it remembers the records that it saw, and which tasks
-/// are listed and count where, so that a delta costs what it changes and not what is known. It counts the edits that it
-/// made since its network was built.
+/// A keeper that follows what is known by edits of its network (incremental view maintenance). It remembers the
+/// records that it looked up, and where tasks are listed and counted, so that a delta costs what it changes, and not
+/// what is known. It counts the edits that it made since its network was built.
 #[derive(Drop)]
 pub struct Editor {
     memory: Memory,
@@ -75,11 +75,11 @@ impl Editor {
     }
 }
 
-/// Follows what is looked into, which took a delta with these keys in, and answers the edits that were made: just those
-/// that turn the network of what was known into that of what is known now, arcs that go, nodes that go, nodes that
-/// come, arcs that come or differ, each in node order. It looks up just the records that the delta tells of, and of
-/// each of its tasks the winner of the present attempt. The caller must pass a fresh Editor, for what was known before.
-/// If memory runs out, the Editor is stale.
+/// Follows a knowledge after a delta with these keys was merged into it, and returns the edits that were made:
+/// exactly those that turn the network of the earlier knowledge into that of the present one, that is, arcs that go,
+/// nodes that go, nodes that come, and arcs that come or differ, each in node order. It looks up only the records of
+/// the delta, and for each of its tasks the winner of the present attempt. The caller must pass a fresh Editor for
+/// the earlier knowledge. If memory runs out, the Editor is stale.
 pub fn edit<L: Look>(
     alloc: Global,
     editor: &mut Editor,

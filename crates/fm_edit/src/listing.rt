@@ -144,7 +144,7 @@ fn add_node(
     Ok(())
 }
 
-// The edit that drops the pair's arc, if that stands.
+// The edit that drops the pair's arc, if it exists.
 fn drop_arc(network: &Network, pair: &(Node, Node)) -> Option<Edit>
     ensures { result ≡ when (joins network.now pair.now) (EditName.DropArc pair.now.0 pair.now.1) }
 {

@@ -23,10 +23,10 @@ use std::alloc::Global;
 /// A least flow of the network, and potentials that certify it. The caller must pass a network that the policy can
 /// build. Refused if memory runs out, and for nothing else.
 ///
-/// A fast start places the tasks; then cycles of negative cost are cancelled until none is left. O(arcs log arcs), and
-/// what the start takes: some searches between requests for each class of tasks, or the pivots of a network simplex if
-/// tasks prefer machines. If the start comes to no least flow, each search for cycles takes O(nodes * arcs) at worst.
-/// Memory O(nodes + arcs).
+/// A heuristic places the tasks; then cycles of negative cost are cancelled until none is left (Klein, 1967). O(arcs
+/// log arcs), and the cost of the heuristic: some searches between requests for each class of tasks, or the pivots of
+/// a network simplex if tasks prefer machines. If its flow is not least, each search for cycles takes O(nodes * arcs)
+/// at worst. Memory O(nodes + arcs).
 pub fn solve(alloc: Global, network: &Network) -> Result<(Flow, Potentials), Refusal>
     requires built { IsBuilt network.now }
     ensures certified { IfOk result (λ found. IsCertified network.now found.0 found.1) }

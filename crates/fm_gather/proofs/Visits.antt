@@ -116,7 +116,7 @@ module _ (ms : List Made) (n : ℕ) (s : State) (ss : List State) where
   none_first true is none = absurd (let not_so : ⊥ = cc in not_so)
   none_first false is none = (ltb-false (length (entries_at s.number ms)) (length s.history) is, none)
 
--- if nobody has more, each is listed to its end
+-- if no coordinator has more, each is listed to its end
 reached : (ms : List Made) (n : ℕ) (ss : List State) → left_of ss ms ≡ [] → length (history_at ss n) ≤ length (entries_at n ms)
 reached ms n [] h = omega arith
 reached ms n (s ∷ ss) h =

@@ -337,12 +337,12 @@ fn places_most(numbered: &Numbered, given: &[u64]) -> bool {
     placed >= tasks - tasks / 4
 }
 
-/// Tasks placed by falling worth; all unscheduled if that is no flow. If each arc into a machine costs the request and
-/// the machine's load, and no waiting task has an arc to a machine, this is a least flow: no clause says so, a search
-/// for cycles does. A task that prefers machines is sent to one of them if that saves more than its request, and the
-/// search finds what that did not. The caller must pass a network in which all tasks can be unscheduled. Refused if
-/// memory runs out, and for nothing else. O(arcs log arcs), and for each class of tasks at most some searches between
-/// requests.
+/// Tasks placed by falling worth, by successive shortest paths; all unscheduled if that is no flow. If each arc into
+/// a machine costs the request and the machine's load, and no waiting task has an arc to a machine, this is a least
+/// flow: no clause says so, but the search for cycles then finds none. A task that prefers machines is sent to one of
+/// them if that saves more than its request, and the search finds what that did not. The caller must pass a network
+/// in which all tasks can be unscheduled. Refused if memory runs out, and for nothing else. O(arcs log arcs), and for
+/// each class of tasks at most some searches between requests.
 pub fn start(alloc: Global, numbered: &Numbered) -> Result<Vec<u64>, OutOfMemory>
     requires unscheduled { IsFlowOf numbered.now.places numbered.now.arcs.items (all_unscheduled numbered.now.places numbered.now.arcs.items) }
     ensures { IfOk result (λ units. IsFlowOf numbered.now.places numbered.now.arcs.items units.items) }

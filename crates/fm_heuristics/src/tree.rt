@@ -1,8 +1,9 @@
-//! The tree of the simplex: each node but the sink hangs on another by one link, and each has a potential.
+//! The spanning tree of the network simplex: each node except the sink has a parent, to which one link joins it, and
+//! each has a potential.
 //!
-//! That parents, children, siblings and links are there is a fact of the type. That a node is deeper than its parent is
-//! looked at on each way up: so a way has at most as many steps as its node is deep, and a tree that is broken stops
-//! the simplex.
+//! That parents, children, siblings and links are there is a fact of the type. That a node is deeper than its parent
+//! is tested on each way up, so a way has at most as many steps as its node is deep, and a broken tree stops the
+//! simplex.
 
 ghost use Rattle.std.specs.Prelude.{◌≡◌, ◌<◌, ◌≤◌, All, vec_len, IfOk, OnOk, IsTrue, ◌+◌};
 ghost use Rattle.fm_heuristics.specs.Trees.{IsKnot, IsTied, depth_of};

@@ -102,7 +102,7 @@ fn opening_in(alloc: Global, value: &Value) -> Result<Option<Request>, OutOfMemo
     }
 }
 
-// The coordinators are made anew, by true.
+// The coordinators are renewed, by true.
 fn renewal_in(asked: &Value) -> Option<Request>
     ensures { option_map asked_of result ≡ when_true Renews (view asked.now) }
 {

@@ -1,4 +1,4 @@
-//! Delta mutators: the operations by which a coordinator speaks after what it knows. None allocates.
+//! Delta mutators (Almeida, Shoker and Baquero): a coordinator's next operations after what it knows. None allocates.
 
 ghost use Rattle.std.specs.Prelude.{◌≡◌, ◌≤◌, ◌∷◌, [], Some, IfOk, IfSome};
 ghost use Rattle.std.specs.Option.{ok_or};

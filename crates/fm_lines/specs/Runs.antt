@@ -13,8 +13,7 @@ use Rattle.fm_lines.specs.Replies.{refused}
 abbrev pub IsUnread : List ℕ → List ℕ → Type 0
 IsUnread line text = (text ≡ refused OutOfMemory) ⊎ ((most_bytes < length line) × (text ≡ refused (BadScript 0)))
 
--- a line is answered so, and makes new of old: it is refused unread and changes nothing, or whoever answers lines
--- answers it
+-- a line is answered so, and makes new of old: it is refused unread and changes nothing, or the responder answers it
 abbrev pub IsTaken : {D : Type 0} → (D → List ℕ → List ℕ → D → Type 0) → D → List ℕ → List ℕ → D → Type 0
 IsTaken Answers old line text new = (IsUnread line text × (new ≡ old)) ⊎ Answers old line text new
 

@@ -55,7 +55,7 @@ pub record IsMustered (listed : List ℕ) (tells : List Tell) (rounds : ℕ) (c 
   pub closed : List State
   pub served : AreServed (tasks_of rounds (members_of listed tells)) closed
   pub calls : c.calls.items ≡ map calls_of closed
-  -- once they told one another all that they know, their histories are one list of steps, and they know the same
+  -- once they exchanged all that they know, their histories are one list of steps, and they know the same
   pub steps : List Step
   pub gathered : IsWholeRun (exchanged closed) steps
   pub counted : c.steps ≡ length steps

@@ -134,7 +134,7 @@ module _ {K V : Type 0} (cmp : K → K → Ordering) (total : IsTotalOrder cmp) 
         | false ↦ λ h. ap (λ z. (x.0, c.0.0) ∷ z) (rest h)
       ] e)
 
-  -- cells that are alike but for one that no key has
+  -- cells that are alike except for one that no key has
   module _ (at new : ℕ → Option (K × V)) (p : ℕ) (others : (q : ℕ) → q ≢ p → new q ≡ at q) where
     pub still : (es : List (K × ℕ)) → IsNoPlace p es → EachHasCell at es → EachHasCell new es
     still [] n c = tt

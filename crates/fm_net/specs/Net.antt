@@ -15,7 +15,7 @@ pub record Net : Type 0 where
   pub nodes : List Node
   pub arcs : List ((Node × Node) × (ℕ × ℕ))
 
--- whether the node stands
+-- whether the network has the node
 abbrev pub has_node : Net → Node → Bool
 has_node net n = list_any (λ m. is_eq (node_cmp n m)) net.nodes
 
@@ -76,7 +76,7 @@ remove_node n (m ∷ ms) = cond (is_eq (node_cmp n m)) ms (m ∷ remove_node n m
 abbrev pub without_node : Node → Net → Net
 without_node n net = record { nodes = remove_node n net.nodes; arcs = net.arcs }
 
--- the network with the arc in its place, in place of one that stood there
+-- the network with the arc in its place, in place of an existing one
 abbrev pub with_arc : Node → Node → ℕ × ℕ → Net → Net
 with_arc from to arc net = record { nodes = net.nodes; arcs = put ends_cmp replaced (from, to) arc net.arcs }
 

@@ -61,7 +61,7 @@ impl<K: Ord + Copy, V: Copy> Cells<K, V> {
         self.places.contains_key(key)
     }
 
-    /// Puts the value at the key in place of one that stood there, and answers what stood there. The index is searched
+    /// Puts the value at the key in place of an existing one, and returns the old one. The index is searched
     /// once: it tells the cell that the key has, which is filled again, or takes the next empty cell for it. If memory
     /// runs out, all is unchanged. O(log n).
     pub(crate) fn put(&mut self, key: K, value: V) -> Result<Option<V>, OutOfMemory>

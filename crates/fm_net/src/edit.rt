@@ -12,6 +12,6 @@ pub enum Edit {
     DropNode(Node),
     /// Puts a node.
     PutNode(Node),
-    /// Puts an arc from one node to another, with its capacity and cost, in place of one that stood there.
+    /// Puts an arc from one node to another, with its capacity and cost, in place of an existing one.
     PutArc(Node, Node, u64, u32),
 }

@@ -48,7 +48,7 @@ impl Network {
         })
     }
 
-    /// What is known of every network: the sink stands, both ends of each arc stand, and all is in range.
+    /// What is known of every network: it has the sink and both ends of each arc, and all is in range.
     pub fn known(&self)
         ensures { CanBeNet self.now }
     {
@@ -83,7 +83,7 @@ impl Network {
         self.nodes.remove(node).is_some()
     }
 
-    /// Puts an arc in place of one that stood there, and answers what stood there: capacity and cost. The caller must
+    /// Puts an arc in place of an existing one, and returns the old one: capacity and cost. The caller must
     /// ensure that both nodes are there, an arc may join their kinds, the capacity is at least 1 and the cost at most
     /// 1,000,000,000. If memory runs out, the network is unchanged. O(log n).
     pub fn put_arc(

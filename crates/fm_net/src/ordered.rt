@@ -71,7 +71,7 @@ impl<K: Chain, V: Copy> Ordered<K, V> {
         self.get(key).is_some()
     }
 
-    /// Puts the value at the key in place of one that stood there, and answers what stood there. If memory runs out,
+    /// Puts the value at the key in place of an existing one, and returns the old one. If memory runs out,
     /// the pairs are unchanged. Amortised O(1) behind the last key of packed pairs, O(n log n) once, when they move
     /// into cells, and O(log n) else.
     pub(crate) fn put(&mut self, key: K, value: V) -> Result<Option<V>, OutOfMemory>

@@ -14,14 +14,15 @@ use fm_lattice::shared::Shared;
 use fm_net::network::Network;
 use std::alloc::Global;
 
-/// What holds the network of a knowledge while that grows: it is fresh, and the network is the one that is built from
-/// what is known; or it is stale, and nothing is said of its network.
+/// What maintains the network of a knowledge (incremental view maintenance: Gupta and Mumick, 1995). A keeper is
+/// fresh, and its network is the one that is built from what is known; or it is stale, and no clause speaks of its
+/// network.
 pub trait NetKeeper: Drop {
     /// Whether it is fresh.
     ghost fresh: { Self → Bool };
 
-    /// Whether a fresh one holds the network of the table, and with it all that it needs to follow from there: the
-    /// network alone does not say what the next delta makes of it.
+    /// Whether a fresh one holds the network of the table, and all that it needs to follow deltas: the network alone
+    /// does not determine what the next delta makes of it.
     ghost is_for: { Self → Table → Type 0 };
 
     /// Whether a keeper, fresh or stale, can become fresh for the table from what it keeps.
@@ -54,8 +55,8 @@ pub trait NetKeeper: Drop {
         ensures given { OnOk result (is_for self.new now.now) }
         ensures err { OnErr result (fresh self.new ≡ false) };
 
-    /// Makes the network that of the knowledge, from what is kept or by building. The keeper must follow what is known,
-    /// and still does if memory runs out,, if stale. A fresh keeper stays as it is.
+    /// Makes the network that of the knowledge, from what is kept or by building. The keeper must follow what is
+    /// known. If memory runs out, it is stale and still follows it. A fresh keeper is unchanged.
     fn refresh(&mut self, alloc: Global, now: &Knowledge) -> Result<(), OutOfMemory>
         requires { follows self.old now.now }
         ensures fresh { OnOk result (IsTrue (fresh self.new)) }

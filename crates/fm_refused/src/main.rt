@@ -1,5 +1,5 @@
 //! Calls that run out of memory, and a look at what that leaves. Each is made on values that are made again for it, and
-//! a line says what became of it: its name, and a verdict.
+//! a line says its result: its name, and a verdict.
 //!
 //! With no word memory is ample. If this program runs on the allocator of tests/refusing.c, words can ask for more:
 //! with a number that allocation within each call is refused; with a second number further ones in turn, each by so

@@ -121,7 +121,7 @@ default_renew_after = 100000
 abbrev pub most_renew_after : ℕ
 most_renew_after = 1000000
 
--- `--renew-after N`: coordinators that are kept running, and are made anew once a history has N entries, 1 at least
+-- `--renew-after N`: coordinators that are kept running, and are renewed once a history has N entries, 1 at least
 abbrev pub follows : Takes
 follows = one_number (codes "renew-after") 1 most_renew_after (λ n. follow (unwrap_or n default_renew_after))
 
