@@ -46,8 +46,8 @@ impl Flow {
     }
 
     /// The flow of these units, by the ends of their arcs, beside what enters the nodes that they lead to. The caller
-    /// must pass ends and nodes that rise, and that these totals are what enters. Refused memory alone. O(nodes): it
-    /// does not walk the units.
+    /// must pass ends and nodes that rise, and that these totals are what enters. Refused only if memory runs out.
+    /// O(nodes): it does not walk the units.
     pub fn of(
         alloc: Global,
         units: Vec<((Node, Node), u64)>,
@@ -62,8 +62,8 @@ impl Flow {
     }
 
     /// Sets the units from one node to the other. If memory runs out, the flow is unchanged. Amortised O(1) for
-    /// no units on a key behind the last, and O(log n) for units there or for a key that the flow has; before any other
-    /// new key the keys behind it move, in O(n).
+    /// no units on a key after the last, and O(log n) for units there or for a key that the flow has; before any other
+    /// new key the keys after it move, in O(n).
     pub fn put(&mut self, from: Node, to: Node, units: u64) -> Result<(), OutOfMemory>
         ensures ok { OnOk result (self.new ≡ put ends_cmp replaced (from, to) units self.old) }
         ensures err { OnErr result (self.new ≡ self.old) }

@@ -54,7 +54,7 @@ impl Potentials {
     }
 
     /// Sets the node's potential. If memory runs out, the potentials are unchanged. Amortised O(1) for a node
-    /// behind the last, and O(log n) for one that has a potential; for any other, those behind it move, in O(n).
+    /// after the last, and O(log n) for one that has a potential; for any other, those after it move, in O(n).
     pub fn put(&mut self, node: Node, potential: i128) -> Result<(), OutOfMemory>
         ensures ok { OnOk result (self.new ≡ put node_cmp replaced node potential self.old) }
         ensures err { OnErr result (self.new ≡ self.old) }
@@ -99,7 +99,7 @@ impl Potentials {
         self.values.is_empty()
     }
 
-    /// Whether these are potentials of just the network's nodes, none beyond 2^100 in size. O(n).
+    /// Whether these are potentials of exactly the network's nodes, none beyond 2^100 in size. O(n).
     pub(crate) fn are_of(&self, network: &Network) -> bool
         ensures { IsTrue result ↔ AreOf self.now network.now.nodes }
     {

@@ -15,7 +15,7 @@ use fm_policy::keeper::NetKeeper;
 use fm_records::refusal::Refusal;
 
 impl<N: NetKeeper> Coordinator<N> {
-    /// Does what is asked for, as the method of that name does and at its cost, and answers what that answers. What is
+    /// Does what is asked for, as the method of that name does and at its cost, and returns what that answers. What is
     /// wrong with the call, else HistoryFull, else OutOfMemory; then nothing has changed, except a stale network that a
     /// view may have built or not.
     pub fn call(&mut self, by: u32, call: Call) -> Result<Answer, Refusal>

@@ -466,7 +466,7 @@ impl<N: NetKeeper> Coordinator<N> {
         Ok(())
     }
 
-    /// Admits a plan, takes in what it comes to, and answers that. If nothing is admitted, the delta is empty.
+    /// Admits a plan, takes in what it comes to, and returns that. If nothing is admitted, the delta is empty.
     /// HistoryFull, OutOfMemory; then nothing has changed.
     pub fn commit(&mut self, by: u32, plan: Plan) -> Result<Shared<Admitted>, Refusal>
         ensures ok { IfOk result (λ admitted. self.new.state ≡ took self.old.state (know admitted.ops) (entry by (Call.Commit plan) (Reply.Admitted admitted))) }

@@ -16,7 +16,7 @@ pub trait Out {
     /// Whether it has failed.
     ghost has_failed: { Self → Bool };
 
-    /// Takes a prefix of the piece, and answers its length. 0 for a piece that is not empty is a failure.
+    /// Takes a prefix of the piece, and returns its length. 0 for a piece that is not empty is a failure.
     fn put(&mut self, piece: &[u8]) -> usize
         ensures within { result ≤ length piece.now }
         ensures takes { Appends (written self.old) (written self.new) (take result piece.now) }
@@ -63,7 +63,7 @@ impl<W> Over<W> {
 }
 
 impl<W: Write> Over<W> {
-    /// Has all that the writer took go out, and answers whether it did. A writer that cannot has failed.
+    /// Has all that the writer took go out, and returns whether it did. A writer that cannot has failed.
     pub fn flush(&mut self) -> bool
         ensures keeps { Keeps (W.contents self.old.0) (W.contents self.new.0) }
         ensures fails { self.new.1 ≡ (self.old.1 || not result) }

@@ -24,7 +24,7 @@ use fm_records::refusal::Refusal;
 use std::alloc::Global;
 
 /// Writes the flow's text, with the IDs of the network's text. The caller must pass a network that the policy can
-/// build, and a feasible flow. A refusal is as `dump`'s. O(arcs) if the flow's keys are just the arcs and for units
+/// build, and a feasible flow. A refusal is as `dump`'s. O(arcs) if the flow's keys are exactly the arcs and for units
 /// between nodes beside those of the arc before, and O(log arcs) for each other.
 pub fn write_solution<W: Out>(
     alloc: Global,

@@ -58,7 +58,7 @@ fn liked(near: u32, far: u32) -> Prefer {
 }
 
 impl Cluster {
-    /// A chain of so many machines of one slot, and one more behind them: a task of each prefers it and, a little less,
+    /// A chain of so many machines of one slot, and one more after them: a task of each prefers it and, a little less,
     /// the next one, and one task more prefers the first two. So the least flow moves all tasks on but one.
     pub(crate) fn chained(alloc: Global, machines: u32) -> Result<Cluster, Refusal> {
         let sizes = Sizes {

@@ -82,7 +82,7 @@ fn timed(rt: &HostRuntime, network: &Network, earlier: &Flow) -> Result<Times, a
     })
 }
 
-// Prints how long solving takes from the flow, and from nothing, and answers the new flow.
+// Prints how long solving takes from the flow, and from nothing, and returns the new flow.
 fn print_both(
     rt: &HostRuntime,
     name: &str,

@@ -59,7 +59,7 @@ impl Memory {
         Ok(memory)
     }
 
-    /// Follows the table into which a delta was taken, and answers the nodes and pairs of nodes that it touched:
+    /// Follows the table into which a delta was taken, and returns the nodes and pairs of nodes that it touched:
     /// nothing else differs between the network of what was known before and that of what is known now. It looks up
     /// just what the delta tells of. After a refusal nothing is said of the memory.
     pub(crate) fn follow<L: Look>(

@@ -116,7 +116,7 @@ fn seat_all<L: NodeName>(alloc: Global, seats: &mut Vec<Seat<L>>, all: &mut Shar
 impl<N: NetKeeper, L: NodeName> Node<N, L> {
     /// Any call, as the coordinator's `call` by the seat's number, with the lock held for that call alone. The seat's
     /// list grows by one place, and what goes into it is shared with what the coordinator gets, before the lock is
-    /// asked for, so nothing can fail behind it. The coordinator has at least as many entries before it as there were
+    /// asked for, so nothing can fail after it. The coordinator has at least as many entries before it as there were
     /// at the node's start and are in the seat's list. What that refuses, and OutOfMemory; then the seat is unchanged.
     pub fn call<R: Wait>(
         &self,

@@ -75,7 +75,7 @@ arrived behind p = record { sender = p.sender; number = p.number; set = behind p
 abbrev pub but_behind : Packet → List Op → (Packet → List Op) → Packet → List Op
 but_behind p S behind q = cond (same_packet q p) S (behind q)
 
--- the number of the packet whose name has the place; if none has, a number behind those of all packets
+-- the number of the packet whose name has the place; if none has, a number after those of all packets
 abbrev pub number_at : Following → ℕ → ℕ
 number_at k place = unwrap_or (slice_get k.named.numbers place) (length k.world.packets)
 

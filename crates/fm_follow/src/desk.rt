@@ -55,7 +55,7 @@ impl Desk {
         }
     }
 
-    /// Does what the line asks for, and answers its text. Then, if a history has as many entries as that, the
+    /// Does what the line asks for, and returns its text. Then, if a history has as many entries as that, the
     /// coordinators are renewed, if there is memory for it. A line that is refused changes nothing.
     pub(crate) fn answer(&mut self, most: usize, line: &[u8]) -> Result<Vec<u8>, Refusal>
         ensures ok { Accepts most result self.old self.new line.now }
@@ -120,7 +120,7 @@ impl Desk {
         Ok(Vec::new(self.alloc))
     }
 
-    // The number of the packet whose name has the place, or one behind those of all packets.
+    // The number of the packet whose name has the place, or one after those of all packets.
     fn number_at(&self, place: usize) -> usize
         ensures { (k : Following) → DeskAt self.now k → result ≡ number_at k place }
     {

@@ -49,7 +49,7 @@ impl NamedPackets {
         self.numbers.get(place).copied()
     }
 
-    /// Adds a packet behind the others, and answers true; if a packet has the name, answers false, and nothing has
+    /// Adds a packet after the others, and answers true; if a packet has the name, answers false, and nothing has
     /// changed. If memory runs out, nothing has changed.
     pub(crate) fn add(&mut self, name: &str, number: usize) -> Result<bool, OutOfMemory>
         ensures added { IfOk result (λ added. IsTrue added → self.new ≡ named_also self.old name.now number) }

@@ -107,7 +107,7 @@ halts ss places steps packets left h stopped is =
     }
 
 module _ (ms : List Made) (n : ℕ) (s : State) (ss : List State) where
-  -- it, or one behind it, has the number
+  -- it, or one after it, has the number
   reached_by : (b : Bool) → (b ≡ true → s.number ≡ n) → length s.history ≤ length (entries_at s.number ms) → length (history_at ss n) ≤ length (entries_at n ms) → length (history_in (cond b (Some s) (state_with ss n))) ≤ length (entries_at n ms)
   reached_by true is within rest = subst (λ k. length s.history ≤ length (entries_at k ms)) (is refl) within
   reached_by false is within rest = rest

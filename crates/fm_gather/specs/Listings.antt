@@ -127,7 +127,8 @@ pub record IsWholeRun (ss : List State) (steps : List Step) : Type 0 where
   pub as_steps : steps ≡ steps_for [] made
   pub stands : WorldStandsFor (record { coordinators = ss; packets = packets_of made }) (run_of (new_world ss) steps)
 
--- the steps are a listing to which nothing can be added, and which leaves entries of just these coordinators, in order
+-- the steps are a listing to which nothing can be added, and which leaves entries of exactly these coordinators, in
+-- order
 pub record Halts (ss : List State) (left : List ℕ) (steps : List Step) : Type 0 where
   pub made : List Made
   pub listing : IsListing ss made

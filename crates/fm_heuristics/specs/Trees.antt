@@ -20,7 +20,7 @@ pub record IsTied (nodes : ℕ) (l : Link) : Type 0 where
   pub from : l.from < nodes
   pub to : l.to < nodes
 
--- how deep a node is, 0 behind the end
+-- how deep a node is, 0 beyond the end
 abbrev pub depth_of : List Knot → ℕ → ℕ
 depth_of [] v = 0
 depth_of (k ∷ knots) zero = k.depth

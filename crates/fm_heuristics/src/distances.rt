@@ -42,7 +42,7 @@ fn cost_at(costs: &[i64], node: usize) -> i64 {
     value_or(costs, node, LOST)
 }
 
-// Lowers the cost at a node to this one, and tells whether it was higher.
+// Lowers the cost at a node to this one, and returns whether it was higher.
 fn lower(costs: &mut [i64], node: usize, cost: i64) -> bool {
     match costs.get_mut(node) {
         Some(there) if cost < *there => {
@@ -53,7 +53,7 @@ fn lower(costs: &mut [i64], node: usize, cost: i64) -> bool {
     }
 }
 
-// Lowers the costs of sources by arcs with room, and tells whether one fell.
+// Lowers the costs of sources by arcs with room, and returns whether one fell.
 fn go_ahead(part: Part<'_>, costs: &mut [i64]) -> bool {
     let mut falls = false;
     for (arc, sent) in part.arcs.iter().zip(part.units) {
@@ -65,7 +65,7 @@ fn go_ahead(part: Part<'_>, costs: &mut [i64]) -> bool {
     falls
 }
 
-// Lowers the costs of targets by arcs with units, backwards, and tells whether one fell.
+// Lowers the costs of targets by arcs with units, backwards, and returns whether one fell.
 fn go_back(part: Part<'_>, costs: &mut [i64]) -> bool {
     let mut falls = false;
     for (arc, sent) in part.arcs.iter().zip(part.units) {

@@ -241,7 +241,7 @@ impl Loading {
         }
     }
 
-    /// Sends units over the hops and into free slots of the last machine, as many as fit, and answers how many.
+    /// Sends units over the hops and into free slots of the last machine, as many as fit, and returns how many.
     pub(crate) fn send(
         &mut self,
         numbered: &Numbered,

@@ -80,7 +80,7 @@ impl Paths {
         Ok(())
     }
 
-    // Wants a request no more, and tells whether it was wanted.
+    // Wants a request no more, and returns whether it was wanted.
     fn forget(&mut self, request: usize) -> bool {
         match self.wanted.get_mut(request) {
             Some(is_wanted) if *is_wanted => {

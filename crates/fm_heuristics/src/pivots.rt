@@ -123,7 +123,7 @@ fn pivot_on(tree: &mut Tree, number: usize) -> Result<(), Stop> {
     pivot(tree, number)
 }
 
-// Leaves units of a node to the jobs of its tasks, as many as there are links for, and answers how many.
+// Leaves units of a node to the jobs of its tasks, as many as there are links for, and returns how many.
 fn leave(tree: &mut Tree, around: &[usize], units: u64) -> u64 {
     let mut rest = units;
     'links: for number in around {

@@ -123,7 +123,7 @@ impl<'a> Placing<'a> {
         })
     }
 
-    // Sends units from the origin on the cheapest path below the worth, as many as fit, and answers how many.
+    // Sends units from the origin on the cheapest path below the worth, as many as fit, and returns how many.
     fn send(&mut self, origin: Kind, worth: i64, count: u64) -> Result<u64, OutOfMemory> {
         let found = self.paths.find(self.numbered, &self.lanes, &mut self.loading, origin, worth)?;
         let Some(end) = found else {
@@ -171,7 +171,7 @@ impl<'a> Placing<'a> {
         Ok(most)
     }
 
-    // Sends units of a place, as many of these as fit at once, and answers how many.
+    // Sends units of a place, as many of these as fit at once, and returns how many.
     fn send_some(&mut self, place: usize, worth: i64, rest: u64) -> Result<u64, OutOfMemory> {
         match self.numbered.places.kind(place) {
             Kind::Request(request) => self.send_request(request, worth, rest),
@@ -180,7 +180,7 @@ impl<'a> Placing<'a> {
         }
     }
 
-    // Places so many tasks of a class, or fewer, and answers how many.
+    // Places so many tasks of a class, or fewer, and returns how many.
     fn place(&mut self, class: &Class, count: u64) -> Result<u64, OutOfMemory> {
         let worth = worth(self.numbered, &self.lanes, class.place, class.saving);
         let mut rest = count;
@@ -195,7 +195,7 @@ impl<'a> Placing<'a> {
     }
 }
 
-// Places the tasks that the given units place, if their paths are still whole and fit, and answers the others.
+// Places the tasks that the given units place, if their paths are still whole and fit, and returns the others.
 fn keep_given(
     alloc: Global,
     placing: &mut Placing<'_>,
@@ -213,7 +213,7 @@ fn keep_given(
     Ok(others)
 }
 
-// Takes up the path of the task whose arc to its job this is, if it is whole and fits, and answers its arc to a place.
+// Takes up the path of the task whose arc to its job this is, if it is whole and fits, and returns its arc to a place.
 fn keep_task(placing: &mut Placing<'_>, kept: &mut Kept, left: usize) -> Option<usize> {
     let task = placing.numbered.arcs.get(left)?.from;
     for arc in left..placing.numbered.arcs.len() {
@@ -306,7 +306,7 @@ fn placed(alloc: Global, numbered: &Numbered) -> Result<Vec<u64>, OutOfMemory> {
     place_all(alloc, placing, choices)
 }
 
-// The units of the tasks that the given ones place, and of the others placed by falling worth behind them.
+// The units of the tasks that the given ones place, and of the others placed by falling worth after them.
 fn placed_behind(
     alloc: Global,
     numbered: &Numbered,

@@ -290,7 +290,7 @@ impl Tree {
         }
     }
 
-    // The node behind this one in a walk over all that hangs below the top, each node before its children; the top at
+    // The node after this one in a walk over all that hangs below the top, each node before its children; the top at
     // the end.
     fn next_below(&self, node: usize, top: usize) -> Result<usize, Stop>
         requires node { node < vec_len self.now.knots }

@@ -91,7 +91,7 @@ impl Inbox {
         Ok((Inbox { queue, ports, room }, made))
     }
 
-    /// Puts a packet behind those that are there. The caller must pass a port of this inbox.
+    /// Puts a packet after those that are there. The caller must pass a port of this inbox.
     /// InboxFull, with the packet; then nothing has changed.
     pub fn put<R: Wait>(&self, rt: &R, port: &mut Port, packet: Packet) -> Result<(), PutFault>
         requires { IsPortOf self.now port.old }

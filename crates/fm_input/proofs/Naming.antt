@@ -34,7 +34,7 @@ module _ {X : Type 0} (p : X → Bool) where
   place_at_most (x ∷ xs) =
       elim (p x) as (λ b. cond (not b) (1 + position_or_len p xs) 0 ≤ suc (length xs)) [ true ↦ omega arith | false ↦ omega (arith, place_at_most xs) ]
 
-  -- the place, or behind all
+  -- the place, or after all
   pub unwrap_or-position : (xs : List X) → unwrap_or (position p xs) (length xs) ≡ position_or_len p xs
   unwrap_or-position xs =
       let most = place_at_most xs in

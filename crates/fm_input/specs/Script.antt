@@ -139,7 +139,7 @@ cut_of names d =
     given (range_of d) (λ range.
     when (not (is_named names name)) (act.Cut range)))
 
--- a delivery names a packet by its place among those before; if none has the name, the place is behind them all
+-- a delivery names a packet by its place among those before; if none has the name, the place is after them all
 abbrev pub delivery_of : List (List ℕ) → Data → Option Act
 delivery_of names d = option_map (λ name. act.Deliver (position_or_len (is_text name) names)) (as_str d)
 

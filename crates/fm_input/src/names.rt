@@ -48,7 +48,7 @@ impl Names {
         self.places.get_index_of(name)
     }
 
-    /// Adds the name behind the others, and answers whether it was new; one that is there stays where it is.
+    /// Adds the name after the others, and returns whether it was new; one that is there stays where it is.
     /// If memory runs out, nothing has changed.
     pub fn add(&mut self, name: &str) -> Result<bool, OutOfMemory>
         ensures new { IfOk result (λ new. new ≡ not (is_named self.old name.now)) }

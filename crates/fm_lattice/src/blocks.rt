@@ -14,7 +14,7 @@ use std::cmp::Ordering;
 // A block of so many pairs is cut before it takes one more.
 pub(crate) const FULL: usize = 64;
 
-// A spare block has room for so many pairs at least: a last pair, and a key behind it.
+// A spare block has room for so many pairs at least: a last pair, and a key after it.
 pub(crate) const LEAST: usize = 2;
 
 // Whether the key comes after all that stand there.
@@ -75,7 +75,7 @@ pub(crate) fn value_in<'a, K: Chain, V>(pairs: &'a [(K, V)], key: &K) -> Option<
     }
 }
 
-// Lets the map have the key's block alone, asks there for room for so many pairs more, and answers where the block is.
+// Lets the map have the key's block alone, asks there for room for so many pairs more, and returns where the block is.
 // O(log n), and a copy of the block's pairs if it was shared. If memory runs out, the pairs are unchanged.
 pub(crate) fn own_block<K: Chain, V: Join>(
     blocks: &mut Vec<(K, Block<K, V>)>,
@@ -106,7 +106,7 @@ fn own<K: Chain, V: Join>(block: &mut (K, Block<K, V>), more: usize) -> Result<(
     block.1.own_for(more)
 }
 
-// Makes room in the key's block, which is cut if it is full, and answers where the block is.
+// Makes room in the key's block, which is cut if it is full, and returns where the block is.
 // If memory runs out, the pairs are unchanged.
 pub(crate) fn make_room<K: Chain, V: Join>(
     blocks: &mut Vec<(K, Block<K, V>)>,

@@ -75,7 +75,7 @@ impl<K: Chain, V: Join> JoinMap<K, V> {
         Pairs::of(&self.blocks)
     }
 
-    /// Joins the value in at the key. O(log n), and the moves within a block of bounded length; O(1) behind the last
+    /// Joins the value in at the key. O(log n), and the moves within a block of bounded length; O(1) after the last
     /// key. If memory runs out, the map is unchanged.
     pub fn put(&mut self, key: K, value: V) -> Result<(), OutOfMemory>
         ensures ok { OnOk result (self.new ≡ put K.cmp V.join key value self.old) }
@@ -103,7 +103,7 @@ impl<K: Chain, V: Join> JoinMap<K, V> {
     /// empty map gets the other's blocks, by a pointer each if they are shared. In place it asks for each of the m
     /// pairs, for room for two more for each new key, for a copy of each shared block that one of the keys goes to, and
     /// for a block of 64 pairs for each that may be cut: at most one for each 32 new keys that a block does not hold,
-    /// and for each 63 behind the last key. If memory runs out, the map is unchanged.
+    /// and for each 63 after the last key. If memory runs out, the map is unchanged.
     pub fn join_into(&mut self, other: &JoinMap<K, V>) -> Result<(), OutOfMemory>
         ensures ok { OnOk result (self.new ≡ map_join K.cmp V.join self.old other.now) }
         ensures by_key { OnOk result (JoinsByKey K.cmp V.join self.old other.now self.new) }

@@ -259,7 +259,7 @@ fn change_in<K: Chain, V: Join>(
     }
 }
 
-// Makes each change, and answers how many pairs there are more. There is room for all, so nothing can fail.
+// Makes each change, and returns how many pairs there are more. There is room for all, so nothing can fail.
 // O(m log n) and the moves within blocks.
 pub(crate) fn apply<K: Chain, V: Drop>(
     blocks: &mut Vec<(K, Block<K, V>)>,

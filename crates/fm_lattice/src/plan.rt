@@ -110,7 +110,7 @@ fn plan_aside<K: Chain, V: Join>(
     })
 }
 
-// Carries the plan out, and answers how many pairs there are then.
+// Carries the plan out, and returns how many pairs there are then.
 pub(crate) fn carry_out<K: Chain, V: Drop>(
     blocks: &mut Vec<(K, Block<K, V>)>,
     len: usize,

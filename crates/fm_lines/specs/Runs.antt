@@ -17,7 +17,7 @@ IsUnread line text = (text ≡ refused OutOfMemory) ⊎ ((most_bytes < length li
 abbrev pub IsTaken : {D : Type 0} → (D → List ℕ → List ℕ → D → Type 0) → D → List ℕ → List ℕ → D → Type 0
 IsTaken Answers old line text new = (IsUnread line text × (new ≡ old)) ⊎ Answers old line text new
 
--- lines in turn: their answers one behind another, each by what those before it left
+-- lines in turn: their answers one after another, each by what those before it left
 abbrev pub Run : {D : Type 0} → (D → List ℕ → List ℕ → D → Type 0) → D → List (List ℕ) → List ℕ → D → Type 0
 Run Answers old [] text new = (text ≡ []) × (new ≡ old)
 Run {D} Answers old (line ∷ lines) text new =

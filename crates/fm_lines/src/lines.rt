@@ -27,7 +27,7 @@ pub enum Line {
 pub enum Next {
     /// A line and its line feed.
     Line(Line),
-    /// Bytes behind the last line feed, and then the end.
+    /// Bytes after the last line feed, and then the end.
     Last(Line),
     /// The end.
     End,

@@ -51,7 +51,7 @@ pub record IsArc (net : Net) (from to : Node) (arc : ℕ × ℕ) : Type 0 where
   pub capacity_fits : arc.0 < 2 ^ 64
   pub cost_within : arc.1 ≤ 1000000000
 
--- the networks that can be
+-- the possible networks
 pub record CanBeNet (net : Net) : Type 0 where
   pub has_sink : IsTrue (has_node net Sink)
   pub nodes_rise : Rises node_cmp net.nodes

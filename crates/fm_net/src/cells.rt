@@ -78,7 +78,7 @@ impl<K: Ord + Copy, V: Copy> Cells<K, V> {
         Ok(value_of(former))
     }
 
-    /// Takes the pair at the key out, and answers its value, if it was there. O(log n).
+    /// Takes the pair at the key out, and returns its value, if it was there. O(log n).
     pub(crate) fn remove(&mut self, key: &K) -> Option<V>
         ensures without { self.new ≡ remove_entry (is_at (K.cmp key.now)) self.old }
         ensures stood { result ≡ lookup K.cmp key.now self.old }

@@ -23,7 +23,7 @@ pub fn law_network_of_sets()
     ensures { (S : List Op) (net : Net) → (IsNetworkOfSet S net ↔ (net ≡ net_of (know S))) }
 {}
 
-/// The network of a table that can be, of fewer than 2^64 tasks, is a network that can be.
+/// The network of a possible table, of fewer than 2^64 tasks, is a possible network.
 pub fn law_can_be_net()
     ensures { (k : Table) → CanBe k → length k.tasks < 2 ^ 64 → CanBeNet (net_of k) }
 {}

@@ -55,7 +55,7 @@ impl Network {
         let _ = &self.nodes;
     }
 
-    /// Puts a node, and tells whether it is new. The caller must pass a request of at most 1,000,000.
+    /// Puts a node, and returns whether it is new. The caller must pass a request of at most 1,000,000.
     /// If memory runs out, the network is unchanged. O(log n).
     pub fn put_node(&mut self, node: Node) -> Result<bool, OutOfMemory>
         requires { IsRequestInRange node }
@@ -70,7 +70,7 @@ impl Network {
         Ok(stood.is_none())
     }
 
-    /// Drops a node, and tells whether it was there. The caller must ensure that it is not the sink and that no arc
+    /// Drops a node, and returns whether it was there. The caller must ensure that it is not the sink and that no arc
     /// touches it. O(log n).
     pub fn drop_node(&mut self, node: &Node) -> bool
         requires not_sink { ¬ (node.now ≡ NodeName.Sink) }
@@ -107,7 +107,7 @@ impl Network {
         Ok(self.arcs.put((from, to), (capacity, cost))?)
     }
 
-    /// Drops an arc, and answers its capacity and cost, if it was there. O(log n).
+    /// Drops an arc, and returns its capacity and cost, if it was there. O(log n).
     pub fn drop_arc(&mut self, from: Node, to: Node) -> Option<(u64, u32)>
         ensures without { self.new ≡ without_arc from to self.old }
         ensures stood { result ≡ arc_at self.old from to }

@@ -1,4 +1,4 @@
-//! Pairs by rising key: packed one behind another while they come in order, and in cells once they are edited.
+//! Pairs by rising key: packed one after another while they come in order, and in cells once they are edited.
 
 ghost use Rattle.std.specs.Prelude.{◌≡◌, ◌<◌, ◌^◌, ◌&&◌, [], length, is_some, IfOk, OnOk, OnErr};
 ghost use Rattle.std.specs.Iterator.{YieldsFirst, item_count};
@@ -72,7 +72,7 @@ impl<K: Chain, V: Copy> Ordered<K, V> {
     }
 
     /// Puts the value at the key in place of an existing one, and returns the old one. If memory runs out,
-    /// the pairs are unchanged. Amortised O(1) behind the last key of packed pairs, O(n log n) once, when they move
+    /// the pairs are unchanged. Amortised O(1) after the last key of packed pairs, O(n log n) once, when they move
     /// into cells, and O(log n) else.
     pub(crate) fn put(&mut self, key: K, value: V) -> Result<Option<V>, OutOfMemory>
         ensures ok { OnOk result (self.new ≡ put K.cmp replaced key value self.old) }
@@ -88,7 +88,7 @@ impl<K: Chain, V: Copy> Ordered<K, V> {
         }
     }
 
-    /// Takes the pair at the key out, and answers its value, if it was there. Many packed pairs move into cells first,
+    /// Takes the pair at the key out, and returns its value, if it was there. Many packed pairs move into cells first,
     /// O(n log n) once; if that runs out of memory, those behind the key move instead. O(log n) else.
     pub(crate) fn remove(&mut self, key: &K) -> Option<V>
         ensures without { self.new ≡ remove_entry (is_at (K.cmp key.now)) self.old }

@@ -20,7 +20,7 @@ use std::alloc::Global;
 /// Within an aggregator of a request the i-th task by id that has a unit to it goes to the i-th machine by id, where a
 /// machine stands as often as there are units to it, at the machine's present incarnation; a held task that has a unit
 /// to its job is preempted at its present attempt. Both in the order of the tasks' ids. A walk over the arcs, and O(log
-/// n) for each unit, but for those of tasks that stay where they are held.
+/// n) for each unit, except those of tasks that stay where they are held.
 pub fn plan(
     alloc: Global,
     network: &Network,
@@ -37,7 +37,7 @@ pub fn plan(
 }
 
 // The arcs that the plan rests on, with their units. Those of an arc are looked for first where they lie in a flow of
-// just the network's arcs.
+// exactly the network's arcs.
 fn asked(
     alloc: Global,
     network: &Network,

@@ -113,7 +113,7 @@ impl Queues {
         Ok(queues)
     }
 
-    // Adds the machine of a seat behind those of its request.
+    // Adds the machine of a seat after those of its request.
     fn add(&mut self, alloc: Global, seat: &Seat) -> Result<(), OutOfMemory>
         ensures { OnOk result ((r : ℕ) → queue_of self.new r ≡ queue_of self.old r ++ option_to_list (when (seat.now.request == r) seat.now.machine)) }
     {

@@ -8,7 +8,7 @@ use std::io::Write;
 
 /// What takes bytes, and has them go out. `Over` makes one of any writer.
 pub trait Sink: Out {
-    /// Has all that was taken go out, and answers whether it did. False is a failure.
+    /// Has all that was taken go out, and returns whether it did. False is a failure.
     fn flush(&mut self) -> bool
         ensures keeps { Keeps (Self.written self.old) (Self.written self.new) }
         ensures fails { Self.has_failed self.new ≡ (Self.has_failed self.old || not result) };

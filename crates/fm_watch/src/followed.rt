@@ -79,7 +79,7 @@ pub(crate) struct Taken {
     pub(crate) keys: Vec<Key>,
 }
 
-// Has the Editor follow what is known, and answers the edits and the keys.
+// Has the Editor follow what is known, and returns the edits and the keys.
 fn follow(
     alloc: Global,
     editor: &mut Editor,

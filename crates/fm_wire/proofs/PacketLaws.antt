@@ -215,7 +215,7 @@ same_listed p q is_p is_q e =
     let groups = one_grouping p.value.proposals q.value.proposals is_p.value.table.proposals is_q.value.table.proposals (ap (λ (w : Listed). w.entries) e) in
     λ i. record { sender = (e i).sender; number = (e i).number; value = record { jobs = (e i).jobs; tasks = (e i).tasks; machines = (e i).machines; proposals = groups i } }
 
--- what begins with a packet's bytes and is a packet's bytes is that packet's, in that version, and has nothing behind
+-- what begins with a packet's bytes and is a packet's bytes is that packet's, in that version, and has nothing after
 -- them
 pub begins : (v w : Version) (p q : Packet) (rest : List ℕ) → IsPacket p → IsPacket q → CanSpell v p → CanSpell w q → spelling_in v p ++ rest ≡ spelling_in w q → (v ≡ w) × (p ≡ q) × (rest ≡ [])
 begins v w p q rest is_p is_q can_p can_q e =

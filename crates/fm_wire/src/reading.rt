@@ -77,7 +77,7 @@ fn body_at(alloc: Global, version: Version, bytes: &[u8]) -> Result<Packet, Read
     })
 }
 
-// Goes over the packet at the front without memory, and answers the bytes after it.
+// Goes over the packet at the front without memory, and returns the bytes after it.
 fn rest_of_packet(bytes: &[u8]) -> Result<&[u8], usize>
     ensures { Gives (λ rest. rest.now) result (rest_of (packet.read bytes.now)) }
 {

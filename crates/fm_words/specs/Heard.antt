@@ -48,7 +48,7 @@ shown (long name None) = if bytes_eq (codes "help") name then help else wrong
 shown (short c) = if 104 == c then help else wrong
 shown _ = wrong
 
--- behind the last argument there is nothing more, or `--` alone
+-- after the last argument there is nothing more, or `--` alone
 abbrev pub ends_at : Look → Telling → List Text → Telling
 ends_at dashes t [] = t
 ends_at dashes t (w ∷ rest) = wrong

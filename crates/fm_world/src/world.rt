@@ -115,7 +115,7 @@ impl<N: NetKeeper> World<N> {
         }
     }
 
-    /// Takes a step, and answers the view of a View.
+    /// Takes a step, and returns the view of a View.
     /// NoCoordinator, NoPacket, then as the coordinator's call: BadOp, BadInterval, Trimmed, HistoryFull, OutOfMemory.
     /// After a refusal nothing has changed, except a network that is fresh or stale.
     pub fn step(&mut self, step: &Step) -> Result<Option<View>, Refusal>
