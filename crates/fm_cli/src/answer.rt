@@ -105,7 +105,7 @@ fn reply(alloc: Global, world: &mut World<Keeper>, query: Option<Query>) -> Resu
     }
 }
 
-// How a run ends that is answered.
+// How a run with an answer ends.
 fn ending_of(differs: bool) -> Ending
     ensures { result ≡ cond differs ending.Differ ending.Done }
 {
@@ -116,7 +116,7 @@ fn ending_of(differs: bool) -> Ending
     }
 }
 
-// The query that the command comes to: none if no packet has the name. NoCoordinator if the one that is asked is not
+// The query of the command: none if no packet has the name. NoCoordinator if the coordinator that is asked is not
 // listed.
 fn query_of(command: Command, script: &Script) -> Result<Option<Query>, Fault>
     ensures { result ≡ query_of (asked_of command.entry) script.now.coordinators.items script.now.names }

@@ -21,7 +21,7 @@ use fm_world::step::{Act as WorldAct, Step as WorldStep};
 use fm_world::world::World;
 use std::alloc::Global;
 
-/// The world that the script's steps come to. A step that is refused is named: by NoCoordinator if its coordinator is
+/// The world after the script's steps. A step that is refused is named: by NoCoordinator if its coordinator is
 /// not listed, by NoPacket if no packet of the name was cut, else as the coordinator's call, and a round also if
 /// memory runs out for its plan. Else it is refused only if memory runs out. The caller must ensure that no two
 /// coordinators have one number.
@@ -71,7 +71,7 @@ fn take(alloc: Global, world: &mut World<Keeper>, at: u8, act: Act) -> Result<()
     }
 }
 
-// A round: what the coordinator sees is planned for, and the plan is committed.
+// A round: a view, its plan, and the commit of the plan.
 fn round(alloc: Global, world: &mut World<Keeper>, at: u8) -> Result<(), Refusal>
     ensures ok { Makes result world.old world.new (λ w v. Acts w at script_act.Round v) }
     ensures err { Fails result world.old (λ w refusal. Refuses w at script_act.Round refusal) }

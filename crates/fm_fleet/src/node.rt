@@ -114,10 +114,10 @@ fn seat_all<L: NodeName>(alloc: Global, seats: &mut Vec<Seat<L>>, all: &mut Shar
 }
 
 impl<N: NetKeeper, L: NodeName> Node<N, L> {
-    /// Any call, as the coordinator's `call` by the seat's number, with the lock held for that call alone. The seat's
-    /// list grows by one place, and what goes into it is shared with what the coordinator gets, before the lock is
-    /// asked for, so nothing can fail after it. The coordinator has at least as many entries before it as there were
-    /// at the node's start and are in the seat's list. What that refuses, and OutOfMemory; then the seat is unchanged.
+    /// Any call, as the coordinator's `call` by the seat's number, with the lock held for that call alone. Memory for
+    /// the seat's list is reserved, and its copy of the call is shared, before the lock is taken, so nothing can fail
+    /// afterwards. The coordinator has at least as many entries before it as there were at the node's start and are
+    /// in the seat's list. Refused as that call, and with OutOfMemory; then the seat is unchanged.
     pub fn call<R: Wait>(
         &self,
         rt: &R,
@@ -148,8 +148,8 @@ impl<N: NetKeeper, L: NodeName> Node<N, L> {
         Ok(answer)
     }
 
-    /// Takes an operation in, as the coordinator's `tell`.
-    /// What that refuses, and OutOfMemory; then the seat is unchanged.
+    /// Tells an operation, as the coordinator's `tell`. Refused as that, and with OutOfMemory; then the seat is
+    /// unchanged.
     pub fn tell<R: Wait>(&self, rt: &R, seat: &mut Seat<L>, op: Op) -> Result<(), Refusal>
         ensures ok { OnOk result (seat.new ≡ called seat.old (Call.Tell op) Reply.Nothing) }
         ensures cause { IfErr result (λ refusal. MayRefuse (Call.Tell op) refusal) }
@@ -158,8 +158,8 @@ impl<N: NetKeeper, L: NodeName> Node<N, L> {
         self.done(rt, seat, Call::Tell(op))
     }
 
-    /// Takes a packet's value in, as the coordinator's `merge`.
-    /// What that refuses, and OutOfMemory; then the seat is unchanged.
+    /// Merges a packet's value, as the coordinator's `merge`. Refused as that, and with OutOfMemory; then the seat is
+    /// unchanged.
     pub fn merge<R: Wait>(&self, rt: &R, seat: &mut Seat<L>, packet: Packet) -> Result<(), Refusal>
         ensures ok { OnOk result (seat.new ≡ called seat.old (Call.Merge packet) Reply.Nothing) }
         ensures cause { IfErr result (λ refusal. MayRefuse (Call.Merge packet) refusal) }
@@ -168,8 +168,7 @@ impl<N: NetKeeper, L: NodeName> Node<N, L> {
         self.done(rt, seat, Call::Merge(packet))
     }
 
-    /// Cuts a packet, as the coordinator's `cut`.
-    /// What that refuses, and OutOfMemory; then the seat is unchanged.
+    /// Cuts a packet, as the coordinator's `cut`. Refused as that, and with OutOfMemory; then the seat is unchanged.
     pub fn cut<R: Wait>(
         &self,
         rt: &R,
@@ -187,8 +186,8 @@ impl<N: NetKeeper, L: NodeName> Node<N, L> {
         }
     }
 
-    /// Lets the deltas below n go, as the coordinator's `trim`.
-    /// What that refuses, and OutOfMemory; then the seat is unchanged.
+    /// Drops the deltas below n, as the coordinator's `trim`. Refused as that, and with OutOfMemory; then the seat is
+    /// unchanged.
     pub fn trim<R: Wait>(&self, rt: &R, seat: &mut Seat<L>, n: u64) -> Result<(), Refusal>
         ensures ok { OnOk result (seat.new ≡ called seat.old (Call.Trim n) Reply.Nothing) }
         ensures cause { IfErr result (λ refusal. MayRefuse (Call.Trim n) refusal) }
@@ -198,7 +197,7 @@ impl<N: NetKeeper, L: NodeName> Node<N, L> {
     }
 
     /// What is known, as the coordinator's `view`. There are at least as many entries before it as there were at the
-    /// node's start and are in the seat's list, and the network is that of the knowledge. What that refuses, and
+    /// node's start and are in the seat's list, and the network is that of the knowledge. Refused as that, and with
     /// OutOfMemory; then the seat is unchanged.
     pub fn view<R: Wait>(&self, rt: &R, seat: &mut Seat<L>) -> Result<View, Refusal>
         ensures ok { IfOk result (λ view. seat.new ≡ called seat.old Call.View (Reply.Seen view.at view.knowledge)) }
@@ -214,8 +213,8 @@ impl<N: NetKeeper, L: NodeName> Node<N, L> {
         }
     }
 
-    /// Admits a plan and takes in what it comes to, as the coordinator's `commit`.
-    /// What that refuses, and OutOfMemory; then the seat is unchanged.
+    /// Admits a plan and merges what is admitted, as the coordinator's `commit`. Refused as that, and with
+    /// OutOfMemory; then the seat is unchanged.
     pub fn commit<R: Wait>(
         &self,
         rt: &R,
@@ -233,7 +232,7 @@ impl<N: NetKeeper, L: NodeName> Node<N, L> {
         }
     }
 
-    // A call that is answered with nothing more than that it is done.
+    // A call that returns nothing.
     fn done<R: Wait>(&self, rt: &R, seat: &mut Seat<L>, call: Call) -> Result<(), Refusal>
         requires { IsDone call }
         ensures ok { OnOk result (seat.new ≡ called seat.old call Reply.Nothing) }

@@ -1,4 +1,4 @@
-//! Rounds in threads: what is seen is planned for with the node unlocked, and the plan is committed.
+//! Rounds in threads: a view is planned for while the node is unlocked, and the plan is committed.
 ghost use Rattle.std.specs.Prelude.{◌≡◌, IfOk, IfErr};
 ghost use Rattle.fm_net.specs.Network.{net_of};
 ghost use Rattle.fm_round.specs.Schedules.{IsPlanOf};
@@ -20,7 +20,7 @@ pub trait Gate {
     fn hold(&mut self);
 }
 
-/// A gate that holds nothing up.
+/// A gate that does not wait.
 #[derive(Drop)]
 pub struct NoGate;
 
@@ -28,8 +28,8 @@ impl Gate for NoGate {
     fn hold(&mut self) {}
 }
 
-/// A view, the gate, a plan of a least flow of the network that was seen, and the commit of that plan, whose answer
-/// this is. OutOfMemory, HistoryFull; then the seat is unchanged, or has the view alone.
+/// A view, the gate, the plan of a least flow of the network that was seen, and the commit of that plan, whose answer
+/// is returned. OutOfMemory, HistoryFull; then the seat is unchanged, or has only the view.
 pub fn run_round<N: NetKeeper, L: NodeName, G: Gate, R: Wait>(
     rt: &R,
     alloc: Global,
@@ -55,7 +55,7 @@ pub fn run_round<N: NetKeeper, L: NodeName, G: Gate, R: Wait>(
 }
 
 /// The plan of a least flow of the network that was seen. The caller must ensure that the network is that of the
-/// knowledge, as in each view that is answered. OutOfMemory alone.
+/// knowledge, as in each view. Refused only if memory runs out.
 pub fn plan_for(alloc: Global, view: &View) -> Result<Plan, Refusal>
     requires { view.now.network ≡ net_of view.now.knowledge }
     ensures ok { IfOk result (λ plan. IsPlanOf view.now.knowledge plan) }

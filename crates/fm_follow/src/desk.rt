@@ -33,7 +33,7 @@ use fm_world::world::World;
 use std::alloc::Global;
 
 /// Coordinators, the packets that they cut under a name, and for each number of a coordinator how many of its deltas
-/// went out as news.
+/// were sent as news.
 #[derive(Drop)]
 pub(crate) struct Desk {
     pub(crate) alloc: Global,
@@ -43,7 +43,7 @@ pub(crate) struct Desk {
 }
 
 impl Desk {
-    /// The coordinators of the world, of which nothing went out.
+    /// The coordinators of the world, of which nothing was sent.
     pub(crate) fn new(alloc: Global, world: World<Keeper>) -> Desk
         ensures { (w : WorldOfSets) → WorldStandsFor world w → DeskAt result (fresh w) }
     {
@@ -108,7 +108,7 @@ impl Desk {
         }
     }
 
-    // A step of the world, of which there is nothing to tell.
+    // A step of the world, without a text.
     fn step(&mut self, at: u8, act: WorldAct) -> Result<Vec<u8>, Refusal>
         ensures ok { (k : Following) → DeskAt self.old k → IfOk result (λ text. (text.items ≡ [])
             × ((v : WorldOfSets) × Takes k.world (step_at at act) v × DeskAt self.new (at_world k v))) }
@@ -166,7 +166,7 @@ impl Desk {
         Ok(text)
     }
 
-    // A cut of the deltas that did not go out as news, or of all that is known if some of these were trimmed.
+    // A cut of the deltas that were not sent as news, or of all that is known if some of these were trimmed.
     fn news(&mut self, at: u8) -> Result<Vec<u8>, Refusal>
         ensures ok { Goes result self.old self.new (asked.News at) }
         ensures err { Stops result self.old (asked.News at) }
@@ -183,7 +183,7 @@ impl Desk {
         Ok(text)
     }
 
-    // Takes in the packet that the digits spell.
+    // Merges the packet that the digits encode.
     fn take_in(&mut self, at: u8, digits: &str) -> Result<Vec<u8>, Refusal>
         ensures ok { Goes result self.old self.new (asked.Takes at digits.now) }
         ensures err { Stops result self.old (asked.Takes at digits.now) }

@@ -67,8 +67,8 @@ pub struct InboxKept {
 }
 
 impl Inbox {
-    /// An inbox for so many packets at a time, and its ports, of which there is at least one, as there is room for at
-    /// least one packet. The room that closing takes is reserved. OutOfMemory.
+    /// An inbox for a number of packets at a time, at least one, and a number of ports, at least one. The memory for
+    /// closing it is reserved. OutOfMemory.
     pub fn new(alloc: Global, ports: u32, size: usize) -> Result<(Inbox, Vec<Port>), Refusal>
         requires { (0 < ports) × (0 < size) }
         ensures inbox { IfOk result (λ r. (r.0.ports ≡ ports) × (r.0.size ≡ size)) }
@@ -124,8 +124,8 @@ impl Inbox {
         }
     }
 
-    /// Ends an inbox with all its ports, and gives the packets that are left. Each packet was put as often as it was
-    /// taken or is left. The caller must pass ports of this inbox. It allocates nothing. NotMine(0) if a port is
+    /// Closes an inbox with all its ports, and returns the packets that are left. Each packet was put as often as it
+    /// was taken or is left. The caller must pass ports of this inbox. It allocates nothing. NotMine(0) if a port is
     /// missing, with all that was passed.
     pub fn close<R: Wait>(self, rt: &R, ports: Vec<Port>) -> Result<Vec<Packet>, InboxKept>
         requires { All (IsPortOf self) ports.items }

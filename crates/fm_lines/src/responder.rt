@@ -1,4 +1,4 @@
-//! Who answers lines.
+//! Responders, which answer lines.
 
 ghost use Rattle.std.specs.Prelude.{◌≡◌, ℕ, List, MatchResult};
 ghost use Rattle.fm_lines.specs.Replies.{accepted, refused};
@@ -10,7 +10,7 @@ pub trait Responder {
     /// How a line is answered in a state of the responder, and its next state.
     ghost answers: { Self → List ℕ → List ℕ → Self → Type 0 };
 
-    /// The text that the line comes to. A line that is refused changes nothing.
+    /// The text of the line's answer. A refused line changes nothing.
     fn answer(&mut self, line: &[u8]) -> Result<Vec<u8>, Refusal>
         ensures { MatchResult result (λ text. answers self.old line.now (accepted text.items) self.new)
             (λ refusal. answers self.old line.now (refused refusal) self.new × (self.new ≡ self.old)) };

@@ -16,8 +16,8 @@ use std::alloc::{AllocError, Global};
 use std::marker::Model;
 
 /// A network: a set of nodes with the sink, and at most one arc from one of them to another, with a capacity and a
-/// cost. While nodes and arcs are put in their order they lie packed, and a put is O(1) amortised; the first put or
-/// drop elsewhere moves them, in O(n log n), once.
+/// cost. As long as nodes and arcs are put in order, they are packed in an array, and a put is O(1) amortised. The
+/// first put or drop elsewhere moves them, in O(n log n), once.
 #[derive(Debug, Drop)]
 pub struct Network {
     nodes: Ordered<Node, ()>,

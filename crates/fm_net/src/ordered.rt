@@ -148,7 +148,7 @@ impl<K: Chain, V: Copy> Ordered<K, V> {
         }
     }
 
-    // Moves packed pairs into cells. If memory runs out, they lie as they lay. O(n log n).
+    // Moves packed pairs into cells. If memory runs out, they stay packed. O(n log n).
     fn scatter(&mut self) -> Result<(), OutOfMemory>
         ensures { self.new ≡ self.old }
     {

@@ -1,4 +1,4 @@
-//! The keys of deltas that were taken in and are not followed yet.
+//! The keys of deltas that the network does not include yet.
 
 ghost use Rattle.std.specs.Prelude.{◌≡◌, ◌||◌, IfOk, OnOk, true};
 ghost use Rattle.std.specs.Ordering.{is_eq};

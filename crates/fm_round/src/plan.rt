@@ -1,4 +1,4 @@
-//! The plan of a schedule: what the flow of a knowledge's network comes to.
+//! The plan of a flow of a knowledge's network.
 
 ghost use Rattle.std.specs.Prelude.{◌≡◌, ◌∷◌, ◌++◌, [], cond, filter, IfOk, OnOk};
 ghost use Rattle.fm_net.specs.Network.{net_of};

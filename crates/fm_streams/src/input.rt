@@ -1,4 +1,4 @@
-//! A whole input.
+//! A complete input.
 
 ghost use Rattle.std.specs.Prelude.{◌≡◌, ◌≤◌, IfOk, IfErr, IfSome, OnOk, vec_len};
 ghost use Rattle.fm_streams.specs.Sources.{IsUnread};
