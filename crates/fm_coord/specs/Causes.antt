@@ -10,7 +10,7 @@ use Rattle.fm_coord.specs.declared.entry.Call.{Call}
 use Rattle.fm_coord.specs.declared.entry.Call.TheVariants as call
 use Rattle.fm_coord.specs.Events.{Replica}
 
--- what refusals turn on: how many entries the history may have and has, the floor, and how many deltas there were
+-- what refusals depend on: how many entries the history may have and has, the floor, and how many deltas there were
 pub record Bounds : Type 0 where
   pub limit : ℕ
   pub entries : ℕ

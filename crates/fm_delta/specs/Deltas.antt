@@ -14,7 +14,7 @@ pub record Deltas : Type 0 where
   pub floor : ℕ
   pub kept : List Table
 
--- a buffer: its deltas, and how many more can be pushed without asking for memory
+-- a buffer: its deltas, and how many more can be pushed without allocating
 pub record WithRoom : Type 0 where
   pub deltas : Deltas
   pub room : ℕ

@@ -74,7 +74,7 @@ fn is_log(made: &[Entry], seat: u32, log: &[Entry]) -> bool
     rest.is_empty()
 }
 
-// What of a log is left after an entry, if the log goes on with it if it is the seat's.
+// What is left of a log after an entry. If the entry is the seat's, the log must go on with it.
 fn rest_after<'a>(seat: u32, entry: &Entry, log: &'a [Entry]) -> Option<&'a [Entry]>
     ensures { MatchOption result ((es : List Listed) → ¬ (of_seat seat (entry.now ∷ es) ≡ log.now)) (λ left. (es : List Listed) → (of_seat seat (entry.now ∷ es) ≡ log.now) ↔ (of_seat seat es ≡ left.now)) }
 {

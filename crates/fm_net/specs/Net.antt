@@ -1,5 +1,4 @@
--- A network as its nodes and arcs, and what a change makes of it. Firmament, Quincy; the limits are this project's
--- profile.
+-- A network as its nodes and arcs, and how changes affect it. Firmament, Quincy; the limits are this project's profile.
 use Rattle.std.specs.Prelude.{◌≡◌, ℕ, ◌<◌, ◌≤◌, ◌^◌, ◌⊎◌, Bool, cond, List, [], ◌∷◌, Option, Some, IsTrue, IsSome}
 use Rattle.std.specs.List.{list_any}
 use Rattle.std.specs.Ordering.{is_eq}
@@ -19,7 +18,7 @@ pub record Net : Type 0 where
 abbrev pub has_node : Net → Node → Bool
 has_node net n = list_any (λ m. is_eq (node_cmp n m)) net.nodes
 
--- capacity and cost of the arc from one node to the other, if it stands
+-- capacity and cost of the arc from one node to the other, if there is one
 abbrev pub arc_at : Net → Node → Node → Option (ℕ × ℕ)
 arc_at net from to = lookup ends_cmp (from, to) net.arcs
 

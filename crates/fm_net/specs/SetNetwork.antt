@@ -1,4 +1,4 @@
--- The network of a set of operations, by the facts of the set: the rules of `Network.antt` with no table between. A law
+-- The network of a set of operations, by the facts of the set: the rules of `Network.antt` without a table. A law
 -- says that it is the network of the set's table.
 use Rattle.std.specs.Prelude.{◌≡◌, ℕ, ◌+◌, ◌-◌, Bool, true, cond, not, ◌==◌, ◌&&◌, List, Option, None, option_map, is_some, count_by, nat_le}
 use Rattle.std.specs.List.{list_any}

@@ -1,5 +1,5 @@
--- The facts of a set of operations: what is live, open and held, and what a machine has left, by the greatest that the
--- set tells (this project's profile, after Firmament's network-aware policy). No table stands between: a law says that
+-- The facts of a set of operations: what is live, open and held, and what a machine has left, by the greatest that
+-- the set tells (this project's profile, after Firmament's network-aware policy), without a table. A law says that
 -- these are the facts on the table of the set.
 use Rattle.std.specs.Prelude.{ℕ, ◌-◌, Bool, cond, not, nat_le, ◌==◌, ◌&&◌, List, Option, None, option_map, is_some, filter, max, sum_by}
 use Rattle.std.specs.List.{filter_map}

@@ -1,4 +1,4 @@
--- What one operation tells: of what, and the record (this project's profile).
+-- What one operation says: about what, and the record (this project's profile).
 use Rattle.std.specs.Prelude.{ℕ, is_none, Option, Some, None}
 use Rattle.fm_records.specs.declared.ops.Op.{Op}
 use Rattle.fm_records.specs.declared.ops.Op.TheVariants as op

@@ -1,5 +1,5 @@
--- What becomes of a plan: each entry is judged on what is known with the operations of the earlier accepted entries,
--- and the first rule that applies is its answer (this project's profile).
+-- Admission of a plan: each entry is decided on what is known with the operations of the earlier accepted entries, by
+-- the first rule that applies (this project's profile).
 use Rattle.std.specs.Prelude.{ℕ, ◌+◌, Bool, true, false, cond, not, nat_le, ◌==◌, ◌&&◌, ◌||◌, List, [], ◌∷◌, ◌++◌, length, zip}
 use Rattle.std.specs.List.{list_any}
 use Rattle.fm_records.specs.declared.ops.Phase.TheVariants.{Pending}
@@ -68,9 +68,9 @@ place_answer c k p =
     ((not (is_live k p.task) || not (is_open_at k p.machine p.incarnation), Gone)
     -- some machine holds the task
     ∷ (is_held k p.task, Held)
-    -- a next attempt is needed, and there is none
+    -- a next attempt is needed, and there is no greater number
     ∷ (has_proposal k p.task a && a == last_attempt, AttemptsSpent)
-    -- the operations would not leave the task held by the machine
+    -- after the operations the task would not be held by the machine
     ∷ (not (holds (told k (place_ops c k p)) p.machine p.task), Contested)
     -- the machine holds as many tasks as it has slots
     ∷ (is_full k p.machine, NoSlot)
@@ -90,7 +90,7 @@ preempt_answer k p =
     ((not (is_live k p.task) || not (is_held k p.task) || not (attempt_of k p.task == p.attempt), Gone)
     -- there is no next attempt
     ∷ (p.attempt == last_attempt, AttemptsSpent)
-    -- the proposals for the next attempt would leave the task held
+    -- because of proposals for the next attempt the task would still be held
     ∷ (is_held (told k (preempt_ops k p)) p.task, Contested)
     ∷ [])
 
@@ -111,7 +111,7 @@ one_entry answer ops = record { ops = cond (is_accepted answer) ops []; answers 
 abbrev pub followed : Admitted → Admitted → Admitted
 followed a b = record { ops = a.ops ++ b.ops; answers = a.answers ++ b.answers }
 
--- entries in turn, each judged on what is known with what the earlier ones added
+-- entries in turn, each decided on what is known with what the earlier ones added
 abbrev pub in_turn : {E : Type 0} → (Table → E → Answer) → (Table → E → List Op) → Table → List E → Admitted
 in_turn answer_to ops_of k [] = record { ops = []; answers = [] }
 in_turn answer_to ops_of k (e ∷ es) =
@@ -124,7 +124,7 @@ placed c = in_turn (place_answer c) (place_ops c)
 abbrev pub preempted : Table → List Preempt → Admitted
 preempted = in_turn preempt_answer preempt_ops
 
--- what a plan of coordinator c comes to: the places in turn, and then the preempts
+-- what is admitted of a plan of coordinator c: the places in turn, and then the preempts
 abbrev pub admitted : Table → ℕ → Plan → Admitted
 admitted k c plan =
     let first = placed c k plan.places in

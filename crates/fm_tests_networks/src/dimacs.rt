@@ -154,7 +154,7 @@ fn what_is_written_is_read(rt: HostRuntime) {
     assert_eq!(rt; sink_is_read(rt.alloc()), Ok((true, true)));
 }
 
-// If the text that waits is cut off behind so many lines, the next one is missing.
+// If the text that waits is cut off after so many lines, the next one is missing.
 #[test]
 fn a_text_cut_off_behind_each_byte(rt: HostRuntime) -> Result<(), Fail> {
     for end in 0..WAITING.len() {

@@ -20,7 +20,7 @@ pub record WorldOfSets : Type 0 where
   pub replicas : List Replica
   pub packets : List Sent
 
--- a world to which nothing happened, of replicas with these numbers and limits
+-- a world of unused replicas with these numbers and limits
 abbrev pub opening_world : List (ℕ × ℕ) → WorldOfSets
 opening_world cs = record { replicas = map (λ c. opening c.0 c.1) cs; packets = [] }
 
@@ -34,11 +34,11 @@ abbrev pub changed_at : ℕ → (Replica → Replica) → List Replica → List 
 changed_at n change [] = []
 changed_at n change (r ∷ rs) = cond (r.number == n) (change r ∷ rs) (r ∷ changed_at n change rs)
 
--- a packet that another world cut, as the operations that its value spells out
+-- a packet that another world cut, as the operations that its value is written out as
 abbrev pub spelled_out : Packet → Sent
 spelled_out p = record { sender = p.sender; number = p.number; set = ops p.value }
 
--- the event that an act comes to: a delivery is the merge of the packet that was cut as the i-th, counted from 0
+-- the event of an act: a delivery is the merge of the packet with number i, counted from 0 in the order of cuts
 abbrev pub event_asked : List Sent → Act → Option Event
 event_asked sent (act.Tell op) = Some (event.Tell op)
 event_asked sent (act.Cut range) = Some (event.Cut range)
