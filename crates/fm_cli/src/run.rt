@@ -21,9 +21,10 @@ use fm_world::step::Act as WorldAct;
 use fm_world::world::World;
 use std::alloc::Global;
 
-/// The world that the script's steps come to. A step that is refused is named: by NoCoordinator where its coordinator is not
-/// listed, by NoPacket where no packet of the name was cut, else as the coordinator's call, and a round also where memory is
-/// wanted for its plan. Else only memory is wanted. The caller owes that no two coordinators have one number.
+/// The world after the script's steps. A step that is refused is named: by NoCoordinator if its coordinator is
+/// not listed, by NoPacket if no packet of the name was cut, else as the coordinator's call, and a round also if
+/// memory runs out for its plan. Else it is refused only if memory runs out. The caller must ensure that no two
+/// coordinators have one number.
 pub fn run(alloc: Global, progress: &Progress, script: &Script) -> Result<World<Keeper>, Fault>
     requires { AreDistinct script.now.coordinators.items }
     ensures ok { IfOk result (λ world. IsRun script.now.coordinators.items script.now.steps.items world) }
@@ -70,7 +71,7 @@ fn take(alloc: Global, world: &mut World<Keeper>, at: u8, act: Act) -> Result<()
     }
 }
 
-// A round: what the coordinator sees is planned for, and the plan is committed.
+// A round: a view, its plan, and the commit of the plan.
 fn round(alloc: Global, world: &mut World<Keeper>, at: u8) -> Result<(), Refusal>
     ensures ok { Makes result world.old world.new (λ w v. Acts w at script_act.Round v) }
     ensures err { Fails result world.old (λ w refusal. Refuses w at script_act.Round refusal) }

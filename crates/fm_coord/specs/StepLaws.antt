@@ -23,7 +23,7 @@ use Rattle.fm_coord.specs.States.{State, bounds, took, gave, let_go, noted, aske
 some_none : {A : Type 0} {P : Type 0} (a : A) → Some a ≡ None → P
 some_none a e = absurd (let no : ⊥ = cc in no)
 
--- where there is no cause, nothing is wrong with the call, and there is room
+-- if there is no cause, nothing is wrong with the call, and there is room
 pub no_fault : {A : Type 0} (a b : Option A) → first_of a b ≡ None → a ≡ None
 no_fault None b h = refl
 no_fault (Some a) b h = some_none a h

@@ -82,7 +82,7 @@ fn comes_after(last: Option<(Node, Node)>, arc: &(Node, Node, u64, u32)) -> bool
     }
 }
 
-// The next arc and what stands behind its line, if its line comes next.
+// The next arc and what follows its line, if its line comes next.
 fn next_arc<'a>(
     nodes: &[Node],
     last: Option<(Node, Node)>,

@@ -41,8 +41,8 @@ pub(crate) fn one_of(draw: &mut Draw, count: u32) -> u32 {
     if count == 0 { 0 } else { draw.below(count) }
 }
 
-// What each task of a chain asks for, and what it saves at the first machine that it prefers: it costs 1 there, and 2 at
-// the second.
+// What each task of a chain asks for, and what it saves at the first machine that it prefers: it costs 1 there, and 2
+// at the second.
 const LINK: u32 = 1000;
 
 const CREDIT: u32 = LINK - 1;
@@ -79,8 +79,8 @@ impl Cluster {
         }
     }
 
-    /// A chain of so many machines of one slot, and one more behind them: a task of each prefers it and, a little less, the
-    /// next one, and one task more prefers the first two. So the least flow moves all tasks on but one.
+    /// A chain of so many machines of one slot, and one more after them: a task of each prefers it and, a little less,
+    /// the next one, and one task more prefers the first two. So the least flow moves all tasks on but one.
     pub(crate) fn chained(alloc: Global, machines: u32) -> Result<Cluster, Refusal> {
         let sizes = Sizes {
             jobs: 1,
@@ -266,8 +266,8 @@ impl Cluster {
         Ok(())
     }
 
-    /// Changes so many tasks: of three one is done, one is new, and one is proposed for a machine; for every sixth a machine
-    /// reports too.
+    /// Changes so many tasks: of three one is done, one is new, and one is proposed for a machine; for every sixth a
+    /// machine reports too.
     pub(crate) fn change(&mut self, draw: &mut Draw, count: u32) -> Result<(), Refusal> {
         for change in 0..count {
             let task = one_of(draw, self.tasks);

@@ -1,4 +1,4 @@
-//! Solving a network, anew and from earlier flows.
+//! Solving a network, from nothing and from earlier flows.
 
 ghost use Rattle.std.specs.Prelude.{◌≡◌, ◌<◌, ◌^◌, length, IfOk};
 ghost use Rattle.fm_net.specs.Network.{net_of};

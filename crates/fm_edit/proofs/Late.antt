@@ -1,4 +1,4 @@
--- What a keeper that follows late keeps, when a delta is taken in and when somebody looks.
+-- What a keeper that follows late keeps, when a delta is taken in and when the network is read.
 use Rattle.std.proofs.Common.{◌≡◌, ◌∙◌, Bool, true, false, Option, Some, None, refl, sym, ap, subst}
 use Rattle.std.specs.Prelude.{◌&&◌, IsTrue}
 use Rattle.fm_records.specs.Table.{Table}

@@ -191,7 +191,7 @@ module _ (k after : Table) (keys : Keys) (turned : List ℕ) (same : SameBeyond 
         (λ i. cond (passes (λ s. true) (live_same i)) (option_map (λ s. s.machine) (only_if (is_present after) (won_same i))) None)
         ∙ ap (λ o. cond (is_live k t) (option_map (λ s. s.machine) o) None) (present_same (won_spot k t) (clean t e).won)
 
-  -- the tasks that pass a test are the same where no dirty one passes it
+  -- the tasks that pass a test are the same if no dirty one passes it
   pub same_kept : (P Q : ℕ → Bool) → ((t : ℕ) → dirty t ≡ false → Q t ≡ P t) → ((t : ℕ) → dirty t ≡ true → (P t ≡ false) × (Q t ≡ false)) → filter (λ e. Q e.0) after.tasks ≡ filter (λ e. P e.0) k.tasks
   same_kept P Q alike none =
       same_map nat_cmp nat_cmp_total nat_same (filter (λ e. Q e.0) after.tasks) (filter (λ e. P e.0) k.tasks)

@@ -1,4 +1,4 @@
-//! A keeper that takes in keys alone, and edits or builds when somebody looks.
+//! A keeper that collects keys, and edits or builds when its network is read.
 
 ghost use Rattle.std.specs.Prelude.{◌≡◌, [], true, false, None, is_some, IsTrue, IfOk, OnOk, OnErr};
 ghost use Rattle.fm_records.specs.Know.{know};
@@ -21,8 +21,8 @@ use fm_policy::laws::{law_joined_keys, law_no_keys};
 use fm_policy::pending::Pending;
 use std::alloc::Global;
 
-// An edit for one record touches an arc for each size of request, as many as a machine has. As measured, an edit of one record costs
-// what building the arcs of some 30 machines costs.
+// An edit for one record touches an arc for each size of request, as many as a machine has. As measured, an edit of one
+// record costs what building the arcs of some 30 machines costs.
 const MACHINES_PER_RECORD: usize = 32;
 
 // Tasks that count as much as a machine: a machine has an arc for each size of request, a task two.
@@ -37,13 +37,13 @@ const WORTH: u64 = 8;
 // How many looks with few changes are waited for at most.
 const LONGEST_WAIT: u32 = 64;
 
-/// A keeper that takes in the keys of deltas alone, and makes its network that of what is known when somebody looks (deferred
-/// maintenance of a view): by one edit for all keys where few records changed, else by building. Whoever looks seldom, or tells
-/// much between two looks, pays for no edits; whoever looks often after few changes pays for these.
+/// A keeper that collects the keys of deltas, and updates its network when it is read (deferred incremental view
+/// maintenance): by one edit for all keys if few records changed, else by building. A caller that reads seldom, or
+/// tells much between two reads, pays for no edits. A caller that reads often after few changes pays for these.
 ///
-/// How many are few goes by the size of the cluster. An Editor, which remembers all records, is made at a look with few changes
-/// since the last one. It is forgotten once many changed; if it made few edits until then, the next one waits for twice as many
-/// such looks in a row.
+/// How many are few goes by the size of the cluster. An Editor, which remembers all records, is made at a look with few
+/// changes since the last one. It is forgotten once many changed; if it made few edits until then, the next one waits
+/// for twice as many such looks in a row.
 #[derive(Drop)]
 pub struct Deferred {
     editor: Option<Editor>,

@@ -23,8 +23,9 @@ use fm_records::prefer::Prefer;
 use std::alloc::Global;
 use std::collections::{BTreeMap, BTreeSet};
 
-/// The tasks by job, by their winner's machine, and, while they wait, by each machine that they prefer; and of each job how many live tasks it has, of each request how many
-/// wait for it, and of each machine the sum of the requests of the tasks that it holds, where these are not 0.
+/// The tasks by job, by their winner's machine, and, while they wait, by each machine that they prefer; and of each job
+/// how many live tasks it has, of each request how many wait for it, and of each machine the sum of the requests of the
+/// tasks that it holds, if these are not 0.
 #[derive(Drop)]
 pub(crate) struct Index {
     pub(crate) listed: BTreeSet<(Node, TaskId)>,

@@ -78,7 +78,7 @@ impl<'a> Model for KnowLook<'a> {
 }
 
 impl<'a> KnowLook<'a> {
-    /// Nothing is looked up yet. It takes no memory.
+    /// Nothing is looked up yet. It allocates nothing.
     pub fn new(alloc: Global, knowledge: &'a Knowledge) -> KnowLook<'a>
         ensures table { result.table ≡ knowledge.now }
         ensures keys { result.keys ≡ [] }

@@ -1,4 +1,4 @@
-//! What lies under a node's lock: the coordinator, with the book of the calls that seats made.
+//! What is under a node's lock: the coordinator, with the book of the calls that seats made.
 ghost use Rattle.std.specs.Prelude.{◌≡◌, ◌<◌, ◌≤◌, ◌+◌, length, IfOk, IfErr, OnOk, OnErr};
 ghost use Rattle.fm_coord.specs.Causes.{refusal_for};
 ghost use Rattle.fm_coord.specs.States.{bounds, entry, noted, after};
@@ -14,8 +14,8 @@ use fm_policy::keeper::NetKeeper;
 use fm_records::refusal::Refusal;
 use std::sync::ledger::{Book, Share};
 
-/// The coordinator and the book, which counts just the entries that came since the base. The share has no part; it is where
-/// the seats' shares are joined in the end.
+/// The coordinator and the book, which counts exactly the entries since the base. The share has no part; the seats'
+/// shares are joined into it at the end.
 #[derive(Drop)]
 pub struct Desk<N: NetKeeper, L: NodeName> {
     pub coordinator: Coordinator<N>,
@@ -27,8 +27,8 @@ pub struct Desk<N: NetKeeper, L: NodeName> {
 }
 
 impl<N: NetKeeper, L: NodeName> Desk<N, L> {
-    /// As the coordinator's `call`, and one event with it: an accepted call moves one unit into the book and into the seat's share,
-    /// a refused one moves nothing. The history has the calls that are counted in the share before it.
+    /// As the coordinator's `call`, and one event with it: an accepted call moves one unit into the book and into the
+    /// seat's share, a refused one moves nothing. The history has the calls that are counted in the share before it.
     pub fn call(&mut self, by: u32, call: Call, share: &mut Share<L>) -> Result<Answer, Refusal>
         requires { 0 < share.old.parts }
         ensures ok { IfOk result (λ answer. self.new.coordinator.state ≡ after self.old.coordinator.state (entry by call (said answer)) call) }

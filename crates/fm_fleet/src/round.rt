@@ -1,4 +1,4 @@
-//! Rounds in threads: what is seen is planned for with the node unlocked, and the plan is committed.
+//! Rounds in threads: a view is planned for while the node is unlocked, and the plan is committed.
 ghost use Rattle.std.specs.Prelude.{◌≡◌, IfOk, IfErr};
 ghost use Rattle.fm_net.specs.Network.{net_of};
 ghost use Rattle.fm_round.specs.Schedules.{IsPlanOf};
@@ -21,7 +21,7 @@ pub trait Gate {
     fn hold(&mut self);
 }
 
-/// A gate that holds nothing up.
+/// A gate that does not wait.
 #[derive(Drop)]
 pub struct NoGate;
 
@@ -29,9 +29,9 @@ impl Gate for NoGate {
     fn hold(&mut self) {}
 }
 
-/// What is known is seen, the gate is called, and a plan of a least flow of the network of what was seen is committed. Answers what
-/// the commit does. No network is built if `plan_of` can do without.
-/// OutOfMemory, HistoryFull; then the seat is as it was, or has the view alone.
+/// A look at what is known, the gate, and the commit of the plan of a least flow of the network of what was seen. The
+/// result is the commit's. The network is built only if a plan without it fails its check. OutOfMemory, HistoryFull; then
+/// the seat is unchanged, or has only the view.
 pub fn run_round<N: NetKeeper, L: NodeName, G: Gate, R: Wait>(
     rt: &R,
     alloc: Global,
@@ -53,9 +53,8 @@ pub fn run_round<N: NetKeeper, L: NodeName, G: Gate, R: Wait>(
     node.commit(rt, seat, plan)
 }
 
-/// The plan of a least flow of the network that was seen. The caller owes that the network is that of the knowledge, as in
-/// each view that is answered.
-/// OutOfMemory alone.
+/// The plan of a least flow of the network that was seen. The caller must ensure that the network is that of the
+/// knowledge, as in each view. Refused only if memory runs out.
 pub fn plan_for(alloc: Global, view: &View) -> Result<Plan, Refusal>
     requires { view.now.network ≡ net_of view.now.knowledge }
     ensures ok { IfOk result (λ plan. IsPlanOf view.now.knowledge plan) }

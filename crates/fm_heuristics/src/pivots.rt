@@ -1,4 +1,5 @@
-//! Pivots: a link that pays takes the place of one of the tree, until none pays.
+//! Pivots: a link of negative reduced cost enters the tree and another one leaves it, until there is none. Trees stay
+//! strongly feasible (Cunningham, 1976).
 
 ghost use Rattle.std.specs.Prelude.{◌≡◌, ◌<◌, ◌≤◌, vec_len, OnOk};
 
@@ -14,8 +15,8 @@ const PROBES: usize = 16;
 // The cycle that a link closes with the tree: units go over the link into the cycle's end, and on to where it begins.
 #[derive(Debug, Clone, Copy, PartialEq, Eq, Drop)]
 struct Cycle {
-    /// How many units go round, and the node whose link to its parent then has no more room, with whether it is on the side
-    /// of the end.
+    /// How many units go round, and the node whose link to its parent then has no more room, with whether it is on the
+    /// side of the end.
     units: u64,
     full: Option<(usize, bool)>,
     /// Where both ways to the root meet.
@@ -43,8 +44,8 @@ fn stuck(tree: &Tree, begin: usize, end: usize) -> Result<Option<usize>, Stop>
     Ok(None)
 }
 
-// The cycle that a link with so much room closes. Of links that fill up at once, the last one on the way round from the join
-// goes, so that no pivot comes back.
+// The cycle that a link with so much room closes. Of links that fill up at once, the last one on the way round from the
+// join goes, so that no pivot comes back.
 fn cycle_of(tree: &Tree, begin: usize, end: usize, most: u64) -> Result<Cycle, Stop>
     requires begin { begin < vec_len tree.now.knots }
     requires end { end < vec_len tree.now.knots }
@@ -122,7 +123,7 @@ fn pivot_on(tree: &mut Tree, number: usize) -> Result<(), Stop> {
     pivot(tree, number)
 }
 
-// Leaves units of a node to the jobs of its tasks, as many as there are links for, and answers how many.
+// Leaves units of a node to the jobs of its tasks, as many as there are links for, and returns how many.
 fn leave(tree: &mut Tree, around: &[usize], units: u64) -> u64 {
     let mut rest = units;
     'links: for number in around {
@@ -146,8 +147,8 @@ pub(crate) struct Pivots {
 }
 
 impl Pivots {
-    /// The first tree of the contracted network, and its first pivots: each node takes the best link out of it, lone tasks
-    /// before the others.
+    /// The first tree of the contracted network, and its first pivots: each node takes the best link out of it, lone
+    /// tasks before the others.
     pub(crate) fn new(alloc: Global, contracted: Contracted) -> Result<Self, Stop> {
         let own = contracted.own;
         let mut tree = Tree::of(alloc, contracted)?;
@@ -171,9 +172,9 @@ impl Pivots {
         Ok(())
     }
 
-    /// The tree, once the tasks whose units still go over artificial links, from this number on, are left to their jobs. If no
-    /// link pays there are none; if there are some, they are of the node's own tasks, since a way over such a link is dearer
-    /// than any other.
+    /// The tree, once the tasks whose units still go over artificial links, from this number on, are left to their
+    /// jobs. If no link pays there are none; if there are some, they are of the node's own tasks, since a way over such
+    /// a link is dearer than any other.
     pub(crate) fn settled(self, own: usize) -> Tree {
         let Pivots { tree, pricing } = self;
         let mut tree = tree;

@@ -19,8 +19,8 @@ pub(crate) struct Pricing {
     incidence: Groups,
     /// How many links stand before the artificial ones, which never enter the tree again.
     own: usize,
-    /// So many links are looked at before the best of them is taken: half the root of their count. Neighbours among the links
-    /// stand as far apart as the whole root, so that blocks and strides differ.
+    /// So many links are looked at before the best of them is taken: half the root of their count. Neighbours among the
+    /// links stand as far apart as the whole root, so that blocks and strides differ.
     block: usize,
     /// How many blocks there are.
     blocks: usize,
@@ -37,7 +37,7 @@ struct Offer {
     number: usize,
 }
 
-// The offer, or this one, where it saves more.
+// The offer, or this one, if it saves more.
 fn better(offer: Option<Offer>, saving: i64, number: usize) -> Option<Offer> {
     let most = match offer {
         Some(offer) => offer.saving,
@@ -113,8 +113,8 @@ impl Pricing {
         number_of(best)
     }
 
-    // The best link at the nodes that moved last, the deepest of them first, until as many were looked at as a block has. Where
-    // more nodes moved, or more links are at one of them, blocks are as quick.
+    // The best link at the nodes that moved last, the deepest of them first, until as many were looked at as a block
+    // has. If more nodes moved, or more links are at one of them, blocks are as quick.
     fn best_of_moved(&self, tree: &Tree) -> Option<usize> {
         if tree.moved.len() > self.block {
             return None;
@@ -149,9 +149,9 @@ impl Pricing {
         number_of(best)
     }
 
-    /// A link that pays, none where no link does: the best of the next block; behind a block in which none pays, the best at
-    /// the nodes that moved last, and then for as long as one there pays. Such a chain of pivots goes along a path, whose next
-    /// link a block holds by chance alone. O(block) where links that pay are common, at most O(links).
+    /// A link that pays, none if no link does: the best of the next block; behind a block in which none pays, the best
+    /// at the nodes that moved last, and then for as long as one there pays. Such a chain of pivots goes along a path,
+    /// whose next link a block holds by chance alone. O(block) if links that pay are common, at most O(links).
     pub(crate) fn next(&mut self, tree: &Tree) -> Option<usize> {
         if self.is_local {
             if let Some(number) = self.best_of_moved(tree) {

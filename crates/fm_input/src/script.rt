@@ -12,7 +12,7 @@ pub enum Act {
     Tell(Op),
     /// It cuts a packet of what the range comes to.
     Cut(Range),
-    /// It takes in the packet that was cut as the one with the number, counted from 0. Where no earlier step cuts a packet
+    /// It takes in the packet that was cut as the one with the number, counted from 0. If no earlier step cuts a packet
     /// of the name, the number is how many were cut: there is no such packet then.
     Deliver(usize),
     /// It lets the deltas below the number go.

@@ -118,7 +118,7 @@ impl<K: Chain, V: Drop> Block<K, V> {
     }
 
     // The same pairs for one more map, with which they are shared from then on. A block that is shared already costs a
-    // pointer. After a refusal of memory the pairs are as they were.
+    // pointer. If memory runs out, the pairs are unchanged.
     pub(crate) fn share(&mut self) -> Result<Block<K, V>, OutOfMemory>
         ensures same { IfOk result (λ block. block.items ≡ self.old.items) }
         ensures items { self.new.items ≡ self.old.items }
@@ -143,7 +143,7 @@ impl<K: Chain, V: Drop> Block<K, V> {
 }
 
 impl<K: Chain, V: Join> Block<K, V> {
-    // The same pairs again: a pointer where they are shared, else a copy of each.
+    // The same pairs again: a pointer if they are shared, else a copy of each.
     pub(crate) fn copy(&self) -> Result<Block<K, V>, OutOfMemory>
         ensures { IfOk result (λ block. block.items ≡ self.now.items) }
     {
@@ -157,8 +157,8 @@ impl<K: Chain, V: Join> Block<K, V> {
         }
     }
 
-    // Lets the map have the block alone: where it was shared, it gets a copy of each pair, also if no one else has it any more.
-    // After a refusal of memory the pairs are as they were.
+    // Lets the map have the block alone: if it was shared, it gets a copy of each pair, also if no one else has it any
+    // more. If memory runs out, the pairs are unchanged.
     pub(crate) fn own(&mut self) -> Result<(), OutOfMemory>
         ensures items { self.new.items ≡ self.old.items }
         ensures owned { OnOk result (self.new.owned ≡ true) }
@@ -170,7 +170,7 @@ impl<K: Chain, V: Join> Block<K, V> {
     }
 
     // Lets the map have the block alone, and asks for room for so many pairs more.
-    // After a refusal of memory the pairs are as they were.
+    // If memory runs out, the pairs are unchanged.
     pub(crate) fn own_for(&mut self, more: usize) -> Result<(), OutOfMemory>
         ensures items { self.new.items ≡ self.old.items }
         ensures owned { OnOk result (self.new.owned ≡ true) }
@@ -184,7 +184,7 @@ impl<K: Chain, V: Join> Block<K, V> {
     }
 
     // Lets the map have the block alone, with room for one more pair.
-    // After a refusal of memory the pairs are as they were.
+    // If memory runs out, the pairs are unchanged.
     pub(crate) fn reserve_one(&mut self) -> Result<(), OutOfMemory>
         ensures items { self.new.items ≡ self.old.items }
         ensures owned { OnOk result (self.new.owned ≡ true) }
@@ -198,7 +198,7 @@ impl<K: Chain, V: Join> Block<K, V> {
         Ok(())
     }
 
-    // Adds the pair at the end. After a refusal of memory the pairs are as they were.
+    // Adds the pair at the end. If memory runs out, the pairs are unchanged.
     pub(crate) fn push(&mut self, key: K, value: V) -> Result<(), OutOfMemory>
         ensures ok { OnOk result (self.new.items ≡ self.old.items ++ (key, value) ∷ []) }
         ensures err { OnErr result (self.new.items ≡ self.old.items) }

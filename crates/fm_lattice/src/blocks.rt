@@ -14,7 +14,7 @@ use std::cmp::Ordering;
 // A block of so many pairs is cut before it takes one more.
 pub(crate) const FULL: usize = 64;
 
-// A spare block has room for so many pairs at least: a last pair, and a key behind it.
+// A spare block has room for so many pairs at least: a last pair, and a key after it.
 pub(crate) const LEAST: usize = 2;
 
 // Whether the key comes after all that stand there.
@@ -75,8 +75,8 @@ pub(crate) fn value_in<'a, K: Chain, V>(pairs: &'a [(K, V)], key: &K) -> Option<
     }
 }
 
-// Lets the map have the key's block alone, asks there for room for so many pairs more, and answers where the block is.
-// O(log n), and a copy of the block's pairs where it was shared. After a refusal of memory the pairs are as they were.
+// Lets the map have the key's block alone, asks there for room for so many pairs more, and returns where the block is.
+// O(log n), and a copy of the block's pairs if it was shared. If memory runs out, the pairs are unchanged.
 pub(crate) fn own_block<K: Chain, V: Join>(
     blocks: &mut Vec<(K, Block<K, V>)>,
     key: &K,
@@ -106,8 +106,8 @@ fn own<K: Chain, V: Join>(block: &mut (K, Block<K, V>), more: usize) -> Result<(
     block.1.own_for(more)
 }
 
-// Makes room in the key's block, which is cut where it is full, and answers where the block is.
-// After a refusal of memory the pairs are as they were.
+// Makes room in the key's block, which is cut if it is full, and returns where the block is.
+// If memory runs out, the pairs are unchanged.
 pub(crate) fn make_room<K: Chain, V: Join>(
     blocks: &mut Vec<(K, Block<K, V>)>,
     key: &K,
@@ -139,9 +139,9 @@ fn reserve_one<K: Chain, V: Join>(block: &mut (K, Block<K, V>)) -> Result<(), Ou
     block.1.reserve_one()
 }
 
-// As `make_room`, with a spare block in place of the allocator, so nothing can fail. With a whole spare block the key's block
-// is cut in halves, also if it is not full, so that both have room for a few keys more. One that is full although the spare
-// block is small moves its last pair there.
+// As `make_room`, with a spare block in place of the allocator, so nothing can fail. With a whole spare block the key's
+// block is cut in halves, also if it is not full, so that both have room for a few keys more. One that is full although
+// the spare block is small moves its last pair there.
 pub(crate) fn take_room<K: Chain, V: Drop>(
     blocks: &mut Vec<(K, Block<K, V>)>,
     spare: Vec<(K, V)>,
@@ -182,8 +182,8 @@ pub(crate) fn take_room<K: Chain, V: Drop>(
     cut(blocks, at, spare, count, key)
 }
 
-// How many of a block's pairs go to the spare one: as many as they are to be, but no more than half of them; one, where the
-// spare block is small.
+// How many of a block's pairs go to the spare one: as many as they are to be, but no more than half of them; one, if
+// the spare block is small.
 fn fewer(count: usize, len: usize, whole: bool) -> usize
     requires some { 0 < count }
     requires half { count ≤ 32 }
@@ -338,7 +338,7 @@ pub(crate) fn copied_blocks<K: Chain, V: Join>(
     Ok(copies)
 }
 
-// The same blocks again, each shared from then on. After a refusal of memory the pairs are as they were.
+// The same blocks again, each shared from then on. If memory runs out, the pairs are unchanged.
 pub(crate) fn shared_blocks<K: Chain, V: Drop>(
     blocks: &mut Vec<(K, Block<K, V>)>,
 ) -> Result<Vec<(K, Block<K, V>)>, OutOfMemory>

@@ -21,9 +21,9 @@ pub(crate) struct Plan<K: Chain, V: Drop> {
     pub(crate) changes: Vec<((K, V), Vec<(K, V)>)>,
 }
 
-// Plans to join the other pairs in: by changes if they are no more than the blocks here, O(m log n), else by a merge aside,
-// O(n + m), unless nothing changes. The changes are of blocks that the map has alone. After a refusal of memory the pairs are
-// as they were.
+// Plans to join the other pairs in: by changes if they are no more than the blocks here, O(m log n), else by a merge
+// aside, O(n + m), unless nothing changes. The changes are of blocks that the map has alone. If memory runs out, the
+// pairs are unchanged.
 #[tactic(auto, using(crate::proofs::Planned::kept_same))]
 pub(crate) fn plan_join<K: Chain, V: Join>(
     blocks: &mut Vec<(K, Block<K, V>)>,
@@ -110,7 +110,7 @@ fn plan_aside<K: Chain, V: Join>(
     })
 }
 
-// Carries the plan out, and answers how many pairs there are then.
+// Carries the plan out, and returns how many pairs there are then.
 pub(crate) fn carry_out<K: Chain, V: Drop>(
     blocks: &mut Vec<(K, Block<K, V>)>,
     len: usize,

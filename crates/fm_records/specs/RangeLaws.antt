@@ -1,4 +1,4 @@
--- What a set of operations in range comes to is a table that can be.
+-- What a set of operations in range comes to is a possible table.
 use Rattle.std.specs.Prelude.{◌≡◌, ◌⊎◌, ℕ, Bool, true, false, cond, ◌==◌, ◌&&◌, List, [], ◌∷◌, ◌++◌, Option, Some, None, option_map, flat_map, refl}
 use Rattle.std.specs.List.{filter_map, list_all}
 use Rattle.std.specs.Ordering.{nat_cmp, is_eq}
@@ -286,7 +286,7 @@ know_in_range S ranged =
 pub know_can_be : (S : List Op) → all_in_range S ≡ true → CanBe (know S)
 know_can_be S ranged = record { table = know_table S; in_range = know_in_range S ranged }
 
--- What is found in a table that can be is in range.
+-- What is found in a possible table is in range.
 
 module _ (k : Table) (is : CanBe k) where
   abbrev first_two : List Op

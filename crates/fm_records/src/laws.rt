@@ -1,5 +1,5 @@
-//! The laws of what a set of operations means. Each function does nothing: its contract is the law. `equal` and `order` have
-//! the laws of `==` and `cmp`, whose functions do that one call.
+//! The laws of what a set of operations means. Each function does nothing: its contract is the law. `equal` and `order`
+//! have the laws of `==` and `cmp`, whose functions do that one call.
 
 ghost use Rattle.std.specs.Prelude.{◌≡◌, ◌↔◌, ◌++◌, ℕ, List, IsTrue};
 ghost use Rattle.std.specs.Ordering.{nat_cmp};
@@ -87,13 +87,13 @@ pub fn law_ops()
     ensures { (k : Table) → IsTable k → know (ops k) ≡ k }
 {}
 
-/// Any set comes to a table's form, and a set in range to a table that can be.
+/// Any set comes to a table's form, and a set in range to a possible table.
 pub fn law_can_be()
     ensures form { (S : List Op) → IsTable (know S) }
     ensures ranges { (S : List Op) → IsTrue (all_in_range S) → CanBe (know S) }
 {}
 
-/// The join of tables that can be is one, and is associative, commutative and idempotent.
+/// The join of possible tables is one, and is associative, commutative and idempotent.
 pub fn law_tables()
     ensures { JoinLaws CanBe table_join }
 {}

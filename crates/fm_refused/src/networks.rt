@@ -27,7 +27,7 @@ const TOLD: u32 = 320;
 
 const EARLIER: u32 = 280;
 
-// The same of networks where most tasks are placed.
+// The same of networks in which most tasks are placed.
 const PLACED: u32 = 160;
 
 const PLACED_EARLIER: u32 = 150;
@@ -133,7 +133,7 @@ pub(crate) fn writer_for(alloc: Global, bytes: usize) -> Result<Over<Vec<u8>>, R
     Ok(Over::new(room))
 }
 
-/// Whether what went out is the whole text, or where it may be part of it, how it begins.
+/// Whether what went out is the whole text, or if it may be part of it, how it begins.
 pub(crate) fn is_part(may_be: bool, out: &[u8], text: &[u8]) -> bool {
     if may_be {
         text.starts_with(out)
@@ -236,13 +236,13 @@ fn is_solution_written(memory: Memory, network: &Network, flow: &Flow) -> Result
     Ok(judged(refusal, is_right))
 }
 
-/// A network is solved from the flow of an earlier one. So few tasks are placed that it is solved anew.
+/// A network is solved from the flow of an earlier one. So few tasks are placed that it is solved from nothing.
 pub(crate) fn solved_from(memory: Memory) -> Result<Verdict, Refusal> {
     let start = earlier_flow(memory.alloc, EARLIER)?;
     solved_from_flow(memory, TOLD, &start)
 }
 
-/// The same where most tasks are placed, and stay.
+/// The same in which most tasks are placed, and stay.
 pub(crate) fn solved_from_most(memory: Memory) -> Result<Verdict, Refusal> {
     let start = earlier_flow(memory.alloc, PLACED_EARLIER)?;
     solved_from_flow(memory, PLACED, &start)

@@ -262,7 +262,7 @@ fn round(alloc: Global, coordinator: &mut Either) -> Result<(), Refusal> {
     commit(coordinator, SEAT, plan)
 }
 
-/// A node is made of a coordinator, which is handed back where that is refused.
+/// A node is made of a coordinator, which is returned if that is refused.
 pub(crate) fn made_node(memory: Memory) -> Result<Verdict, Refusal> {
     let coordinator = begun(memory, Kind::Edits, 1)?;
     let (mut kept, refusal) = picked_node(memory, coordinator)?;

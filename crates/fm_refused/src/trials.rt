@@ -198,7 +198,7 @@ impl fmt::Display for Trial {
 }
 
 impl Trial {
-    /// Makes the call, and says what became of it. Refused where what it is made on could not be made.
+    /// Makes the call, and says its result. Refused if what it is made on could not be made.
     pub(crate) fn made<R: Wait>(&self, rt: &R, memory: Memory) -> Result<Verdict, Refusal> {
         match self {
             Trial::Value(value) => value.made(memory),

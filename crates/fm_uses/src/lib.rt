@@ -1,5 +1,5 @@
-//! One layer at a time, as an engineer would embed it: a caller of each crate that is worth taking alone, with the contract
-//! that it gets from ours. The page `CALLING.md` of each crate shows its caller from here.
+//! One layer at a time, as an engineer would embed it: a caller of each crate that is useful alone, with a contract
+//! that follows from that crate's. The page `CALLING.md` of each crate shows its caller from here.
 
 #![tactic(auto)]
 

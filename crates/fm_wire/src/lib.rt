@@ -1,4 +1,4 @@
-//! Packets as bytes: the one spelling of each packet in each version, and the first fault of bytes that spell none.
+//! Packets as bytes: the one encoding of each packet in each version, and the first fault of bytes that encode none.
 #![tactic(auto)]
 
 mod entries;

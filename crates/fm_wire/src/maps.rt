@@ -66,7 +66,8 @@ fn record_at<K: Chain + Spelled, V: Join + Recorded>(
     Ok(((key, value), rest))
 }
 
-// Goes over the records that the version spells at the front, without memory, and answers the bytes after them or the first fault. O(n).
+// Goes over the records that the version spells at the front, without memory, and returns the bytes after them or the
+// first fault. O(n).
 pub(crate) fn rest_of_map<K: Chain + Spelled, V: Join + Recorded>(
     version: Version,
     bytes: &[u8],

@@ -119,7 +119,7 @@ impl Recorded for Min<Spot> {
     }
 }
 
-// Adds the spec behind a byte that is 1, or a byte that is 0 where there is none.
+// Adds the spec behind a byte that is 1, or a byte that is 0 if there is none.
 #[tactic(auto, unfolding(crate::specs::Grammar::optional_spec))]
 fn put_optional_spec(out: &mut Vec<u8>, spec: &Option<Max<SpecReg>>) -> Result<(), OutOfMemory>
     ensures { OnOk result (out.new.items ≡ out.old.items ++ (optional_spec Fdg2).spell spec.now) }
@@ -284,7 +284,7 @@ fn report_at(bytes: &[u8]) -> Result<(Report, &[u8]), usize>
     Ok((Report { number, used }, rest))
 }
 
-// Adds a byte, 1 where the flag is set and else 0.
+// Adds a byte, 1 if the flag is set and else 0.
 fn put_flag(out: &mut Vec<u8>, flag: bool) -> Result<(), OutOfMemory>
     ensures { OnOk result (out.new.items ≡ out.old.items ++ bytes_of w8 (cond flag 1 0)) }
 {

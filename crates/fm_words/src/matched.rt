@@ -70,7 +70,7 @@ fn rounds_in<'a>(matches: &ArgMatches<'a>) -> Option<u32>
     matches.get_one::<u32>("rounds")
 }
 
-// Coordinators that are kept running, made anew after as many entries as are named.
+// Coordinators that are kept running, renewed after as many entries as are named.
 fn follows<'a>(matches: &ArgMatches<'a>) -> Words<'a>
     ensures { told_of result ≡ told_with follows (rows_of (found_of matches.now)) }
 {

@@ -202,7 +202,7 @@ fn rounds<'a>(alloc: Global) -> Arg<'a>
         .value_parser(value_parser!(u32).range(0..=MOST_ROUNDS))
 }
 
-// After how many entries coordinators that are kept running are made anew.
+// After how many entries coordinators that are kept running are renewed.
 fn renew_after<'a>(alloc: Global) -> Arg<'a>
     ensures rule { rule_of result ≡ number_rule (codes "renew-after") 1 most_renew_after }
     ensures local { result.global ≡ false }
