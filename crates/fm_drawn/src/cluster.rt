@@ -19,6 +19,8 @@ pub(crate) struct Sizes {
     pub(crate) tasks: u32,
     pub(crate) requests: u32,
     pub(crate) wait: u32,
+    /// Of a hundred drawn tasks, how many prefer machines.
+    pub(crate) preferring: u32,
 }
 
 /// A cluster: what is known of it, and how many tasks there were so far.
@@ -88,6 +90,7 @@ impl Cluster {
             tasks: machines.saturating_add(1),
             requests: 1,
             wait: 1_000_000,
+            preferring: 0,
         };
         let mut cluster = Cluster::empty(alloc, sizes);
         cluster.tell_job(0, sizes.wait, sizes.wait)?;
@@ -201,7 +204,19 @@ impl Cluster {
         let job = one_of(draw, self.sizes.jobs);
         let step = 1000 / self.sizes.requests.max(1);
         let request = one_of(draw, self.sizes.requests).saturating_mul(step);
-        self.tell_task(job, request, Prefer::default())
+        let prefer = self.prefer(draw);
+        self.tell_task(job, request, prefer)
+    }
+
+    // The preference of a drawn task: for two machines or one, or for none.
+    fn prefer(&self, draw: &mut Draw) -> Prefer {
+        let percent = self.sizes.preferring;
+        if percent == 0 || draw.below(100) >= percent {
+            return Prefer::default();
+        }
+        let near = (one_of(draw, self.sizes.machines), draw.below(4000));
+        let far = (one_of(draw, self.sizes.machines), draw.below(4000));
+        preferring(near, far)
     }
 
     /// Proposes a machine for the task's first attempt.

@@ -65,6 +65,7 @@ impl Corners {
             tasks: draw.below(25),
             requests: 0,
             wait: 0,
+            preferring: 0,
         };
         let mut corners = Corners {
             cluster: Cluster::empty(alloc, sizes),

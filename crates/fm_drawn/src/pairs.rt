@@ -20,6 +20,7 @@ fn drawn(alloc: Global, draw: &mut Draw) -> Result<Cluster, Refusal> {
         tasks: draw.below(60),
         requests: draw.between(1, 8),
         wait: draw.between(1, 4000),
+        preferring: 0,
     };
     Cluster::new(alloc, draw, sizes)
 }

@@ -159,6 +159,7 @@ fn crowded(alloc: Global) -> Result<Cluster, Refusal> {
         tasks: 0,
         requests: 1,
         wait: 100,
+        preferring: 0,
     };
     let mut cluster = Cluster::empty(alloc, sizes);
     cluster.tell_job(0, 100, 200)?;

@@ -18,6 +18,7 @@ fn sizes_of(tasks: u32) -> Sizes {
         tasks,
         requests: 40,
         wait: 20_000,
+        preferring: 0,
     }
 }
 
