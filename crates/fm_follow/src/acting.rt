@@ -53,8 +53,7 @@ pub(crate) fn cut_line(
 
 /// A round at the coordinator: the plan of a least flow of its network is committed. The text has admission's answer
 /// to each entry of the plan. The history gets one entry, since there is no view. NoCoordinator, HistoryFull,
-/// OutOfMemory; then nothing has changed. The cost is that of building the network, if the coordinator has none that
-/// is fresh, of solving it, and of admitting the plan twice.
+/// OutOfMemory; then nothing has changed. The cost is that of `least_plan_of`, and of admitting the plan twice.
 pub(crate) fn round(alloc: Global, world: &mut World<Keeper>, at: u8) -> Result<Vec<u8>, Refusal>
     ensures ok { (w : WorldOfSets) → WorldStandsFor world.old w
         → IfOk result (λ text. (v : WorldOfSets) × Rounds w at text.items v × WorldStandsFor world.new v) }
