@@ -1,5 +1,6 @@
-//! Clusters that are drawn, and solved. Without words: whether solving from an earlier flow costs what solving does, and how
-//! many cycles are cancelled after either start. With words, each a number of tasks: how long it takes.
+//! Random clusters are drawn and solved. Without words: whether solving from an earlier flow finds the same cost as
+//! solving from nothing, and how many cycles are cancelled after either start. With words, each a number of tasks:
+//! how long it takes.
 #![tactic(auto)]
 
 mod chains;

@@ -1,4 +1,4 @@
-//! The task paths of an earlier flow that are still whole and fit.
+//! The paths of tasks in an earlier flow that are still complete and fit.
 
 use crate::lanes::Lanes;
 use crate::lenient::put;

@@ -100,7 +100,7 @@ fn choices(alloc: Global, numbered: &Numbered, lanes: &Lanes) -> Result<Vec<Choi
     Ok(choices)
 }
 
-// The placing in hand.
+// The state of placing.
 #[derive(Drop)]
 struct Placing<'a> {
     numbered: &'a Numbered,
@@ -234,7 +234,7 @@ fn keep_task(placing: &mut Placing<'_>, kept: &mut Kept, left: usize) -> Option<
     None
 }
 
-// The choices that stand at these places, in turn.
+// The choices at these places, in turn.
 fn picked(alloc: Global, choices: &[Choice], places: &[Keyed]) -> Result<Vec<Choice>, OutOfMemory> {
     let mut picked = Vec::with_capacity(alloc, places.len())?;
     for (_, place) in places {
