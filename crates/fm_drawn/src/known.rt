@@ -68,7 +68,7 @@ fn proposal(id: u128, machine: u128) -> Op {
     }
 }
 
-// What the operations come to.
+// The table of the operations.
 fn told(alloc: Global, ops: &[Op]) -> Result<Knowledge, Refusal> {
     let mut known = Knowledge::empty(alloc);
     for op in ops {

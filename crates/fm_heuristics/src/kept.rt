@@ -31,7 +31,8 @@ impl Kept {
         })
     }
 
-    /// Takes up the path of a task over its arc to a request or machine, if it is whole and fits, and returns whether.
+    /// Takes up the path of a task over its arc to a request or machine, if it is complete and fits, and returns
+    /// whether.
     pub(crate) fn keep(
         &mut self,
         numbered: &Numbered,

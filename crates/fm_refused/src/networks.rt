@@ -1,4 +1,4 @@
-//! Networks: their texts, their flows, and what a flow comes to.
+//! Networks: their texts, their flows, and the results of flows.
 
 ghost use Rattle.std.specs.Prelude.{◌≡◌, IfOk};
 ghost use Rattle.fm_certificate.specs.Built.{IsBuilt};

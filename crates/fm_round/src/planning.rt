@@ -1,4 +1,4 @@
-//! The plan that a flow comes to.
+//! The plan of a flow.
 
 ghost use Rattle.std.specs.Prelude.{◌≡◌, ◌==◌, ◌++◌, ℕ, None, not, cond, drop, length, replicate, option_to_list, IfOk, OnOk};
 ghost use Rattle.std.specs.List.{filter_map, slice_get};

@@ -178,7 +178,7 @@ fn timed(
     Ok(followed)
 }
 
-// How many edits taking the delta in comes to, and how many nanoseconds it took.
+// How many edits merging the delta takes, and how many nanoseconds it took.
 fn taken_in(
     rt: &HostRuntime,
     followed: Followed,

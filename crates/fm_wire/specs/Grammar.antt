@@ -190,7 +190,7 @@ spelling = spelling_in Fdg2
 abbrev pub fault : List ℕ → Option ℕ
 fault = fault_in packet
 
--- a possible packet: its sender and its number fit, its knowledge is one that operations come to, and it has fewer
+-- a possible packet: its sender and its number fit, its knowledge is the table of some operations, and it has fewer
 -- records of each kind than 64 bits count, as any memory does
 pub record IsPacket (p : Packet) : Type 0 where
   pub sender : IsTrue (is_coordinator p.sender)

@@ -49,7 +49,7 @@ pub enum Question {
     Winners,
 }
 
-/// What the words come to.
+/// What the words ask for.
 #[derive(Debug, Drop)]
 pub enum Words<'a> {
     Run(Command<'a>),
