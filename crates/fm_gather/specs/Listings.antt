@@ -17,7 +17,7 @@ use Rattle.fm_world.specs.declared.step.Step.{Step}
 use Rattle.fm_world.specs.Worlds.{WorldOfSets, opening_world, run_of}
 use Rattle.fm_world.specs.Stands.{state_with, WorldStandsFor}
 
--- an entry, with the number of the coordinator in whose history it stands
+-- an entry, with the number of the coordinator in whose history it is
 pub record Made : Type 0 where
   pub at : ℕ
   pub entry : Entry

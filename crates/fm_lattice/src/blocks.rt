@@ -17,7 +17,7 @@ pub(crate) const FULL: usize = 64;
 // A spare block has room for at least this many pairs: a last pair, and a key after it.
 pub(crate) const LEAST: usize = 2;
 
-// Whether the key comes after all that stand there.
+// Whether the key comes after all that are there.
 pub(crate) fn comes_last<K: Chain, V>(blocks: &[(K, Block<K, V>)], key: &K) -> bool
     requires headed { AreHeaded blocks.now }
     requires rising { IsRising K.cmp (pairs_of blocks.now) }

@@ -1,6 +1,6 @@
 //! What is known of a cluster.
 //!
-//! Calls with long contracts stand by themselves here and elsewhere, in functions without one: so the proofs of what
+//! Calls with long contracts are by themselves here and elsewhere, in functions without one: so the proofs of what
 //! goes through many of them are short.
 
 use fm_delta::packet::Packet;

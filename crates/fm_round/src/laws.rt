@@ -26,7 +26,7 @@ pub fn law_sets()
     ensures stops { (S T : List Op) (c : ℕ) → know S ≡ know T → stops_of (know S) c ≡ stops_of (know T) c }
 {}
 
-/// Of a flow in order, the plan's tasks of a request are those with a unit to it, and each machine stands behind a
+/// Of a flow in order, the plan's tasks of a request are those with a unit to it, and each machine is listed for a
 /// request as often as there are units between them.
 pub fn law_flows()
     ensures tasks { (f : Units) (r t : ℕ) → IsRising ends_cmp f → (IsMember t (tasks_of r (waits f)) ↔ (0 < units f (Node.Task t) (Node.Request r))) }
