@@ -36,7 +36,7 @@ def used(program, words, script):
 
 
 def lemon(folder):
-    """The program that runs LEMON's solvers, made in the folder; None, with a line that says why, where it cannot be made."""
+    """The program that runs LEMON's solvers, made in the folder; None, with a line that says why, if it cannot be made."""
     compiler, program = shutil.which("g++"), pathlib.Path(folder) / "lemon"
     if compiler is None:
         print("bench: skips LEMON: no g++ here")

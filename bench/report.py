@@ -1,7 +1,7 @@
 #!/usr/bin/env python3
 """Tables and a plot of what bench/run --all measured, from the file of results that it leaves.
 
-    bench/report.py [FOLDER]    writes FOLDER's tables and times.svg anew from its results.json; FOLDER is bench/ if left out
+    bench/report.py [FOLDER]    writes FOLDER's tables and times.svg again from its results.json; FOLDER is bench/ if left out
     bench/report.py --check     status 1 if those of bench/ are others
 
 In bench/ the tables go into README.md, between the marks of each figure; in another folder into tables.md.

@@ -12,7 +12,7 @@ tasks prefer one to four machines, and nothing else differs.
 
 With --rounds so many rounds come behind, each after one task in 100 (--share) changed: of those a third are done, a third
 are new, and for each of the others a machine reports. Nothing is held at first. Coordinator 1 edits its network once few records
-changed since the round before; --at 2 tells and asks one that always builds it anew. With --quiet the rounds themselves are left
+changed since the round before; --at 2 tells and asks one that always rebuilds it. With --quiet the rounds themselves are left
 out.
 
 With --chain about so many tasks are chained by what they prefer. As many tasks as a machine has slots prefer the first machine and,
@@ -65,7 +65,7 @@ def script(tasks, machines=None, requests=None, seed=1, gossip=False, prefer=0.0
     sizes = chance.sample(range(1, 1001), requests)
     jobs, hosts, names = ids(chance, max(1, tasks // 50)), ids(chance, machines), ids(chance, tasks)
     told = list(told_before(chance, jobs, hosts, names, sizes))
-    # a chance of its own, so that all else is as it is where nothing is preferred
+    # a chance of its own, so that all else is as it is if nothing is preferred
     liking = random.Random("prefer %d %d" % (tasks, seed))
     told = [preferring(op, hosts, liking) if "spec" in op and liking.random() < prefer else op for op in told]
     for task in names[::10]:

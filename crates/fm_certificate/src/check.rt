@@ -1,4 +1,4 @@
-//! The checker of certificates.
+//! The checker of certificates, by complementary slackness.
 
 ghost use Rattle.std.specs.Prelude.{◌≡◌, ◌↔◌, ◌≤◌, IsTrue};
 ghost use Rattle.std.specs.List.{list_all};

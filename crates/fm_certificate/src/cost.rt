@@ -25,7 +25,7 @@ pub fn cost(network: &Network, flow: &Flow) -> u128
     sum
 }
 
-// What the units on an arc of this cost come to, which are looked for near a place first.
+// The cost of the units on an arc of this cost, which are looked for near a place first.
 fn price(flow: &Flow, near: usize, from: Node, to: Node, cost: u32) -> u128
     ensures { result ≡ cost * units_in flow.now from to }
 {

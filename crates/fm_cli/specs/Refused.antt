@@ -6,7 +6,7 @@ use Rattle.fm_records.specs.declared.refusal.Refusal.TheVariants.{OutOfMemory, B
 use Rattle.fm_records.specs.Refusals.{number_of}
 use Rattle.fm_cli.specs.Faults.{status_of}
 
--- a number below 10 as its digit: the digits stand from 48 on
+-- a number below 10 as its digit: the digits begin at 48
 abbrev pub digit : ℕ → List ℕ
 digit n = (48 + n) ∷ []
 

@@ -9,7 +9,7 @@ use Rattle.fm_cli.specs.Fleets.{IsCounted, IsNotCounted}
 use Rattle.fm_cli.specs.Refused.{refusals_text}
 use Rattle.fm_cli.specs.Answers.{Wants, IsRefused}
 
--- the ending and the whole output: a command's answer, or why it has none; a fleet's counts, or why it has none;
+-- the ending and the complete output: a command's answer, or why it has none; a fleet's counts, or why it has none;
 -- nothing for a stream, whose lines are answered one by one; some text of help; the page of refusals, or memory ran out
 -- for it; or the words are wrong, with something to say of them. A run that is stopped has no output
 abbrev pub Responds : Telling → List ℕ → Ending → List ℕ → Type 0

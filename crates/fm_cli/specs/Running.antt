@@ -42,7 +42,7 @@ abbrev pub Come : WorldOfSets → List Step → WorldOfSets → Type 0
 Come w [] v = w ≡ v
 Come w (s ∷ ss) v = (u : WorldOfSets) × Acts w s.at s.act u × Come u ss v
 
--- the steps of the script came to a world of which this holds
+-- the steps of the script led to a world of which this holds
 abbrev pub After : List ℕ → List Step → (WorldOfSets → Type 0) → Type 0
 After listed steps Holds = (w : WorldOfSets) × Come (opened listed) steps w × Holds w
 
@@ -71,7 +71,7 @@ pub record StopsIn (w : WorldOfSets) (steps : List Step) (fault : Fault) : Type 
 abbrev pub Stops : List ℕ → List Step → Fault → Type 0
 Stops listed steps fault = (fault ≡ fault_of OutOfMemory) ⊎ StopsIn (opened listed) steps fault
 
--- all steps ran: the coordinators stand for a world that the steps come to, each knows what it took in, and those that
+-- all steps ran: the coordinators stand for a world to which the steps lead, each knows what it took in, and those that
 -- took in the same operations agree
 pub record IsRun (listed : List ℕ) (steps : List Step) (kept : Kept) : Type 0 where
   pub world : WorldOfSets

@@ -1,4 +1,4 @@
--- What a whole run reads and writes, and how it ends (this project's profile).
+-- What a run reads and writes, and how it ends (this project's profile).
 use Rattle.std.specs.Prelude.{◌≡◌, ◌⊎◌, ℕ, List, Bool, true, false, Option, Some, None, IfSome, Result, Ok, Err}
 use Rattle.std.specs.Io.KnownBytes.{Appends}
 use Rattle.fm_records.specs.declared.ops.Op.{Op}
@@ -31,7 +31,7 @@ abbrev pub IsStoppedReading : Telling → Refusal → Option (List ℕ) → Opti
 IsStoppedReading t refusal given left source_failed =
     (refusal ≡ OutOfMemory) ⊎ ((reads t ≡ true) × IsUnread refusal given left source_failed)
 
--- the whole output went out, and the run ends as answered; or the sink failed, and a prefix of it did
+-- the complete output was written, and the run ends as answered; or the sink failed, and a prefix of it did
 abbrev pub WentOut : Ending → List ℕ → Ending → Option (List ℕ) → Option (List ℕ) → Bool → Bool → Type 0
 WentOut answered output ending old new had_failed has_failed =
     ((ending ≡ answered) × Appends old new output × (has_failed ≡ had_failed))

@@ -18,7 +18,7 @@ use std::alloc::Global;
 use std::sync::Wait;
 use std::thread::Threads;
 
-/// The whole output of a run, and how it then ends.
+/// The complete output of a run, and how it then ends.
 #[derive(Debug, Drop)]
 pub struct Answered {
     pub ending: Ending,

@@ -24,7 +24,7 @@ const TICK: u64 = 100;
 /// At which tick the line of a script comes: once it ran for a second. That of a fleet comes at the first.
 const FIRST: u32 = 10;
 
-/// Whether a run is over, and whether its line stands on the terminal.
+/// Whether a run is over, and whether its line is on the terminal.
 #[derive(Drop)]
 struct Shown {
     is_over: bool,
@@ -159,13 +159,13 @@ impl<'a> Line<'a> {
 }
 
 impl Shown {
-    // Writes the line over the one that stands. A terminal that fails changes nothing.
+    // Writes the line over the present one. A terminal that fails changes nothing.
     fn write<R: Eprint>(&mut self, rt: &R, progress: &Progress) {
         let _ = eprint!(rt; "\r{progress}\x1b[K");
         self.stands = true;
     }
 
-    // Takes away the line that stands.
+    // Erases the present line.
     fn clear<R: Eprint>(&mut self, rt: &R) {
         if self.stands {
             let _ = eprint!(rt; "\r\x1b[K");

@@ -78,7 +78,7 @@ module _ (s : State) (r : Replica) (st : StandsFor s r) where
       ap (drop (n - s.deltas.floor)) st.deltas ∙ drop-map know (n - s.deltas.floor) (drop r.floor r.buffer)
       ∙ ap (map know) (drop-drop (n - s.deltas.floor) r.floor r.buffer ∙ ap (λ k. drop k r.buffer) (let f = st.floor in let is : r.floor + (n - s.deltas.floor) ≡ n = omega arith in is))
 
-  -- what a range comes to is what its sets come to
+  -- the knowledge of a range is the table of its sets
   pub range_is : (range : Range) → range_fault (bounds s) range ≡ None → range_value s range ≡ know (set_of r range)
   range_is Full h = st.knowledge
   range_is (Interval from to) h =

@@ -1,4 +1,5 @@
-//! One coordinator with its history.
+//! One coordinator with its history: a replica of a delta-state CRDT, by basic anti-entropy in the transitive mode
+//! (Almeida, Shoker and Baquero, 2018).
 
 ghost use Rattle.std.specs.Prelude.{◌≡◌, ◌≤◌, ◌<◌, ◌+◌, ◌^◌, ◌↔◌, ◌∷◌, ◌++◌, [], length, is_none, IsTrue, Some, None, IsOk, IsOkUnless, IfOk, IfErr, OnOk, OnErr};
 ghost use Rattle.std.specs.List.{list_all};

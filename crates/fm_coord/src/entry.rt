@@ -38,7 +38,7 @@ pub enum Reply {
     Nothing,
     /// The packet of a cut.
     Packet(Shared<Packet>),
-    /// What a plan came to.
+    /// What was admitted of a plan.
     Admitted(Shared<Admitted>),
     /// The number of entries before a view, and what was known.
     Seen(usize, Shared<Knowledge>),

@@ -22,7 +22,7 @@ pub enum Found {
     Cycle(Vec<Step>),
 }
 
-/// Cycles of negative cost, no two of which come to one node, and the costs at which the search ended: potentials if
+/// Cycles of negative cost, no two of which share a node, and the costs at which the search ended: potentials if
 /// there is no cycle.
 #[derive(Debug, Drop)]
 pub(crate) struct Searched {

@@ -1,4 +1,4 @@
-//! Clusters that are drawn: what is known of jobs, machines and tasks.
+//! Random clusters: what is known of jobs, machines and tasks.
 
 use crate::draw::Draw;
 use fm_know::knowledge::Knowledge;

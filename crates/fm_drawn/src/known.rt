@@ -68,7 +68,7 @@ fn proposal(id: u128, machine: u128) -> Op {
     }
 }
 
-// What the operations come to.
+// The table of the operations.
 fn told(alloc: Global, ops: &[Op]) -> Result<Knowledge, Refusal> {
     let mut known = Knowledge::empty(alloc);
     for op in ops {
@@ -119,7 +119,7 @@ struct Costs {
     other: u128,
 }
 
-// The functions below hold one value each if they may be refused: a proof looks at what is dropped at each refusal.
+// The functions below hold one value each if they may be refused: a proof considers what is dropped at each refusal.
 
 // What solving costs from nothing, and from that flow.
 fn own_cost(alloc: Global, network: &Network) -> Result<(u128, u128), Refusal>

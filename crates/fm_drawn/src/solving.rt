@@ -81,7 +81,7 @@ pub(crate) fn cycles_after_start(alloc: Global, network: &Network) -> Result<usi
     Ok(count)
 }
 
-/// What the simplex comes to on a network: how many cycles are cancelled after it, at most 1,000.
+/// The result of the simplex on a network: how many cycles are cancelled after it, at most 1,000.
 pub(crate) fn cycles_after_simplex(alloc: Global, network: &Network) -> Result<usize, Refusal>
     requires { IsBuilt network.now }
 {

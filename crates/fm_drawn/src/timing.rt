@@ -22,7 +22,7 @@ fn sizes_of(tasks: u32) -> Sizes {
     }
 }
 
-// The functions below hold one value each if they may be refused: a proof looks at what is dropped at each refusal.
+// The functions below hold one value each if they may be refused: a proof considers what is dropped at each refusal.
 
 // The network of what is known, and how many milliseconds building it took.
 fn built(rt: &HostRuntime, cluster: &Cluster) -> Result<(Network, u128), anyhow::Error>

@@ -1,4 +1,4 @@
-//! The pairs that touched nodes bring with them.
+//! The pairs of ends that touched nodes add.
 
 ghost use Rattle.std.specs.Prelude.{◌≡◌, ◌<◌, ◌^◌, ℕ, true, false, filter, is_some, reverse, IsTrue, IfOk, OnOk};
 ghost use Rattle.std.specs.List.{list_any};
@@ -74,7 +74,7 @@ fn is_request(node: &Node) -> bool
 }
 
 // The requests at which tasks wait, if a machine is among the nodes: they are needed for machines alone. Greater ones
-// first: an ordered set is searched least for what comes before all that it has.
+// first: inserting before all other elements is the cheapest in an ordered set.
 fn waiting(alloc: Global, index: &Index, nodes: &[Node]) -> Result<Vec<Node>, OutOfMemory>
     ensures { IfOk result (λ ns. IsTrue (list_any is_machine nodes.now) → ns.items ≡ reverse (waiting_in index.now)) }
 {

@@ -1,4 +1,4 @@
-//! Seeing records again: if what the others had is as it was, all is then as it is now.
+//! Looking up changed records again: if the others are unchanged, all records are then the present ones.
 
 ghost use Rattle.std.specs.Prelude.{◌≡◌, ◌++◌, ◌∷◌, [], ℕ, false, Option, map, IfOk, OnOk};
 ghost use Rattle.std.specs.Ordering.{nat_cmp};

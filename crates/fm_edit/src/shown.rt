@@ -1,4 +1,4 @@
-//! The nodes and arcs of the network of what was seen, one by one.
+//! Single nodes and arcs of the network of the seen records.
 
 ghost use Rattle.std.specs.Prelude.{◌≡◌, ◌+◌, ◌-◌, Some, None, cond, option_map, IfSome};
 ghost use Rattle.std.specs.Ordering.{nat_cmp};
@@ -24,7 +24,7 @@ pub(crate) struct Place {
     pub(crate) load: u128,
 }
 
-/// Whether the node stands. O(log n), as each call here.
+/// Whether the network has the node. O(log n), as each call here.
 pub(crate) fn stands(seen: &Seen, index: &Index, node: &Node) -> bool
     ensures { result ≡ node_shown (seen_in seen.now) (sum_in index.now) node.now }
 {

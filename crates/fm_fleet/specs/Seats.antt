@@ -57,6 +57,6 @@ seat_of l = seen_seat l.seat l.entries.items
 abbrev pub length_of : SeatLog → ℕ
 length_of l = length l.entries.items
 
--- the logs stand by the numbers of their seats, from 1
+-- the logs are in the order of the numbers of their seats, from 1
 abbrev pub AreNumbered : List SeatLog → Type 0
 AreNumbered logs = (i : ℕ) (l : SeatLog) → slice_get logs i ≡ Some l → l.seat ≡ i + 1

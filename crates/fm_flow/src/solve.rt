@@ -38,8 +38,8 @@ pub fn solve(alloc: Global, network: &Network) -> Result<(Flow, Potentials), Ref
     Ok(found)
 }
 
-/// As `solve`, and starts with the task paths of the flow, of this network or an earlier one, that are still whole and
-/// fit; if that comes to no least flow, it starts from nothing. The caller must pass a network that the policy can
+/// As `solve`, and starts with the task paths of the flow, of this network or an earlier one, that are still complete
+/// and fit; if that gives no least flow, it starts from nothing. The caller must pass a network that the policy can
 /// build. Refused as `solve` is.
 ///
 /// O(arcs log arcs), and what `solve` takes if it starts from nothing. It took longer than `solve` wherever both were

@@ -1,4 +1,4 @@
--- What the lines of a stream come to, by the sets of operations that coordinators took in (this project's profile).
+-- The effect of the lines of a stream, by the sets of operations that coordinators took in (this project's profile).
 use Rattle.std.specs.Prelude.{◌≡◌, ◌⊎◌, ℕ, ◌++◌, ◌∷◌, List, [], cond, length, nat_le, nat_lt, replicate, get_or, slice_set, Option, Some, None, unwrap_or, slice_get, IsTrue}
 use Rattle.std.specs.List.{list_any}
 use Rattle.fm_records.specs.declared.ops.Op.{Op}
@@ -63,7 +63,7 @@ abbrev pub names_in : Option Following → List (List ℕ)
 names_in None = []
 names_in (Some k) = k.named.names
 
--- what may stand behind packets from elsewhere: for each, operations that come to what it says
+-- what may stand behind packets from elsewhere: for each, operations whose table is what it says
 abbrev pub StandBehind : (Packet → List Op) → Type 0
 StandBehind behind = (p : Packet) → CanBe p.value → know (behind p) ≡ p.value
 
@@ -87,7 +87,7 @@ asked_for k (act.Deliver place) = world.Deliver (number_at k place)
 asked_for k (act.Trim n) = world.Trim n
 asked_for k act.Round = world.View
 
--- what a step as in a script makes of the world, and the text that it comes to
+-- what a step as in a script makes of the world, and its text
 abbrev pub Acts : Following → ℕ → Act → List ℕ → WorldOfSets → Type 0
 Acts k at (act.Cut range) text v = acting.Cuts k.world at range text v
 Acts k at act.Round text v = Rounds k.world at text v
@@ -128,7 +128,7 @@ query_at topic.Plan n = query.Plan n
 query_at topic.Winners n = query.Winners n
 query_at topic.Stops n = query.Stops n
 
--- what a request makes of a stream that has its coordinators, and the text that it comes to
+-- what a request makes of a stream that has its coordinators, and its text
 abbrev pub DoesAt : (Packet → List Op) → Following → Asked → List ℕ → Following → Type 0
 DoesAt behind k (Opens listed) text j = ⊥
 DoesAt behind k (Does step) text j = (v : WorldOfSets) × Acts k step.at step.act text v × (j ≡ at_world k v)

@@ -17,7 +17,7 @@ use Rattle.fm_world.specs.declared.step.Step.{Step}
 use Rattle.fm_world.specs.Worlds.{WorldOfSets, opening_world, run_of}
 use Rattle.fm_world.specs.Stands.{state_with, WorldStandsFor}
 
--- an entry, with the number of the coordinator in whose history it stands
+-- an entry, with the number of the coordinator in whose history it is
 pub record Made : Type 0 where
   pub at : ℕ
   pub entry : Entry
@@ -120,7 +120,7 @@ opening_in s = (s.number, s.limit)
 abbrev pub new_world : List State → WorldOfSets
 new_world ss = opening_world (map opening_in ss)
 
--- the steps are a whole listing, and come to a world that the coordinators stand for
+-- the steps are a whole listing, and lead to a world for which the coordinators stand
 pub record IsWholeRun (ss : List State) (steps : List Step) : Type 0 where
   pub made : List Made
   pub whole : IsWhole ss made

@@ -1,4 +1,4 @@
--- What sweeps keep and come to.
+-- What sweeps keep and do.
 use Rattle.std.specs.Prelude.{◌≡◌, ◌≤◌, ◌<◌, ◌+◌, ◌-◌, ℕ, zero, suc, nat_lt, Bool, true, false, cond, List, [], ◌∷◌, ◌++◌, length, Option, Some, option_map, take, drop, map}
 use Rattle.std.specs.List.{position}
 use Rattle.fm_records.specs.Sets.{IsMember}

@@ -1,5 +1,5 @@
 //! The contracted network: jobs are part of the sink, the tasks of a class are supply of their place beside one link to
-//! the sink, and a task that stands alone is a node.
+//! the sink, and a lone task is a node.
 
 use crate::alike::{Alike, Loner};
 use crate::classes::Class;
@@ -11,14 +11,14 @@ use fm_numbered::numbered::Numbered;
 use fm_numbered::places::Kind;
 use std::alloc::Global;
 
-/// The contracted network, with units that send each supply straight to the sink, over the links that hang its nodes
-/// there. Its nodes are the sink, which is 0, then requests, machines and lone tasks.
+/// The contracted network, with units that send each supply straight to the sink, over the links that join its nodes
+/// to the sink. Its nodes are the sink, which is 0, then requests, machines and lone tasks.
 #[derive(Debug, Drop)]
 pub(crate) struct Contracted {
     pub(crate) nodes: usize,
     /// Links in mixed order, so that neighbours leave different nodes; artificial ones stand after them.
     pub(crate) links: Vec<Link>,
-    /// How many links stand before the artificial ones.
+    /// The number of links before the artificial ones.
     pub(crate) own: usize,
     /// The links that hang each node but the sink on the sink.
     pub(crate) trunks: Vec<usize>,

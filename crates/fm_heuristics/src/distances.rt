@@ -1,5 +1,5 @@
-//! What a unit costs at least from each node to the sink, over arcs with room and backwards over arcs with units. Of a
-//! least flow these costs, turned round, are potentials, which a search has only to confirm.
+//! The least cost of a unit from each node to the sink, over arcs with room and backwards over arcs with units. For a
+//! least flow the negated costs are potentials, which a search only confirms.
 
 ghost use Rattle.std.specs.Prelude.{◌≡◌, ◌^◌, ◌≤ℤ◌, length, IfOk, neg_ℤ, pos};
 ghost use Rattle.fm_cycles.specs.Walks.{AreBounded};
@@ -123,7 +123,7 @@ fn costs_of(alloc: Global, numbered: &Numbered, units: &[u64]) -> Result<Vec<i64
     Ok(costs)
 }
 
-// The potential of a node: its cost turned round.
+// The potential of a node: its negated cost.
 fn potential(costs: &[i64], node: usize) -> i128
     ensures at_least { neg_ℤ (pos (2 ^ 64)) ≤ℤ result }
     ensures at_most { result ≤ℤ pos (2 ^ 64) }

@@ -9,14 +9,14 @@ use crate::pricing::Pricing;
 use crate::tree::{Stop, Tree};
 use std::alloc::Global;
 
-// On its way up a pivot looks at so many links whether they are empty, before it looks at the whole cycle.
+// How many links on the way up a pivot tests for being empty, before it walks the complete cycle.
 const PROBES: usize = 16;
 
 // The cycle that a link closes with the tree: units go over the link into the cycle's end, and on to where it begins.
 #[derive(Debug, Clone, Copy, PartialEq, Eq, Drop)]
 struct Cycle {
-    /// How many units go round, and the node whose link to its parent then has no more room, with whether it is on the
-    /// side of the end.
+    /// How many units go around, and the node whose link to its parent then has no more room, with whether it is on
+    /// the side of the end.
     units: u64,
     full: Option<(usize, bool)>,
     /// Where both ways to the root meet.
@@ -44,8 +44,8 @@ fn stuck(tree: &Tree, begin: usize, end: usize) -> Result<Option<usize>, Stop>
     Ok(None)
 }
 
-// The cycle that a link with so much room closes. Of links that fill up at once, the last one on the way round from the
-// join goes, so that no pivot comes back.
+// The cycle of a link with this much room. Of links that fill up together, the last one on the way around from the
+// join leaves, so the tree stays strongly feasible and pivots do not cycle.
 fn cycle_of(tree: &Tree, begin: usize, end: usize, most: u64) -> Result<Cycle, Stop>
     requires begin { begin < vec_len tree.now.knots }
     requires end { end < vec_len tree.now.knots }
@@ -92,7 +92,7 @@ fn send_all(tree: &mut Tree, first: usize, join: usize, upwards: bool, by: u64) 
     Ok(())
 }
 
-// Sends units round the cycle of a link, and takes the link into the tree for one that has no more room.
+// Sends units around the cycle of a link, which then enters the tree for one that has no more room.
 fn pivot(tree: &mut Tree, number: usize) -> Result<(), Stop>
     requires { number < vec_len tree.old.links }
 {
@@ -139,7 +139,7 @@ fn leave(tree: &mut Tree, around: &[usize], units: u64) -> u64 {
     units - rest
 }
 
-/// The simplex in hand.
+/// The state of the simplex.
 #[derive(Debug, Drop)]
 pub(crate) struct Pivots {
     tree: Tree,
@@ -161,7 +161,7 @@ impl Pivots {
         Ok(Pivots { tree, pricing })
     }
 
-    /// Pivots until no link pays, or so many times.
+    /// Pivots until no link pays, or as often as allowed.
     pub(crate) fn run(&mut self, most: usize) -> Result<(), Stop> {
         for _ in 0..most {
             let Some(number) = self.pricing.next(&self.tree) else {

@@ -1,4 +1,4 @@
-//! The units of the contracted network, spread to the arcs of the whole one.
+//! The units of the contracted network, distributed to the arcs of the complete one.
 
 use crate::alike::Alike;
 use crate::classes::{drain, settle};

@@ -100,7 +100,7 @@ fn choices(alloc: Global, numbered: &Numbered, lanes: &Lanes) -> Result<Vec<Choi
     Ok(choices)
 }
 
-// The placing in hand.
+// The state of placing.
 #[derive(Drop)]
 struct Placing<'a> {
     numbered: &'a Numbered,
@@ -195,7 +195,7 @@ impl<'a> Placing<'a> {
     }
 }
 
-// Places the tasks that the given units place, if their paths are still whole and fit, and returns the others.
+// Places the tasks that the given units place, if their paths are still complete and fit, and returns the others.
 fn keep_given(
     alloc: Global,
     placing: &mut Placing<'_>,
@@ -213,7 +213,8 @@ fn keep_given(
     Ok(others)
 }
 
-// Takes up the path of the task whose arc to its job this is, if it is whole and fits, and returns its arc to a place.
+// Takes up the path of the task whose arc to its job this is, if it is complete and fits, and returns its arc to a
+// place.
 fn keep_task(placing: &mut Placing<'_>, kept: &mut Kept, left: usize) -> Option<usize> {
     let task = placing.numbered.arcs.get(left)?.from;
     for arc in left..placing.numbered.arcs.len() {
@@ -234,7 +235,7 @@ fn keep_task(placing: &mut Placing<'_>, kept: &mut Kept, left: usize) -> Option<
     None
 }
 
-// The choices that stand at these places, in turn.
+// The choices at these places, in turn.
 fn picked(alloc: Global, choices: &[Choice], places: &[Keyed]) -> Result<Vec<Choice>, OutOfMemory> {
     let mut picked = Vec::with_capacity(alloc, places.len())?;
     for (_, place) in places {
@@ -355,7 +356,7 @@ pub fn start(alloc: Global, numbered: &Numbered) -> Result<Vec<u64>, OutOfMemory
     Ok(units)
 }
 
-/// The flow with the task paths of the given units that are still whole and fit, the other tasks placed by falling
+/// The flow with the task paths of the given units that are still complete and fit, the other tasks placed by falling
 /// worth, and potentials that show it to be least. None if it is not least, and if the given units place too few of the
 /// tasks for that to be likely: those that stay would be in the way of others. Nothing is searched: the potentials are
 /// worked out from the units, and tested. Refused if memory runs out, and for nothing else. O(arcs log arcs).

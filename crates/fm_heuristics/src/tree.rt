@@ -45,7 +45,7 @@ impl From<OutOfMemory> for Stop {
 pub(crate) struct Tree {
     pub(crate) links: Vec<Link>,
     pub(crate) knots: Vec<Knot>,
-    /// The nodes that moved when a part of the tree was last hung elsewhere: each stands behind its parent.
+    /// The nodes that moved when a part of the tree last got another parent: each comes after its parent.
     pub(crate) moved: Vec<usize>,
     pub(crate) ghost hung: { All (IsKnot (vec_len knots) (vec_len links)) knots.items },
     pub(crate) ghost tied: { All (IsTied (vec_len knots)) links.items },
@@ -360,9 +360,9 @@ impl Tree {
         self.list(at)
     }
 
-    /// Hangs a node on another by the link, and turns the way from it up to the last node round, which hung on the
-    /// tree's other part before. The potentials of all below follow. O(depth of what is turned, and the nodes that
-    /// move).
+    /// Makes a node the child of another by the link, and reverses the path from it up to the last node, which joined
+    /// it to the rest of the tree before. The potentials of all below follow. O(depth of what is turned, and the
+    /// nodes that move).
     pub(crate) fn turn(
         &mut self,
         node: usize,

@@ -159,7 +159,7 @@ fn pass_of(port: Port) -> QueuePass
     port.pass
 }
 
-// The one pass that the passes of the ports come to.
+// The joined pass of the ports.
 fn joined(queue: &Queue, mut ports: Vec<Port>, whole: u32) -> QueuePass
     requires some { (0 < whole) × (whole ≤ vec_len ports) }
     requires ports { All (IsPortOf (seen_inbox queue.now.table.shared.table_id whole (ruled_capacity queue.now))) ports.items }

@@ -214,7 +214,7 @@ abbrev pub steps_fault : Option (List Data) → Option ℕ
 steps_fault None = Some 0
 steps_fault (Some ds) = first_strange [] 1 ds
 
--- if a value that is no script breaks a rule: 0 for the whole, and else the first strange step
+-- if a value that is no script breaks a rule: 0 for the script as a whole, and else the first step that breaks a rule
 abbrev pub script_fault : Data → Option ℕ
 script_fault d = cond (is_none (coordinators_of d)) (Some 0) (steps_fault (items_at (codes "steps") d))
 

@@ -24,8 +24,8 @@ use std::mem;
 
 /// The script that a JSON text spells: an object whose `coordinators` list at least one number, distinct ones from 1 to
 /// 64, and whose `steps` list objects of an `at` and one of `tell`, `cut`, `deliver`, `trim` and `round`.
-/// `BadScript(0)` if the text is no JSON or the whole breaks a rule, else `BadScript(K)` for the first strange step K,
-/// counted from 1. Further members of the whole, of an operation and of a cut are ignored, and of equal members the
+/// `BadScript(0)` if the text is no JSON or no script as a whole, else `BadScript(K)` for the first strange step K,
+/// counted from 1. Further members of the script, of an operation and of a cut are ignored, and of equal members the
 /// last counts.
 pub fn read_script(alloc: Global, text: &[u8]) -> Result<Script, Refusal>
     ensures ok { IfOk result (λ s. (d : Data) × (read_text text.now ≡ Some d) × IsScriptOf d s.coordinators.items s.names s.steps.items) }

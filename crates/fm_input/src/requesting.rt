@@ -124,7 +124,7 @@ fn agreement_in(asked: &Value) -> Option<Request>
     }
 }
 
-// A cut of what the range comes to, under a new name or under none.
+// A cut of the range, under a new name or under none.
 fn cut_asked_in(
     alloc: Global,
     cut: &Value,

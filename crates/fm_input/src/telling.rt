@@ -15,7 +15,7 @@ use serde_json::Value;
 use std::alloc::Global;
 
 /// The script of tells alone that a JSON text spells: a script, as `read_script` reads it, each step of which tells.
-/// `BadScript(0)` if the text is no JSON or the whole breaks a rule, else `BadScript(K)` for the first step K, counted
+/// `BadScript(0)` if the text is no JSON or no script as a whole, else `BadScript(K)` for the first step K, counted
 /// from 1, that is strange or does something else.
 pub fn read_tells(alloc: Global, text: &[u8]) -> Result<Tells, Refusal>
     ensures ok { IfOk result (λ s. SpellsTells text.now s.coordinators.items s.tells.items) }

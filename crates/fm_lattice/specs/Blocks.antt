@@ -27,7 +27,7 @@ abbrev pub IsAbove : {K V : Type 0} → (K → K → Ordering) → K → List (K
 IsAbove cmp k [] = Unit {0}
 IsAbove cmp k (e ∷ es) = (cmp e.0 k ≡ Less) × IsAbove cmp k es
 
--- the key is above what stands in the blocks before place i, and below what stands in those after it
+-- the key is above all keys in the blocks before place i, and below all keys in those after it
 abbrev pub IsBlockOf : {K V : Type 0} → (K → K → Ordering) → K → List (K × Stock (K × V)) → ℕ → Type 0
 IsBlockOf cmp k [] i = ⊥
 IsBlockOf cmp k (b ∷ bs) zero = IsBelow cmp k (pairs_of bs)

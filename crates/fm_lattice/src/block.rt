@@ -1,4 +1,4 @@
-//! Blocks of pairs. A map has a block alone, and can write in it, or shares it with others, and can only read it.
+//! Blocks of pairs. A map owns a block, and can write it, or shares it with other maps, and can only read it.
 
 ghost use Rattle.std.specs.Prelude.{◌≡◌, ◌≤◌, ◌<◌, ◌+◌, ◌++◌, ◌∷◌, [], List, None, true, IfOk, OnOk, OnErr, length, vec_len, vec_capacity};
 ghost use Rattle.fm_lattice.specs.Maps.{IsRising, lookup, put, replaced};
@@ -99,7 +99,7 @@ impl<K: Chain, V: Drop> Block<K, V> {
         }
     }
 
-    // Moves the last pairs, so many of them, into the spare block.
+    // Moves the given number of last pairs into the spare block.
     pub(crate) fn move_last(&mut self, spare: &mut Vec<(K, V)>, count: usize)
         requires owned { self.old.owned ≡ true }
         requires empty { vec_len spare.old ≡ 0 }
@@ -117,8 +117,8 @@ impl<K: Chain, V: Drop> Block<K, V> {
         }
     }
 
-    // The same pairs for one more map, with which they are shared from then on. A block that is shared already costs a
-    // pointer. If memory runs out, the pairs are unchanged.
+    // The same pairs for one more map, shared from then on. A block that is already shared costs a pointer. If memory
+    // runs out, the pairs are unchanged.
     pub(crate) fn share(&mut self) -> Result<Block<K, V>, OutOfMemory>
         ensures same { IfOk result (λ block. block.items ≡ self.old.items) }
         ensures items { self.new.items ≡ self.old.items }
@@ -157,8 +157,8 @@ impl<K: Chain, V: Join> Block<K, V> {
         }
     }
 
-    // Lets the map have the block alone: if it was shared, it gets a copy of each pair, also if no one else has it any
-    // more. If memory runs out, the pairs are unchanged.
+    // Makes the map the only owner of the block: if it was shared, each pair is copied, even if no other map has it
+    // any more. If memory runs out, the pairs are unchanged.
     pub(crate) fn own(&mut self) -> Result<(), OutOfMemory>
         ensures items { self.new.items ≡ self.old.items }
         ensures owned { OnOk result (self.new.owned ≡ true) }
@@ -169,7 +169,7 @@ impl<K: Chain, V: Join> Block<K, V> {
         Ok(())
     }
 
-    // Lets the map have the block alone, and asks for room for so many pairs more.
+    // Makes the map the only owner of the block, and reserves room for as many more pairs.
     // If memory runs out, the pairs are unchanged.
     pub(crate) fn own_for(&mut self, more: usize) -> Result<(), OutOfMemory>
         ensures items { self.new.items ≡ self.old.items }
@@ -183,8 +183,8 @@ impl<K: Chain, V: Join> Block<K, V> {
         Ok(())
     }
 
-    // Lets the map have the block alone, with room for one more pair.
-    // If memory runs out, the pairs are unchanged.
+    // Makes the map the only owner of the block, with room for one more pair. If memory runs out, the pairs are
+    // unchanged.
     pub(crate) fn reserve_one(&mut self) -> Result<(), OutOfMemory>
         ensures items { self.new.items ≡ self.old.items }
         ensures owned { OnOk result (self.new.owned ≡ true) }

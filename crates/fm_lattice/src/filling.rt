@@ -1,4 +1,4 @@
-//! Which new keys are to find a whole spare block, when many go to one block.
+//! Which new keys need a full-size spare block, if many go to one block.
 
 use crate::blocks::FULL;
 

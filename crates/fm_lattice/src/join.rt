@@ -1,4 +1,4 @@
-//! Values that merge.
+//! Values that merge: join-semilattices, as in state-based CRDTs (Shapiro, Preguica, Baquero and Zawirski, 2011).
 
 ghost use Rattle.std.specs.Prelude.{◌≡◌, ◌↔◌, IsTrue, IfOk};
 ghost use Rattle.fm_lattice.specs.Joins.{JoinLaws};

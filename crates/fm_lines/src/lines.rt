@@ -56,7 +56,7 @@ pub fn next_line<S: Source>(source: &mut S, line: &mut Vec<u8>) -> Result<Next, 
     Err(Refusal::BadScript(0))
 }
 
-// What stands at the end of the stream.
+// What is at the end of the stream.
 fn end_of(kept: Line, is_empty: bool) -> Next
     ensures last { is_last result ≡ true }
     ensures next { (bytes line : List ℕ) → IsLine bytes → (is_empty ≡ true → bytes ≡ []) → (is_empty ≡ false → 0 < length bytes)

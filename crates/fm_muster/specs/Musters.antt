@@ -1,4 +1,4 @@
--- What a script of tells comes to when its coordinators run in threads (this project's profile).
+-- The counts of a script of tells whose coordinators run in threads (this project's profile).
 use Rattle.std.specs.Prelude.{◌≡◌, ◌⊎◌, ℕ, ◌+◌, ◌==◌, List, [], ◌∷◌, ◌++◌, length, map, cond, codes, decimal, Option, Some, None, option_map}
 use Rattle.std.specs.List.{flat_map}
 use Rattle.fm_records.specs.declared.ops.Op.{Op}

@@ -44,7 +44,7 @@ abbrev pub MayEditAll : Net → List Edit → Type 0
 MayEditAll net [] = Unit {0}
 MayEditAll net (e ∷ es) = MayEdit net e × MayEditAll (edited e net) es
 
--- whether there is an arc between these ends, and whether just this arc does
+-- whether there is an arc between these ends, and whether exactly this arc does
 abbrev pub joins : Net → Node × Node → Bool
 joins net ends = is_some (lookup ends_cmp ends net.arcs)
 

@@ -34,7 +34,7 @@ pub fn law_change()
     ensures gives { (n m : Net) → CanBeNet n → CanBeNet m → after (change n m) n ≡ m }
 {}
 
-/// If the touched nodes and pairs are all that differ, the edits of these are the whole change, in its order.
+/// If the touched nodes and pairs are all that differ, the edits of these are the complete change, in its order.
 pub fn law_touched()
     ensures { (n m : Net) (nodes : List NodeName) (pairs : List (NodeName × NodeName)) → CanBeNet n → CanBeNet m → Touches n m nodes pairs → touched_change n m nodes pairs ≡ change n m }
 {}

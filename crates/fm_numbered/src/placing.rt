@@ -10,7 +10,7 @@ use crate::places::{Places, range_of};
 use fm_cycles::lookup::value_or;
 use fm_net::node::Node;
 
-// Whether the node stands at the place.
+// Whether the node is at the place.
 fn stands_at(nodes: &[Node], place: usize, node: &Node) -> bool
     ensures { IsTrue result ↔ (slice_get nodes.now place ≡ Some node.now) }
 {

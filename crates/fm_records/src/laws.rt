@@ -82,12 +82,12 @@ pub fn law_union()
     ensures { (S T : List Op) → know (S ++ T) ≡ table_join (know S) (know T) }
 {}
 
-/// The operations that spell a table out come to that table.
+/// The operations that a table is written out as have that table.
 pub fn law_ops()
     ensures { (k : Table) → IsTable k → know (ops k) ≡ k }
 {}
 
-/// Any set comes to a table's form, and a set in range to a possible table.
+/// The table of any set has the form of tables, and that of a set in range is possible.
 pub fn law_can_be()
     ensures form { (S : List Op) → IsTable (know S) }
     ensures ranges { (S : List Op) → IsTrue (all_in_range S) → CanBe (know S) }

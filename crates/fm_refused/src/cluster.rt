@@ -1,7 +1,7 @@
 //! What is known of a cluster.
 //!
-//! Calls with long contracts stand by themselves here and elsewhere, in functions without one: so the proofs of what goes through
-//! many of them are short.
+//! Calls with long contracts are by themselves here and elsewhere, in functions without one: so the proofs of what
+//! goes through many of them are short.
 
 use fm_delta::packet::Packet;
 use fm_know::knowledge::Knowledge;
@@ -127,7 +127,7 @@ pub(crate) fn op(number: u32) -> Op {
     }
 }
 
-/// What these operations come to, the second number's not among them.
+/// The knowledge of these operations, the second number's not among them.
 pub(crate) fn known(alloc: Global, from: u32, to: u32) -> Result<Knowledge, Refusal> {
     let mut known = Knowledge::empty(alloc);
     for number in from..to {
@@ -207,7 +207,7 @@ pub(crate) fn are_same(one: &Knowledge, other: &Knowledge) -> bool {
     one == other
 }
 
-/// A packet of what these operations come to.
+/// A packet of the knowledge of these operations.
 pub(crate) fn packet(alloc: Global, from: u32, to: u32) -> Result<Packet, Refusal> {
     Ok(Packet {
         sender: numbered(2)?,

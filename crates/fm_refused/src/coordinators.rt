@@ -1,4 +1,4 @@
-//! Coordinators: what happened to one before a call, what it is asked for, and whether two are alike.
+//! Coordinators: what happened to one before a call, the call, and whether two are equal.
 
 ghost use Rattle.std.specs.Prelude.{[], IsTrue, IfOk};
 ghost use Rattle.fm_records.specs.Know.{know};
@@ -66,7 +66,7 @@ impl Kind {
     }
 }
 
-/// A coordinator that took operations in, let its first deltas go, gave a packet, and took some in again.
+/// A coordinator that was told operations, dropped its first deltas, cut a packet, and was told some again.
 pub(crate) fn made(memory: Memory, kind: Kind, number: u8) -> Result<Either, Refusal> {
     let mut coordinator = begun(memory, kind, number)?;
     go_on(&mut coordinator, 0)?;

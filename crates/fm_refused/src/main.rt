@@ -1,5 +1,5 @@
-//! Calls that run out of memory, and a look at what that leaves. Each is made on values that are made again for it, and
-//! a line says its result: its name, and a verdict.
+//! Calls that run out of memory, and checks of what that leaves. Each is made on fresh values, and a line says its
+//! result: its name, and a verdict.
 //!
 //! With no word memory is ample. If this program runs on the allocator of tests/refusing.c, words can ask for more:
 //! with a number that allocation within each call is refused; with a second number further ones in turn, each by so
@@ -135,7 +135,7 @@ fn print_kept<W: Wait>(
     print(rt, waits, words, Trial::Kept(Kept::Round, kind))
 }
 
-// Tries a call, with each allocation refused that is to be, until it has no more.
+// Tries a call, with each of the chosen allocations refused in turn, until it has no more.
 fn print<W: Wait>(
     rt: &HostRuntime,
     waits: &W,

@@ -1,4 +1,4 @@
-//! Networks: their texts, their flows, and what a flow comes to.
+//! Networks: their texts, their flows, and the results of flows.
 
 ghost use Rattle.std.specs.Prelude.{◌≡◌, IfOk};
 ghost use Rattle.fm_certificate.specs.Built.{IsBuilt};
@@ -133,7 +133,7 @@ pub(crate) fn writer_for(alloc: Global, bytes: usize) -> Result<Over<Vec<u8>>, R
     Ok(Over::new(room))
 }
 
-/// Whether what went out is the whole text, or if it may be part of it, how it begins.
+/// Whether what was written is the complete text, or, if it may be a part of it, how it begins.
 pub(crate) fn is_part(may_be: bool, out: &[u8], text: &[u8]) -> bool {
     if may_be {
         text.starts_with(out)

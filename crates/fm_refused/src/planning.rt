@@ -1,4 +1,4 @@
-//! Plans: what a flow comes to, what is admitted of it, and what has to stop.
+//! Plans: those of flows, what is admitted of them, and what has to stop.
 
 ghost use Rattle.std.specs.Prelude.{◌≡◌, IfOk};
 ghost use Rattle.fm_certificate.specs.Flows.{units_in, IsFeasible};

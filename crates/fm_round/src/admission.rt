@@ -70,7 +70,7 @@ impl Desk {
         })
     }
 
-    // What the entries came to.
+    // What was admitted of the entries.
     fn into_admitted(self) -> Admitted
         ensures { result ≡ record { ops = self.ops.items; answers = self.answers.items } }
     {

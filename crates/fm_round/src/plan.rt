@@ -18,9 +18,9 @@ use std::alloc::Global;
 
 /// The plan of the flow. The caller must ensure that the network is the knowledge's and that the flow is feasible.
 /// Within an aggregator of a request the i-th task by id that has a unit to it goes to the i-th machine by id, where a
-/// machine stands as often as there are units to it, at the machine's present incarnation; a held task that has a unit
-/// to its job is preempted at its present attempt. Both in the order of the tasks' ids. A walk over the arcs, and O(log
-/// n) for each unit, except those of tasks that stay where they are held.
+/// machine is listed as often as there are units to it, at the machine's present incarnation; a held task that has a
+/// unit to its job is preempted at its present attempt. Both in the order of the tasks' ids. A walk over the arcs, and
+/// O(log n) for each unit, except those of tasks that stay where they are held.
 pub fn plan(
     alloc: Global,
     network: &Network,

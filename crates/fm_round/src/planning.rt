@@ -1,4 +1,4 @@
-//! The plan that a flow comes to.
+//! The plan of a flow.
 
 ghost use Rattle.std.specs.Prelude.{◌≡◌, ◌==◌, ◌++◌, ℕ, None, not, cond, drop, length, replicate, option_to_list, IfOk, OnOk};
 ghost use Rattle.std.specs.List.{filter_map, slice_get};
@@ -19,10 +19,10 @@ use std::alloc::Global;
 use std::collections::{BTreeMap, VecDeque};
 
 /// The plan of a flow, which is given as its arcs with their units, in the order of their ends: within an aggregator of
-/// a request the i-th task that has a unit to it goes to the i-th machine, where a machine stands as often as there are
-/// units to it; a task that is not held and has a unit straight to a machine goes there; each at the machine's present
-/// incarnation. A held task that has a unit to its job is preempted at its present attempt. Both in the order of the
-/// tasks' ids. O(n log n) in the arcs and the units.
+/// a request the i-th task that has a unit to it goes to the i-th machine, where a machine is listed as often as there
+/// are units to it; a task that is not held and has a unit straight to a machine goes there; each at the machine's
+/// present incarnation. A held task that has a unit to its job is preempted at its present attempt. Both in the order
+/// of the tasks' ids. O(n log n) in the arcs and the units.
 pub fn plan_of(
     alloc: Global,
     flow: &[((Node, Node), u64)],

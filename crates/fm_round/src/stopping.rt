@@ -53,7 +53,7 @@ fn stop_of(
     })
 }
 
-// Whether the attempt is the task's present one, and just the machine at that incarnation holds the task.
+// Whether the attempt is the task's present one, and exactly the machine at that incarnation holds the task.
 fn is_present_holding(knowledge: &Knowledge, at: (TaskId, u32), spot: Spot) -> bool
     ensures { result ≡ is_present_holding knowledge.now at spot }
 {

@@ -103,7 +103,7 @@ fn unscheduled() -> Node
 }
 
 // The functions below have no contract: the tests are of what is answered, and proofs of them stay short. Each holds
-// few values if it may be refused: a proof looks at what is dropped at each refusal.
+// few values if it may be refused: a proof considers what is dropped at each refusal.
 
 fn coordinator(number: u8) -> Result<CoordId, Refusal> {
     CoordId::new(number).ok_or(Refusal::NoCoordinator)

@@ -36,7 +36,7 @@ fn put(network: &mut Network, node: Node) -> Result<bool, OutOfMemory> {
     network.put_node(node)
 }
 
-// An arc as it stands: capacity and cost.
+// An arc as it is: capacity and cost.
 type Arc = Option<(u64, u32)>;
 
 // Whether this stood when the arc from the machine to the sink is put, if both are there.

@@ -118,7 +118,7 @@ fn picked<R: Threads + Wait + Sync>(
     play::<Brand, R>(rt, alloc, Blank::new(2), coordinator, scene)
 }
 
-// Functions that may be refused hold few values there: a proof looks at what is dropped at each refusal.
+// Functions that may be refused hold few values there: a proof considers what is dropped at each refusal.
 
 // What a wait beyond its range is answered, what a cut below the floor, and the number of the first packet.
 fn asked_in_turn<L: NodeName, R: Wait>(

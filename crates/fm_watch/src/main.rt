@@ -1,4 +1,4 @@
-//! What an Editor makes of a script's operations: it reads a script and takes in the operations that are told, those
+//! The edits of an Editor for a script's operations: it reads a script and merges the operations that are told, those
 //! before each cut as one delta, whichever coordinator is told them. For each delta it prints a line, the edits of
 //! the network, and the keys that were looked up. With the word `looks` two coordinators are told the operations, one
 //! that edits or builds its network and one that builds it, and are looked at at each cut: it prints whether both
@@ -97,8 +97,8 @@ fn script(rt: &HostRuntime) -> Result<Script, Refusal>
     read_script(rt.alloc(), text.as_slice())
 }
 
-// What was taken in, and what was told since. Functions that may be refused hold one value each: a proof looks at what
-// is let go at each refusal.
+// What was taken in, and what was told since. Functions that may be refused hold one value each: a proof considers
+// what is dropped at each refusal.
 #[derive(Drop)]
 struct Watch {
     followed: Followed,
@@ -178,7 +178,7 @@ fn timed(
     Ok(followed)
 }
 
-// How many edits taking the delta in comes to, and how many nanoseconds it took.
+// How many edits merging the delta takes, and how many nanoseconds it took.
 fn taken_in(
     rt: &HostRuntime,
     followed: Followed,

@@ -32,7 +32,7 @@ look_of w = if bytes_eq w (codes "--") then dashes
     else flag_or_plain (long_of w) (option_and_then (λ flags. slice_get (chars flags) 0) (short_of w))
 
 -- the whole number that a word spells, if it is no less than the least and no greater than the most: decimal digits,
--- one at least, that may stand behind `+`; behind `-` only 0
+-- one at least, that may follow `+`; behind `-` only 0
 abbrev pub number_in : ℕ → ℕ → Text → Option ℕ
 number_in least most v =
     let digits = without_leading_sign v in

@@ -1,4 +1,4 @@
--- What the words of a command line come to, without the texts that are printed (this project's profile).
+-- What the words of a command line ask for, without the texts that are printed (this project's profile).
 use Rattle.std.specs.Prelude.{ℕ, List, Option}
 use Rattle.fm_words.specs.declared.words.Question.{Question}
 use Rattle.fm_words.specs.declared.words.Command.{Command}

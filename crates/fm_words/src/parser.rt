@@ -13,7 +13,7 @@ use clap::{Arg, ArgAction, Command, value_parser};
 use fm_lattice::join::OutOfMemory;
 use std::alloc::Global;
 
-/// The program, with its commands in the order of their names, but that `plan` is behind `solve`.
+/// The program, with its commands in the order of their names, except that `plan` is after `solve`.
 pub fn parser<'a>(alloc: Global) -> Result<Command<'a>, OutOfMemory>
     ensures { IfOk result (λ c. app_of c ≡ firmament) }
 {

@@ -20,7 +20,7 @@ pub const MOST_ROUNDS: i64 = 1_000;
 /// entry takes about a kilobyte, so that a history takes some 100 MB; renewing them copies what they know once.
 pub const DEFAULT_RENEW_AFTER: u32 = 100_000;
 
-/// The most that may be told: as many entries as a history can have.
+/// The greatest number that may be given: as many entries as a history can have.
 pub const MOST_RENEW_AFTER: i64 = 1_000_000;
 
 /// What the program is asked to do.
@@ -49,7 +49,7 @@ pub enum Question {
     Winners,
 }
 
-/// What the words come to.
+/// What the words ask for.
 #[derive(Debug, Drop)]
 pub enum Words<'a> {
     Run(Command<'a>),
@@ -65,9 +65,9 @@ pub enum Words<'a> {
     Wrong(String),
 }
 
-/// Reads the words of a command line, the program's own name first. `heard` defines what any words ask for; what the
-/// texts of help and of wrong words say is left open. `OutOfMemory` is the one refusal, and words that ask for the page
-/// of refusals are never refused.
+/// Reads the words of a command line, the program's own name first. `heard` defines what any words ask for; the texts
+/// of help and of wrong words are not defined. `OutOfMemory` is the only refusal, and words that ask for the page of
+/// refusals are never refused.
 pub fn read_words<'a>(alloc: Global, words: &'a [String]) -> Result<Words<'a>, Refusal>
     ensures heard { IfOk result (λ w. told_of w ≡ heard (map string_bytes words.entry.now)) }
     ensures refusals { IsTrue (ask_for_refusals (map string_bytes words.entry.now)) → result ≡ Ok asked.Refusals }

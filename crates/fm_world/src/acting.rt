@@ -47,7 +47,7 @@ pub(crate) fn act_at<N: NetKeeper>(
     }
 }
 
-// The call that the act comes to: a delivery looks its packet up. For a cut there is room for one more packet then.
+// The call of the act: a delivery looks its packet up. For a cut there is room for one more packet then.
 // NoPacket, or as the coordinator would refuse the call; then the packets are unchanged.
 fn call_for<N: NetKeeper>(
     coordinator: &Coordinator<N>,
