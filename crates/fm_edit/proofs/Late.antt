@@ -38,8 +38,7 @@ module _ (joins : (k l : Table) → CanBe k → CanBe l → changed_keys (table_
   pub follows_on : (o : Option Editor) → TookIn true (CanFollow o built net old) now keys → CanFollow o built net new now
   follows_on (Some e) t =
       let held = t.for_before refl in
-      let u = held.1 in
-      (
+      let u = held.1 in (
         held.0,
         record {
           before = u.before;

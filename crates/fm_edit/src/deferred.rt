@@ -169,7 +169,11 @@ impl Deferred {
         ensures stale { OnErr result (self.new.built ≡ false) }
         ensures err { OnErr result (self.new.builds ≡ self.old.builds) }
     {
-        let calm = if self.much { 0 } else { self.calm.saturating_add(1) };
+        let calm = if self.much {
+            0
+        } else {
+            self.calm.saturating_add(1)
+        };
         self.forget(alloc);
         // The old network goes first, so that there are never two.
         self.network = Shared::new(alloc, Network::new(alloc)?)?;
@@ -199,7 +203,10 @@ impl Deferred {
 
 // How many keys are few in what is known.
 fn few_of(now: &Knowledge) -> usize {
-    let size = now.machines().len().max(now.tasks().len() / TASKS_PER_MACHINE);
+    let size = now
+        .machines()
+        .len()
+        .max(now.tasks().len() / TASKS_PER_MACHINE);
     ALWAYS_FEW.max(size / MACHINES_PER_RECORD)
 }
 

@@ -52,7 +52,11 @@ impl Editor {
 
     /// Fresh, with a network that was built of what is known. What there is to remember is filled in from there: O(n
     /// log n).
-    pub(crate) fn of(alloc: Global, network: Network, now: &Knowledge) -> Result<Editor, OutOfMemory>
+    pub(crate) fn of(
+        alloc: Global,
+        network: Network,
+        now: &Knowledge,
+    ) -> Result<Editor, OutOfMemory>
         requires { network ≡ net_of now.now }
         ensures fresh { IfOk result (λ e. IsTrue (is_fresh_editor e)) }
         ensures given { IfOk result (λ e. IsFor e now.now) }

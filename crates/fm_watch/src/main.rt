@@ -24,10 +24,10 @@ use fm_streams::input::read_input;
 use fm_streams::source::Input;
 use followed::{Followed, Taken};
 use looked::Looked;
-use stepped::take_first;
 use std::alloc::Global;
 use std::env;
 use std::time::Instant;
+use stepped::take_first;
 
 fn main(rt: HostRuntime) -> Result<(), anyhow::Error> {
     let script = script(&rt)?;
