@@ -126,7 +126,7 @@ class Coordinator:
             self.deltas = self.own = self._entries = 1
             self._renews_at = self._renew_after
         elif self._entries >= MOST_ENTRIES:
-            raise Failure(FOLLOWER_ENDED, "the history is full, and the follower has no memory to be made anew")
+            raise Failure(FOLLOWER_ENDED, "the history is full, and the follower had no memory to renew it")
         else:
             self._renews_at = min(MOST_ENTRIES, self._entries + self._renew_after // 10)
 
