@@ -6,11 +6,13 @@
 pub mod coord;
 pub mod delta;
 pub mod dimacs;
+pub mod edit;
 pub mod fleet;
 pub mod know;
 pub mod lattice;
 pub mod lines;
 pub mod net;
+pub mod policy;
 pub mod records;
 pub mod round;
 pub mod schedule;
