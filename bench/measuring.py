@@ -56,3 +56,10 @@ def lemon_times(program, dump, cost):
     if not found or any(int(line[1]) != cost for line in found):
         sys.exit("bench: the costs differ: %d here, LEMON says\n%s" % (cost, said))
     return {name: (float(run) / 1000, (float(read) + float(build) + float(run)) / 1000) for name, _, read, build, run in found}
+
+
+def machine():
+    """What this runs on: the processor, its cores, and how much other work there is."""
+    info = pathlib.Path("/proc/cpuinfo")
+    named = re.search(r"^model name\s*: (.*)$", info.read_text(), re.M) if info.exists() else None
+    return "%s, %d cores, load %.1f at the start" % (named[1] if named else os.uname().machine, os.cpu_count(), os.getloadavg()[0])

@@ -11,16 +11,17 @@ from .followers import Follower, line_of, told
 Packet = collections.namedtuple("Packet", "digits facts")
 # an entry of a plan with its answer; `number` is the incarnation of a place, and the attempt of a preempt
 Entry = collections.namedtuple("Entry", "kind task number machine answer")
-# what changes for a task: `kind` is entry, attempt or done, and an entry has who proposes and where
+# what changes for a task: `kind` is entry, attempt, done or withdrawn, and an entry has who proposes and where
 Fact = collections.namedtuple("Fact", "kind task attempt coordinator spot", defaults=(None, None))
 
 
 class Known:
     """What one coordinator knows of placements, after the rules of docs/model.md: the present attempt of each task, who proposes what
-    for each attempt, and at which attempt a task was done. `news` are the facts of its own since they were last taken."""
+    for each attempt, at which attempt a task was done, and which are of jobs that were withdrawn. `news` are the facts of its own since
+    they were last taken."""
 
     def __init__(self):
-        self.attempts, self.entries, self.done, self.news = {}, {}, {}, []
+        self.attempts, self.entries, self.done, self.withdrawn, self.news = {}, {}, {}, set(), []
 
     def attempt(self, task):
         return self.attempts.get(task, 0)
@@ -39,6 +40,8 @@ class Known:
             self.entries.setdefault((fact.task, fact.attempt), {})[fact.coordinator] = fact.spot
         elif fact.kind == "done":
             self.done[fact.task] = max(fact.attempt, self.done.get(fact.task, 0))
+        elif fact.kind == "withdrawn":
+            self.withdrawn.add(fact.task)
 
     def placed(self, task, coordinator, spot):
         """A place of its own was accepted: the attempt that it is for, the next one if there is a proposal for the present one."""
@@ -52,9 +55,10 @@ class Known:
         return min(entries.items()) if entries else None
 
     def is_to_run(self, task, attempt, coordinator):
-        """Whether the coordinator's proposal for the attempt is the one that wins, and the task is not done."""
+        """Whether the coordinator's proposal for the attempt is the one that wins, and the task is neither done nor withdrawn."""
         winner = self.winner(task)
-        return attempt == self.attempt(task) and winner is not None and winner[0] == coordinator and not self.is_done(task)
+        is_won = attempt == self.attempt(task) and winner is not None and winner[0] == coordinator
+        return is_won and not self.is_done(task) and task not in self.withdrawn
 
 
 class Member:

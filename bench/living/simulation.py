@@ -28,6 +28,7 @@ class Settings:
     use: tuple = (0.3, 1.1)
     # how long it takes to find out that a machine failed
     detection: float = 1.0
+    first_check: int = 10
     check_every: int = 100
     samples: int = 200
     # operations in one packet of those that tell of the cluster at the start
@@ -110,10 +111,11 @@ class Simulation:
 
     def turn(self, member):
         """A coordinator is told what came, exchanges packets if it is time, and holds a round if there is something new."""
-        count, telling = self.tell(member)
-        packets, stops, taking, renewal = 0, [], 0.0, 0.0
+        count, stops, telling = self.tell(member)
+        packets, taking, renewal = 0, 0.0, 0.0
         if member.operations >= self.settings.exchange_after or member.entries >= self.settings.renew_after:
-            packets, stops, taking, renewal = self.exchange(member)
+            packets, more, taking, renewal = self.exchange(member)
+            stops += more
         seconds, entries, is_checked, starts = None, [], False, []
         if member.is_due:
             is_checked = self.check(member)
@@ -127,16 +129,26 @@ class Simulation:
         self.at(self.ground.time + telling + taking + renewal + (seconds or 0.0), self.end_turn, member, starts, stops)
 
     def tell(self, member):
-        """Tells a coordinator what came: how many operations, and the seconds."""
+        """Tells a coordinator what came: how many operations, runs that are to stop, and the seconds."""
         came, member.inbox = member.inbox, []
-        operations = [self.told_done(member, one) if type(one) is str else one for one in came]
+        operations, stops = [], []
+        for one in came:
+            if type(one) is str:
+                attempt = member.known.attempt(one)
+                member.known.own(Fact("done", one, attempt))
+                one = done(one, attempt)
+            elif one.get("job", {}).get("withdrawn"):
+                stops += self.withdrawn(member, one["job"]["id"])
+            operations.append(one)
         member.is_due = member.is_due or bool(operations)
-        return len(operations), member.tell(operations) if operations else 0.0
+        return len(operations), stops, member.tell(operations) if operations else 0.0
 
-    def told_done(self, member, task):
-        attempt = member.known.attempt(task)
-        member.known.own(Fact("done", task, attempt))
-        return done(task, attempt)
+    def withdrawn(self, member, job):
+        """A coordinator is told that a job is withdrawn: its runs that are to stop."""
+        names = [task.name for task in self.outside.jobs[job].tasks]
+        for name in names:
+            member.known.own(Fact("withdrawn", name, 0))
+        return list(self.stops_of(member, names))
 
     def exchange(self, member):
         """A coordinator sends what is new of its own, and takes in what came: the packets, runs that are to stop, the seconds, and those
@@ -154,7 +166,7 @@ class Simulation:
         member.mail = []
         for packet in came:
             seconds += self.took(member, packet)
-            stops += self.stops_of(member, packet)
+            stops += self.stops_of(member, {fact.task for fact in packet.facts})
         member.is_due = member.is_due or bool(came)
         return len(came), stops, seconds, self.renewed(member)
 
@@ -180,9 +192,9 @@ class Simulation:
         self.counts["renewals"] += 1
         return member.renew()
 
-    def stops_of(self, member, packet):
-        """The runs of the coordinator that are to stop after a packet."""
-        for task in {fact.task for fact in packet.facts}:
+    def stops_of(self, member, tasks):
+        """The runs of these tasks that the coordinator began and that are to stop, by what it knows."""
+        for task in tasks:
             for key in self.ground.runs_of(task):
                 if key[2] == member.number and not member.known.is_to_run(*key):
                     yield key
@@ -238,7 +250,7 @@ class Simulation:
     # what is measured
 
     def check(self, member):
-        if self.judge is None or self.rounds % self.settings.check_every:
+        if self.judge is None or self.rounds != self.settings.first_check and self.rounds % self.settings.check_every:
             return False
         self.checks.append({"round": self.rounds, "coordinator": member.number, **self.judge(member)})
         return True
@@ -262,10 +274,9 @@ class Simulation:
                 action(*given)
         while any(member.inbox or member.mail or member.deltas > member.uncut for member in self.members):
             for member in self.members:
-                self.tell(member)
-            for member in self.members:
-                _, stops, _, _ = self.exchange(member)
-                for key in list(stops):
+                _, stops, _ = self.tell(member)
+                _, more, _, _ = self.exchange(member)
+                for key in stops + more:
                     self.waste(self.ground.stop(key))
             while self.queue:
                 _, _, action, given = heapq.heappop(self.queue)

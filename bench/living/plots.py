@@ -1,0 +1,116 @@
+"""Plots of lives as SVG texts, drawn by matplotlib (Debian's python3-matplotlib)."""
+import io
+import re
+
+import matplotlib
+
+matplotlib.use("svg")
+import matplotlib.pyplot as pyplot
+
+from .figures import RULES, value_at
+
+COLORS = "#2a9d8f", "#e9a23b", "#6d5bd0", "#d1495b", "#4a6fa5", "#8a8f98", "#1b4965", "#b07d62"
+STYLE = {
+    "svg.fonttype": "none", "svg.hashsalt": "cluster", "font.family": "sans-serif", "font.size": 10, "axes.spines.top": False,
+    "axes.spines.right": False, "axes.grid": True, "grid.color": "#e3e8ee", "axes.edgecolor": "#94a3b8", "axes.titlesize": 12,
+    "axes.titleweight": "semibold", "axes.titlelocation": "left", "legend.frameon": False, "legend.fontsize": 9,
+    "figure.facecolor": "none", "axes.facecolor": "none", "axes.prop_cycle": matplotlib.cycler(color=COLORS)}
+
+
+def named(life):
+    many = life["coordinators"]
+    return "%s tasks, %s" % (format(life["tasks"], ","), "1 coordinator" if many == 1 else "%d coordinators" % many)
+
+
+def svg(draw, *given, size=(6.2, 3.9)):
+    """The SVG of what a function draws on axes."""
+    with matplotlib.rc_context(STYLE):
+        figure, axes = pyplot.subplots(figsize=size, layout="constrained")
+        draw(axes, *given)
+        text = io.StringIO()
+        figure.savefig(text, format="svg", metadata={"Date": None, "Creator": None})
+        pyplot.close(figure)
+    found = re.search(r"<svg.*</svg>", text.getvalue(), re.S)[0]
+    return re.sub(r'(<svg[^>]*?) width="[^"]*"', r'\1 width="100%"', re.sub(r'(<svg[^>]*?) height="[^"]*"', r"\1", found, count=1), count=1)
+
+
+def latency(axes, lives):
+    for life in lives:
+        points = life["curves"]["latency"]
+        if points:
+            axes.plot([at for _, at in points], [100 * part for part, _ in points], label=named(life), linewidth=1.8)
+    axes.set(title="From told to placed", xscale="log", xlabel="simulated time, ms", ylabel="% of tasks placed", ylim=(0, 101))
+    axes.legend()
+
+
+def alone(lives):
+    """The lives of one coordinator, by size."""
+    return sorted((life for life in lives if life["coordinators"] == 1), key=lambda life: life["tasks"])
+
+
+def rounds(axes, lives):
+    lines = (("a round, median", "round.median", "o-"), ("a round, 99 %", "round.p99", "o--"), ("LEMON's run, from scratch", "beside.lemon", "s-"),
+             ("LEMON with reading", "beside.whole", "s--"))
+    for place, (name, path, form) in enumerate(lines):
+        points = [(life["tasks"], value_at(life, path)) for life in alone(lives) if value_at(life, path)]
+        if points:
+            axes.plot(*zip(*points), form, label=name, color=COLORS[place // 2], markersize=5)
+    axes.set(title="A round by size of the cluster", xscale="log", yscale="log", xlabel="tasks", ylabel="ms")
+    axes.legend()
+
+
+def memory(axes, lives):
+    for life in lives:
+        for number, points in life["curves"]["memory"].items():
+            if number == "1" or number == 1:
+                axes.plot([place for place, _ in points], [now for _, now in points], label=named(life), linewidth=1.8)
+    axes.set(title="Memory of the first coordinator", yscale="log", xlabel="turns", ylabel="MB")
+    axes.legend()
+
+
+def carried(axes, life):
+    for name, key, color in (("least-cost flow", "bandwidth", COLORS[0]), ("random machine with a free slot", "blind", COLORS[1])):
+        points = life["curves"][key]
+        axes.plot([one[0] for one in points], [one[1] for one in points], label="used: " + name, color=color, linewidth=1.8)
+        axes.plot([one[0] for one in points], [one[2] for one in points], "--", label="beyond nics: " + name, color=color)
+    axes.set(title="Bandwidth: " + named(life), xlabel="simulated time, s", ylabel="% of all bandwidth", ylim=(0, None))
+    axes.legend()
+
+
+def beyond(axes, lives):
+    for life in lives:
+        points = life["curves"]["bandwidth"]
+        axes.plot([one[0] for one in points], [one[2] for one in points], label=named(life), linewidth=1.8)
+    points = lives[-1]["curves"]["blind"]
+    axes.plot([one[0] for one in points], [one[2] for one in points], "--", label="random machine with a free slot", color=COLORS[5])
+    axes.set(title="Asked beyond nics, by coordinators that share", xlabel="simulated time, s", ylabel="% of all bandwidth", ylim=(0, None))
+    axes.legend()
+
+
+def refusals(axes, life):
+    spans, below = life["curves"]["refusals"], None
+    times = [span[0] for span in spans]
+    width = times[1] - times[0] if len(times) > 1 else 1
+    for place, rule in enumerate(RULES):
+        heights = [span[1 + place] for span in spans]
+        if any(heights):
+            axes.bar(times, heights, width, below, align="edge", label=rule, color=COLORS[place])
+            below = heights if below is None else [one + two for one, two in zip(below, heights)]
+    axes.set(title="Refused by admission: " + named(life), xlabel="simulated time, s", ylabel="entries of plans")
+    if below is not None:
+        axes.legend()
+
+
+def all_plots(lives):
+    """Each plot as a name and an SVG."""
+    yield "latency", svg(latency, lives)
+    yield "rounds", svg(rounds, lives)
+    yield "memory", svg(memory, lives)
+    largest, most = max(lives, key=lambda life: (life["tasks"], -life["coordinators"])), max(lives, key=lambda life: life["coordinators"])
+    yield "bandwidth", svg(carried, largest)
+    if most["coordinators"] > 1:
+        same = sorted((life for life in lives if life["tasks"] == most["tasks"]), key=lambda life: life["coordinators"])
+        yield "beyond", svg(beyond, same)
+    yield "refusals", svg(refusals, largest)
+    if most["coordinators"] > 1:
+        yield "refusals of many", svg(refusals, most)
