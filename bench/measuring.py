@@ -35,6 +35,14 @@ def used(program, words, script):
     return taken, usage.ru_maxrss * 1024
 
 
+def python_with(module):
+    """A Python that has the module, this one or Debian's; None if neither has."""
+    for python in (sys.executable, "/usr/bin/python3"):
+        if shutil.which(python) and subprocess.run([python, "-c", "import " + module], stderr=subprocess.DEVNULL).returncode == 0:
+            return python
+    return None
+
+
 def lemon(folder):
     """The program that runs LEMON's solvers, made in the folder; None, with a line that says why, where it cannot be made."""
     compiler, program = shutil.which("g++"), pathlib.Path(folder) / "lemon"

@@ -9,9 +9,11 @@ RULES = "gone", "held", "attempts-spent", "contested", "no-slot", "no-room"
 # the columns of the table of lives: a heading, and the path to a value
 COLUMNS = (
     ("tasks", "tasks"), ("machines", "machines"), ("coordinators", "coordinators"), ("seconds", "seconds"), ("rounds", "rounds"),
-    ("tasks told", "tasks_told"), ("round, median ms", "round.median"), ("round, 99 % ms", "round.p99"), ("round, most ms", "round.most"),
+    ("tasks told", "tasks_told"), ("start: told in, s", "start.telling"), ("start: rounds", "start.rounds"),
+    ("start: first round, ms", "start.first_round"), ("round, median ms", "round.median"), ("round, 99 % ms", "round.p99"),
+    ("round, most ms", "round.most"), ("telling before it, median ms", "telling.median"), ("taking in packets, median ms", "taking.median"),
     ("turn, median ms", "turn.median"), ("latency, median ms", "latency.median"), ("latency, 99 % ms", "latency.p99"),
-    ("LEMON's run, ms", "beside.lemon"), ("with reading, ms", "beside.whole"), ("costs checked", "beside.checks"),
+    ("network and its text, ms", "beside.graph"), ("solve, ms", "beside.solve"), ("plan, ms", "beside.plan"), ("LEMON's run, ms", "beside.lemon"), ("with reading, ms", "beside.whole"), ("costs checked", "beside.checks"),
     ("most memory, MB", "memory"), ("places refused", "refused_places"), ("preempted", "preempted"),
     ("bandwidth used, %", "bandwidth.carried"), ("beyond nics, %", "bandwidth.beyond"),
     ("blind: used, %", "blind.carried"), ("blind: beyond nics, %", "blind.beyond"), ("runs in vain, %", "stale.wasted"),

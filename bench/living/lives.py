@@ -205,20 +205,40 @@ def event_of(row, tasks):
     if row["event"] == "job":
         return Job(time, name, int(row["wait"]), int(row["preempt"]), tuple(tasks[name]))
     kinds = {"failure": Failure, "recovery": Recovery, "withdrawal": Withdrawal}
+    if row["event"] not in kinds:
+        raise ValueError("no event is called %r" % row["event"])
     return kinds[row["event"]](time, name)
+
+
+def named_in(table):
+    """The kinds of things that a trace has rows for, with their names."""
+    return {(row["event"], identity(row["name"])) for row in table if row["event"] in ("machine", "job")}
+
+
+def reference_of(row):
+    """What a row is about that is to have a row of its own, or None."""
+    needs = {"task": ("job", "job"), "withdrawal": ("job", "name"), "failure": ("machine", "name"), "recovery": ("machine", "name")}
+    kind, column = needs.get(row["event"], (None, None))
+    return kind and (kind, identity(row[column]))
 
 
 def read_trace(file):
     """The events of a trace in order. A ValueError says which row is none."""
-    table, tasks = list(csv.DictReader(file)), collections.defaultdict(list)
-    events = []
-    for others in (False, True):
-        for number, row in enumerate(table, 2):
-            try:
-                if row["event"] == "task" and not others:
+    table, tasks, events, number = list(csv.DictReader(file)), collections.defaultdict(list), [], 1
+    try:
+        if table and set(COLUMNS) - table[0].keys():
+            raise ValueError("the columns are to be %s" % ",".join(COLUMNS))
+        names = named_in(table) | {None}
+        for of_tasks in (True, False):
+            for number, row in enumerate(table, 2):
+                if (row["event"] == "task") is not of_tasks:
+                    continue
+                if reference_of(row) not in names:
+                    raise ValueError("no %s of this name" % reference_of(row)[0])
+                if of_tasks:
                     tasks[identity(row["job"])].append(task_of(row))
-                elif row["event"] != "task" and others:
+                else:
                     events.append(event_of(row, tasks))
-            except (KeyError, TypeError, ValueError, AttributeError) as fault:
-                raise ValueError("row %d of the trace: %r" % (number, fault)) from fault
+    except (KeyError, TypeError, ValueError, AttributeError) as fault:
+        raise ValueError("row %d of the trace: %s" % (number, fault)) from fault
     return sorted(events, key=lambda event: event.time)

@@ -79,6 +79,7 @@ class Outside:
                 self.over(state, "withdrawn")
             for key in list(self.ground.runs_of(state.task.name)):
                 self.ground.stop(key)
+                self.simulation.counts["runs withdrawn"] += 1
         return self.owner(event.name), [register(job, True)]
 
     def over(self, state, end):
