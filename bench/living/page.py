@@ -23,7 +23,7 @@ a network: packets go from process to process, and each is on its way for a mill
 Parameters and their sources are in <code>bench/README.md</code>."""
 NOTES = """A round plans and admits by what the coordinator knows when it begins; the next one begins when it ended, if something was told or can still
 be placed. Latency is from a task's arrival to the end of the round that places it first, so it contains the rest of the round before; tasks of the
-start are not counted. A turn is all that a coordinator does between two times when it is free: it is told what came, exchanges packets, is renewed,
+start are not counted. A turn is all that a coordinator does between two times when it is free: it exchanges packets, is renewed, is told what came,
 and holds a round. LEMON solves the dump of the same network from scratch (the better of network simplex and cost scaling, the median of the
 rounds that were checked), and costs are equal. Bandwidth is what the running tasks ask for; beyond nics is what the tasks of a machine ask for
 together above its nic. Runs in vain were preempted, lost to another coordinator's proposal, or went on when their task was over."""

@@ -6,6 +6,7 @@ import matplotlib
 
 matplotlib.use("svg")
 import matplotlib.pyplot as pyplot
+import matplotlib.ticker as ticker
 
 from .figures import RULES, value_at
 
@@ -15,6 +16,19 @@ STYLE = {
     "axes.spines.right": False, "axes.grid": True, "grid.color": "#e3e8ee", "axes.edgecolor": "#94a3b8", "axes.titlesize": 12,
     "axes.titleweight": "semibold", "axes.titlelocation": "left", "legend.frameon": False, "legend.fontsize": 9,
     "figure.facecolor": "none", "axes.facecolor": "none", "axes.prop_cycle": matplotlib.cycler(color=COLORS)}
+
+
+def finished(axes, **labels):
+    """Sets labels, plain numbers along logarithmic axes, and a legend if there is something to tell."""
+    axes.set(**labels)
+    for axis in (axes.xaxis, axes.yaxis):
+        if axis.get_scale() == "log":
+            axis.set_major_formatter(ticker.FuncFormatter(lambda value, _: format(value, ",.10g")))
+            axis.set_minor_formatter(ticker.NullFormatter())
+    if axes.get_legend_handles_labels()[0]:
+        axes.legend()
+    else:
+        axes.text(0.5, 0.5, "none", transform=axes.transAxes, ha="center", color=COLORS[5])
 
 
 def named(life):
@@ -39,8 +53,7 @@ def latency(axes, lives):
         points = life["curves"]["latency"]
         if points:
             axes.plot([at for _, at in points], [100 * part for part, _ in points], label=named(life), linewidth=1.8)
-    axes.set(title="From told to placed", xscale="log", xlabel="simulated time, ms", ylabel="% of tasks placed", ylim=(0, 101))
-    axes.legend()
+    finished(axes, title="From told to placed", xscale="log", xlabel="simulated time, ms", ylabel="% of tasks placed", ylim=(0, 101))
 
 
 def alone(lives):
@@ -55,8 +68,7 @@ def rounds(axes, lives):
         points = [(life["tasks"], value_at(life, path)) for life in alone(lives) if value_at(life, path)]
         if points:
             axes.plot(*zip(*points), form, label=name, color=COLORS[place // 2], markersize=5)
-    axes.set(title="A round by size of the cluster", xscale="log", yscale="log", xlabel="tasks", ylabel="ms")
-    axes.legend()
+    finished(axes, title="A round by size of the cluster", xscale="log", yscale="log", xlabel="tasks", ylabel="ms")
 
 
 def memory(axes, lives):
@@ -64,8 +76,7 @@ def memory(axes, lives):
         for number, points in life["curves"]["memory"].items():
             if number == "1" or number == 1:
                 axes.plot([place for place, _ in points], [now for _, now in points], label=named(life), linewidth=1.8)
-    axes.set(title="Memory of the first coordinator", yscale="log", xlabel="turns", ylabel="MB")
-    axes.legend()
+    finished(axes, title="Memory of the first coordinator", yscale="log", xlabel="turns", ylabel="MB")
 
 
 def carried(axes, life):
@@ -73,8 +84,7 @@ def carried(axes, life):
         points = life["curves"][key]
         axes.plot([one[0] for one in points], [one[1] for one in points], label="used: " + name, color=color, linewidth=1.8)
         axes.plot([one[0] for one in points], [one[2] for one in points], "--", label="beyond nics: " + name, color=color)
-    axes.set(title="Bandwidth: " + named(life), xlabel="simulated time, s", ylabel="% of all bandwidth", ylim=(0, None))
-    axes.legend()
+    finished(axes, title="Bandwidth: " + named(life), xlabel="simulated time, s", ylabel="% of all bandwidth", ylim=(0, None))
 
 
 def beyond(axes, lives):
@@ -83,8 +93,7 @@ def beyond(axes, lives):
         axes.plot([one[0] for one in points], [one[2] for one in points], label=named(life), linewidth=1.8)
     points = lives[-1]["curves"]["blind"]
     axes.plot([one[0] for one in points], [one[2] for one in points], "--", label="random machine with a free slot", color=COLORS[5])
-    axes.set(title="Asked beyond nics, by coordinators that share", xlabel="simulated time, s", ylabel="% of all bandwidth", ylim=(0, None))
-    axes.legend()
+    finished(axes, title="Asked beyond nics, by coordinators that share", xlabel="simulated time, s", ylabel="% of all bandwidth", ylim=(0, None))
 
 
 def refusals(axes, life):
@@ -96,9 +105,7 @@ def refusals(axes, life):
         if any(heights):
             axes.bar(times, heights, width, below, align="edge", label=rule, color=COLORS[place])
             below = heights if below is None else [one + two for one, two in zip(below, heights)]
-    axes.set(title="Refused by admission: " + named(life), xlabel="simulated time, s", ylabel="entries of plans")
-    if below is not None:
-        axes.legend()
+    finished(axes, title="Refused by admission: " + named(life), xlabel="simulated time, s", ylabel="entries of plans")
 
 
 def all_plots(lives):

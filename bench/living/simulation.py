@@ -110,12 +110,13 @@ class Simulation:
             self.at(self.ground.time, self.turn, member)
 
     def turn(self, member):
-        """A coordinator is told what came, exchanges packets if it is time, and holds a round if there is something new."""
-        count, stops, telling = self.tell(member)
-        packets, taking, renewal = 0, 0.0, 0.0
+        """A coordinator exchanges packets if it is time, is told what came, and holds a round if there is something new. What it sends
+        was there at its last round, so others have no tasks to place that it is about to place."""
+        packets, stops, taking, renewal = 0, [], 0.0, 0.0
         if member.operations >= self.settings.exchange_after or member.entries >= self.settings.renew_after:
-            packets, more, taking, renewal = self.exchange(member)
-            stops += more
+            packets, stops, taking, renewal = self.exchange(member)
+        count, more, telling = self.tell(member)
+        stops += more
         seconds, entries, is_checked, starts = None, [], False, []
         if member.is_due:
             is_checked = self.check(member)
