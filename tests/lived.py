@@ -90,7 +90,7 @@ def adds_up(name, simulated):
     listed = sum(turn.places + turn.preempts for turn in turns)
     answered = simulated.counts["placed"] + simulated.counts["preempted"] + sum(simulated.refused.values())
     yield name + ": each entry of a plan has one answer", listed == answered > 0
-    started = simulated.counts["placed"] - simulated.counts["placed where a machine had gone"]
+    started = simulated.counts["placed"] - sum(simulated.counts[it] for it in ("placed where a machine had gone", "preempted at the start"))
     ended = found["done"] + simulated.counts["runs stopped"] + simulated.counts["runs lost with machines"] + simulated.counts["runs withdrawn"]
     yield name + ": each run that began ended or runs", started == ended + len(simulated.ground.runs)
     told = sum(turn.told for turn in turns)
@@ -99,7 +99,7 @@ def adds_up(name, simulated):
 
 def lives_of(program):
     """A thousand tasks, whose coordinators are renewed on the way."""
-    shape = lives.Shape(tasks=1000, machines=83, seconds=20.0, change=0.02, up=1000.0, load=0.8)
+    shape = lives.Shape(tasks=1000, machines=76, seconds=20.0, change=0.02, up=1000.0, load=0.9)
     events = lives.Drawn(shape).events()
     for count in (1, 3, 8):
         name = "a life of %d" % count
@@ -107,7 +107,7 @@ def lives_of(program):
             yield from keeps_all(name, simulated)
             yield from adds_up(name, simulated)
             sums, counts = simulated.ground.sums, simulated.counts
-            yield name + ": machines failed, coordinators were renewed", min(counts["machines failed"], counts["renewals"]) > 0
+            yield name + ": all kinds of things happened", min(counts[it] for it in ("machines failed", "renewals", "preempted")) > 0
             if count == 1:
                 yield name + ": no machine has too much", sums["beyond"] == sums["overfull"] == counts["started twice"] == 0
             else:

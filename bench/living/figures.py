@@ -65,7 +65,7 @@ def refusals(simulation):
 
 def refusals_over_time(simulation):
     """For each of some spans of time its begin, and how many entries each rule refused, in the order of the rules."""
-    spans, seconds = 50, simulation.settings.seconds
+    spans, seconds = 50, simulation.ground.time or 1
     found = [[0] * len(RULES) for _ in range(spans)]
     for turn in simulation.turns:
         row = found[min(spans - 1, int(turn.time / seconds * spans))]
@@ -100,7 +100,7 @@ def beside(checks):
 def stale(simulation):
     """What coordinators did that others would have told them not to, and runs that were of no use, in percent of the time of all runs."""
     names = ("started twice", "started when over", "runs stopped", "told done again", "placed where a machine had gone")
-    whole = sum(one.runs for one in simulation.series) / max(1, len(simulation.series)) * simulation.settings.seconds
+    whole = sum(one.runs for one in simulation.series) / max(1, len(simulation.series)) * simulation.ground.time
     return {**{name.replace(" ", "_"): simulation.counts[name] for name in names}, "wasted": round(100 * simulation.wasted / (whole or 1), 3)}
 
 

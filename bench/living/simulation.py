@@ -86,7 +86,8 @@ class Simulation:
         while is_due:
             seconds, entries = first.round()
             more, preempted = self.taken_in(first, entries)
-            starts += more
+            starts, count = [start for start in starts + more if start[0] not in preempted], len(starts) + len(more)
+            self.counts["preempted at the start"] += count - len(starts)
             self.first_turns.append(self.turn_of(first, 0, 0.0, self.spread(first), seconds, entries))
             is_due = bool(more or preempted) and len(more) < len(entries)
         self.start_all(first, starts)
