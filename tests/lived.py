@@ -169,7 +169,7 @@ def shapes():
     yield "tails: the longest hundredth runs over a tenth of all time", sum(sorted(times)[-1000:]) > sum(times) / 10
     ground = sum(machine.nic for machine in drawn.machines)
     asked = 10000 * sum(drawn.requests) / len(drawn.requests)
-    yield "requests come to the load that is asked for", abs(asked / ground / 0.6 - 1) < 0.01
+    yield "requests come to the load that is asked for", abs(asked / ground / 0.7 - 1) < 0.01
 
 
 def pages(program):

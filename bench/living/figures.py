@@ -75,11 +75,11 @@ def refusals_over_time(simulation):
 
 
 def memory_over_time(simulation):
-    """For each coordinator its rounds so far, and its memory then in MB."""
+    """For each coordinator its memory in MB over time."""
     found = collections.defaultdict(list)
-    for turn in simulation.first_turns + simulation.turns:
-        found[turn.coordinator].append(turn.memory[0])
-    return {number: [[place, round(now / 1e6, 1)] for place, now in thinned(list(enumerate(rows)))] for number, rows in found.items()}
+    for turn in simulation.first_turns[-1:] + simulation.turns:
+        found[turn.coordinator].append([round(turn.time, 3), round(turn.memory[0] / 1e6, 1)])
+    return {number: thinned(rows) for number, rows in found.items()}
 
 
 def start(simulation):

@@ -42,7 +42,7 @@ class Shape:
     change: float = 0.01
     sizes: int = 40
     # the share of all bandwidth that the tasks in steady state ask for
-    load: float = 0.6
+    load: float = 0.7
     # the shares of tasks that prefer machines, and of jobs that are withdrawn
     preferring: float = 0.2
     withdrawn: float = 0.02

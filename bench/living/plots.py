@@ -13,7 +13,7 @@ from .figures import RULES, value_at
 COLORS = "#2a9d8f", "#e9a23b", "#6d5bd0", "#d1495b", "#4a6fa5", "#8a8f98", "#1b4965", "#b07d62"
 STYLE = {
     "svg.fonttype": "none", "svg.hashsalt": "cluster", "font.family": "sans-serif", "font.size": 10, "axes.spines.top": False,
-    "axes.spines.right": False, "axes.grid": True, "grid.color": "#e3e8ee", "axes.edgecolor": "#94a3b8", "axes.titlesize": 12,
+    "axes.spines.right": False, "axes.grid": True, "axes.axisbelow": True, "grid.color": "#e3e8ee", "axes.edgecolor": "#94a3b8", "axes.titlesize": 12,
     "axes.titleweight": "semibold", "axes.titlelocation": "left", "legend.frameon": False, "legend.fontsize": 9,
     "figure.facecolor": "none", "axes.facecolor": "none", "axes.prop_cycle": matplotlib.cycler(color=COLORS)}
 
@@ -26,7 +26,7 @@ def finished(axes, **labels):
             axis.set_major_formatter(ticker.FuncFormatter(lambda value, _: format(value, ",.10g")))
             axis.set_minor_formatter(ticker.NullFormatter())
     if axes.get_legend_handles_labels()[0]:
-        axes.legend()
+        axes.legend(loc="upper left", bbox_to_anchor=(0, -0.14), ncol=2)
     else:
         axes.text(0.5, 0.5, "none", transform=axes.transAxes, ha="center", color=COLORS[5])
 
@@ -74,13 +74,13 @@ def rounds(axes, lives):
 def memory(axes, lives):
     for life in lives:
         for number, points in life["curves"]["memory"].items():
-            if number == "1" or number == 1:
-                axes.plot([place for place, _ in points], [now for _, now in points], label=named(life), linewidth=1.8)
-    finished(axes, title="Memory of the first coordinator", yscale="log", xlabel="turns", ylabel="MB")
+            if int(number) == 1:
+                axes.plot(*zip(*points), label=named(life), linewidth=1.8)
+    finished(axes, title="Memory of the first coordinator", yscale="log", xlabel="simulated time, s", ylabel="MB")
 
 
 def carried(axes, life):
-    for name, key, color in (("least-cost flow", "bandwidth", COLORS[0]), ("random machine with a free slot", "blind", COLORS[1])):
+    for name, key, color in (("least-cost flow", "bandwidth", COLORS[0]), ("random free slot", "blind", COLORS[1])):
         points = life["curves"][key]
         axes.plot([one[0] for one in points], [one[1] for one in points], label="used: " + name, color=color, linewidth=1.8)
         axes.plot([one[0] for one in points], [one[2] for one in points], "--", label="beyond nics: " + name, color=color)
@@ -108,6 +108,18 @@ def refusals(axes, life):
     finished(axes, title="Refused by admission: " + named(life), xlabel="simulated time, s", ylabel="entries of plans")
 
 
+def stale(axes, lives):
+    """What coordinators did in vain, beside what they did."""
+    bars = (("tasks started twice", lambda life: 100 * life["stale"]["started_twice"] / (life["latency"]["count"] or 1)),
+            ("tasks preempted", lambda life: 100 * life["preempted"] / (life["latency"]["count"] or 1)),
+            ("time of runs in vain", lambda life: life["stale"]["wasted"]))
+    for place, (name, part) in enumerate(bars):
+        axes.bar([at + 0.26 * (place - 1) for at in range(len(lives))], [part(life) for life in lives], 0.24, label=name, color=COLORS[place])
+    axes.set_xticks(range(len(lives)), ["%d" % life["coordinators"] for life in lives])
+    finished(axes, title="What stale knowledge costs: %s tasks" % format(lives[0]["tasks"], ","), xlabel="coordinators",
+             ylabel="% of tasks that came, of all run time")
+
+
 def all_plots(lives):
     """Each plot as a name and an SVG."""
     yield "latency", svg(latency, lives)
@@ -118,6 +130,7 @@ def all_plots(lives):
     if most["coordinators"] > 1:
         same = sorted((life for life in lives if life["tasks"] == most["tasks"]), key=lambda life: life["coordinators"])
         yield "beyond", svg(beyond, same)
+        yield "stale", svg(stale, same)
     yield "refusals", svg(refusals, largest)
     if most["coordinators"] > 1:
         yield "refusals of many", svg(refusals, most)
