@@ -69,6 +69,11 @@ pub(crate) fn preferring(near: (u32, u32), far: (u32, u32)) -> Prefer {
     Prefer::new(&entries).unwrap_or_default()
 }
 
+// The number of the task's last attempt.
+fn last_attempt(known: &Knowledge, id: TaskId) -> u32 {
+    known.attempt(id).attempt
+}
+
 impl Cluster {
     /// A cluster of which nothing is known yet.
     pub(crate) fn empty(alloc: Global, sizes: Sizes) -> Cluster {
@@ -250,9 +255,10 @@ impl Cluster {
     /// Proposes the machine for the task's last attempt.
     pub(crate) fn hold(&mut self, number: u32, machine: u32) -> Result<(), Refusal> {
         let id = TaskId::new(scattered(number));
+        let attempt = last_attempt(&self.known, id);
         self.tell(Op::Propose {
             id,
-            attempt: self.known.attempt(id).attempt,
+            attempt,
             coordinator: 1,
             machine: MachineId::new(scattered(machine)),
             incarnation: 1,
@@ -262,9 +268,10 @@ impl Cluster {
     /// The task's last attempt is done.
     pub(crate) fn end(&mut self, number: u32) -> Result<(), Refusal> {
         let id = TaskId::new(scattered(number));
+        let attempt = last_attempt(&self.known, id);
         self.tell(Op::Progress {
             id,
-            attempt: self.known.attempt(id).attempt,
+            attempt,
             phase: Phase::Done,
         })
     }
