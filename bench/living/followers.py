@@ -49,28 +49,31 @@ class Follower:
     def write(self, some):
         """Writes all of it, however little a write takes."""
         left = memoryview(some)
-        while left:
-            left = left[self.run.stdin.write(left):]
+        try:
+            while left:
+                left = left[self.run.stdin.write(left):]
+        except BrokenPipeError:
+            raise self.ended(some) from None
 
     def read(self, line):
         piece = os.read(self.run.stdout.fileno(), 1 << 20)
         if not piece:
-            raise Refused("the program ended with status %s at the line %s" % (self.run.wait(), shown(line)))
+            raise self.ended(line)
         return piece
+
+    def ended(self, line):
+        return Refused("the program ended with status %s at the line %s" % (self.run.wait(), shown(line)))
 
     def ask(self, line):
         """What the answer to a line takes, in seconds, and its text."""
         began = time.perf_counter()
         pieces = []
-        try:
-            self.write(line)
-            while not pieces or not LAST_LINE.search(pieces[-1]):
-                pieces.append(self.read(line))
-                # the last line may come in two pieces
-                if len(pieces) > 1 and len(pieces[-1]) < 20:
-                    pieces[-2:] = [b"".join(pieces[-2:])]
-        except BrokenPipeError:
-            raise Refused("the program ended with status %s at the line %s" % (self.run.wait(), shown(line))) from None
+        self.write(line)
+        while not pieces or not LAST_LINE.search(pieces[-1]):
+            pieces.append(self.read(line))
+            # the last line may come in two pieces
+            if len(pieces) > 1 and len(pieces[-1]) < 20:
+                pieces[-2:] = [b"".join(pieces[-2:])]
         taken, text = time.perf_counter() - began, b"".join(pieces)
         if not text.endswith(b"ok\n"):
             raise Refused("%s of %d bytes: %s" % (text.decode().strip(), len(line), shown(line)))
