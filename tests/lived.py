@@ -152,7 +152,8 @@ def traces():
     yield "a trace is read as it was written", texts[0].getvalue() == texts[1].getvalue() and len(events) > 100
     yield "a life is drawn again", lives.Drawn(shape).events() == events
     yield "another seed", lives.Drawn(lives.Shape(tasks=200, machines=20, seconds=30.0, seed=2)).events() != events
-    for text in ("", "bad\n", "time,event\n1,job\n", BY_HAND.replace("x,J", "x,L"), BY_HAND.replace("failure,A", "failure,B"), BY_HAND.replace("failure", "fail")):
+    changed = [BY_HAND.replace(*pair) for pair in (("x,J", "x,L"), ("failure,A", "failure,B"), ("failure", "fail"), ("800,10", "800,ten"))]
+    for text in ("", "bad\n", "time,event\n1,job\n", *changed):
         try:
             lives.read_trace(io.StringIO(text))
             yield "a trace that is none", False
