@@ -185,7 +185,7 @@ def pages(program):
     with lived(program, events, 1, seconds=40.0) as simulated, tempfile.TemporaryDirectory() as folder:
         blindly = blind.Blind(events, 40.0).live()
         life = figures.figures(simulated, blindly, {"tasks": 2, "machines": 1, "coordinators": 1, "seconds": 40.0})
-        results = {"date": "today", "machine": "this <one>", "build": "any", "command": "none", "lives": [life, {**BROKEN}]}
+        results = {"date": "today", "machine": "this <one>", "build": "any", "command": "none", "clock": "wall", "lives": [life, {**BROKEN}]}
         (pathlib.Path(folder) / "cluster.json").write_text(json.dumps(results))
         done = subprocess.run([python, "-B", "-m", "living.page", folder], cwd=ROOT / "bench", stderr=subprocess.PIPE)
         yield "the page is made: %s" % done.stderr.decode(), done.returncode == 0
