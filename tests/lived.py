@@ -152,7 +152,8 @@ def traces():
     yield "a trace is read as it was written", texts[0].getvalue() == texts[1].getvalue() and len(events) > 100
     yield "a life is drawn again", lives.Drawn(shape).events() == events
     yield "another seed", lives.Drawn(lives.Shape(tasks=200, machines=20, seconds=30.0, seed=2)).events() != events
-    for text in ("time,event\n1,job\n", BY_HAND.replace("x,J", "x,L"), BY_HAND.replace("failure,A", "failure,B"), BY_HAND.replace("failure", "fail")):
+    changed = [BY_HAND.replace(*pair) for pair in (("x,J", "x,L"), ("failure,A", "failure,B"), ("failure", "fail"), ("800,10", "800,ten"))]
+    for text in ("", "bad\n", "time,event\n1,job\n", *changed):
         try:
             lives.read_trace(io.StringIO(text))
             yield "a trace that is none", False
@@ -167,6 +168,8 @@ def shapes():
     yield "sizes of jobs", abs(sum(sizes) / len(sizes) / lives.mean_size(drawn.largest) - 1) < 0.05
     yield "run times: tasks over arrivals", abs(sum(times) / len(times) / 200 - 1) < 0.2
     yield "tails: the longest hundredth runs over a tenth of all time", sum(sorted(times)[-1000:]) > sum(times) / 10
+    some = [5, 1, 4, 2, 3] * 20
+    yield "quantiles", [figures.quantile(sorted(some), part) for part in (0.0, 0.2, 0.201, 0.5, 0.99, 1.0)] == [1, 1, 2, 3, 5, 5]
     ground = sum(machine.nic for machine in drawn.machines)
     asked = 10000 * sum(drawn.requests) / len(drawn.requests)
     yield "requests come to the load that is asked for", abs(asked / ground / 0.7 - 1) < 0.01
@@ -182,7 +185,7 @@ def pages(program):
     with lived(program, events, 1, seconds=40.0) as simulated, tempfile.TemporaryDirectory() as folder:
         blindly = blind.Blind(events, 40.0).live()
         life = figures.figures(simulated, blindly, {"tasks": 2, "machines": 1, "coordinators": 1, "seconds": 40.0})
-        results = {"date": "today", "machine": "this <one>", "build": "any", "command": "none", "lives": [life, {**BROKEN}]}
+        results = {"date": "today", "machine": "this <one>", "build": "any", "command": "none", "clock": "wall", "lives": [life, {**BROKEN}]}
         (pathlib.Path(folder) / "cluster.json").write_text(json.dumps(results))
         done = subprocess.run([python, "-B", "-m", "living.page", folder], cwd=ROOT / "bench", stderr=subprocess.PIPE)
         yield "the page is made: %s" % done.stderr.decode(), done.returncode == 0

@@ -25,12 +25,13 @@ def told(number, operation):
 
 
 class Follower:
-    """The process. With `fixed` seconds a line takes just so long, whatever the clock says: then a life is the same each time."""
+    """The process. Its times are those of the clock; or, with `processor`, those for which it had a processor, as Linux says, whatever else
+    ran on the machine. With `fixed` seconds a line takes just so long: then a life is the same each time."""
 
-    def __init__(self, program, number, fixed=None):
+    def __init__(self, program, number, fixed=None, processor=False):
         words = [*program, "follow", "--renew-after", str(MOST_ENTRIES)]
         self.run = subprocess.Popen(words, stdin=subprocess.PIPE, stdout=subprocess.PIPE, bufsize=0)
-        self.fixed = fixed
+        self.fixed, self.processor = fixed, processor
         self.ask(line_of({"coordinators": [number]}))
 
     def __enter__(self):
@@ -46,32 +47,43 @@ class Follower:
             self.run.wait()
         self.run.stdout.close()
 
+    def time(self):
+        """Seconds, of which differences count. What a process had of a processor is up to date once it waits for the next line."""
+        if not self.processor:
+            return time.perf_counter()
+        there = pathlib.Path("/proc/%d" % self.run.pid)
+        while there.joinpath("stat").read_text().rpartition(")")[2].split()[0] == "R":
+            pass
+        return int(there.joinpath("schedstat").read_text().split()[0]) / 1e9
+
     def write(self, some):
         """Writes all of it, however little a write takes."""
         left = memoryview(some)
-        while left:
-            left = left[self.run.stdin.write(left):]
+        try:
+            while left:
+                left = left[self.run.stdin.write(left):]
+        except BrokenPipeError:
+            raise self.ended(some) from None
 
     def read(self, line):
         piece = os.read(self.run.stdout.fileno(), 1 << 20)
         if not piece:
-            raise Refused("the program ended with status %s at the line %s" % (self.run.wait(), shown(line)))
+            raise self.ended(line)
         return piece
+
+    def ended(self, line):
+        return Refused("the program ended with status %s at the line %s" % (self.run.wait(), shown(line)))
 
     def ask(self, line):
         """What the answer to a line takes, in seconds, and its text."""
-        began = time.perf_counter()
-        pieces = []
-        try:
-            self.write(line)
-            while not pieces or not LAST_LINE.search(pieces[-1]):
-                pieces.append(self.read(line))
-                # the last line may come in two pieces
-                if len(pieces) > 1 and len(pieces[-1]) < 20:
-                    pieces[-2:] = [b"".join(pieces[-2:])]
-        except BrokenPipeError:
-            raise Refused("the program ended with status %s at the line %s" % (self.run.wait(), shown(line))) from None
-        taken, text = time.perf_counter() - began, b"".join(pieces)
+        began, pieces = self.time(), []
+        self.write(line)
+        while not pieces or not LAST_LINE.search(pieces[-1]):
+            pieces.append(self.read(line))
+            # the last line may come in two pieces
+            if len(pieces) > 1 and len(pieces[-1]) < 20:
+                pieces[-2:] = [b"".join(pieces[-2:])]
+        taken, text = self.time() - began, b"".join(pieces)
         if not text.endswith(b"ok\n"):
             raise Refused("%s of %d bytes: %s" % (text.decode().strip(), len(line), shown(line)))
         return self.fixed or taken, text[:-3].decode()
@@ -88,11 +100,11 @@ class Follower:
         return self.fixed * len(lines) if self.fixed else taken
 
     def tell_some(self, lines):
-        began, answers = time.perf_counter(), b""
+        began, answers = self.time(), b""
         self.write(b"".join(lines))
         while answers.count(b"\n") < len(lines):
             answers += self.read(lines[-1])
-        taken = time.perf_counter() - began
+        taken = self.time() - began
         wrong = [(answer, line) for answer, line in zip(answers.split(b"\n"), lines) if answer != b"ok"]
         if wrong:
             raise Refused("%s: %s" % (wrong[0][0].decode(), shown(wrong[0][1])))

@@ -224,9 +224,10 @@ def reference_of(row):
 
 def read_trace(file):
     """The events of a trace in order. A ValueError says which row is none."""
-    table, tasks, events, number = list(csv.DictReader(file)), collections.defaultdict(list), [], 1
+    reader, tasks, events, number = csv.DictReader(file), collections.defaultdict(list), [], 1
+    table = list(reader)
     try:
-        if table and set(COLUMNS) - table[0].keys():
+        if set(COLUMNS) - set(reader.fieldnames or ()):
             raise ValueError("the columns are to be %s" % ",".join(COLUMNS))
         names = named_in(table) | {None}
         for of_tasks in (True, False):

@@ -64,9 +64,9 @@ class Known:
 class Member:
     """A coordinator in a process of its own."""
 
-    def __init__(self, number, program, fixed=None):
+    def __init__(self, number, program, fixed=None, processor=False):
         self.number, self.known = number, Known()
-        self.follower = Follower(program, number, fixed)
+        self.follower = Follower(program, number, fixed, processor)
         # the next delta's number, the first that was not cut yet, the entries of its history, and its operations since the last cut
         self.deltas = self.uncut = self.entries = self.operations = 0
         # what came and it was not told yet, packets that came, whether it does something, and whether a round is due

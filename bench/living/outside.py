@@ -23,7 +23,7 @@ def spec(task, job):
     return {"spec": fields}
 
 
-def machine(name, host):
+def state(name, host):
     return {"machine": {"id": name, "incarnation": host.incarnation, "version": host.version, "writer": 1, "up": host.is_up,
                         "slots": host.slots, "nic": host.nic}}
 
@@ -61,7 +61,7 @@ class Outside:
         self.reports[event.name] = 0
         first = self.ground.time + self.chance.random() * self.settings.report_every
         self.simulation.at(first, self.measure, event.name)
-        return self.owner(event.name), [machine(event.name, self.ground.hosts[event.name])]
+        return self.owner(event.name), [state(event.name, self.ground.hosts[event.name])]
 
     def job(self, event):
         owner = self.owner(event.name)
@@ -74,16 +74,16 @@ class Outside:
     def withdrawal(self, event):
         """A job is withdrawn: what runs of it stops at once."""
         job = self.jobs[event.name]
-        for state in (self.tasks[task.name] for task in job.tasks):
-            if state.end is None:
-                self.over(state, "withdrawn")
-            for key in list(self.ground.runs_of(state.task.name)):
+        for task in job.tasks:
+            if self.tasks[task.name].end is None:
+                self.over(self.tasks[task.name], "withdrawn")
+            for key in list(self.ground.runs_of(task.name)):
                 self.ground.stop(key)
                 self.simulation.counts["runs withdrawn"] += 1
         return self.owner(event.name), [register(job, True)]
 
-    def over(self, state, end):
-        state.end = end
+    def over(self, task, end):
+        task.end = end
         self.live -= 1
 
     def failure(self, event):
@@ -99,11 +99,11 @@ class Outside:
         host = self.ground.hosts[name]
         if not host.is_up and host.incarnation == incarnation:
             host.version += 1
-            self.simulation.hand(self.owner(name), [machine(name, host)])
+            self.simulation.hand(self.owner(name), [state(name, host)])
 
     def recovery(self, event):
         self.ground.recover(event.name)
-        return self.owner(event.name), [machine(event.name, self.ground.hosts[event.name])]
+        return self.owner(event.name), [state(event.name, self.ground.hosts[event.name])]
 
     def measure(self, name):
         """A machine measures what its runs use, which a report says a while later."""
@@ -121,10 +121,10 @@ class Outside:
         run = self.ground.stop(key)
         if run is None:
             return
-        state, coordinator = self.tasks[run.task], self.simulation.numbered[key[2]]
-        if state.end is None:
-            self.over(state, "done")
-            state.finisher = coordinator
+        task, coordinator = self.tasks[run.task], self.simulation.numbered[key[2]]
+        if task.end is None:
+            self.over(task, "done")
+            task.finisher = coordinator
             self.simulation.hand(coordinator, [run.task])
         else:
             self.simulation.waste(run)

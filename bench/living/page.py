@@ -28,6 +28,9 @@ and holds a round. LEMON solves the dump of the same network from scratch (the b
 rounds that were checked), and costs are equal. Bandwidth is what the running tasks ask for; beyond nics is what the tasks of a machine ask for
 together above its nic. Runs in vain were preempted, lost to another coordinator's proposal, or went on when their task was over."""
 
+CLOCKS = {"wall": "Times are by the clock.", "processor": "Times of coordinators are those for which each process had a processor, since the "
+          "machine had other work; LEMON's are by the clock."}
+
 
 def shown(value):
     if value is None:
@@ -60,8 +63,8 @@ def page(results):
     broke = ["<p class=broke>%s tasks, %d coordinators: %s</p>" % (shown(life["tasks"]), life["coordinators"], html.escape(life["broke"]))
              for life in results["lives"] if "broke" in life]
     drawn = "\n".join("<div>%s</div>" % svg for _, svg in plots.all_plots(lives)) if lives else ""
-    how = "Date: %(date)s. Build: %(build)s. Machine: %(machine)s. Command: <code>%(command)s</code>." % {
-        name: html.escape(str(results[name])) for name in ("date", "build", "machine", "command")}
+    how = "Date: %(date)s. Build: %(build)s. Machine: %(machine)s. Command: <code>%(command)s</code>. %(clock)s" % {
+        **{name: html.escape(str(results[name])) for name in ("date", "build", "machine", "command")}, "clock": CLOCKS[results["clock"]]}
     return f"""<!DOCTYPE html>
 <html lang="en"><head><meta charset="utf-8"><title>A cluster, lived through</title><style>{STYLE}</style></head><body>
 <h1>A cluster, lived through</h1>
