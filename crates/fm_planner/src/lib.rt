@@ -10,4 +10,7 @@ mod paths;
 pub mod planned;
 pub mod planner;
 mod prices;
+mod room;
 mod search;
+mod tree;
+mod waiting;
