@@ -44,10 +44,12 @@ pub(crate) fn passes(
 fn are_fair_tasks(knowledge: &Knowledge, tally: &Tally, claim: &Claim) -> bool
     ensures { IsTrue result → AllOf (IsFairTask knowledge.now tally.now claim.now) tally.now.tasks }
 {
+    let mut number = 0usize;
     for (task, live) in tally.tasks.pairs() {
-        if !is_fair_task(knowledge, tally, claim, *task, live) {
+        if !is_fair_task(knowledge, tally, claim, number, *task, live) {
             return false;
         }
+        number = number.saturating_add(1);
     }
     true
 }
@@ -56,12 +58,13 @@ fn is_fair_task(
     knowledge: &Knowledge,
     tally: &Tally,
     claim: &Claim,
+    number: usize,
     task: TaskId,
     live: &LiveTask,
 ) -> bool
     ensures { IsTrue result → IsFairTask knowledge.now tally.now claim.now (task, live.now) }
 {
-    if !rests_fairly(claim, live) && !claim.has_move(task) {
+    if !rests_fairly(claim, number, live) && !claim.has_move(task) {
         return false;
     }
     live.holder.is_some()
@@ -71,11 +74,11 @@ fn is_fair_task(
 
 // Whether the task may rest: preempting it costs no less than the rise of its machine, or letting it wait no more than its request
 // pays.
-fn rests_fairly(claim: &Claim, live: &LiveTask) -> bool
+fn rests_fairly(claim: &Claim, number: usize, live: &LiveTask) -> bool
     ensures { IsTrue result → IsFairAtRest claim.now live.now live.now.holder }
 {
     match live.holder {
-        Some(machine) => claim.rise(machine) <= u64::from(live.price),
+        Some(machine) => claim.rise_at(number, machine) <= u64::from(live.price),
         None => is_left_fairly(claim, live),
     }
 }

@@ -1,16 +1,17 @@
 //! Plans of what is known from a tally of it: no network is built.
 #![tactic(auto)]
 
+mod bits;
 mod board;
 mod checking;
 mod claim;
 mod counts;
 mod making;
+mod numbers;
 mod paths;
 pub mod planned;
 pub mod planner;
 mod prices;
-mod room;
 mod search;
 mod tree;
 mod waiting;

@@ -3,13 +3,13 @@
 //! there, and tasks with wishes are walked over.
 
 use crate::board::{Board, FAR, NONE};
-use crate::room::set_bit;
+use crate::bits::{set_bit, width_of};
 use crate::waiting::{Spot, Waiting};
 use fm_lattice::join::OutOfMemory;
 use std::alloc::Global;
 
-// How often a search goes on from each node at most.
-const MOST_TURNS: usize = 16;
+// How often all searches together reach a node, for each task and machine, at most.
+const MOST_STEPS: usize = 256;
 
 // How a path ends: at a slot of the machine, or with a task that waits again: the last one placed of a request, or one with wishes.
 #[derive(Clone, Copy, Drop)]
@@ -52,8 +52,11 @@ pub(crate) struct Paths {
     now: u64,
     queue: Vec<usize>,
     next: usize,
-    // The full machines that were reached at no cost.
+    // How many more steps may be taken.
+    steps: usize,
+    // The full machines that were reached at no cost, and those of them that the last request reached first.
     near: Vec<u64>,
+    fresh: Vec<u64>,
     source: usize,
     // The cheapest path so far: what it costs, its last node, and how it ends.
     pub(crate) cost: i64,
@@ -73,6 +76,7 @@ impl Paths {
         let nodes = requests
             .saturating_add(places)
             .saturating_add(waiting.wishers.len());
+        let steps = board.holders.len().saturating_add(places);
         Ok(Paths {
             requests,
             places,
@@ -80,7 +84,9 @@ impl Paths {
             now: 0,
             queue: Vec::new(alloc),
             next: 0,
-            near: vec![in alloc; 0; board.room.width()]?,
+            steps: steps.saturating_mul(MOST_STEPS),
+            near: vec![in alloc; 0; width_of(places)]?,
+            fresh: vec![in alloc; 0; width_of(places)]?,
             source: NONE,
             cost: FAR,
             last: NONE,
@@ -124,40 +130,40 @@ impl Paths {
         self.end = End::Leave;
     }
 
-    // Reaches a node, unless it was reached for no more.
+    // Reaches a node, unless it was reached for no more. Answers whether it did.
+    fn touch(&mut self, number: usize, cost: i64, from: usize) -> bool {
+        self.steps = self.steps.saturating_sub(1);
+        match self.nodes.get_mut(number) {
+            Some(node) if node.reached != self.now || cost < node.cost => {
+                node.reached = self.now;
+                node.cost = cost;
+                node.from = from;
+                true
+            }
+            _ => false,
+        }
+    }
+
+    // The same, and puts it into the queue.
     fn reach(&mut self, number: usize, cost: i64, from: usize) -> Result<(), OutOfMemory> {
-        let now = self.now;
-        let Some(node) = self.nodes.get_mut(number) else {
-            return Ok(());
-        };
-        if node.reached == now && node.cost <= cost {
+        if !self.touch(number, cost, from) {
             return Ok(());
         }
-        node.reached = now;
-        node.cost = cost;
-        node.from = from;
-        if node.queued != now {
-            node.queued = now;
-            self.queue.push(number)?;
+        if let Some(node) = self.nodes.get_mut(number) {
+            if node.queued != self.now {
+                node.queued = self.now;
+                self.queue.push(number)?;
+            }
         }
         Ok(())
     }
 
-    // Reaches a machine.
-    fn reach_place(
-        &mut self,
-        board: &Board,
-        place: usize,
-        cost: i64,
-        from: usize,
-    ) -> Result<(), OutOfMemory> {
-        if cost <= 0 {
-            let full = board.full_number(place);
-            if full != NONE {
-                set_bit(&mut self.near, full);
-            }
+    // Notes that a machine was reached for the cost.
+    fn come_near(&mut self, board: &Board, place: usize, cost: i64) {
+        let full = board.full_number(place);
+        if cost <= 0 && full != NONE {
+            set_bit(&mut self.near, full);
         }
-        self.reach(self.place_node(place), cost, from)
     }
 
     // Takes the end of a path, if it is the cheapest so far.
@@ -180,8 +186,8 @@ impl Paths {
     ) -> Result<bool, OutOfMemory> {
         self.begin(source);
         self.reach(source, 0, NONE)?;
-        for _ in 0..self.nodes.len().saturating_mul(MOST_TURNS) {
-            if self.cost <= bound {
+        for _ in 0..self.steps {
+            if self.cost <= bound || self.steps == 0 {
                 break;
             }
             let Some(node) = self.queue.get(self.next).copied() else {
@@ -231,19 +237,71 @@ impl Paths {
         if let Some(worth) = waiting.last_worth(request) {
             self.take_end(cost.saturating_add(worth), request, End::Unplace);
         }
-        self.go_to_full(board, request, cost)?;
+        board.look(request);
+        if waiting.placed == 0 && self.source < self.requests {
+            return self.go_to_requests(board, waiting, request);
+        }
+        self.go_to_full(board, waiting, request, cost)?;
         self.go_to_wishers(waiting, request, request, None, cost)
     }
 
-    // Reaches the full machines with room for the request.
+    // Goes on over full machines with room for the request, if all costs nothing: to requests with tasks on one that no request before
+    // had room on.
+    fn go_to_requests(
+        &mut self,
+        board: &Board,
+        waiting: &Waiting,
+        request: usize,
+    ) -> Result<(), OutOfMemory> {
+        let ones = self.find_fresh(board, request);
+        if ones < board.active.len() {
+            return self.go_to_full(board, waiting, request, 0);
+        }
+        for other in &board.active {
+            self.steps = self.steps.saturating_sub(1);
+            if self.is_reached(*other) {
+                continue;
+            }
+            if let Some(full) = board.units.meets(*other, &self.fresh) {
+                let place = board.full.get(full).copied().unwrap_or(NONE);
+                let node = self.place_node(place);
+                self.touch(node, 0, request);
+                self.reach(*other, 0, node)?;
+            }
+        }
+        for (near, fresh) in self.near.iter_mut().zip(self.fresh.iter()) {
+            *near |= *fresh;
+        }
+        Ok(())
+    }
+
+    // Whether the node is reached.
+    fn is_reached(&self, number: usize) -> bool {
+        match self.nodes.get(number) {
+            Some(node) => node.reached == self.now,
+            None => true,
+        }
+    }
+
+    // Finds the full machines with room for the request that no request before had room on, and counts them.
+    fn find_fresh(&mut self, board: &Board, request: usize) -> usize {
+        let mut ones = 0usize;
+        for (word, (fresh, near)) in self.fresh.iter_mut().zip(self.near.iter()).enumerate() {
+            *fresh = board.room.word(request, word) & !*near;
+            ones = ones.saturating_add(fresh.count_ones() as usize);
+        }
+        ones
+    }
+
+    // Reaches what the full machines with room for the request lead to.
     fn go_to_full(
         &mut self,
-        board: &mut Board,
+        board: &Board,
+        waiting: &Waiting,
         request: usize,
         cost: i64,
     ) -> Result<(), OutOfMemory> {
-        board.look(request);
-        for word in 0..board.full.len().div_ceil(64) {
+        for word in 0..width_of(board.full.len()) {
             let mut bits = board.room.word(request, word);
             if cost >= 0 {
                 bits &= !self.near.get(word).copied().unwrap_or(0);
@@ -257,8 +315,24 @@ impl Paths {
                     .saturating_add(bits.trailing_zeros() as usize);
                 bits &= bits.wrapping_sub(1);
                 let place = board.full.get(full).copied().unwrap_or(NONE);
-                self.reach_place(board, place, cost, request)?;
+                self.go_over(board, waiting, request, place, cost)?;
             }
+        }
+        Ok(())
+    }
+
+    // Goes over a full machine with room for the request. Its own next slot is no cheaper than the request's exit.
+    fn go_over(
+        &mut self,
+        board: &Board,
+        waiting: &Waiting,
+        request: usize,
+        place: usize,
+        cost: i64,
+    ) -> Result<(), OutOfMemory> {
+        self.come_near(board, place, cost);
+        if self.touch(self.place_node(place), cost, request) {
+            self.go_from_full(board, waiting, place, cost)?;
         }
         Ok(())
     }
@@ -287,7 +361,7 @@ impl Paths {
         Ok(())
     }
 
-    // Goes on from a machine: to its next slot, and, if it is full, to the tasks that were placed there.
+    // Goes on from a machine that a task with wishes leads to: to its next slot, or to the tasks that were placed there.
     fn go_by_place(
         &mut self,
         board: &Board,
@@ -298,9 +372,21 @@ impl Paths {
         let node = self.place_node(place);
         let price = board.price_at(place);
         self.take_end(cost.saturating_add(price), node, End::Slot(place));
-        if !board.is_full(place) {
-            return Ok(());
+        if board.is_full(place) {
+            self.go_from_full(board, waiting, place, cost)?;
         }
+        Ok(())
+    }
+
+    // Goes on from a full machine to the tasks that were placed there.
+    fn go_from_full(
+        &mut self,
+        board: &Board,
+        waiting: &Waiting,
+        place: usize,
+        cost: i64,
+    ) -> Result<(), OutOfMemory> {
+        let node = self.place_node(place);
         let mut number = board.first_stream(place);
         for _ in 0..board.streams.len() {
             let Some(stream) = board.streams.get(number) else {
@@ -334,7 +420,9 @@ impl Paths {
         }
         for wish in waiting.wishes_of(&wisher) {
             if wisher.spot != Spot::Straight(wish.place) {
-                self.reach_place(board, wish.place, cost.saturating_sub(wish.gain), node)?;
+                let there = cost.saturating_sub(wish.gain);
+                self.come_near(board, wish.place, there);
+                self.reach(self.place_node(wish.place), there, node)?;
             }
         }
         Ok(())
@@ -394,7 +482,7 @@ impl Paths {
     ) -> Result<(), OutOfMemory> {
         match (self.stop(from), self.stop(to)) {
             (Stop::Request(request), Stop::Place(place)) => board.add(request, place)?,
-            (Stop::Place(place), Stop::Request(request)) => board.remove(request, place),
+            (Stop::Place(place), Stop::Request(request)) => board.remove(request, place)?,
             (Stop::Wisher(wisher), Stop::Request(_)) => waiting.move_to(wisher, Spot::ByRequest),
             (Stop::Wisher(wisher), Stop::Place(place)) => {
                 waiting.move_to(wisher, Spot::Straight(place));

@@ -139,7 +139,7 @@ impl Prices {
         fell
     }
 
-    /// By how much the prices of machines are above their loads, if they are.
+    /// By how much the prices of machines are above their loads.
     pub(crate) fn rises(
         &self,
         alloc: Global,
@@ -148,9 +148,7 @@ impl Prices {
         let mut rises = Sorted::new(alloc);
         for (machine, number) in board.numbers.pairs() {
             let above = at(&self.places, *number).saturating_sub(board.load_at(*number));
-            if above > 0 {
-                rises.put(*machine, u64::try_from(above).unwrap_or(0))?;
-            }
+            rises.put(*machine, u64::try_from(above).unwrap_or(0))?;
         }
         Ok(rises)
     }

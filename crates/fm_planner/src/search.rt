@@ -1,7 +1,7 @@
 //! The search for a plan: waiting tasks are placed by falling worth, each over the cheapest path. After successive shortest
 //! paths, where nearly all costs sit at the two ends of a path. Nothing is claimed of its result: a claim is checked.
 
-use crate::board::{Board, Exit};
+use crate::board::{Board, Exit, requests_of};
 use crate::claim::Claim;
 use crate::paths::Paths;
 use crate::prices::Prices;
@@ -14,14 +14,21 @@ use fm_tally::tally::Tally;
 use fm_ways::way::Way;
 use std::alloc::Global;
 
-/// A claim of a plan of the tally. None if a search does not come to its end.
-/// O(n log n) in the tasks and machines, and a search over requests and full machines for each task that no free slot is left for.
+// For more pairs of a request and a machine, a network is built.
+const MOST_PAIRS: usize = 1 << 26;
+
+/// A claim of a plan of the tally. None if the searches take too many steps, or for too many requests and machines.
+/// O(n log n) in the tasks and machines, and, for each task that no free slot is left for, a search over requests and full machines.
 pub(crate) fn search(
     alloc: Global,
     knowledge: &Knowledge,
     tally: &Tally,
 ) -> Result<Option<Claim>, OutOfMemory> {
-    let mut board = Board::of(alloc, tally)?;
+    let requests = requests_of(alloc, tally)?;
+    if requests.len().saturating_mul(tally.machines.pairs().len()) > MOST_PAIRS {
+        return Ok(None);
+    }
+    let mut board = Board::of(alloc, tally, requests)?;
     let mut waiting = Waiting::of(alloc, knowledge, tally, &mut board)?;
     let mut paths = Paths::of(alloc, &board, &waiting)?;
     if !place_all(alloc, &mut board, &mut waiting, &mut paths)? {
@@ -35,6 +42,7 @@ pub(crate) fn search(
         moves,
         rises,
         offers,
+        holders: board.holders,
     }))
 }
 

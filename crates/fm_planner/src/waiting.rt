@@ -68,6 +68,8 @@ pub(crate) struct Waiting {
     pub(crate) groups: Vec<Group>,
     pub(crate) wishers: Vec<Wisher>,
     wishes: Vec<Wish>,
+    /// How many tasks with wishes are placed.
+    pub(crate) placed: usize,
     // The first wisher at each request, and then at each machine.
     heads: Vec<usize>,
 }
@@ -91,6 +93,7 @@ impl Waiting {
             groups: Vec::new(alloc),
             wishers: Vec::new(alloc),
             wishes: Vec::new(alloc),
+            placed: 0,
             heads: vec![in alloc; NONE; nodes]?,
         };
         for request in 0..board.requests.len() {
@@ -273,8 +276,14 @@ impl Waiting {
         let Some(wisher) = self.wishers.get(number).copied() else {
             return;
         };
-        let from = self.node_of(wisher.request, wisher.spot);
-        self.unlink(&wisher, from);
+        if wisher.spot != Spot::Nowhere {
+            let from = self.node_of(wisher.request, wisher.spot);
+            self.unlink(&wisher, from);
+            self.placed = self.placed.saturating_sub(1);
+        }
+        if spot != Spot::Nowhere {
+            self.placed = self.placed.saturating_add(1);
+        }
         let to = self.node_of(wisher.request, spot);
         let after = self.first_wisher(to);
         if let Some(head) = self.heads.get_mut(to) {
