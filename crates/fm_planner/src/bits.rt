@@ -66,7 +66,10 @@ impl Bits {
         for (at, word) in other.iter().enumerate() {
             let both = *word & self.word(row, at);
             if both != 0 {
-                return Some(at.saturating_mul(64).saturating_add(both.trailing_zeros() as usize));
+                return Some(
+                    at.saturating_mul(64)
+                        .saturating_add(both.trailing_zeros() as usize),
+                );
             }
         }
         None

@@ -20,6 +20,12 @@ fn upper(machine: MachineId) -> u64 {
     (machine.value() >> 64) as u64
 }
 
+// The range of an id.
+fn range_of(least: u64, width: u64, machine: MachineId) -> usize {
+    let above = upper(machine).saturating_sub(least);
+    above.checked_div(width).unwrap_or(0) as usize
+}
+
 impl Numbers {
     /// The machines, ids rising. O(n).
     pub(crate) fn of(
@@ -41,8 +47,9 @@ impl Numbers {
 
     // Finds the first machine of each range.
     fn cut(&mut self) {
+        let (least, width) = (self.least, self.width);
         for (at, pair) in self.pairs.iter().enumerate() {
-            let behind = self.range(pair.0).saturating_add(1);
+            let behind = range_of(least, width, pair.0).saturating_add(1);
             if let Some(first) = self.firsts.get_mut(behind) {
                 *first = at.saturating_add(1);
             }
@@ -54,15 +61,9 @@ impl Numbers {
         }
     }
 
-    // The range of an id.
-    fn range(&self, machine: MachineId) -> usize {
-        let above = upper(machine).saturating_sub(self.least);
-        above.checked_div(self.width).unwrap_or(0) as usize
-    }
-
     // The place of the machine among the others.
     fn place(&self, machine: MachineId) -> Option<usize> {
-        let range = self.range(machine);
+        let range = range_of(self.least, self.width, machine);
         let first = *self.firsts.get(range)?;
         let end = *self.firsts.get(range.saturating_add(1))?;
         let there = self.pairs.get(first..end)?;

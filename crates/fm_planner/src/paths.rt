@@ -2,8 +2,8 @@
 //! task that makes room there. Any other machine is found by a query, so only requests, full machines with tasks that were placed
 //! there, and tasks with wishes are walked over.
 
-use crate::board::{Board, FAR, NONE};
 use crate::bits::{set_bit, width_of};
+use crate::board::{Board, FAR, NONE};
 use crate::waiting::{Spot, Waiting};
 use fm_lattice::join::OutOfMemory;
 use std::alloc::Global;
@@ -85,8 +85,8 @@ impl Paths {
             queue: Vec::new(alloc),
             next: 0,
             steps: steps.saturating_mul(MOST_STEPS),
-            near: vec![in alloc; 0; width_of(places)]?,
-            fresh: vec![in alloc; 0; width_of(places)]?,
+            near: Vec::new(alloc),
+            fresh: Vec::new(alloc),
             source: NONE,
             cost: FAR,
             last: NONE,
@@ -119,15 +119,18 @@ impl Paths {
     }
 
     // Begins a search.
-    fn begin(&mut self, source: usize) {
+    fn begin(&mut self, board: &Board, source: usize) -> Result<(), OutOfMemory> {
         self.now = self.now.saturating_add(1);
         self.queue.clear();
         self.next = 0;
-        self.near.fill(0);
+        self.near.clear();
+        self.near.resize(width_of(board.full.len()), 0)?;
+        self.fresh.resize(width_of(board.full.len()), 0)?;
         self.source = source;
         self.cost = FAR;
         self.last = NONE;
         self.end = End::Leave;
+        Ok(())
     }
 
     // Reaches a node, unless it was reached for no more. Answers whether it did.
@@ -184,7 +187,7 @@ impl Paths {
         source: usize,
         bound: i64,
     ) -> Result<bool, OutOfMemory> {
-        self.begin(source);
+        self.begin(board, source)?;
         self.reach(source, 0, NONE)?;
         for _ in 0..self.steps {
             if self.cost <= bound || self.steps == 0 {
@@ -459,15 +462,18 @@ impl Paths {
 
     // Takes the slot at the path's end, or lets a task wait again.
     fn send_end(&self, board: &mut Board, waiting: &mut Waiting) -> Result<(), OutOfMemory> {
-        match (self.stop(self.last), self.end) {
-            (Stop::Request(request), End::Slot(place)) => {
-                board.add(request, place)?;
+        match self.end {
+            End::Slot(place) => {
+                if self.last < self.requests {
+                    board.add(self.last, place)?;
+                }
                 board.take(place)?;
             }
-            (_, End::Slot(place)) => board.take(place)?,
-            (Stop::Request(request), _) => waiting.unplace_last(request),
-            (Stop::Wisher(wisher), _) => waiting.move_to(wisher, Spot::Nowhere),
-            _ => (),
+            End::Unplace => waiting.unplace_last(self.last),
+            End::Leave => {
+                let wisher = self.last.saturating_sub(self.wisher_node(0));
+                waiting.move_to(wisher, Spot::Nowhere);
+            }
         }
         Ok(())
     }

@@ -49,6 +49,15 @@ pub fn plan_for(alloc: Global, tally: &Tally, knowledge: &Knowledge) -> Result<P
     })
 }
 
+/// A plan of a least flow of the network of what is known. Only memory is refused. It costs what `Tally::of` and `plan_for` do.
+pub fn plan_of(alloc: Global, knowledge: &Knowledge) -> Result<Plan, OutOfMemory>
+    ensures { IfOk result (IsPlanOf knowledge.now) }
+{
+    let tally = Tally::of(alloc, knowledge)?;
+    let planned = plan_for(alloc, &tally, knowledge)?;
+    Ok(planned.plan)
+}
+
 // The plan of the network, which is built and solved.
 fn plan_of_network(alloc: Global, knowledge: &Knowledge) -> Result<Plan, OutOfMemory>
     ensures { IfOk result (IsPlanOf knowledge.now) }
