@@ -1,10 +1,12 @@
 //! The search for a plan: waiting tasks are placed by falling worth, each over the cheapest path. After successive shortest
 //! paths, where nearly all costs sit at the two ends of a path. Nothing is claimed of its result: a claim is checked.
 
-use crate::board::{Board, Exit, requests_of};
+use crate::board::Board;
 use crate::claim::Claim;
+use crate::exits::Exit;
 use crate::paths::Paths;
 use crate::prices::Prices;
+use crate::setup::requests_of;
 use crate::waiting::{Spot, Waiting};
 use fm_know::knowledge::Knowledge;
 use fm_lattice::join::OutOfMemory;
