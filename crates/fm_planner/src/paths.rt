@@ -57,6 +57,8 @@ pub(crate) struct Paths {
     // The full machines that were reached at no cost, and those of them that the last request reached first.
     near: Vec<u64>,
     fresh: Vec<u64>,
+    // The requests with tasks on full machines that are yet to be reached.
+    rest: Vec<usize>,
     source: usize,
     // The cheapest path so far: what it costs, its last node, and how it ends.
     pub(crate) cost: i64,
@@ -87,6 +89,7 @@ impl Paths {
             steps: steps.saturating_mul(MOST_STEPS),
             near: Vec::new(alloc),
             fresh: Vec::new(alloc),
+            rest: Vec::new(alloc),
             source: NONE,
             cost: FAR,
             last: NONE,
@@ -123,6 +126,8 @@ impl Paths {
         self.now = self.now.saturating_add(1);
         self.queue.clear();
         self.next = 0;
+        self.rest.clear();
+        self.rest.extend_from_slice(&board.active)?;
         self.near.clear();
         self.near.resize(width_of(board.full.len()), 0)?;
         self.fresh.resize(width_of(board.full.len()), 0)?;
@@ -257,25 +262,49 @@ impl Paths {
         request: usize,
     ) -> Result<(), OutOfMemory> {
         let ones = self.find_fresh(board, request);
-        if ones < board.active.len() {
+        if ones < self.rest.len() {
             return self.go_to_full(board, waiting, request, 0);
         }
-        for other in &board.active {
+        let mut at = 0usize;
+        for _ in 0..self.rest.len() {
+            let Some(other) = self.rest.get(at).copied() else {
+                break;
+            };
             self.steps = self.steps.saturating_sub(1);
-            if self.is_reached(*other) {
-                continue;
-            }
-            if let Some(full) = board.units.meets(*other, &self.fresh) {
+            if let Some(full) = self.meeting(board, other) {
                 let place = board.full.get(full).copied().unwrap_or(NONE);
                 let node = self.place_node(place);
                 self.touch(node, 0, request);
-                self.reach(*other, 0, node)?;
+                self.reach(other, 0, node)?;
+            }
+            if self.is_reached(other) {
+                self.leave_out(at);
+            } else {
+                at = at.saturating_add(1);
             }
         }
         for (near, fresh) in self.near.iter_mut().zip(self.fresh.iter()) {
             *near |= *fresh;
         }
         Ok(())
+    }
+
+    // A fresh machine with tasks of the request, unless that is reached.
+    fn meeting(&self, board: &Board, request: usize) -> Option<usize> {
+        if self.is_reached(request) {
+            return None;
+        }
+        board.units.meets(request, &self.fresh)
+    }
+
+    // Leaves a request out of those that are yet to be reached.
+    fn leave_out(&mut self, at: usize) {
+        let Some(last) = self.rest.pop() else {
+            return;
+        };
+        if let Some(request) = self.rest.get_mut(at) {
+            *request = last;
+        }
     }
 
     // Whether the node is reached.
