@@ -35,8 +35,16 @@ def used(program, words, script):
     return taken, usage.ru_maxrss * 1024
 
 
+def python_with(module):
+    """A Python that has the module, this one or Debian's; None if neither has."""
+    for python in (sys.executable, "/usr/bin/python3"):
+        if shutil.which(python) and subprocess.run([python, "-c", "import " + module], stderr=subprocess.DEVNULL).returncode == 0:
+            return python
+    return None
+
+
 def lemon(folder):
-    """The program that runs LEMON's solvers, made in the folder; None, with a line that says why, where it cannot be made."""
+    """The program that runs LEMON's solvers, made in the folder; None, with a line that says why, if it cannot be made."""
     compiler, program = shutil.which("g++"), pathlib.Path(folder) / "lemon"
     if compiler is None:
         print("bench: skips LEMON: no g++ here")
@@ -56,3 +64,10 @@ def lemon_times(program, dump, cost):
     if not found or any(int(line[1]) != cost for line in found):
         sys.exit("bench: the costs differ: %d here, LEMON says\n%s" % (cost, said))
     return {name: (float(run) / 1000, (float(read) + float(build) + float(run)) / 1000) for name, _, read, build, run in found}
+
+
+def machine():
+    """What this runs on: the processor, its cores, and how much other work there is."""
+    info = pathlib.Path("/proc/cpuinfo")
+    named = re.search(r"^model name\s*: (.*)$", info.read_text(), re.M) if info.exists() else None
+    return "%s, %d cores, load %.1f at the start" % (named[1] if named else os.uname().machine, os.cpu_count(), os.getloadavg()[0])

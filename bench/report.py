@@ -1,7 +1,7 @@
 #!/usr/bin/env python3
 """Tables and a plot of what bench/run --all measured, from the file of results that it leaves.
 
-    bench/report.py [FOLDER]    writes FOLDER's tables and times.svg anew from its results.json; FOLDER is bench/ if left out
+    bench/report.py [FOLDER]    writes FOLDER's tables and times.svg again from its results.json; FOLDER is bench/ if left out
     bench/report.py --check     status 1 if those of bench/ are others
 
 In bench/ the tables go into README.md, between the marks of each figure; in another folder into tables.md.
@@ -23,7 +23,7 @@ COLUMNS = {
                *RATIOS),
     "program": (("tasks", "tasks"), ("`winners`", "winners"), ("`graph`", "graph"), ("`solve`", "solve"),
                 ("`graph --at 2` after one packet", "passed_on")),
-    "rounds": (("tasks", "tasks"), ("the network", "network"), ("rounds", "rounds"), ("operations before each", "changed"),
+    "rounds": (("tasks", "tasks"), ("prefer machines", "prefer"), ("rounds", "rounds"), ("operations before each", "changed"),
                ("each, ms", "each"), ("MB that stay", "room")),
     "edits": (("tasks", "tasks"), ("a report", "report"), ("a task done", "done"), ("a proposal", "proposal"), ("a new task", "new"),
               ("building", "built")),
@@ -138,8 +138,7 @@ def picture(results):
     solving = {f"{text}{', ' + script if script else ''}": points(beside, field, script) for field, text in names.items() for script in scripts}
     rounds = {}
     for row in results.get("rounds", {"rows": []})["rows"]:
-        more = "%s operations before it" % row["changed"] if row.get("changed") else "rounds %s" % row["rounds"]
-        name = "each round, network %s, %s" % (row["network"], more)
+        name = "each round after %s operations, %s of the tasks prefer machines" % (row["changed"], row["prefer"])
         rounds.setdefault(name, []).extend([(row["tasks"], row["each"])] if row["each"] > 0 else [])
     plots = (70, "Solving beside LEMON", solving), (560, "A round", rounds)
     panels = [Panel(*plot) for plot in plots if any(plot[2].values())]

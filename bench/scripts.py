@@ -10,10 +10,8 @@ proposal, and every fourth machine has reported a use. Ids are random, so that t
 coordinator 1; with --gossip there is a second, which is delivered all of that in one packet. With --prefer such a share of the
 tasks prefer one to four machines, and nothing else differs.
 
-With --rounds so many rounds come behind, each after one task in 100 (--share) changed: of those a third are done, a third
-are new, and for each of the others a machine reports. Nothing is held at first. Coordinator 1 edits its network once few records
-changed since the round before; --at 2 tells and asks one that always builds it anew. With --quiet the rounds themselves are left
-out.
+With --rounds so many rounds come after that, each after one task in 100 (--share) changed: of those a third are done, a third are
+new, and for each of the others a machine reports. Nothing is held at first. With --quiet the rounds themselves are left out.
 
 With --chain about so many tasks are chained by what they prefer. As many tasks as a machine has slots prefer the first machine and,
 a little less, the second, as many the second and the third, and so on; one task more prefers the first machine alone. So the least
@@ -65,7 +63,7 @@ def script(tasks, machines=None, requests=None, seed=1, gossip=False, prefer=0.0
     sizes = chance.sample(range(1, 1001), requests)
     jobs, hosts, names = ids(chance, max(1, tasks // 50)), ids(chance, machines), ids(chance, tasks)
     told = list(told_before(chance, jobs, hosts, names, sizes))
-    # a chance of its own, so that all else is as it is where nothing is preferred
+    # a chance of its own, so that all else is as it is if nothing is preferred
     liking = random.Random("prefer %d %d" % (tasks, seed))
     told = [preferring(op, hosts, liking) if "spec" in op and liking.random() < prefer else op for op in told]
     for task in names[::10]:
@@ -79,13 +77,15 @@ def script(tasks, machines=None, requests=None, seed=1, gossip=False, prefer=0.0
     return lines(steps, "[1,2]" if gossip else "[1]")
 
 
-def changing(tasks, count, share=100, seed=1, machines=None):
+def changing(tasks, count, share=100, seed=1, machines=None, prefer=0.0):
     """The operations of a cluster, one after another, and for each of so many rounds those of a part of its tasks that changed, and
     then None."""
+    liking = random.Random("prefer %d %d" % (tasks, seed))
     chance = random.Random("rounds %d %d %d" % (tasks, share, seed))
     sizes = chance.sample(range(1, 1001), chance.randint(20, 50))
     jobs, hosts, names = ids(chance, max(1, tasks // 50)), ids(chance, machines or max(1, tasks // 10)), ids(chance, tasks)
-    yield from told_before(chance, jobs, hosts, names, sizes)
+    wishful = lambda op: preferring(op, hosts, liking) if "spec" in op and liking.random() < prefer else op
+    yield from map(wishful, told_before(chance, jobs, hosts, names, sizes))
     reported = 0
     for _ in range(count):
         for change in range(max(1, tasks // share)):
@@ -95,7 +95,7 @@ def changing(tasks, count, share=100, seed=1, machines=None):
                 yield {"progress": {"id": names.pop(), "attempt": 0, "phase": "done"}}
             elif change % 3 == 1:
                 names += ids(chance, 1)
-                yield spec(names[-1], jobs, sizes, chance)
+                yield wishful(spec(names[-1], jobs, sizes, chance))
             else:
                 reported += 1
                 yield {"report": {"id": chance.choice(hosts), "incarnation": 1, "number": reported,
@@ -103,11 +103,10 @@ def changing(tasks, count, share=100, seed=1, machines=None):
         yield None
 
 
-def rounds(tasks, count, at=1, share=100, quiet=False, seed=1):
+def rounds(tasks, count, share=100, prefer=0.0, quiet=False, seed=1):
     """The lines of a script of rounds, each after a part of the tasks changed."""
-    told = [op for op in changing(tasks, count, share, seed) if op is not None or not quiet]
-    steps = [{"at": at, "round": True} if op is None else {"at": at, "tell": op} for op in told]
-    return lines(steps, "[1]" if at == 1 else "[1,2]")
+    told = [op for op in changing(tasks, count, share, seed, prefer=prefer) if op is not None or not quiet]
+    return lines([{"at": 1, "round": True} if op is None else {"at": 1, "tell": op} for op in told], "[1]")
 
 
 # what a task saves at the first and at the second machine that it prefers, beyond what it asks for
@@ -162,7 +161,6 @@ if __name__ == "__main__":
     words.add_argument("--prefer", type=float, default=0.0)
     words.add_argument("--gossip", action="store_true")
     words.add_argument("--rounds", type=int)
-    words.add_argument("--at", type=int, choices=(1, 2), default=1)
     words.add_argument("--share", type=int, default=100)
     words.add_argument("--quiet", action="store_true")
     words.add_argument("--chain", choices=tuple(CREDITS))
@@ -174,4 +172,4 @@ if __name__ == "__main__":
     elif words.rounds is None:
         sys.stdout.writelines(script(words.tasks, words.machines, words.requests, words.seed, words.gossip, words.prefer))
     else:
-        sys.stdout.writelines(rounds(words.tasks, words.rounds, words.at, words.share, words.quiet, words.seed))
+        sys.stdout.writelines(rounds(words.tasks, words.rounds, words.share, words.prefer, words.quiet, words.seed))

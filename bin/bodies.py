@@ -18,7 +18,7 @@ class Edit:
                 old = None
 
     def applied(self, texts):
-        """The texts by their files, with this edit in them; None where it does not fit."""
+        """The texts by their files, with this edit in them; None if it does not fit."""
         changed = dict(texts)
         for file, old, new in self.pairs:
             if file not in changed or changed[file].count(old) != 1:
@@ -27,7 +27,7 @@ class Edit:
         return changed if self.pairs else None
 
     def places(self, texts):
-        """The functions that it changes, as (file, first line, last line); None where one of its places is in none."""
+        """The functions that it changes, as (file, first line, last line); None if one of its places is in none."""
         found = set()
         for file, old, _ in self.pairs:
             if file not in texts or texts[file].count(old) != 1:
@@ -120,7 +120,7 @@ def with_attributes(place, texts):
 
 
 def complaint_of(places, texts, said):
-    """What a check says of one of these functions; None where it refuses none of them for itself."""
+    """What a check says of one of these functions; None if it refuses none of them for itself."""
     where, answers = complaints(said), answers_refused(said)
     whole = [with_attributes(place, texts) for place in places]
     inside = (text for its, line, text in where if any(file == its and first <= line <= last for file, first, last in whole))

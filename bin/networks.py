@@ -45,7 +45,7 @@ class Network:
         return self.next_of(task, "M") is not None and self.next_of(task, "R") is None
 
     def load(self, machine):
-        """The machine's load, which is what an arc from a request costs beside that request; None where it has none."""
+        """The machine's load, which is what an arc from a request costs beside that request; None if it has none."""
         for source in self.into[machine]:
             if self.nodes[source].kind == "R":
                 return self.arcs[source, machine].cost - int(self.nodes[source].name)

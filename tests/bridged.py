@@ -178,7 +178,7 @@ def split(text, wanted):
 # journals, signals, and secrets
 
 def journals(program):
-    """A journal is cut where a line was not written whole, is written anew as one packet, has a head, and one owner."""
+    """A journal is cut where a line was not written whole, is rewritten as one packet, has a head, and one owner."""
     told = list(cluster(3000))
     with tempfile.TemporaryDirectory() as folder, running(program, []) as (broker, _):
         file = pathlib.Path(folder) / "journal"
@@ -265,7 +265,7 @@ def example(program):
 
 
 def skipped(_program):
-    """Where a package is missing, it is named, and nothing fails but what cannot run: without a broker, and without
+    """If a package is missing, it is named, and nothing fails but what cannot run: without a broker, and without
     paho-mqtt."""
     for command, status in ([ROOT / "examples/brokered/run"], 10), ([ROOT / "tests/bridged.py", "words"], 0):
         env = {**os.environ, "MOSQUITTO": "/nowhere"}

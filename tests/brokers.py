@@ -1,5 +1,5 @@
 """A broker and bridges as processes on the loopback address, for tests/bridged.py, examples/brokered/run and
-bench/bridge. All of them end with whoever started them, by `with`."""
+bench/bridge. All of them end with the process that started them, by `with`."""
 import getpass
 import importlib.util
 import json
@@ -34,7 +34,7 @@ def mosquitto():
 
 
 def missing():
-    """The Debian packages that are not installed, of those that a broker and a bridge want."""
+    """The Debian packages that are not installed, of those that a broker and a bridge needs."""
     has_paho = importlib.util.find_spec("paho") is not None or subprocess.run(
         ["/usr/bin/python3", "-c", "import paho.mqtt"], stderr=subprocess.DEVNULL).returncode == 0
     return [name for name, there in (("mosquitto", mosquitto() is not None), ("python3-paho-mqtt", has_paho)) if not there]
@@ -182,7 +182,7 @@ class Bridge:
         self.reader.join(PATIENCE)
 
     def end(self, patience=PATIENCE):
-        """The status where there are no more lines."""
+        """The status if there are no more lines."""
         self.run.stdin.close()
         status = self.run.wait(timeout=patience)
         self.reader.join(patience)

@@ -122,7 +122,7 @@ BEFORE = [[groupings.machine(0xF0)], [groupings.machine(0xF1)]]
 
 def looks_at(program, groups):
     """What is seen at a look after each group: whether both networks are that of what was told, and the counts of the edits and
-    of the builds so far. None where the program does not answer."""
+    of the builds so far. None if the program does not answer."""
     said = subprocess.run([program, "looks"], input=json.dumps(script(groups)).encode(), stdout=subprocess.PIPE, timeout=120)
     found = LOOK.split(said.stdout.decode())
     if said.returncode or found[0] or len(found) != 1 + 4 * len(groups):

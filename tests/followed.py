@@ -4,9 +4,9 @@ tests/reference.py.
 
     tests/followed.py [--renew-after N] < LINES
 
-Which least flow is found is not said. So a solution, a plan and what a round placed are not foretold where an answer was seen:
+Which least flow is found is not said. So a solution, a plan and what a round placed are not foretold if an answer was seen:
 they are judged. A solution is a flow of the least cost that tests/witness.py finds; a plan is one that such a flow comes to, of
-which nothing needs to be listed; and of a round's plan each answer is worked out, and what was admitted is taken in. Where
+which nothing needs to be listed; and of a round's plan each answer is worked out, and what was admitted is taken in. If
 nothing was seen, one answer that may come is made.
 """
 import argparse
@@ -56,7 +56,7 @@ def answers_in(out):
 # lines
 
 def request_in(line, names):
-    """What the line asks for, as a kind and what belongs to it, where packets of the names were cut before."""
+    """What the line asks for, as a kind and what belongs to it, given that packets of the names were cut before."""
     if len(line) > strict.LIMIT:
         raise Refused(STRANGE)
     try:
@@ -134,7 +134,7 @@ def least_plan(known):
 
 def is_least_plan(known, places, preempts):
     """Whether some least flow comes to the plan. A task goes straight to a machine that it prefers, if there is such an arc: that
-    costs no more than by its request, where it would take a seat."""
+    costs no more than by its request, if it would take a seat."""
     nodes, arcs, cost, _ = network_of(known)
     waiting = {node[1] for node in nodes if node[0] == 4 and known.holder(node[1]) is None}
     held = {node[1]: known.holder(node[1]) for node in nodes if node[0] == 4 and node[1] not in waiting}
@@ -152,8 +152,8 @@ def is_least_plan(known, places, preempts):
 
 
 def flow_of(known, arcs, waiting, held, places, preempted):
-    """The units by which each placed task goes to its machine, and each other one waits, stays or is preempted; None where an arc
-    is not there, or where tasks of one request and their machines do not rise together."""
+    """The units by which each placed task goes to its machine, and each other one waits, stays or is preempted; None if an arc
+    is not there, or if tasks of one request and their machines do not rise together."""
     units, last = {}, {}
     hosts = {task: machine for task, machine, _ in places}
     for task in sorted(waiting | held.keys()):
@@ -237,7 +237,7 @@ class Stream:
         self.renew_after, self.world, self.entries, self.ends = renew_after, None, {}, {}
 
     def answer(self, line, seen=b""):
-        """What is answered to the line: where several answers may come, the one that was seen, if it is one of them."""
+        """What is answered to the line: if several answers may come, the one that was seen, if it is one of them."""
         try:
             text = self.text(line, seen.rpartition(b"ok\n")[0].decode("utf-8", "replace"))
         except Refused as refused:

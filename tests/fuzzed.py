@@ -2,6 +2,7 @@
 import json
 import uuid
 
+import followed
 import reference
 import strict
 
@@ -115,7 +116,7 @@ class Draw:
         return {"coordinators": coordinators, "steps": steps}, names
 
     def rounds_at(self, at):
-        """Rounds at a coordinator with few operations between them, so that its network is edited."""
+        """Rounds at a coordinator with few operations between them."""
         for _ in range(self.one_of((2, 3, 3))):
             for _ in range(self.one_of((1, 1, 1, 2))):
                 yield {"at": at, "tell": self.operation()}
@@ -247,6 +248,30 @@ class Draw:
             return ["agree"], text
         return ["pack", "--", self.one_of(names if names and self.odds() < 0.9 else NAMES)], text
 
+    # streams
+
+    def stream(self):
+        """The lines of a stream, mostly ones that are not refused. Its first coordinator is asked for its network after few
+        operations, so that the network is edited."""
+        script, _ = self.script()
+        first = script["coordinators"][0]
+        yield {"coordinators": script["coordinators"]}
+        for step in script["steps"]:
+            is_look = step == {"at": first, "round": True} and self.odds() < 0.8
+            yield {"at": first, "ask": "graph"} if is_look else step
+            if self.odds() < 0.1:
+                yield {"at": self.one_of(script["coordinators"]), "ask": self.one_of(followed.TOPICS)}
+
+    def stream_case(self):
+        lines = list(self.stream())
+        draw = self.odds()
+        if draw < 0.2:
+            lines[1:] = [self.spoiled(line) if self.odds() < 0.2 else line for line in lines[1:]]
+        said = [self.spelled(line).replace("\n", " ").encode("utf-8", "surrogatepass") for line in lines]
+        if draw > 0.9:
+            said[1:] = [self.broken(line) if self.odds() < 0.2 else line for line in said[1:]]
+        return ["follow"], b"\n".join(said) + b"\n"
+
     def listed(self, text):
         """Coordinators of the script, if it is one."""
         try:
@@ -330,23 +355,20 @@ class Keeper:
 
 
 def edits(text):
-    """How many looks at coordinators of the script are answered by an edit, at least; 0 of what is no script. The first of each
-    two coordinators that it lists has a keeper that edits. What a round takes in is not counted."""
-    try:
-        script = strict.read_script(text)
-    except (strict.Strange, RecursionError):
-        return 0
-    keepers = {at: Keeper() for at in script["coordinators"][::2]}
-    for step in script["steps"]:
-        keeper = keepers.get(step["at"])
-        if keeper and "tell" in step:
-            if reference.out_of_range(dict(reference.operation(*next(iter(step["tell"].items())))[1])):
-                break
-            keeper.take(1)
-        elif keeper and "deliver" in step:
-            keeper.take(FEW + 1)
-        elif keeper and "round" in step:
-            keeper.look()
+    """How many looks at coordinators of a stream are answered by an edit, at least. The first of each two coordinators that it lists
+    has a keeper that edits. What a line with a packet or a round brings is counted as many keys."""
+    keepers, names = {}, set()
+    for line in followed.lines_of(text):
+        try:
+            kind, asked, *more = followed.request_in(line, names)
+        except (followed.Refused, IndexError):
+            continue
+        if kind == "open" and not keepers:
+            keepers = {at: Keeper() for at in asked[::2]}
+        elif kind == "act" and asked["at"] in keepers:
+            keepers[asked["at"]].take(1 if "tell" in asked else FEW + 1)
+        elif kind == "ask" and asked in keepers and more == ["graph"]:
+            keepers[asked].look()
     return sum(keeper.edits for keeper in keepers.values())
 
 
@@ -358,4 +380,5 @@ def walk(tree):
         yield from walk(value)
 
 
-KINDS = {"scripts": lambda chance: Draw(chance).script_case(), "packets": lambda chance: Draw(chance).packet_case()}
+KINDS = {"scripts": lambda chance: Draw(chance).script_case(), "packets": lambda chance: Draw(chance).packet_case(),
+         "streams": lambda chance: Draw(chance).stream_case()}

@@ -37,7 +37,7 @@ def flag(word):
 
 
 def last(asked, rest):
-    """What is asked for where the words behind the last argument are these."""
+    """What is asked for if the words behind the last argument are these."""
     if rest and rest[0] != "--":
         return flag(rest[0])
     return asked if len(rest) < 2 else WRONG
@@ -133,7 +133,7 @@ DELIVERIES = 1200
 
 def script_for(words):
     """A script on which each command, each number that is listed and each name that is cut has another answer. Of
-    `follow` a stream, in which a packet has a name until the coordinators are made anew."""
+    `follow` a stream, in which a packet has a name until the coordinators are renewed."""
     if words[:1] == ["follow"]:
         return b"\n".join([b'{"coordinators":[3,7]}', b'{"at":7,"cut":{"name":"a"}}'] + [b'{"at":3,"deliver":"a"}'] * DELIVERIES)
     if words[:1] == ["fleet"]:

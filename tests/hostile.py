@@ -196,7 +196,7 @@ def counts(program, allocator):
 
 
 def spaces(program):
-    """An input that is a space at each read, for ever: it ends with one read more than an input may have bytes."""
+    """An endless input of spaces, one at each read: it ends with one read more than an input may have bytes."""
     with tempfile.TemporaryDirectory() as folder, open(os.path.join(folder, "reads"), "wb+") as reads:
         reads.truncate(4096)
         env = {"LD_PRELOAD": refusing.library(folder, "spaces"), "SPACES": reads.name}
@@ -205,7 +205,7 @@ def spaces(program):
 
 
 def sizes(program, entries=100000, machines=10000, jobs=31000):
-    """More than is usual: each is answered, and not for want of memory."""
+    """More than is usual: each is answered, and not out of memory."""
     one = reference.answer(["graph"], script(tell("machine")))[1].encode()
     trims = [{"at": 1, "trim": 0}] * entries
     yield "a tell after %d entries" % entries, seen(program, ["graph"], compact(trims + [tell("machine")])) == (0, one, b"")

@@ -1,4 +1,4 @@
-"""MQTT 3.1.1 as far as tests/bridged.py wants it: a client that publishes and listens, and a proxy between bridges
+"""MQTT 3.1.1 as far as tests/bridged.py needs it: a client that publishes and listens, and a proxy between bridges
 and broker that drops, repeats and swaps messages, or is cut off."""
 import random
 import socket
@@ -122,7 +122,7 @@ class Way:
         if kind == PUBLISH:
             fault = self.proxy.fault()
         if fault == "dropped":
-            # whoever sent it believes that it arrived
+            # its sender believes that it arrived
             if flags & 6:
                 at = 2 + len(topic_of(body).encode())
                 self.near.send(framed(PUBACK, 0, body[at:at + 2]))

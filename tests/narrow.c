@@ -1,8 +1,7 @@
-/* Stands before the C library's `read` and `write` in a process (LD_PRELOAD): standard input and standard output go by few bytes.
+/* Intercepts the C library's `read` and `write` in a process (LD_PRELOAD), so that it reads and writes a few bytes at a time.
  *
- * Where the environment has READS, a read gives as many bytes at most, and where it has FAILS, not 0, reading fails at the end of
- * what is there. Where it has WRITES, a write takes as many bytes at most, and where it has ROOM, writing fails once as many bytes
- * were taken.
+ * If the environment has READS, a read gives at most as many bytes, and if it has FAILS, not 0, reading fails at the end of the input.
+ * If it has WRITES, a write accepts at most as many bytes, and if it has ROOM, writing fails after as many bytes were accepted.
  *
  * No headers, so that any C compiler can make it: cc -shared -fPIC -nostdlib. */
 typedef unsigned long size;

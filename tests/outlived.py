@@ -36,8 +36,7 @@ def exchange(program):
 
 
 def quiet(program):
-    """What was taken in does not go round: once all is known, packets come to an end. And coordinators that are made
-    anew agree."""
+    """What was taken in does not go round: once all is known, packets come to an end. And coordinators that are renewed agree."""
     told = list(cluster(200))
     with running(program, [1, 2, 3], "--renew-after", "40", "--report", "0.2") as (_, bridges):
         yield "told", all([told_to(bridges, told[first:first + 50]) for first in range(0, len(told), 50) if not time.sleep(0.3)])
@@ -320,7 +319,7 @@ def packet_of(told, version=b"FDG2", sender=9, number=7):
 
 
 def strangers(program):
-    """Somebody else publishes garbage, packets that are cut off, of other versions, too large, and claims: all is
+    """A foreign client publishes garbage, packets that are cut off, of other versions, too large, and claims: all is
     refused and counted, packets of the older version are taken in, and all agree."""
     told, older = list(cluster(40)), list(cluster(3))[:2] + [{"spec": {**hostile.OPERATIONS["spec"], "prefer": []}}]
     whole, chance = packet_of(told[:9]), random.Random("strangers")

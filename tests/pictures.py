@@ -25,7 +25,7 @@ def title(group):
 
 
 def fault(svg, network, units=None):
-    """What the picture lacks of the network, and of the flow's units where these are given, or None."""
+    """What the picture lacks of the network, and of the flow's units if these are given, or None."""
     try:
         picture = tree.fromstring(svg)
     except tree.ParseError as wrong:

@@ -68,7 +68,7 @@ class Talk:
         self.run.stdin = None
 
     def end(self):
-        """The status of the run where there are no more lines, and what else it wrote."""
+        """The status of the run if there are no more lines, and what else it wrote."""
         self.close()
         out, err = self.run.communicate(timeout=60)
         return self.run.returncode, self.heard + out, err

@@ -10,7 +10,7 @@ every record is the greatest of all that a set tells, found by going over all of
     tests/reference.py unpack < DIGITS
 
 Texts, refusals and statuses are the program's. Which of several least flows a round finds is not said: so `answers` gives each
-answer that may come, for few flows, and there is one `answer` only where nothing turns on that. Histories have no limit, since no
+answer that may come, for few flows, and there is one `answer` only if nothing turns on that. Histories have no limit, since no
 script without rounds is long enough to reach it.
 """
 import argparse
@@ -34,7 +34,7 @@ LIMITS = {"writer": (1, 64), "coordinator": (1, 64), "wait": (0, 10 ** 9), "pree
 
 
 class Refused(Exception):
-    """The program stops: the number of the refusal, and the step, where it is one's."""
+    """The program stops: the number of the refusal, and the step, if it is one's."""
 
     def __init__(self, number, step=None):
         super().__init__("firmament: refusal %d" % number + ("" if step is None else " at step %d" % step))
@@ -70,7 +70,7 @@ def preferred(fields):
 
 
 def operation(kind, fields):
-    """An operation as a member of a set: a spec's preferences, where a script has them, as pairs."""
+    """An operation as a member of a set: a spec's preferences, if a script has them, as pairs."""
     fields = dict(fields)
     if kind == "spec":
         fields["prefer"] = tuple((entry["machine"], entry["credit"]) for entry in fields.get("prefer", ()))
@@ -156,7 +156,7 @@ Packet = collections.namedtuple("Packet", "sender number operations")
 
 
 class Choices:
-    """Which of its outcomes each round has, the first where none is chosen, and how many each had."""
+    """Which of its outcomes each round has, the first if none is chosen, and how many each had."""
 
     def __init__(self, path=()):
         self.path, self.counts = list(path), []
@@ -423,7 +423,7 @@ def tasks_told(take, version):
 
 
 def preferences_told(take, version):
-    """The machines that a spec prefers, as they stand; IndexError where there are more than four."""
+    """The machines that a spec prefers, as they stand; IndexError if there are more than four."""
     count = take(">B")[0] if version == b"FDG2" else 0
     if count > 4:
         raise IndexError
@@ -508,7 +508,7 @@ def answers(words, text):
 
 
 def answer(words, text):
-    """The answer, where only one may come."""
+    """The answer, if only one may come."""
     found = answers(words, text)
     if len(found) > 1:
         raise NotSaid("which least flow a round finds is not said")

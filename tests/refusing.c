@@ -1,4 +1,4 @@
-/* Stands before the C library's allocator in a process (LD_PRELOAD), counts what is asked of it, and refuses some of it.
+/* Intercepts the C library's allocator in a process (LD_PRELOAD), counts its allocations, and refuses some of them.
  *
  * The file that REFUSING names has room for eight numbers of 64 bits and is shared with who started the process:
  *   0  which allocation is refused, counted from 1; 0 refuses none
@@ -13,7 +13,7 @@
  * theirs to say, and the most bytes held are about so many. ARM and ASK are for one thread.
  *
  * A process can also say itself which of its next allocations is refused: by asking for ARM bytes and that number, and for ASK
- * bytes whether it was; both are refused themselves, ASK only where an allocation was refused since. Neither is counted. Where
+ * bytes whether it was; both are refused themselves, ASK only if an allocation was refused since. Neither is counted. If
  * this library is not loaded, as many bytes as ARM are refused by any C library, and ASK bytes are given.
  *
  * No headers, so that any C compiler can make it: cc -shared -fPIC -nostdlib. */

@@ -1,4 +1,4 @@
-"""Runs programs on an allocator that refuses memory where it is told to, and counts: tests/refusing.c, which a C compiler makes."""
+"""Runs programs on an allocator that refuses memory if it is told to, and counts: tests/refusing.c, which a C compiler makes."""
 import mmap
 import os
 import pathlib

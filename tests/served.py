@@ -1,6 +1,6 @@
 """Runs of the program on steps that have names, with all that each writes and says, by name, for tests/run: what is wanted was
-worked out by hand. In some the program reads and writes a few bytes at a time, or in vain: tests/narrow.c stands before the C
-library then. In all texts here `..` stands for the zeros with which an id begins.
+worked out by hand. In some the program reads and writes a few bytes at a time, or fails to:
+tests/narrow.c intercepts the C library then. In all texts here `..` stands for the zeros with which an id begins.
 """
 import itertools
 import re
@@ -398,7 +398,7 @@ def sizes(seen):
 
 
 def costs(seen):
-    """A task is placed or left where both cost the same."""
+    """A task is placed or left if both cost the same."""
     status, out, _ = seen("solve", script("JWait100 A T"))
     yield "equal costs are solved", status == 0 and out.startswith(b"s 100\n")
 

@@ -1,5 +1,5 @@
 """Texts that spell a script and texts that do not, with what the program answers to each, for tests/run: what is wanted follows from
-docs/formats.md by hand. Each reading fault is refusal 16, at the first step that is none, or without a step where the text is no
+docs/formats.md by hand. Each reading fault is refusal 16, at the first step that is none, or without a step if the text is no
 script as a whole.
 """
 
@@ -268,7 +268,7 @@ def script(items):
 
 
 def fault(step=0):
-    """How the program ends where the text is no script, at this step or as a whole."""
+    """How the program ends if the text is no script, at this step or as a whole."""
     return 3, "", "firmament: refusal 16%s\n" % (" at step %d" % step if step else "")
 
 

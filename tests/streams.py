@@ -153,7 +153,7 @@ STRANGE = [
     b'{"at":"1","ask":"graph"}', b'{"at":null,"ask":"graph"}', b'{"At":1,"ask":"graph"}', b"\xff", b'{"at":1,"deliver":"\xff"}',
     b'{"at":1,"deliver":"\xed\xa0\x80"}', b'{"at":1,"deliver":"\\ud800"}', b"\xef\xbb\xbf" + GRAPH, GRAPH + b"x", GRAPH + GRAPH,
     GRAPH[:-1], b"\0" + GRAPH, b"[" * 200, b'{"a":' * 200, b'{"at":1,"ask":"graph"' + b"\0" + b"}", b'{"coordinators":{1,2}}']
-# what a number that nobody has is refused for, before all else that is wrong
+# what a number without a coordinator is refused for, before all else that is wrong
 AT_NOBODY = ('"ask":"graph"', '"ask":"stops"', '"news":true', '"round":true', '"trim":9', '"deliver":"none"', '"cut":{}',
              '"cut":{"from":2,"to":1}')
 NO_PACKETS = b"", b"46", b"46444732", hostile.PACKET[:-1].hex().encode(), hostile.PACKET.hex().encode() + b"00"
@@ -258,7 +258,7 @@ def sizes(program):
 
 
 def large(program):
-    """A cluster of thousands of tasks, told line by line, and handed on as one packet of many digits."""
+    """A cluster of thousands of tasks, told line by line, and passed on as one packet of many digits."""
     script = json.loads("".join(scripts.script(3000)))
     last = asks([1], ("graph", "winners"))
     found = answers(program, lines(OPEN, *script["steps"], {"at": 1, "cut": {}}, *last))
@@ -270,10 +270,10 @@ def large(program):
     yield "a cluster, in a packet of %d digits" % len(digits), passed[2:-1] == wanted
 
 
-# what lines do to one another
+# what lines do to each other
 
 def weaves(program, count=24):
-    """Drawn streams of all kinds of lines, made anew after so many entries too: what is answered is as it is to be."""
+    """Drawn streams of all kinds of lines, renewed after so many entries too: what is answered is as it is to be."""
     for seed in range(count):
         text = woven(seed, strange=0.1)
         for renew_after in (None, 5) if seed % 4 else (None, 1, 2, 3, 5, 17, 1000000):
@@ -308,7 +308,7 @@ def refused_between(program):
 
 
 def renewals(program):
-    """Coordinators that are made anew at any place of a stream know what they knew."""
+    """Coordinators that are renewed at any place of a stream know what they knew."""
     for seed in range(3):
         chance = random.Random("renewals %d" % seed)
         told = [{"at": chance.choice((1, 2)), "tell": op} for op in drawn.Lives(chance).operations(30)]
@@ -325,7 +325,7 @@ def renewals(program):
 
 
 def begun_anew(program):
-    """What coordinators that are made anew do not keep."""
+    """What coordinators that are renewed do not keep."""
     named, news = {"at": 1, "cut": {"name": "p"}}, {"at": 1, "news": True}
     found = answers(program, lines(OPEN, tell("job"), named, news, {"renew": True}, {"at": 1, "deliver": "p"}, named, news, news,
                                    {"at": 1, "cut": {"from": 0, "to": 2}}, {"at": 1, "trim": 1}))
@@ -379,8 +379,8 @@ def hostile_streams(program, count=LINES, each=100):
 # memory
 
 def kept(program, allocator):
-    """Refused lines, questions, and with renewals what is known already and packets, leave nothing: ten times as many of them want no
-    more memory at once."""
+    """Refused lines, questions, and with renewals what is known already and packets, leave nothing: ten times as many of them
+    need no more memory at once."""
     strange = [b'{"at":1,"cut":{"name":"%08d","from":9,"to":1}}', b'{"at":1,"take":"46%08d"}', b'{"at":1,"deliver":"%08d"}',
                b'{"at":9,"cut":{"name":"%08d"}}', b"[[[[%08d", b'{"at":1,"news":false,"more":"%08d"}']
     asked = [line(value) for value in asks([1, 2])]

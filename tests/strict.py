@@ -140,7 +140,7 @@ def read_script(text):
 
 
 def read_step(step, names):
-    """The step, or None where it is of no form; its name is added to those of earlier cuts."""
+    """The step, or None if it is of no form; its name is added to those of earlier cuts."""
     if type(step) is not dict or len(step) != 2 or not fits(step.get("at"), U8):
         return None
     (kind, asked), = ((key, value) for key, value in step.items() if key != "at")

@@ -103,7 +103,7 @@ def why(program, script, tasks, *more):
 
 
 def explained(name, program, run, script, few=None):
-    """Whether all that is said of the tasks of a script holds; of a few where there are many."""
+    """Whether all that is said of the tasks of a script holds; of a few if there are many."""
     network = networks.read_dump(run("graph", script))
     flow = networks.read_solution(run("solve", script), network)
     tasks = network.of_kind("T")[::few]

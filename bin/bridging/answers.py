@@ -4,12 +4,12 @@ import collections
 import os
 import threading
 
-# if so many bytes wait to be written, or answers to be let go, no more lines are told
+# if so many bytes wait to be written, or answers to be written, no more lines are told
 MOST_UNREAD, MOST_HELD = 1 << 24, 20000
 
 
 class Answers:
-    """Answers are put in behind one another, each with how many lines were accepted up to it; they go out once so
+    """Answers are put in one after another, each with how many lines were accepted up to it; they go out once so
     many are confirmed, written by a thread, so that who does not read them does not stop the bridge."""
 
     def __init__(self, descriptor: int, wake: threading.Condition) -> None:
@@ -42,7 +42,7 @@ class Answers:
         return self._bytes < MOST_UNREAD and len(self._held) < MOST_HELD
 
     def close(self, patience: float) -> None:
-        """Writes what was let go, if somebody reads it in so many seconds."""
+        """Writes what may be written, if it is read within so many seconds."""
         with self._wake:
             self._is_closed = True
             self._wake.notify_all()

@@ -103,7 +103,7 @@ class Bridge:
             self._shorten(self._journal)
 
     def _claim_number(self) -> None:
-        """Waits for whoever has the number to say so, and for the claim to come back behind the states that the
+        """Waits for a bridge that has the number to say so, and for the claim to come back behind the states that the
         broker keeps."""
         began = asked = time.monotonic()
         while not self._claim.is_lost:
@@ -186,7 +186,7 @@ class Bridge:
         if self._outbox.is_state_due() and self._can_send_state() and not self._coordinator.own_news():
             self._send_state(self._coordinator.cut_state())
         if self._outbox.is_unheard_of() and not self._coordinator.own_news():
-            # news of nothing, by whose number the others see that they want the state
+            # news of nothing, by whose number the others see that they need the state
             self._outbox.send_news(self._coordinator.cut_news(with_state=False)[0])
         if self._can_send_state():
             self._broker.hear_states(self._inbox.coverage.missing() | {self._settings.number})
@@ -220,7 +220,7 @@ class Bridge:
             self._shorten(self._journal)
 
     def _shorten(self, journal: Journal) -> None:
-        """Writes the journal anew as one packet of all that is known, if a line can hand that over."""
+        """Rewrites the journal as one packet of all that is known, if a line can hand that over."""
         packet = self._coordinator.cut_state()
         if len(packet) <= most_packet(self._settings.number):
             journal.replace(take_line(self._settings.number, packet))
@@ -246,7 +246,7 @@ class Bridge:
         if self._coordinator.is_to_renew():
             self._coordinator.renew()
             self._counts.renewals += 1
-            # its packets are numbered anew, so the others want a state
+            # its packets are numbered from the beginning, so the others need a state
             self._outbox.is_stale = True
             self._outbox.want_state(self._settings.state_interval)
         if is_back and self._turn != turn:

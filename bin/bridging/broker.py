@@ -22,7 +22,7 @@ LABELS = {str(number): number for number in NUMBERS}
 
 
 class Broker:
-    """Each connection is a client of its own, in a clean session and under a name that nobody else has: what a
+    """Each connection is a client of its own, in a clean session and under a unique name: what a
     connection that was lost did not carry is not sent again by the client, since the next state says it."""
 
     def __init__(self, settings: Settings, mailbox: Mailbox, claim: Claim) -> None:
@@ -40,7 +40,7 @@ class Broker:
     # connections
 
     def connect(self) -> None:
-        """Connects for the first time. Refused where there is no broker in time, or it refuses."""
+        """Connects for the first time. Refused if there is no broker in time, or it refuses."""
         end, why = time.monotonic() + self._settings.connect_wait, ""
         place = f"{self._settings.host}:{self._settings.port}"
         while time.monotonic() < end:

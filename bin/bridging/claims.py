@@ -59,7 +59,7 @@ class Claim:
         return not self.is_running, self._since, self._token
 
     def run(self) -> None:
-        """The number is ours: nobody who has it answered in time."""
+        """The number is ours: no other bridge that has it answered in time."""
         self.is_running, self._since = True, time.time()
 
     def ask(self, is_new: bool) -> bytes:

@@ -6,7 +6,7 @@ cut, and the next cut begins behind them (Enes and others, Efficient Synchroniza
 back-propagation of delta groups).
 
 Packets of news have odd numbers, and those of all that is known even ones: each cut takes two numbers, one of them for
-nothing if need be. So whoever gets the news alone sees by its numbers whether some of it is missing.
+nothing if need be. So a bridge that gets only the news sees by its numbers whether some of it is missing.
 """
 import json
 from collections.abc import Sequence
@@ -16,9 +16,9 @@ from bridging.endings import FOLLOWER_ENDED, Failure
 from bridging.follower import MOST_LINE, NO_LINE, Follower, is_accepted
 from bridging.lines import Kind, kind_of
 
-# lines that are handed over at once have about so many bytes
+# lines that are passed over at once have about so many bytes
 AT_ONCE = 1 << 20
-# the follower makes itself anew when its history is full, which would change the numbers of deltas: so it is never let
+# the follower renews itself when its history is full, which would change the numbers of deltas: so it is never let
 # come there
 FULL_HISTORY, MOST_ENTRIES = 1000000, 900000
 
@@ -33,8 +33,7 @@ def most_packet(number: int) -> int:
 
 
 class Coordinator:
-    """Deltas are numbered as in a stream, and entries counted as there, so that it is made anew before its history
-    is full."""
+    """Deltas are numbered as in a stream, and entries counted as there, so that it is renewed before its history is full."""
 
     def __init__(self, program: str, number: int, renew_after: int, patience: float) -> None:
         self.number, self._renew_after, self._renews_at = number, renew_after, renew_after
@@ -118,7 +117,7 @@ class Coordinator:
         return self._entries >= self._renews_at
 
     def renew(self) -> None:
-        """Makes the coordinator anew from what it knows, which lets its history go. All its own deltas were cut
+        """Renews the coordinator from what it knows, which drops its history. All its own deltas were cut
         before. If there is no memory for it, it is tried again later, and once the history is nearly full the bridge
         ends."""
         assert self.own == self.deltas
@@ -127,7 +126,7 @@ class Coordinator:
             self.deltas = self.own = self._entries = 1
             self._renews_at = self._renew_after
         elif self._entries >= MOST_ENTRIES:
-            raise Failure(FOLLOWER_ENDED, "the history is full, and the follower has no memory to be made anew")
+            raise Failure(FOLLOWER_ENDED, "the history is full, and the follower had no memory to renew it")
         else:
             self._renews_at = min(MOST_ENTRIES, self._entries + self._renew_after // 10)
 

@@ -8,7 +8,7 @@ from collections.abc import Sequence
 
 from bridging.endings import JOURNAL_FAILED, Failure
 
-# a journal is written anew, as one packet of all that is known, if it has at least so many bytes and twice those that
+# a journal is rewritten, as one packet of all that is known, if it has at least so many bytes and twice those that
 # it began with
 LEAST_ANEW = 1 << 18
 
@@ -60,15 +60,15 @@ class Journal:
         os.fdatasync(self._file)
 
     def is_long(self) -> bool:
-        """Whether it is time to write the journal anew."""
+        """Whether it is time to rewrite the journal."""
         return self._size >= max(LEAST_ANEW, 2 * self._begun)
 
     def put_off(self) -> None:
-        """It cannot be written anew now, and is asked for again when it has twice as many bytes."""
+        """It cannot be rewritten now, and is asked for again when it has twice as many bytes."""
         self._begun = self._size
 
     def replace(self, line: bytes) -> None:
-        """Writes the journal anew with one line, which has to say all that the lines before it came to. The old file
+        """Rewrites the journal with one line, which has to say all that the lines before it came to. The old file
         stands until the new one is on the disk."""
         try:
             made = os.open(f"{self._path}.new", os.O_RDWR | os.O_CREAT | os.O_TRUNC | os.O_APPEND, 0o600)

@@ -24,7 +24,7 @@ class InFlight:
 
 class Outbox:
     """Packets of news are sent once; they are not acknowledged by who takes them in, and not sent again. A state
-    says all that they say, so where one cannot be sent it is left to the state. A state is known to be kept once it
+    says all that they say, so if one cannot be sent it is left to the state. A state is known to be kept once it
     came back from the broker."""
 
     def __init__(self, broker: Broker, settings: Settings, counts: Counts, telling: Telling, most_packet: int) -> None:

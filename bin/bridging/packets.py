@@ -18,7 +18,7 @@ def digest_of(packet: bytes) -> bytes:
 
 
 def content_of(packet: bytes) -> bytes:
-    """The digest of what a packet says, whoever sent it and under whatever number."""
+    """The digest of what a packet says, whatever its sender and its number."""
     return digest_of(packet[:4] + packet[HEAD.size:])
 
 
@@ -60,7 +60,7 @@ class Coverage:
     packets.
 
     A coordinator's news has odd numbers, one after another, and a state behind news has the next number. So news
-    that does not follow says that something is missing. From then on the sender's states are wanted, until one comes
+    that does not follow says that something is missing. From then on the sender's states are asked for, until one comes
     that was sent meanwhile. The states that the broker kept may be older. They come when they are asked for, and
     then all are taken in that say something new, whatever the numbers are: so a wrong number makes a state wait
     until then, and no longer."""

@@ -57,7 +57,7 @@ def cluster_name(text: str) -> str:
         fine = False
     if not fine:
         raise argparse.ArgumentTypeError(
-            f"{text!r} is no name of a cluster: 1 to {MOST_NAME} letters that can be printed, without + # and /")
+            f"{text!r} is no name of a cluster: 1 to {MOST_NAME} printable characters other than + # and /")
     return text
 
 
@@ -109,7 +109,7 @@ question, or a cut of all that is known. The bridge does the rest itself, and re
 STATUSES = """\
 Statuses: 0 all was sent; 2 wrong words; 10 no paho-mqtt; 11 no program; 12 no broker; 13 the broker refuses;
 14 the number is taken; 15 the follower ended; 16 the journal failed; 17 not all is known to be sent;
-18 standard output failed. docs/several-machines.md says what is promised, and what the topics are.
+18 standard output failed. docs/several-machines.md says what `ok` guarantees, and what the topics are.
 """
 # names of times and counts, how each is read, what it is if it is not given, and what it is for
 TIMES: tuple[tuple[str, Callable[[str], float], float, str], ...] = (
@@ -122,7 +122,7 @@ TIMES: tuple[tuple[str, Callable[[str], float], float, str], ...] = (
     ("--claim-wait", seconds(0), 1, "so long for another bridge with the number to answer"),
     ("--ack-wait", seconds(0.1), 20, "so long for the broker to acknowledge"),
     ("--end-wait", seconds(0), 20, "so long to send what is left in the end"),
-    ("--renew-after", whole(1, 800000), 100000, "makes the coordinator anew after so many entries"),
+    ("--renew-after", whole(1, 800000), 100000, "renews the coordinator after so many entries of its history"),
     ("--report", seconds(0), 0, "says all counts so often; in the end alone if it is 0"))
 
 
@@ -155,7 +155,7 @@ def add_broker(words: argparse._ArgumentGroup) -> None:
     words.add_argument("--broker", type=place, default=("127.0.0.1", None), metavar="HOST[:PORT]",
                        help=f"127.0.0.1 if it is not given, and port {PORT}, or {TLS_PORT} with TLS")
     words.add_argument("--mqtt", choices=(3, 5), type=int, default=3, dest="version", help="3 for 3.1.1 (3)")
-    words.add_argument("--user", metavar="NAME", help="who is to be let in by the broker")
+    words.add_argument("--user", metavar="NAME", help="the user name for the broker")
     words.add_argument("--password-file", type=pathlib.Path, metavar="FILE",
                        help="its first line is the user's password")
     words.add_argument("--tls", action="store_true", help="TLS, with the certificates that the system trusts")

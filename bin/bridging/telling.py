@@ -57,7 +57,7 @@ class Telling:
         try:
             print(line, file=sys.stderr, flush=True)
         except (OSError, ValueError):
-            # nobody hears it, which changes nothing else
+            # it cannot be written, which changes nothing else
             pass
 
     def count(self, event: str, counts: Counts) -> None:

@@ -17,7 +17,7 @@ use Rattle.fm_world.specs.Stands.{Kept, WorldStandsFor, state_with}
 use Rattle.fm_world.proofs.Places.{Stood, stood, absent}
 use Rattle.fm_ask.specs.Plans.{plan_text, IsPlanText}
 
--- what holds where there is no replica holds where there is no coordinator, and what holds of a replica holds of the one
+-- what holds if there is no replica holds if there is no coordinator, and what holds of a replica holds of the one
 -- that a coordinator stands for
 module _ (k : Kept) (w : WorldOfSets) (at : ℕ) (h : WorldStandsFor k w) (P : Option Replica → Type 0) where
   pub of_none : None ≡ state_with k.coordinators at → P None → P (with_number w.replicas at)

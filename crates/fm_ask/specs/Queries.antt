@@ -39,6 +39,6 @@ Lacks (Stops n) w refusal = (with_number w.replicas n ≡ None) × (refusal ≡ 
 Lacks Agree w refusal = ⊥
 Lacks (Packet i) w refusal = (slice_get w.packets i ≡ None) × (refusal ≡ NoPacket)
 
--- why there is no answer: memory was refused, or what is asked of is not there
+-- why there is no answer: memory ran out, or what is asked of is not there
 abbrev pub IsUnanswered : Query → WorldOfSets → Refusal → Type 0
 IsUnanswered q w refusal = (refusal ≡ OutOfMemory) ⊎ Lacks q w refusal

@@ -26,12 +26,12 @@ graph_of r = dump_text (network_of r)
 abbrev pub winners_of : Replica → List ℕ
 winners_of r = winners_text (know r.taken)
 
--- the number of the first replica whose operations come to something else
+-- the number of the first replica whose operations have another table
 abbrev pub first_other : Table → List Replica → Option ℕ
 first_other k [] = None
 first_other k (r ∷ rs) = cond (same_table k (know r.taken)) (first_other k rs) (Some r.number)
 
--- the first replica, and the first whose operations come to something else
+-- the first replica, and the first whose operations have another table
 abbrev pub difference : List Replica → Option Disagreement
 difference [] = None
 difference (r ∷ rs) = option_map (λ other. record { first = r.number; other = other }) (first_other (know r.taken) rs)

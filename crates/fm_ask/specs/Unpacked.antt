@@ -36,7 +36,7 @@ job_line e =
 abbrev pub preferred_text : ℕ × ℕ → List ℕ
 preferred_text e = codes " " ++ (id_text e.0 ++ (codes " " ++ decimal e.1))
 
--- spec ID VERSION WRITER WITHDRAWN JOB REQUEST and the machines that are preferred, where a spec is known
+-- spec ID VERSION WRITER WITHDRAWN JOB REQUEST and the machines that are preferred, if a spec is known
 abbrev pub spec_line : ℕ → Option SpecReg → List ℕ
 spec_line task None = []
 spec_line task (Some r) =
@@ -49,14 +49,14 @@ task_lines e =
     (codes "task " ++ (id_text e.0 ++ (codes " " ++ (decimal e.1.1.attempt ++ (codes " " ++ (phase_text e.1.1.phase ++ codes "\n"))))))
     ++ spec_line e.0 e.1.0
 
--- state ID VERSION WRITER UP SLOTS NIC, where a state is known
+-- state ID VERSION WRITER UP SLOTS NIC, if a state is known
 abbrev pub state_line : ℕ → Option MachineReg → List ℕ
 state_line machine None = []
 state_line machine (Some r) =
     codes "state " ++ (id_text machine ++ (codes " " ++ (decimal r.version ++ (codes " " ++ (decimal r.writer ++ (codes " "
     ++ (flag_text r.up ++ (codes " " ++ (decimal r.slots ++ (codes " " ++ (decimal r.nic ++ codes "\n")))))))))))
 
--- report ID NUMBER USED, where a report is known
+-- report ID NUMBER USED, if a report is known
 abbrev pub report_line : ℕ → Option Report → List ℕ
 report_line machine None = []
 report_line machine (Some r) =
@@ -98,7 +98,7 @@ pub record IsPacketIn (digits : List ℕ) (packet : Packet) : Type 0 where
   pub decoded : decode_of digits ≡ Ok bytes
   pub spelled : Spells bytes packet
 
--- they are no digits, or their bytes are no packet's and the refusal names the first fault; or memory was refused
+-- they are no digits, or their bytes are no packet's and the refusal names the first fault; or memory ran out
 abbrev pub IsNoPacketIn : List ℕ → Refusal → Type 0
 IsNoPacketIn digits refusal =
     (refusal ≡ OutOfMemory)

@@ -22,7 +22,7 @@ abbrev pub won_line : Table → ℕ × ℕ → Option Winner → List ℕ
 won_line k at None = []
 won_line k at (Some winner) = won_text at.0 at.1 winner (holder_of k at.0)
 
--- the line of a task's attempt, where it is the present one and has a winner
+-- the line of a task's attempt, if it is the present one and has a winner
 abbrev pub attempt_line : Table → ℕ × ℕ → List ℕ
 attempt_line k at = cond (at.1 == attempt_of k at.0) (won_line k at (option_map as_winner (winner_of k at.0 at.1))) []
 

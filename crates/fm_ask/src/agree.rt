@@ -50,7 +50,7 @@ fn first_other<N: NetKeeper>(knowledge: &Knowledge, others: &[Coordinator<N>]) -
     }
 }
 
-/// `same`, or `differ A B` of two that do not know the same, as a line. Only memory is refused.
+/// `same`, or `differ A B` of two that do not know the same, as a line. Refused only if memory runs out.
 pub fn agreement_text(alloc: Global, difference: Option<Disagreement>) -> Result<String, Refusal>
     ensures ok { IfOk result (λ line. string_bytes line ≡ agreement_text difference) }
     ensures err { IsOkUnless result Refusal.OutOfMemory }

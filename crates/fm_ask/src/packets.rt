@@ -13,7 +13,7 @@ use fm_wire::writing::encode;
 use hex::FromHexError;
 use std::alloc::Global;
 
-/// The packet's bytes in lower-case hexadecimal digits, as a line. Only memory is refused. O(n).
+/// The packet's bytes in lower-case hexadecimal digits, as a line. Refused only if memory runs out. O(n).
 pub fn packet_line(alloc: Global, packet: &Packet) -> Result<String, Refusal>
     ensures ok { IfOk result (λ line. string_bytes line ≡ line_of packet.now) }
     ensures err { IsOkUnless result Refusal.OutOfMemory }
@@ -24,8 +24,8 @@ pub fn packet_line(alloc: Global, packet: &Packet) -> Result<String, Refusal>
     Ok(line)
 }
 
-/// The packet that hexadecimal digits of either case spell, in either version. What is no pairs of digits is `BadScript(0)`, and
-/// bytes that spell no packet are `BadPacket` with the place of the first fault. O(n log n).
+/// The packet that hexadecimal digits of either case spell, in either version. What is no pairs of digits is
+/// `BadScript(0)`, and bytes that spell no packet are `BadPacket` with the place of the first fault. O(n log n).
 pub fn packet_in(alloc: Global, digits: &[u8]) -> Result<Packet, Refusal>
     ensures ok { IfOk result (IsPacketIn digits.now) }
     ensures err { IfErr result (IsNoPacketIn digits.now) }

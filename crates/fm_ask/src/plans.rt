@@ -8,8 +8,8 @@ use fm_records::refusal::Refusal;
 use fm_round::parts::{Place, Plan, Preempt};
 use std::alloc::Global;
 
-/// A line `place TASK MACHINE INCARNATION` for each place, and then a line `preempt TASK ATTEMPT` for each preempt, in the order of
-/// the plan. Only memory is refused. O(n).
+/// A line `place TASK MACHINE INCARNATION` for each place, and then a line `preempt TASK ATTEMPT` for each preempt, in
+/// the order of the plan. Refused only if memory runs out. O(n).
 pub fn plan_text(alloc: Global, plan: &Plan) -> Result<String, Refusal>
     ensures ok { IfOk result (λ text. string_bytes text ≡ plan_text plan.now) }
     ensures err { IsOkUnless result Refusal.OutOfMemory }

@@ -24,11 +24,12 @@ pub enum Query {
     Solve(CoordId),
     /// The plan of a least flow of that network, a line for each place and each preempt.
     Plan(CoordId),
-    /// Who won the present attempt of each task, by what the coordinator knows, a line each.
+    /// The winner of the present attempt of each task, by what the coordinator knows, a line each.
     Winners(CoordId),
-    /// The entries of the coordinator that are to run no longer, a line each.
+    /// The entries that the coordinator has to stop, a line each.
     Stops(CoordId),
-    /// Whether all coordinators know the same: `same`, or `differ A B` of the first and the first that knows something else.
+    /// Whether all coordinators know the same: `same`, or `differ A B` of the first and the first that knows something
+    /// else.
     Agree,
     /// The packet that was cut as the one with the number, counted from 0, in hexadecimal digits.
     Packet(usize),
@@ -43,10 +44,10 @@ pub struct Answer {
     pub differs: bool,
 }
 
-/// What the world answers to the query. NoCoordinator or NoPacket if what is asked of is not there, else only memory is
-/// refused. What the coordinators know, keep and list stays as it is, also after a refusal; `Graph` leaves the coordinator's
-/// network fresh. The cost is that of building the network (`Graph`, if it is stale), of solving it, or of going over what is
-/// known once.
+/// The world's answer to the query. NoCoordinator or NoPacket if the coordinator or packet does not exist, else
+/// refused only if memory runs out. Knowledge, deltas and histories are unchanged, also after a refusal; `Graph`
+/// leaves the coordinator's network fresh. The cost is that of building the network (`Graph`, if it is stale), of
+/// solving it, or of one scan of what is known.
 pub fn ask<N: NetKeeper>(
     alloc: Global,
     world: &mut World<N>,

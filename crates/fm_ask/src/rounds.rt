@@ -11,9 +11,10 @@ use fm_records::refusal::Refusal;
 use fm_round::parts::{Admitted, Answer, Plan};
 use std::alloc::Global;
 
-/// A line `place TASK MACHINE INCARNATION ANSWER` for each place of the plan, and then a line `preempt TASK ATTEMPT ANSWER` for
-/// each preempt, in the order of the plan: what admission answered to each, as `accepted`, `gone`, `held`, `attempts-spent`,
-/// `contested`, `no-slot` or `no-room`. An entry without an answer has no line. Only memory is refused. O(n).
+/// A line `place TASK MACHINE INCARNATION ANSWER` for each place of the plan, and then a line `preempt TASK ATTEMPT
+/// ANSWER` for each preempt, in the order of the plan: what admission answered to each, as `accepted`, `gone`, `held`,
+/// `attempts-spent`, `contested`, `no-slot` or `no-room`. An entry without an answer has no line. Refused only if
+/// memory runs out. O(n).
 pub fn round_text(alloc: Global, plan: &Plan, admitted: &Admitted) -> Result<String, Refusal>
     ensures ok { IfOk result (λ text. string_bytes text ≡ round_text plan.now admitted.now) }
     ensures err { IsOkUnless result Refusal.OutOfMemory }

@@ -14,15 +14,15 @@ use fm_flow::solve::solve;
 use fm_know::knowledge::Knowledge;
 use fm_know::laws::law_can_be;
 use fm_net::network::Network;
-use fm_plan::least::least_plan;
+use fm_planner::planned::plan_of;
 use fm_policy::build::build;
 use fm_policy::keeper::NetKeeper;
 use fm_records::refusal::Refusal;
 use fm_round::parts::Plan;
 use std::alloc::Global;
 
-/// A least flow of the network of what the coordinator knows, its cost first, in DIMACS lines. Only memory is refused. The cost
-/// is that of building the network, if the coordinator has none that is fresh, and of solving it.
+/// A least flow of the network of what the coordinator knows, its cost first, in DIMACS lines. Refused only if memory
+/// runs out. The cost is that of building the network, if the coordinator has none that is fresh, and of solving it.
 pub fn solution_text<N: NetKeeper>(
     alloc: Global,
     coordinator: &Coordinator<N>,
@@ -54,8 +54,8 @@ fn solved(alloc: Global, knowledge: &Knowledge, network: &Network) -> Result<Vec
     }
 }
 
-/// The plan of a least flow of the network of what the coordinator knows. Only memory is refused. The cost is that of building the
-/// network, if the coordinator has none that is fresh, and of solving it.
+/// The plan of a least flow of the network of what the coordinator knows. Refused only if memory runs out. It costs what
+/// `plan_of` does, which builds the network only if a plan without it fails its check.
 pub fn least_plan_of<N: NetKeeper>(
     alloc: Global,
     coordinator: &Coordinator<N>,
@@ -63,16 +63,11 @@ pub fn least_plan_of<N: NetKeeper>(
     ensures ok { IfOk result (λ plan. IsPlanOf coordinator.now.state.knowledge plan) }
     ensures err { IsOkUnless result Refusal.OutOfMemory }
 {
-    let knowledge = coordinator.knowledge();
-    if coordinator.is_fresh() {
-        coordinator.known();
-        return least_plan(alloc, knowledge, coordinator.keeper().network());
-    }
-    let network = build(alloc, knowledge)?;
-    least_plan(alloc, knowledge, &network)
+    Ok(plan_of(alloc, coordinator.knowledge())?)
 }
 
-/// That plan as text, a line for each place and each preempt. Only memory is refused. It costs what `least_plan_of` does.
+/// That plan as text, a line for each place and each preempt. Refused only if memory runs out. It costs what
+/// `least_plan_of` does.
 pub fn least_plan_text<N: NetKeeper>(
     alloc: Global,
     coordinator: &Coordinator<N>,

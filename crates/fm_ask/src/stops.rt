@@ -11,8 +11,8 @@ use fm_round::parts::Stop;
 use fm_round::stopping::stops;
 use std::alloc::Global;
 
-/// A line `stop TASK ATTEMPT MACHINE INCARNATION` for each entry of the coordinator that is to run no longer, by task and
-/// attempt. Only memory is refused. O(p log n) for p attempts with proposals.
+/// A line `stop TASK ATTEMPT MACHINE INCARNATION` for each entry of the coordinator that is to run no longer, by task
+/// and attempt. Refused only if memory runs out. O(p log n) for p attempts with proposals.
 pub fn stops_text(
     alloc: Global,
     knowledge: &Knowledge,

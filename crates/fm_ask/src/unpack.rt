@@ -18,9 +18,9 @@ use fm_records::records::{JobReg, MachineRec, MachineReg, Report, SpecReg, Spot,
 use fm_records::refusal::Refusal;
 use std::alloc::Global;
 
-/// The records of the packet that the text spells in hexadecimal digits of either case, a line each, in the packet's order.
-/// A text that is no pairs of digits with at most one line feed behind them is `BadScript(0)`, and bytes that spell no
-/// packet are `BadPacket` with the place of the first fault. O(n log n).
+/// The records of the packet that the text spells in hexadecimal digits of either case, a line each, in the packet's
+/// order. A text that is no pairs of digits with at most one line feed after them is `BadScript(0)`, and bytes that
+/// spell no packet are `BadPacket` with the place of the first fault. O(n log n).
 pub fn unpack(alloc: Global, text: &[u8]) -> Result<String, Refusal>
     ensures ok { IfOk result (λ t. IsUnpacked text.now (string_bytes t)) }
     ensures err { IfErr result (λ refusal. IsNotUnpacked text.now refusal) }

@@ -9,8 +9,8 @@ use fm_records::ids::{MachineId, TaskId};
 use fm_records::refusal::Refusal;
 use std::alloc::Global;
 
-/// A line for each task whose present attempt has a winner, by task: TASK ATTEMPT COORDINATOR MACHINE INCARNATION, and `held` or
-/// `free`. Only memory is refused. It goes over the proposals once, and looks each one's task up.
+/// A line for each task whose present attempt has a winner, by task: TASK ATTEMPT COORDINATOR MACHINE INCARNATION, and
+/// `held` or `free`. Refused only if memory runs out. It goes over the proposals once, and looks each one's task up.
 pub fn winners_text(alloc: Global, knowledge: &Knowledge) -> Result<String, Refusal>
     ensures ok { IfOk result (λ text. string_bytes text ≡ winners_text knowledge.now) }
     ensures err { IsOkUnless result Refusal.OutOfMemory }

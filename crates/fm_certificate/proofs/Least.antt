@@ -45,7 +45,7 @@ module _ (c uu ud vu vd : ℕ) where
   spread : (x : ℕ) → (c + uu + vd) * x ≡ c * x + uu * x + vd * x
   spread x = add-mul (c + uu) vd x ∙ ap (λ n. n + vd * x) (add-mul c uu x)
 
-  trade : (f g k : ℕ) → g ≤ k → (f < k → vu + ud ≤ c + uu + vd) → (0 < f → c + uu + vd ≤ vu + ud) → c * f + uu * f + vd * f + (vu * g + ud * g) ≤ c * g + uu * g + vd * g + (vu * f + ud * f)
+  pub trade : (f g k : ℕ) → g ≤ k → (f < k → vu + ud ≤ c + uu + vd) → (0 < f → c + uu + vd ≤ vu + ud) → c * f + uu * f + vd * f + (vu * g + ud * g) ≤ c * g + uu * g + vd * g + (vu * f + ud * f)
   trade f g k within gain waste =
       let rates = exchange_rates (c + uu + vd) (vu + ud) f g (λ below. gain (omega arith)) (λ above. waste (omega arith)) in
       omega (arith, spread f, spread g, add-mul vu ud f, add-mul vu ud g)
@@ -142,7 +142,7 @@ module _ (net : Net) (can : CanBeNet net) where
     alike (Machine q) m = alike_but_sink (Machine q) m (λ e. absurd (cc))
 
     -- potentials earn the same on both flows
-    earns_alike : (weight : Node → ℕ) → sum_by (λ (a : Arc). weight a.0.0 * units_at f a) net.arcs + sum_by (λ (a : Arc). weight a.0.1 * units_at g a) net.arcs ≡ sum_by (λ (a : Arc). weight a.0.0 * units_at g a) net.arcs + sum_by (λ (a : Arc). weight a.0.1 * units_at f a) net.arcs
+    pub earns_alike : (weight : Node → ℕ) → sum_by (λ (a : Arc). weight a.0.0 * units_at f a) net.arcs + sum_by (λ (a : Arc). weight a.0.1 * units_at g a) net.arcs ≡ sum_by (λ (a : Arc). weight a.0.0 * units_at g a) net.arcs + sum_by (λ (a : Arc). weight a.0.1 * units_at f a) net.arcs
     earns_alike weight =
         sym (weighed_sums weight f g)
         ∙ sum_same (weighed weight f g) (weighed weight g f) net.nodes (λ n m. weighed_is weight f g n ∙ ap (λ k. weight n * k) (alike n m) ∙ sym (weighed_is weight g f n))
@@ -150,19 +150,19 @@ module _ (net : Net) (can : CanBeNet net) where
 
 -- arcs, each traded
 module _ (rising falling : Node → ℕ) (f g : Units) where
-  abbrev costs : Units → List Arc → ℕ
+  abbrev pub costs : Units → List Arc → ℕ
   costs p arcs = sum_by (λ (a : Arc). a.1.1 * units_at p a) arcs
 
-  abbrev from_sum : (Node → ℕ) → Units → List Arc → ℕ
+  abbrev pub from_sum : (Node → ℕ) → Units → List Arc → ℕ
   from_sum weight p arcs = sum_by (λ (a : Arc). weight a.0.0 * units_at p a) arcs
 
-  abbrev to_sum : (Node → ℕ) → Units → List Arc → ℕ
+  abbrev pub to_sum : (Node → ℕ) → Units → List Arc → ℕ
   to_sum weight p arcs = sum_by (λ (a : Arc). weight a.0.1 * units_at p a) arcs
 
-  abbrev Traded : Units → Units → Arc → Type 0
+  abbrev pub Traded : Units → Units → Arc → Type 0
   Traded p q a = a.1.1 * units_at p a + rising a.0.0 * units_at p a + falling a.0.1 * units_at p a + (rising a.0.1 * units_at q a + falling a.0.0 * units_at q a) ≤ a.1.1 * units_at q a + rising a.0.0 * units_at q a + falling a.0.1 * units_at q a + (rising a.0.1 * units_at p a + falling a.0.0 * units_at p a)
 
-  traded : (arcs : List Arc) → ((a : Arc) → IsMember a arcs → Traded f g a) → costs f arcs + from_sum rising f arcs + to_sum falling f arcs + (to_sum rising g arcs + from_sum falling g arcs) ≤ costs g arcs + from_sum rising g arcs + to_sum falling g arcs + (to_sum rising f arcs + from_sum falling f arcs)
+  pub traded : (arcs : List Arc) → ((a : Arc) → IsMember a arcs → Traded f g a) → costs f arcs + from_sum rising f arcs + to_sum falling f arcs + (to_sum rising g arcs + from_sum falling g arcs) ≤ costs g arcs + from_sum rising g arcs + to_sum falling g arcs + (to_sum rising f arcs + from_sum falling f arcs)
   traded [] each = omega arith
   traded (a ∷ arcs) each =
       let rest = traded arcs (λ b m. each b (inr m)) in

@@ -1,4 +1,5 @@
--- The arcs that leave a node lie side by side: none before the first that is not below the node, and none after the first above.
+-- The arcs that leave a node lie side by side: none before the first that is not below the node, and none after the
+-- first above.
 use Rattle.std.proofs.Common.{◌≡◌, ◌≤◌, ◌<◌, ◌∙◌, ap, sym, refl, ℕ, zero, suc, ◌+◌, Bool, true, false, cond, List, [], ◌∷◌, length, drop, get_or, inl, inr, arith}
 use Rattle.std.specs.List.Sorted.{IsPartitionedBy}
 use Rattle.std.specs.Ordering.{is_lt, ordering_then}
@@ -18,7 +19,7 @@ use Rattle.fm_certificate.specs.Sources.{NoneBelow}
 use Rattle.fm_certificate.proofs.Alike.{same_itself, other_node}
 use Rattle.fm_net.proofs.Behind.{less_of}
 
--- where ends rise, so do their sources, or stay
+-- if ends rise, so do their sources, or stay
 still_below : (a b : Node × Node) (n : Node) → ends_cmp a b ≡ Less → node_cmp b.0 n ≡ Less → node_cmp a.0 n ≡ Less
 still_below a b n rise less =
     by_cases (node_cmp a.0 b.0) (λ o. ordering_then o (node_cmp a.1 b.1) ≡ Less → node_cmp a.0 n ≡ Less)

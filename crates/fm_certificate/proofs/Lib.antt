@@ -7,6 +7,7 @@ pub mod Totalled
 pub mod Units
 pub mod Small
 pub mod Certified
+pub mod Dearer
 pub mod Priced
 pub mod Leaving
 pub mod Inserted

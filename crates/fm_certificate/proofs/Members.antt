@@ -1,6 +1,6 @@
 -- Lists with rising keys: what stands in one is what is looked up.
 use Rattle.std.specs.Prelude.{◌≡◌, List, [], ◌∷◌, Some}
-use Rattle.std.proofs.Common.{sym, ap, ◌∙◌, inl, inr}
+use Rattle.std.proofs.Common.{sym, ap, ◌∙◌, refl, cond, is_eq, inl, inr}
 use Rattle.std.specs.Cmp.{IsTotalOrder}
 use Rattle.std.specs.declared.cmp.Ordering.{Ordering}
 use Rattle.std.specs.declared.cmp.Ordering.TheVariants.{Less, Equal, Greater}
@@ -25,3 +25,12 @@ module _ {K V : Type 0} (cmp : K → K → Ordering) (total : IsTotalOrder cmp) 
         let greater : cmp e.0 x.0 ≡ Greater = less_greater cmp total x.0 e.0 less in
         rw greater (member_lookup e es r.1 later)
   ]
+
+  -- and what is looked up stands in it
+  pub lookup_member : (k : K) (v : V) (es : List (K × V)) → lookup cmp k es ≡ Some v → IsMember (k, v) es
+  lookup_member k v [] h = absurd (let no : ⊥ = cc in no)
+  lookup_member k v (x ∷ es) h = elim (cmp k x.0) as (λ o. cmp k x.0 ≡ o → cond (is_eq o) (Some x.1) (lookup cmp k es) ≡ Some v → IsMember (k, v) (x ∷ es)) [
+    | Less ↦ λ _ g. inr (lookup_member k v es g)
+    | Equal ↦ λ e g. let key : k ≡ x.0 = same k x.0 e in let value : v ≡ x.1 = cc in inl (sym (ap (λ (q : K). (q, v)) key ∙ ap (λ (w : V). (x.0, w)) value))
+    | Greater ↦ λ _ g. inr (lookup_member k v es g)
+  ] refl h

@@ -66,7 +66,7 @@ sum_part weight m units (n ∷ ns) r h = elim h [
       omega (arith, sum_by-cons (part weight m units) n ns)
 ]
 
--- where two functions agree on all nodes but one, and their sums agree, they agree there
+-- if two functions agree on all nodes but one, and their sums agree, they agree there
 pub last_alike : (f g : Node → ℕ) (m : Node) (ns : List Node) → Rises node_cmp ns → IsMember m ns → ((n : Node) → IsMember n ns → (m ≡ n → ⊥) → f n ≡ g n) → sum_by f ns ≡ sum_by g ns → f m ≡ g m
 last_alike f g m [] r h alike sums = absurd h
 last_alike f g m (n ∷ ns) r h alike sums = elim h [

@@ -9,7 +9,7 @@ use Rattle.fm_net.specs.Nodes.{node_cmp}
 use Rattle.fm_net.specs.Net.{Net, arc_at}
 use Rattle.fm_certificate.specs.Flows.{units_in, IsFeasible}
 
--- the potential that a map gives a node; 0 where it has none
+-- the potential that a map gives a node; 0 if it has none
 abbrev pub potential_in : List (Node × ℤ) → Node → ℤ
 potential_in potentials n = or_else (pos 0) (lookup node_cmp n potentials)
 

@@ -13,7 +13,7 @@ use Rattle.fm_net.specs.Same.{same_node}
 abbrev pub Units : Type 0
 Units = Node → Node → ℕ
 
--- the units that a map gives; 0 where it has none
+-- the units that a map gives; 0 if it has none
 abbrev pub units_in : List ((Node × Node) × ℕ) → Units
 units_in flow from to = or_else 0 (lookup ends_cmp (from, to) flow)
 

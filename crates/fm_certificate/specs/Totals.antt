@@ -25,7 +25,7 @@ target ends = ends.1
 abbrev pub units_at : (Node × Node → Node) → List Entry → Node → ℕ
 units_at end flow n = sum_by (λ e. cond (same_node (end e.0) n) e.1 0) flow
 
--- the total of a node; 0 where there is none
+-- the total of a node; 0 if there is none
 abbrev pub total_in : List (Node × ℕ) → Node → ℕ
 total_in totals n = or_else 0 (lookup node_cmp n totals)
 

@@ -1,4 +1,4 @@
-//! The checker of certificates.
+//! The checker of certificates, by complementary slackness.
 
 ghost use Rattle.std.specs.Prelude.{◌≡◌, ◌↔◌, ◌≤◌, IsTrue};
 ghost use Rattle.std.specs.List.{list_all};
@@ -11,10 +11,10 @@ use crate::potentials::Potentials;
 use fm_net::network::Network;
 use fm_net::node::Node;
 
-/// Whether the potentials certify that the flow is least: the flow is feasible, the keys of flow and potentials are just the
-/// network's arcs and nodes, no potential is beyond 2^100 in size, and, with potentials p, an arc from u to v of cost c has
-/// c + p(u) - p(v) >= 0 where a further unit fits, and <= 0 where it has a unit. Then no feasible flow costs less.
-/// Takes no memory. O((nodes + arcs) log nodes).
+/// Whether the potentials certify that the flow is least: the flow is feasible, the keys of flow and potentials are
+/// exactly the network's arcs and nodes, no potential is beyond 2^100 in size, and, with potentials p, an arc from u to
+/// v of cost c has c + p(u) - p(v) >= 0 if a further unit fits, and <= 0 if it has a unit. Then no feasible flow costs
+/// less. Allocates nothing. O((nodes + arcs) log nodes).
 pub fn check(network: &Network, flow: &Flow, potentials: &Potentials) -> bool
     ensures exact { IsTrue result ↔ IsCertified network.now flow.now potentials.now }
     ensures least { IsTrue result → IsLeast network.now (units_in flow.now) }
@@ -31,7 +31,7 @@ pub fn check(network: &Network, flow: &Flow, potentials: &Potentials) -> bool
     nodes_send(network, flow)
 }
 
-// Whether the flow's keys are just the arcs, and each arc's units fit it.
+// Whether the flow's keys are exactly the arcs, and each arc's units fit it.
 fn arcs_fit(network: &Network, flow: &Flow, potentials: &Potentials) -> bool
     requires small { AreSmall potentials.now }
     ensures { IsTrue result ↔ FitAll potentials.now flow.now network.now.arcs }

@@ -8,8 +8,8 @@ use crate::flow::Flow;
 use fm_net::network::Network;
 use fm_net::node::Node;
 
-/// The sum of cost times units over all arcs. The caller owes a network that the policy can build, and a feasible flow.
-/// Takes no memory. O(arcs) where the flow's keys are just the arcs, O(arcs log arcs) else.
+/// The sum of cost times units over all arcs. The caller must pass a network that the policy can build, and a feasible
+/// flow. Allocates nothing. O(arcs) if the flow's keys are exactly the arcs, O(arcs log arcs) else.
 pub fn cost(network: &Network, flow: &Flow) -> u128
     requires built { IsBuilt network.now }
     requires feasible { IsFeasible network.now (units_in flow.now) }
@@ -25,7 +25,7 @@ pub fn cost(network: &Network, flow: &Flow) -> u128
     sum
 }
 
-// What the units on an arc of this cost come to, which are looked for near a place first.
+// The cost of the units on an arc of this cost, which are looked for near a place first.
 fn price(flow: &Flow, near: usize, from: Node, to: Node, cost: u32) -> u128
     ensures { result ≡ cost * units_in flow.now from to }
 {

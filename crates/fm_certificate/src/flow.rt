@@ -15,8 +15,8 @@ use std::alloc::Global;
 use std::collections::BTreeMap;
 use std::marker::Model;
 
-/// Units for arcs: a finite map from (from, to), as pairs in order of their keys, so that the arcs that leave a node lie side
-/// by side. What enters each node it keeps as running totals, which arcs without units do not touch.
+/// Units for arcs: a finite map from (from, to), as pairs in order of their keys, so that the arcs that leave a node
+/// lie side by side. What enters each node it keeps as running totals, which arcs without units do not touch.
 #[derive(Debug, Drop)]
 pub struct Flow {
     units: Vec<((Node, Node), u64)>,
@@ -45,8 +45,9 @@ impl Flow {
         }
     }
 
-    /// The flow of these units, by the ends of their arcs, beside what enters the nodes that they lead to. The caller owes ends
-    /// and nodes that rise, and that these totals are what enters. Refused memory alone. O(nodes): it does not walk the units.
+    /// The flow of these units, by the ends of their arcs, beside what enters the nodes that they lead to. The caller
+    /// must pass ends and nodes that rise, and that these totals are what enters. Refused only if memory runs out.
+    /// O(nodes): it does not walk the units.
     pub fn of(
         alloc: Global,
         units: Vec<((Node, Node), u64)>,
@@ -60,9 +61,9 @@ impl Flow {
         Ok(Flow { units, entering })
     }
 
-    /// Sets the units from one node to the other. After a refusal of memory the flow is as it was. Amortised O(1) for no units
-    /// on a key behind the last, and O(log n) for units there or for a key that the flow has; before any other new key the keys
-    /// behind it move, in O(n).
+    /// Sets the units from one node to the other. If memory runs out, the flow is unchanged. Amortised O(1) for
+    /// no units on a key after the last, and O(log n) for units there or for a key that the flow has; before any other
+    /// new key the keys after it move, in O(n).
     pub fn put(&mut self, from: Node, to: Node, units: u64) -> Result<(), OutOfMemory>
         ensures ok { OnOk result (self.new ≡ put ends_cmp replaced (from, to) units self.old) }
         ensures err { OnErr result (self.new ≡ self.old) }
@@ -80,8 +81,8 @@ impl Flow {
         value_at(&self.units, &(from, to))
     }
 
-    /// As `units`, whatever place is given: where the key has that place among the flow's keys, as the arcs of a network have
-    /// theirs in turn in a flow of this network, it is found at once. O(log n) else.
+    /// As `units`, whatever place is given: if the key has that place among the flow's keys, as the arcs of a network
+    /// have theirs in turn in a flow of this network, it is found at once. O(log n) else.
     pub fn units_near(&self, near: usize, from: Node, to: Node) -> Option<u64>
         ensures { result ≡ lookup ends_cmp (from, to) self.now }
     {

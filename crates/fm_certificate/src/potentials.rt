@@ -45,7 +45,7 @@ impl Potentials {
         }
     }
 
-    /// These potentials, by their nodes. The caller owes nodes that rise. Takes no memory. O(1).
+    /// These potentials, by their nodes. The caller must pass nodes that rise. Allocates nothing. O(1).
     pub fn of(values: Vec<(Node, i128)>) -> Self
         requires { IsRising node_cmp values.items }
         ensures { result ≡ values.items }
@@ -53,8 +53,8 @@ impl Potentials {
         Potentials { values }
     }
 
-    /// Sets the node's potential. After a refusal of memory the potentials are as they were. Amortised O(1) for a node behind
-    /// the last, and O(log n) for one that has a potential; for any other, those behind it move, in O(n).
+    /// Sets the node's potential. If memory runs out, the potentials are unchanged. Amortised O(1) for a node
+    /// after the last, and O(log n) for one that has a potential; for any other, those after it move, in O(n).
     pub fn put(&mut self, node: Node, potential: i128) -> Result<(), OutOfMemory>
         ensures ok { OnOk result (self.new ≡ put node_cmp replaced node potential self.old) }
         ensures err { OnErr result (self.new ≡ self.old) }
@@ -70,7 +70,7 @@ impl Potentials {
         value_at(&self.values, node)
     }
 
-    /// The node's potential; 0 where it has none. O(log n).
+    /// The node's potential; 0 if it has none. O(log n).
     pub(crate) fn or_zero(&self, node: &Node) -> i128
         ensures { result ≡ potential_in self.now node.now }
     {
@@ -99,7 +99,7 @@ impl Potentials {
         self.values.is_empty()
     }
 
-    /// Whether these are potentials of just the network's nodes, none beyond 2^100 in size. O(n).
+    /// Whether these are potentials of exactly the network's nodes, none beyond 2^100 in size. O(n).
     pub(crate) fn are_of(&self, network: &Network) -> bool
         ensures { IsTrue result ↔ AreOf self.now network.now.nodes }
     {

@@ -24,7 +24,7 @@ pub(crate) fn totals_of(
     Ok(all)
 }
 
-/// The total of the node; 0 where there is none. O(log n).
+/// The total of the node; 0 if there is none. O(log n).
 pub(crate) fn total_of(totals: &BTreeMap<Node, u128>, node: &Node) -> u128
     ensures { result ≡ total_in totals.now.entries node.now }
 {

@@ -1,32 +1,25 @@
 -- A round at a coordinator of a world that stands for a world of sets.
-use Rattle.std.proofs.Common.{◌≡◌, ◌⊎◌, ℕ, Option, Some, None, Result, Ok, Err, IfErr, OnOk, refl, sym, ap, ◌∙◌, subst, inr}
+use Rattle.std.proofs.Common.{◌≡◌, ◌⊎◌, ℕ, Option, Some, None, Result, Ok, Err, IfErr, OnOk, refl, ◌∙◌, subst, inr}
 use Rattle.fm_records.specs.declared.refusal.Refusal.{Refusal}
-use Rattle.fm_records.specs.declared.refusal.Refusal.TheVariants.{OutOfMemory, NoCoordinator}
-use Rattle.fm_records.specs.Options.{or_else}
 use Rattle.fm_round.specs.declared.parts.Plan.{Plan}
 use Rattle.fm_coord.specs.declared.view.View.{View}
-use Rattle.fm_coord.specs.Events as event
 use Rattle.fm_coord.specs.States.{State}
 use Rattle.fm_world.specs.declared.step.Act.TheVariants as world
-use Rattle.fm_world.specs.Worlds.{WorldOfSets, with_number, cause_at, cause_of, refusal_of, step_of}
+use Rattle.fm_world.specs.Worlds.{WorldOfSets, with_number, cause_of, refusal_of, step_of}
 use Rattle.fm_world.specs.Stands.{Kept, WorldStandsFor, state_with, shown}
-use Rattle.fm_world.proofs.Places.{Stood, stood, absent}
+use Rattle.fm_world.proofs.Places.{Stood, stood}
 use Rattle.fm_world.proofs.Runs.{if_err}
 use Rattle.fm_round.specs.Schedules.{IsPlanOf}
 use Rattle.fm_follow.specs.Acting.{step_at, IsPlanAt, Takes}
 use Rattle.fm_cli.specs.Running.{Rounds, StopsAfterView}
 
--- where nothing is shown of a view there is no coordinator, and what is shown of one is what it knows
-nothing_shown : (o : Option State) → None ≡ shown o world.View → o ≡ None
-nothing_shown None e = refl
-nothing_shown (Some s) e = absurd (let no : ⊥ = cc in no)
-
+-- what is shown of a coordinator is what it knows
 record IsShown (o : Option State) (view : View) : Type 0 where
   state : State
   there : o ≡ Some state
   knowledge : view.knowledge ≡ state.knowledge
 
-is_shown : (o : Option State) (view : View) → Some view ≡ shown o world.View → IsShown o view
+is_shown : (o : Option State) (view : View) → shown o world.View ≡ Some view → IsShown o view
 is_shown None view e = absurd (let no : ⊥ = cc in no)
 is_shown (Some s) view e = record { state = s; there = refl; knowledge = cc }
 
@@ -35,10 +28,7 @@ on_ok (Ok t) f h = f h
 on_ok (Err e) f h = tt
 
 module _ (k : Kept) (w : WorldOfSets) (at : ℕ) (h : WorldStandsFor k w) where
-  pub unseen : None ≡ shown (state_with k.coordinators at) world.View → NoCoordinator ≡ refusal_of w (step_at at world.View)
-  unseen e = ap (λ o. or_else OutOfMemory (cause_at o (Some event.View))) (sym (absent at k.coordinators w.replicas h.coordinators (nothing_shown _ e)))
-
-  pub plan_at : (view : View) (plan : Plan) → Some view ≡ shown (state_with k.coordinators at) world.View → IsPlanOf view.knowledge plan → IsPlanAt w at plan
+  pub plan_at : (view : View) (plan : Plan) → shown (state_with k.coordinators at) world.View ≡ Some view → IsPlanOf view.knowledge plan → IsPlanAt w at plan
   plan_at view plan e p =
       let s : IsShown (state_with k.coordinators at) view = is_shown _ view e in
       let q : Stood (with_number w.replicas at) s.state = stood at k.coordinators w.replicas h.coordinators s.state s.there in

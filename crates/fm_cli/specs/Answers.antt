@@ -38,7 +38,7 @@ abbrev pub query_about : Question → Result ℕ Fault → Result (Option Query)
 query_about q (Ok n) = Ok (Some (query_at q n))
 query_about q (Err fault) = Err fault
 
--- the query that a command comes to, for a script of these coordinators and names of packets: none if no packet has the name,
+-- the query of a command, for a script of these coordinators and names of packets: none if no packet has the name,
 -- and a fault if the coordinator that is asked is not listed
 abbrev pub query_of : Asked → List ℕ → List (List ℕ) → Result (Option Query) Fault
 query_of (ask q at) listed names = query_about q (coordinator_asked listed at)
@@ -51,7 +51,7 @@ abbrev pub AnswersIn : Option Query → WorldOfSets → Ending → List ℕ → 
 AnswersIn None w ending output = ⊥
 AnswersIn (Some q) w ending output = (ending ≡ cond (differs_in q w) Differ Done) × IsText q w output
 
--- the script that the text spells came to a world that answers the command so
+-- the steps of the text's script led to a world that answers the command so
 pub record IsOfScript (c : Asked) (text : List ℕ) (ending : Ending) (output : List ℕ) : Type 0 where
   pub listed : List ℕ
   pub names : List (List ℕ)
@@ -63,7 +63,7 @@ pub record IsOfScript (c : Asked) (text : List ℕ) (ending : Ending) (output : 
   pub came : Come (opened listed) steps world
   pub answered : AnswersIn query world ending output
 
--- the whole output that the command wants of the text, and the ending; `unpack` reads no script
+-- the complete output of the command for the text, and the ending; `unpack` reads no script
 abbrev pub Wants : Asked → List ℕ → Ending → List ℕ → Type 0
 Wants unpack text ending output = (ending ≡ Done) × IsUnpacked text output
 Wants c text ending output = IsOfScript c text ending output
@@ -73,8 +73,8 @@ abbrev pub LacksIn : Option Query → WorldOfSets → Fault → Type 0
 LacksIn None w fault = fault ≡ fault_of NoPacket
 LacksIn (Some q) w fault = (refusal : Refusal) × Lacks q w refusal × (fault ≡ fault_of refusal)
 
--- the first cause why a script has no answer: the coordinator that is asked is not listed; else a step is refused; else what is
--- asked for is not there
+-- the first cause why a script has no answer: the coordinator that is asked is not listed; else a step is refused; else
+-- what is asked for is not there
 abbrev pub StopsFor : Result (Option Query) Fault → List ℕ → List Step → Fault → Type 0
 StopsFor (Err unlisted) listed steps fault = fault ≡ unlisted
 StopsFor (Ok query) listed steps fault = Stops listed steps fault ⊎ After listed steps (λ w. LacksIn query w fault)

@@ -6,7 +6,7 @@ use Rattle.fm_records.specs.declared.refusal.Refusal.TheVariants.{OutOfMemory, B
 use Rattle.fm_records.specs.Refusals.{number_of}
 use Rattle.fm_cli.specs.Faults.{status_of}
 
--- a number below 10 as its digit: the digits stand from 48 on
+-- a number below 10 as its digit: the digits begin at 48
 abbrev pub digit : ℕ → List ℕ
 digit n = (48 + n) ∷ []
 
@@ -21,7 +21,7 @@ refusal_line r cause = in_two (number_of r) ++ (codes "  " ++ (digit (status_of 
 -- the page: how a refusal is said, and the refusals by their numbers, whatever they carry
 abbrev pub refusals_text : List ℕ
 refusals_text =
-    codes "A run that is stopped says `firmament: refusal N`, and ` at step K` where a step is at fault, counted from 1.\n\n N  status  cause\n"
+    codes "A run that is stopped says `firmament: refusal N`, and ` at step K` if a step caused it, counted from 1.\n\n N  status  cause\n"
     ++ refusal_line OutOfMemory (codes "there was not enough memory")
     ++ refusal_line (BadOp Writer) (codes "a field of an operation is out of its range")
     ++ refusal_line HistoryFull (codes "a history has as many entries as its limit")

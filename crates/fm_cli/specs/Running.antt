@@ -42,11 +42,11 @@ abbrev pub Come : WorldOfSets → List Step → WorldOfSets → Type 0
 Come w [] v = w ≡ v
 Come w (s ∷ ss) v = (u : WorldOfSets) × Acts w s.at s.act u × Come u ss v
 
--- the steps of the script came to a world of which this holds
+-- the steps of the script led to a world of which this holds
 abbrev pub After : List ℕ → List Step → (WorldOfSets → Type 0) → Type 0
 After listed steps Holds = (w : WorldOfSets) × Come (opened listed) steps w × Holds w
 
--- after its view a round is refused: memory was wanted for a plan, or the commit is
+-- after its view a round is refused: memory ran out for a plan, or the commit is
 pub record StopsAfterView (w : WorldOfSets) (at : ℕ) (refusal : Refusal) : Type 0 where
   pub seen : WorldOfSets
   pub view : Takes w (step_at at world.View) seen
@@ -67,12 +67,12 @@ pub record StopsIn (w : WorldOfSets) (steps : List Step) (fault : Fault) : Type 
   pub refused : Refuses before step.at step.act fault.refusal
   pub named : fault.step ≡ Some (place + 1)
 
--- memory was wanted before the first step, or a step is refused
+-- memory ran out before the first step, or a step is refused
 abbrev pub Stops : List ℕ → List Step → Fault → Type 0
 Stops listed steps fault = (fault ≡ fault_of OutOfMemory) ⊎ StopsIn (opened listed) steps fault
 
--- all steps ran: the coordinators stand for a world that the steps come to, each knows what it took in, and those that took
--- in the same operations agree
+-- all steps ran: the coordinators stand for a world to which the steps lead, each knows what it took in, and those that
+-- took in the same operations agree
 pub record IsRun (listed : List ℕ) (steps : List Step) (kept : Kept) : Type 0 where
   pub world : WorldOfSets
   pub came : Come (opened listed) steps world

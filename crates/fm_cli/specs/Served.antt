@@ -1,4 +1,4 @@
--- What a whole run reads and writes, and how it ends (this project's profile).
+-- What a run reads and writes, and how it ends (this project's profile).
 use Rattle.std.specs.Prelude.{◌≡◌, ◌⊎◌, ℕ, List, Bool, true, false, Option, Some, None, IfSome, Result, Ok, Err}
 use Rattle.std.specs.Io.KnownBytes.{Appends}
 use Rattle.fm_records.specs.declared.ops.Op.{Op}
@@ -26,12 +26,12 @@ abbrev pub TakesIn : Bool → Type 0 → Option (List ℕ) → List ℕ → Type
 TakesIn true Untouched given text = IfSome given (λ all. text ≡ all)
 TakesIn false Untouched given text = Untouched
 
--- why there is no input: memory was refused, or one was wanted, and the source failed or gave too much
+-- why there is no input: memory ran out, or an input was asked for, and the source failed or gave too much
 abbrev pub IsStoppedReading : Telling → Refusal → Option (List ℕ) → Option (List ℕ) → Bool → Type 0
 IsStoppedReading t refusal given left source_failed =
     (refusal ≡ OutOfMemory) ⊎ ((reads t ≡ true) × IsUnread refusal given left source_failed)
 
--- the whole output went out, and the run ends as answered; or the sink failed, and a prefix of it did
+-- the complete output was written, and the run ends as answered; or the sink failed, and a prefix of it did
 abbrev pub WentOut : Ending → List ℕ → Ending → Option (List ℕ) → Option (List ℕ) → Bool → Bool → Type 0
 WentOut answered output ending old new had_failed has_failed =
     ((ending ≡ answered) × Appends old new output × (has_failed ≡ had_failed))
@@ -54,7 +54,7 @@ pub record IsStoppedEarly (t : Telling) (ending : Ending) (streams : Streams) : 
   pub nothing : streams.new ≡ streams.old
   pub fails_not : streams.has_failed ≡ streams.had_failed
 
--- how many entries a history may have before the coordinators are made anew, if a stream is to be followed
+-- how many entries a history may have before the coordinators are renewed, if a stream is to be followed
 abbrev pub renewal_of : Telling → Option ℕ
 renewal_of (follow renew_after) = Some renew_after
 renewal_of _ = None
@@ -64,7 +64,8 @@ abbrev pub ending_of : Result (Unit {0}) Refusal → Ending
 ending_of (Ok done) = Done
 ending_of (Err refusal) = Stopped (fault_of refusal)
 
--- the stream was followed from its first line; whatever operations stand behind the packets that it takes in, its answers went out
+-- the stream was followed from its first line; whatever operations stand behind the packets that it takes in, its
+-- answers went out
 pub record IsStreamed (renew_after : ℕ) (ending : Ending) (streams : Streams) : Type 0 where
   pub result : Result (Unit {0}) Refusal
   pub ends : ending ≡ ending_of result

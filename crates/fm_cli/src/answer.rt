@@ -28,8 +28,8 @@ use fm_words::words::{Command, Question};
 use fm_world::world::World;
 use std::alloc::Global;
 
-/// What the command answers to the text. Refused if the text, the coordinator that is asked, a step or what is asked for is at
-/// fault, the first of these, or if memory is refused.
+/// What the command answers to the text. Refused if the text, the coordinator that is asked, a step or what is asked
+/// for is at fault, the first of these, or if memory runs out.
 pub fn answer(
     alloc: Global,
     progress: &Progress,
@@ -105,7 +105,7 @@ fn reply(alloc: Global, world: &mut World<Keeper>, query: Option<Query>) -> Resu
     }
 }
 
-// How a run ends that is answered.
+// How a run with an answer ends.
 fn ending_of(differs: bool) -> Ending
     ensures { result ≡ cond differs ending.Differ ending.Done }
 {
@@ -116,7 +116,8 @@ fn ending_of(differs: bool) -> Ending
     }
 }
 
-// The query that the command comes to: none if no packet has the name. NoCoordinator if the one that is asked is not listed.
+// The query of the command: none if no packet has the name. NoCoordinator if the coordinator that is asked is not
+// listed.
 fn query_of(command: Command, script: &Script) -> Result<Option<Query>, Fault>
     ensures { result ≡ query_of (asked_of command.entry) script.now.coordinators.items script.now.names }
 {

@@ -7,7 +7,7 @@ use fm_lattice::join::OutOfMemory;
 use fm_records::refusal::Refusal;
 use std::fmt;
 
-/// A refusal, and the step at fault, counted from 1, where one is.
+/// A refusal, and the step at fault, counted from 1, if one is.
 #[derive(Debug, Clone, Copy, PartialEq, Eq, Drop)]
 pub struct Fault {
     pub refusal: Refusal,
@@ -30,7 +30,7 @@ impl Fault {
     }
 
     /// The status that the program ends with: 4 if memory runs out, 5 if coordinators do not agree, 6 for a write
-    /// fault, 7 where the solver failed, and else 3.
+    /// fault, 7 if the solver failed, and else 3.
     pub fn status(&self) -> u8
         ensures { result ≡ status_of self.now.refusal }
     {

@@ -14,8 +14,8 @@ use std::alloc::Global;
 use std::sync::Wait;
 use std::thread::Threads;
 
-/// Runs the coordinators of the script of tells that the text spells, each with so many rounds, and answers the lines of what
-/// was counted of them. Refused if the text, a tell or a thread is at fault, or if memory is refused.
+/// Runs the coordinators of the script of tells that the text spells, each with so many rounds, and returns the lines
+/// of what was counted of them. Refused if the text, a tell or a thread is at fault, or if memory runs out.
 pub fn count_fleet<T: Threads + Wait + Sync>(
     rt: &T,
     alloc: Global,

@@ -58,7 +58,7 @@ fn given_words(rt: &HostRuntime) -> Result<Vec<String>, Ending> {
     }
 }
 
-// How a run ends whose words cannot be read: one is no UTF-8, or memory is refused.
+// How a run ends whose words cannot be read: one is no UTF-8, or memory runs out.
 fn no_words(alloc: Global, kind: io::ErrorKind) -> Ending {
     if kind == io::ErrorKind::InvalidData {
         let text =

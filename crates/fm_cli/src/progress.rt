@@ -1,10 +1,11 @@
-//! How far a run is, for whoever looks on.
+//! How far a run is, for observers.
 
 use std::fmt;
 use std::sync::atomic::{AtomicBool, AtomicU64, Ordering};
 
-/// How many steps of a script are done, or how many rounds of a fleet. Whoever does them counts, and any thread may read: no
-/// contract says more of it, and nothing that is answered turns on it. Its `Display` says what was counted.
+/// How many steps of a script are done, or how many rounds of a fleet. The thread that does them counts, and any
+/// thread may read: no contract says more of it, and nothing that is answered turns on it. Its `Display` says what
+/// was counted.
 #[derive(Drop)]
 pub struct Progress {
     done: AtomicU64,

@@ -2,7 +2,7 @@
 
 /// How a refusal is said, and a line for each: its number, the status that the program then ends with, and its cause.
 pub const REFUSALS: &str =
-    "A run that is stopped says `firmament: refusal N`, and ` at step K` where a step is at fault, counted from 1.
+    "A run that is stopped says `firmament: refusal N`, and ` at step K` if a step caused it, counted from 1.
 
  N  status  cause
  1  4       there was not enough memory

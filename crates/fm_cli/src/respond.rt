@@ -18,7 +18,7 @@ use std::alloc::Global;
 use std::sync::Wait;
 use std::thread::Threads;
 
-/// The whole output of a run, and how it then ends.
+/// The complete output of a run, and how it then ends.
 #[derive(Debug, Drop)]
 pub struct Answered {
     pub ending: Ending,
@@ -38,11 +38,11 @@ impl Answered {
     }
 }
 
-/// What the program answers to its words and to the text of its input, which only a command or a fleet looks at: the
-/// whole output, and how the run then ends. It reads and writes nothing. Faults are found in this order: the text, the
-/// coordinator that is asked, the steps in turn, the name of a packet; a run that is stopped has no output. Only a
-/// fleet starts threads, and waits for them. A stream has no answer here: `serve` follows it line by line. How far the
-/// run is, is counted as it goes, and nothing that is answered depends on it.
+/// The program's answer to its words and to the text of its input, which only a command or a fleet uses: the complete
+/// output, and how the run then ends. It reads and writes nothing. Faults are found in this order: the text, the
+/// coordinator that is asked, the steps in order, the name of a packet. A run that is stopped has no output. Only a
+/// fleet starts threads, and waits for them. A stream has no answer here: `serve` follows it line by line. Progress
+/// is counted as the run goes on; no answer depends on it.
 pub fn respond<T: Threads + Wait + Sync>(
     rt: &T,
     alloc: Global,

@@ -12,18 +12,19 @@ ghost use Rattle.fm_cli.specs.Running.{Acts, Come, Refuses, StopsIn, Stops, IsRu
 use crate::fault::Fault;
 use crate::progress::Progress;
 use fm_edit::keepers::Keeper;
-use fm_fleet::round::plan_for;
 use fm_follow::acting::take_step;
 use fm_input::script::{Act, Script, Step};
 use fm_opening::world::open;
+use fm_planner::planned::plan_of;
 use fm_records::refusal::Refusal;
-use fm_world::step::{Act as WorldAct, Step as WorldStep};
+use fm_world::step::Act as WorldAct;
 use fm_world::world::World;
 use std::alloc::Global;
 
-/// The world that the script's steps come to. A step that is refused is named: by NoCoordinator where its coordinator is not
-/// listed, by NoPacket where no packet of the name was cut, else as the coordinator's call, and a round also where memory is
-/// wanted for its plan. Else only memory is wanted. The caller owes that no two coordinators have one number.
+/// The world after the script's steps. A step that is refused is named: by NoCoordinator if its coordinator is
+/// not listed, by NoPacket if no packet of the name was cut, else as the coordinator's call, and a round also if
+/// memory runs out for its plan. Else it is refused only if memory runs out. The caller must ensure that no two
+/// coordinators have one number.
 pub fn run(alloc: Global, progress: &Progress, script: &Script) -> Result<World<Keeper>, Fault>
     requires { AreDistinct script.now.coordinators.items }
     ensures ok { IfOk result (λ world. IsRun script.now.coordinators.items script.now.steps.items world) }
@@ -70,21 +71,12 @@ fn take(alloc: Global, world: &mut World<Keeper>, at: u8, act: Act) -> Result<()
     }
 }
 
-// A round: what the coordinator sees is planned for, and the plan is committed.
+// A round: a view, its plan, and the commit of the plan.
 fn round(alloc: Global, world: &mut World<Keeper>, at: u8) -> Result<(), Refusal>
     ensures ok { Makes result world.old world.new (λ w v. Acts w at script_act.Round v) }
     ensures err { Fails result world.old (λ w refusal. Refuses w at script_act.Round refusal) }
 {
-    let look = WorldStep {
-        at,
-        by: 0,
-        act: WorldAct::View,
-    };
-    let Some(view) = world.step(&look)? else {
-        return Err(Refusal::NoCoordinator);
-    };
-    let plan = plan_for(alloc, &view)?;
-    // With no view left, the commit edits the network in place.
-    drop(view);
+    let sight = world.see(at, 0)?;
+    let plan = plan_of(alloc, sight.knowledge.get())?;
     take_step(world, at, WorldAct::Commit(plan))
 }

@@ -21,9 +21,9 @@ use std::sync::Wait;
 use std::thread::Threads;
 
 /// Runs the program on the words of its command line, its own name first: reads the input, if the words ask for one,
-/// and writes what `respond` answers; or follows a stream, line by line. The words are the first to be at fault, then
-/// the input, then what `respond` finds, then the sink. The output is made whole before it goes out: all of it goes
-/// out, or nothing, or what the sink took before it failed.
+/// and writes what `respond` answers; or follows a stream, line by line. Faults are found in this order: the words,
+/// the input, those that `respond` finds, the sink. The output is complete before it is written: all of it is
+/// written, or nothing, or what the sink accepted before it failed.
 pub fn serve<T: Threads + Wait + Sync, S: Source, W: Sink>(
     rt: &T,
     alloc: Global,
@@ -56,7 +56,7 @@ pub fn serve<T: Threads + Wait + Sync, S: Source, W: Sink>(
     send_out(respond(rt, alloc, progress, words, &text), sink)
 }
 
-// How many entries a history may have before the coordinators are made anew, if the words ask to follow a stream.
+// How many entries a history may have before the coordinators are renewed, if the words ask to follow a stream.
 fn renewal_of(words: &Words) -> Option<u32>
     ensures { result ≡ renewal_of (told_of words.now) }
 {
@@ -107,7 +107,7 @@ fn input_for<S: Source>(alloc: Global, words: &Words, source: &mut S) -> Result<
     }
 }
 
-// Has the whole output go out, and answers how the run ends.
+// Writes the complete output, and returns how the run ends.
 fn send_out<W: Sink>(answered: Answered, sink: &mut W) -> Ending
     ensures { WentOut answered.ending answered.output.items result
         (W.written sink.old) (W.written sink.new) (W.has_failed sink.old) (W.has_failed sink.new) }

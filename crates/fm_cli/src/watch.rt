@@ -1,4 +1,5 @@
-//! The line of progress: a thread that says on a terminal how far a run is, and takes the line away before anything is written.
+//! The line of progress: a thread that shows on a terminal how far a run is, and erases the line before anything is
+//! written.
 
 ghost use Rattle.std.specs.Prelude.{◌≡◌, map, string_bytes};
 ghost use Rattle.fm_words.specs.Heard.{heard};
@@ -17,13 +18,13 @@ use std::thread;
 use std::thread::Threads;
 use std::time::{Clock, Duration};
 
-/// How often the line is written anew, in milliseconds.
+/// How often the line is written again, in milliseconds.
 const TICK: u64 = 100;
 
 /// At which tick the line of a script comes: once it ran for a second. That of a fleet comes at the first.
 const FIRST: u32 = 10;
 
-/// Whether a run is over, and whether its line stands on the terminal.
+/// Whether a run is over, and whether its line is on the terminal.
 #[derive(Drop)]
 struct Shown {
     is_over: bool,
@@ -38,8 +39,8 @@ struct Line<'a> {
     over: Condvar,
 }
 
-/// Serves while a thread says on standard error how far the run is, and gives the source and the sink back. What is read, written
-/// and answered is what `serve` says. If no thread can be made there is no line.
+/// Serves while a thread shows on standard error how far the run is, and returns the source and the sink. What is
+/// read and written is as for `serve`. If no thread can be started, there is no line.
 pub fn serve_watched<T: Threads + Wait + Clock + Eprint + Sync, S: Source + Drop, W: Sink + Drop>(
     rt: &T,
     alloc: Global,
@@ -158,13 +159,13 @@ impl<'a> Line<'a> {
 }
 
 impl Shown {
-    // Writes the line over the one that stands. A terminal that fails changes nothing.
+    // Writes the line over the present one. A terminal that fails changes nothing.
     fn write<R: Eprint>(&mut self, rt: &R, progress: &Progress) {
         let _ = eprint!(rt; "\r{progress}\x1b[K");
         self.stands = true;
     }
 
-    // Takes away the line that stands.
+    // Erases the present line.
     fn clear<R: Eprint>(&mut self, rt: &R) {
         if self.stands {
             let _ = eprint!(rt; "\r\x1b[K");

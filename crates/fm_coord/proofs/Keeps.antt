@@ -91,7 +91,7 @@ module _ (s : State) (e : Entry) where
   one_entry call.View = refl
   one_entry (call.Commit plan) = refl
 
--- there is room for an entry where the call has no cause
+-- there is room for an entry if the call has no cause
 room_left : (b : Bounds) (c : Call) → cause b c ≡ None → b.entries < b.limit
 room_left b c h = below b.limit b.entries (test_failed _ _ _ (has_room _ _ h))
 

@@ -17,7 +17,8 @@ said (answer.Packet packet) = reply.Packet packet
 said (answer.View view) = reply.Seen view.at view.knowledge
 said (answer.Admitted admitted) = reply.Admitted admitted
 
--- what an accepted call is answered: a cut by its packet, a view by what there is to see, and a commit by what the plan comes to
+-- what an accepted call is answered: a cut by its packet, a view by what there is to see, and a commit by what was
+-- admitted
 abbrev pub answered : State → Call → Answer
 answered s (call.Tell op) = answer.Done
 answered s (call.Merge packet) = answer.Done

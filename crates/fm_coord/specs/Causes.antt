@@ -10,7 +10,7 @@ use Rattle.fm_coord.specs.declared.entry.Call.{Call}
 use Rattle.fm_coord.specs.declared.entry.Call.TheVariants as call
 use Rattle.fm_coord.specs.Events.{Replica}
 
--- what refusals turn on: how many entries the history may have and has, the floor, and how many deltas there were
+-- what refusals depend on: how many entries the history may have and has, the floor, and how many deltas there were
 pub record Bounds : Type 0 where
   pub limit : ℕ
   pub entries : ℕ
@@ -44,11 +44,11 @@ abbrev pub first_of : {A : Type 0} → Option A → Option A → Option A
 first_of None b = b
 first_of (Some a) b = Some a
 
--- the cause for which a call is refused, where it is not for want of memory: what is wrong with it, else a full history
+-- the cause for which a call is refused, unless memory ran out: what is wrong with it, else a full history
 abbrev pub cause : Bounds → Call → Option Refusal
 cause b c = first_of (call_fault b c) (room_fault b)
 
--- the refusal of a call that is refused: its cause, and want of memory where it has none
+-- the refusal of a call that is refused: its cause, and out of memory if it has none
 abbrev pub refusal_for : Bounds → Call → Refusal
 refusal_for b c = or_else OutOfMemory (cause b c)
 

@@ -1,5 +1,5 @@
--- A replica as the sets of operations that it took in, and what happens to it. Delta-state CRDTs (Almeida, Shoker and
--- Baquero): basic anti-entropy in the transitive mode, where what was taken in from others is passed on too.
+-- A replica as the sets of operations that it received, and what happens to it. Delta-state CRDTs (Almeida, Shoker and
+-- Baquero): basic anti-entropy in the transitive mode: what was received from others is passed on too.
 use Rattle.std.specs.Prelude.{ℕ, ◌+◌, List, [], ◌∷◌, ◌++◌}
 use Rattle.std.specs.List.{slice_range}
 use Rattle.fm_records.specs.declared.ops.Op.{Op}
@@ -25,9 +25,9 @@ pub data Event : Type 0 where
   Merge : (packet : Sent) → Event
   -- a packet is cut
   Cut : (range : Range) → Event
-  -- the deltas below n are let go
+  -- the deltas below n are dropped
   Trim : (n : ℕ) → Event
-  -- what is known is looked at
+  -- what is known is viewed
   View : Event
   -- a plan is admitted
   Commit : (plan : Plan) → Event
@@ -37,7 +37,7 @@ pub record Replica : Type 0 where
   pub number : ℕ
   -- how many entries its history may have
   pub limit : ℕ
-  -- every operation that it took in, and the sets by which it took them in
+  -- every operation that it received, and the sets by which it received them
   pub taken : List Op
   pub buffer : List (List Op)
   pub floor : ℕ
@@ -46,11 +46,11 @@ pub record Replica : Type 0 where
   -- what happened, with who asked for it
   pub steps : List (ℕ × Event)
 
--- a replica to which nothing happened
+-- an unused replica
 abbrev pub opening : ℕ → ℕ → Replica
 opening number limit = record { number = number; limit = limit; taken = []; buffer = []; floor = 0; cuts = 0; steps = [] }
 
--- what a range comes to: the sets of an interval together, or all that was taken in
+-- the operations of a range: the union of the sets of an interval, or all that were received
 abbrev pub set_of : Replica → Range → List Op
 set_of r (Interval from to) = union (slice_range r.buffer from to)
 set_of r Full = r.taken
@@ -59,11 +59,11 @@ set_of r Full = r.taken
 abbrev pub packet_of : Replica → Range → Sent
 packet_of r range = record { sender = r.number; number = r.cuts + 1; set = set_of r range }
 
--- what a plan comes to
+-- what is admitted of a plan
 abbrev pub admitted_by : Replica → Plan → Admitted
 admitted_by r plan = admitted (know r.taken) r.number plan
 
--- a set that is added goes into what was taken in, and to the end of the buffer
+-- a set is added to what was received, and to the end of the buffer
 abbrev pub added : Replica → List Op → Replica
 added r S = record { number = r.number; limit = r.limit; taken = r.taken ++ S; buffer = r.buffer ++ S ∷ []; floor = r.floor; cuts = r.cuts; steps = r.steps }
 

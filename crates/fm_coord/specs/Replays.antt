@@ -1,4 +1,4 @@
--- Histories, and the replicas that they come to.
+-- Histories, and the replicas that they replay to.
 use Rattle.std.specs.Prelude.{◌≡◌, List, [], ◌∷◌, length, None}
 use Rattle.fm_records.specs.Know.{know}
 use Rattle.fm_records.specs.Spelled.{ops}
@@ -16,7 +16,7 @@ use Rattle.fm_coord.specs.Causes.{cause, bounds_of}
 abbrev pub seen : Sent → Packet
 seen p = record { sender = p.sender; number = p.number; value = know p.set }
 
--- the call by which an event comes
+-- the call of an event
 abbrev pub call_of : Event → Call
 call_of (event.Tell op) = call.Tell op
 call_of (event.Merge packet) = call.Merge (seen packet)
@@ -25,7 +25,7 @@ call_of (event.Trim n) = call.Trim n
 call_of event.View = call.View
 call_of (event.Commit plan) = call.Commit plan
 
--- what an event is answered: a cut by its packet, a plan by what it comes to, and a view by the count of what happened
+-- the reply to an event: to a cut its packet, to a plan what is admitted of it, and to a view the number of events
 -- before and what is known
 abbrev pub reply_of : Replica → Event → Reply
 reply_of r (event.Tell op) = reply.Nothing
@@ -35,7 +35,7 @@ reply_of r (event.Trim n) = reply.Nothing
 reply_of r event.View = reply.Seen (length r.steps) (know r.taken)
 reply_of r (event.Commit plan) = reply.Admitted (admitted_by r plan)
 
--- a call as an event: a packet that is merged stands for the operations that its value spells out
+-- a call as an event: a packet that is merged stands for the operations that its value is written out as
 abbrev pub event_of : Call → Event
 event_of (call.Tell op) = event.Tell op
 event_of (call.Merge p) = event.Merge (record { sender = p.sender; number = p.number; set = ops p.value })
@@ -57,7 +57,7 @@ pub record Fits (r : Replica) (e : Entry) : Type 0 where
   pub accepted : cause (bounds_of r) e.call ≡ None
   pub reply : e.reply ≡ reply_of r (event_of e.call)
 
--- a history is legal where each entry fits the replica that those before it come to
+-- a history is legal if each entry fits the replica that those before it replay to
 abbrev pub IsLegal : Replica → List Entry → Type 0
 IsLegal r [] = Unit {0}
 IsLegal r (e ∷ es) = Fits r e × IsLegal (entered r e) es

@@ -1,4 +1,4 @@
--- What a coordinator keeps, what calls make of it, and for which replica it stands.
+-- The state of a coordinator, how calls change it, and for which replica it stands.
 use Rattle.std.specs.Prelude.{◌≡◌, ◌≤◌, ℕ, ◌+◌, Bool, IsTrue, List, [], ◌∷◌, ◌++◌, length, drop, map, None}
 use Rattle.fm_records.specs.Table.{Table}
 use Rattle.fm_records.specs.Know.{know}
@@ -30,18 +30,18 @@ pub record WithKeeper (N : Type 0) : Type 0 where
   pub state : State
   pub keeper : N
 
--- a coordinator to which nothing happened
+-- an unused coordinator
 abbrev pub new_state : ℕ → ℕ → State
 new_state number limit = record { number = number; limit = limit; knowledge = know []; deltas = record { floor = 0; kept = [] }; cuts = 0; history = [] }
 
 abbrev pub entry : ℕ → Call → Reply → Entry
 entry by call reply = record { by = by; call = call; reply = reply }
 
--- what its refusals turn on
+-- what its refusals depend on
 abbrev pub bounds : State → Bounds
 bounds s = record { limit = s.limit; entries = length s.history; floor = s.deltas.floor; end = end_of s.deltas }
 
--- a delta is taken in: joined to what is known, and kept at the end
+-- a delta is merged into what is known, and kept at the end
 abbrev pub took : State → Table → Entry → State
 took s delta e = record { number = s.number; limit = s.limit; knowledge = table_join s.knowledge delta; deltas = pushed s.deltas delta; cuts = s.cuts; history = s.history ++ e ∷ [] }
 
@@ -49,7 +49,7 @@ took s delta e = record { number = s.number; limit = s.limit; knowledge = table_
 abbrev pub gave : State → Entry → State
 gave s e = record { number = s.number; limit = s.limit; knowledge = s.knowledge; deltas = s.deltas; cuts = s.cuts + 1; history = s.history ++ e ∷ [] }
 
--- the deltas below n are let go
+-- the deltas below n are dropped
 abbrev pub let_go : State → ℕ → Entry → State
 let_go s n e = record { number = s.number; limit = s.limit; knowledge = s.knowledge; deltas = trimmed s.deltas n; cuts = s.cuts; history = s.history ++ e ∷ [] }
 
@@ -57,7 +57,7 @@ let_go s n e = record { number = s.number; limit = s.limit; knowledge = s.knowle
 abbrev pub noted : State → Entry → State
 noted s e = record { number = s.number; limit = s.limit; knowledge = s.knowledge; deltas = s.deltas; cuts = s.cuts; history = s.history ++ e ∷ [] }
 
--- what a range comes to: the join of an interval's deltas, or all that is known
+-- the knowledge of a range: the join of an interval's deltas, or all that is known
 abbrev pub range_value : State → Range → Table
 range_value s (Interval from to) = joined_all (between s.deltas from to)
 range_value s Full = s.knowledge
@@ -86,30 +86,30 @@ step_asked s = (s.0, call_of s.1)
 pub record StandsFor (s : State) (r : Replica) : Type 0 where
   pub number : s.number ≡ r.number
   pub limit : s.limit ≡ r.limit
-  -- it knows what all that was taken in comes to
+  -- its knowledge is the table of all that was received
   pub knowledge : s.knowledge ≡ know r.taken
-  -- its deltas are what the sets from the floor on come to
+  -- its deltas are the tables of the sets from the floor on
   pub deltas : s.deltas.kept ≡ map know (drop r.floor r.buffer)
   pub floor : s.deltas.floor ≡ r.floor
   pub end : end_of s.deltas ≡ length r.buffer
   pub cuts : s.cuts ≡ r.cuts
-  -- its history is just what happened
+  -- its history is what happened
   pub history : map asked s.history ≡ map step_asked r.steps
 
--- an accepted call was the event at the replica: there was no cause to refuse it, the reply is the event's, and what is kept now
--- stands for the replica after it
+-- an accepted call was the event at the replica: there was no cause to refuse it, the reply is the event's, and what is
+-- kept now stands for the replica after it
 pub record IsEventAt (r : Replica) (by : ℕ) (event : Event) (reply : Reply) (s : State) : Type 0 where
   pub accepted : cause (bounds_of r) (call_of event) ≡ None
   pub answered : reply ≡ reply_of r event
   pub stands : StandsFor s (happens r by event)
 
--- the replica that a coordinator's history comes to
+-- the replica that a coordinator's history replays to
 abbrev pub replayed : State → Replica
 replayed s = replay (opening s.number s.limit) s.history
 
 -- what holds of every coordinator
 pub record IsCoordinator (s : State) : Type 0 where
-  -- its history is legal, and it stands for what that comes to
+  -- its history is legal, and it stands for the replica that the history replays to
   pub legal : IsLegal (opening s.number s.limit) s.history
   pub stands : StandsFor s (replayed s)
   -- the history is within its limit, and counts no less than deltas and cuts

@@ -23,7 +23,7 @@ use Rattle.fm_coord.specs.States.{State, bounds, took, gave, let_go, noted, aske
 some_none : {A : Type 0} {P : Type 0} (a : A) → Some a ≡ None → P
 some_none a e = absurd (let no : ⊥ = cc in no)
 
--- where there is no cause, nothing is wrong with the call, and there is room
+-- if there is no cause, nothing is wrong with the call, and there is room
 pub no_fault : {A : Type 0} (a b : Option A) → first_of a b ≡ None → a ≡ None
 no_fault None b h = refl
 no_fault (Some a) b h = some_none a h
@@ -78,7 +78,7 @@ module _ (s : State) (r : Replica) (st : StandsFor s r) where
       ap (drop (n - s.deltas.floor)) st.deltas ∙ drop-map know (n - s.deltas.floor) (drop r.floor r.buffer)
       ∙ ap (map know) (drop-drop (n - s.deltas.floor) r.floor r.buffer ∙ ap (λ k. drop k r.buffer) (let f = st.floor in let is : r.floor + (n - s.deltas.floor) ≡ n = omega arith in is))
 
-  -- what a range comes to is what its sets come to
+  -- the knowledge of a range is the table of its sets
   pub range_is : (range : Range) → range_fault (bounds s) range ≡ None → range_value s range ≡ know (set_of r range)
   range_is Full h = st.knowledge
   range_is (Interval from to) h =

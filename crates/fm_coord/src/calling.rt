@@ -15,9 +15,9 @@ use fm_policy::keeper::NetKeeper;
 use fm_records::refusal::Refusal;
 
 impl<N: NetKeeper> Coordinator<N> {
-    /// Does what is asked for, as the method of that name does and at its cost, and answers what that answers.
-    /// What is wrong with the call, else HistoryFull, else OutOfMemory; then nothing has changed, but for a stale network that a
-    /// view may have built or not.
+    /// Makes the call: as the method of that name, at its cost and with its result. Refused for what is wrong with
+    /// the call, else with HistoryFull, else with OutOfMemory. Then nothing has changed, except that a view may have
+    /// built a stale network.
     pub fn call(&mut self, by: u32, call: Call) -> Result<Answer, Refusal>
         ensures ok { IfOk result (λ answer. self.new.state ≡ after self.old.state (entry by call (said answer)) call) }
         ensures answer { IfOk result (λ answer. answer ≡ answered self.old.state call) }
@@ -50,8 +50,8 @@ impl<N: NetKeeper> Coordinator<N> {
 }
 
 impl Call {
-    /// The call again, for a second list: a packet that is merged shares its records with this one's. It costs a pointer for each
-    /// block of these, and O(n) for the n entries of a plan. After a refusal of memory the call is as it was.
+    /// The same call, for a second list: the packet of a merge shares its records with this one's. It costs a pointer
+    /// for each block of these, and O(n) for the n entries of a plan. If memory runs out, the call is unchanged.
     pub fn share(&mut self) -> Result<Call, OutOfMemory>
         ensures ok { IfOk result (λ call. call ≡ self.old) }
         ensures same { self.new ≡ self.old }

@@ -1,4 +1,5 @@
-//! One coordinator with its history.
+//! One coordinator with its history: a replica of a delta-state CRDT, by basic anti-entropy in the transitive mode
+//! (Almeida, Shoker and Baquero, 2018).
 
 ghost use Rattle.std.specs.Prelude.{◌≡◌, ◌≤◌, ◌<◌, ◌+◌, ◌^◌, ◌↔◌, ◌∷◌, ◌++◌, [], length, is_none, IsTrue, Some, None, IsOk, IsOkUnless, IfOk, IfErr, OnOk, OnErr};
 ghost use Rattle.std.specs.List.{list_all};
@@ -38,8 +39,8 @@ use fm_round::parts::{Admitted, Plan};
 use std::alloc::Global;
 use std::marker::Model;
 
-/// A coordinator: what it knows, the deltas by which it came to know it, its network, and the history of the calls that it
-/// accepted, which all of the others follow from.
+/// A coordinator: what it knows, the deltas that it received, its network, and the history of the calls that it
+/// accepted, from which all the rest follows.
 #[derive(Drop)]
 pub struct Coordinator<N: NetKeeper> {
     alloc: Global,
@@ -50,7 +51,7 @@ pub struct Coordinator<N: NetKeeper> {
     cuts: u64,
     history: Vec<Entry>,
     keeper: N,
-    // Whether the keeper follows what is known: it was fresh once, and was handed all keys since.
+    // Whether the keeper follows what is known: it was fresh once, and was given all keys since.
     follows: bool,
 }
 
@@ -65,8 +66,8 @@ impl<N: NetKeeper> Model for Coordinator<N> {
 }
 
 impl<N: NetKeeper> Coordinator<N> {
-    /// A coordinator to which nothing happened, whose history may have as many entries as the limit. The caller owes a
-    /// keeper that, if fresh, is for nothing known. It takes no memory.
+    /// An unused coordinator, whose history may have as many entries as the limit. The caller must pass a keeper that
+    /// is stale, or for nothing known. It allocates nothing.
     pub fn new(alloc: Global, number: CoordId, limit: usize, keeper: N) -> Coordinator<N>
         requires { IsTrue (N.fresh keeper) → N.is_for keeper (know []) }
         ensures state { result.state ≡ new_state number limit }
@@ -86,8 +87,8 @@ impl<N: NetKeeper> Coordinator<N> {
         }
     }
 
-    /// What holds of every coordinator: its history is legal, it stands for the replica that its history comes to, and its
-    /// keeper is stale or for what it knows.
+    /// What holds of every coordinator: its history is legal, it stands for the replica that its history replays to,
+    /// and its keeper is stale or for what it knows.
     pub fn known(&self)
         ensures coordinator { IsCoordinator self.now.state }
         ensures keeper { IsTrue (N.fresh self.now.keeper) → N.is_for self.now.keeper self.now.state.knowledge }
@@ -130,7 +131,7 @@ impl<N: NetKeeper> Coordinator<N> {
         self.buffer.floor()
     }
 
-    /// How many deltas it took in.
+    /// How many deltas it received.
     pub fn end(&self) -> u64
         ensures { result ≡ end_of self.now.state.deltas }
     {
@@ -145,7 +146,7 @@ impl<N: NetKeeper> Coordinator<N> {
         self.keeper.is_fresh()
     }
 
-    /// Whether there is room for an entry. HistoryFull where there is none.
+    /// Whether there is room for an entry. HistoryFull if there is none.
     pub fn check_room(&self) -> Result<(), Refusal>
         ensures ok { OnOk result (room_fault (bounds self.now.state) ≡ None) }
         ensures err { IfErr result (λ refusal. room_fault (bounds self.now.state) ≡ Some refusal) }
@@ -156,8 +157,8 @@ impl<N: NetKeeper> Coordinator<N> {
         Ok(())
     }
 
-    /// Whether a packet of the range can be cut. BadInterval where it ends before it starts or beyond the end, Trimmed with
-    /// the floor where it starts below that.
+    /// Whether a packet of the range can be cut. BadInterval if it ends before it starts or beyond the end, Trimmed
+    /// with the floor if it starts below that.
     pub fn check_range(&self, range: Range) -> Result<(), Refusal>
         ensures ok { OnOk result (range_fault (bounds self.now.state) range ≡ None) }
         ensures err { IfErr result (λ refusal. range_fault (bounds self.now.state) range ≡ Some refusal) }
@@ -206,8 +207,8 @@ impl<N: NetKeeper> Coordinator<N> {
         Ok(())
     }
 
-    /// Takes an operation in.
-    /// BadOp with the first field that is out of its range, HistoryFull, OutOfMemory; then nothing has changed.
+    /// Tells the coordinator an operation. BadOp with the first field that is out of its range, HistoryFull,
+    /// OutOfMemory; then nothing has changed.
     pub fn tell(&mut self, by: u32, op: Op) -> Result<(), Refusal>
         ensures ok { OnOk result (self.new.state ≡ took self.old.state (know (op ∷ [])) (entry by (Call.Tell op) Reply.Nothing)) }
         ensures keeper { OnOk result (N.absorbs self.old.keeper (changed_keys (know (op ∷ []))) self.new.keeper) }
@@ -229,8 +230,8 @@ impl<N: NetKeeper> Coordinator<N> {
         Ok(())
     }
 
-    /// Takes a packet's value in. The history, the deltas and, if nothing was known before, what is known share its records.
-    /// HistoryFull, OutOfMemory; then nothing has changed.
+    /// Merges a packet's value. The history, the deltas and, if nothing was known before, the knowledge share its
+    /// records. HistoryFull, OutOfMemory; then nothing has changed.
     pub fn merge(&mut self, by: u32, mut packet: Packet) -> Result<(), Refusal>
         ensures ok { OnOk result (self.new.state ≡ took self.old.state packet.value (entry by (Call.Merge packet) Reply.Nothing)) }
         ensures keeper { OnOk result (N.absorbs self.old.keeper (changed_keys packet.value) self.new.keeper) }
@@ -252,9 +253,9 @@ impl<N: NetKeeper> Coordinator<N> {
         Ok(())
     }
 
-    /// A packet of what the range comes to: the join of an interval's deltas, or all that is known, which it then shares. Its
-    /// number is 1 plus the packets that were cut before.
-    /// BadInterval, Trimmed, HistoryFull, OutOfMemory; then nothing has changed.
+    /// A packet of the range: the join of an interval's deltas, or all that is known, which it then shares. Its
+    /// number is 1 plus the number of packets cut before. BadInterval, Trimmed, HistoryFull, OutOfMemory; then
+    /// nothing has changed.
     pub fn cut(&mut self, by: u32, range: Range) -> Result<Shared<Packet>, Refusal>
         ensures ok { IfOk result (λ packet. self.new.state ≡ gave self.old.state (entry by (Call.Cut range) (Reply.Packet packet))) }
         ensures packet { IfOk result (λ packet. packet ≡ cut_packet self.old.state range) }
@@ -288,9 +289,9 @@ impl<N: NetKeeper> Coordinator<N> {
         Ok(())
     }
 
-    /// The packet that a cut of the range would give now. Nothing is listed, and its number goes to the next cut. It costs what the
-    /// cut costs, and a copy of what is known but not shared yet.
-    /// BadInterval, Trimmed, HistoryFull, OutOfMemory: as the cut would be refused.
+    /// The packet that a cut of the range would return now. The history does not change, and the next cut gets the
+    /// same number. It costs what the cut costs, and a copy of what is known but not shared yet. Refused as the cut
+    /// would be: BadInterval, Trimmed, HistoryFull, OutOfMemory.
     pub fn packet_for(&self, range: Range) -> Result<Shared<Packet>, Refusal>
         ensures ok { IfOk result (λ packet. packet ≡ cut_packet self.now.state range) }
         ensures within { IsOk result → cause (bounds self.now.state) (Call.Cut range) ≡ None }
@@ -311,7 +312,7 @@ impl<N: NetKeeper> Coordinator<N> {
     {
         let mut value = self.value_of(range)?;
         let number = self.cuts + 1;
-        // Whoever gets a copy of the packet shares its records.
+        // Copies of the packet share its records.
         let packet = Packet {
             sender: self.number,
             number,
@@ -320,7 +321,7 @@ impl<N: NetKeeper> Coordinator<N> {
         Ok(Shared::new(self.alloc, packet)?)
     }
 
-    // What the range comes to.
+    // The knowledge of the range.
     fn value_of(&self, range: Range) -> Result<Knowledge, Refusal>
         requires range { range_fault (bounds self.now.state) range ≡ None }
         ensures ok { IfOk result (λ value. value ≡ range_value self.now.state range) }
@@ -332,8 +333,8 @@ impl<N: NetKeeper> Coordinator<N> {
         }
     }
 
-    /// Lets the deltas below n go, which then can be cut no more.
-    /// BadInterval where n is below the floor or above the end, HistoryFull, OutOfMemory; then nothing has changed.
+    /// Drops the deltas below n, which then can no longer be cut. BadInterval if n is below the floor or above the
+    /// end, HistoryFull, OutOfMemory; then nothing has changed.
     pub fn trim(&mut self, by: u32, n: u64) -> Result<(), Refusal>
         ensures ok { OnOk result (self.new.state ≡ let_go self.old.state n (entry by (Call.Trim n) Reply.Nothing)) }
         ensures keeper { self.new.keeper ≡ self.old.keeper }
@@ -354,11 +355,11 @@ impl<N: NetKeeper> Coordinator<N> {
         Ok(())
     }
 
-    /// What is known now, with the count of entries before this one's, and the network, which is built first where it is
-    /// stale. What is known is shared and not copied: a pointer for each block of records, and memory for each that was written
-    /// in since the last view. The network is shared by one pointer; a keeper that edits copies it, O(arcs), the first time
-    /// that it edits it while the view is still held.
-    /// HistoryFull, OutOfMemory; then nothing has changed, but for a stale network that may be built or not.
+    /// What is known now, with the number of entries before this one's, and the network, which is built first if it
+    /// is stale. The knowledge is shared and not copied: a pointer for each block of records, and memory for each
+    /// that was written since the last view. The network is shared by one pointer; a keeper that edits copies it,
+    /// O(arcs), at its first edit while the view still exists. HistoryFull, OutOfMemory; then nothing has changed,
+    /// except that a stale network may have been built.
     pub fn view(&mut self, by: u32) -> Result<View, Refusal>
         ensures ok { IfOk result (λ view. self.new.state ≡ noted self.old.state (entry by Call.View (Reply.Seen view.at view.knowledge))) }
         ensures at { IfOk result (λ view. view.at ≡ length self.old.state.history) }
@@ -382,9 +383,9 @@ impl<N: NetKeeper> Coordinator<N> {
         })
     }
 
-    /// As `view`, but with no network: a stale one stays stale. The history has the same entry. It costs what sharing what is known
-    /// costs: a pointer for each block of records, and memory for each that was written in since the last view.
-    /// HistoryFull, OutOfMemory; then nothing has changed.
+    /// As `view`, but without the network: a stale one stays stale. The history has the same entry. It costs a
+    /// pointer for each block of records, and memory for each that was written since the last view. HistoryFull,
+    /// OutOfMemory; then nothing has changed.
     pub fn see(&mut self, by: u32) -> Result<Sight, Refusal>
         ensures ok { IfOk result (λ sight. self.new.state ≡ noted self.old.state (entry by Call.View (Reply.Seen sight.at sight.knowledge))) }
         ensures at { IfOk result (λ sight. sight.at ≡ length self.old.state.history) }
@@ -452,7 +453,9 @@ impl<N: NetKeeper> Coordinator<N> {
         requires { IsTrue (N.fresh self.now.keeper) }
         ensures { IfOk result (λ network. network ≡ net_of self.now.state.knowledge) }
     {
-        self.keeper.share()
+        self.known();
+        let network = self.keeper.share()?;
+        Ok(network)
     }
 
     // Adds an entry alone.
@@ -466,8 +469,8 @@ impl<N: NetKeeper> Coordinator<N> {
         Ok(())
     }
 
-    /// Admits a plan, takes in what it comes to, and answers that. Where nothing is admitted, the delta is empty.
-    /// HistoryFull, OutOfMemory; then nothing has changed.
+    /// Admits a plan, merges the operations of the accepted entries, and returns these with the answers. If nothing
+    /// is admitted, the delta is empty. HistoryFull, OutOfMemory; then nothing has changed.
     pub fn commit(&mut self, by: u32, plan: Plan) -> Result<Shared<Admitted>, Refusal>
         ensures ok { IfOk result (λ admitted. self.new.state ≡ took self.old.state (know admitted.ops) (entry by (Call.Commit plan) (Reply.Admitted admitted))) }
         ensures keeper { IfOk result (λ admitted. N.absorbs self.old.keeper (changed_keys (know admitted.ops)) self.new.keeper) }
@@ -490,7 +493,7 @@ impl<N: NetKeeper> Coordinator<N> {
         Ok(admitted)
     }
 
-    // What a plan comes to here.
+    // What is admitted of a plan here.
     fn admitted_by(&self, plan: &Plan) -> Result<Shared<Admitted>, OutOfMemory>
         ensures admitted { IfOk result (λ a. a ≡ admitted self.now.state.knowledge self.now.state.number plan.now) }
         ensures in_range { IfOk result (λ a. IsTrue (list_all (λ op. is_none (op_fault op)) a.ops)) }
@@ -499,9 +502,8 @@ impl<N: NetKeeper> Coordinator<N> {
         Ok(Shared::new(self.alloc, admitted)?)
     }
 
-    /// Writes the text of its network, which is built first where it is stale. It adds no entry, and what is known, kept and
-    /// listed stays as it is, also where it is refused: then a prefix was written.
-    /// WriteFault, OutOfMemory.
+    /// Writes the text of its network, which is built first if it is stale. It adds no entry, and knowledge, deltas
+    /// and history are unchanged, also if it is refused: then a prefix was written. WriteFault, OutOfMemory.
     pub fn dump<W: Out>(&mut self, out: &mut W) -> Result<(), Refusal>
         ensures ok { OnOk result (Appends (W.written out.old) (W.written out.new) (dump_text (net_of self.old.state.knowledge))) }
         ensures ok_fails_not { OnOk result (W.has_failed out.new ≡ W.has_failed out.old) }
@@ -524,7 +526,7 @@ impl<N: NetKeeper> Coordinator<N> {
     }
 }
 
-// Joins the delta in, keeps it and adds the entry, or does none of it.
+// Merges the delta, keeps it and adds the entry, or does none of it.
 fn add_delta(
     knowledge: &mut Knowledge,
     buffer: &mut Buffer,

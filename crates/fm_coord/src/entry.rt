@@ -6,7 +6,7 @@ use fm_lattice::shared::Shared;
 use fm_records::ops::Op;
 use fm_round::parts::{Admitted, Plan};
 
-/// What of a coordinator goes into a packet.
+/// Which part of a coordinator's knowledge goes into a packet.
 #[derive(Debug, Clone, Copy, PartialEq, Eq, Drop)]
 pub enum Range {
     /// The join of the deltas from the first number, below the second, counted from 0.
@@ -15,32 +15,32 @@ pub enum Range {
     Full,
 }
 
-/// What a coordinator was asked for.
+/// A call of a coordinator.
 #[derive(PartialEq, Drop)]
 pub enum Call {
     /// Take the operation in.
     Tell(Op),
     /// Take the packet's value in.
     Merge(Packet),
-    /// Give a packet of what the range comes to.
+    /// Return a packet of the range.
     Cut(Range),
-    /// Let the deltas below the number go.
+    /// Drop the deltas below the number.
     Trim(u64),
     /// Show what is known.
     View,
-    /// Admit the plan, and take in what it comes to.
+    /// Admit the plan, and merge the operations of the accepted entries.
     Commit(Plan),
 }
 
-/// What it answered.
+/// What the call returned.
 #[derive(PartialEq, Drop)]
 pub enum Reply {
     Nothing,
     /// The packet of a cut.
     Packet(Shared<Packet>),
-    /// What a plan came to.
+    /// What was admitted of a plan.
     Admitted(Shared<Admitted>),
-    /// How many entries were before a view, and what was known.
+    /// The number of entries before a view, and what was known.
     Seen(usize, Shared<Knowledge>),
 }
 

@@ -1,4 +1,4 @@
-//! Equality of entries: `==` holds exactly where the values are the same.
+//! Equality of entries: `==` holds exactly if the values are the same.
 
 ghost use Rattle.std.specs.Prelude.{◌≡◌, ◌↔◌, IsTrue};
 

@@ -1,4 +1,4 @@
-//! One coordinator with its history.
+//! One coordinator: its state, deltas and network, with the history of its calls.
 #![tactic(auto)]
 
 pub mod answer;
@@ -9,5 +9,5 @@ pub mod equal;
 pub mod laws;
 pub mod view;
 
-// The values with several owners that are handed out.
+// The values with several owners that calls return.
 pub use fm_lattice::shared;

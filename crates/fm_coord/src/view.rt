@@ -1,4 +1,4 @@
-//! What looks hand out.
+//! What views show.
 
 use fm_know::knowledge::Knowledge;
 use fm_lattice::shared::Shared;

@@ -1,4 +1,4 @@
--- Relaxations put behind one another, in whatever order.
+-- Relaxations put behind each other, in whatever order.
 use Rattle.std.proofs.Common.{◌≡◌, ◌∙◌, ap, Option, refl, sym, subst, ℕ, ◌≤◌, ◌+◌, ◌*◌, ◌^◌, length, arith}
 use Rattle.std.specs.Prelude.{ℤ}
 use Rattle.std.proofs.lemmas.Int.{ints}

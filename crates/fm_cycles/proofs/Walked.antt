@@ -125,7 +125,7 @@ module _ (arcs : List Arc) (units : List ℕ) (nodes : ℕ) (parents : ℕ → O
     apart = subst (λ (p : List Step). AreApart g p) (sym none) tt;
   }
 
-  -- where an open step comes from a node
+  -- if an open step comes from a node
   source_within : AreArcs arcs nodes → (s : Step) → g.is_open s → g.source s < nodes
   source_within known s can =
       elim (slice_get arcs s.arc) as (λ o. slice_get arcs s.arc ≡ o → HasRoom o s.forward (slice_index units s.arc) → start_of o s.forward < nodes) [

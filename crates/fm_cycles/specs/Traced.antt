@@ -16,7 +16,7 @@ marked [] = 0
 marked (None ∷ xs) = marked xs
 marked (Some x ∷ xs) = marked xs + 1
 
--- the visit of a node, none behind the end
+-- the visit of a node, none beyond the end
 abbrev pub visit_of : List (Option Visit) → ℕ → Option Visit
 visit_of visits v = slice_index_or visits v None
 

@@ -10,8 +10,8 @@ ghost use Rattle.fm_cycles.specs.Labels.{costs_of, IsLoweredBy, KeepsFallen, Has
 use crate::arcs::{Arc, Step};
 use crate::lookup::{cost_at, units_at};
 
-/// The cost at each node, its parent (the step by which the cost fell last, none before it falls), and some node whose cost
-/// fell.
+/// The cost at each node, its parent (the step by which the cost fell last, none before it falls), and some node whose
+/// cost fell.
 #[derive(Debug, Drop)]
 pub(crate) struct Labels {
     pub(crate) costs: Vec<i128>,
@@ -19,7 +19,8 @@ pub(crate) struct Labels {
     pub(crate) fell: Option<usize>,
 }
 
-// Makes the step the node's parent, if it can be taken and the cost by it is less than the node's. A tie changes nothing.
+// Makes the step the node's parent, if it can be taken and the cost by it is less than the node's. A tie changes
+// nothing.
 fn lower(labels: &mut Labels, can: bool, node: usize, cost: i128, step: Step)
     requires costs { node < vec_len labels.old.costs }
     requires parents { node < vec_len labels.old.parents }
@@ -35,7 +36,8 @@ fn lower(labels: &mut Labels, can: bool, node: usize, cost: i128, step: Step)
     }
 }
 
-/// Relaxes both steps over an arc, the one backwards from what the one forwards left. At most one of them lowers a cost.
+/// Relaxes both steps over an arc, the one backwards from what the one forwards left. At most one of them lowers a
+/// cost.
 pub(crate) fn relax(arcs: &[Arc], units: &[u64], place: usize, labels: &mut Labels)
     requires arcs { AreArcs arcs.now (vec_len labels.old.costs) }
     requires place { place < length arcs.now }
@@ -61,8 +63,8 @@ pub(crate) fn relax(arcs: &[Arc], units: &[u64], place: usize, labels: &mut Labe
     lower(labels, sent > 0, arc.from, back, step);
 }
 
-/// Relaxes each arc once, the last one first if so asked: alternating sweeps follow walks in both orders (Yen, 1970). Takes
-/// no memory. O(arcs).
+/// Relaxes each arc once, the last one first if so asked: alternating sweeps follow walks in both orders (Yen, 1970).
+/// Allocates nothing. O(arcs).
 pub(crate) fn sweep(arcs: &[Arc], units: &[u64], backwards: bool, labels: &mut Labels)
     requires arcs { AreArcs arcs.now (vec_len labels.old.costs) }
     requires low { IsAbove (2 ^ 97) (costs_of labels.old) }

@@ -1,6 +1,7 @@
 //! Relaxing along a queue, as Moore does: the arcs at the nodes whose costs fell, longest waiting first.
 //!
-//! Any order keeps the labels labels, so nothing proved rests on the queue: its order decides only how soon a search ends.
+//! Any order keeps the labels labels, so nothing proved rests on the queue: its order decides only how soon a search
+//! ends.
 
 ghost use Rattle.std.specs.Prelude.{◌≡◌, ◌<◌, ◌^◌, vec_len, length, ℕ, ◌≤ℤ◌, pos, IfOk, OnOk};
 ghost use Rattle.fm_cycles.specs.Residual.{residual, AreArcs};
@@ -13,8 +14,8 @@ use crate::walk::cycles_in;
 use std::alloc::{AllocError, Global};
 use std::collections::VecDeque;
 
-// So many sweeps come first: most cycles are short, and are found by then. Chains whose arcs come in no order need a sweep
-// for nearly each of their nodes.
+// So many sweeps come first: most cycles are short, and are found by then. Chains whose arcs come in no order need a
+// sweep for nearly each of their nodes.
 const SWEEPS_FIRST: usize = 4;
 
 // So often as many arcs are relaxed as there are, between two sweeps.
@@ -135,8 +136,8 @@ fn relax_waiting(
     Ok(())
 }
 
-/// Relaxes arcs until the labels have a cycle, no node waits, or it was done for long enough, and answers the cycles. Does
-/// nothing before the first sweeps are done. O(arcs) in time and memory. Refused if memory runs out.
+/// Relaxes arcs until the labels have a cycle, no node waits, or it was done for long enough, and returns the cycles.
+/// Does nothing before the first sweeps are done. O(arcs) in time and memory. Refused if memory runs out.
 pub(crate) fn relax_by_queue(
     alloc: Global,
     arcs: &[Arc],

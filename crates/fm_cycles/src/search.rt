@@ -22,8 +22,8 @@ pub enum Found {
     Cycle(Vec<Step>),
 }
 
-/// Cycles of negative cost, no two of which come to one node, and the costs at which the search ended: potentials if there is
-/// no cycle.
+/// Cycles of negative cost, no two of which share a node, and the costs at which the search ended: potentials if
+/// there is no cycle.
 #[derive(Debug, Drop)]
 pub(crate) struct Searched {
     pub(crate) cycles: Vec<Vec<Step>>,
@@ -85,12 +85,12 @@ pub(crate) fn search_on(
 }
 
 /// Potentials that show the units to be a least flow, or a cycle of negative cost around which they become cheaper. The
-/// caller must pass arcs between the nodes, fewer than 2^63 of these, and a number for each to start from, none beyond 2^64
-/// in size: from potentials the search only confirms them. Refused if memory runs out, and for nothing else.
+/// caller must pass arcs between the nodes, fewer than 2^63 of these, and a number for each to start from, none beyond
+/// 2^64 in size: from potentials the search only confirms them. Refused if memory runs out, and for nothing else.
 ///
-/// Bellman and Ford's search with parents, looking for a cycle after each sweep over the arcs, and after four sweeps
-/// Moore's queue runs between two sweeps. Time O(nodes * arcs) at worst, since there are at most as many sweeps as nodes.
-/// Memory O(nodes), with the queue O(nodes + arcs).
+/// The Bellman-Ford algorithm (Ford, 1956; Bellman, 1958) with parents, looking for a cycle after each sweep over the
+/// arcs. After four sweeps a queue (Moore, 1959) runs between two sweeps. Time O(nodes * arcs) at worst, since there
+/// are at most as many sweeps as nodes. Memory O(nodes), with the queue O(nodes + arcs).
 pub fn search(
     alloc: Global,
     nodes: usize,

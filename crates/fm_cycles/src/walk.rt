@@ -9,7 +9,7 @@ use crate::arcs::{Arc, Step};
 use crate::lookup::value_or;
 use std::alloc::{AllocError, Global};
 
-/// A walk back came to a node: where the walk started, and how many steps it had.
+/// A walk back visited a node: where the walk started, and how many steps it had.
 #[derive(Debug, Clone, Copy, Drop)]
 pub(crate) struct Visit {
     pub(crate) start: usize,
@@ -48,8 +48,8 @@ fn behind(alloc: Global, walk: &[Step], first: usize) -> Result<Vec<Step>, Alloc
     walk.iter().skip(first).copied().collect(alloc)
 }
 
-// Walks back from a node until it comes to a visited one or there is no parent, and tells the first place of the walk that
-// belongs to a cycle, if the walk came to itself.
+// Walks back from a node until it reaches a visited one or there is no parent, and tells the first place of the walk
+// that belongs to a cycle, if the walk reached itself.
 fn walk_back(
     arcs: &[Arc],
     units: &[u64],
@@ -85,7 +85,7 @@ fn walk_back(
     }
 }
 
-/// The cycles of the parents, each once: no two of them come to one node. If there is none, each walk back ends at a node
+/// The cycles of the parents, each once: no two of them share a node. If there is none, each walk back ends at a node
 /// without a parent. The caller must pass parents of labels. O(nodes) in time and memory. Refused if memory runs out.
 pub(crate) fn cycles_in(
     alloc: Global,

@@ -1,4 +1,4 @@
--- A join of deltas can be taken by parts, and is what all their operations come to.
+-- A join of deltas can be taken by parts, and is the table of all their operations.
 use Rattle.std.specs.Prelude.{◌≡◌, ◌≤◌, ℕ, ◌+◌, ◌-◌, List, [], ◌∷◌, ◌++◌, map, take, drop, refl}
 use Rattle.std.specs.List.{slice_range}
 use Rattle.std.proofs.Common.{sym, ap, ◌∙◌, subst, append_assoc, arith}
@@ -83,7 +83,7 @@ split_between xs from middle to low high =
     ∙ take-add (middle - from) (to - middle) (drop from xs)
     ∙ ap (λ ys. take (middle - from) (drop from xs) ++ take (to - middle) ys) (drop-drop (middle - from) from xs ∙ ap (λ n. drop n xs) there)
 
--- the join of what sets come to is what all of them together come to
+-- the join of the tables of sets is the table of their union
 union_from : (S : List Op) (Ss : List (List Op)) → joined_from (know S) (map know Ss) ≡ know (S ++ union Ss)
 union_from S [] = ap know (sym (append-nil S))
 union_from S (T ∷ Ss) = ap (λ k. joined_from k (map know Ss)) (sym (know_append S T)) ∙ union_from (S ++ T) Ss ∙ ap know (append_assoc S T (union Ss))

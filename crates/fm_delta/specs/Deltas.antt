@@ -9,12 +9,12 @@ use Rattle.fm_records.specs.Table.{Table}
 use Rattle.fm_records.specs.Know.{know}
 use Rattle.fm_records.specs.Joined.{table_join}
 
--- the deltas that were pushed, counted from 0: those below the floor were let go, the others are kept in order
+-- the deltas that were pushed, counted from 0: those below the floor were dropped, the others are kept in order
 pub record Deltas : Type 0 where
   pub floor : ℕ
   pub kept : List Table
 
--- a buffer: its deltas, and how many more can be pushed without asking for memory
+-- a buffer: its deltas, and how many more can be pushed without allocating
 pub record WithRoom : Type 0 where
   pub deltas : Deltas
   pub room : ℕ
@@ -44,7 +44,7 @@ joined_from k (delta ∷ deltas) = joined_from (table_join k delta) deltas
 abbrev pub joined_all : List Table → Table
 joined_all = joined_from (know [])
 
--- why a cut is refused, where it is not for want of memory: it ends before it starts or beyond the end, or it starts
+-- why a cut is refused, unless memory ran out: it ends before it starts or beyond the end, or it starts
 -- below the floor
 abbrev pub cut_fault : Deltas → ℕ → ℕ → Option Refusal
 cut_fault b from to = cond (nat_lt to from || nat_lt (end_of b) to) (Some BadInterval) (when (nat_lt from b.floor) (Trimmed b.floor))

@@ -17,7 +17,7 @@ use std::alloc::Global;
 use std::collections::VecDeque;
 use std::marker::Model;
 
-/// Deltas in the order of their pushes, counted from 0. Those below the floor are let go.
+/// Deltas in the order of their pushes, counted from 0. Those below the floor are dropped.
 #[derive(Drop)]
 pub struct Buffer {
     floor: u64,
@@ -37,7 +37,7 @@ impl Model for Buffer {
 }
 
 impl Buffer {
-    /// A buffer with no deltas and its floor at 0. It takes no memory.
+    /// A buffer with no deltas and its floor at 0. It allocates nothing.
     pub fn new(alloc: Global) -> Buffer
         ensures { result.deltas ≡ record { floor = 0; kept = [] } }
     {
@@ -47,7 +47,7 @@ impl Buffer {
         }
     }
 
-    /// The first delta that is kept: those below it were let go.
+    /// The first delta that is kept: those below it were dropped.
     pub fn floor(&self) -> u64
         ensures { result ≡ self.now.deltas.floor }
     {
@@ -61,7 +61,7 @@ impl Buffer {
         self.floor + self.kept.len() as u64
     }
 
-    /// Asks for the memory of as many pushes, none of which can then be refused. The deltas stay as they are.
+    /// Reserves the memory of as many pushes, none of which can then be refused. The deltas are unchanged.
     pub fn reserve(&mut self, additional: usize) -> Result<(), OutOfMemory>
         ensures deltas { self.new.deltas ≡ self.old.deltas }
         ensures ok { OnOk result (additional ≤ self.new.room) }
@@ -71,8 +71,8 @@ impl Buffer {
         Ok(())
     }
 
-    /// Adds the delta at the end, which the caller has seen to be below the greatest u64. With room left it is never
-    /// refused; after a refusal of memory the deltas are as they were.
+    /// Adds the delta at the end, whose number must be below the greatest u64. With room left it is never refused. If
+    /// memory runs out the deltas are unchanged.
     pub fn push(&mut self, delta: Knowledge) -> Result<(), OutOfMemory>
         requires { end_of self.old.deltas + 1 < 2 ^ 64 }
         ensures ok { OnOk result (self.new.deltas ≡ pushed self.old.deltas delta) }
@@ -84,9 +84,9 @@ impl Buffer {
         Ok(())
     }
 
-    /// The join of the deltas from, .., to - 1. Where each delta is what a set of operations comes to, it is what all of
-    /// these sets come to. O(s log d) for d deltas with s entries in all.
-    /// BadInterval where `from` is above `to` or `to` is above the end, else Trimmed where `from` is below the floor.
+    /// The join of the deltas from, .., to - 1. If each delta is the table of a set of operations, it is the table of
+    /// their union. O(s log d) for d deltas with s entries in all. BadInterval if `from` is above `to` or `to` is
+    /// above the end, else Trimmed if `from` is below the floor.
     pub fn cut(&self, from: u64, to: u64) -> Result<Knowledge, Refusal>
         ensures ok { IfOk result (λ k. k ≡ joined_all (between self.now.deltas from to)) }
         ensures union { (Ss : List (List Op)) → between self.now.deltas from to ≡ map know Ss → IfOk result (λ k. k ≡ know (union Ss)) }
@@ -105,8 +105,8 @@ impl Buffer {
         Ok(group)
     }
 
-    /// Sets the floor, and lets go of the deltas below it. It takes no memory, and O(s) for deltas with s entries that it drops.
-    /// BadInterval where n is below the floor or above the end, and nothing has changed.
+    /// Sets the floor, and drops the deltas below it. It allocates nothing, and O(s) for deltas with s entries that
+    /// it drops. BadInterval if n is below the floor or above the end, and nothing has changed.
     pub fn trim(&mut self, n: u64) -> Result<(), Refusal>
         ensures answer { result ≡ (if can_trim self.old.deltas n then Ok tt else Err Refusal.BadInterval) }
         ensures ok { OnOk result (self.new.deltas ≡ trimmed self.old.deltas n) }
@@ -132,7 +132,8 @@ fn let_go(deltas: &mut VecDeque<Knowledge>, count: usize)
     }
 }
 
-// The join of the deltas from, .., to - 1: by halves, so that each is copied as often as the count can be halved.
+// The join of the deltas from, .., to - 1, by divide and conquer: each delta is copied as often as the count can be
+// halved.
 fn joined_between(
     deltas: &VecDeque<Knowledge>,
     from: usize,

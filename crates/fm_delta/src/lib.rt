@@ -1,4 +1,5 @@
-//! What coordinators exchange: buffers of deltas, from which delta groups are cut, and packets.
+//! What coordinators exchange: buffers of deltas, from which delta groups are cut, and packets (delta-state CRDTs:
+//! Almeida, Shoker and Baquero, 2018).
 #![tactic(auto)]
 
 pub mod buffer;

@@ -15,16 +15,16 @@ pub struct Packet {
 }
 
 impl Packet {
-    /// The packet again. It costs what `Knowledge::copy` costs: a pointer for each block of records that is shared, and a copy of
-    /// what is not.
+    /// The packet again. It costs what `Knowledge::copy` costs: a pointer for each block of records that is shared, and
+    /// a copy of what is not.
     pub fn copy(&self) -> Result<Packet, OutOfMemory>
         ensures { IfOk result (λ p. p ≡ self.now) }
     {
         Ok(self.with(self.value.copy()?))
     }
 
-    /// The packet again, with which this one shares its records, at the cost of `Knowledge::share`: a pointer for each block, and
-    /// memory for each that was not shared before. After a refusal of memory the packet is as it was.
+    /// The packet again, with which this one shares its records, at the cost of `Knowledge::share`: a pointer for each
+    /// block, and memory for each that was not shared before. If memory runs out, the packet is unchanged.
     pub fn share(&mut self) -> Result<Packet, OutOfMemory>
         ensures ok { IfOk result (λ p. p ≡ self.old) }
         ensures same { self.new ≡ self.old }

@@ -50,7 +50,7 @@ read_first k nodes text rest h some = sink_first nodes (leads_first k (Comments 
 pub read_text : (j : ℕ) (nodes : List Node) (net : Net) (text rest : List ℕ) → Leads j (Comments []) text (Comments nodes) rest → (k : ℕ) × Leads k (Comments nodes) rest (Body net.nodes [] net.arcs 0) [] → text ≡ dump_text net
 read_text j nodes net text rest h g = whole_text (j + g.0) text net.nodes net.arcs (leads_on j g.0 (Comments []) (Comments nodes) (Body net.nodes [] net.arcs 0) text rest [] h g.1)
 
--- a network's text is read as it, but for memory
+-- a network's text is read as it, except for lack of memory
 pub only_refused : (text : List ℕ) (refusal : Refusal) → length text < 2 ^ 64 → WhyNot text refusal → (net : Net) → CanBeNet net → text ≡ dump_text net → refusal ≡ OutOfMemory
 only_refused text OutOfMemory fits why net can e = refl
 only_refused text (BadDimacs line) fits why net can e = absurd (not_broken net text line fits can e why)

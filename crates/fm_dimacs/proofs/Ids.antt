@@ -29,7 +29,7 @@ id_least id (m ∷ ms) n h =
     (λ _ e. elim h [ inl is ↦ absurd (let never : Greater ≡ Equal = sym e ∙ same_node m n is in cc) | inr later ↦ omega (arith, id_least (id + 1) ms n later) ])
     refl
 
--- the node is the first, and has its ID, or stands behind it
+-- the node is the first, and has its ID, or stands after it
 pub record Later (id : ℕ) (m : Node) (ms : List Node) (n : Node) : Type 0 where
   pub member : IsMember n ms
   pub id_is : id_from id (m ∷ ms) n ≡ id_from (id + 1) ms n

@@ -98,7 +98,7 @@ stopped_later r refusal old mid new had mid_failed has whole start piece rest h 
     (subst (AppendsPrefix old new) (sym is) (prefix_later old mid new start (piece ++ rest) e (prefix_start mid new piece rest k.0)))
     (stops_since refusal had mid_failed has f k.1)
 
--- where a text did not go out whole, a prefix did
+-- if a text did not go out whole, a prefix did
 pub prefix_sent : {T : Type 0} (r : Result T Refusal) (old new : Option (List ℕ)) (had has : Bool) (text : List ℕ) → IsSent r old new had has text → OnErr r (AppendsPrefix old new text)
 prefix_sent (Ok x) old new had has text h = tt
 prefix_sent (Err x) old new had has text h = h.0

@@ -20,7 +20,7 @@ none_here : {X : Type 0} (o : Option ℕ) (test : ℕ → Bool) (found : ℕ →
 none_here None test found never = refl
 none_here (Some n) test found never = elim (test n) as (λ b. test n ≡ b → cond b (Some (found n)) None ≡ None) [ true ↦ λ e. absurd (never n e) | false ↦ λ _. refl ] refl
 
--- where the front is no id's text, no id is read
+-- if the front is no id's text, no id is read
 pub no_id : (bytes : List ℕ) → ((n : ℕ) → id_text n ≡ take 36 bytes → ⊥) → id_at bytes ≡ None
 unfolding id_at
 no_id bytes never = none_here (read_id (take 36 bytes)) (λ n. bytes_eq (id_text n) (take 36 bytes)) (λ n. (n, drop 36 bytes)) (λ n e. never n ((bytes_eq-Decides (id_text n) (take 36 bytes)).0 e))

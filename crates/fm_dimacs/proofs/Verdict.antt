@@ -1,4 +1,4 @@
--- A text is one network's at most, and of none where a line breaks a rule, which is one line then.
+-- A text is one network's at most, and of none if a line breaks a rule, which is one line then.
 use Rattle.std.proofs.Common.{◌≡◌, ℕ, zero, suc, ◌+◌, ◌-◌, ◌^◌, ◌<◌, ◌≤◌, List, [], ◌∷◌, ◌++◌, length, refl, sym, ap, subst, inl, inr, arith}
 use Rattle.std.specs.List.{flat_map, AllByRecursion}
 use Rattle.std.proofs.lemmas.Bool.{cases_lt}

@@ -1,5 +1,5 @@
--- Which line may stand where in the text of a network, and the first line of a text that may not. The rules are those of
--- this project's profile of the DIMACS format.
+-- Which line is allowed where in the text of a network, and the first line of a text that may not. The rules are those
+-- of this project's profile of the DIMACS format.
 use Rattle.std.specs.Prelude.{◌≡◌, ℕ, zero, suc, ◌+◌, ◌<◌, ◌^◌, ◌⊎◌, List, [], ◌∷◌, ◌++◌, length, count_by}
 use Rattle.std.specs.Ordering.{on}
 use Rattle.std.specs.declared.cmp.Ordering.{Ordering}
@@ -47,7 +47,7 @@ pub data Place : Type 0 where
   Comments : (nodes : List Node) → Place
   Body : (nodes : List Node) (units : List (List ℕ)) (arcs : List ((Node × Node) × (ℕ × ℕ))) (left : ℕ) → Place
 
--- the line may stand at the place, and leads to the next one
+-- the line is allowed at the place, and leads to the next one
 abbrev pub Allows : Place → List ℕ → Place → Type 0
 -- the next node's comment; or, behind a comment, the problem line with the number of comments, and a number of arcs
 Allows (Comments nodes) line next =
@@ -61,7 +61,7 @@ Allows (Body nodes [] arcs (suc left)) line next =
 -- then nothing
 Allows (Body nodes [] arcs zero) line next = ⊥
 
--- from one place in the text to another by so many lines, each of which may stand where it does
+-- from one place in the text to another by so many lines, each of which is allowed at its place
 abbrev pub Leads : ℕ → Place → List ℕ → Place → List ℕ → Type 0
 Leads zero from text to rest = (from ≡ to) × (text ≡ rest)
 Leads (suc n) from text to rest = (line : List ℕ) × (next : Place) × (behind : List ℕ) × (text ≡ line ++ behind) × Allows from line next × Leads n next behind to rest
@@ -76,7 +76,7 @@ pub record IsStuck (place : Place) (text : List ℕ) : Type 0 where
   pub no_line : (line behind : List ℕ) (next : Place) → text ≡ line ++ behind → Allows place line next → ⊥
   pub no_end : IsEnd place text → ⊥
 
--- the first line that breaks a rule, behind so many lines that break none: it may not stand there, or is missing
+-- the first line that breaks a rule, behind so many lines that break none: it is not allowed there, or is missing
 pub record BreaksAfter (lines : ℕ) (start : Place) (text : List ℕ) (line : ℕ) : Type 0 where
   pub good : ℕ
   pub place : Place

@@ -1,4 +1,4 @@
--- Reading a text from its front: what stands there, and the bytes behind it; none where no such thing stands there.
+-- Reading a text from its front: what is there, and the bytes after it; none if no such thing is there.
 use Rattle.std.specs.Prelude.{◌≡◌, ℕ, ◌+◌, ◌-◌, ◌*◌, ◌^◌, cond, nat_le, nat_lt, ◌==◌, List, [], ◌∷◌, Option, Some, None, Result, Ok, Err, length, take, drop, codes}
 use Rattle.std.specs.Char.{is_ascii_digit}
 use Rattle.std.specs.Str.{bytes_eq}

@@ -1,4 +1,5 @@
--- The text of a flow: the lines of a solution in the DIMACS format for minimum-cost flows, with the IDs of the network's text.
+-- The text of a flow: the lines of a solution in the DIMACS format for minimum-cost flows, with the IDs of the
+-- network's text.
 use Rattle.std.specs.Prelude.{ℕ, cond, ◌==◌, List, [], ◌++◌, codes, decimal}
 use Rattle.std.specs.List.{flat_map}
 use Rattle.fm_net.specs.declared.node.Node.{Node}
@@ -10,7 +11,7 @@ use Rattle.fm_dimacs.specs.Text.{id_in}
 abbrev pub cost_line : ℕ → List ℕ
 cost_line cost = codes "s " ++ (decimal cost ++ codes "\n")
 
--- the units between two nodes: the nodes' IDs and the units; no line where there are none
+-- the units between two nodes: the nodes' IDs and the units; no line if there are none
 abbrev pub units_line : List Node → Node → Node → ℕ → List ℕ
 units_line nodes from to units = cond (units == 0) [] (codes "f " ++ (decimal (id_in nodes from) ++ (codes " " ++ (decimal (id_in nodes to) ++ (codes " " ++ (decimal units ++ codes "\n"))))))
 

@@ -1,5 +1,5 @@
--- The text of a network. The lines are those of the DIMACS format for minimum-cost flows; that there is one text, and the
--- names in comments, are this project's profile.
+-- The text of a network. The lines are those of the DIMACS format for minimum-cost flows; that there is one text, and
+-- the names in comments, are this project's profile.
 use Rattle.std.specs.Prelude.{ℕ, Bool, true, false, cond, List, [], ◌∷◌, ◌++◌, ◌+◌, ◌==◌, length, count_by, codes, decimal}
 use Rattle.std.specs.List.{flat_map}
 use Rattle.std.specs.Ordering.{is_eq}
@@ -25,7 +25,7 @@ abbrev pub is_task : Node → Bool
 is_task (Task task) = true
 is_task _ = false
 
--- the sink takes a unit for each task; there is no line where there is no task
+-- the sink takes a unit for each task; there is no line if there is no task
 abbrev pub demand_line : ℕ → List ℕ
 demand_line tasks = cond (tasks == 0) [] (codes "n 1 -" ++ (decimal tasks ++ codes "\n"))
 
@@ -39,7 +39,7 @@ abbrev pub lines_from : (ℕ → Node → List ℕ) → ℕ → List Node → Li
 lines_from line id [] = []
 lines_from line id (n ∷ ns) = line id n ++ lines_from line (id + 1) ns
 
--- the node's ID: its place, counted from this one on; 0 where it does not stand
+-- the node's ID: its place, counted from this one on; 0 if it is not there
 abbrev pub id_from : ℕ → List Node → Node → ℕ
 id_from id [] n = 0
 id_from id (m ∷ ms) n = cond (is_eq (node_cmp m n)) id (id_from (id + 1) ms n)

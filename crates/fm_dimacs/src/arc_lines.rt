@@ -82,7 +82,7 @@ fn comes_after(last: Option<(Node, Node)>, arc: &(Node, Node, u64, u32)) -> bool
     }
 }
 
-// The next arc and what stands behind its line, if its line comes next.
+// The next arc and what follows its line, if its line comes next.
 fn next_arc<'a>(
     nodes: &[Node],
     last: Option<(Node, Node)>,
@@ -105,7 +105,7 @@ fn next_arc<'a>(
     }
 }
 
-// Puts the arc, behind which no other stands yet.
+// Puts the arc, after which no other was put yet.
 fn put(network: &mut Network, arc: &(Node, Node, u64, u32)) -> Result<(), OutOfMemory>
     requires is_arc { IsArcAmong network.old.nodes (arc_entry arc.now) }
     requires last { IsAfterLast (on (λ e. e.0) ends_cmp) network.old.arcs (arc_entry arc.now) }
@@ -117,7 +117,7 @@ fn put(network: &mut Network, arc: &(Node, Node, u64, u32)) -> Result<(), OutOfM
     Ok(())
 }
 
-// Puts the arcs of so many lines, behind which the text ends; lines before these are counted.
+// Puts the arcs of so many lines, after which the text ends; lines before these are counted.
 pub(crate) fn read_arcs(
     nodes: &[Node],
     network: &mut Network,

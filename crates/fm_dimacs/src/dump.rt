@@ -19,8 +19,8 @@ use fm_records::refusal::Refusal;
 use std::alloc::Global;
 use std::cmp::Ordering;
 
-/// Writes the network's text. After a refusal a prefix of it is written: refused by the writer, which then has failed, in
-/// this call unless it had before; or refused memory. O(arcs log nodes).
+/// Writes the network's text. After a refusal a prefix of it is written: refused by the writer, which then has failed,
+/// in this call unless it had before; or because memory ran out. O(arcs log nodes).
 pub fn dump<W: Out>(alloc: Global, network: &Network, out: &mut W) -> Result<(), Refusal>
     ensures ok { OnOk result (Appends (W.written out.old) (W.written out.new) (dump_text network.now)) }
     ensures ok_fails_not { OnOk result (W.has_failed out.new ≡ W.has_failed out.old) }
@@ -131,7 +131,7 @@ fn is_task(node: &Node) -> bool
     matches!(node, Node::Task(_))
 }
 
-// Writes the sink's demand, where there is a task.
+// Writes the sink's demand, if there is a task.
 fn put_demand<W: Out>(nodes: &[Node], line: &mut String, out: &mut W) -> Result<(), Refusal>
     ensures { IsSent result (W.written out.old) (W.written out.new) (W.has_failed out.old) (W.has_failed out.new) (demand_line (count_by is_task nodes.now)) }
 {
@@ -147,7 +147,7 @@ pub(crate) fn count_tasks(nodes: &[Node]) -> usize
     nodes.iter().filter(|node| is_task(node)).count()
 }
 
-// Appends the sink's demand, where there is a task.
+// Appends the sink's demand, if there is a task.
 pub(crate) fn write_demand(line: &mut String, tasks: usize) -> Result<(), Refusal>
     ensures ok { OnOk result (string_bytes line.new ≡ string_bytes line.old ++ demand_line tasks) }
     ensures err { IsOkUnless result Refusal.OutOfMemory }
@@ -216,8 +216,8 @@ struct Ends {
     target: usize,
 }
 
-// Writes an arc, given as (from, to, capacity, cost), and keeps the IDs of its ends, since those of the next arc are mostly
-// the same or next ones.
+// Writes an arc, given as (from, to, capacity, cost), and keeps the IDs of its ends, since those of the next arc are
+// mostly the same or next ones.
 fn put_arc<W: Out>(
     nodes: &[Node],
     arc: (Node, Node, u64, u32),
@@ -249,7 +249,7 @@ fn write_arc(line: &mut String, ends: &Ends, capacity: u64, cost: u32) -> Result
     Ok(())
 }
 
-/// The node's ID, which is found at once where it is the ID or the next one. O(log n) else.
+/// The node's ID, which is found at once if it is the ID or the next one. O(log n) else.
 pub(crate) fn id_near(nodes: &[Node], node: &Node, id: usize) -> usize
     requires { Rises node_cmp nodes.now }
     ensures { result ≡ id_in nodes.now node.now }
@@ -263,7 +263,7 @@ pub(crate) fn id_near(nodes: &[Node], node: &Node, id: usize) -> usize
     id_of(nodes, node)
 }
 
-// The node's ID, where it stands at the place.
+// The node's ID, if it is at the place.
 fn id_at(nodes: &[Node], node: &Node, place: usize) -> Option<usize>
     requires { Rises node_cmp nodes.now }
     ensures { IfSome result (λ id. id ≡ id_in nodes.now node.now) }

@@ -5,7 +5,7 @@ ghost use Rattle.std.specs.Prelude.{◌≡◌, ◌++◌, OnOk, decimal, string_b
 use fm_lattice::join::OutOfMemory;
 use itoa::Buffer;
 
-// Appends the text, and behind it the number.
+// Appends the text, and after it the number.
 pub(crate) fn push_number(line: &mut String, before: &str, number: u64) -> Result<(), OutOfMemory>
     ensures { OnOk result (string_bytes line.new ≡ string_bytes line.old ++ before.now ++ decimal number) }
 {

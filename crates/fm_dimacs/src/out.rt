@@ -1,4 +1,4 @@
-//! Where bytes go.
+//! Outputs of bytes.
 
 ghost use Rattle.std.specs.Prelude.{◌≡◌, ◌≤◌, ◌||◌, ℕ, List, Bool, Option, false, not, length, take};
 ghost use Rattle.std.specs.Io.KnownBytes.{Appends, Keeps};
@@ -8,15 +8,15 @@ use crate::interrupted::write_some;
 use std::io::Write;
 use std::marker::Model;
 
-/// What takes bytes.
+/// What accepts bytes.
 pub trait Out {
-    /// The bytes that it took, where they are known.
+    /// The bytes that it accepted, if they are known.
     ghost written: { Self → Option (List ℕ) };
 
     /// Whether it has failed.
     ghost has_failed: { Self → Bool };
 
-    /// Takes a prefix of the piece, and answers its length. 0 for a piece that is not empty is a failure.
+    /// Accepts a prefix of the piece, and returns its length. 0 for a piece that is not empty is a failure.
     fn put(&mut self, piece: &[u8]) -> usize
         ensures within { result ≤ length piece.now }
         ensures takes { Appends (written self.old) (written self.new) (take result piece.now) }
@@ -63,7 +63,7 @@ impl<W> Over<W> {
 }
 
 impl<W: Write> Over<W> {
-    /// Has all that the writer took go out, and answers whether it did. A writer that cannot has failed.
+    /// Flushes all that the writer accepted, and returns whether it did. A writer that cannot has failed.
     pub fn flush(&mut self) -> bool
         ensures keeps { Keeps (W.contents self.old.0) (W.contents self.new.0) }
         ensures fails { self.new.1 ≡ (self.old.1 || not result) }

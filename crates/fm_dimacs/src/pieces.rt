@@ -1,4 +1,4 @@
-//! Pieces that go out whole.
+//! Writing complete pieces.
 
 ghost use Rattle.std.specs.Prelude.{IsOkUnless};
 ghost use Rattle.fm_dimacs.specs.Sending.{IsSent};
@@ -6,8 +6,8 @@ ghost use Rattle.fm_dimacs.specs.Sending.{IsSent};
 use crate::out::Out;
 use fm_records::refusal::Refusal;
 
-/// Puts the whole piece, in as many puts as the writer wants. Refused by the writer, which then has failed, in this call
-/// unless it had before; a prefix of the piece is written then.
+/// Puts the complete piece, in as many puts as the writer needs. Refused by the writer, which then has failed, in
+/// this call unless it had before; then a prefix of the piece is written.
 pub fn put_all<W: Out>(out: &mut W, piece: &[u8]) -> Result<(), Refusal>
     ensures sent { IsSent result (W.written out.old) (W.written out.new) (W.has_failed out.old) (W.has_failed out.new) piece.now }
     ensures cause { IsOkUnless result Refusal.WriteFault }

@@ -31,7 +31,7 @@ fn comes_next(nodes: &[Node], node: &Node) -> bool
     }
 }
 
-// The next node and what stands behind its comment, if its comment comes next.
+// The next node and what follows its comment, if its comment comes next.
 fn next_node<'a>(
     alloc: Global,
     nodes: &[Node],
@@ -56,7 +56,7 @@ fn next_node<'a>(
     }
 }
 
-// The nodes of the comments, and what stands behind these.
+// The nodes of the comments, and what follows these.
 fn read_nodes(alloc: Global, text: &[u8]) -> Result<(Vec<Node>, &[u8]), Refusal>
     ensures ok { IfOk result (λ x. Leads (length x.0.items) (Comments []) text.now (Comments x.0.items) x.1.now) }
     ensures last { IfOk result (λ x. (n : NodeName) (behind : List ℕ) → IsNextNode x.0.items n → x.1.now ≡ node_line (length x.0.items + 1) n ++ behind → ⊥) }
@@ -76,7 +76,7 @@ fn read_nodes(alloc: Global, text: &[u8]) -> Result<(Vec<Node>, &[u8]), Refusal>
     }
 }
 
-// The number of arcs of the problem line, and what stands behind it.
+// The number of arcs of the problem line, and what follows it.
 fn read_problem<'a>(nodes: &[Node], text: &'a [u8]) -> Result<(u64, &'a [u8]), Refusal>
     requires room { length nodes.now + length text.now < 2 ^ 63 }
     requires no_node { (n : NodeName) (behind : List ℕ) → IsNextNode nodes.now n → text.now ≡ node_line (length nodes.now + 1) n ++ behind → ⊥ }
@@ -92,7 +92,7 @@ fn read_problem<'a>(nodes: &[Node], text: &'a [u8]) -> Result<(u64, &'a [u8]), R
     }
 }
 
-// How many lines the line is, none if it is empty, and what stands behind it.
+// How many lines the line is, none if it is empty, and what follows it.
 fn read_unit<'a>(line: &[u8], lines: usize, text: &'a [u8]) -> Result<(usize, &'a [u8]), Refusal>
     requires { lines < 2 ^ 63 }
     ensures ok { IfOk result (λ x. (nodes : List NodeName) (units : List (List ℕ)) (left : ℕ) → Leads x.0 (Body nodes (with_line line.now units) [] left) text.now (Body nodes units [] left) x.1.now) }
@@ -108,7 +108,7 @@ fn read_unit<'a>(line: &[u8], lines: usize, text: &'a [u8]) -> Result<(usize, &'
     }
 }
 
-// How many lines of supplies there are, and what stands behind them.
+// How many lines of supplies there are, and what follows them.
 fn read_supplies<'a>(
     nodes: &[Node],
     line: &mut String,
@@ -132,7 +132,7 @@ fn read_supplies<'a>(
     Ok((count, rest))
 }
 
-// How many lines of demand and supplies there are, and what stands behind them.
+// How many lines of demand and supplies there are, and what follows them.
 fn read_units<'a>(
     alloc: Global,
     nodes: &[Node],
@@ -193,8 +193,9 @@ fn read_body(alloc: Global, nodes: &[Node], text: &[u8]) -> Result<Network, Refu
     Ok(network)
 }
 
-/// The network that the text is of, where there is one, of which there is one at most. Refused with the number of the first line that breaks
-/// a rule, counted from 1, which is the line that is missing where the text ends too early; or refused memory. O(bytes log bytes).
+/// The network that the text is of, if there is one, of which there is one at most. Refused with the number of the
+/// first line that breaks a rule, counted from 1, which is the line that is missing if the text ends too early; or
+/// because memory ran out. O(bytes log bytes).
 pub fn read(alloc: Global, text: &[u8]) -> Result<Network, Refusal>
     ensures found { IfOk result (λ net. CanBeNet net × (text.now ≡ dump_text net)) }
     ensures only { (net : Net) → CanBeNet net → text.now ≡ dump_text net → MatchResult result (λ found. found ≡ net) (λ e. e ≡ refusal.OutOfMemory) }

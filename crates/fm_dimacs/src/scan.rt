@@ -12,7 +12,7 @@ use fm_records::refusal::Refusal;
 use std::alloc::Global;
 use std::str;
 
-// What stands behind the text.
+// What follows the text.
 pub(crate) fn after<'a>(bytes: &'a [u8], text: &[u8]) -> Option<&'a [u8]>
     ensures { Reads (λ x. x.now) result (after text.now bytes.now) }
 {

@@ -23,9 +23,9 @@ use fm_net::node::Node;
 use fm_records::refusal::Refusal;
 use std::alloc::Global;
 
-/// Writes the flow's text, with the IDs of the network's text. The caller owes a network that the policy can build, and a
-/// feasible flow. A refusal is as `dump`'s. O(arcs) where the flow's keys are just the arcs and for units between nodes beside
-/// those of the arc before, and O(log arcs) for each other.
+/// Writes the flow's text, with the IDs of the network's text. The caller must pass a network that the policy can
+/// build, and a feasible flow. A refusal is as `dump`'s. O(arcs) if the flow's keys are exactly the arcs and for units
+/// between nodes beside those of the arc before, and O(log arcs) for each other.
 pub fn write_solution<W: Out>(
     alloc: Global,
     network: &Network,
@@ -101,8 +101,8 @@ fn put_flow<W: Out>(
     Ok(())
 }
 
-// Where an arc's units and the IDs of its ends are most often found: its place among the arcs, and the IDs that were written
-// last.
+// Where an arc's units and the IDs of its ends are most often found: its place among the arcs, and the IDs that were
+// written last.
 #[derive(Clone, Copy, Drop)]
 struct Near {
     place: usize,

@@ -68,7 +68,7 @@ fn proposal(id: u128, machine: u128) -> Op {
     }
 }
 
-// What the operations come to.
+// The table of the operations.
 fn told(alloc: Global, ops: &[Op]) -> Result<Knowledge, Refusal> {
     let mut known = Knowledge::empty(alloc);
     for op in ops {
@@ -110,7 +110,7 @@ fn strange(alloc: Global) -> Result<Flow, Refusal> {
     Ok(flow)
 }
 
-// What solving costs anew, and from that flow, from no flow, and from a strange one.
+// What solving costs from nothing, and from that flow, from no flow, and from a strange one.
 #[derive(Clone, Copy, Drop)]
 struct Costs {
     anew: u128,
@@ -119,9 +119,9 @@ struct Costs {
     other: u128,
 }
 
-// The functions below hold one value each where they may be refused: a proof looks at what is let go at each refusal.
+// The functions below hold one value each if they may be refused: a proof considers what is dropped at each refusal.
 
-// What solving costs anew, and from that flow.
+// What solving costs from nothing, and from that flow.
 fn own_cost(alloc: Global, network: &Network) -> Result<(u128, u128), Refusal>
     requires { IsBuilt network.now }
 {
@@ -173,7 +173,7 @@ fn print_costs(
     Ok(())
 }
 
-/// One task and a machine with room for it; the same where the machine has no bandwidth to spare; and five tasks, of which
+/// One task and a machine with room for it; the same if the machine has no bandwidth to spare; and five tasks, of which
 /// one has to wait.
 pub(crate) fn print(rt: &HostRuntime, alloc: Global) -> Result<(), anyhow::Error> {
     let first = [job(1, 500, 800), machine(10, 1000), task(17, 1, 100)];

@@ -20,6 +20,7 @@ fn drawn(alloc: Global, draw: &mut Draw) -> Result<Cluster, Refusal> {
         tasks: draw.below(60),
         requests: draw.between(1, 8),
         wait: draw.between(1, 4000),
+        preferring: 0,
     };
     Cluster::new(alloc, draw, sizes)
 }
@@ -31,7 +32,7 @@ fn flow_of(alloc: Global, cluster: &Cluster) -> Result<Flow, Refusal> {
     Ok(flow)
 }
 
-// Whether the network costs the same anew as from the earlier flow, and how many cycles the start left.
+// Whether the network costs the same from nothing as from the earlier flow, and how many cycles the start left.
 fn compared_on(alloc: Global, network: &Network, earlier: &Flow) -> Result<(bool, usize), Refusal>
     requires { IsBuilt network.now }
 {
@@ -48,7 +49,7 @@ fn compared(alloc: Global, first: &Cluster, second: &Cluster) -> Result<(bool, u
     compared_on(alloc, &network, &earlier)
 }
 
-// The pair of a seed: of every fourth the networks have nothing to do with one another, of the others the second is what
+// The pair of a seed: of every fourth the networks have nothing to do with each other, of the others the second is what
 // drawn changes make of the first.
 fn pair(alloc: Global, seed: u32) -> Result<(bool, usize), Refusal> {
     let mut draw = Draw::new(u64::from(seed));

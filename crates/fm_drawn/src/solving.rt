@@ -1,4 +1,4 @@
-//! Solving a network, anew and from earlier flows.
+//! Solving a network, from nothing and from earlier flows.
 
 ghost use Rattle.std.specs.Prelude.{◌≡◌, ◌<◌, ◌^◌, length, IfOk};
 ghost use Rattle.fm_net.specs.Network.{net_of};
@@ -81,7 +81,7 @@ pub(crate) fn cycles_after_start(alloc: Global, network: &Network) -> Result<usi
     Ok(count)
 }
 
-/// What the simplex comes to on a network: how many cycles are cancelled after it, at most 1,000.
+/// The result of the simplex on a network: how many cycles are cancelled after it, at most 1,000.
 pub(crate) fn cycles_after_simplex(alloc: Global, network: &Network) -> Result<usize, Refusal>
     requires { IsBuilt network.now }
 {

@@ -1,4 +1,4 @@
-//! How long solving takes, anew and from earlier flows.
+//! How long solving takes, from nothing and from earlier flows.
 
 ghost use Rattle.std.specs.Prelude.{IfOk};
 ghost use Rattle.fm_certificate.specs.Built.{IsBuilt};
@@ -18,10 +18,11 @@ fn sizes_of(tasks: u32) -> Sizes {
         tasks,
         requests: 40,
         wait: 20_000,
+        preferring: 0,
     }
 }
 
-// The functions below hold one value each where they may be refused: a proof looks at what is let go at each refusal.
+// The functions below hold one value each if they may be refused: a proof considers what is dropped at each refusal.
 
 // The network of what is known, and how many milliseconds building it took.
 fn built(rt: &HostRuntime, cluster: &Cluster) -> Result<(Network, u128), anyhow::Error>
@@ -57,7 +58,7 @@ fn solved(rt: &HostRuntime, network: &Network) -> Result<(Flow, u128, u128), any
     Ok((flow, cost, took))
 }
 
-// How long solving takes from the flow, and anew, and what came of both.
+// How long solving takes from the flow, and from nothing, and what came of both.
 #[derive(Drop)]
 struct Times {
     resumed: u128,
@@ -82,7 +83,7 @@ fn timed(rt: &HostRuntime, network: &Network, earlier: &Flow) -> Result<Times, a
     })
 }
 
-// Prints how long solving takes from the flow, and anew, and answers the new flow.
+// Prints how long solving takes from the flow, and from nothing, and returns the new flow.
 fn print_both(
     rt: &HostRuntime,
     name: &str,
@@ -109,8 +110,8 @@ fn print_times(
     Ok(())
 }
 
-/// Prints how long a cluster of so many tasks takes: from no flow, from its own, after one task in a hundred changed, and
-/// after half of them did.
+/// Prints how long a cluster of so many tasks takes: from no flow, from its own, after one task in a hundred changed,
+/// and after half of them did.
 pub(crate) fn print(rt: &HostRuntime, tasks: u32) -> Result<(), anyhow::Error> {
     let mut draw = Draw::new(u64::from(tasks));
     let cluster = Cluster::new(rt.alloc(), &mut draw, sizes_of(tasks))?;

@@ -162,7 +162,7 @@ module _ (k after : Table) (keys : Keys) (turned : List ℕ) (same : SameBeyond 
           ]
         ] refl
 
-    -- the pair of a task that is not dirty may differ only where it is touched
+    -- the pair of a task that is not dirty may differ only if it is touched
     clean_pair : (t : ℕ) (b : Node) → dirty_task k after keys turned t ≡ false → has_pair x (Task t) b ≡ false → ¬ MayDiffer k after keys turned (Task t) b
     clean_pair t (Machine m) d e h = elim h [
       | inl dirty ↦ both_ways (dirty_task k after keys turned t) dirty d

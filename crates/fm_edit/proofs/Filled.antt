@@ -52,7 +52,7 @@ module _ (x : Index) (counts : Counts none_out (know []) x) where
       let joined = nothing_joined d can in
       counts_on (know []) d d keys nothing_can_be can joined is keys.tasks
       (all_found (know []) d d keys nothing_can_be can joined is x counts keys.tasks
-        (λ t h. h)
-        (λ j t _ _ l. unlisted (Unscheduled j) t (counts.listed (Unscheduled j) t) l)
-        (λ m t _ _ l. unlisted (Machine m) t (counts.listed (Machine m) t) l))
+      (λ t h. h)
+      (λ j t _ _ l. unlisted (Unscheduled j) t (counts.listed (Unscheduled j) t) l)
+      (λ m t _ _ l. unlisted (Machine m) t (counts.listed (Machine m) t) l))
       x (any_out (has_id keys.tasks))

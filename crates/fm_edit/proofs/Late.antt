@@ -1,4 +1,4 @@
--- What a keeper that follows late keeps, when a delta is taken in and when somebody looks.
+-- What a keeper that follows late keeps, when a delta is taken in and when the network is read.
 use Rattle.std.proofs.Common.{◌≡◌, ◌∙◌, Bool, true, false, Option, Some, None, refl, sym, ap, subst}
 use Rattle.std.specs.Prelude.{◌&&◌, IsTrue}
 use Rattle.fm_records.specs.Table.{Table}
@@ -38,8 +38,7 @@ module _ (joins : (k l : Table) → CanBe k → CanBe l → changed_keys (table_
   pub follows_on : (o : Option Editor) → TookIn true (CanFollow o built net old) now keys → CanFollow o built net new now
   follows_on (Some e) t =
       let held = t.for_before refl in
-      let u = held.1 in
-      (
+      let u = held.1 in (
         held.0,
         record {
           before = u.before;

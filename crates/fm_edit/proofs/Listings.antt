@@ -1,4 +1,5 @@
--- Where a task is listed, once it was put into the list of its job and that of its winner's machine, or taken from them.
+-- Where a task is listed, once it was put into the list of its job and that of its winner's machine, or taken from
+-- them.
 use Rattle.std.proofs.Common.{◌≡◌, ◌∙◌, ℕ, Bool, true, false, cond, Option, Some, None, refl, sym, ap, rules}
 use Rattle.std.specs.Prelude.{◌&&◌, ◌||◌, ◌==◌, option_map}
 use Rattle.std.specs.Ordering.{nat_cmp, is_eq, ordering_then}
@@ -40,7 +41,7 @@ in_turn b old false false = refl
 tested : (a b task t : ℕ) → is_eq (ordering_then (nat_cmp a b) (nat_cmp task t)) ≡ (is_eq (nat_cmp task t) && (a == b))
 tested a b task t = both_equal (nat_cmp a b) (nat_cmp task t) ∙ turned (is_eq (nat_cmp a b)) (is_eq (nat_cmp task t)) ∙ ap (λ x. is_eq (nat_cmp task t) && x) (same_numbers a b)
 
--- what is said of the task is said of the other where they are one
+-- what is said of the task is said of the other if they are one
 of_same : (f : ℕ → Bool) (task t : ℕ) → (is_eq (nat_cmp task t) && f task) ≡ (is_eq (nat_cmp task t) && f t)
 of_same f task t = elim (is_eq (nat_cmp task t)) as (λ b. is_eq (nat_cmp task t) ≡ b → (b && f task) ≡ (b && f t)) [
   | true ↦ λ e. ap f (nat_same task t ((Equal-is (nat_cmp task t)).0 e))

@@ -1,4 +1,5 @@
--- What a keeper is that takes in keys and edits or builds when somebody looks: fresh or stale, and for which table. Own.
+-- What a keeper is that takes in keys and edits or builds when the network is read: fresh or stale, and for which
+-- table. Own.
 use Rattle.std.specs.Prelude.{◌≡◌, ◌⊎◌, ◌&&◌, Bool, true, false, Option, Some, None, IsTrue}
 use Rattle.fm_records.specs.Table.{Table}
 use Rattle.fm_net.specs.Net.{Net}
@@ -9,7 +10,7 @@ use Rattle.fm_edit.specs.declared.deferred.Deferred.{Deferred}
 use Rattle.fm_edit.specs.declared.editor.Editor.{Editor}
 use Rattle.fm_edit.specs.Editing.{is_fresh_editor, IsFor}
 
--- its Editor, or what it built, was of what was known when somebody looked last
+-- its Editor, or what it built, was of what was known when the network was last read
 abbrev pub was_fresh : Option Editor → Bool → Bool
 was_fresh (Some e) built = is_fresh_editor e
 was_fresh None built = built
@@ -25,8 +26,8 @@ is_fresh_deferred d = was_fresh d.editor d.built && has_no_keys d.pending
 abbrev pub DeferredIsFor : Deferred → Table → Type 0
 DeferredIsFor d k = HasNetworkOf d.editor d.network k
 
--- An Editor was for what was known before one delta, with which the table is what is known, and of which the keys are those
--- that are pending. Without an Editor nothing but a fresh network has to be that of the table.
+-- An Editor was for what was known before one delta, with which the table is what is known, and of which the keys are
+-- those that are pending. Without an Editor nothing but a fresh network has to be that of the table.
 abbrev pub CanFollow : Option Editor → Bool → Net → Keys → Table → Type 0
 CanFollow (Some e) built net pending k = IsTrue (is_fresh_editor e) × TookIn true (IsFor e) k pending
 CanFollow None built net pending k = IsTrue (built && has_no_keys pending) → net ≡ net_of k

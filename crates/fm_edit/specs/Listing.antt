@@ -1,4 +1,4 @@
--- The edits of what was touched, read off a network and what is to stand in its place. Own.
+-- The edits of what was touched, read off a network and what replaces it. Own.
 use Rattle.std.specs.Prelude.{ℕ, Bool, not, ◌&&◌, List, ◌++◌, Option, is_some, filter, map, option_map}
 use Rattle.std.specs.List.{filter_map}
 use Rattle.fm_records.specs.Options.{when, and_then}

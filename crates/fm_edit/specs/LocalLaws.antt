@@ -191,7 +191,7 @@ module _ (k after : Table) (keys : Keys) (turned : List ℕ) (same : SameBeyond 
         (λ i. cond (passes (λ s. true) (live_same i)) (option_map (λ s. s.machine) (only_if (is_present after) (won_same i))) None)
         ∙ ap (λ o. cond (is_live k t) (option_map (λ s. s.machine) o) None) (present_same (won_spot k t) (clean t e).won)
 
-  -- the tasks that pass a test are the same where no dirty one passes it
+  -- the tasks that pass a test are the same if no dirty one passes it
   pub same_kept : (P Q : ℕ → Bool) → ((t : ℕ) → dirty t ≡ false → Q t ≡ P t) → ((t : ℕ) → dirty t ≡ true → (P t ≡ false) × (Q t ≡ false)) → filter (λ e. Q e.0) after.tasks ≡ filter (λ e. P e.0) k.tasks
   same_kept P Q alike none =
       same_map nat_cmp nat_cmp_total nat_same (filter (λ e. Q e.0) after.tasks) (filter (λ e. P e.0) k.tasks)
@@ -293,7 +293,7 @@ module _ (k after : Table) (keys : Keys) (turned : List ℕ) (same : SameBeyond 
         ∙ ap (λ es. some_of es) waiting_kept
         ∙ sym (any_kept (λ (e : ℕ × TaskValue). waits_for k r e.0) k.tasks)
 
-  -- what does not turn stands as it did
+  -- what does not turn is unchanged
   pub node_same : (n : Node) → ¬ MayTurn k after keys turned n → is_node after n ≡ is_node k n
   node_same Sink h = refl
   node_same (Unscheduled j) h = job_node_same j h
@@ -352,7 +352,7 @@ module _ (k after : Table) (keys : Keys) (turned : List ℕ) (same : SameBeyond 
   request_arc_same r m e h =
       λ i. cond (e i) (room_same r m h i) None
 
-  -- an arc between what does not differ stands as it did
+  -- an arc between what does not differ is unchanged
   pub arc_same : (a b : Node) → ¬ MayDiffer k after keys turned a b → arc_of after a b ≡ arc_of k a b
   arc_same (Task t) (Machine m) h = task_arc_same t (either_false (dirty t) (λ x. h (inl x))) (Machine m) h
   arc_same (Task t) Sink h = task_arc_same t (either_false (dirty t) h) Sink h

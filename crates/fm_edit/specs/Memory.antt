@@ -27,8 +27,8 @@ pub record Counts (out : ℕ → Bool) (k : Table) (x : Index) : Type 0 where
   pub preferred : (m t : ℕ) → lists_preferred x m t ≡ (prefers_in (sight_of k) m t && not (out t))
   pub sums : (n : Node) → sum_in x n ≡ sum_over out k n
 
--- A memory is of a table where its records are those of the table, with the spots that the winners of the present attempts name,
--- and where all tasks of the table are listed and count.
+-- A memory is of a table if its records are those of the table, with the spots that the winners of the present attempts
+-- name, and where all tasks of the table are listed and count.
 pub record Remembers (k : Table) (m : Memory) : Type 0 where
   pub sees : seen_in m.seen ≡ sight_of k
   pub counts : Counts none_out k m.index

@@ -1,5 +1,5 @@
--- What an Editor has in sight of a table: its records, and of each task the spot that the winner of its present attempt names.
--- The facts on these are those of the table. Own.
+-- What an Editor has in sight of a table: its records, and of each task the spot that the winner of its present attempt
+-- names. The facts on these are those of the table. Own.
 use Rattle.std.specs.Prelude.{◌≡◌, ℕ, Bool, true, cond, not, ◌==◌, ◌&&◌, is_some, Option, None, option_map}
 use Rattle.std.specs.Ordering.{nat_cmp}
 use Rattle.std.specs.BTreeMap.{get}
@@ -65,7 +65,7 @@ present_in s p = passes (λ r. true) (open_in s p.machine) && passes (λ i. i ==
 abbrev pub holder_in : Sight → ℕ → Option ℕ
 holder_in s t = cond (passes (λ r. true) (live_in s t)) (option_map (λ p. p.machine) (only_if (present_in s) (s.spot t))) None
 
--- the machine of the spot that a task's winner names, where the task is live and the machine there to hold it
+-- the machine of the spot that a task's winner names, if the task is live and the machine there to hold it
 abbrev pub held_at : Sight → Bool → Option Spot → Option ℕ
 held_at s live spot = cond live (option_map (λ p. p.machine) (only_if (present_in s) spot)) None
 

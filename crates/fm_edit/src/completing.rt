@@ -1,4 +1,4 @@
-//! The pairs that touched nodes bring with them.
+//! The pairs of ends that touched nodes add.
 
 ghost use Rattle.std.specs.Prelude.{◌≡◌, ◌<◌, ◌^◌, ℕ, true, false, filter, is_some, reverse, IsTrue, IfOk, OnOk};
 ghost use Rattle.std.specs.List.{list_any};
@@ -25,9 +25,8 @@ use fm_records::ids::{MachineId, TaskId};
 use std::alloc::Global;
 
 /// Touches the pairs of each touched machine and job with the sink, of each touched machine with each request that is
-/// touched or waits and with each task that waits and prefers it, and of each touched request that came or went as a node
-/// with each machine that is known.
-/// O(log n) for each of these pairs.
+/// touched or waits and with each task that waits and prefers it, and of each touched request that came or went as a
+/// node with each machine that is known. O(log n) for each of these pairs.
 pub(crate) fn touch_pairs(
     alloc: Global,
     touched: &mut Touched,
@@ -74,8 +73,8 @@ fn is_request(node: &Node) -> bool
     matches!(node, Node::Request(_))
 }
 
-// The requests at which tasks wait, if a machine is among the nodes: they are wanted for machines alone. Greater ones first: an
-// ordered set is searched least for what comes before all that it has.
+// The requests at which tasks wait, if a machine is among the nodes: they are needed for machines alone. Greater ones
+// first: inserting before all other elements is the cheapest in an ordered set.
 fn waiting(alloc: Global, index: &Index, nodes: &[Node]) -> Result<Vec<Node>, OutOfMemory>
     ensures { IfOk result (λ ns. IsTrue (list_any is_machine nodes.now) → ns.items ≡ reverse (waiting_in index.now)) }
 {

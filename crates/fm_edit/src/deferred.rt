@@ -1,4 +1,4 @@
-//! A keeper that takes in keys alone, and edits or builds when somebody looks.
+//! A keeper that collects keys, and edits or builds when its network is read.
 
 ghost use Rattle.std.specs.Prelude.{◌≡◌, [], true, false, None, is_some, IsTrue, IfOk, OnOk, OnErr};
 ghost use Rattle.fm_records.specs.Know.{know};
@@ -21,29 +21,29 @@ use fm_policy::laws::{law_joined_keys, law_no_keys};
 use fm_policy::pending::Pending;
 use std::alloc::Global;
 
-// An edit for one record touches an arc for each size of request, as many as a machine has. As measured, an edit of one record costs
-// what building the arcs of some 30 machines costs.
+// An edit for one record touches an arc for each size of request, as many as a machine has. As measured, an edit of one
+// record costs what building the arcs of some 30 machines costs.
 const MACHINES_PER_RECORD: usize = 32;
 
 // Tasks that count as much as a machine: a machine has an arc for each size of request, a task two.
 const TASKS_PER_MACHINE: usize = 25;
 
-// So many keys are edited in any network: in a small one either way takes microseconds.
+// This many keys are edited in any network: in a small one both ways take microseconds.
 const ALWAYS_FEW: usize = 8;
 
-// An Editor that made so many edits before it was forgotten was worth its memory.
+// An Editor that made this many edits before it was dropped was worth its memory.
 const WORTH: u64 = 8;
 
-// How many looks with few changes are waited for at most.
+// The greatest number of reads with few changes to wait for.
 const LONGEST_WAIT: u32 = 64;
 
-/// A keeper that takes in the keys of deltas alone, and makes its network that of what is known when somebody looks (deferred
-/// maintenance of a view): by one edit for all keys where few records changed, else by building. Whoever looks seldom, or tells
-/// much between two looks, pays for no edits; whoever looks often after few changes pays for these.
+/// A keeper that collects the keys of deltas, and updates its network when it is read (deferred incremental view
+/// maintenance): by one edit for all keys if few records changed, else by building. A caller that reads seldom, or
+/// tells much between two reads, pays for no edits. A caller that reads often after few changes pays for these.
 ///
-/// How many are few goes by the size of the cluster. An Editor, which remembers all records, is made at a look with few changes
-/// since the last one. It is forgotten once many changed; if it made few edits until then, the next one waits for twice as many
-/// such looks in a row.
+/// How many are few depends on the size of the cluster. An Editor, which remembers all records, is made at a read
+/// with few changes since the last one. It is dropped when many changed; if it had made few edits, the next one waits
+/// for twice as many such reads in a row.
 #[derive(Drop)]
 pub struct Deferred {
     editor: Option<Editor>,
@@ -79,14 +79,14 @@ impl Deferred {
         })
     }
 
-    /// How many looks were answered by an edit, and how many by building; each at most 2^64 - 1.
+    /// How many reads made an edit, and how many built the network; each at most 2^64 - 1.
     pub fn counts(&self) -> (u64, u64)
         ensures { result ≡ (self.now.edits, self.now.builds) }
     {
         (self.edits, self.builds)
     }
 
-    // How many looks with few changes are waited for until the next Editor is made.
+    // How many reads with few changes are waited for until the next Editor is made.
     fn wait_after(&self) -> u32 {
         match &self.editor {
             Some(editor) if editor.edits() < WORTH => self.wait.saturating_mul(2).min(LONGEST_WAIT),
@@ -95,7 +95,7 @@ impl Deferred {
         }
     }
 
-    // Forgets all that was kept, so that the next look builds.
+    // Drops all that was kept, so that the next read builds.
     fn forget(&mut self, alloc: Global)
         ensures editor { self.new.editor ≡ None }
         ensures built { self.new.built ≡ false }
@@ -111,7 +111,7 @@ impl Deferred {
         self.calm = 0;
     }
 
-    // Edits by the keys that are pending. After a refusal nothing is said of the Editor.
+    // Edits by the pending keys. After a refusal no clause speaks of the Editor.
     fn edit(&mut self, alloc: Global, now: &Knowledge) -> Result<(), OutOfMemory>
         requires editor { is_some self.old.editor ≡ true }
         requires follows { DeferredFollows self.old now.now }
@@ -159,7 +159,7 @@ impl Deferred {
         Ok(())
     }
 
-    // Builds, and begins to edit if few records changed at so many looks. After a refusal nothing is kept.
+    // Builds, and begins to edit if few records changed at this many reads. After a refusal nothing is kept.
     fn build(&mut self, alloc: Global, now: &Knowledge) -> Result<(), OutOfMemory>
         ensures fresh { OnOk result (IsTrue (is_fresh_deferred self.new)) }
         ensures given { OnOk result (DeferredIsFor self.new now.now) }
@@ -169,7 +169,11 @@ impl Deferred {
         ensures stale { OnErr result (self.new.built ≡ false) }
         ensures err { OnErr result (self.new.builds ≡ self.old.builds) }
     {
-        let calm = if self.much { 0 } else { self.calm.saturating_add(1) };
+        let calm = if self.much {
+            0
+        } else {
+            self.calm.saturating_add(1)
+        };
         self.forget(alloc);
         // The old network goes first, so that there are never two.
         self.network = Shared::new(alloc, Network::new(alloc)?)?;
@@ -182,7 +186,7 @@ impl Deferred {
         Ok(())
     }
 
-    // Edits if there is an Editor, and else builds. After a refusal nothing is said of what is kept.
+    // Edits if there is an Editor, and else builds. After a refusal no clause speaks of what is kept.
     fn renew(&mut self, alloc: Global, now: &Knowledge) -> Result<(), OutOfMemory>
         requires { DeferredFollows self.old now.now }
         ensures fresh { OnOk result (IsTrue (is_fresh_deferred self.new)) }
@@ -199,7 +203,10 @@ impl Deferred {
 
 // How many keys are few in what is known.
 fn few_of(now: &Knowledge) -> usize {
-    let size = now.machines().len().max(now.tasks().len() / TASKS_PER_MACHINE);
+    let size = now
+        .machines()
+        .len()
+        .max(now.tasks().len() / TASKS_PER_MACHINE);
     ALWAYS_FEW.max(size / MACHINES_PER_RECORD)
 }
 
@@ -243,7 +250,7 @@ impl NetKeeper for Deferred {
         self.build(alloc, now)
     }
 
-    /// A fresh one stays as it is. One with an Editor edits, and any other builds.
+    /// A fresh one is unchanged. One with an Editor edits, and any other builds.
     fn refresh(&mut self, alloc: Global, now: &Knowledge) -> Result<(), OutOfMemory>
         requires { DeferredFollows self.old now.now }
         ensures fresh { OnOk result (IsTrue (is_fresh_deferred self.new)) }

@@ -19,7 +19,7 @@ use fm_records::records::MachineRec;
 use std::alloc::Global;
 use std::collections::BTreeSet;
 
-/// Of the machines with these records now, those that were seen open and are not, or the other way round, or open at another
+/// Of the machines with these records now, those that opened or closed since they were seen, or are open at another
 /// incarnation. O(m log n).
 pub(crate) fn turned(
     alloc: Global,
@@ -66,8 +66,8 @@ fn standing(known: &MachineRec) -> Option<u64>
     }
 }
 
-/// The tasks that a delta tells of, those that are listed at a job that it tells of, and those listed at a machine that
-/// turned: ids rising. O(m log n) in these.
+/// The tasks of a delta, those that are listed at a job of the delta, and those listed at a machine that turned: ids
+/// rising. O(m log n) in these.
 pub(crate) fn dirty_tasks(
     alloc: Global,
     index: &Index,

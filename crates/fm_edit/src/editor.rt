@@ -1,4 +1,4 @@
-//! A keeper that edits.
+//! A keeper that edits its network: incremental view maintenance.
 
 ghost use Rattle.std.specs.Prelude.{◌≡◌, ◌++◌, [], true, false, IsTrue, IfOk, OnOk, OnErr};
 ghost use Rattle.fm_records.specs.Know.{know};
@@ -24,9 +24,9 @@ use fm_policy::changed::{Changed, changed_of};
 use fm_policy::keeper::NetKeeper;
 use std::alloc::Global;
 
-/// A keeper that follows what is known by edits of its network: it remembers the records that it saw, and which tasks are
-/// listed and count where, so that a delta costs what it changes and not what is known. It counts the edits that it made since
-/// its network was built.
+/// A keeper that follows what is known by edits of its network (incremental view maintenance). It remembers the
+/// records that it looked up, and where tasks are listed and counted, so that a delta costs what it changes, and not
+/// what is known. It counts the edits that it made since its network was built.
 #[derive(Drop)]
 pub struct Editor {
     memory: Memory,
@@ -50,8 +50,13 @@ impl Editor {
         })
     }
 
-    /// Fresh, with a network that was built of what is known. What there is to remember is filled in from there: O(n log n).
-    pub(crate) fn of(alloc: Global, network: Network, now: &Knowledge) -> Result<Editor, OutOfMemory>
+    /// Fresh, with a network that was built of what is known. What there is to remember is filled in from there: O(n
+    /// log n).
+    pub(crate) fn of(
+        alloc: Global,
+        network: Network,
+        now: &Knowledge,
+    ) -> Result<Editor, OutOfMemory>
         requires { network ≡ net_of now.now }
         ensures fresh { IfOk result (λ e. IsTrue (is_fresh_editor e)) }
         ensures given { IfOk result (λ e. IsFor e now.now) }
@@ -74,11 +79,11 @@ impl Editor {
     }
 }
 
-/// Follows what is looked into, which took a delta with these keys in, and answers the edits that were made: just those that
-/// turn the network of what was known into that of what is known now, arcs that go, nodes that go, nodes that come, arcs that
-/// come or differ, each in node order. It looks up just the records that the delta tells of, and of each of its tasks the
-/// winner of the present attempt. The caller owes a fresh Editor, for what was known before. After a refusal of memory the
-/// Editor is stale.
+/// Follows a knowledge after a delta with these keys was merged into it, and returns the edits that were made:
+/// exactly those that turn the network of the earlier knowledge into that of the present one, that is, arcs that go,
+/// nodes that go, nodes that come, and arcs that come or differ, each in node order. It looks up only the records of
+/// the delta, and for each of its tasks the winner of the present attempt. The caller must pass a fresh Editor for
+/// the earlier knowledge. If memory runs out, the Editor is stale.
 pub fn edit<L: Look>(
     alloc: Global,
     editor: &mut Editor,
@@ -112,7 +117,7 @@ pub fn edit<L: Look>(
     Ok(edits)
 }
 
-// Makes the edits one after another. Where the network has other owners and there are edits to make, it is copied first.
+// Makes the edits one after another. If the network has other owners and there are edits to make, it is copied first.
 fn make(network: &mut Shared<Network>, edits: &[Edit]) -> Result<(), OutOfMemory>
     requires { MayEditAll network.old edits.now }
     ensures { OnOk result (network.new ≡ after edits.now network.old) }
@@ -136,7 +141,7 @@ impl NetKeeper for Editor {
 
     ghost absorbs = { λ _ _ _. Unit {0} };
 
-    /// A fresh Editor follows by `edit`, and stays fresh unless memory is refused.
+    /// A fresh Editor follows by `edit`, and stays fresh unless memory runs out.
     fn absorb(
         &mut self,
         alloc: Global,

@@ -1,4 +1,4 @@
-//! Where tasks are listed, and what they add up to.
+//! Where tasks are listed, and their sums.
 
 ghost use Rattle.std.specs.Prelude.{◌≡◌, ℕ, Bool, ◌+◌, ◌-◌, ◌<◌, ◌^◌, ◌&&◌, true, false, is_some, [], cond, length, OnOk};
 ghost use Rattle.fm_records.specs.Know.{know};
@@ -23,8 +23,9 @@ use fm_records::prefer::Prefer;
 use std::alloc::Global;
 use std::collections::{BTreeMap, BTreeSet};
 
-/// The tasks by job, by their winner's machine, and, while they wait, by each machine that they prefer; and of each job how many live tasks it has, of each request how many
-/// wait for it, and of each machine the sum of the requests of the tasks that it holds, where these are not 0.
+/// The tasks by job, by their winner's machine, and, while they wait, by each machine that they prefer; and of each job
+/// how many live tasks it has, of each request how many wait for it, and of each machine the sum of the requests of the
+/// tasks that it holds, if these are not 0.
 #[derive(Drop)]
 pub(crate) struct Index {
     pub(crate) listed: BTreeSet<(Node, TaskId)>,
@@ -119,7 +120,7 @@ impl Index {
         Ok(())
     }
 
-    // Lists the task no more at its job and at its winner's machine, as it was seen.
+    // Removes the task from the lists of its job and its winner's machine, as it was seen.
     fn unlist(&mut self, found: &SeenTask, task: TaskId)
         ensures lists { (s : Sight) → IsSeenTask s task found.now → (n : NodeName) (t : ℕ) → lists self.new n t ≡ cond (is_eq (nat_cmp task t) && is_listed s n t) false (lists self.old n t) }
         ensures preferred { self.new.preferred ≡ self.old.preferred }
@@ -152,7 +153,7 @@ impl Index {
         }
     }
 
-    // Lets the task count at its job, and at its request or the machine that holds it, if it is live.
+    // Counts the task at its job, and at its request or the machine that holds it, if it is live.
     fn count(&mut self, found: &SeenTask) -> Result<(), OutOfMemory>
         ensures sums { OnOk result ((s : Sight) (t : ℕ) → IsSeenTask s t found.now → (n : NodeName) → sum_in self.old n + amount_at s n t < 2 ^ 128 → sum_in self.new n ≡ sum_in self.old n + amount_at s n t) }
         ensures lists { self.new.listed ≡ self.old.listed }
@@ -168,7 +169,7 @@ impl Index {
         }
     }
 
-    // Lets the task count no more.
+    // No longer counts the task.
     fn uncount(&mut self, found: &SeenTask) -> Result<(), OutOfMemory>
         ensures sums { OnOk result ((s : Sight) (t : ℕ) → IsSeenTask s t found.now → (n : NodeName) → sum_in self.new n ≡ sum_in self.old n - amount_at s n t) }
         ensures lists { self.new.listed ≡ self.old.listed }
@@ -184,7 +185,7 @@ impl Index {
         }
     }
 
-    /// Lists the task and lets it count, as it was seen. O(log n).
+    /// Lists and counts the task, as it was seen. O(log n).
     fn put_back(&mut self, seen: &Seen, task: TaskId) -> Result<(), OutOfMemory>
         ensures lists { OnOk result ((n : NodeName) (t : ℕ) → lists self.new n t ≡ cond (is_eq (nat_cmp task t) && is_listed (seen_in seen.now) n t) true (lists self.old n t)) }
         ensures preferred { OnOk result ((m t : ℕ) → lists_preferred self.new m t ≡ cond (is_eq (nat_cmp task t) && prefers_in (seen_in seen.now) m t) true (lists_preferred self.old m t)) }
@@ -196,7 +197,7 @@ impl Index {
         self.count(&found)
     }
 
-    /// Lists the task no more and lets it count no more, as it was seen. O(log n).
+    /// No longer lists and counts the task, as it was seen. O(log n).
     fn take_out(&mut self, seen: &Seen, task: TaskId) -> Result<(), OutOfMemory>
         ensures lists { OnOk result ((n : NodeName) (t : ℕ) → lists self.new n t ≡ cond (is_eq (nat_cmp task t) && is_listed (seen_in seen.now) n t) false (lists self.old n t)) }
         ensures preferred { OnOk result ((m t : ℕ) → lists_preferred self.new m t ≡ cond (is_eq (nat_cmp task t) && prefers_in (seen_in seen.now) m t) false (lists_preferred self.old m t)) }
@@ -208,7 +209,7 @@ impl Index {
         self.uncount(&found)
     }
 
-    /// Takes the tasks out, which rise. O(m log n).
+    /// Takes out the tasks, given by rising ids. O(m log n).
     pub(crate) fn take_out_all(&mut self, seen: &Seen, tasks: &[TaskId]) -> Result<(), OutOfMemory>
         requires { Rises nat_cmp tasks.now }
         ensures { OnOk result ((k : Table) → CanBe k → seen_in seen.now ≡ sight_of k → Counts none_out k self.old → Counts (has_id tasks.now) k self.new) }
@@ -219,7 +220,7 @@ impl Index {
         Ok(())
     }
 
-    /// Puts the tasks back, which rise and are all that is out. O(m log n).
+    /// Puts back the tasks, given by rising ids, which are all that are out. O(m log n).
     pub(crate) fn put_back_all(&mut self, seen: &Seen, tasks: &[TaskId]) -> Result<(), OutOfMemory>
         requires { Rises nat_cmp tasks.now }
         ensures { OnOk result ((k : Table) → CanBe k → length k.tasks < 2 ^ 63 → seen_in seen.now ≡ sight_of k → Counts (has_id tasks.now) k self.old → Counts none_out k self.new) }

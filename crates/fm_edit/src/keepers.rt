@@ -11,8 +11,8 @@ use fm_policy::keeper::NetKeeper;
 use fm_policy::rebuilder::Rebuilder;
 use std::alloc::Global;
 
-/// A keeper that edits at each delta, one that builds anew, or one that edits or builds when somebody looks: so coordinators of
-/// all kinds can stand in one world.
+/// A keeper that edits at each delta, one that rebuilds, or one that edits or builds when it is read: so coordinators
+/// of all kinds can be in one world.
 #[derive(Drop)]
 pub enum Keeper {
     Edits(Editor),

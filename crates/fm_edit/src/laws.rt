@@ -13,7 +13,7 @@ ghost use Rattle.fm_edit.specs.declared.look.Key.{Key as KeyName};
 ghost use Rattle.fm_edit.specs.Dirty.{SameBeyond, dirty_task, IsDirtyMachine, MayTurn, MayDiffer};
 ghost use Rattle.fm_edit.specs.Looking.{looks_of, IsDirtyKey};
 
-/// A delta leaves all that its keys do not name as it was: at most the machines that it tells of turn.
+/// A delta changes nothing that its keys do not name: at most its machines turn.
 pub fn law_same_beyond()
     ensures { (k d : Table) → CanBe k → CanBe d → SameBeyond k (table_join k d) (changed_keys d) (changed_keys d).machines }
 {}
@@ -30,20 +30,20 @@ pub fn law_clean_machine()
     ensures spare { (k after : Table) (keys : Keys) (turned : List ℕ) → SameBeyond k after keys turned → (m : ℕ) → ¬ IsDirtyMachine k after keys turned m → spare_of after m ≡ spare_of k m }
 {}
 
-/// A delta changes no node and no arc but those that the dirty jobs, tasks, machines and requests name. It holds as well
-/// where of the machines that the delta tells of only some turned: so a report alone dirties no task.
+/// A delta changes only nodes and arcs that the dirty jobs, tasks, machines and requests name. This also holds if
+/// only some of the delta's machines turned: so a report alone makes no task dirty.
 pub fn law_local()
     ensures nodes { (k after : Table) (keys : Keys) (turned : List ℕ) → SameBeyond k after keys turned → (n : NodeName) → ¬ MayTurn k after keys turned n → is_node after n ≡ is_node k n }
     ensures arcs { (k after : Table) (keys : Keys) (turned : List ℕ) → SameBeyond k after keys turned → (a b : NodeName) → ¬ MayDiffer k after keys turned a b → arc_of after a b ≡ arc_of k a b }
 {}
 
-/// The arc of a request to a machine that is not dirty is as it was, unless the request came or went as a node: so a
+/// The arc of a request to a machine that is not dirty is unchanged, unless the request came or went as a node: so a
 /// proposal touches no arc of the requests of other tasks but those to the machines concerned.
 pub fn law_request_arc()
     ensures { (k after : Table) (keys : Keys) (turned : List ℕ) → SameBeyond k after keys turned → (r m : ℕ) → is_node after (NodeName.Request r) ≡ is_node k (NodeName.Request r) → ¬ IsDirtyMachine k after keys turned m → arc_of after (NodeName.Request r) (NodeName.Machine m) ≡ arc_of k (NodeName.Request r) (NodeName.Machine m) }
 {}
 
-/// What a delta calls to be looked up is dirty.
+/// What is looked up for a delta is dirty.
 pub fn law_looks()
     ensures { (k after : Table) (keys : Keys) (turned : List ℕ) (x : KeyName) → IsMember x (looks_of after keys) → IsDirtyKey k after keys turned x }
 {}

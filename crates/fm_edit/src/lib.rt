@@ -1,4 +1,5 @@
-//! Networks edited instead of rebuilt: what a delta can change, and records looked up one by one.
+//! Networks that are edited instead of rebuilt (incremental view maintenance: Gupta and Mumick, 1995): what a delta
+//! can change, and looking up single records.
 #![tactic(auto)]
 
 mod completing;

@@ -21,8 +21,8 @@ use fm_net::node::Node;
 use std::alloc::Global;
 use std::collections::BTreeSet;
 
-/// Of the touched nodes and pairs those edits that turn the network into that of what was seen: arcs that go, nodes that go,
-/// nodes that come, arcs that come or differ. O(log n) for each that was touched.
+/// The edits among the touched nodes and pairs that turn the network into that of the seen records: arcs that go,
+/// nodes that go, nodes that come, arcs that come or differ. O(log n) for each that was touched.
 pub(crate) fn list(
     alloc: Global,
     network: &Network,
@@ -56,8 +56,8 @@ pub(crate) fn list(
     Ok(edits)
 }
 
-// Adds the edits of the pairs' arcs, to one list where they go, and to the other where they come or differ: one walk, since
-// to work out what is to stand between two nodes is dear; and a machine is looked up once for its pairs in a row.
+// Adds the edits of the pairs' arcs, to one list if they go, and to the other if they come or differ: one scan, since
+// computing the arc between two nodes is expensive; and a machine is looked up once for its consecutive pairs.
 fn add_arcs(
     going: &mut Vec<Edit>,
     coming: &mut Vec<Edit>,
@@ -106,7 +106,7 @@ fn add_arc(
     Ok(())
 }
 
-// Adds the edits of the nodes, to one list where they go, and to the other where they come: one walk, as of the arcs.
+// Adds the edits of the nodes, to one list if they go, and to the other if they come: one scan, as for the arcs.
 fn add_nodes(
     going: &mut Vec<Edit>,
     coming: &mut Vec<Edit>,
@@ -144,7 +144,7 @@ fn add_node(
     Ok(())
 }
 
-// The edit that drops the pair's arc, if that stands.
+// The edit that drops the pair's arc, if it exists.
 fn drop_arc(network: &Network, pair: &(Node, Node)) -> Option<Edit>
     ensures { result ≡ when (joins network.now pair.now) (EditName.DropArc pair.now.0 pair.now.1) }
 {
@@ -154,7 +154,7 @@ fn drop_arc(network: &Network, pair: &(Node, Node)) -> Option<Edit>
     None
 }
 
-// The edit that puts the pair's arc with the capacity and cost that are wanted, where it comes or differs.
+// The edit that puts the pair's arc with its new capacity and cost, if it comes or differs.
 fn put_arc(network: &Network, pair: &(Node, Node), wanted: (u64, u32)) -> Option<Edit>
     ensures { result ≡ option_map (put_at pair.now) (when (not (has_arc network.now (pair.now, wanted))) wanted) }
 {
@@ -165,7 +165,7 @@ fn put_arc(network: &Network, pair: &(Node, Node), wanted: (u64, u32)) -> Option
     Some(Edit::PutArc(pair.0, pair.1, capacity, cost))
 }
 
-// Whether what stands is this arc.
+// Whether the present arc is this one.
 fn is_same(stood: Option<(u64, u32)>, capacity: u64, cost: u32) -> bool
     ensures { result ≡ passes (same_value (capacity, cost)) stood }
 {

@@ -1,4 +1,4 @@
-//! Looking records up, and keeping which.
+//! Looking up records, and storing their keys.
 
 ghost use Rattle.std.specs.Prelude.{◌≡◌, List, [], ◌∷◌, ◌++◌, option_map, IfOk, OnOk, OnErr};
 ghost use Rattle.std.specs.Ordering.{nat_cmp};
@@ -16,7 +16,7 @@ use fm_records::records::{JobReg, MachineRec, TaskRec};
 use std::alloc::Global;
 use std::marker::Model;
 
-/// What is looked up: the record of a job, a task or a machine, or the winner of an attempt of a task.
+/// A key: of the record of a job, a task or a machine, or of the winner of an attempt of a task.
 #[derive(Debug, Clone, Copy, PartialEq, Eq, Drop)]
 pub enum Key {
     Job(JobId),
@@ -25,9 +25,9 @@ pub enum Key {
     Winner(TaskId, u32),
 }
 
-/// Looks records up in what is known, and stores each key that is looked up. A refusal of memory stores no key.
+/// Looks up records in what is known, and stores the key of each. If memory runs out, no key is stored.
 pub trait Look: Drop {
-    /// What is looked into.
+    /// The table in which it looks.
     ghost table: { Self → Table };
 
     /// The keys that were looked up, in turn.
@@ -62,7 +62,7 @@ pub trait Look: Drop {
         ensures err { OnErr result (keys self.new ≡ keys self.old) };
 }
 
-/// Looks into a knowledge. Each look takes O(log n).
+/// Looks up records in a knowledge. Each look-up is O(log n).
 #[derive(Drop)]
 pub struct KnowLook<'a> {
     knowledge: &'a Knowledge,
@@ -78,7 +78,7 @@ impl<'a> Model for KnowLook<'a> {
 }
 
 impl<'a> KnowLook<'a> {
-    /// Nothing is looked up yet. It takes no memory.
+    /// Nothing is looked up yet. It allocates nothing.
     pub fn new(alloc: Global, knowledge: &'a Knowledge) -> KnowLook<'a>
         ensures table { result.table ≡ knowledge.now }
         ensures keys { result.keys ≡ [] }

@@ -22,7 +22,7 @@ use fm_net::network::Network;
 use fm_policy::changed::Changed;
 use std::alloc::Global;
 
-/// The records that were seen last, and where their tasks are listed and count.
+/// The records as they were last seen, and where their tasks are listed and counted.
 #[derive(Drop)]
 pub(crate) struct Memory {
     pub(crate) seen: Seen,
@@ -30,7 +30,7 @@ pub(crate) struct Memory {
 }
 
 impl Memory {
-    /// Of nothing known. It takes no memory.
+    /// Of nothing known. It allocates nothing.
     pub(crate) fn new(alloc: Global) -> Memory
         ensures { Remembers (know []) result }
     {
@@ -40,7 +40,7 @@ impl Memory {
         }
     }
 
-    /// What there is to remember of the table that is looked into: the keys are those of all its records, and each is looked up.
+    /// The memory of the table: the keys are those of all its records, and each is looked up.
     pub(crate) fn of<L: Look>(
         alloc: Global,
         look: &mut L,
@@ -58,9 +58,9 @@ impl Memory {
         Ok(memory)
     }
 
-    /// Follows the table into which a delta was taken, and answers the nodes and pairs of nodes that it touched: nothing else
-    /// differs between the network of what was known before and that of what is known now. It looks up just what the delta
-    /// tells of. After a refusal nothing is said of the memory.
+    /// Follows the table after a delta was merged into it, and returns the nodes and pairs of nodes that it touched:
+    /// nothing else differs between the network of the earlier knowledge and that of the present one. It looks up
+    /// only the delta's records. After a refusal no clause speaks of the memory.
     pub(crate) fn follow<L: Look>(
         &mut self,
         alloc: Global,

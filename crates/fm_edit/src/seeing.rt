@@ -1,4 +1,4 @@
-//! Seeing records again: where what the others had is as it was, all is then as it is now.
+//! Looking up changed records again: if the others are unchanged, all records are then the present ones.
 
 ghost use Rattle.std.specs.Prelude.{◌≡◌, ◌++◌, ◌∷◌, [], ℕ, false, Option, map, IfOk, OnOk};
 ghost use Rattle.std.specs.Ordering.{nat_cmp};
@@ -41,7 +41,7 @@ fn see_job<L: Look>(
     Ok(())
 }
 
-/// Sees the registers of the jobs again, and looks up just these. O(m log n).
+/// Sees the registers of the jobs again, and looks up exactly these. O(m log n).
 pub(crate) fn see_jobs<L: Look>(
     jobs: &mut BTreeMap<JobId, JobReg>,
     look: &mut L,
@@ -80,7 +80,7 @@ fn see_task<L: Look>(
     Ok(())
 }
 
-/// Sees the records of the tasks again, and looks up just these. O(m log n).
+/// Sees the records of the tasks again, and looks up exactly these. O(m log n).
 pub(crate) fn see_tasks<L: Look>(
     tasks: &mut BTreeMap<TaskId, TaskRec>,
     look: &mut L,
@@ -140,8 +140,8 @@ fn see_spot<L: Look>(
     Ok(())
 }
 
-/// Sees again where the winners of the tasks' present attempts would run them, and looks up just these. The records of the
-/// tasks are seen already. O(m log n).
+/// Sees again where the winners of the tasks' present attempts would run them, and looks up exactly these. The records
+/// of the tasks are seen already. O(m log n).
 pub(crate) fn see_spots<L: Look>(
     spots: &mut BTreeMap<TaskId, Spot>,
     tasks: &BTreeMap<TaskId, TaskRec>,

@@ -1,4 +1,4 @@
-//! What was seen last of what is known.
+//! The records as they were last seen.
 
 ghost use Rattle.std.specs.Prelude.{◌≡◌, ◌&&◌, ℕ, true, ◌<◌, ◌^◌, [], not, is_some, option_map, length, Some};
 ghost use Rattle.fm_records.specs.Know.{know};
@@ -27,8 +27,8 @@ pub(crate) struct Seen {
     pub(crate) spots: BTreeMap<TaskId, Spot>,
 }
 
-/// What was seen of a task. Nodes are those of the job and the request that its spec names, and of the machine that the winner
-/// of its present attempt names.
+/// What was seen of a task. Nodes are those of the job and the request that its spec names, and of the machine that the
+/// winner of its present attempt names.
 #[derive(Clone, Copy, Drop)]
 pub(crate) struct SeenTask {
     pub(crate) job: Option<Node>,

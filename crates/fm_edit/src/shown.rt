@@ -1,4 +1,4 @@
-//! The nodes and arcs of the network of what was seen, one by one.
+//! Single nodes and arcs of the network of the seen records.
 
 ghost use Rattle.std.specs.Prelude.{◌≡◌, ◌+◌, ◌-◌, Some, None, cond, option_map, IfSome};
 ghost use Rattle.std.specs.Ordering.{nat_cmp};
@@ -24,7 +24,7 @@ pub(crate) struct Place {
     pub(crate) load: u128,
 }
 
-/// Whether the node stands. O(log n), as each call here.
+/// Whether the network has the node. O(log n), as each call here.
 pub(crate) fn stands(seen: &Seen, index: &Index, node: &Node) -> bool
     ensures { result ≡ node_shown (seen_in seen.now) (sum_in index.now) node.now }
 {
@@ -36,8 +36,8 @@ pub(crate) fn stands(seen: &Seen, index: &Index, node: &Node) -> bool
     }
 }
 
-/// The capacity and cost of the arc from one node to the other, if there is one. A machine that was the last to be found is not
-/// looked up again.
+/// The capacity and cost of the arc from one node to the other, if there is one. A machine that was the last to be
+/// found is not looked up again.
 pub(crate) fn arc_after(
     seen: &Seen,
     index: &Index,
@@ -76,7 +76,8 @@ fn waiting_arc(seen: &Seen, task: TaskId, request: u32) -> Option<(u64, u32)>
     }
 }
 
-// A task that is held to the machine that holds it, and a live one that is not to one that it prefers and that has room.
+// A task that is held to the machine that holds it, and a live one that is not to one that it prefers and that has
+// room.
 fn machine_arc(
     seen: &Seen,
     index: &Index,
@@ -95,7 +96,7 @@ fn machine_arc(
     }
 }
 
-// A live task to the machine, where it prefers that and it has room.
+// A live task to the machine, if it prefers that and it has room.
 fn preferred_arc(
     seen: &Seen,
     index: &Index,
@@ -113,7 +114,7 @@ fn preferred_arc(
     Some((1, cost.saturating_sub(credit)))
 }
 
-// A live task to its job, for the price of waiting, or of a preemption where it is held.
+// A live task to its job, for the price of waiting, or of a preemption if it is held.
 fn job_arc(seen: &Seen, task: TaskId, job: JobId) -> Option<(u64, u32)>
     ensures { result ≡ arc_shown (seen_in seen.now) (λ n. 0) (NodeName.Task task) (NodeName.Unscheduled job) }
 {
@@ -165,7 +166,7 @@ fn place_arc(
     room(seen, index, last, request, machine)
 }
 
-// For how many tasks of the request the machine has room, and what each costs there, where it is open and has any.
+// For how many tasks of the request the machine has room, and what each costs there, if it is open and has any.
 fn room(
     seen: &Seen,
     index: &Index,
@@ -182,7 +183,7 @@ fn room(
     room_at(seen, index, &place, request)
 }
 
-// For how many tasks of the request there is room at the place, and what each costs there, where it is open and has any.
+// For how many tasks of the request there is room at the place, and what each costs there, if it is open and has any.
 fn room_at(seen: &Seen, index: &Index, place: &Place, request: u32) -> Option<(u64, u32)>
     requires { IsPlace (seen_in seen.now) (sum_in index.now) place.now }
     ensures { result ≡ room_shown (seen_in seen.now) (sum_in index.now) request place.now.machine }
@@ -199,7 +200,7 @@ fn room_at(seen: &Seen, index: &Index, place: &Place, request: u32) -> Option<(u
     Some((places(&state, spare, request), request + load))
 }
 
-// What is to be found of the machine, where it is the last that was found too.
+// What is to be found of the machine, if it is the last that was found too.
 fn found_again(seen: &Seen, index: &Index, last: Option<Place>, machine: MachineId) -> Place
     requires { IfSome last (IsPlace (seen_in seen.now) (sum_in index.now)) }
     ensures is { IsPlace (seen_in seen.now) (sum_in index.now) result }

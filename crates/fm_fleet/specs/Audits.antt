@@ -46,7 +46,7 @@ pub record IsFirstStrange (es : List Entry) (logs : List SeatLog) (by : ℕ) : T
 abbrev pub IsNotAudited : List Entry → List SeatLog → ℕ → Type 0
 IsNotAudited es logs k = IsLeastDiffering es logs k ⊎ IsFirstStrange es logs k
 
--- the calls of all seats, each with its answer, stand in one legal history, each once, in each seat's order
+-- the calls of all seats, each with its answer, form one legal history, each once, in each seat's order
 pub record StandInOne (s : State) (base : ℕ) (logs : List SeatLog) : Type 0 where
   pub legal : IsLegal (opening s.number s.limit) s.history
   pub audited : IsAudited (drop base s.history) logs

@@ -23,7 +23,7 @@ pub record IsRound (base : ℕ) (s : SeatSeen) (t : SeatSeen) (admitted : Admitt
   pub planned : IsPlanOf known plan
   pub listed : t ≡ called (viewed s at known) (call.Commit plan) (reply.Admitted admitted)
 
--- the view alone, since memory was wanted for a plan, or the commit of a plan was refused
+-- the view alone, since memory ran out for a plan, or the commit of a plan was refused
 pub record IsHalfRound (base : ℕ) (s : SeatSeen) (t : SeatSeen) (refusal : Refusal) : Type 0 where
   pub at : ℕ
   pub known : Table

@@ -24,7 +24,7 @@ seen_seat number log = record { number = number; log = log }
 abbrev pub called : SeatSeen → Call → Reply → SeatSeen
 called s call reply = seen_seat s.number (s.log ++ entry s.number call reply ∷ [])
 
--- a refusal that a coordinator may answer to a call: want of memory, or the call's cause at some bounds
+-- a refusal that a coordinator may answer to a call: out of memory, or the call's cause at some bounds
 abbrev pub MayRefuse : Call → Refusal → Type 0
 MayRefuse call refusal = (refusal ≡ OutOfMemory) ⊎ ((b : Bounds) × (refusal ≡ refusal_for b call))
 
@@ -57,6 +57,6 @@ seat_of l = seen_seat l.seat l.entries.items
 abbrev pub length_of : SeatLog → ℕ
 length_of l = length l.entries.items
 
--- the logs stand by the numbers of their seats, from 1
+-- the logs are in the order of the numbers of their seats, from 1
 abbrev pub AreNumbered : List SeatLog → Type 0
 AreNumbered logs = (i : ℕ) (l : SeatLog) → slice_get logs i ≡ Some l → l.seat ≡ i + 1

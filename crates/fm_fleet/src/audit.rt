@@ -1,4 +1,5 @@
-//! Whether a closed node's history is what its seats were answered.
+//! Whether a closed node's history agrees with the lists of its seats: a linearization of their calls (Herlihy and
+//! Wing, 1990), by the order in which they held the lock.
 ghost use Rattle.std.specs.Prelude.{◌≡◌, ◌∷◌, ◌<◌, ◌↔◌, ℕ, List, drop, slice_get, Some, IsTrue, IsOk, IfErr, OnOk, MatchOption};
 ghost use Rattle.fm_records.specs.declared.refusal.Refusal.TheVariants.{NotMine};
 ghost use Rattle.fm_coord.specs.declared.entry.Entry.{Entry as Listed};
@@ -12,10 +13,10 @@ use fm_coord::equal::entries;
 use fm_policy::keeper::NetKeeper;
 use fm_records::refusal::Refusal;
 
-/// Whether the history after the base is what the seats' lists say: each seat's entries in order are its list, and each
-/// entry is some seat's. Where it is, the calls of all seats, each with the answer that it got, stand in one legal history,
-/// each once, in each seat's order. It takes no memory. O(n m) in entries and seats, times what entries hold.
-/// NotMine with the least seat whose list differs, else with the number in the first entry of no seat.
+/// Whether the history after the base agrees with the seats' lists: each seat's entries in order are its list, and
+/// each entry belongs to some seat. Then the calls of all seats, each with its answer, form one legal history, each
+/// once, in each seat's order. It allocates nothing. O(n m) in entries and seats, times what entries hold. NotMine
+/// with the least seat whose list differs, else with the number in the first entry of no seat.
 pub fn audit<N: NetKeeper>(closed: &Closed<N>) -> Result<(), Refusal>
     ensures exact { IsOk result ↔ IsAudited (drop closed.now.base closed.now.coordinator.state.history) closed.now.logs.items }
     ensures ok { OnOk result (StandInOne closed.now.coordinator.state closed.now.base closed.now.logs.items) }
@@ -73,7 +74,7 @@ fn is_log(made: &[Entry], seat: u32, log: &[Entry]) -> bool
     rest.is_empty()
 }
 
-// What of a log is left after an entry, if the log goes on with it where it is the seat's.
+// What is left of a log after an entry. If the entry is the seat's, the log must go on with it.
 fn rest_after<'a>(seat: u32, entry: &Entry, log: &'a [Entry]) -> Option<&'a [Entry]>
     ensures { MatchOption result ((es : List Listed) → ¬ (of_seat seat (entry.now ∷ es) ≡ log.now)) (λ left. (es : List Listed) → (of_seat seat (entry.now ∷ es) ≡ log.now) ↔ (of_seat seat es ≡ left.now)) }
 {

@@ -1,4 +1,4 @@
-//! Ending a node: its coordinator, and what each seat was answered.
+//! Closing a node: its coordinator, and the list of each seat.
 ghost use Rattle.std.specs.Prelude.{◌≡◌, ◌<◌, ◌≤◌, ◌+◌, ℕ, length, vec_len, vec_capacity, slice_get, Some, map, sum_by, MatchOption, IfOk, IfErr};
 ghost use Rattle.std.specs.List.Sorted.{IsPermutation};
 ghost use Rattle.fm_records.specs.declared.refusal.Refusal.TheVariants.{NotMine};
@@ -20,7 +20,7 @@ pub struct Closed<N: NetKeeper> {
     pub logs: Vec<SeatLog>,
 }
 
-/// Why a node was not closed, with what was handed in.
+/// Why a node was not closed, with what was passed.
 #[derive(Drop)]
 pub struct NotClosed<N: NetKeeper, L: NodeName> {
     pub refusal: Refusal,
@@ -28,9 +28,9 @@ pub struct NotClosed<N: NetKeeper, L: NodeName> {
     pub seats: Vec<Seat<L>>,
 }
 
-/// Ends a node with all its seats: their lists, by the numbers of the seats. The history has just as many entries more than
-/// at the start as the lists have. It takes no memory. O(n^2) in the seats.
-/// NotMine with the least seat that is missing, with the node and the seats.
+/// Closes a node with all its seats, and returns their lists, by the numbers of the seats. The history has grown by
+/// exactly the entries of the lists. It allocates nothing. O(n^2) in the seats. NotMine with the least seat that is
+/// missing, with the node and the seats.
 pub fn close<N: NetKeeper, L: NodeName>(
     node: Node<N, L>,
     seats: Vec<Seat<L>>,
@@ -94,7 +94,7 @@ fn missing<L: NodeName>(seats: &[Seat<L>], count: u32) -> Option<u32>
     None
 }
 
-// Takes in the seats by number, one at a time; what is joined stands for those that are in.
+// Joins the seats by number, one at a time; the joined share stands for those so far.
 fn take_in<L: NodeName>(
     mut seats: Vec<Seat<L>>,
     count: u32,

@@ -1,19 +1,21 @@
-//! What lies under a node's lock: the coordinator, with the book of the calls that seats made.
+//! What is under a node's lock: the coordinator, with the book of the calls that seats made.
 ghost use Rattle.std.specs.Prelude.{◌≡◌, ◌<◌, ◌≤◌, ◌+◌, length, IfOk, IfErr, OnOk, OnErr};
 ghost use Rattle.fm_coord.specs.Causes.{refusal_for};
-ghost use Rattle.fm_coord.specs.States.{bounds, entry, after};
+ghost use Rattle.fm_coord.specs.States.{bounds, entry, noted, after};
 ghost use Rattle.fm_coord.specs.Answers.{said, answered};
+ghost use Rattle.fm_coord.specs.declared.entry.Reply.TheVariants as reply;
 
 use crate::seat::NodeName;
 use fm_coord::answer::Answer;
 use fm_coord::coordinator::Coordinator;
 use fm_coord::entry::Call;
+use fm_coord::view::Sight;
 use fm_policy::keeper::NetKeeper;
 use fm_records::refusal::Refusal;
 use std::sync::ledger::{Book, Share};
 
-/// The coordinator and the book, which counts just the entries that came since the base. The share has no part; it is where
-/// the seats' shares are joined in the end.
+/// The coordinator and the book, which counts exactly the entries since the base. The share has no part; the seats'
+/// shares are joined into it at the end.
 #[derive(Drop)]
 pub struct Desk<N: NetKeeper, L: NodeName> {
     pub coordinator: Coordinator<N>,
@@ -25,8 +27,8 @@ pub struct Desk<N: NetKeeper, L: NodeName> {
 }
 
 impl<N: NetKeeper, L: NodeName> Desk<N, L> {
-    /// As the coordinator's `call`, and one event with it: an accepted call moves one unit into the book and into the seat's share,
-    /// a refused one moves nothing. The history has the calls that are counted in the share before it.
+    /// As the coordinator's `call`, and one event with it: an accepted call moves one unit into the book and into the
+    /// seat's share, a refused one moves nothing. The history has the calls that are counted in the share before it.
     pub fn call(&mut self, by: u32, call: Call, share: &mut Share<L>) -> Result<Answer, Refusal>
         requires { 0 < share.old.parts }
         ensures ok { IfOk result (λ answer. self.new.coordinator.state ≡ after self.old.coordinator.state (entry by call (said answer)) call) }
@@ -46,5 +48,28 @@ impl<N: NetKeeper, L: NodeName> Desk<N, L> {
         let answer = coordinator.call(by, call)?;
         calls.add(share, 1);
         Ok(answer)
+    }
+
+    /// As the coordinator's `see`, and one event with it, as `call` has it.
+    pub fn see(&mut self, by: u32, share: &mut Share<L>) -> Result<Sight, Refusal>
+        requires { 0 < share.old.parts }
+        ensures ok { IfOk result (λ sight. self.new.coordinator.state
+            ≡ noted self.old.coordinator.state (entry by Call.View (reply.Seen sight.at sight.knowledge))) }
+        ensures knowledge { IfOk result (λ sight. sight.knowledge ≡ self.old.coordinator.state.knowledge) }
+        ensures later { IfOk result (λ sight. L.base + share.old.amount ≤ sight.at) }
+        ensures counted { OnOk result (share.new.amount ≡ share.old.amount + 1) }
+        ensures parts { share.new.parts ≡ share.old.parts }
+        ensures cause { IfErr result (λ refusal. refusal ≡ refusal_for (bounds self.old.coordinator.state) Call.View) }
+        ensures err { OnErr result ((share.new.amount ≡ share.old.amount) × (self.new.coordinator.state ≡ self.old.coordinator.state)) }
+    {
+        let Desk {
+            coordinator,
+            calls,
+            ..
+        } = self;
+        calls.audit(share);
+        let sight = coordinator.see(by)?;
+        calls.add(share, 1);
+        Ok(sight)
     }
 }

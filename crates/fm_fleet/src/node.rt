@@ -5,13 +5,13 @@ ghost use Rattle.fm_coord.specs.Answers.{said};
 ghost use Rattle.fm_fleet.specs.Seats.{called, MayRefuse, IsAnswered, IsDone, AreNew};
 
 use crate::desk::Desk;
-use crate::owners::listed;
+use crate::owners::{another, listed};
 use crate::seat::{NodeName, Seat, SeatLog};
 use fm_coord::answer::Answer;
 use fm_coord::coordinator::Coordinator;
 use fm_coord::entry::{Call, Entry, Range, Reply};
 use fm_coord::shared::Shared;
-use fm_coord::view::View;
+use fm_coord::view::{Sight, View};
 use fm_delta::packet::Packet;
 use fm_policy::keeper::NetKeeper;
 use fm_records::ops::Op;
@@ -41,7 +41,7 @@ impl<N: NetKeeper, L: NodeName> Model for Node<N, L> {
     ghost invariant = { λ n. (n.base ≡ L.base) × (n.count ≡ L.parts) × (n.count ≤ vec_capacity n.room) × (vec_len n.room ≡ 0) };
 }
 
-/// Why a node was not made, with what was handed in.
+/// Why a node was not made, with what was passed.
 #[derive(Drop)]
 pub struct NewFault<N: NetKeeper> {
     pub refusal: Refusal,
@@ -50,10 +50,9 @@ pub struct NewFault<N: NetKeeper> {
 }
 
 impl<N: NetKeeper, L: NodeName> Node<N, L> {
-    /// A node of the coordinator, and its seats, of which there is at least one, numbered from 1. The caller owes a blank
-    /// ledger of as many parts, whose name this function's is, and that the name tells how many entries the history has.
-    /// The room that closing takes is reserved.
-    /// OutOfMemory, with the coordinator and the blank.
+    /// A node of the coordinator, and its seats, of which there is at least one, numbered from 1. The caller must pass
+    /// a blank ledger of as many parts, whose name this function's is, and that the name tells how many entries the
+    /// history has. The room that closing takes is reserved. OutOfMemory, with the coordinator and the blank.
     pub fn new(
         alloc: Global,
         blank: Blank,
@@ -115,11 +114,10 @@ fn seat_all<L: NodeName>(alloc: Global, seats: &mut Vec<Seat<L>>, all: &mut Shar
 }
 
 impl<N: NetKeeper, L: NodeName> Node<N, L> {
-    /// Any call, as the coordinator's `call` by the seat's number, with the lock held for that call alone. The seat's list grows
-    /// by one place, and what goes into it is shared with what the coordinator gets, before the lock is asked for, so nothing can
-    /// fail behind it. The coordinator has at least as many entries before it as there were at the node's start and are in the
-    /// seat's list.
-    /// What that refuses, and OutOfMemory; then the seat is as it was.
+    /// Any call, as the coordinator's `call` by the seat's number, with the lock held for that call alone. Memory for
+    /// the seat's list is reserved, and its copy of the call is shared, before the lock is taken, so nothing can fail
+    /// afterwards. The coordinator has at least as many entries before it as there were at the node's start and are
+    /// in the seat's list. Refused as that call, and with OutOfMemory; then the seat is unchanged.
     pub fn call<R: Wait>(
         &self,
         rt: &R,
@@ -150,8 +148,8 @@ impl<N: NetKeeper, L: NodeName> Node<N, L> {
         Ok(answer)
     }
 
-    /// Takes an operation in, as the coordinator's `tell`.
-    /// What that refuses, and OutOfMemory; then the seat is as it was.
+    /// Tells an operation, as the coordinator's `tell`. Refused as that, and with OutOfMemory; then the seat is
+    /// unchanged.
     pub fn tell<R: Wait>(&self, rt: &R, seat: &mut Seat<L>, op: Op) -> Result<(), Refusal>
         ensures ok { OnOk result (seat.new ≡ called seat.old (Call.Tell op) Reply.Nothing) }
         ensures cause { IfErr result (λ refusal. MayRefuse (Call.Tell op) refusal) }
@@ -160,8 +158,8 @@ impl<N: NetKeeper, L: NodeName> Node<N, L> {
         self.done(rt, seat, Call::Tell(op))
     }
 
-    /// Takes a packet's value in, as the coordinator's `merge`.
-    /// What that refuses, and OutOfMemory; then the seat is as it was.
+    /// Merges a packet's value, as the coordinator's `merge`. Refused as that, and with OutOfMemory; then the seat is
+    /// unchanged.
     pub fn merge<R: Wait>(&self, rt: &R, seat: &mut Seat<L>, packet: Packet) -> Result<(), Refusal>
         ensures ok { OnOk result (seat.new ≡ called seat.old (Call.Merge packet) Reply.Nothing) }
         ensures cause { IfErr result (λ refusal. MayRefuse (Call.Merge packet) refusal) }
@@ -170,8 +168,7 @@ impl<N: NetKeeper, L: NodeName> Node<N, L> {
         self.done(rt, seat, Call::Merge(packet))
     }
 
-    /// Cuts a packet, as the coordinator's `cut`.
-    /// What that refuses, and OutOfMemory; then the seat is as it was.
+    /// Cuts a packet, as the coordinator's `cut`. Refused as that, and with OutOfMemory; then the seat is unchanged.
     pub fn cut<R: Wait>(
         &self,
         rt: &R,
@@ -189,8 +186,8 @@ impl<N: NetKeeper, L: NodeName> Node<N, L> {
         }
     }
 
-    /// Lets the deltas below n go, as the coordinator's `trim`.
-    /// What that refuses, and OutOfMemory; then the seat is as it was.
+    /// Drops the deltas below n, as the coordinator's `trim`. Refused as that, and with OutOfMemory; then the seat is
+    /// unchanged.
     pub fn trim<R: Wait>(&self, rt: &R, seat: &mut Seat<L>, n: u64) -> Result<(), Refusal>
         ensures ok { OnOk result (seat.new ≡ called seat.old (Call.Trim n) Reply.Nothing) }
         ensures cause { IfErr result (λ refusal. MayRefuse (Call.Trim n) refusal) }
@@ -199,9 +196,9 @@ impl<N: NetKeeper, L: NodeName> Node<N, L> {
         self.done(rt, seat, Call::Trim(n))
     }
 
-    /// What is known, as the coordinator's `view`. There are at least as many entries before it as there were at the node's
-    /// start and are in the seat's list, and the network is that of the knowledge.
-    /// What that refuses, and OutOfMemory; then the seat is as it was.
+    /// What is known, as the coordinator's `view`. There are at least as many entries before it as there were at the
+    /// node's start and are in the seat's list, and the network is that of the knowledge. Refused as that, and with
+    /// OutOfMemory; then the seat is unchanged.
     pub fn view<R: Wait>(&self, rt: &R, seat: &mut Seat<L>) -> Result<View, Refusal>
         ensures ok { IfOk result (λ view. seat.new ≡ called seat.old Call.View (Reply.Seen view.at view.knowledge)) }
         ensures later { IfOk result (λ view. L.base + length seat.old.log ≤ view.at) }
@@ -216,8 +213,33 @@ impl<N: NetKeeper, L: NodeName> Node<N, L> {
         }
     }
 
-    /// Admits a plan and takes in what it comes to, as the coordinator's `commit`.
-    /// What that refuses, and OutOfMemory; then the seat is as it was.
+    /// As `view`, but without the network, as the coordinator's `see`. Refused as that, and with OutOfMemory; then the
+    /// seat is unchanged.
+    pub fn see<R: Wait>(&self, rt: &R, seat: &mut Seat<L>) -> Result<Sight, Refusal>
+        ensures ok { IfOk result (λ sight. seat.new ≡ called seat.old Call.View (Reply.Seen sight.at sight.knowledge)) }
+        ensures later { IfOk result (λ sight. L.base + length seat.old.log ≤ sight.at) }
+        ensures cause { IfErr result (λ refusal. MayRefuse Call.View refusal) }
+        ensures err { OnErr result (seat.new ≡ seat.old) }
+    {
+        if seat.log.reserve(1).is_err() {
+            return Err(Refusal::OutOfMemory);
+        }
+        let Seat { number, log, share } = seat;
+        let by = *number;
+        let sight = match self.desk.lock(rt).see(by, share) {
+            Ok(sight) => sight,
+            Err(refusal) => return Err(refusal),
+        };
+        log.push_reserved(Entry {
+            by,
+            call: Call::View,
+            reply: Reply::Seen(sight.at, another(rt, &sight.knowledge)),
+        });
+        Ok(sight)
+    }
+
+    /// Admits a plan and merges what is admitted, as the coordinator's `commit`. Refused as that, and with
+    /// OutOfMemory; then the seat is unchanged.
     pub fn commit<R: Wait>(
         &self,
         rt: &R,
@@ -235,7 +257,7 @@ impl<N: NetKeeper, L: NodeName> Node<N, L> {
         }
     }
 
-    // A call that is answered with nothing more than that it is done.
+    // A call that returns nothing.
     fn done<R: Wait>(&self, rt: &R, seat: &mut Seat<L>, call: Call) -> Result<(), Refusal>
         requires { IsDone call }
         ensures ok { OnOk result (seat.new ≡ called seat.old call Reply.Nothing) }

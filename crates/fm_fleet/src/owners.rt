@@ -1,4 +1,4 @@
-//! One owner more of what was answered.
+//! One more owner of an answer.
 ghost use Rattle.std.specs.Prelude.{◌≡◌};
 ghost use Rattle.fm_coord.specs.Answers.{said};
 
@@ -8,9 +8,9 @@ use fm_coord::shared::Shared;
 use std::sync::Wait;
 use std::thread;
 
-// The same value for one more owner. It waits while no more owners can be counted, of which there may be nearly 2^63: an
-// answer that was given can be refused no more.
-fn another<T: Drop, R: Wait>(rt: &R, value: &Shared<T>) -> Shared<T>
+// The same value for one more owner. It waits while no more owners can be counted, of which there may be nearly 2^63:
+// at this point the call can no longer be refused.
+pub(crate) fn another<T: Drop, R: Wait>(rt: &R, value: &Shared<T>) -> Shared<T>
     ensures { result ≡ value.now }
 {
     for _ in rt.forever() {
@@ -22,7 +22,7 @@ fn another<T: Drop, R: Wait>(rt: &R, value: &Shared<T>) -> Shared<T>
     unreachable!()
 }
 
-/// The answer as a list keeps it, with one owner more of what it holds. It waits as `another` does.
+/// The answer as a list keeps it, with one more owner of what it holds. It waits as `another` does.
 pub fn listed<R: Wait>(rt: &R, answer: &Answer) -> Reply
     ensures { result ≡ said answer.now }
 {

@@ -1,4 +1,4 @@
-//! Rounds in threads: what is seen is planned for with the node unlocked, and the plan is committed.
+//! Rounds in threads: a view is planned for while the node is unlocked, and the plan is committed.
 ghost use Rattle.std.specs.Prelude.{◌≡◌, IfOk, IfErr};
 ghost use Rattle.fm_net.specs.Network.{net_of};
 ghost use Rattle.fm_round.specs.Schedules.{IsPlanOf};
@@ -9,6 +9,7 @@ use crate::seat::{NodeName, Seat};
 use fm_coord::shared::Shared;
 use fm_coord::view::View;
 use fm_plan::least::least_plan;
+use fm_planner::planned::plan_of;
 use fm_policy::keeper::NetKeeper;
 use fm_records::refusal::Refusal;
 use fm_round::parts::{Admitted, Plan};
@@ -20,7 +21,7 @@ pub trait Gate {
     fn hold(&mut self);
 }
 
-/// A gate that holds nothing up.
+/// A gate that does not wait.
 #[derive(Drop)]
 pub struct NoGate;
 
@@ -28,8 +29,9 @@ impl Gate for NoGate {
     fn hold(&mut self) {}
 }
 
-/// A view, the gate, a plan of a least flow of the network that was seen, and the commit of that plan, whose answer this is.
-/// OutOfMemory, HistoryFull; then the seat is as it was, or has the view alone.
+/// A look at what is known, the gate, and the commit of the plan of a least flow of the network of what was seen. The
+/// result is the commit's. The network is built only if a plan without it fails its check. OutOfMemory, HistoryFull; then
+/// the seat is unchanged, or has only the view.
 pub fn run_round<N: NetKeeper, L: NodeName, G: Gate, R: Wait>(
     rt: &R,
     alloc: Global,
@@ -40,23 +42,19 @@ pub fn run_round<N: NetKeeper, L: NodeName, G: Gate, R: Wait>(
     ensures ok { IfOk result (λ admitted. IsRound L.base seat.old seat.new admitted) }
     ensures err { IfErr result (λ refusal. IsRefusedRound L.base seat.old seat.new refusal) }
 {
-    let view = match node.view(rt, seat) {
-        Ok(view) => view,
+    let sight = match node.see(rt, seat) {
+        Ok(sight) => sight,
         Err(refusal) => return Err(refusal),
     };
     gate.hold();
-    let plan = match plan_for(alloc, &view) {
-        Ok(plan) => plan,
-        Err(refusal) => return Err(refusal),
+    let Ok(plan) = plan_of(alloc, sight.knowledge.get()) else {
+        return Err(Refusal::OutOfMemory);
     };
-    // With no view left, the commit edits the network in place.
-    drop(view);
     node.commit(rt, seat, plan)
 }
 
-/// The plan of a least flow of the network that was seen. The caller owes that the network is that of the knowledge, as in
-/// each view that is answered.
-/// OutOfMemory alone.
+/// The plan of a least flow of the network that was seen. The caller must ensure that the network is that of the
+/// knowledge, as in each view. Refused only if memory runs out.
 pub fn plan_for(alloc: Global, view: &View) -> Result<Plan, Refusal>
     requires { view.now.network ≡ net_of view.now.knowledge }
     ensures ok { IfOk result (λ plan. IsPlanOf view.now.knowledge plan) }

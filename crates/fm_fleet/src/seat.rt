@@ -1,4 +1,4 @@
-//! Seats: who may call a node, and what was answered.
+//! Seats: the right to call a node, and the answers.
 ghost use Rattle.std.specs.Prelude.{◌≡◌, ℕ};
 
 use fm_coord::entry::Entry;
@@ -15,8 +15,8 @@ impl NodeName for Brand {
     ghost base = { 0 };
 }
 
-/// The right to call a node. Contracts see its number, and the entries of its accepted calls in order, each with the answer
-/// that it got; so many of the node's calls are the seat's.
+/// The right to call a node. Contracts see its number, and the entries of its accepted calls in order, each with the
+/// answer that it got; so many of the node's calls are the seat's.
 #[derive(Drop)]
 pub struct Seat<L: NodeName> {
     pub(crate) number: u32,

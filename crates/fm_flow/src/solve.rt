@@ -20,13 +20,13 @@ use fm_numbered::unscheduled::law_unscheduled;
 use fm_records::refusal::Refusal;
 use std::alloc::Global;
 
-/// A least flow of the network, and potentials that certify it. The caller must pass a network that the policy can build.
-/// Refused if memory runs out, and for nothing else.
+/// A least flow of the network, and potentials that certify it. The caller must pass a network that the policy can
+/// build. Refused if memory runs out, and for nothing else.
 ///
-/// A fast start places the tasks; then cycles of negative cost are cancelled until none is left. O(arcs log arcs), and what
-/// the start takes: some searches between requests for each class of tasks, or the pivots of a network simplex where tasks
-/// prefer machines. If the start comes to no least flow, each search for cycles takes O(nodes * arcs) at worst. Memory
-/// O(nodes + arcs).
+/// A heuristic places the tasks; then cycles of negative cost are cancelled until none is left (Klein, 1967). O(arcs
+/// log arcs), and the cost of the heuristic: some searches between requests for each class of tasks, or the pivots of
+/// a network simplex if tasks prefer machines. If its flow is not least, each search for cycles takes O(nodes * arcs)
+/// at worst. Memory O(nodes + arcs).
 pub fn solve(alloc: Global, network: &Network) -> Result<(Flow, Potentials), Refusal>
     requires built { IsBuilt network.now }
     ensures certified { IfOk result (λ found. IsCertified network.now found.0 found.1) }
@@ -38,12 +38,13 @@ pub fn solve(alloc: Global, network: &Network) -> Result<(Flow, Potentials), Ref
     Ok(found)
 }
 
-/// As `solve`, and starts with the task paths of the flow, of this network or an earlier one, that are still whole and
-/// fit; if that comes to no least flow, it starts anew. The caller must pass a network that the policy can build. Refused as
-/// `solve` is.
+/// As `solve`, and starts with the task paths of the flow, of this network or an earlier one, that are still complete
+/// and fit; if that gives no least flow, it starts from nothing. The caller must pass a network that the policy can
+/// build. Refused as `solve` is.
 ///
-/// O(arcs log arcs), and what `solve` takes if it starts anew. It took longer than `solve` wherever both were measured, since
-/// most of either call is numbering the network and naming the flow. The flow that is kept for it takes some 80 bytes an arc.
+/// O(arcs log arcs), and what `solve` takes if it starts from nothing. It took longer than `solve` wherever both were
+/// measured, since most of either call is numbering the network and naming the flow. The flow that is kept for it takes
+/// some 80 bytes an arc.
 pub fn solve_from(
     alloc: Global,
     network: &Network,
@@ -65,8 +66,8 @@ pub fn solve_from(
     Ok(found)
 }
 
-// The least flow that cancelling makes of the start's, and potentials that certify it. The search for cycles starts from the
-// start's numbers, so that it only confirms them if they are potentials.
+// The least flow that cancelling makes of the start's, and potentials that certify it. The search for cycles starts
+// from the start's numbers, so that it only confirms them if they are potentials.
 fn anew(
     alloc: Global,
     network: &Network,

@@ -1,4 +1,4 @@
--- Worlds of coordinators that are made anew, one after another.
+-- Worlds of coordinators that are renewed, one after another.
 use Rattle.std.proofs.Common.{◌≡◌, ◌<◌, ◌≤◌, ◌==◌, ◌+◌, ℕ, zero, suc, Bool, true, false, cond, List, [], ◌∷◌, Option, Some, None, length, map, take, get_or, refl, sym, ap, ◌∙◌, subst, inl, inr, arith, add-one}
 use Rattle.std.proofs.lemmas.Bool.{ne_eqb, eq-eqb}
 use Rattle.std.proofs.lemmas.List.{length-map, take_all}
@@ -60,7 +60,7 @@ same_numbers [] (r ∷ rs) h = absurd h
 same_numbers (c ∷ cs) [] h = absurd h
 same_numbers (c ∷ cs) (r ∷ rs) h = λ i. h.0.number i ∷ same_numbers cs rs h.1 i
 
--- the first i replicas made anew, the others with nothing that happened to them
+-- the first i replicas renewed, the others with nothing that happened to them
 abbrev pub halfway : ℕ → List Replica → List Replica
 halfway zero rs = (opened (map number rs)).replicas
 halfway (suc i) [] = []
@@ -69,8 +69,8 @@ halfway (suc i) (r ∷ rs) = renewed_replica r ∷ halfway i rs
 abbrev pub halfway_world : ℕ → WorldOfSets → WorldOfSets
 halfway_world i w = record { replicas = halfway i w.replicas; packets = [] }
 
--- the coordinator s is next after the first i: the replica for which it stands is still the one of its number to which nothing
--- happened, and what that one takes in makes it anew
+-- the coordinator s is next after the first i: the replica for which it stands is still the one of its number to which
+-- nothing happened, and what that one takes in makes it anew
 pub record IsNext (s : State) (i : ℕ) (rs : List Replica) : Type 0 where
   pub replica : Replica
   pub stands : StandsFor s replica
@@ -122,7 +122,7 @@ all_renewed zero (r ∷ rs) le = absurd (omega arith)
 all_renewed (suc n) [] le = refl
 all_renewed (suc n) (r ∷ rs) le = ap (λ xs. renewed_replica r ∷ xs) (all_renewed n rs (omega arith))
 
--- a world of coordinators that is made anew
+-- a world of coordinators that is renewed
 module _ {N : Type 0} (cs : List (WithKeeper N)) (old : Kept) (those : map state_of cs ≡ old.coordinators) where
   -- for whatever world of sets they stand
   all_stand : (w : WorldOfSets) → WorldStandsFor old w → AllStand (map state_of cs) w.replicas
@@ -174,7 +174,7 @@ module _ {N : Type 0} (cs : List (WithKeeper N)) (old : Kept) (those : map state
           subst (λ (rs : List Replica). WorldStandsFor after (record { replicas = rs; packets = [] })) (merged at its)
           (take (halfway_world i w) (whole_of its_turn.replica) before (whole its_turn.replica its_turn.stands))
 
-    -- which is refused for memory alone: nothing had happened to it
+    -- which is refused only if memory runs out: nothing had happened to it
     pub for_memory : ((w : WorldOfSets) → WorldStandsFor old w → WorldStandsFor anew (halfway_world i w)) → (refusal : Refusal)
         → ((v : WorldOfSets) → WorldStandsFor anew v → refusal ≡ refusal_of v (record { at = at; by = 0; act = act.Take packet }))
         → refusal ≡ OutOfMemory

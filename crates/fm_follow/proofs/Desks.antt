@@ -79,7 +79,7 @@ too_early request.Renew never = refl
 spelled : StandBehind (λ p. ops p.value)
 spelled = λ p can. sym (know_ops p.value can.table)
 
--- coordinators are made anew, or there was no memory for it
+-- coordinators are renewed, or there was no memory for it
 pub settled : (most : ℕ) (r : Result (Vec ℕ) Refusal) (old new : Desk) (k : Following) → Goes r old new Renews → OnErr r (new ≡ old) → DeskAt old k → is_due most k.world → Settled most old new k
 settled most (Ok text) old new k goes same here due = let went = goes (λ p. ops p.value) spelled k here in inr (due, subst (λ (j : Following). DeskAt new j) went.1.1 went.2)
 settled most (Err e) old new k goes same here due = inl same

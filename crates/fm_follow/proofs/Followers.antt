@@ -36,7 +36,7 @@ module _ (old new : Follower) (line : List ℕ) (most : new.renew_after ≡ old.
     by_desk (Err refusal) acc rej same =
         (record { most = most; so = λ behind stand k here. reject refusal rej same behind k (subst (λ o. IsIn o k) was here) }, whole same)
 
-  -- nobody is listed yet
+  -- no coordinator is listed yet
   module _ (was : old.desk ≡ None) where
     begin : (text : Vec ℕ) → Begins old.renew_after (Ok text) new line → (behind : Packet → List Op) → (k : Option Following) → IsIn None k → Goes old.renew_after behind new.desk line (accepted text.items) k
     begin text acc behind None here = let went = acc behind in (Some went.0, inl went.1, went.2)

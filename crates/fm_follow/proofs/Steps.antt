@@ -42,7 +42,7 @@ pub numbered_so : (ss : List State) (n : ℕ) (s : State) → state_with ss n �
 numbered_so [] n s e = absurd (let no : ⊥ = cc in no)
 numbered_so (x ∷ ss) n s e = numbered_by (x.number == n) x s n (state_with ss n) refl e (numbered_so ss n s)
 
--- a question about nobody
+-- a question about no coordinator
 unanswered : (t : Topic) (at : ℕ) (w : WorldOfSets) → with_number w.replicas at ≡ None → IsUnanswered (query_at t at) w NoCoordinator
 unanswered topic.Graph at w none = inr (none, refl)
 unanswered topic.Solve at w none = inr (none, refl)

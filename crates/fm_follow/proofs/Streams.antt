@@ -10,7 +10,7 @@ use Rattle.fm_follow.specs.Following.{Following, StandBehind, Answers}
 use Rattle.fm_follow.specs.Desks.{IsIn, AnswersSo}
 
 module _ (most : ℕ) (behind : Packet → List Op) (stand : StandBehind behind) where
-  -- coordinators that are where the stream is, and are made anew after as many entries
+  -- coordinators that are where the stream is, and are renewed after as many entries
   record Goes (d : Follower) (k : Option Following) : Type 0 where
     renews : d.renew_after ≡ most
     is : IsIn d.desk k

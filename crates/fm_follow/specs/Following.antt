@@ -1,4 +1,4 @@
--- What the lines of a stream come to, by the sets of operations that coordinators took in (this project's profile).
+-- The effect of the lines of a stream, by the sets of operations that coordinators took in (this project's profile).
 use Rattle.std.specs.Prelude.{◌≡◌, ◌⊎◌, ℕ, ◌++◌, ◌∷◌, List, [], cond, length, nat_le, nat_lt, replicate, get_or, slice_set, Option, Some, None, unwrap_or, slice_get, IsTrue}
 use Rattle.std.specs.List.{list_any}
 use Rattle.fm_records.specs.declared.ops.Op.{Op}
@@ -43,8 +43,8 @@ none_named = record { names = []; numbers = [] }
 abbrev pub named_also : Named → List ℕ → ℕ → Named
 named_also p name number = record { names = p.names ++ name ∷ []; numbers = p.numbers ++ number ∷ [] }
 
--- where a stream is: the packets that have names; for each number of a coordinator how many of its deltas went out as news; and
--- the world
+-- where a stream is: the packets that have names; for each number of a coordinator how many of its deltas went out as
+-- news; and the world
 pub record Following : Type 0 where
   pub named : Named
   pub marks : List ℕ
@@ -63,7 +63,7 @@ abbrev pub names_in : Option Following → List (List ℕ)
 names_in None = []
 names_in (Some k) = k.named.names
 
--- what may stand behind packets from elsewhere: for each, operations that come to what it says
+-- what may stand behind packets from elsewhere: for each, operations whose table is what it says
 abbrev pub StandBehind : (Packet → List Op) → Type 0
 StandBehind behind = (p : Packet) → CanBe p.value → know (behind p) ≡ p.value
 
@@ -75,7 +75,7 @@ arrived behind p = record { sender = p.sender; number = p.number; set = behind p
 abbrev pub but_behind : Packet → List Op → (Packet → List Op) → Packet → List Op
 but_behind p S behind q = cond (same_packet q p) S (behind q)
 
--- the number of the packet whose name has the place; if none has, a number behind those of all packets
+-- the number of the packet whose name has the place; if none has, a number after those of all packets
 abbrev pub number_at : Following → ℕ → ℕ
 number_at k place = unwrap_or (slice_get k.named.numbers place) (length k.world.packets)
 
@@ -87,7 +87,7 @@ asked_for k (act.Deliver place) = world.Deliver (number_at k place)
 asked_for k (act.Trim n) = world.Trim n
 asked_for k act.Round = world.View
 
--- what a step as in a script makes of the world, and the text that it comes to
+-- what a step as in a script makes of the world, and its text
 abbrev pub Acts : Following → ℕ → Act → List ℕ → WorldOfSets → Type 0
 Acts k at (act.Cut range) text v = acting.Cuts k.world at range text v
 Acts k at act.Round text v = Rounds k.world at text v
@@ -98,7 +98,7 @@ abbrev pub named_by : Following → Option (List ℕ) → Named
 named_by k None = k.named
 named_by k (Some name) = named_also k.named name (length k.world.packets)
 
--- what is news of a replica: its deltas from the mark on, or all that it took in if some of these were let go
+-- what is news of a replica: its deltas from the mark on, or all that it took in if some of these were dropped
 abbrev pub news_since : ℕ → Replica → Range
 news_since mark r = cond (nat_lt mark r.floor) Full (Interval mark (length r.buffer))
 
@@ -128,7 +128,7 @@ query_at topic.Plan n = query.Plan n
 query_at topic.Winners n = query.Winners n
 query_at topic.Stops n = query.Stops n
 
--- what a request makes of a stream that has its coordinators, and the text that it comes to
+-- what a request makes of a stream that has its coordinators, and its text
 abbrev pub DoesAt : (Packet → List Op) → Following → Asked → List ℕ → Following → Type 0
 DoesAt behind k (Opens listed) text j = ⊥
 DoesAt behind k (Does step) text j = (v : WorldOfSets) × Acts k step.at step.act text v × (j ≡ at_world k v)
@@ -172,7 +172,7 @@ RefusesIn (Some k) asked e = RefusesAt k asked e
 abbrev pub is_due : ℕ → WorldOfSets → Type 0
 is_due most w = IsTrue (list_any (λ r. nat_le most (length r.steps)) w.replicas)
 
--- between two lines: coordinators may be made anew once a history has as many entries as that
+-- between two lines: coordinators may be renewed once a history has as many entries as that
 abbrev pub Settles : ℕ → Option Following → Option Following → Type 0
 Settles most made new = (new ≡ made) ⊎ ((k : Following) × (made ≡ Some k) × is_due most k.world × (new ≡ Some (fresh (renewed k.world))))
 

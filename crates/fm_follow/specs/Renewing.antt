@@ -1,4 +1,5 @@
--- Coordinators made anew from all that they know, so that histories, deltas and packets are let go (this project's profile).
+-- Coordinators renewed from all that they know, so that histories, deltas and packets are dropped (this project's
+-- profile).
 use Rattle.std.specs.Prelude.{[], map}
 use Rattle.fm_coord.specs.Events.{Sent, Replica, opening, happens}
 use Rattle.fm_coord.specs.Events as event

@@ -1,4 +1,4 @@
-//! Steps on a world of coordinators, and what is told of them.
+//! Steps on a world of coordinators, and their texts.
 
 ghost use Rattle.std.specs.Prelude.{◌≡◌, None, IfOk, IsOkUnless, OnErr, OnOk};
 ghost use Rattle.fm_round.specs.Schedules.{IsPlanOf};
@@ -30,8 +30,8 @@ pub fn take_step(world: &mut World<Keeper>, at: u8, act: Act) -> Result<(), Refu
     }
 }
 
-/// The line of the packet that the coordinator would cut of the range now. Refused as the cut would be, and then also for want of
-/// memory for the line.
+/// The line of the packet that the coordinator would cut of the range now. Refused as the cut would be, and also if
+/// there is no memory for the line.
 pub(crate) fn cut_line(
     alloc: Global,
     world: &World<Keeper>,
@@ -51,10 +51,9 @@ pub(crate) fn cut_line(
     Ok(packet_line(alloc, packet.get())?.into_bytes())
 }
 
-/// A round at the coordinator: a plan of a least flow of what it knows is committed. What admission answers to each entry of the
-/// plan is told. The history gets one entry, and the view none.
-/// NoCoordinator, HistoryFull, OutOfMemory; then nothing has changed. The cost is that of building the network, if the coordinator
-/// has none that is fresh, of solving it, and of admitting the plan twice.
+/// A round at the coordinator: the plan of a least flow of its network is committed. The text has admission's answer
+/// to each entry of the plan. The history gets one entry, since there is no view. NoCoordinator, HistoryFull,
+/// OutOfMemory; then nothing has changed. The cost is that of `least_plan_of`, and of admitting the plan twice.
 pub(crate) fn round(alloc: Global, world: &mut World<Keeper>, at: u8) -> Result<Vec<u8>, Refusal>
     ensures ok { (w : WorldOfSets) → WorldStandsFor world.old w
         → IfOk result (λ text. (v : WorldOfSets) × Rounds w at text.items v × WorldStandsFor world.new v) }

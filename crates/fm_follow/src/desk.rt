@@ -32,8 +32,8 @@ use fm_world::step::Act as WorldAct;
 use fm_world::world::World;
 use std::alloc::Global;
 
-/// Coordinators, the packets that they cut under a name, and for each number of a coordinator how many of its deltas went out
-/// as news.
+/// Coordinators, the packets that they cut under a name, and for each number of a coordinator how many of its deltas
+/// were sent as news.
 #[derive(Drop)]
 pub(crate) struct Desk {
     pub(crate) alloc: Global,
@@ -43,7 +43,7 @@ pub(crate) struct Desk {
 }
 
 impl Desk {
-    /// The coordinators of the world, of which nothing went out.
+    /// The coordinators of the world, of which nothing was sent.
     pub(crate) fn new(alloc: Global, world: World<Keeper>) -> Desk
         ensures { (w : WorldOfSets) → WorldStandsFor world w → DeskAt result (fresh w) }
     {
@@ -55,8 +55,8 @@ impl Desk {
         }
     }
 
-    /// Does what the line asks for, and answers its text. Then, if a history has as many entries as that, the coordinators are
-    /// made anew, if there is memory for it. A line that is refused changes nothing.
+    /// Does what the line asks for, and returns its text. Then, if a history has as many entries as that, the
+    /// coordinators are renewed, if there is memory for it. A line that is refused changes nothing.
     pub(crate) fn answer(&mut self, most: usize, line: &[u8]) -> Result<Vec<u8>, Refusal>
         ensures ok { Accepts most result self.old self.new line.now }
         ensures err { Rejects result self.old line.now }
@@ -108,7 +108,7 @@ impl Desk {
         }
     }
 
-    // A step of the world, of which there is nothing to tell.
+    // A step of the world, without a text.
     fn step(&mut self, at: u8, act: WorldAct) -> Result<Vec<u8>, Refusal>
         ensures ok { (k : Following) → DeskAt self.old k → IfOk result (λ text. (text.items ≡ [])
             × ((v : WorldOfSets) × Takes k.world (step_at at act) v × DeskAt self.new (at_world k v))) }
@@ -120,7 +120,7 @@ impl Desk {
         Ok(Vec::new(self.alloc))
     }
 
-    // The number of the packet whose name has the place, or one behind those of all packets.
+    // The number of the packet whose name has the place, or one after those of all packets.
     fn number_at(&self, place: usize) -> usize
         ensures { (k : Following) → DeskAt self.now k → result ≡ number_at k place }
     {
@@ -166,7 +166,7 @@ impl Desk {
         Ok(text)
     }
 
-    // A cut of the deltas that did not go out as news, or of all that is known if some of these were let go.
+    // A cut of the deltas that were not sent as news, or of all that is known if some of these were trimmed.
     fn news(&mut self, at: u8) -> Result<Vec<u8>, Refusal>
         ensures ok { Goes result self.old self.new (asked.News at) }
         ensures err { Stops result self.old (asked.News at) }
@@ -183,7 +183,7 @@ impl Desk {
         Ok(text)
     }
 
-    // Takes in the packet that the digits spell.
+    // Merges the packet that the digits encode.
     fn take_in(&mut self, at: u8, digits: &str) -> Result<Vec<u8>, Refusal>
         ensures ok { Goes result self.old self.new (asked.Takes at digits.now) }
         ensures err { Stops result self.old (asked.Takes at digits.now) }
@@ -219,7 +219,7 @@ impl Desk {
         Ok(text)
     }
 
-    // Makes the coordinators anew.
+    // Renews the coordinators.
     fn renew(&mut self) -> Result<Vec<u8>, Refusal>
         ensures ok { Goes result self.old self.new asked.Renews }
         ensures err { Stops result self.old asked.Renews }
@@ -230,7 +230,7 @@ impl Desk {
         Ok(Vec::new(self.alloc))
     }
 
-    // Makes the coordinators anew if a history has as many entries as that, and if there is memory for it.
+    // Renews the coordinators if a history has as many entries as that, and if there is memory for it.
     fn settle(&mut self, most: usize)
         ensures { (k : Following) → DeskAt self.old k
             → (self.new ≡ self.old) ⊎ (is_due most k.world × DeskAt self.new (fresh (renewed k.world))) }
@@ -252,7 +252,7 @@ fn is_due(coordinators: &[Coordinator<Keeper>], most: usize) -> bool
     }
 }
 
-// What is news: the deltas from the mark to the end, or all that is known if some of these were let go.
+// What is news: the deltas from the mark to the end, or all that is known if some of these were trimmed.
 fn news_between(mark: u64, floor: u64, end: u64) -> Range
     ensures { result ≡ cond (nat_lt mark floor) range.Full (range.Interval mark end) }
 {

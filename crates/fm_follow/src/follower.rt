@@ -1,4 +1,4 @@
-//! Whoever answers the lines of a stream: nobody knows anything before the line that lists the coordinators.
+//! The responder to the lines of a stream: it has no coordinators before the line that lists the coordinators.
 
 ghost use Rattle.std.specs.Prelude.{◌≡◌, None, IfErr, OnErr};
 ghost use Rattle.fm_lines.specs.Replies.{refused};
@@ -23,8 +23,8 @@ pub struct Follower {
 }
 
 impl Follower {
-    /// No coordinators yet. Between two lines all are made anew from what they know once a history has as many entries as
-    /// `renew_after`, if there is memory for it. It takes no memory.
+    /// No coordinators yet. Between two lines all are renewed once a history has as many entries as
+    /// `renew_after`, if there is memory for it. It allocates nothing.
     pub fn new(alloc: Global, renew_after: usize) -> Follower
         ensures most { result.renew_after ≡ renew_after }
         ensures start { IsIn result.desk None }

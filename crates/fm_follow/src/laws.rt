@@ -12,22 +12,23 @@ ghost use Rattle.fm_ask.specs.Texts.{graph_of, winners_of};
 ghost use Rattle.fm_follow.specs.Following.{StandBehind, but_behind};
 ghost use Rattle.fm_follow.specs.Renewing.{renewed_replica};
 
-/// Coordinators that took in the same operations, told or in packets, in whatever order and however often, in whatever
-/// processes they run, have one text for their networks, and one for their winners.
+/// Coordinators that received the same operations, told or in packets, in any order and number of times, have one
+/// text for their networks and one for their winners, whatever processes they run in.
 pub fn law_same_answers()
     ensures graphs { (a b : Replica) → HaveSameMembers a.taken b.taken → graph_of a ≡ graph_of b }
     ensures winners { (a b : Replica) → HaveSameMembers a.taken b.taken → winners_of a ≡ winners_of b }
 {}
 
-/// What may stand behind packets: what each spells out; and, of a packet that a coordinator cut, all the operations that this one
-/// took in for it, also those that others beat. So the operations of one process are followed into another.
+/// Which operations may stand behind packets: those that each is written out as; and, for a packet that a coordinator
+/// cut, all that the coordinator had received for it, also those that lost against others. So operations are traced
+/// from one process to another.
 pub fn law_behind()
     ensures spelled { StandBehind (λ p. ops p.value) }
     ensures sent { (behind : Packet → List Op) (p : Sent) → StandBehind behind
         → StandBehind (but_behind (seen p) p.set behind) }
 {}
 
-/// A replica that is made anew took in the same operations, so all that it tells of what it knows stays the same.
+/// A renewed replica has received the same operations, so all that it tells of what it knows stays the same.
 pub fn law_renewed()
     ensures taken { (r : Replica) → HaveSameMembers (renewed_replica r).taken r.taken }
     ensures known { (r : Replica) → know (renewed_replica r).taken ≡ know r.taken }

@@ -25,7 +25,7 @@ impl Model for NamedPackets {
 }
 
 impl NamedPackets {
-    /// No packets. It takes no memory.
+    /// No packets. It allocates nothing.
     pub(crate) fn new(alloc: Global) -> NamedPackets
         ensures { result ≡ none_named }
     {
@@ -49,8 +49,8 @@ impl NamedPackets {
         self.numbers.get(place).copied()
     }
 
-    /// Adds a packet behind the others, and answers true; if a packet has the name, answers false, and nothing has changed.
-    /// After a refusal of memory nothing has changed.
+    /// Adds a packet after the others, and answers true; if a packet has the name, answers false, and nothing has
+    /// changed. If memory runs out, nothing has changed.
     pub(crate) fn add(&mut self, name: &str, number: usize) -> Result<bool, OutOfMemory>
         ensures added { IfOk result (λ added. IsTrue added → self.new ≡ named_also self.old name.now number) }
         ensures there { IfOk result (λ added. IsTrue (not added)
@@ -65,7 +65,7 @@ impl NamedPackets {
         Ok(true)
     }
 
-    /// Takes the last packet away, if there is one. It takes no memory.
+    /// Takes the last packet away, if there is one. It allocates nothing.
     pub(crate) fn remove_last(&mut self)
         ensures { (before : Named) (name : List ℕ) (number : ℕ) → self.old ≡ named_also before name number
             → self.new ≡ before }

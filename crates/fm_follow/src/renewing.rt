@@ -1,4 +1,4 @@
-//! Coordinators made anew from all that they know.
+//! Renewing coordinators: new ones with the same knowledge.
 
 ghost use Rattle.std.specs.Prelude.{◌≡◌, IfOk, IsOkUnless};
 ghost use Rattle.fm_coord.specs.Events.{Replica};
@@ -17,9 +17,10 @@ use fm_records::refusal::Refusal;
 use fm_world::world::World;
 use std::alloc::Global;
 
-/// A world of the same coordinators, made anew from what each knows: each has taken that in as one packet, its own, and nothing else
-/// has happened to it. Histories, deltas and packets are let go, and numbers of deltas and packets start anew. Only memory is
-/// refused. It costs a copy of what each knows, twice. The world that is handed in stays as it is.
+/// A world of new coordinators with the same numbers and knowledge: each has received that as one packet, its own, and
+/// nothing else has happened to it. Histories, deltas and packets are dropped, and numbers of deltas and packets start
+/// from the beginning. Refused only if memory runs out. It costs a copy of what each knows, twice. The world that is
+/// passed stays as it is.
 pub fn renewed(alloc: Global, world: &World<Keeper>) -> Result<World<Keeper>, Refusal>
     ensures ok { (w : WorldOfSets) → WorldStandsFor world.now w
         → IfOk result (λ anew. WorldStandsFor anew (renewed w)) }

@@ -13,11 +13,11 @@ use fm_streams::sink::Sink;
 use fm_streams::source::Source;
 use std::alloc::Global;
 
-/// Answers the lines of a stream, each before the next is read, from the line that lists the coordinators to the stream's end.
-/// Whatever operations stand behind the packets that are taken in, what goes out is the answers to the lines, in order, each by
-/// the world to which the accepted lines before it lead. A line that is refused changes nothing. Between two lines the coordinators
-/// are made anew from what they know once a history has as many entries as `renew_after`, if there is memory for it.
-/// BadScript(0) if the source fails, WriteFault if the sink does; then no further line is read.
+/// Answers the lines of a stream, each before the next is read, from the line that lists the coordinators to the
+/// stream's end. Whatever operations stand behind the packets that are merged, the answers to the lines are written
+/// in order, each for the world to which the accepted lines before it lead. A refused line changes nothing. Between
+/// two lines the coordinators are renewed once a history has as many entries as `renew_after`, if there is memory for
+/// it. BadScript(0) if the source fails, WriteFault if the sink does; then no further line is read.
 pub fn follow_stream<S: Source, W: Sink>(
     alloc: Global,
     renew_after: usize,

@@ -151,7 +151,7 @@ module _ (n : ℕ) (entries : List Entry) (steps new : List Step) (packets gave 
             (follows_more packets before (m ∷ []) h.follows (subst (λ qs. IsGiven qs e.call) h.given_too t.2, tt));
       }
 
--- where the next entry cannot be taken
+-- if the next entry cannot be taken
 pub stops_here : (packets : List Packet) (entries : List Entry) (k : ℕ) (e : Entry) → k < length entries → e ≡ get_or entries k e → (IsGiven packets e.call → ⊥) → CannotGo packets (drop k entries)
 stops_here packets [] k e lt is h = absurd (omega arith)
 stops_here packets (x ∷ es) zero e lt is h = λ g. h (subst (λ (y : Entry). IsGiven packets y.call) (sym is) g)
@@ -236,7 +236,7 @@ continues ms n (s ∷ ss) (k ∷ ns) h only = by (s.number == n) (eqb-true s.num
 pub swept_listing : (ss : List State) (places : List ℕ) (steps : List Step) (packets : List Packet) → (h : IsSwept ss places steps packets) → IsListing ss h.made
 swept_listing ss places steps packets h = record { prefixes = λ n. continues h.made n ss places h.taken (h.only n); follows = h.follows }
 
--- where no coordinator can go on, nothing can be added
+-- if no coordinator can go on, nothing can be added
 stops : (packets : List Packet) (ms : List Made) (n : ℕ) (ss : List State) (ns : List ℕ) → AreTaken ss ns ms → AreStopped packets ss ns → ((IsMember n (map number_in ss) → ⊥) → entries_at n ms ≡ []) → StopsAfter packets (history_at ss n) (entries_at n ms)
 stops packets ms n [] [] h f only = record { rest = []; is = sym (only (λ at. at)) ∙ sym (append-nil (entries_at n ms)); stop = tt }
 stops packets ms n [] (k ∷ ns) h f only = absurd h

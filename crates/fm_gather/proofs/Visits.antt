@@ -107,7 +107,7 @@ halts ss places steps packets left h stopped is =
     }
 
 module _ (ms : List Made) (n : ℕ) (s : State) (ss : List State) where
-  -- it, or one behind it, has the number
+  -- it, or one after it, has the number
   reached_by : (b : Bool) → (b ≡ true → s.number ≡ n) → length s.history ≤ length (entries_at s.number ms) → length (history_at ss n) ≤ length (entries_at n ms) → length (history_in (cond b (Some s) (state_with ss n))) ≤ length (entries_at n ms)
   reached_by true is within rest = subst (λ k. length s.history ≤ length (entries_at k ms)) (is refl) within
   reached_by false is within rest = rest
@@ -116,7 +116,7 @@ module _ (ms : List Made) (n : ℕ) (s : State) (ss : List State) where
   none_first true is none = absurd (let not_so : ⊥ = cc in not_so)
   none_first false is none = (ltb-false (length (entries_at s.number ms)) (length s.history) is, none)
 
--- where nobody has more, each is listed to its end
+-- if no coordinator has more, each is listed to its end
 reached : (ms : List Made) (n : ℕ) (ss : List State) → left_of ss ms ≡ [] → length (history_at ss n) ≤ length (entries_at n ms)
 reached ms n [] h = omega arith
 reached ms n (s ∷ ss) h =
@@ -155,7 +155,7 @@ none_left ms (s ∷ ss) all =
     let test : nat_lt (length (entries_at s.number ms)) (length s.history) ≡ false = grind (arith, nat_tests) in
     not_more (has_more ms s) s (filter (has_more ms) ss) test (none_left ms ss (λ x at. all x (inr at)))
 
--- where a listing is stuck and another is whole, it leaves nothing
+-- if a listing is stuck and another is whole, it leaves nothing
 pub none_whole : (ss : List State) (ms other : List Made) → AreDistinct (map number_in ss) → IsStuck ss ms → IsWhole ss other → left_of ss ms ≡ []
 none_whole ss ms other distinct stuck whole =
     let listing : IsListing ss other = record { prefixes = λ n. record { rest = []; is = sym (whole.entries n) ∙ sym (append-nil (entries_at n other)) }; follows = whole.follows } in

@@ -17,7 +17,7 @@ use Rattle.fm_world.specs.declared.step.Step.{Step}
 use Rattle.fm_world.specs.Worlds.{WorldOfSets, opening_world, run_of}
 use Rattle.fm_world.specs.Stands.{state_with, WorldStandsFor}
 
--- an entry, with the number of the coordinator in whose history it stands
+-- an entry, with the number of the coordinator in whose history it is
 pub record Made : Type 0 where
   pub at : ℕ
   pub entry : Entry
@@ -31,7 +31,7 @@ abbrev pub history_in : Option State → List Entry
 history_in None = []
 history_in (Some s) = s.history
 
--- the history of the coordinator with the number, empty where there is none
+-- the history of the coordinator with the number, empty if there is none
 abbrev pub history_at : List State → ℕ → List Entry
 history_at ss n = history_in (state_with ss n)
 
@@ -70,7 +70,7 @@ pub record IsWhole (ss : List State) (ms : List Made) : Type 0 where
   pub entries : (n : ℕ) → entries_at n ms ≡ history_at ss n
   pub follows : Follows [] ms
 
--- what is asked for by a call, where these packets were cut before: a merge names the earliest equal packet
+-- what is asked for by a call, given that these packets were cut before: a merge names the earliest equal packet
 abbrev pub act_for : List Packet → Call → Act
 act_for ps (call.Tell op) = act.Tell op
 act_for ps (call.Merge p) = act.Deliver (position_or_len (λ q. same_packet q p) ps)
@@ -82,7 +82,7 @@ act_for ps (call.Commit plan) = act.Commit plan
 abbrev pub step_for : List Packet → Made → Step
 step_for ps m = record { at = m.at; by = m.entry.by; act = act_for ps m.entry.call }
 
--- the entries as steps, where these packets were cut before
+-- the entries as steps, given that these packets were cut before
 abbrev pub steps_for : List Packet → List Made → List Step
 steps_for ps [] = []
 steps_for ps (m ∷ ms) = step_for ps m ∷ steps_for (ps ++ given m.entry.reply) ms
@@ -120,14 +120,15 @@ opening_in s = (s.number, s.limit)
 abbrev pub new_world : List State → WorldOfSets
 new_world ss = opening_world (map opening_in ss)
 
--- the steps are a whole listing, and come to a world that the coordinators stand for
+-- the steps are a whole listing, and lead to a world for which the coordinators stand
 pub record IsWholeRun (ss : List State) (steps : List Step) : Type 0 where
   pub made : List Made
   pub whole : IsWhole ss made
   pub as_steps : steps ≡ steps_for [] made
   pub stands : WorldStandsFor (record { coordinators = ss; packets = packets_of made }) (run_of (new_world ss) steps)
 
--- the steps are a listing to which nothing can be added, and which leaves entries of just these coordinators, in order
+-- the steps are a listing to which nothing can be added, and which leaves entries of exactly these coordinators, in
+-- order
 pub record Halts (ss : List State) (left : List ℕ) (steps : List Step) : Type 0 where
   pub made : List Made
   pub listing : IsListing ss made

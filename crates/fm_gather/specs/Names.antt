@@ -17,7 +17,7 @@ abbrev pub AreOthers : ℕ × ℕ → List Packet → Type 0
 AreOthers name [] = Unit {0}
 AreOthers name (p ∷ ps) = (name_of p ≡ name → ⊥) × AreOthers name ps
 
--- no packet before the place has the name; where there is no place, none at all
+-- no packet before the place has the name; if there is no place, none at all
 abbrev pub StartsAt : List Packet → ℕ × ℕ → Option ℕ → Type 0
 StartsAt ps name None = AreOthers name ps
 StartsAt ps name (Some place) = (place ≤ length ps) × AreOthers name (take place ps)

@@ -1,4 +1,4 @@
--- What sweeps keep and come to.
+-- What sweeps keep and do.
 use Rattle.std.specs.Prelude.{◌≡◌, ◌≤◌, ◌<◌, ◌+◌, ◌-◌, ℕ, zero, suc, nat_lt, Bool, true, false, cond, List, [], ◌∷◌, ◌++◌, length, Option, Some, option_map, take, drop, map}
 use Rattle.std.specs.List.{position}
 use Rattle.fm_records.specs.Sets.{IsMember}
@@ -13,7 +13,7 @@ use Rattle.fm_world.specs.declared.step.Act.TheVariants as act
 use Rattle.fm_world.specs.declared.step.Step.{Step}
 use Rattle.fm_gather.specs.Listings.{Made, entries_at, given, packets_of, IsGiven, Follows, step_for, steps_for, CannotGo, number_in}
 
--- a call as an act, where it can be taken after these packets
+-- a call as an act, if it can be taken after these packets
 abbrev pub act_asked : List Packet → Call → Option Act
 act_asked ps (call.Tell op) = Some (act.Tell op)
 act_asked ps (call.Merge p) = option_map act.Deliver (position (λ q. same_packet q p) ps)

@@ -1,4 +1,4 @@
-//! One list of steps from the histories of coordinators.
+//! One list of steps from the histories of coordinators, in an order that respects Lamport's happened-before (1978).
 
 ghost use Rattle.std.specs.Prelude.{◌≡◌, [], map, IfOk, IfErr, ◌⊎◌};
 ghost use Rattle.fm_coord.specs.Numbers.{AreDistinct};
@@ -14,8 +14,8 @@ use fm_records::refusal::Refusal;
 use fm_world::step::Step;
 use std::alloc::Global;
 
-/// Why histories were not gathered. Stuck: the coordinators with entries that are left, in the order given, and the steps that
-/// were gathered. OutOfMemory: both lists are empty.
+/// Why histories were not gathered. Stuck: the coordinators with entries left, in the order given, and the steps
+/// gathered so far. OutOfMemory: both lists are empty.
 #[derive(Drop)]
 pub struct GatherFault {
     pub refusal: Refusal,
@@ -23,12 +23,12 @@ pub struct GatherFault {
     pub steps: Vec<Step>,
 }
 
-/// The histories of the coordinators as one list of steps: run on new coordinators with these numbers and limits, no step has
-/// a cause of refusal, and they come to what these are. Each entry stands once, those of a coordinator in its order, and a
-/// merge names the earliest packet that is equal. The coordinators are swept in the order given, as often as an entry can be
-/// taken. The caller owes that no two of them have one number. O(n log n) in the entries, for each coordinator at worst.
-/// Stuck, where each coordinator that has entries left goes on with a merge of a packet that none of the steps cuts: then no
-/// list has more of any history. OutOfMemory.
+/// The histories of the coordinators as one list of steps: run on new coordinators with these numbers and limits, no
+/// step has a cause of refusal, and the result is what these coordinators are. Each entry is there once, those of a
+/// coordinator in its order, and a merge names the earliest equal packet. The coordinators are visited in the order
+/// given, as long as an entry can be taken. The caller must ensure that no two of them have one number. O(n log n) in
+/// the entries, for each coordinator at worst. Stuck, if each coordinator that has entries left goes on with a merge
+/// of a packet that none of the steps cuts: then no list has more of any history. OutOfMemory.
 pub fn gather<N: NetKeeper>(
     alloc: Global,
     coordinators: &[Coordinator<N>],

@@ -18,7 +18,7 @@ pub(crate) struct Gathered {
 }
 
 impl Gathered {
-    /// No steps. It takes no memory.
+    /// No steps. It allocates nothing.
     pub(crate) fn new(alloc: Global) -> Self
         ensures steps { result.steps.items ≡ [] }
         ensures packets { result.packets ≡ [] }

@@ -7,8 +7,8 @@ ghost use Rattle.fm_world.specs.Worlds.{run_of, AreAccepted};
 ghost use Rattle.fm_world.specs.Stands.{WorldStandsFor};
 ghost use Rattle.fm_gather.specs.Listings.{Made, IsListing, IsStuck, IsMaximal, IsWhole, AreCoordinators, number_in, new_world, packets_of, steps_for, left_of};
 
-/// A listing that is stuck is maximal, and where it leaves entries no listing is whole. One that leaves none is whole; its
-/// steps, run from a new world, are refused nowhere and come to a world that the coordinators stand for.
+/// A stuck listing is maximal, and if it leaves entries, no listing is whole. A listing that leaves none is whole.
+/// Its steps, run from a new world, are not refused, and lead to a world for which the coordinators stand.
 pub fn law_listings()
     ensures maximal { (ss : List State) (ms : List Made) → IsStuck ss ms → IsMaximal ss ms }
     ensures none_whole { (ss : List State) (ms other : List Made) → AreDistinct (map number_in ss) → IsStuck ss ms → IsWhole ss other → left_of ss ms ≡ [] }

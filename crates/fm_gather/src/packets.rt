@@ -10,8 +10,8 @@ use std::alloc::Global;
 use std::collections::BTreeMap;
 use std::marker::Model;
 
-/// Packets in the order of their cuts. For each sender and number, `starts` has a place before which there is no such packet,
-/// and none where there is no such packet at all.
+/// Packets in the order of their cuts. For each sender and number, `starts` has a place before which there is no such
+/// packet, and none if there is no such packet at all.
 #[derive(Drop)]
 pub(crate) struct Packets {
     list: Vec<Shared<Packet>>,
@@ -31,7 +31,7 @@ impl Model for Packets {
 }
 
 impl Packets {
-    /// No packets. It takes no memory.
+    /// No packets. It allocates nothing.
     pub(crate) fn new(alloc: Global) -> Self
         ensures { result ≡ [] }
     {
@@ -54,7 +54,7 @@ impl Packets {
         Ok(())
     }
 
-    /// The place of the earliest packet that is equal. O(log n) where packets of one name are equal.
+    /// The place of the earliest packet that is equal. O(log n) if packets of one name are equal.
     pub(crate) fn place_of(&self, packet: &Packet) -> Option<usize>
         ensures { result ≡ position (λ q. same_packet q packet.now) self.now }
     {

@@ -19,6 +19,6 @@ one_more state all ts more cs t u v c these pushed kept same before last =
     let both = served_last ts (map state cs) t (state c) before (subst (λ z. IsServed z (state c)) (kept ∙ same) last) in
     subst (λ z. AreServed z (map state more)) (sym these) (subst (AreServed (ts ++ t ∷ [])) (sym known) both)
 
--- what holds of the value, where there is one, holds of this one
+-- what holds of the value, if there is one, holds of this one
 pub of_ok : {T E : Type 0} (P : T → Type 0) (r : Result T E) (x : T) → r ≡ Ok x → IfOk r P → P x
 of_ok P r x is h = subst (λ z. IfOk z P) is h

@@ -1,4 +1,4 @@
--- Coordinators that tell one another all that they know, once their threads have ended (this project's profile).
+-- Coordinators that exchange all that they know, once their threads have ended (this project's profile).
 use Rattle.std.specs.Prelude.{ℕ, ◌==◌, not, List, [], ◌∷◌, map, filter}
 use Rattle.fm_delta.specs.declared.packet.Packet.{Packet}
 use Rattle.fm_coord.specs.declared.entry.Range.TheVariants.{Full}

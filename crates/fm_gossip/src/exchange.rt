@@ -1,4 +1,4 @@
-//! Coordinators that tell one another all that they know.
+//! Coordinators that exchange all that they know: anti-entropy, one round with complete states.
 ghost use Rattle.std.specs.Prelude.{◌≡◌, map, IfOk, OnOk};
 ghost use Rattle.fm_gossip.specs.Exchanges.{whole_packet, cut_off, merged_in, of_others, told_by_others, exchanged};
 

@@ -18,11 +18,11 @@ use std::sync::atomic::{AtomicBool, Ordering};
 use std::thread;
 use std::thread::{Scope, Threads};
 
-/// Runs all members at the same time, each with two threads: its intake tells what it is to be told, cuts all that is then
-/// known, sends it to each of the others and merges a packet from each of them, while its solver runs so many rounds. Then each
-/// node is closed and audited. Answers the coordinators, as listed.
-/// Refused as the first thread that is refused, by member as listed, the intake before the solver: OutOfMemory, BadOp,
-/// HistoryFull, and InboxFull with more members than an inbox has room. The members are then dropped.
+/// Runs all members at the same time, each with two threads. Its intake tells its operations, cuts all that is then
+/// known, sends it to each of the others and merges a packet from each of them, while its solver runs the given
+/// number of rounds. Then each node is closed and audited. Returns the coordinators, as listed. Refused as the first
+/// thread that is refused, by member as listed, the intake before the solver: OutOfMemory, BadOp, HistoryFull, and
+/// InboxFull with more members than an inbox has room. The members are then dropped.
 pub fn run_fleet<N: NetKeeper + Send + Drop, G: Gate + Send + Drop, R: Threads + Wait + Sync>(
     rt: &R,
     alloc: Global,

@@ -1,10 +1,10 @@
-//! Why a coordinator did not do all that it was to do.
+//! Why a coordinator did not complete its task.
 ghost use Rattle.std.specs.Prelude.{◌≡◌, Ok, IfOk};
 
 use fm_records::refusal::Refusal;
 
-/// A call or a thread was refused; or nothing was, and the coordinator stopped since another was refused, or is not what it
-/// was to be.
+/// A call or a thread was refused; or nothing was, and the coordinator stopped because another was refused, or its node
+/// could not be closed, failed its audit, or came back with another number.
 #[derive(Debug, Drop)]
 pub(crate) enum Halt {
     Refused(Refusal),
@@ -26,7 +26,7 @@ impl Halt {
     }
 }
 
-/// Both, where both were done. Else why not: the first that was refused counts, and where none was the first that is
+/// Both, if both were completed. Else why not: the first that was refused counts, and if none was, the first that is
 /// unfinished.
 pub(crate) fn both<A: Drop, B: Drop>(
     first: Result<A, Halt>,

@@ -23,8 +23,8 @@ pub(crate) struct Intake {
     pub(crate) others: Vec<Door>,
 }
 
-/// Tells all, cuts what is then known, puts a copy to each of the others, and merges a packet from each of them. Where it is
-/// stopped while it waits for one, it is unfinished.
+/// Tells all, cuts what is then known, puts a copy to each of the others, and merges a packet from each of them. If it
+/// is stopped while it waits for one, it is unfinished.
 pub(crate) fn take_in<N: NetKeeper, L: NodeName, R: Wait>(
     rt: &R,
     node: &Node<N, L>,
@@ -93,7 +93,7 @@ fn merge_all<N: NetKeeper, L: NodeName, R: Wait>(
     Ok(())
 }
 
-// A packet, once there is one; none where it is stopped before.
+// A packet, once there is one; none if it is stopped before.
 fn next_packet<R: Wait>(rt: &R, own: &mut Door, stop: &AtomicBool) -> Option<Packet> {
     for _ in rt.forever() {
         if let Ok(packet) = own.take(rt) {

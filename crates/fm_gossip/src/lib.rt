@@ -1,4 +1,4 @@
-//! Fleets: coordinators that run at the same time, tell one another what they know, and run rounds meanwhile.
+//! Fleets: coordinators that run at the same time, exchange what they know, and run rounds meanwhile.
 #![tactic(auto)]
 
 pub mod exchange;

@@ -13,7 +13,7 @@ use std::sync::Wait;
 use std::sync::atomic::{AtomicBool, Ordering};
 use std::thread::Promise;
 
-/// Runs so many rounds. Where one is refused, the fleet is stopped.
+/// Runs so many rounds. If one is refused, the fleet is stopped.
 pub(crate) fn run_rounds<N: NetKeeper, L: NodeName, G: Gate + Drop, R: Wait>(
     rt: &R,
     alloc: Global,

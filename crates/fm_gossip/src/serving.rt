@@ -36,7 +36,7 @@ impl<N: NetKeeper, G> Promise<Result<Coordinator<N>, Halt>> for Served<N, G> {
     ghost kept_by = { λ p r. IfOk r (λ coordinator. IsServed p.0.value coordinator.state) };
 }
 
-/// Does the work with a node whose name this call picks. Where something is refused, the fleet is stopped.
+/// Does the work with a node whose name this call picks. If something is refused, the fleet is stopped.
 pub(crate) fn serve_one<
     'x,
     N: NetKeeper + Send + Drop,
@@ -151,7 +151,8 @@ fn by_two<
     )
 }
 
-// Closes the node with its seats, and audits it. The lock forgets which coordinator it holds, so its number is looked at.
+// Closes the node with its seats, and audits it. The lock forgets which coordinator it holds, so its number is looked
+// at.
 fn end<N: NetKeeper + Drop, L: NodeName>(
     node: Node<N, L>,
     seats: Vec<Seat<L>>,

@@ -1,4 +1,4 @@
-//! What a node's thread is handed.
+//! What a node's thread is given.
 ghost use Rattle.std.specs.Prelude.{◌≡◌, ◌+◌, ◌-◌, length, vec_len, IfOk, OnOk};
 ghost use Rattle.fm_gossip.specs.Members.{task_of, tasks_of};
 
@@ -35,7 +35,7 @@ impl<N: NetKeeper, G> Model for Work<N, G> {
     ghost invariant = { λ w. w.coordinator.state.history ≡ [] };
 }
 
-/// What each member's thread is handed: an inbox for each, with a port for each.
+/// What each member's thread is given: an inbox for each, with a port for each.
 pub(crate) fn works<N: NetKeeper + Drop, G: Drop>(
     alloc: Global,
     members: Vec<Member<N, G>>,
@@ -52,7 +52,7 @@ pub(crate) fn works<N: NetKeeper + Drop, G: Drop>(
     Ok(works)
 }
 
-// What the thread of the member at the place is handed.
+// What the thread of the member at the place is given.
 fn work_at<N: NetKeeper + Drop, G: Drop>(
     alloc: Global,
     inboxes: &mut [Doors],

@@ -1,4 +1,4 @@
-//! Tasks that are alike, and those that stand alone.
+//! Tasks that are alike, and lone ones.
 
 use crate::classes::{Choice, Class, classes_of, saving};
 use crate::lanes::first_from;
@@ -9,14 +9,14 @@ use fm_numbered::numbered::Numbered;
 use fm_numbered::places::Kind;
 use std::alloc::Global;
 
-/// The arcs of a task that stands alone: from the first to before the end.
+/// The arcs of a lone task: from the first to before the end.
 #[derive(Debug, Clone, Copy, PartialEq, Eq, Drop)]
 pub(crate) struct Loner {
     pub(crate) first: usize,
     pub(crate) end: usize,
 }
 
-/// All tasks of a network: those with one arc beside that to their job, by classes, and the others.
+/// All tasks of a network: those with one arc beside that to their job, by classes, and the others, the lone ones.
 #[derive(Debug, Drop)]
 pub(crate) struct Alike {
     pub(crate) choices: Vec<Choice>,

@@ -1,5 +1,5 @@
-//! The contracted network: jobs are part of the sink, the tasks of a class are supply of their place beside one link to the
-//! sink, and a task that stands alone is a node.
+//! The contracted network: jobs are part of the sink, the tasks of a class are supply of their place beside one link to
+//! the sink, and a lone task is a node.
 
 use crate::alike::{Alike, Loner};
 use crate::classes::Class;
@@ -11,14 +11,14 @@ use fm_numbered::numbered::Numbered;
 use fm_numbered::places::Kind;
 use std::alloc::Global;
 
-/// The contracted network, with units that send each supply straight to the sink, over the links that hang its nodes there.
-/// Its nodes are the sink, which is 0, then requests, machines and lone tasks.
+/// The contracted network, with units that send each supply straight to the sink, over the links that join its nodes
+/// to the sink. Its nodes are the sink, which is 0, then requests, machines and lone tasks.
 #[derive(Debug, Drop)]
 pub(crate) struct Contracted {
     pub(crate) nodes: usize,
-    /// Links in mixed order, so that neighbours leave different nodes; artificial ones stand behind them.
+    /// Links in mixed order, so that neighbours leave different nodes; artificial ones stand after them.
     pub(crate) links: Vec<Link>,
-    /// How many links stand before the artificial ones.
+    /// The number of links before the artificial ones.
     pub(crate) own: usize,
     /// The links that hang each node but the sink on the sink.
     pub(crate) trunks: Vec<usize>,
@@ -132,8 +132,8 @@ impl<'a> Sketches<'a> {
         self.add(link, false)
     }
 
-    // Adds the link of an arc that leaves a request or machine. A machine that holds fewer tasks than it has slots sends them
-    // to the sink.
+    // Adds the link of an arc that leaves a request or machine. A machine that holds fewer tasks than it has slots
+    // sends them to the sink.
     fn add_arc(&mut self, number: usize, arc: &Arc) -> Result<(), OutOfMemory> {
         let from = node_of(self.numbered, arc.from);
         let to = node_of(self.numbered, arc.to);
@@ -151,7 +151,8 @@ impl<'a> Sketches<'a> {
         self.add(link, hangs)
     }
 
-    // Adds the links of a lone task's arcs, and leaves the task to its job: over that link alone, nothing bounds its units.
+    // Adds the links of a lone task's arcs, and leaves the task to its job: over that link alone, nothing bounds its
+    // units.
     fn add_loner(&mut self, node: usize, loner: &Loner) -> Result<(), OutOfMemory> {
         for number in loner.first..loner.end {
             if let Some(arc) = self.numbered.arcs.get(number) {
@@ -225,7 +226,7 @@ impl<'a> Sketches<'a> {
 }
 
 impl Contracted {
-    // Adds a link behind the others.
+    // Adds a link after the others.
     fn push(&mut self, sketch: &Sketch) -> Result<(), OutOfMemory> {
         if sketch.hangs {
             self.trunks.push(self.links.len())?;
@@ -234,8 +235,8 @@ impl Contracted {
         Ok(())
     }
 
-    // Hangs each node that does not hang yet on the sink by an artificial link, which carries its supply. The sink has a link
-    // to itself that carries nothing, so that there is a link at each node.
+    // Hangs each node that does not hang yet on the sink by an artificial link, which carries its supply. The sink has
+    // a link to itself that carries nothing, so that there is a link at each node.
     fn hang_rest(&mut self, stubs: &[Stub], cost: i64) -> Result<(), OutOfMemory> {
         self.links.push(LOOP)?;
         for (node, stub) in stubs.iter().enumerate() {

@@ -1,5 +1,5 @@
-//! What a unit costs at least from each node to the sink, over arcs with room and backwards over arcs with units. Of a least
-//! flow these costs, turned round, are potentials, which a search has only to confirm.
+//! The least cost of a unit from each node to the sink, over arcs with room and backwards over arcs with units. For a
+//! least flow the negated costs are potentials, which a search only confirms.
 
 ghost use Rattle.std.specs.Prelude.{◌≡◌, ◌^◌, ◌≤ℤ◌, length, IfOk, neg_ℤ, pos};
 ghost use Rattle.fm_cycles.specs.Walks.{AreBounded};
@@ -13,8 +13,8 @@ use fm_lattice::join::OutOfMemory;
 use fm_numbered::numbered::Numbered;
 use std::alloc::Global;
 
-// More than a path costs on which there are fewer than a million requests: an arc into a machine costs 1,000,000 at most,
-// and the one to a job 1,000,000,000. A node from which no unit gets to the sink keeps it.
+// More than a path costs on which there are fewer than a million requests: an arc into a machine costs 1,000,000 at
+// most, and the one to a job 1,000,000,000. A node from which no unit gets to the sink keeps it.
 const LOST: i64 = 1 << 40;
 
 // After so many turns, each a pass over the arcs of requests, costs that still fall are left to the search for cycles.
@@ -42,7 +42,7 @@ fn cost_at(costs: &[i64], node: usize) -> i64 {
     value_or(costs, node, LOST)
 }
 
-// Lowers the cost at a node to this one, and tells whether it was higher.
+// Lowers the cost at a node to this one, and returns whether it was higher.
 fn lower(costs: &mut [i64], node: usize, cost: i64) -> bool {
     match costs.get_mut(node) {
         Some(there) if cost < *there => {
@@ -53,7 +53,7 @@ fn lower(costs: &mut [i64], node: usize, cost: i64) -> bool {
     }
 }
 
-// Lowers the costs of sources by arcs with room, and tells whether one fell.
+// Lowers the costs of sources by arcs with room, and returns whether one fell.
 fn go_ahead(part: Part<'_>, costs: &mut [i64]) -> bool {
     let mut falls = false;
     for (arc, sent) in part.arcs.iter().zip(part.units) {
@@ -65,7 +65,7 @@ fn go_ahead(part: Part<'_>, costs: &mut [i64]) -> bool {
     falls
 }
 
-// Lowers the costs of targets by arcs with units, backwards, and tells whether one fell.
+// Lowers the costs of targets by arcs with units, backwards, and returns whether one fell.
 fn go_back(part: Part<'_>, costs: &mut [i64]) -> bool {
     let mut falls = false;
     for (arc, sent) in part.arcs.iter().zip(part.units) {
@@ -123,7 +123,7 @@ fn costs_of(alloc: Global, numbered: &Numbered, units: &[u64]) -> Result<Vec<i64
     Ok(costs)
 }
 
-// The potential of a node: its cost turned round.
+// The potential of a node: its negated cost.
 fn potential(costs: &[i64], node: usize) -> i128
     ensures at_least { neg_ℤ (pos (2 ^ 64)) ≤ℤ result }
     ensures at_most { result ≤ℤ pos (2 ^ 64) }
@@ -144,9 +144,10 @@ fn turned_round(alloc: Global, nodes: usize, costs: &[i64]) -> Result<Vec<i128>,
     Ok(potentials)
 }
 
-/// A number for each node, none beyond 2^64 in size. Where the units are a least flow, tasks have one place each beside
+/// A number for each node, none beyond 2^64 in size. If the units are a least flow, tasks have one place each beside
 /// their job, and jobs and machines send on for nothing, these are potentials that show it: no clause says so, a search
-/// confirms it. O(arcs), and O(arcs of requests) for each machine at which a unit would change over on the longest path.
+/// confirms it. O(arcs), and O(arcs of requests) for each machine at which a unit would change over on the longest
+/// path.
 pub(crate) fn potentials_from(
     alloc: Global,
     numbered: &Numbered,
@@ -160,7 +161,7 @@ pub(crate) fn potentials_from(
     Ok(potentials)
 }
 
-/// As `potentials_from`, where what a unit costs from each node but the tasks is known. O(arcs).
+/// As `potentials_from`, if what a unit costs from each node but the tasks is known. O(arcs).
 pub(crate) fn potentials_over(
     alloc: Global,
     numbered: &Numbered,

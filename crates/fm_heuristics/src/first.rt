@@ -21,10 +21,11 @@ fn has_preferences(numbered: &Numbered) -> bool {
     numbered.arcs.len().saturating_sub(first) > tasks.saturating_mul(2)
 }
 
-/// A flow, and a number for each node, none beyond 2^64 in size: by network simplex where tasks prefer machines, else, or where
-/// that comes to none, with tasks placed by falling worth. Most often the flow is least and the numbers are its potentials: no
-/// clause says so, a search for cycles does. The caller must pass a network where all tasks can be unscheduled. Refused if
-/// memory runs out, and for nothing else. Costs what the start takes that it chooses.
+/// A flow, and a number for each node, none beyond 2^64 in size: by the network simplex if tasks prefer machines,
+/// else, or if that finds none, with tasks placed by falling worth. In most cases the flow is least and the numbers
+/// are its potentials: no clause says so, but the search for cycles then finds none. The caller must pass a network
+/// in which all tasks can be unscheduled. Refused if memory runs out, and for nothing else. Costs what the start
+/// takes that it chooses.
 pub fn first_flow(alloc: Global, numbered: &Numbered) -> Result<(Vec<u64>, Vec<i128>), OutOfMemory>
     requires unscheduled { IsFlowOf numbered.now.places numbered.now.arcs.items (all_unscheduled numbered.now.places numbered.now.arcs.items) }
     ensures flow { IfOk result (λ r. IsFlowOf numbered.now.places numbered.now.arcs.items r.0.items) }

@@ -1,4 +1,4 @@
-//! The task paths of an earlier flow that are still whole and fit.
+//! The paths of tasks in an earlier flow that are still complete and fit.
 
 use crate::lanes::Lanes;
 use crate::lenient::put;
@@ -31,7 +31,8 @@ impl Kept {
         })
     }
 
-    /// Takes up the path of a task over its arc to a request or machine, if it is whole and fits, and tells whether.
+    /// Takes up the path of a task over its arc to a request or machine, if it is complete and fits, and returns
+    /// whether.
     pub(crate) fn keep(
         &mut self,
         numbered: &Numbered,

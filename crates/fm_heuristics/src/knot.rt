@@ -1,6 +1,6 @@
 //! Nodes of the tree.
 
-/// A node of the tree. The sink, 0, is the root and nobody's child, so 0 stands for no child and no sibling too.
+/// A node of the tree. The sink, 0, is the root and no node's child, so 0 stands for no child and no sibling too.
 #[derive(Debug, Clone, Copy, PartialEq, Eq, Drop)]
 pub(crate) struct Knot {
     pub(crate) parent: usize,

@@ -1,7 +1,7 @@
-//! Reads and writes that pass over places behind the end. A wrong place then costs a better flow, which is found
+//! Reads and writes that pass over places beyond the end. A wrong place then costs a better flow, which is found
 //! afterwards, and is never out of bounds.
 
-/// Writes the value at a place; behind the end, nothing.
+/// Writes the value at a place; beyond the end, nothing.
 pub(crate) fn put<T: Copy + Drop>(values: &mut [T], place: usize, value: T) {
     if let Some(there) = values.get_mut(place) {
         *there = value;

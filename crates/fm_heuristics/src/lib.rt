@@ -1,7 +1,8 @@
-//! First flows, which are tried and not believed: nothing here is proved to be least, and whoever calls tests what it gets.
+//! Heuristics for first flows: no result here is proved to be least, and callers test what they get.
 //!
-//! A first flow is proved to be a flow, since its units are tested, and all else to be safe and to end. That it is least is
-//! seen by the search for cycles that follows, and a miss costs time alone. So this crate can be changed freely.
+//! A first flow is proved to be a flow, since its units are tested, and the rest to be safe and to end. The search
+//! for cycles that follows finds out whether it is least; if it is not, that costs only time. So this crate can be
+//! changed freely.
 #![tactic(auto)]
 
 mod alike;

@@ -160,7 +160,7 @@ impl Loading {
         }
     }
 
-    /// The arc of a request to the cheapest machine with a free slot, where the arc has room.
+    /// The arc of a request to the cheapest machine with a free slot, if the arc has room.
     pub(crate) fn direct(
         &mut self,
         numbered: &Numbered,
@@ -187,7 +187,7 @@ impl Loading {
         }
     }
 
-    /// The price of the slot that a request takes by an arc of its own, FAR where there is none.
+    /// The price of the slot that a request takes by an arc of its own, FAR if there is none.
     pub(crate) fn direct_price(
         &mut self,
         numbered: &Numbered,
@@ -241,7 +241,7 @@ impl Loading {
         }
     }
 
-    /// Sends units over the hops and into free slots of the last machine, as many as fit, and answers how many.
+    /// Sends units over the hops and into free slots of the last machine, as many as fit, and returns how many.
     pub(crate) fn send(
         &mut self,
         numbered: &Numbered,

@@ -10,23 +10,23 @@ use fm_numbered::numbered::Numbered;
 use fm_numbered::places::Kind;
 use std::alloc::Global;
 
-/// How a request was reached: over a full machine where it has units, which another request joins, or else a task that the
-/// machine holds.
+/// How a request was reached: over a full machine where it has units, which another request joins, or else a task that
+/// the machine holds.
 #[derive(Debug, Clone, Copy, PartialEq, Eq, Drop)]
 struct Way {
     machine: usize,
     joining: Option<usize>,
 }
 
-/// A search between requests: one reaches a full machine to which its arc has room, and so the requests with units there,
-/// since such a unit may move to another machine.
+/// A search between requests: one reaches a full machine to which its arc has room, and so the requests with units
+/// there, since such a unit may move to another machine.
 #[derive(Debug, Drop)]
 pub(crate) struct Paths {
     alloc: Global,
     /// The machines that were not yet reached.
     unseen: Bits,
-    /// Whether each request was not yet reached and may be cheaper: apart from the ways, since each step of a search walks
-    /// over it.
+    /// Whether each request was not yet reached and may be cheaper: apart from the ways, since each step of a search
+    /// walks over it.
     wanted: Vec<bool>,
     wanted_len: usize,
     /// How each request was reached.
@@ -63,7 +63,7 @@ impl Paths {
         self.price <= self.floor || self.wanted_len == 0
     }
 
-    // Takes a request as the end where its own slot is cheaper.
+    // Takes a request as the end if its own slot is cheaper.
     fn consider(
         &mut self,
         numbered: &Numbered,
@@ -80,7 +80,7 @@ impl Paths {
         Ok(())
     }
 
-    // Wants a request no more, and tells whether it was wanted.
+    // Wants a request no more, and returns whether it was wanted.
     fn forget(&mut self, request: usize) -> bool {
         match self.wanted.get_mut(request) {
             Some(is_wanted) if *is_wanted => {

@@ -1,4 +1,5 @@
-//! Pivots: a link that pays takes the place of one of the tree, until none pays.
+//! Pivots: a link of negative reduced cost enters the tree and another one leaves it, until there is none. Trees stay
+//! strongly feasible (Cunningham, 1976).
 
 ghost use Rattle.std.specs.Prelude.{◌≡◌, ◌<◌, ◌≤◌, vec_len, OnOk};
 
@@ -8,14 +9,14 @@ use crate::pricing::Pricing;
 use crate::tree::{Stop, Tree};
 use std::alloc::Global;
 
-// On its way up a pivot looks at so many links whether they are empty, before it looks at the whole cycle.
+// How many links on the way up a pivot tests for being empty, before it walks the complete cycle.
 const PROBES: usize = 16;
 
 // The cycle that a link closes with the tree: units go over the link into the cycle's end, and on to where it begins.
 #[derive(Debug, Clone, Copy, PartialEq, Eq, Drop)]
 struct Cycle {
-    /// How many units go round, and the node whose link to its parent then has no more room, with whether it is on the side
-    /// of the end.
+    /// How many units go around, and the node whose link to its parent then has no more room, with whether it is on
+    /// the side of the end.
     units: u64,
     full: Option<(usize, bool)>,
     /// Where both ways to the root meet.
@@ -43,8 +44,8 @@ fn stuck(tree: &Tree, begin: usize, end: usize) -> Result<Option<usize>, Stop>
     Ok(None)
 }
 
-// The cycle that a link with so much room closes. Of links that fill up at once, the last one on the way round from the join
-// goes, so that no pivot comes back.
+// The cycle of a link with this much room. Of links that fill up together, the last one on the way around from the
+// join leaves, so the tree stays strongly feasible and pivots do not cycle.
 fn cycle_of(tree: &Tree, begin: usize, end: usize, most: u64) -> Result<Cycle, Stop>
     requires begin { begin < vec_len tree.now.knots }
     requires end { end < vec_len tree.now.knots }
@@ -91,7 +92,7 @@ fn send_all(tree: &mut Tree, first: usize, join: usize, upwards: bool, by: u64) 
     Ok(())
 }
 
-// Sends units round the cycle of a link, and takes the link into the tree for one that has no more room.
+// Sends units around the cycle of a link, which then enters the tree for one that has no more room.
 fn pivot(tree: &mut Tree, number: usize) -> Result<(), Stop>
     requires { number < vec_len tree.old.links }
 {
@@ -122,7 +123,7 @@ fn pivot_on(tree: &mut Tree, number: usize) -> Result<(), Stop> {
     pivot(tree, number)
 }
 
-// Leaves units of a node to the jobs of its tasks, as many as there are links for, and answers how many.
+// Leaves units of a node to the jobs of its tasks, as many as there are links for, and returns how many.
 fn leave(tree: &mut Tree, around: &[usize], units: u64) -> u64 {
     let mut rest = units;
     'links: for number in around {
@@ -138,7 +139,7 @@ fn leave(tree: &mut Tree, around: &[usize], units: u64) -> u64 {
     units - rest
 }
 
-/// The simplex in hand.
+/// The state of the simplex.
 #[derive(Debug, Drop)]
 pub(crate) struct Pivots {
     tree: Tree,
@@ -146,8 +147,8 @@ pub(crate) struct Pivots {
 }
 
 impl Pivots {
-    /// The first tree of the contracted network, and its first pivots: each node takes the best link out of it, lone tasks
-    /// before the others.
+    /// The first tree of the contracted network, and its first pivots: each node takes the best link out of it, lone
+    /// tasks before the others.
     pub(crate) fn new(alloc: Global, contracted: Contracted) -> Result<Self, Stop> {
         let own = contracted.own;
         let mut tree = Tree::of(alloc, contracted)?;
@@ -160,7 +161,7 @@ impl Pivots {
         Ok(Pivots { tree, pricing })
     }
 
-    /// Pivots until no link pays, or so many times.
+    /// Pivots until no link pays, or as often as allowed.
     pub(crate) fn run(&mut self, most: usize) -> Result<(), Stop> {
         for _ in 0..most {
             let Some(number) = self.pricing.next(&self.tree) else {
@@ -171,9 +172,9 @@ impl Pivots {
         Ok(())
     }
 
-    /// The tree, once the tasks whose units still go over artificial links, from this number on, are left to their jobs. If no
-    /// link pays there are none; if there are some, they are of the node's own tasks, since a way over such a link is dearer
-    /// than any other.
+    /// The tree, once the tasks whose units still go over artificial links, from this number on, are left to their
+    /// jobs. If no link pays there are none; if there are some, they are of the node's own tasks, since a way over such
+    /// a link is dearer than any other.
     pub(crate) fn settled(self, own: usize) -> Tree {
         let Pivots { tree, pricing } = self;
         let mut tree = tree;

@@ -1,4 +1,4 @@
-//! Pricing: which link enters the tree next.
+//! Pricing: which link enters the tree next. A link *pays* if its reduced cost is negative.
 
 ghost use Rattle.std.specs.Prelude.{◌<◌, vec_len};
 
@@ -9,18 +9,18 @@ use crate::tree::Tree;
 use fm_lattice::join::OutOfMemory;
 use std::alloc::Global;
 
-// A block has so many links at least, so that few links are not looked at one by one.
+// The least number of links of a block, so that few links are not priced one by one.
 const LEAST_BLOCK: usize = 20;
 
-/// Where the search for the next link stands.
+/// The state of the search for the entering link.
 #[derive(Debug, Drop)]
 pub(crate) struct Pricing {
     /// The links at each node.
     incidence: Groups,
-    /// How many links stand before the artificial ones, which never enter the tree again.
+    /// The number of links before the artificial ones, which never enter the tree again.
     own: usize,
-    /// So many links are looked at before the best of them is taken: half the root of their count. Neighbours among the links
-    /// stand as far apart as the whole root, so that blocks and strides differ.
+    /// The size of a block, of which the best link is taken: half the root of the number of links. Neighbours among
+    /// the links are a full root apart, so that blocks and strides differ.
     block: usize,
     /// How many blocks there are.
     blocks: usize,
@@ -30,14 +30,14 @@ pub(crate) struct Pricing {
     is_local: bool,
 }
 
-// A link that pays, and how much.
+// A link that pays, and how much a unit over it saves.
 #[derive(Debug, Clone, Copy, PartialEq, Eq, Drop)]
 struct Offer {
     saving: i64,
     number: usize,
 }
 
-// The offer, or this one, where it saves more.
+// The offer, or this one, if it saves more.
 fn better(offer: Option<Offer>, saving: i64, number: usize) -> Option<Offer> {
     let most = match offer {
         Some(offer) => offer.saving,
@@ -113,8 +113,8 @@ impl Pricing {
         number_of(best)
     }
 
-    // The best link at the nodes that moved last, the deepest of them first, until as many were looked at as a block has. Where
-    // more nodes moved, or more links are at one of them, blocks are as quick.
+    // The best link at the nodes that moved last, the deepest of them first, until as many links were priced as a
+    // block has. If more nodes moved, or more links are at one of them, blocks are as fast.
     fn best_of_moved(&self, tree: &Tree) -> Option<usize> {
         if tree.moved.len() > self.block {
             return None;
@@ -149,9 +149,9 @@ impl Pricing {
         number_of(best)
     }
 
-    /// A link that pays, none where no link does: the best of the next block; behind a block in which none pays, the best at
-    /// the nodes that moved last, and then for as long as one there pays. Such a chain of pivots goes along a path, whose next
-    /// link a block holds by chance alone. O(block) where links that pay are common, at most O(links).
+    /// A link that pays, or none if no link does: the best of the next block; after a block in which none pays, the
+    /// best at the nodes that moved last, as long as one there pays. Such a series of pivots goes along a path, whose
+    /// next link is in a block only by chance. O(block) if links that pay are common, at most O(links).
     pub(crate) fn next(&mut self, tree: &Tree) -> Option<usize> {
         if self.is_local {
             if let Some(number) = self.best_of_moved(tree) {

@@ -1,4 +1,4 @@
-//! A flow by network simplex.
+//! A flow by the network simplex method, with strongly feasible trees (Cunningham, 1976).
 
 ghost use Rattle.std.specs.Prelude.{IfOk, IfSome};
 ghost use Rattle.fm_numbered.specs.Feasible.{IsFlowOf};
@@ -16,11 +16,12 @@ use std::alloc::Global;
 // The hardest networks known, chains of preferences and ties everywhere, take a pivot a link at most.
 const PIVOTS_A_LINK: usize = 16;
 
-/// The units of a flow of the network, and what a unit then costs from each node that is no task to the sink. None if the
-/// simplex comes to no flow or its tree breaks, which no network is known to cause. It ends where no link pays, or after 16
-/// pivots an arc. Where no link pays the flow is least, and the costs, turned round, show it: no clause says so, a search for
-/// cycles does. Refused if memory runs out, and for nothing else. O(arcs), and for each pivot a block of links, the part of the
-/// tree that moves, and the cycle on which units go round.
+/// The units of a flow of the network, and the cost of a unit from each node that is no task to the sink. None if the
+/// simplex finds no flow or its tree breaks, which no network is known to cause. It ends if no link has a negative
+/// reduced cost, or after 16 pivots an arc. In the first case the flow is least, and the negated costs are its
+/// potentials: no clause says so, but the search for cycles then finds none. Refused if memory runs out, and for
+/// nothing else. O(arcs), and for each pivot a block of links, the part of the tree that moves, and the cycle. After
+/// Ahuja, Magnanti and Orlin, "Network flows", 1993.
 pub fn simplex(
     alloc: Global,
     numbered: &Numbered,

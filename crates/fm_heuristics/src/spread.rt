@@ -1,4 +1,4 @@
-//! The units of the contracted network, spread to the arcs of the whole one.
+//! The units of the contracted network, distributed to the arcs of the complete one.
 
 use crate::alike::Alike;
 use crate::classes::{drain, settle};
@@ -10,7 +10,7 @@ use fm_lattice::join::OutOfMemory;
 use fm_numbered::numbered::Numbered;
 use std::alloc::Global;
 
-/// The units of the network's arcs where the links of the contracted one have these. O(arcs).
+/// The units of the network's arcs if the links of the contracted one have these. O(arcs).
 pub(crate) fn spread(
     alloc: Global,
     numbered: &Numbered,
@@ -33,8 +33,8 @@ pub(crate) fn spread(
     Ok(units)
 }
 
-/// What a unit costs from each node that is no task to the sink, by the potentials of the contracted network's tree; 0 for
-/// tasks.
+/// What a unit costs from each node that is no task to the sink, by the potentials of the contracted network's tree; 0
+/// for tasks.
 pub(crate) fn costs(
     alloc: Global,
     numbered: &Numbered,

@@ -27,7 +27,8 @@ use fm_numbered::places::Kind;
 use fm_numbered::unscheduled::unscheduled;
 use std::alloc::Global;
 
-// What a place is worth to a task that saves so much there: what a unit through it saves in all, but for the price of the slot.
+// What a place is worth to a task that saves so much there: what a unit through it saves in all, except the price of
+// the slot.
 fn worth(numbered: &Numbered, lanes: &Lanes, place: usize, saving: i64) -> i64 {
     match numbered.places.kind(place) {
         Kind::Request(request) => saving.saturating_sub(bandwidth(numbered, request)),
@@ -41,7 +42,7 @@ fn worth_of(numbered: &Numbered, lanes: &Lanes, choice: &Choice) -> i64 {
     worth(numbered, lanes, choice.place, choice.saving)
 }
 
-// What a choice saves where the cheapest slots of its place are free.
+// What a choice saves if the cheapest slots of its place are free.
 fn gain(numbered: &Numbered, lanes: &Lanes, choice: &Choice) -> i64 {
     let price = match numbered.places.kind(choice.place) {
         Kind::Request(request) => match lanes.by_request.group(request).first() {
@@ -99,7 +100,7 @@ fn choices(alloc: Global, numbered: &Numbered, lanes: &Lanes) -> Result<Vec<Choi
     Ok(choices)
 }
 
-// The placing in hand.
+// The state of placing.
 #[derive(Drop)]
 struct Placing<'a> {
     numbered: &'a Numbered,
@@ -122,7 +123,7 @@ impl<'a> Placing<'a> {
         })
     }
 
-    // Sends units from the origin on the cheapest path below the worth, as many as fit, and answers how many.
+    // Sends units from the origin on the cheapest path below the worth, as many as fit, and returns how many.
     fn send(&mut self, origin: Kind, worth: i64, count: u64) -> Result<u64, OutOfMemory> {
         let found = self.paths.find(self.numbered, &self.lanes, &mut self.loading, origin, worth)?;
         let Some(end) = found else {
@@ -138,7 +139,7 @@ impl<'a> Placing<'a> {
         )
     }
 
-    // Sends units of a request over its own arc where no other path is cheaper.
+    // Sends units of a request over its own arc if no other path is cheaper.
     fn send_request(&mut self, request: usize, worth: i64, count: u64) -> Result<u64, OutOfMemory> {
         let least = self.loading.least(request);
         if least >= worth {
@@ -170,7 +171,7 @@ impl<'a> Placing<'a> {
         Ok(most)
     }
 
-    // Sends units of a place, as many of these as fit at once, and answers how many.
+    // Sends units of a place, as many of these as fit at once, and returns how many.
     fn send_some(&mut self, place: usize, worth: i64, rest: u64) -> Result<u64, OutOfMemory> {
         match self.numbered.places.kind(place) {
             Kind::Request(request) => self.send_request(request, worth, rest),
@@ -179,7 +180,7 @@ impl<'a> Placing<'a> {
         }
     }
 
-    // Places so many tasks of a class, or fewer, and answers how many.
+    // Places so many tasks of a class, or fewer, and returns how many.
     fn place(&mut self, class: &Class, count: u64) -> Result<u64, OutOfMemory> {
         let worth = worth(self.numbered, &self.lanes, class.place, class.saving);
         let mut rest = count;
@@ -194,7 +195,7 @@ impl<'a> Placing<'a> {
     }
 }
 
-// Places the tasks that the given units place, where their paths are still whole and fit, and answers the others.
+// Places the tasks that the given units place, if their paths are still complete and fit, and returns the others.
 fn keep_given(
     alloc: Global,
     placing: &mut Placing<'_>,
@@ -212,7 +213,8 @@ fn keep_given(
     Ok(others)
 }
 
-// Takes up the path of the task whose arc to its job this is, if it is whole and fits, and answers its arc to a place.
+// Takes up the path of the task whose arc to its job this is, if it is complete and fits, and returns its arc to a
+// place.
 fn keep_task(placing: &mut Placing<'_>, kept: &mut Kept, left: usize) -> Option<usize> {
     let task = placing.numbered.arcs.get(left)?.from;
     for arc in left..placing.numbered.arcs.len() {
@@ -233,7 +235,7 @@ fn keep_task(placing: &mut Placing<'_>, kept: &mut Kept, left: usize) -> Option<
     None
 }
 
-// The choices that stand at these places, in turn.
+// The choices at these places, in turn.
 fn picked(alloc: Global, choices: &[Choice], places: &[Keyed]) -> Result<Vec<Choice>, OutOfMemory> {
     let mut picked = Vec::with_capacity(alloc, places.len())?;
     for (_, place) in places {
@@ -305,7 +307,7 @@ fn placed(alloc: Global, numbered: &Numbered) -> Result<Vec<u64>, OutOfMemory> {
     place_all(alloc, placing, choices)
 }
 
-// The units of the tasks that the given ones place, and of the others placed by falling worth behind them.
+// The units of the tasks that the given ones place, and of the others placed by falling worth after them.
 fn placed_behind(
     alloc: Global,
     numbered: &Numbered,
@@ -336,11 +338,12 @@ fn places_most(numbered: &Numbered, given: &[u64]) -> bool {
     placed >= tasks - tasks / 4
 }
 
-/// Tasks placed by falling worth; all unscheduled where that is no flow. Where each arc into a machine costs the request
-/// and the machine's load, and no waiting task has an arc to a machine, this is a least flow: no clause says so, a search
-/// for cycles does. A task that prefers machines is sent to one of them where that saves more than its request, and the
-/// search finds what that did not. The caller must pass a network where all tasks can be unscheduled. Refused if memory
-/// runs out, and for nothing else. O(arcs log arcs), and for each class of tasks at most some searches between requests.
+/// Tasks placed by falling worth, by successive shortest paths; all unscheduled if that is no flow. If each arc into
+/// a machine costs the request and the machine's load, and no waiting task has an arc to a machine, this is a least
+/// flow: no clause says so, but the search for cycles then finds none. A task that prefers machines is sent to one of
+/// them if that saves more than its request, and the search finds what that did not. The caller must pass a network
+/// in which all tasks can be unscheduled. Refused if memory runs out, and for nothing else. O(arcs log arcs), and for
+/// each class of tasks at most some searches between requests.
 pub fn start(alloc: Global, numbered: &Numbered) -> Result<Vec<u64>, OutOfMemory>
     requires unscheduled { IsFlowOf numbered.now.places numbered.now.arcs.items (all_unscheduled numbered.now.places numbered.now.arcs.items) }
     ensures { IfOk result (λ units. IsFlowOf numbered.now.places numbered.now.arcs.items units.items) }
@@ -353,10 +356,10 @@ pub fn start(alloc: Global, numbered: &Numbered) -> Result<Vec<u64>, OutOfMemory
     Ok(units)
 }
 
-/// The flow with the task paths of the given units that are still whole and fit, the other tasks placed by falling worth,
-/// and potentials that show it to be least. None where it is not least, and where the given units place too few of the tasks
-/// for that to be likely: those that stay would be in the way of others. Nothing is searched: the potentials are worked out
-/// from the units, and tested. Refused if memory runs out, and for nothing else. O(arcs log arcs).
+/// The flow with the task paths of the given units that are still complete and fit, the other tasks placed by falling
+/// worth, and potentials that show it to be least. None if it is not least, and if the given units place too few of the
+/// tasks for that to be likely: those that stay would be in the way of others. Nothing is searched: the potentials are
+/// worked out from the units, and tested. Refused if memory runs out, and for nothing else. O(arcs log arcs).
 pub fn resume(
     alloc: Global,
     numbered: &Numbered,

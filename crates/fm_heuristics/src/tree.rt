@@ -1,7 +1,9 @@
-//! The tree of the simplex: each node but the sink hangs on another by one link, and each has a potential.
+//! The spanning tree of the network simplex: each node except the sink has a parent, to which one link joins it, and
+//! each has a potential.
 //!
-//! That parents, children, siblings and links are there is a fact of the type. That a node is deeper than its parent is looked
-//! at on each way up: so a way has at most as many steps as its node is deep, and a tree that is broken stops the simplex.
+//! That parents, children, siblings and links are there is a fact of the type. That a node is deeper than its parent
+//! is tested on each way up, so a way has at most as many steps as its node is deep, and a broken tree stops the
+//! simplex.
 
 ghost use Rattle.std.specs.Prelude.{◌≡◌, ◌<◌, ◌≤◌, All, vec_len, IfOk, OnOk, IsTrue, ◌+◌};
 ghost use Rattle.fm_heuristics.specs.Trees.{IsKnot, IsTied, depth_of};
@@ -43,7 +45,7 @@ impl From<OutOfMemory> for Stop {
 pub(crate) struct Tree {
     pub(crate) links: Vec<Link>,
     pub(crate) knots: Vec<Knot>,
-    /// The nodes that moved when a part of the tree was last hung elsewhere: each stands behind its parent.
+    /// The nodes that moved when a part of the tree last got another parent: each comes after its parent.
     pub(crate) moved: Vec<usize>,
     pub(crate) ghost hung: { All (IsKnot (vec_len knots) (vec_len links)) knots.items },
     pub(crate) ghost tied: { All (IsTied (vec_len knots)) links.items },
@@ -149,7 +151,7 @@ impl Tree {
             .saturating_sub(self.potential(link.to))
     }
 
-    /// What sending units over a link where it has room would save for each of them: 0 if nothing.
+    /// What sending units over a link if it has room would save for each of them: 0 if nothing.
     pub(crate) fn saving(&self, number: usize) -> i64
         requires { number < vec_len self.now.links }
     {
@@ -288,7 +290,8 @@ impl Tree {
         }
     }
 
-    // The node behind this one in a walk over all that hangs below the top, each node before its children; the top at the end.
+    // The node after this one in a walk over all that hangs below the top, each node before its children; the top at
+    // the end.
     fn next_below(&self, node: usize, top: usize) -> Result<usize, Stop>
         requires node { node < vec_len self.now.knots }
         requires top { top < vec_len self.now.knots }
@@ -309,8 +312,8 @@ impl Tree {
         Ok(top)
     }
 
-    /// Whether a node is the top or hangs below it. Goes up from the node and over what hangs below the top by turns, until
-    /// either way ends: O(the shorter one).
+    /// Whether a node is the top or hangs below it. Goes up from the node and over what hangs below the top by turns,
+    /// until either way ends: O(the shorter one).
     pub(crate) fn hangs_below(&self, node: usize, top: usize) -> Result<bool, Stop>
         requires node { node < vec_len self.now.knots }
         requires top { top < vec_len self.now.knots }
@@ -357,8 +360,9 @@ impl Tree {
         self.list(at)
     }
 
-    /// Hangs a node on another by the link, and turns the way from it up to the last node round, which hung on the tree's
-    /// other part before. The potentials of all below follow. O(depth of what is turned, and the nodes that move).
+    /// Makes a node the child of another by the link, and reverses the path from it up to the last node, which joined
+    /// it to the rest of the tree before. The potentials of all below follow. O(depth of what is turned, and the
+    /// nodes that move).
     pub(crate) fn turn(
         &mut self,
         node: usize,
@@ -386,7 +390,7 @@ impl Tree {
         self.shift(node, by)
     }
 
-    // Adds to the potentials of a node and all below it, counts their depths anew, and lists them as moved.
+    // Adds to the potentials of a node and all below it, counts their depths again, and lists them as moved.
     fn shift(&mut self, node: usize, by: i64) -> Result<(), Stop>
         requires { node < vec_len self.old.knots }
         ensures { OnOk result ((vec_len self.new.knots ≡ vec_len self.old.knots) × (vec_len self.new.links ≡ vec_len self.old.links)) }
@@ -417,7 +421,8 @@ impl Tree {
         Ok(())
     }
 
-    // Counts the depth of a node anew, and adds to its potential. A node that is as deep as there are nodes is in no tree.
+    // Counts the depth of a node again, and adds to its potential. A node that is as deep as there are nodes is in no
+    // tree.
     fn lift(&mut self, node: usize, by: i64) -> Result<(), Stop>
         requires { node < vec_len self.old.knots }
         ensures { KeepsSize self.old self.new }

@@ -27,7 +27,7 @@ within f [] i v at = absurd (some-ne-none v (sym at))
 within f (x ∷ xs) zero v at = let e = ap f (some-injective x v at) in omega (arith, e)
 within f (x ∷ xs) (suc i) v at = let e = within f xs i v at in omega (arith, e)
 
--- where one view has the whole total, another has nothing
+-- if one view has the whole total, another has nothing
 others : (f : Account → ℕ) (views : List Account) (i : ℕ) (v : Account) → get_elem? views i ≡ some v → weigh f views ≤ f v → (j : ℕ) (u : Account) → j ≢ i → get_elem? views j ≡ some u → f u ≡ 0
 others f [] i v at all j u apart e = absurd (some-ne-none v (sym at))
 others f (x ∷ xs) zero v at all zero u apart e = absurd (apart refl)
@@ -93,7 +93,7 @@ pops port v some_part x items views b at =
       refl,
     )
 
--- a pass made of another, where both have as many parts as that one had
+-- a pass made of another, if both have as many parts as that one had
 pub cuts : (port : ℕ) (v : Account) → 1 < v.parts → Forks IsBalanced port v (account (v.parts - 1) v.whole v.put v.taken) (account 1 v.whole [] [])
 cuts port v some_part items views b at =
     let l = account (v.parts - 1) v.whole v.put v.taken in
@@ -112,7 +112,7 @@ cuts port v some_part items views b at =
       λ j u e. ⊎_elim (λ x. old j u x) (λ (is : r ≡ u). subst (IsProper n) is ((λ p. absurd (omega (arith, p))), λ _. mine.1 (omega (arith, some_part)) ∙ omega (arith, same, more, some_part))) (at_snoc vs r u j e),
     )
 
--- a part more, where one pass has every part
+-- a part more, if one pass has every part
 pub grows : (port : ℕ) (v : Account) → 0 < v.parts → v.whole ≡ v.parts → Forks IsBalanced port v (account (v.parts + 1) (v.whole + 1) v.put v.taken) (account 0 0 [] [])
 grows port v some_part all items views b at =
     let l = account (v.parts + 1) (v.whole + 1) v.put v.taken in

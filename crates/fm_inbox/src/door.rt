@@ -9,7 +9,7 @@ use fm_records::refusal::Refusal;
 use std::alloc::Global;
 use std::sync::{Arc, Wait};
 
-/// A port with the inbox that it is of, so that its calls owe nothing.
+/// A port with its inbox, so that its calls have no premises.
 #[derive(Drop)]
 pub struct Door {
     inbox: Arc<Inbox, Global>,
@@ -39,7 +39,7 @@ impl Door {
     }
 }
 
-/// An inbox with those of its ports that are still to be handed out.
+/// An inbox with those of its ports that were not given out yet.
 #[derive(Drop)]
 pub struct Doors {
     inbox: Arc<Inbox, Global>,
@@ -59,8 +59,7 @@ impl Doors {
         Ok(Doors { inbox, ports })
     }
 
-    /// One of the ports that are left, or none where none is.
-    /// OutOfMemory; then nothing has changed.
+    /// One of the ports that are left, or none if there is none. OutOfMemory; then nothing has changed.
     pub fn open(&mut self) -> Result<Option<Door>, Refusal>
         ensures err { IsOkUnless result Refusal.OutOfMemory }
     {

@@ -12,8 +12,8 @@ use std::alloc::Global;
 use std::marker::Model;
 use std::sync::Wait;
 
-/// The right to put packets into an inbox and to take packets from it. Contracts see which inbox that is, and all that was
-/// put and taken through this port.
+/// The right to put packets into an inbox and to take packets from it. Contracts see which inbox that is, and all that
+/// was put and taken through this port.
 #[derive(Drop)]
 pub struct Port {
     pass: QueuePass,
@@ -30,7 +30,8 @@ impl Model for Port {
     ghost invariant = { λ p. (p.pass.me.1 ≡ []) × ((known p.pass).parts ≡ 1) };
 }
 
-/// A bounded queue of packets, which threads share, each by a port of its own. Packets leave in the order in which they came.
+/// A bounded queue of packets, which threads share, each by a port of its own. Packets leave in the order in which they
+/// came.
 #[derive(Drop)]
 pub struct Inbox {
     queue: Queue,
@@ -57,7 +58,7 @@ pub struct PutFault {
     pub packet: Packet,
 }
 
-/// Why an inbox was not closed, with the inbox and the ports that were handed in.
+/// Why an inbox was not closed, with the inbox and the ports that were passed.
 #[derive(Drop)]
 pub struct InboxKept {
     pub refusal: Refusal,
@@ -66,9 +67,8 @@ pub struct InboxKept {
 }
 
 impl Inbox {
-    /// An inbox for so many packets at a time, and its ports, of which there is at least one, as there is room for at least
-    /// one packet. The room that closing takes is reserved.
-    /// OutOfMemory.
+    /// An inbox for a number of packets at a time, at least one, and a number of ports, at least one. The memory for
+    /// closing it is reserved. OutOfMemory.
     pub fn new(alloc: Global, ports: u32, size: usize) -> Result<(Inbox, Vec<Port>), Refusal>
         requires { (0 < ports) × (0 < size) }
         ensures inbox { IfOk result (λ r. (r.0.ports ≡ ports) × (r.0.size ≡ size)) }
@@ -91,7 +91,7 @@ impl Inbox {
         Ok((Inbox { queue, ports, room }, made))
     }
 
-    /// Puts a packet behind those that are there. The caller owes a port of this inbox.
+    /// Puts a packet after those that are there. The caller must pass a port of this inbox.
     /// InboxFull, with the packet; then nothing has changed.
     pub fn put<R: Wait>(&self, rt: &R, port: &mut Port, packet: Packet) -> Result<(), PutFault>
         requires { IsPortOf self.now port.old }
@@ -109,7 +109,7 @@ impl Inbox {
         }
     }
 
-    /// Takes the packet that came first. The caller owes a port of this inbox.
+    /// Takes the packet that came first. The caller must pass a port of this inbox.
     /// InboxEmpty; then nothing has changed.
     pub fn take<R: Wait>(&self, rt: &R, port: &mut Port) -> Result<Packet, Refusal>
         requires { IsPortOf self.now port.old }
@@ -124,9 +124,9 @@ impl Inbox {
         }
     }
 
-    /// Ends an inbox with all its ports, and gives the packets that are left. Each packet was put as often as it was taken or
-    /// is left. The caller owes ports of this inbox. It takes no memory.
-    /// NotMine(0) where a port is missing, with all that was handed in.
+    /// Closes an inbox with all its ports, and returns the packets that are left. Each packet was put as often as it
+    /// was taken or is left. The caller must pass ports of this inbox. It allocates nothing. NotMine(0) if a port is
+    /// missing, with all that was passed.
     pub fn close<R: Wait>(self, rt: &R, ports: Vec<Port>) -> Result<Vec<Packet>, InboxKept>
         requires { All (IsPortOf self) ports.items }
         ensures ok { IfOk result (λ left. SamePackets (all_put ports.items) (all_taken ports.items ++ left.items)) }
@@ -159,7 +159,7 @@ fn pass_of(port: Port) -> QueuePass
     port.pass
 }
 
-// The one pass that the passes of the ports come to.
+// The joined pass of the ports.
 fn joined(queue: &Queue, mut ports: Vec<Port>, whole: u32) -> QueuePass
     requires some { (0 < whole) × (whole ≤ vec_len ports) }
     requires ports { All (IsPortOf (seen_inbox queue.now.table.shared.table_id whole (ruled_capacity queue.now))) ports.items }

@@ -1,4 +1,4 @@
-//! The rule by which an inbox keeps its packets: what was put is what was taken and what is still there.
+//! The invariant of an inbox: what was put is what was taken and what is still there.
 ghost use Rattle.std.specs.Prelude.{◌≡◌, ◌≤◌, ◌+◌, [], ◌∷◌, ◌++◌};
 ghost use Rattle.fm_inbox.specs.Rule.{account, weigh};
 
@@ -7,8 +7,8 @@ use crossbeam_queue::{Pass, RuledArrayQueue};
 use fm_delta::packet::Packet;
 use std::collections::LinkedList;
 
-/// What a pass stands for: its parts, how many parts there are in all, and what was put and taken by it. Contracts alone
-/// see one; no value of it is made.
+/// What a pass stands for: its parts, how many parts there are in all, and what was put and taken by it. Contracts
+/// alone see one; no value of it is made.
 pub struct Account {
     pub parts: u64,
     pub whole: u64,
@@ -67,7 +67,7 @@ impl Join<Account> for OnePart {
     ghost spent = { account 0 0 [] [] };
 }
 
-/// A packet joins at the back.
+/// A packet is added at the back.
 pub struct Puts;
 
 impl Outcome<Packet, Account> for Puts {
@@ -78,7 +78,7 @@ impl Lesson<Packet, Account> for Puts {
     ghost fact = { λ v items. (h : _) → weigh h v.put ≡ weigh h v.put };
 }
 
-/// A packet leaves at the front. A pass with every part also learns what is still there.
+/// A packet is removed at the front. A pass with every part also determines what is still there.
 pub struct Takes;
 
 impl Outcome<Packet, Account> for Takes {

@@ -8,7 +8,7 @@ use Rattle.fm_input.specs.declared.request.Topic.TheVariants as topic
 use Rattle.fm_input.specs.Json.{given}
 use Rattle.fm_input.specs.Requests.{Asked, Opens, Does, Cuts, News, Takes, Asks, Agrees, Renews, request_of}
 
--- what a line asks for, where one packet was cut before, under the name p
+-- what a line asks for, given that one packet was cut before, under the name p
 abbrev asked_by : List ℕ → Option Asked
 asked_by line = given (read_text line) (request_of (codes "p" ∷ []))
 

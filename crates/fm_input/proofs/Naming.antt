@@ -23,7 +23,7 @@ module _ {X : Type 0} (p : X → Bool) where
         | false ↦ grind (arith, place_within xs)
       ]
 
-  -- where an item passes there is a place
+  -- if an item passes there is a place
   pub is_some-position : (xs : List X) → is_some (position p xs) ≡ list_any p xs
   is_some-position xs =
       elim (nat_lt (position_or_len p xs) (length xs)) as (λ b. is_some (cond b (Some (position_or_len p xs)) None) ≡ b) [ true ↦ refl | false ↦ refl ]
@@ -34,7 +34,7 @@ module _ {X : Type 0} (p : X → Bool) where
   place_at_most (x ∷ xs) =
       elim (p x) as (λ b. cond (not b) (1 + position_or_len p xs) 0 ≤ suc (length xs)) [ true ↦ omega arith | false ↦ omega (arith, place_at_most xs) ]
 
-  -- the place, or behind all
+  -- the place, or after all
   pub unwrap_or-position : (xs : List X) → unwrap_or (position p xs) (length xs) ≡ position_or_len p xs
   unwrap_or-position xs =
       let most = place_at_most xs in

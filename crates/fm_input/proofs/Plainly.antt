@@ -40,7 +40,7 @@ module _ {B : Type 0} (P : B → Type 0) where
   IfSome-either None f other each rest = rest
   IfSome-either (Some d) f other each rest = each d
 
--- the step of an act, and where the act cuts nothing
+-- the step of an act, and if the act cuts nothing
 abbrev step_with : ℕ → Act → Step
 step_with at act = record { at = at; act = act }
 

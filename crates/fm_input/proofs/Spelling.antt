@@ -84,7 +84,7 @@ AreDistinct-listed ds ns h =
       ] refl
     ] h
 
--- what the whole list comes to, where the values before the rest come to these numbers
+-- what the whole list comes to, if the values before the rest come to these numbers
 abbrev pub all_after : List ℕ → List Value → Option (List ℕ)
 all_after ns rest = option_map (λ more. ns ++ more) (all_of (map coordinator_of (map view rest)))
 

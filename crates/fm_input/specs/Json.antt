@@ -5,12 +5,12 @@ use Rattle.serde_json.specs.Find.{get, as_number, as_u64, as_bool, as_str, as_ar
 use Rattle.fm_records.specs.Ids.{read_id}
 use Rattle.fm_records.specs.Options.{when, passes}
 
--- what the function makes of the value, where there is one
+-- what the function makes of the value, if there is one
 abbrev pub given : {A B : Type 0} → Option A → (A → Option B) → Option B
 given None f = None
 given (Some a) f = f a
 
--- the number, where it is below the bound
+-- the number, if it is below the bound
 abbrev pub below : ℕ → ℕ → Option ℕ
 below bound n = when (nat_lt n bound) n
 
@@ -18,7 +18,7 @@ below bound n = when (nat_lt n bound) n
 abbrev pub whole_of : Data → Option ℕ
 whole_of d = given (as_number d) as_u64
 
--- the whole number in the member of the name, and the same where it fits a type of fewer bits
+-- the whole number in the member of the name, and the same if it fits a type of fewer bits
 abbrev pub number_at : List ℕ → Data → Option ℕ
 number_at name d = given (get name d) whole_of
 

@@ -86,7 +86,7 @@ asked_at names at d =
     either (get (codes "ask") d) (λ v. option_map (Asks at) (given (as_str v) topic_named)) (
     option_map Does (step_of names d)))))
 
--- what a value asks for, where packets of the names were cut before
+-- what a value asks for, given that packets of the names were cut before
 abbrev pub request_of : List (List ℕ) → Data → Option Asked
 request_of names d =
     cond (has_size 1 d) (alone_of d) (
@@ -94,13 +94,13 @@ request_of names d =
     given (number_8_at (codes "at") d) (λ at.
     asked_at names at d)))
 
--- the line is JSON, and its value asks for that, where packets of the names were cut before
+-- the line is JSON, and its value asks for that, given that packets of the names were cut before
 pub record Requests (names : List (List ℕ)) (line : List ℕ) (asked : Asked) : Type 0 where
   pub value : Data
   pub read : read_text line ≡ Some value
   pub asks : request_of names value ≡ Some asked
 
--- the line is no JSON, or its value asks for nothing known; or memory was refused
+-- the line is no JSON, or its value asks for nothing known; or memory ran out
 abbrev pub RequestsNothing : List (List ℕ) → List ℕ → Refusal → Type 0
 RequestsNothing names line refusal =
     (refusal ≡ OutOfMemory)

@@ -30,7 +30,7 @@ job_of d =
     given (number_32_at (codes "preempt") d) (λ preempt.
     Some (op.Job id version writer withdrawn wait preempt)))))))
 
--- all of the values, where each is there
+-- all of the values, if each is there
 abbrev pub all_of : {A : Type 0} → List (Option A) → Option (List A)
 all_of [] = Some []
 all_of (o ∷ os) = given o (λ a. option_map (λ rest. a ∷ rest) (all_of os))
@@ -46,7 +46,7 @@ entry_of d =
 abbrev pub entries_of : List Data → Option (List (ℕ × ℕ))
 entries_of ds = cond (nat_le (length ds) 4) (all_of (map entry_of ds)) None
 
--- none where the member is not there
+-- none if the member is not there
 abbrev pub prefer_of : Data → Option (List (ℕ × ℕ))
 prefer_of d = cond (is_none (get (codes "prefer") d)) (Some []) (given (items_at (codes "prefer") d) entries_of)
 
@@ -119,7 +119,7 @@ op_of d = given (when (has_size 1 d) d) (λ d.
     either (get (codes "report") d) report_of (
     either (get (codes "propose") d) propose_of None))))))
 
--- what a cut's packet comes from: an interval where both ends are named, all that is known where neither is
+-- what a cut's packet comes from: an interval if both ends are named, all that is known if neither is
 abbrev pub range_between : Option Data → Option Data → Option Range
 range_between None None = Some Full
 range_between (Some from) (Some to) = given (whole_of from) (λ a. given (whole_of to) (λ b. Some (Interval a b)))
@@ -139,7 +139,7 @@ cut_of names d =
     given (range_of d) (λ range.
     when (not (is_named names name)) (act.Cut range)))
 
--- a delivery names a packet by its place among those before; where none has the name, the place is behind them all
+-- a delivery names a packet by its place among those before; if none has the name, the place is after them all
 abbrev pub delivery_of : List (List ℕ) → Data → Option Act
 delivery_of names d = option_map (λ name. act.Deliver (position_or_len (is_text name) names)) (as_str d)
 
@@ -147,7 +147,8 @@ delivery_of names d = option_map (λ name. act.Deliver (position_or_len (is_text
 abbrev pub round_of : Data → Option Act
 round_of d = given (as_bool d) (λ b. when b act.Round)
 
--- what happens in a step, where packets of the names were cut before: the one member beside the number of its coordinator
+-- what happens in a step, given that packets of the names were cut before: the one member beside the number of its
+-- coordinator
 abbrev pub act_of : List (List ℕ) → Data → Option Act
 act_of names d =
     either (get (codes "cut") d) (cut_of names) (
@@ -167,7 +168,7 @@ step_of names d = given (when (has_size 2 d) d) (λ d.
 abbrev pub names_in : Data → List (List ℕ)
 names_in d = option_to_list (given (get (codes "cut") d) (text_at (codes "name")))
 
--- what the values spell, one after another, where packets of the names were cut before
+-- what the values spell, one after another, given that packets of the names were cut before
 abbrev pub steps_of : List (List ℕ) → List Data → List (Option Step)
 steps_of names [] = []
 steps_of names (d ∷ ds) = step_of names d ∷ steps_of (names ++ names_in d) ds
@@ -208,16 +209,16 @@ abbrev pub first_strange : List (List ℕ) → ℕ → List Data → Option ℕ
 first_strange names place [] = None
 first_strange names place (d ∷ ds) = cond (is_some (step_of names d)) (first_strange (names ++ names_in d) (place + 1) ds) (Some place)
 
--- the fault of a list of steps, 0 where there is none
+-- the fault of a list of steps, 0 if there is none
 abbrev pub steps_fault : Option (List Data) → Option ℕ
 steps_fault None = Some 0
 steps_fault (Some ds) = first_strange [] 1 ds
 
--- where a value that is no script breaks a rule: 0 for the whole, and else the first strange step
+-- if a value that is no script breaks a rule: 0 for the script as a whole, and else the first step that breaks a rule
 abbrev pub script_fault : Data → Option ℕ
 script_fault d = cond (is_none (coordinators_of d)) (Some 0) (steps_fault (items_at (codes "steps") d))
 
--- what a step tells, where it does
+-- what a step tells, if it does
 abbrev pub told_by : ℕ → Act → Option Tell
 told_by at (act.Tell op) = Some (record { at = at; op = op })
 told_by at _ = None
@@ -225,7 +226,7 @@ told_by at _ = None
 abbrev pub told_in : Step → Option Tell
 told_in step = told_by step.at step.act
 
--- what a value tells, where it spells a step that does; no packet has a name where all steps tell
+-- what a value tells, if it spells a step that does; no packet has a name if all steps tell
 abbrev pub tell_of : Data → Option Tell
 tell_of d = given (step_of [] d) told_in
 
@@ -243,6 +244,7 @@ abbrev pub untold_fault : Option (List Data) → Option ℕ
 untold_fault None = Some 0
 untold_fault (Some ds) = first_untold 1 ds
 
--- where a value that is no script of tells alone breaks a rule: 0 for the whole, and else the first step that tells nothing
+-- where a value that is no script of tells alone breaks a rule: 0 for the whole, and else the first step that tells
+-- nothing
 abbrev pub tells_fault : Data → Option ℕ
 tells_fault d = cond (is_none (coordinators_of d)) (Some 0) (untold_fault (items_at (codes "steps") d))

@@ -14,7 +14,7 @@ pub record Spells (text : List ℕ) (listed : List ℕ) (names : List (List ℕ)
   pub read : read_text text ≡ Some value
   pub script : IsScriptOf value listed names steps
 
--- the text is no JSON, or its value has the fault; or memory was wanted
+-- the text is no JSON, or its value has the fault; or memory ran out
 abbrev pub SpellsNone : List ℕ → Refusal → Type 0
 SpellsNone text refusal =
     (refusal ≡ OutOfMemory)
@@ -27,7 +27,7 @@ pub record SpellsTells (text : List ℕ) (listed : List ℕ) (tells : List Tell)
   pub read : read_text text ≡ Some value
   pub script : AreTellsOf value listed tells
 
--- the text is no JSON, or its value has the fault as a script of tells alone; or memory was wanted
+-- the text is no JSON, or its value has the fault as a script of tells alone; or memory ran out
 abbrev pub SpellsNoTells : List ℕ → Refusal → Type 0
 SpellsNoTells text refusal =
     (refusal ≡ OutOfMemory)

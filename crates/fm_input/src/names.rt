@@ -24,7 +24,7 @@ impl Model for Names {
 }
 
 impl Names {
-    /// No names. It takes no memory.
+    /// No names. It allocates nothing.
     pub fn new(alloc: Global) -> Names
         ensures { result ≡ [] }
     {
@@ -48,8 +48,8 @@ impl Names {
         self.places.get_index_of(name)
     }
 
-    /// Adds the name behind the others, and answers whether it was new; one that is there stays where it is.
-    /// After a refusal of memory nothing has changed.
+    /// Adds the name after the others, and returns whether it was new; one that is there stays where it is.
+    /// If memory runs out, nothing has changed.
     pub fn add(&mut self, name: &str) -> Result<bool, OutOfMemory>
         ensures new { IfOk result (λ new. new ≡ not (is_named self.old name.now)) }
         ensures added { OnOk result (self.new ≡ (if is_named self.old name.now then self.old else self.old ++ name.now ∷ [])) }
@@ -59,7 +59,7 @@ impl Names {
         Ok(self.places.insert(key, ())?.is_none())
     }
 
-    /// Keeps the names before that place, or all if there are no more. It takes no memory and is never refused.
+    /// Keeps the names before that place, or all if there are no more. It allocates nothing and is never refused.
     pub fn truncate(&mut self, len: usize)
         ensures { self.new ≡ take len self.old }
     {

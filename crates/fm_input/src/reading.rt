@@ -22,10 +22,11 @@ use serde_json::Value;
 use std::alloc::Global;
 use std::mem;
 
-/// The script that a JSON text spells: an object whose `coordinators` list at least one number, distinct ones from 1 to 64,
-/// and whose `steps` list objects of an `at` and one of `tell`, `cut`, `deliver`, `trim` and `round`. `BadScript(0)` where the
-/// text is no JSON or the whole breaks a rule, else `BadScript(K)` for the first strange step K, counted from 1. Further
-/// members of the whole, of an operation and of a cut are ignored, and of equal members the last counts.
+/// The script that a JSON text spells: an object whose `coordinators` list at least one number, distinct ones from 1 to
+/// 64, and whose `steps` list objects of an `at` and one of `tell`, `cut`, `deliver`, `trim` and `round`.
+/// `BadScript(0)` if the text is no JSON or no script as a whole, else `BadScript(K)` for the first strange step K,
+/// counted from 1. Further members of the script, of an operation and of a cut are ignored, and of equal members the
+/// last counts.
 pub fn read_script(alloc: Global, text: &[u8]) -> Result<Script, Refusal>
     ensures ok { IfOk result (λ s. (d : Data) × (read_text text.now ≡ Some d) × IsScriptOf d s.coordinators.items s.names s.steps.items) }
     ensures err { IfErr result (λ e. (e ≡ Refusal.OutOfMemory)
@@ -40,7 +41,7 @@ pub fn read_script(alloc: Global, text: &[u8]) -> Result<Script, Refusal>
     }
 }
 
-// The script that a value spells, whose steps are let go one by one as they are read.
+// The script that a value spells, whose steps are dropped one by one as they are read.
 fn script_in(alloc: Global, value: &mut Value) -> Result<Script, Refusal>
     ensures ok { IfOk result (λ s. IsScriptOf (view value.old) s.coordinators.items s.names s.steps.items) }
     ensures err { IfErr result (λ e. (e ≡ Refusal.OutOfMemory) ⊎ (option_map Refusal.BadScript (script_fault (view value.old)) ≡ Some e)) }
@@ -122,7 +123,7 @@ fn keep_name(item: &Value, names: &mut Names) -> Result<(), OutOfMemory>
     Ok(())
 }
 
-// The step that an object of two members spells, where packets of the names were cut before.
+// The step that an object of two members spells, given that packets of the names were cut before.
 pub(crate) fn step_in(value: &Value, names: &Names) -> Option<Step>
     ensures { result ≡ step_of names.now (view value.now) }
 {
@@ -251,7 +252,7 @@ fn spec_in(fields: &Value) -> Option<Op>
     })
 }
 
-// The machines that a spec prefers: none where it has no such member.
+// The machines that a spec prefers: none if it has no such member.
 fn prefer_in(fields: &Value) -> Option<Prefer>
     ensures { result ≡ prefer_of (view fields.now) }
 {

@@ -49,6 +49,6 @@ pub enum Request {
     },
     /// Whether all coordinators know the same.
     Agree,
-    /// The coordinators are made anew.
+    /// The coordinators are renewed.
     Renew,
 }

@@ -16,11 +16,11 @@ use fm_records::refusal::Refusal;
 use serde_json::Value;
 use std::alloc::Global;
 
-/// What a line of a stream asks for, where packets of the names were cut before. The line is an object of one member
-/// (`coordinators`, `renew`, `ask`), or of an `at` and one of `cut`, `news`, `take`, `ask`, `tell`, `deliver`, `trim`
-/// and `round`. Further members of an operation and of a cut are ignored, and of equal members the last counts.
+/// What a line of a stream asks for, given that packets of the names were cut before. The line is an object of one
+/// member (`coordinators`, `renew`, `ask`), or of an `at` and one of `cut`, `news`, `take`, `ask`, `tell`, `deliver`,
+/// `trim` and `round`. Further members of an operation and of a cut are ignored, and of equal members the last counts.
 /// `BadScript(0)` if the line is no JSON or asks for nothing known, as a cut under one of the names; `OutOfMemory` if
-/// memory is refused. It costs the reading of the line as JSON, and a look-up of a name.
+/// memory runs out. It costs the reading of the line as JSON, and a look-up of a name.
 pub fn read_request(alloc: Global, line: &[u8], names: &Names) -> Result<Request, Refusal>
     ensures ok { IfOk result (λ q. Requests names.now line.now (asked_of q)) }
     ensures err { IfErr result (λ e. RequestsNothing names.now line.now e) }
@@ -36,7 +36,7 @@ pub fn read_request(alloc: Global, line: &[u8], names: &Names) -> Result<Request
     }
 }
 
-// What a value asks for, where packets of the names were cut before.
+// What a value asks for, given that packets of the names were cut before.
 fn request_in(alloc: Global, value: &Value, names: &Names) -> Result<Option<Request>, OutOfMemory>
     ensures { IfOk result (λ q. option_map asked_of q ≡ request_of names.now (view value.now)) }
 {
@@ -102,7 +102,7 @@ fn opening_in(alloc: Global, value: &Value) -> Result<Option<Request>, OutOfMemo
     }
 }
 
-// The coordinators are made anew, by true.
+// The coordinators are renewed, by true.
 fn renewal_in(asked: &Value) -> Option<Request>
     ensures { option_map asked_of result ≡ when_true Renews (view asked.now) }
 {
@@ -124,7 +124,7 @@ fn agreement_in(asked: &Value) -> Option<Request>
     }
 }
 
-// A cut of what the range comes to, under a new name or under none.
+// A cut of the range, under a new name or under none.
 fn cut_asked_in(
     alloc: Global,
     cut: &Value,

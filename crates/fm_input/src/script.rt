@@ -10,9 +10,9 @@ use fm_records::ops::Op;
 pub enum Act {
     /// The coordinator is told an operation, whose ranges are not yet checked.
     Tell(Op),
-    /// It cuts a packet of what the range comes to.
+    /// It cuts a packet of the range.
     Cut(Range),
-    /// It takes in the packet that was cut as the one with the number, counted from 0. Where no earlier step cuts a packet
+    /// It takes in the packet that was cut as the one with the number, counted from 0. If no earlier step cuts a packet
     /// of the name, the number is how many were cut: there is no such packet then.
     Deliver(usize),
     /// It lets the deltas below the number go.

@@ -15,8 +15,8 @@ use serde_json::Value;
 use std::alloc::Global;
 
 /// The script of tells alone that a JSON text spells: a script, as `read_script` reads it, each step of which tells.
-/// `BadScript(0)` where the text is no JSON or the whole breaks a rule, else `BadScript(K)` for the first step K, counted from
-/// 1, that is strange or does something else.
+/// `BadScript(0)` if the text is no JSON or no script as a whole, else `BadScript(K)` for the first step K, counted
+/// from 1, that is strange or does something else.
 pub fn read_tells(alloc: Global, text: &[u8]) -> Result<Tells, Refusal>
     ensures ok { IfOk result (λ s. SpellsTells text.now s.coordinators.items s.tells.items) }
     ensures err { IfErr result (λ e. SpellsNoTells text.now e) }
@@ -65,7 +65,7 @@ fn all_in(alloc: Global, items: Vec<Value>) -> Result<Vec<Tell>, Refusal>
     Ok(tells)
 }
 
-// What an item tells, where it is a step that does. No packet has a name where all steps tell.
+// What an item tells, if it is a step that does. No packet has a name if all steps tell.
 fn tell_in(item: &Value, names: &Names) -> Option<Tell>
     requires { names.now ≡ [] }
     ensures { result ≡ tell_of (view item.now) }
@@ -76,7 +76,7 @@ fn tell_in(item: &Value, names: &Names) -> Option<Tell>
     }
 }
 
-// What a step tells, where it does.
+// What a step tells, if it does.
 fn told_in(step: Step) -> Option<Tell>
     ensures { result ≡ told_in step }
 {

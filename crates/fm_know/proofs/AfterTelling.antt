@@ -42,7 +42,7 @@ greater v w h = sym (nat_cmp_is w v Greater h)
 first_greater : (o p : Ordering) → o ≡ Greater → ordering_then o p ≡ Greater
 first_greater o p e = ap (λ z. ordering_then z p) e
 
--- the greater of two is the second, where that is above the first
+-- the greater of two is the second, if that is above the first
 later : {R : Type 0} (cmp : R → R → Ordering) (r s : R) → cmp s r ≡ Greater → max_join cmp r s ≡ s
 later cmp r s e = ap (λ o. cond (is_lt o) r s) e
 

@@ -1,4 +1,4 @@
--- The facts on a task and on a machine, where their records are found.
+-- The facts on a task and on a machine, if their records are found.
 use Rattle.std.proofs.Common.{◌≡◌, ℕ, true, cond, Option, Some, None, sym, ap}
 use Rattle.std.specs.Prelude.{not, ◌&&◌, option_map}
 use Rattle.std.specs.Ordering.{nat_cmp}

@@ -25,7 +25,7 @@ and_right : (a b : Bool) → a && b ≡ true → b ≡ true
 and_right true b h = h
 and_right false b h = absurd (let no : ⊥ = cc in no)
 
--- no fault where there are three tests
+-- no fault if there are three tests
 three : (a b c : Bool) (x y z : Field) → is_none (cond a (cond b (cond c None (Some x)) (Some y)) (Some z)) ≡ true → (a ≡ true) × (b ≡ true) × (c ≡ true)
 three true true true x y z h = (refl, refl, refl)
 three true true false x y z h = absurd (let no : ⊥ = cc in no)

@@ -9,7 +9,7 @@ use Rattle.fm_records.specs.Ranges.{is_count, is_attempt}
 use Rattle.fm_records.specs.Table.{Table}
 use Rattle.fm_records.specs.Facts.{job_of, state_of, incarnation_of, attempt_of}
 
--- the version after the known one, if there is a greater; 1 where none is known
+-- the version after the known one, if there is a greater; 1 if none is known
 abbrev pub next_version : Option ℕ → Option ℕ
 next_version None = Some 1
 next_version (Some v) = when (is_count (v + 1)) (v + 1)
@@ -18,7 +18,7 @@ next_version (Some v) = when (is_count (v + 1)) (v + 1)
 abbrev pub job_version : Table → ℕ → Option ℕ
 job_version k id = option_map (λ r. r.version) (job_of k id)
 
--- the version of the machine's state, where the incarnation is the present one and its state is known
+-- the version of the machine's state, if the incarnation is the present one and its state is known
 abbrev pub state_version : Table → ℕ → ℕ → Option ℕ
 state_version k id incarnation = cond (passes (λ i. i == incarnation) (incarnation_of k id)) (option_map (λ r. r.version) (state_of k id)) None
 

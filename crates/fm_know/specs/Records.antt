@@ -10,7 +10,7 @@ use Rattle.fm_records.specs.Facts.{is_done, is_present, job_stands, winner_of}
 abbrev pub live_in : Table → TaskValue → Option SpecReg
 live_in k v = only_if (λ s. not s.withdrawn && job_stands k s.job && not (is_done v.1.phase)) v.0
 
--- the machine that the winner of the task's attempt names, where that is open and at its present incarnation
+-- the machine that the winner of the task's attempt names, if that is open and at its present incarnation
 abbrev pub placed_in : Table → ℕ → TaskValue → Option ℕ
 placed_in k t v = option_map (λ s. s.machine) (only_if (is_present k) (option_map (λ w. w.1) (winner_of k t v.1.attempt)))
 

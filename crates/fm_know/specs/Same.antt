@@ -1,4 +1,4 @@
--- Equality of tables, as a test that computes: entry by entry, where two values are one if their order says so.
+-- Equality of tables, as a test that computes: entry by entry; two values are one if their order says so.
 use Rattle.std.specs.Prelude.{◌≡◌, ℕ, Bool, true, false, ◌&&◌, List, Option, Some, None, refl}
 use Rattle.std.specs.Bool.{Decides}
 use Rattle.std.specs.Cmp.{IsTotalOrder, IsPartialEquivalence, nat_cmp_total, Equal-is}

@@ -1,4 +1,4 @@
-//! The facts that knowledge tells: what is live, open and held, and what a machine has left. None takes memory.
+//! The facts that knowledge tells: what is live, open and held, and what a machine has left. None allocates.
 
 ghost use Rattle.std.specs.Prelude.{◌≡◌, Some, cond, option_map, sum_by, IfSome};
 ghost use Rattle.std.specs.Ordering.{nat_cmp};
@@ -33,7 +33,7 @@ impl Knowledge {
         }
     }
 
-    /// The greatest attempt and phase of the task that is known; attempt 0, pending, where none is.
+    /// The greatest attempt and phase of the task that is known; attempt 0, pending, if none is.
     pub fn attempt(&self, task: TaskId) -> Progress
         ensures { result ≡ progress_of self.now task }
     {
@@ -107,8 +107,8 @@ impl Knowledge {
         })
     }
 
-    /// The machine that holds the task: the task is live, and the winner of its present attempt names an open machine at
-    /// its present incarnation.
+    /// The machine that holds the task: the task is live, and the winner of its present attempt names an open machine
+    /// at its present incarnation.
     pub fn holder(&self, task: TaskId) -> Option<MachineId>
         ensures { result ≡ holder_of self.now task }
     {
@@ -118,8 +118,8 @@ impl Knowledge {
         }
     }
 
-    /// The spec of the task, if it is live, and the machine that holds it, if one does: `live_spec` and `holder` in one, for
-    /// who walks over the tasks. The caller owes the record that is known of the task.
+    /// The spec of the task, if it is live, and the machine that holds it, if one does: `live_spec` and `holder` in
+    /// one, for callers that iterate over the tasks. The caller must pass the record that is known of the task.
     pub fn live_task(&self, task: TaskId, found: &TaskRec) -> Option<(SpecReg, Option<MachineId>)>
         requires { lookup nat_cmp task self.now.tasks ≡ Some found.now }
         ensures { result ≡ option_map (λ s. (s, holder_of self.now task)) (live_spec self.now task) }
@@ -138,7 +138,7 @@ impl Knowledge {
         self.placed_in(task, found)
     }
 
-    // The machine that the winner of the record's attempt names, where that is open and at its present incarnation.
+    // The machine that the winner of the record's attempt names, if that is open and at its present incarnation.
     fn placed_in(&self, task: TaskId, found: &TaskRec) -> Option<MachineId>
         ensures { result ≡ placed_in self.now task found.now }
     {
@@ -166,7 +166,7 @@ impl Knowledge {
         used.max(self.held_requests(machine))
     }
 
-    /// What the load leaves of the bandwidth of an open machine; none where the load is greater, and none of a machine
+    /// What the load leaves of the bandwidth of an open machine; none if the load is greater, and none of a machine
     /// that is not open. As costly as `load`.
     pub fn spare(&self, machine: MachineId) -> Option<u32>
         ensures { result ≡ spare_of self.now machine }
@@ -200,7 +200,7 @@ impl Knowledge {
         }
     }
 
-    /// The use that the machine reported at its present incarnation; 0 where it reported none.
+    /// The use that the machine reported at its present incarnation; 0 if it reported none.
     pub fn used(&self, machine: MachineId) -> u32
         ensures { result ≡ used_of self.now machine }
     {
@@ -237,7 +237,7 @@ fn spec_in(task: &TaskRec) -> Option<SpecReg>
     }
 }
 
-/// The bandwidth that the task of the record requests; 0 where its spec is not known.
+/// The bandwidth that the task of the record requests; 0 if its spec is not known.
 pub fn request_in(task: &TaskRec) -> u32
     ensures { result ≡ request_of task.now.0 }
 {

@@ -13,8 +13,9 @@ use fm_records::records::{JobReg, MachineRec, Spot, TaskRec};
 use std::alloc::Global;
 use std::marker::Model;
 
-/// What operations come to: the records of jobs, tasks, machines and proposals. It grows by joins alone, so what it holds
-/// depends on which operations were taken in, and not on their order, their grouping, or how often each came.
+/// What a set of operations amounts to: the records of jobs, tasks, machines and proposals. It changes by joins
+/// alone, so it depends on which operations were merged, and not on their order, their grouping, or how often each
+/// arrived.
 #[derive(Drop)]
 pub struct Knowledge {
     pub(crate) jobs: JoinMap<JobId, Max<JobReg>>,
@@ -35,7 +36,7 @@ impl Model for Knowledge {
 }
 
 impl Knowledge {
-    /// What no operation comes to. It takes no memory.
+    /// The knowledge of no operations. It allocates nothing.
     pub fn empty(alloc: Global) -> Knowledge
         ensures { result ≡ know [] }
     {
@@ -75,9 +76,9 @@ impl Knowledge {
         &self.proposals
     }
 
-    /// Joins the other in, all or nothing, each of its maps at the cost of `JoinMap::join_into`: so what has few entries
-    /// costs O(m log n), and moves within blocks of bounded length.
-    /// After a refusal of memory nothing has changed.
+    /// Joins the other in, all or nothing, each of its maps at the cost of `JoinMap::join_into`: so a knowledge of
+    /// few entries costs O(m log n), and moves within blocks of bounded length. If memory runs out, nothing has
+    /// changed.
     pub fn join_into(&mut self, other: &Knowledge) -> Result<(), OutOfMemory>
         ensures ok { OnOk result (self.new ≡ table_join self.old other.now) }
         ensures union { (S T : List Op) → self.old ≡ know S → other.now ≡ know T → OnOk result (self.new ≡ know (S ++ T)) }
@@ -103,8 +104,8 @@ impl Knowledge {
         )
     }
 
-    /// The knowledge again. What is shared already costs a pointer for each block of records, and the rest is copied: O(n) where
-    /// nothing was shared.
+    /// The same knowledge. What is already shared costs a pointer for each block of records, and the rest is copied:
+    /// O(n) if nothing was shared.
     pub fn copy(&self) -> Result<Knowledge, OutOfMemory>
         ensures { IfOk result (λ k. k ≡ self.now) }
     {
@@ -116,9 +117,9 @@ impl Knowledge {
         })
     }
 
-    /// The knowledge again, with which this one shares its records: none is copied until one of both takes something in, and
-    /// then those of the blocks that it writes in. O(n / 32), and memory for each block written in since it was last shared.
-    /// After a refusal of memory nothing is known more or less than before.
+    /// The same knowledge, which shares its records with this one: none is copied until one of both is written, and
+    /// then those of the blocks that are written. O(n / 32), and memory for each block written in since it was last
+    /// shared. If memory runs out, nothing is known more or less than before.
     pub fn share(&mut self) -> Result<Knowledge, OutOfMemory>
         ensures ok { IfOk result (λ k. k ≡ self.old) }
         ensures same { self.new ≡ self.old }
@@ -145,7 +146,7 @@ impl Join for Knowledge {
         let _ = &self.jobs;
     }
 
-    /// What the operations of both come to. O(n + m).
+    /// The join of both. O(n + m).
     fn joined(&self, other: &Knowledge) -> Result<Knowledge, OutOfMemory> {
         Ok(Knowledge {
             jobs: self.jobs.joined(&other.jobs)?,

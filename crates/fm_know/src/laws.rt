@@ -17,14 +17,14 @@ pub fn law_can_be(knowledge: &Knowledge)
     knowledge.known();
 }
 
-/// It is what the operations that spell it out come to.
+/// It is the table of the operations that it is written out as.
 pub fn law_spelled(knowledge: &Knowledge)
     ensures { know (ops knowledge.now) ≡ knowledge.now }
 {
     knowledge.known();
 }
 
-/// What sets with the same members come to is the same knowledge.
+/// Sets with the same members have the same knowledge.
 pub fn law_same(left: &Knowledge, right: &Knowledge)
     ensures { (S T : List Op) → HaveSameMembers S T → left.now ≡ know S → right.now ≡ know T → left.now ≡ right.now }
 {

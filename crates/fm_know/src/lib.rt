@@ -1,4 +1,5 @@
-//! What a coordinator knows: the replicated state, its joins, and the facts that it tells.
+//! What a coordinator knows: the replicated state, its joins, and its facts. A delta-state CRDT (Almeida, Shoker and
+//! Baquero, "Delta state replicated data types", 2018).
 #![tactic(auto)]
 
 pub mod facts;

@@ -1,4 +1,4 @@
-//! Delta mutators: the operations by which a coordinator speaks after what it knows. None takes memory.
+//! Delta mutators (Almeida, Shoker and Baquero): a coordinator's next operations after what it knows. None allocates.
 
 ghost use Rattle.std.specs.Prelude.{◌≡◌, ◌≤◌, ◌∷◌, [], Some, IfOk, IfSome};
 ghost use Rattle.std.specs.Option.{ok_or};
@@ -14,8 +14,8 @@ use fm_records::ops::{Op, Phase};
 use fm_records::refusal::Refusal;
 
 impl Knowledge {
-    /// The job's record at the version after the known one, or at version 1. Told to the same knowledge, it becomes what
-    /// is known of the job. VersionsSpent where the known version is the greatest u64. O(log n), as all here.
+    /// The job's record at the version after the known one, or at version 1. Told to the same knowledge, it becomes
+    /// what is known of the job. VersionsSpent if the known version is the greatest u64. O(log n), as all here.
     pub fn next_job(
         &self,
         id: JobId,
@@ -39,9 +39,9 @@ impl Knowledge {
         })
     }
 
-    /// The state of the machine at the incarnation, at the version after that of its known state where that incarnation
-    /// is the present one, else at version 1. Told to the same knowledge, it becomes the machine's present state where no
-    /// later incarnation is known. VersionsSpent where the known version is the greatest u64.
+    /// The state of the machine at the incarnation, at the version after that of its known state if that incarnation
+    /// is the present one, else at version 1. Told to the same knowledge, it becomes the machine's present state if no
+    /// later incarnation is known. VersionsSpent if the known version is the greatest u64.
     pub fn next_machine(
         &self,
         id: MachineId,
@@ -69,7 +69,7 @@ impl Knowledge {
     }
 
     /// The task at the attempt after the known one, pending. Told to the same knowledge, it becomes the progress of the
-    /// task. AttemptsSpent where the known attempt is the greatest u32.
+    /// task. AttemptsSpent if the known attempt is the greatest u32.
     pub fn next_attempt(&self, id: TaskId) -> Result<Op, Refusal>
         ensures op { result ≡ ok_or (next_attempt_op self.now id) Refusal.AttemptsSpent }
         ensures told { IfOk result (λ o. Some (progress_of (table_join self.now (know (o ∷ []))) id) ≡ progress_in id o) }
@@ -96,7 +96,7 @@ impl Knowledge {
         }
     }
 
-    // The version of the machine's state, where the incarnation is the present one and its state is known.
+    // The version of the machine's state, if the incarnation is the present one and its state is known.
     fn state_version(&self, id: MachineId, incarnation: u64) -> Option<u64>
         ensures { result ≡ state_version self.now id incarnation }
     {

@@ -1,4 +1,4 @@
-//! Knowledge from its four maps, as one who reads records has them.
+//! Knowledge from its four maps, for readers of records.
 
 ghost use Rattle.std.specs.Prelude.{◌≡◌};
 ghost use Rattle.fm_records.specs.Ranges.{CanBe};
@@ -10,8 +10,8 @@ use fm_records::ids::{CoordId, JobId, MachineId, TaskId};
 use fm_records::records::{JobReg, MachineRec, Spot, TaskRec};
 
 impl Knowledge {
-    /// The knowledge that has these four maps. The caller has seen that operations can come to them: nothing stands there
-    /// without a record, and each field is in its range. It takes no memory.
+    /// The knowledge that has these four maps. The caller must have checked that they are the maps of some operations:
+    /// nothing is there without a record, and each field is in its range. It allocates nothing.
     pub fn of(
         jobs: JoinMap<JobId, Max<JobReg>>,
         tasks: JoinMap<TaskId, TaskRec>,

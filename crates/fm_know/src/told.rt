@@ -1,4 +1,4 @@
-//! What operations come to, as knowledge: the deltas by which coordinators speak.
+//! The tables of operations, as knowledge: the deltas by which coordinators speak.
 
 ghost use Rattle.std.specs.Prelude.{◌≡◌, ◌<◌, ◌^◌, ◌∷◌, [], List, None, IsTrue, is_none, IfOk};
 ghost use Rattle.std.specs.List.{list_all};
@@ -19,7 +19,7 @@ use fm_records::records::{
 use std::alloc::Global;
 
 impl Knowledge {
-    /// What the one operation comes to. The caller has seen that its `check` is Ok.
+    /// The table of the one operation. The caller must have checked that its `check` is Ok.
     pub fn delta_of(alloc: Global, op: &Op) -> Result<Knowledge, OutOfMemory>
         requires { op_fault op.now ≡ None }
         ensures { IfOk result (λ k. k ≡ know (op.now ∷ [])) }
@@ -33,7 +33,7 @@ impl Knowledge {
         })
     }
 
-    /// What the operations come to. The caller has seen that the `check` of each is Ok.
+    /// The table of the operations. The caller must have checked that the `check` of each is Ok.
     pub fn told(alloc: Global, ops: &[Op]) -> Result<Knowledge, OutOfMemory>
         requires { IsTrue (list_all (λ op. is_none (op_fault op)) ops.now) }
         ensures { IfOk result (λ k. k ≡ know ops.now) }
@@ -67,7 +67,7 @@ fn jobs_of(alloc: Global, op: &Op) -> Result<JoinMap<JobId, Max<JobReg>>, OutOfM
     }
 }
 
-// What the operation tells of a task: where it is a spec, the task is at attempt 0, pending.
+// What the operation tells of a task: if it is a spec, the task is at attempt 0, pending.
 fn tasks_of(alloc: Global, op: &Op) -> Result<JoinMap<TaskId, TaskRec>, OutOfMemory>
     requires { op_fault op.now ≡ None }
     ensures { IfOk result (λ tasks. tasks ≡ (know (op.now ∷ [])).tasks) }

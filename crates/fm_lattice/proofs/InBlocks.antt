@@ -79,7 +79,7 @@ module _ {K V : Type 0} (cmp : K → K → Ordering) (total : IsTotalOrder cmp) 
   lookup_back k [] ys a = refl
   lookup_back k (x ∷ xs) ys a = rw (less_greater cmp total x.0 k a.0) (lookup_back k xs ys a.1)
 
-  -- above a key that the list begins with, where the list is above
+  -- above a key that the list begins with, if the list is above
   first_above : (j k : K) (es ys : List (K × V)) → BeginsWith j es → IsAbove cmp k (es ++ ys) → cmp j k ≡ Less
   first_above j k [] ys h a = absurd h
   first_above j k (x ∷ es) ys h a = subst (λ z. cmp z k ≡ Less) h a.0

@@ -43,7 +43,7 @@ module _ {K V : Type 0} (cmp : K → K → Ordering) (total : IsTotalOrder cmp) 
     pub step_equal : cmp x.0 y.0 ≡ Equal → (out ++ (x.0, join x.1 y.1) ∷ []) ++ map_join cmp join (drop 1 a) (drop 1 b) ≡ whole
     step_equal e = moved out _ _ _ (x.0, join x.1 y.1) (fronts ∙ join_equal cmp total same join x y _ _ rest_rises e) so_far
 
-  -- where one side is at its end, the other is what is left
+  -- if one side is at its end, the other is what is left
   pub ended_left : (a b out whole : List (K × V)) → IsRising cmp b → a ≡ [] → out ++ map_join cmp join a b ≡ whole → (out ++ a) ++ b ≡ whole
   ended_left a b out whole rb e so_far =
       let left : map_join cmp join [] b ≡ b = join_from_none cmp total same join b rb in

@@ -84,7 +84,7 @@ module _ {K V : Type 0} (cmp : K → K → Ordering) (k : K) where
   owned_cut (a ∷ bs) zero d b c lt key lower upper h = rw lower (one_owned c bs upper (more_owned a.1.owned bs h))
   owned_cut (a ∷ bs) (suc i) d b c lt key lower upper h = home_cut a.1.owned bs i d b c (omega arith) key lower upper h
 
-  -- where the key goes, the block is the map's own just if the key goes to one that is
+  -- where the key goes, the block is the map's own exactly if the key goes to one that is
   pub home_owned : (bs : List (K × Stock (K × V))) (i : ℕ) (d : K × Stock (K × V)) → IsHomeOf cmp k bs i → GoesToOwned cmp bs k → (get_or bs i d).1.owned ≡ true
   home_owned [] i d is h = absurd is
   home_owned (b ∷ bs) zero d is h = sym (above_home b.1.owned bs is) ∙ h

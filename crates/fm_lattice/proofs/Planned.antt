@@ -30,7 +30,7 @@ kept_same cmp is_value bs new count kept pairs headed = record {
   counted = kept.counted ∙ ap length (sym pairs);
 }
 
--- what is joined where nothing is there, and where it tells nothing new
+-- what is joined if nothing is there, and if it tells nothing new
 module _ {K V : Type 0} (cmp : K → K → Ordering) (total : IsTotalOrder cmp) (same : TellsApart cmp) (join : V → V → V) (is_value : V → Type 0) (laws : JoinLaws is_value join) (es : List (K × V)) (is : IsMap cmp is_value es) where
   pub joined_to_none : es ≡ map_join cmp join [] es
   joined_to_none = (map_laws cmp total same join is_value laws).comm es [] is (record { rising = tt; values = tt })

@@ -27,7 +27,7 @@ abbrev pub IsAbove : {K V : Type 0} → (K → K → Ordering) → K → List (K
 IsAbove cmp k [] = Unit {0}
 IsAbove cmp k (e ∷ es) = (cmp e.0 k ≡ Less) × IsAbove cmp k es
 
--- the key is above what stands in the blocks before place i, and below what stands in those after it
+-- the key is above all keys in the blocks before place i, and below all keys in those after it
 abbrev pub IsBlockOf : {K V : Type 0} → (K → K → Ordering) → K → List (K × Stock (K × V)) → ℕ → Type 0
 IsBlockOf cmp k [] i = ⊥
 IsBlockOf cmp k (b ∷ bs) zero = IsBelow cmp k (pairs_of bs)
@@ -44,7 +44,8 @@ IsHomeOf cmp k [] i = ⊥
 IsHomeOf cmp k (b ∷ bs) zero = IsBelow cmp k bs
 IsHomeOf cmp k (b ∷ bs) (suc i) = (BeginAbove cmp k bs → ⊥) × IsHomeOf cmp k bs i
 
--- whether the last block that does not begin above the key is one that the map has alone; where each begins above it: owned
+-- whether the last block that does not begin above the key is one that the map has alone; if each begins above it:
+-- owned
 abbrev pub is_owned_home : {K V : Type 0} → (K → K → Ordering) → K → Bool → List (K × Stock (K × V)) → Bool
 is_owned_home cmp k owned [] = owned
 is_owned_home cmp k owned (b ∷ bs) = by_order (cmp k b.0) owned (is_owned_home cmp k b.1.owned bs) (is_owned_home cmp k b.1.owned bs)
@@ -67,7 +68,8 @@ IsOwnedAt {K} {V} bs i = (d : K × Stock (K × V)) → (slice_index_or bs i d).1
 abbrev pub HasAt : {K V : Type 0} → ℕ → List (K × Stock (K × V)) → ℕ → Type 0
 HasAt {K} {V} count bs i = (d : K × Stock (K × V)) → count ≤ length (slice_index_or bs i d).1.items
 
--- the key's block is at place i, and takes the key: the map has it alone, with room for one more pair unless the key is there
+-- the key's block is at place i, and takes the key: the map has it alone, with room for one more pair unless the key is
+-- there
 pub record TakesKey {K V : Type 0} (cmp : K → K → Ordering) (k : K) (bs : List (K × Stock (K × V))) (i : ℕ) : Type 0 where
   pub is_block : IsBlockOf cmp k bs i
   pub owned : IsOwnedAt bs i

@@ -1,6 +1,5 @@
--- The joins of the constructors: what two values come to when they are merged.
--- Almeida, Shoker and Baquero, "Delta state replicated data types": chains, products, lexicographic products and
--- maps to lattices.
+-- The joins of the constructors: the result of merging two values. Almeida, Shoker and Baquero, "Delta state
+-- replicated data types": chains, products, lexicographic products and maps to lattices.
 use Rattle.std.specs.Prelude.{◌≡◌, Option, Some, None}
 use Rattle.std.specs.Ordering.{ord_max, ord_min}
 use Rattle.std.specs.declared.cmp.Ordering.{Ordering}
@@ -14,7 +13,7 @@ max_join = ord_max
 abbrev pub min_join : {K : Type 0} → (K → K → Ordering) → K → K → K
 min_join = ord_min
 
--- none is below every value; two values join
+-- none is below every value; two values are joined
 abbrev pub option_join : {V : Type 0} → (V → V → V) → Option V → Option V → Option V
 option_join join None y = y
 option_join join (Some v) None = Some v
@@ -24,7 +23,7 @@ option_join join (Some v) (Some w) = Some (join v w)
 abbrev pub pair_join : {A B : Type 0} → (A → A → A) → (B → B → B) → A × B → A × B → A × B
 pair_join join_a join_b x y = (join_a x.0 y.0, join_b x.1 y.1)
 
--- the one with the greater first part; where the first parts are equal, the second parts join
+-- the one with the greater first part; if the first parts are equal, the second parts are joined
 abbrev pub lex_join : {K V : Type 0} → (K → K → Ordering) → (V → V → V) → K × V → K × V → K × V
 lex_join cmp join x y = by_order (cmp x.0 y.0) y (x.0, join x.1 y.1) x
 

@@ -41,7 +41,7 @@ abbrev pub map_join : {K V : Type 0} → (K → K → Ordering) → (V → V →
 map_join cmp join a [] = a
 map_join cmp join a (e ∷ es) = map_join cmp join (put cmp join e.0 e.1 a) es
 
--- at each key the map r has the join of what x and y have there, and of one of them where only one has it
+-- at each key the map r has the join of what x and y have there, and of one of them if only one has it
 abbrev pub JoinsByKey : {K V : Type 0} → (K → K → Ordering) → (V → V → V) → List (K × V) → List (K × V) → List (K × V) → Type 0
 JoinsByKey {K} cmp join x y r = (k : K) → lookup cmp k r ≡ option_join join (lookup cmp k x) (lookup cmp k y)
 

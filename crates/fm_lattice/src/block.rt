@@ -1,4 +1,4 @@
-//! Blocks of pairs. A map has a block alone, and can write in it, or shares it with others, and can only read it.
+//! Blocks of pairs. A map owns a block, and can write it, or shares it with other maps, and can only read it.
 
 ghost use Rattle.std.specs.Prelude.{◌≡◌, ◌≤◌, ◌<◌, ◌+◌, ◌++◌, ◌∷◌, [], List, None, true, IfOk, OnOk, OnErr, length, vec_len, vec_capacity};
 ghost use Rattle.fm_lattice.specs.Maps.{IsRising, lookup, put, replaced};
@@ -99,7 +99,7 @@ impl<K: Chain, V: Drop> Block<K, V> {
         }
     }
 
-    // Moves the last pairs, so many of them, into the spare block.
+    // Moves the given number of last pairs into the spare block.
     pub(crate) fn move_last(&mut self, spare: &mut Vec<(K, V)>, count: usize)
         requires owned { self.old.owned ≡ true }
         requires empty { vec_len spare.old ≡ 0 }
@@ -117,8 +117,8 @@ impl<K: Chain, V: Drop> Block<K, V> {
         }
     }
 
-    // The same pairs for one more map, with which they are shared from then on. A block that is shared already costs a
-    // pointer. After a refusal of memory the pairs are as they were.
+    // The same pairs for one more map, shared from then on. A block that is already shared costs a pointer. If memory
+    // runs out, the pairs are unchanged.
     pub(crate) fn share(&mut self) -> Result<Block<K, V>, OutOfMemory>
         ensures same { IfOk result (λ block. block.items ≡ self.old.items) }
         ensures items { self.new.items ≡ self.old.items }
@@ -143,7 +143,7 @@ impl<K: Chain, V: Drop> Block<K, V> {
 }
 
 impl<K: Chain, V: Join> Block<K, V> {
-    // The same pairs again: a pointer where they are shared, else a copy of each.
+    // The same pairs again: a pointer if they are shared, else a copy of each.
     pub(crate) fn copy(&self) -> Result<Block<K, V>, OutOfMemory>
         ensures { IfOk result (λ block. block.items ≡ self.now.items) }
     {
@@ -157,8 +157,8 @@ impl<K: Chain, V: Join> Block<K, V> {
         }
     }
 
-    // Lets the map have the block alone: where it was shared, it gets a copy of each pair, also if no one else has it any more.
-    // After a refusal of memory the pairs are as they were.
+    // Makes the map the only owner of the block: if it was shared, each pair is copied, even if no other map has it
+    // any more. If memory runs out, the pairs are unchanged.
     pub(crate) fn own(&mut self) -> Result<(), OutOfMemory>
         ensures items { self.new.items ≡ self.old.items }
         ensures owned { OnOk result (self.new.owned ≡ true) }
@@ -169,8 +169,8 @@ impl<K: Chain, V: Join> Block<K, V> {
         Ok(())
     }
 
-    // Lets the map have the block alone, and asks for room for so many pairs more.
-    // After a refusal of memory the pairs are as they were.
+    // Makes the map the only owner of the block, and reserves room for as many more pairs.
+    // If memory runs out, the pairs are unchanged.
     pub(crate) fn own_for(&mut self, more: usize) -> Result<(), OutOfMemory>
         ensures items { self.new.items ≡ self.old.items }
         ensures owned { OnOk result (self.new.owned ≡ true) }
@@ -183,8 +183,8 @@ impl<K: Chain, V: Join> Block<K, V> {
         Ok(())
     }
 
-    // Lets the map have the block alone, with room for one more pair.
-    // After a refusal of memory the pairs are as they were.
+    // Makes the map the only owner of the block, with room for one more pair. If memory runs out, the pairs are
+    // unchanged.
     pub(crate) fn reserve_one(&mut self) -> Result<(), OutOfMemory>
         ensures items { self.new.items ≡ self.old.items }
         ensures owned { OnOk result (self.new.owned ≡ true) }
@@ -198,7 +198,7 @@ impl<K: Chain, V: Join> Block<K, V> {
         Ok(())
     }
 
-    // Adds the pair at the end. After a refusal of memory the pairs are as they were.
+    // Adds the pair at the end. If memory runs out, the pairs are unchanged.
     pub(crate) fn push(&mut self, key: K, value: V) -> Result<(), OutOfMemory>
         ensures ok { OnOk result (self.new.items ≡ self.old.items ++ (key, value) ∷ []) }
         ensures err { OnErr result (self.new.items ≡ self.old.items) }

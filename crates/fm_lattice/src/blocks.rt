@@ -11,13 +11,13 @@ use crate::rising::place;
 use std::alloc::Global;
 use std::cmp::Ordering;
 
-// A block of so many pairs is cut before it takes one more.
+// A block of this many pairs is split before it takes one more.
 pub(crate) const FULL: usize = 64;
 
-// A spare block has room for so many pairs at least: a last pair, and a key behind it.
+// A spare block has room for at least this many pairs: a last pair, and a key after it.
 pub(crate) const LEAST: usize = 2;
 
-// Whether the key comes after all that stand there.
+// Whether the key comes after all that are there.
 pub(crate) fn comes_last<K: Chain, V>(blocks: &[(K, Block<K, V>)], key: &K) -> bool
     requires headed { AreHeaded blocks.now }
     requires rising { IsRising K.cmp (pairs_of blocks.now) }
@@ -75,8 +75,9 @@ pub(crate) fn value_in<'a, K: Chain, V>(pairs: &'a [(K, V)], key: &K) -> Option<
     }
 }
 
-// Lets the map have the key's block alone, asks there for room for so many pairs more, and answers where the block is.
-// O(log n), and a copy of the block's pairs where it was shared. After a refusal of memory the pairs are as they were.
+// Makes the map the only owner of the key's block, reserves room there for as many more pairs, and returns the
+// block's place. O(log n), and a copy of the block's pairs if it was shared. If memory runs out, the pairs are
+// unchanged.
 pub(crate) fn own_block<K: Chain, V: Join>(
     blocks: &mut Vec<(K, Block<K, V>)>,
     key: &K,
@@ -106,8 +107,8 @@ fn own<K: Chain, V: Join>(block: &mut (K, Block<K, V>), more: usize) -> Result<(
     block.1.own_for(more)
 }
 
-// Makes room in the key's block, which is cut where it is full, and answers where the block is.
-// After a refusal of memory the pairs are as they were.
+// Makes room in the key's block, which is split if it is full, and returns the block's place.
+// If memory runs out, the pairs are unchanged.
 pub(crate) fn make_room<K: Chain, V: Join>(
     blocks: &mut Vec<(K, Block<K, V>)>,
     key: &K,
@@ -139,9 +140,9 @@ fn reserve_one<K: Chain, V: Join>(block: &mut (K, Block<K, V>)) -> Result<(), Ou
     block.1.reserve_one()
 }
 
-// As `make_room`, with a spare block in place of the allocator, so nothing can fail. With a whole spare block the key's block
-// is cut in halves, also if it is not full, so that both have room for a few keys more. One that is full although the spare
-// block is small moves its last pair there.
+// As `make_room`, with a spare block instead of the allocator, so nothing can fail. With a full-size spare block the
+// key's block is split in halves, even if it is not full, so that both have room for a few more keys. A full block
+// with a small spare block moves its last pair there.
 pub(crate) fn take_room<K: Chain, V: Drop>(
     blocks: &mut Vec<(K, Block<K, V>)>,
     spare: Vec<(K, V)>,
@@ -182,8 +183,8 @@ pub(crate) fn take_room<K: Chain, V: Drop>(
     cut(blocks, at, spare, count, key)
 }
 
-// How many of a block's pairs go to the spare one: as many as they are to be, but no more than half of them; one, where the
-// spare block is small.
+// How many of a block's pairs go to the spare one: as many as wanted, but at most half of them; one, if the spare
+// block is small.
 fn fewer(count: usize, len: usize, whole: bool) -> usize
     requires some { 0 < count }
     requires half { count ≤ 32 }
@@ -209,7 +210,7 @@ fn enlarge<K: Chain, V: Drop>(block: &mut (K, Block<K, V>), spare: Vec<(K, V)>)
     block.1.enlarge(spare);
 }
 
-// Cuts a block in two, the last pairs, so many of them, into the spare one, and answers which of both is the key's.
+// Splits a block: the given number of last pairs go to the spare one. Returns which of both is the key's.
 fn cut<K: Chain, V: Drop>(
     blocks: &mut Vec<(K, Block<K, V>)>,
     at: usize,
@@ -242,8 +243,8 @@ fn cut<K: Chain, V: Drop>(
     }
 }
 
-// How many pairs of a full block go to a new one: half of them, but the last alone if the key goes to the end of all,
-// so that keys that come in order leave full blocks behind.
+// How many pairs of a full block go to a new one: half of them, but only the last if the key goes to the end of the
+// map, so that keys that come in order leave full blocks.
 fn moved_count<K: Chain, V>(blocks: &[(K, Block<K, V>)], at: usize, key: &K) -> usize
     requires { at < length blocks.now }
     ensures some { 0 < result }
@@ -285,7 +286,8 @@ fn split<K: Chain, V: Drop>(
     (spare[0].0, Block::of(spare))
 }
 
-// Sets the value at the key in its block, which takes it, so nothing can fail. Answers how many pairs there are more.
+// Sets the value at the key in its block, which has room for it, so nothing can fail. Returns by how many the pairs
+// grew.
 pub(crate) fn write<K: Chain, V: Drop>(
     blocks: &mut Vec<(K, Block<K, V>)>,
     at: usize,
@@ -338,7 +340,7 @@ pub(crate) fn copied_blocks<K: Chain, V: Join>(
     Ok(copies)
 }
 
-// The same blocks again, each shared from then on. After a refusal of memory the pairs are as they were.
+// The same blocks again, each shared from then on. If memory runs out, the pairs are unchanged.
 pub(crate) fn shared_blocks<K: Chain, V: Drop>(
     blocks: &mut Vec<(K, Block<K, V>)>,
 ) -> Result<Vec<(K, Block<K, V>)>, OutOfMemory>

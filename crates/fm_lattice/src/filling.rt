@@ -1,10 +1,11 @@
-//! Which new keys are to find a whole spare block, when many go to one block.
+//! Which new keys need a full-size spare block, if many go to one block.
 
 use crate::blocks::FULL;
 
-// The block to which the last new key goes, how many of the new keys are to go into it as it stands, and how many more surely
-// find room there, or in one of the blocks that it was cut into. Keys come in their order, and a block that is cut in halves has
-// room for FULL / 2 more in each; of one that is cut for a key behind all others only the upper part is gone to again.
+// The block to which the last new key goes, how many of the new keys are to go into it as it stands, and how many more
+// surely find room there, or in one of the blocks that it was cut into. Keys come in their order, and a block that is
+// cut in halves has room for FULL / 2 more in each; of one that is cut for a key after all others only the upper part
+// is gone to again.
 #[derive(Drop)]
 pub(crate) struct Filling {
     at: usize,
@@ -22,8 +23,8 @@ impl Filling {
         }
     }
 
-    // Counts a new key that goes to the block at the place, which has so many pairs: answers whether it is to find a whole spare
-    // block.
+    // Counts a new key that goes to the block at the place, which has so many pairs: answers whether it is to find a
+    // whole spare block.
     pub(crate) fn count(&mut self, at: usize, len: usize, goes_last: bool) -> bool {
         if self.at != at {
             *self = Filling {

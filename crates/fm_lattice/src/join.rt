@@ -1,11 +1,11 @@
-//! Values that merge.
+//! Values that merge: join-semilattices, as in state-based CRDTs (Shapiro, Preguica, Baquero and Zawirski, 2011).
 
 ghost use Rattle.std.specs.Prelude.{◌≡◌, ◌↔◌, IsTrue, IfOk};
 ghost use Rattle.fm_lattice.specs.Joins.{JoinLaws};
 
 use std::alloc::{AllocError, AllocFailed};
 
-/// The allocator refused memory.
+/// There was no memory.
 #[derive(Debug, Drop, Clone, Copy, PartialEq, Eq)]
 pub struct OutOfMemory;
 
@@ -21,7 +21,7 @@ impl<T: Drop> From<AllocFailed<T>> for OutOfMemory {
     }
 }
 
-/// Values that merge, whatever the order and however often.
+/// Values that merge: a join-semilattice, so order and repetition do not matter.
 pub trait Join: Drop {
     /// Holds of the values that the type can have.
     ghost is_value: { Self → Type 0 };

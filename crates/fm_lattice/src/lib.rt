@@ -1,4 +1,4 @@
-//! Joins: values that merge, whatever the order and however often.
+//! Joins: values that merge, in any order and any number of times.
 #![tactic(auto)]
 
 mod block;

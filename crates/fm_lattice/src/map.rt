@@ -14,7 +14,7 @@ use crate::plan::{carry_out, plan_join};
 use std::alloc::Global;
 use std::marker::Model;
 
-/// A map that merges key by key. Its pairs lie in blocks, so a new key moves no more than what is in its block.
+/// A map that merges key by key. Its pairs are in blocks, so a new key moves only what is in its block.
 #[derive(Drop)]
 pub struct JoinMap<K: Chain, V: Join> {
     // Each block with its first key.
@@ -34,7 +34,7 @@ impl<K: Chain, V: Join> Model for JoinMap<K, V> {
 }
 
 impl<K: Chain, V: Join> JoinMap<K, V> {
-    /// The empty map. It takes no memory.
+    /// The empty map. It allocates nothing.
     pub fn new(alloc: Global) -> JoinMap<K, V>
         ensures { result ≡ [] }
     {
@@ -75,8 +75,8 @@ impl<K: Chain, V: Join> JoinMap<K, V> {
         Pairs::of(&self.blocks)
     }
 
-    /// Joins the value in at the key. O(log n), and the moves within a block of bounded length; O(1) behind the last key.
-    /// After a refusal of memory the map is as it was.
+    /// Joins the value in at the key. O(log n), and the moves within a block of bounded length; O(1) after the last
+    /// key. If memory runs out, the map is unchanged.
     pub fn put(&mut self, key: K, value: V) -> Result<(), OutOfMemory>
         ensures ok { OnOk result (self.new ≡ put K.cmp V.join key value self.old) }
         ensures by_key { OnOk result (JoinsByKey K.cmp V.join self.old ((key, value) ∷ []) self.new) }
@@ -97,14 +97,13 @@ impl<K: Chain, V: Join> JoinMap<K, V> {
         Ok(())
     }
 
-    /// Joins the other map in. If the other has no more keys than there are blocks here, this is done in place: for each of
-    /// the other's m keys a search among the n here and the moves within a block, O(m log n). Else it is one merge of both,
-    /// O(n + m), put in the map's place; but nothing is asked for if the other tells nothing new, and an empty map gets the
-    /// other's blocks, by a pointer each if they are shared.
-    /// In place it asks for each of the m pairs, for room for two more for each new key, for a copy of each shared block that
-    /// one of the keys goes to, and for a block of 64 pairs for each that may be cut: at most one for each 32 new keys that a
-    /// block does not hold, and for each 63 behind the last key.
-    /// After a refusal of memory the map is as it was.
+    /// Joins the other map in. If the other has no more keys than there are blocks here, this is done in place: for
+    /// each of the other's m keys a search among the n here and the moves within a block, O(m log n). Else it is one
+    /// merge of both, O(n + m), which replaces the map. Nothing is allocated if the other says nothing new, and an
+    /// empty map gets the other's blocks, by a pointer each if they are shared. In place it allocates each of the m
+    /// pairs, room for two more for each new key, a copy of each shared block to which one of the keys goes, and a
+    /// block of 64 pairs for each that may be split: at most one for each 32 new keys that a block does not hold, and
+    /// for each 63 after the last key. If memory runs out, the map is unchanged.
     pub fn join_into(&mut self, other: &JoinMap<K, V>) -> Result<(), OutOfMemory>
         ensures ok { OnOk result (self.new ≡ map_join K.cmp V.join self.old other.now) }
         ensures by_key { OnOk result (JoinsByKey K.cmp V.join self.old other.now self.new) }
@@ -116,8 +115,8 @@ impl<K: Chain, V: Join> JoinMap<K, V> {
         Ok(())
     }
 
-    /// The map again. Blocks that are shared already cost a pointer each, and from the others each pair is copied: O(n), and
-    /// the copies of the values, where nothing was shared.
+    /// The same map. Blocks that are already shared cost a pointer each, and each pair of the others is copied: O(n),
+    /// and the copies of the values, if nothing was shared.
     pub fn copy(&self) -> Result<JoinMap<K, V>, OutOfMemory>
         ensures { IfOk result (λ r. r ≡ self.now) }
     {
@@ -127,9 +126,9 @@ impl<K: Chain, V: Join> JoinMap<K, V> {
         })
     }
 
-    /// The map again, with which this one shares what it has: no pair is copied until one of both is written to, and then those
-    /// of the block that is written in. O(n / 32), and memory for each block that was written in since it was last shared.
-    /// After a refusal of memory the map is as it was.
+    /// The same map, which shares its blocks with this one: no pair is copied until one of both maps is written, and
+    /// then those of the written block. O(n / 32), and memory for each block that was written since it was last
+    /// shared. If memory runs out, the map is unchanged.
     pub fn share(&mut self) -> Result<JoinMap<K, V>, OutOfMemory>
         ensures ok { IfOk result (λ r. r ≡ self.old) }
         ensures same { self.new ≡ self.old }
@@ -151,7 +150,7 @@ impl<K: Chain, V: Join> Join for JoinMap<K, V> {
         let _ = &self.blocks;
     }
 
-    /// The map with the pairs of both, joined where a key is in both. O(n + m).
+    /// The map with the pairs of both, joined if a key is in both. O(n + m).
     fn joined(&self, other: &JoinMap<K, V>) -> Result<JoinMap<K, V>, OutOfMemory>
         ensures ok { IfOk result (λ r. r ≡ map_join K.cmp V.join self.now other.now) }
         ensures by_key { IfOk result (λ r. JoinsByKey K.cmp V.join self.now other.now r) }
@@ -171,7 +170,7 @@ impl<K: Chain, V: Join> Join for JoinMap<K, V> {
 }
 
 /// Joins each of four maps into one of four others, all or none, each at the cost of `JoinMap::join_into`.
-/// After a refusal of memory all are as they were.
+/// If memory runs out, all are unchanged.
 pub fn join_four<
     K1: Chain,
     V1: Join,

@@ -1,4 +1,4 @@
-//! Joins of two maps kept in blocks: a merge aside, and changes in place.
+//! Joins of two maps in blocks: a merge into new blocks, and changes in place.
 
 ghost use Rattle.std.specs.Prelude.{◌≡◌, ◌↔◌, IsTrue, ◌+◌, ◌≤◌, ◌<◌, ◌++◌, ◌∷◌, [], List, None, IfOk, OnOk, OnErr, map, length, vec_len, vec_capacity};
 ghost use Rattle.fm_lattice.specs.Maps.{IsRising, lookup, put, map_join, replaced, joined_onto, joined_pair};
@@ -15,7 +15,7 @@ use crate::pairs::Pairs;
 use std::alloc::Global;
 use std::cmp::Ordering;
 
-// The pairs of both, joined where a key is in both, in blocks that are filled in order. O(n + m).
+// The pairs of both, joined if a key is in both, in blocks that are filled in order. O(n + m).
 pub(crate) fn merged<K: Chain, V: Join>(
     alloc: Global,
     left: &[(K, Block<K, V>)],
@@ -52,7 +52,8 @@ pub(crate) fn merged<K: Chain, V: Join>(
     Ok(done)
 }
 
-// Whether the join of both is the right one: each pair of the left has its key there, with a value above its own. O(n + m).
+// Whether the join of both is the right one: each pair of the left has its key there, with a value above its own. O(n +
+// m).
 pub(crate) fn is_below<K: Chain, V: Join>(
     left: &[(K, Block<K, V>)],
     right: &[(K, Block<K, V>)],
@@ -99,7 +100,7 @@ fn append_rest<K: Chain, V: Join>(
     Ok(())
 }
 
-// Adds the pair at the end. After a refusal of memory the pairs are as they were.
+// Adds the pair at the end. If memory runs out, the pairs are unchanged.
 pub(crate) fn append<K: Chain, V: Join>(
     blocks: &mut Vec<(K, Block<K, V>)>,
     key: K,
@@ -165,10 +166,10 @@ pub(crate) fn joined_at<K: Chain, V: Join>(
     }
 }
 
-// For each key of the right, what the join of both has there, and a spare block where the left lacks the key: a whole one where
-// a block may have to be cut for it, else one for two pairs. The left gets each block alone that one of the keys goes to, with
-// room for the new ones that it can hold. O(m log n), and a copy of each such block that was shared.
-// After a refusal of memory the pairs are as they were.
+// For each key of the right, the value of the join, and a spare block if the left lacks the key: a full-size one if a
+// block may have to be split for it, else one for two pairs. The left becomes the only owner of each block to which
+// one of the keys goes, with room for the new ones that it can hold. O(m log n), and a copy of each such block that
+// was shared. If memory runs out, the pairs are unchanged.
 pub(crate) fn changes<K: Chain, V: Join>(
     left: &mut Vec<(K, Block<K, V>)>,
     right: &[(K, Block<K, V>)],
@@ -258,7 +259,7 @@ fn change_in<K: Chain, V: Join>(
     }
 }
 
-// Makes each change, and answers how many pairs there are more. There is room for all, so nothing can fail.
+// Makes each change, and returns by how many the pairs grew. There is room for all, so nothing can fail.
 // O(m log n) and the moves within blocks.
 pub(crate) fn apply<K: Chain, V: Drop>(
     blocks: &mut Vec<(K, Block<K, V>)>,

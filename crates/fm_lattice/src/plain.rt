@@ -41,7 +41,7 @@ impl<T: Chain> Join for Max<T> {
     ghost laws = { max_laws T.cmp T.total T.same };
 }
 
-/// Merges to the value with the greater first part, and merges the second parts where the first are equal.
+/// Merges to the value with the greater first part, and merges the second parts if the first are equal.
 #[derive(Debug, Drop, Clone, Copy, PartialEq, Eq)]
 pub struct Lex<A, B>(pub A, pub B);
 

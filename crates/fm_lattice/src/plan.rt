@@ -1,4 +1,4 @@
-//! Joins in two steps: a plan, for which memory can be refused, and what carries it out, which cannot fail.
+//! Joins in two steps: a plan, which may run out of memory, and its execution, which cannot fail.
 
 ghost use Rattle.std.specs.Prelude.{◌≡◌, List, true, IfOk, length};
 ghost use Rattle.fm_lattice.specs.Maps.{IsRising, map_join};
@@ -12,7 +12,7 @@ use crate::join::{Join, OutOfMemory};
 use crate::merging::{apply, changes, counted, is_below, merged};
 use std::alloc::Global;
 
-// Blocks in place of those that are there, or changes of them.
+// Blocks that replace the present ones, or changes of these.
 #[derive(Drop)]
 pub(crate) struct Plan<K: Chain, V: Drop> {
     pub(crate) aside: bool,
@@ -21,9 +21,9 @@ pub(crate) struct Plan<K: Chain, V: Drop> {
     pub(crate) changes: Vec<((K, V), Vec<(K, V)>)>,
 }
 
-// Plans to join the other pairs in: by changes if they are no more than the blocks here, O(m log n), else by a merge aside,
-// O(n + m), unless nothing changes. The changes are of blocks that the map has alone. After a refusal of memory the pairs are
-// as they were.
+// Plans to join the other pairs in: by changes if they are no more than the blocks here, O(m log n), else by a merge
+// into new blocks, O(n + m), unless nothing changes. The changes are of blocks that the map owns. If memory runs out,
+// the pairs are unchanged.
 #[tactic(auto, using(crate::proofs::Planned::kept_same))]
 pub(crate) fn plan_join<K: Chain, V: Join>(
     blocks: &mut Vec<(K, Block<K, V>)>,
@@ -110,7 +110,7 @@ fn plan_aside<K: Chain, V: Join>(
     })
 }
 
-// Carries the plan out, and answers how many pairs there are then.
+// Carries the plan out, and returns how many pairs there are then.
 pub(crate) fn carry_out<K: Chain, V: Drop>(
     blocks: &mut Vec<(K, Block<K, V>)>,
     len: usize,

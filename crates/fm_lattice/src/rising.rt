@@ -15,7 +15,7 @@ pub(crate) fn place<K: Chain, V>(pairs: &[(K, V)], key: &K) -> Result<usize, usi
     pairs.binary_search_by_key(key, |pair| pair.0)
 }
 
-// Sets the value at the key. Where the key is new there is room for it, so nothing can fail. O(log n) and the moves.
+// Sets the value at the key. If the key is new there is room for it, so nothing can fail. O(log n) and the moves.
 pub(crate) fn set<K: Chain, V: Drop>(pairs: &mut Vec<(K, V)>, key: K, value: V)
     requires rising { IsRising K.cmp pairs.old.items }
     requires room { lookup K.cmp key pairs.old.items ≡ None → vec_len pairs.old < vec_capacity pairs.old }

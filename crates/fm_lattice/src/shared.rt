@@ -24,7 +24,7 @@ impl<T> Model for Shared<T> {
 }
 
 impl<T: Drop> Shared<T> {
-    /// The value, with one owner. After a refusal of memory it is dropped.
+    /// The value, with one owner. If memory runs out, it is dropped.
     pub fn new(alloc: Global, value: T) -> Result<Shared<T>, OutOfMemory>
         ensures { IfOk result (λ s. s ≡ value) }
     {
@@ -33,7 +33,7 @@ impl<T: Drop> Shared<T> {
         })
     }
 
-    /// The same value for one more owner. It copies nothing, and is refused where no more owners can be counted.
+    /// The same value for one more owner. It copies nothing, and is refused if no more owners can be counted.
     pub fn share(&self) -> Result<Shared<T>, OutOfMemory>
         ensures { IfOk result (λ s. s ≡ self.now) }
     {
@@ -51,7 +51,8 @@ impl<T: Drop> Shared<T> {
 }
 
 impl<T: Clone> Shared<T> {
-    /// The value, to write in. Where it has other owners, this one gets a clone of it first, and the others keep theirs.
+    /// The value, for writing (copy on write). If it has other owners, this one gets a clone of it first, and the
+    /// others keep theirs.
     pub fn own(&mut self) -> Result<&mut T, OutOfMemory>
         ensures* writes_back { sem 𝓛 (LendsSoOk (the_row T.row) T.row self.entry result (λ n w. n ≡ w) (λ n. (n ≡ self.old) ⊎ T.is_clone self.old n)) }
         ensures value { IfOk result (λ x. (x.now ≡ self.old) ⊎ T.is_clone self.old x.now) }

@@ -7,13 +7,14 @@ use Rattle.fm_lines.specs.declared.lines.Next.{Next}
 use Rattle.fm_lines.specs.declared.lines.Next.TheVariants as next
 use Rattle.fm_lines.specs.Lines.{IsLine, ended}
 
--- what is kept of a line: all of it, unless it is too long or memory was refused
+-- what is kept of a line: all of it, unless it is too long or memory ran out
 abbrev pub IsKept : Line → List ℕ → List ℕ → Type 0
 IsKept Whole line kept = (kept ≡ line) × (length line ≤ most_bytes)
 IsKept TooLong line kept = most_bytes < length line
 IsKept OutOfMemory line kept = Unit {0}
 
--- the bytes that were read are a line and its line feed, and that is kept of it; or what stands behind the last line feed; or none
+-- the bytes that were read are a line and its line feed, and that is kept of it; or what follows the last line feed; or
+-- none
 abbrev pub IsNext : Next → List ℕ → List ℕ → Type 0
 IsNext (next.Line is) bytes kept = (line : List ℕ) × IsLine line × IsKept is line kept × (bytes ≡ ended line)
 IsNext (next.Last is) bytes kept = IsLine bytes × (0 < length bytes) × IsKept is bytes kept

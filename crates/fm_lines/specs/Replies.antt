@@ -1,4 +1,4 @@
--- What is answered to a line: the text that it came to and that it was accepted, or why it was refused (this project's profile).
+-- What is answered to a line: its text and `ok`, or why it was refused (this project's profile).
 use Rattle.std.specs.Prelude.{ℕ, List, ◌++◌, codes, decimal}
 use Rattle.fm_records.specs.declared.refusal.Refusal.{Refusal}
 use Rattle.fm_records.specs.Refusals.{number_of}

@@ -1,4 +1,4 @@
--- What lines come to, one after another (this project's profile).
+-- The effect of lines, one after another (this project's profile).
 use Rattle.std.specs.Prelude.{◌≡◌, ◌⊎◌, ◌<◌, ◌≤◌, ◌-◌, ◌^◌, ℕ, List, [], ◌∷◌, ◌++◌, true, length, Result, Ok, Err}
 use Rattle.std.specs.List.{flat_map}
 use Rattle.std.specs.Io.KnownBytes.{Appends, Consumes, IsAtEnd}
@@ -9,15 +9,15 @@ use Rattle.fm_streams.specs.Sources.{Streams, most_bytes}
 use Rattle.fm_lines.specs.Lines.{lines_of, IsLine, ended}
 use Rattle.fm_lines.specs.Replies.{refused}
 
--- a line is refused unread: memory was refused for it, or it is too long
+-- a line is refused unread: memory ran out for it, or it is too long
 abbrev pub IsUnread : List ℕ → List ℕ → Type 0
 IsUnread line text = (text ≡ refused OutOfMemory) ⊎ ((most_bytes < length line) × (text ≡ refused (BadScript 0)))
 
--- a line is answered so, and makes new of old: it is refused unread and changes nothing, or whoever answers lines answers it
+-- a line is answered so, and makes new of old: it is refused unread and changes nothing, or the responder answers it
 abbrev pub IsTaken : {D : Type 0} → (D → List ℕ → List ℕ → D → Type 0) → D → List ℕ → List ℕ → D → Type 0
 IsTaken Answers old line text new = (IsUnread line text × (new ≡ old)) ⊎ Answers old line text new
 
--- lines in turn: their answers one behind another, each by what those before it left
+-- lines in turn: their answers one after another, each by what those before it left
 abbrev pub Run : {D : Type 0} → (D → List ℕ → List ℕ → D → Type 0) → D → List (List ℕ) → List ℕ → D → Type 0
 Run Answers old [] text new = (text ≡ []) × (new ≡ old)
 Run {D} Answers old (line ∷ lines) text new =
@@ -34,8 +34,8 @@ pub record IsCutOff (text : List ℕ) (lines : List (List ℕ)) (streams : Strea
   pub whole : text ≡ flat_map ended lines ++ rest
   pub cause : (streams.source_failed ≡ true) ⊎ (most_counted ≤ length text)
 
--- which lines of what was read were answered: all of a stream that came to its end; all that were read before the sink failed;
--- or the whole ones before the source failed
+-- which lines of what was read were answered: all of a stream that came to its end; all that were read before the sink
+-- failed; or the whole ones before the source failed
 abbrev pub AreFollowed : {T : Type 0} → Result T Refusal → List ℕ → List (List ℕ) → Streams → Type 0
 AreFollowed (Ok t) text lines streams = (lines ≡ lines_of text) × IsAtEnd streams.left
 AreFollowed (Err WriteFault) text lines streams = lines ≡ lines_of text
@@ -47,7 +47,8 @@ abbrev pub WentOut : {T : Type 0} → Result T Refusal → List ℕ → Streams 
 WentOut (Err WriteFault) text streams = AppendsPrefix streams.old streams.new text × (streams.has_failed ≡ true)
 WentOut r text streams = Appends streams.old streams.new text × (streams.has_failed ≡ streams.had_failed)
 
--- a stream was followed: what was read of it, the lines of that, and their answers, of which as much went out as is said
+-- a stream was followed: what was read of it, the lines of that, and their answers, of which as much went out as is
+-- said
 pub record IsFollowed {D T : Type 0} (Answers : D → List ℕ → List ℕ → D → Type 0) (result : Result T Refusal) (old new : D) (streams : Streams) : Type 0 where
   pub text : List ℕ
   pub read : Consumes streams.given streams.left text

@@ -13,10 +13,10 @@ use fm_streams::sink::Sink;
 use fm_streams::source::Source;
 use std::alloc::Global;
 
-/// Answers the lines of a stream, each before the next is read, up to its end: the text that a line comes to and then `ok`, or
-/// `refusal N`. What stands behind the last line feed is a line too. A line that is refused changes nothing, and the next is
-/// read; so is one of more than 16 MiB, or one for which memory was refused. BadScript(0) if the source fails, WriteFault if the
-/// sink does; then no further line is read.
+/// Answers the lines of a stream, each before the next is read, until its end: the text of a line's answer and then
+/// `ok`, or `refusal N`. What follows the last line feed is a line too. A refused line changes nothing, and the next
+/// is read. A line of more than 16 MiB, or one for which memory ran out, is refused. BadScript(0) if the source
+/// fails, WriteFault if the sink does; then no further line is read.
 pub fn follow<D: Responder, S: Source, W: Sink>(
     alloc: Global,
     responder: &mut D,

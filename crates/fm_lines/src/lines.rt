@@ -16,9 +16,9 @@ use fm_streams::source::Source;
 pub enum Line {
     /// All of it.
     Whole,
-    /// Nothing that means anything: it has more than `MOST_BYTES` bytes.
+    /// Nothing of use: it has more than `MOST_BYTES` bytes.
     TooLong,
-    /// Nothing that means anything: memory was refused for it.
+    /// Nothing of use: memory ran out for it.
     OutOfMemory,
 }
 
@@ -27,15 +27,15 @@ pub enum Line {
 pub enum Next {
     /// A line and its line feed.
     Line(Line),
-    /// Bytes behind the last line feed, and then the end.
+    /// Bytes after the last line feed, and then the end.
     Last(Line),
     /// The end.
     End,
 }
 
-/// Reads the next line, up to its line feed, and keeps it without that. A line that is too long, or for which memory is refused,
-/// is read to its end all the same. BadScript(0) if the source fails, and only then, short of 2^64 bytes of one line. It asks the
-/// source for one byte at a time, so a source of its own should read ahead. O(n).
+/// Reads the next line, up to its line feed, and keeps it without that. A line that is too long, or for which memory
+/// runs out, is also read to its end. BadScript(0) if the source fails, and only then, short of 2^64 bytes of one
+/// line. It asks the source for one byte at a time, so a source of its own should read ahead. O(n).
 pub fn next_line<S: Source>(source: &mut S, line: &mut Vec<u8>) -> Result<Next, Refusal>
     ensures next { IfOk result (λ next. (bytes : List ℕ) × Consumes (S.remaining source.old) (S.remaining source.new) bytes
         × IsNext next bytes line.new.items) }
@@ -56,7 +56,7 @@ pub fn next_line<S: Source>(source: &mut S, line: &mut Vec<u8>) -> Result<Next, 
     Err(Refusal::BadScript(0))
 }
 
-// What stands at the end of the stream.
+// What is at the end of the stream.
 fn end_of(kept: Line, is_empty: bool) -> Next
     ensures last { is_last result ≡ true }
     ensures next { (bytes line : List ℕ) → IsLine bytes → (is_empty ≡ true → bytes ≡ []) → (is_empty ≡ false → 0 < length bytes)

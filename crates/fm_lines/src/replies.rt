@@ -9,7 +9,7 @@ use fm_records::refusal::Refusal;
 use fm_streams::sending::send;
 use fm_streams::sink::Sink;
 
-/// Has the text that a line came to go out, and that it was accepted.
+/// Writes the text of an accepted line's answer, and `ok`.
 pub(crate) fn send_accepted<W: Sink>(sink: &mut W, text: &[u8]) -> Result<(), Refusal>
     ensures sent { IsSent result (W.written sink.old) (W.written sink.new) (W.has_failed sink.old) (W.has_failed sink.new) (accepted text.now) }
     ensures cause { IsOkUnless result Refusal.WriteFault }
@@ -18,7 +18,7 @@ pub(crate) fn send_accepted<W: Sink>(sink: &mut W, text: &[u8]) -> Result<(), Re
     send(sink, b"ok\n")
 }
 
-/// Has it go out why a line was refused.
+/// Writes why a line was refused.
 pub(crate) fn send_refused<W: Sink>(sink: &mut W, refusal: Refusal) -> Result<(), Refusal>
     ensures sent { IsSent result (W.written sink.old) (W.written sink.new) (W.has_failed sink.old) (W.has_failed sink.new) (refused refusal) }
     ensures cause { IsOkUnless result Refusal.WriteFault }

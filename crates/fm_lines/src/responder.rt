@@ -1,16 +1,16 @@
-//! Who answers lines.
+//! Responders, which answer lines.
 
 ghost use Rattle.std.specs.Prelude.{◌≡◌, ℕ, List, MatchResult};
 ghost use Rattle.fm_lines.specs.Replies.{accepted, refused};
 
 use fm_records::refusal::Refusal;
 
-/// Whoever answers lines, one after another.
+/// Responders: what answers lines, one after another.
 pub trait Responder {
-    /// A line is answered so, and that is what becomes of whoever answers.
+    /// How a line is answered in a state of the responder, and its next state.
     ghost answers: { Self → List ℕ → List ℕ → Self → Type 0 };
 
-    /// The text that the line comes to. A line that is refused changes nothing.
+    /// The text of the line's answer. A refused line changes nothing.
     fn answer(&mut self, line: &[u8]) -> Result<Vec<u8>, Refusal>
         ensures { MatchResult result (λ text. answers self.old line.now (accepted text.items) self.new)
             (λ refusal. answers self.old line.now (refused refusal) self.new × (self.new ≡ self.old)) };

@@ -23,7 +23,7 @@ next_member listed tells at n before after all m has is made pushed so_far =
     ∙ ap (λ xs. before ++ members_of xs tells) (sym rest)
     ∙ so_far
 
--- behind the last
+-- after the last
 pub all_members : (listed : List ℕ) (tells : List Tell) (at : ℕ) (ms : List MemberSeen) → length listed ≤ at → ms ++ members_of (drop at listed) tells ≡ members_of listed tells → ms ≡ members_of listed tells
 all_members listed tells at ms end so_far =
     let none : drop at listed ≡ [] = nil_from_length _ (omega (arith, length-drop at listed)) in

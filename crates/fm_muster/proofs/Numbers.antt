@@ -1,4 +1,4 @@
--- The numbers of a fleet's coordinators are those that are listed, before and after they told one another what they know.
+-- The numbers of a fleet's coordinators are those that are listed, before and after they exchanged what they know.
 use Rattle.std.proofs.Common.{◌≡◌, ℕ, List, [], ◌∷◌, map, refl, ap, ◌∙◌}
 use Rattle.fm_delta.specs.declared.packet.Packet.{Packet}
 use Rattle.fm_coord.specs.declared.entry.Call.TheVariants as call

@@ -1,4 +1,4 @@
--- Coordinators that told one another all that they know, know the same: each took in what all had taken in.
+-- Coordinators that exchanged all that they know, know the same: each took in what all had taken in.
 use Rattle.std.proofs.Common.{◌≡◌, ◌⊎◌, ◌==◌, ℕ, not, cond, true, false, List, [], ◌∷◌, ◌++◌, map, refl, sym, ap, ◌∙◌, subst, inl, inr, append_assoc}
 use Rattle.std.proofs.lemmas.List.{append-nil}
 use Rattle.std.proofs.lemmas.Bool.{eqb-true}

@@ -1,4 +1,4 @@
--- What a script of tells comes to when its coordinators run in threads (this project's profile).
+-- The counts of a script of tells whose coordinators run in threads (this project's profile).
 use Rattle.std.specs.Prelude.{◌≡◌, ◌⊎◌, ℕ, ◌+◌, ◌==◌, List, [], ◌∷◌, ◌++◌, length, map, cond, codes, decimal, Option, Some, None, option_map}
 use Rattle.std.specs.List.{flat_map}
 use Rattle.fm_records.specs.declared.ops.Op.{Op}
@@ -31,7 +31,7 @@ members_of listed ts = map (λ n. member n (told_at n ts)) listed
 abbrev pub tell_fault : List ℕ → Tell → Option Refusal
 tell_fault listed t = cond (is_listed listed t.at) (option_map BadOp (op_fault t.op)) (Some NoCoordinator)
 
--- a refusal names its place; where there is none, what comes later counts
+-- a refusal names its place; if there is none, what comes later counts
 abbrev pub named_or : ℕ → Option Refusal → Option Stop → Option Stop
 named_or place None later = later
 named_or place (Some refusal) later = Some (record { refusal = refusal; step = Some place })
@@ -55,7 +55,7 @@ pub record IsMustered (listed : List ℕ) (tells : List Tell) (rounds : ℕ) (c 
   pub closed : List State
   pub served : AreServed (tasks_of rounds (members_of listed tells)) closed
   pub calls : c.calls.items ≡ map calls_of closed
-  -- once they told one another all that they know, their histories are one list of steps, and they know the same
+  -- once they exchanged all that they know, their histories are one list of steps, and they know the same
   pub steps : List Step
   pub gathered : IsWholeRun (exchanged closed) steps
   pub counted : c.steps ≡ length steps
@@ -65,7 +65,8 @@ pub record IsMustered (listed : List ℕ) (tells : List Tell) (rounds : ℕ) (c 
 abbrev pub IsStopped : List ℕ → List Tell → Stop → Type 0
 IsStopped listed tells stop = (first_refused listed 1 tells ≡ Some stop) ⊎ ((first_refused listed 1 tells ≡ None) × (stop.step ≡ None))
 
--- the lines: what each coordinator accepted, that all was audited, the length of the one list, and that all know the same
+-- the lines: what each coordinator accepted, that all was audited, the length of the one list, and that all know the
+-- same
 abbrev pub calls_line : Calls → List ℕ
 calls_line c = codes "calls " ++ (decimal c.coordinator ++ (codes " " ++ (decimal c.count ++ codes "\n")))
 

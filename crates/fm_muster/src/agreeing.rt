@@ -1,4 +1,4 @@
-//! What coordinators know once they told one another all.
+//! What coordinators know after they exchanged all that they knew.
 
 ghost use Rattle.std.specs.Prelude.{◌≡◌, map};
 ghost use Rattle.fm_coord.specs.Numbers.{AreDistinct};
@@ -11,7 +11,7 @@ ghost use Rattle.fm_muster.specs.Musters.{KnowSame};
 use fm_coord::coordinator::Coordinator;
 use fm_policy::keeper::NetKeeper;
 
-/// Once coordinators of distinct numbers told one another all that they know, they know the same.
+/// After coordinators of distinct numbers exchanged all that they know, they know the same.
 pub(crate) fn law_exchanged<N: NetKeeper>(coordinators: &[Coordinator<N>])
     requires { AreDistinct (map number_of coordinators.now) }
     ensures { KnowSame (exchanged (map state_of coordinators.now)) }

@@ -1,9 +1,10 @@
-//! How many rounds of a fleet are done, for whoever looks on.
+//! How many rounds of a fleet are done, for observers.
 
 use fm_fleet::round::Gate;
 use std::sync::atomic::{AtomicU64, Ordering};
 
-/// The gate of a solver, which counts its rounds: each when the next begins, and the last when the solver lets its gate go.
+/// The gate of a solver, which counts its rounds: each when the next begins, and the last when the solver lets its gate
+/// go.
 pub(crate) struct RoundCounter<'a> {
     done: &'a AtomicU64,
     has_begun: bool,

@@ -15,8 +15,8 @@ pub struct Calls {
     pub count: usize,
 }
 
-/// What is counted of a fleet: the calls of each coordinator, as listed, and the steps of the one list that all histories are
-/// gathered into.
+/// What is counted of a fleet: the calls of each coordinator, as listed, and the steps of the one list that all
+/// histories are gathered into.
 #[derive(Debug, Drop)]
 pub struct Counts {
     pub calls: Vec<Calls>,
@@ -24,7 +24,8 @@ pub struct Counts {
 }
 
 impl Counts {
-    /// A line `calls C K` for each coordinator, then `audit ok`, `gather L` and `same`. Only memory is refused. O(n).
+    /// A line `calls C K` for each coordinator, then `audit ok`, `gather L` and `same`. Refused only if memory runs
+    /// out. O(n).
     pub fn text(&self, alloc: Global) -> Result<String, Refusal>
         ensures ok { IfOk result (λ text. string_bytes text ≡ counts_text self.now) }
         ensures err { IsOkUnless result Refusal.OutOfMemory }

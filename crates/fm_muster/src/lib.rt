@@ -1,4 +1,4 @@
-//! Musters: the coordinators of a script of tells run in threads, tell one another all that they know, and are counted.
+//! Musters: the coordinators of a script of tells run in threads, exchange all that they know, and are counted.
 #![tactic(auto)]
 
 mod agreeing;

@@ -1,4 +1,4 @@
-//! Coordinators that run in threads, tell one another all that they know, and are counted.
+//! Coordinators that run in threads, exchange all that they know, and are counted.
 
 ghost use Rattle.std.specs.Prelude.{◌≡◌, map, IfOk, IfErr};
 ghost use Rattle.fm_coord.specs.Numbers.{AreDistinct};
@@ -21,20 +21,20 @@ use std::sync::Wait;
 use std::sync::atomic::AtomicU64;
 use std::thread::Threads;
 
-/// Why a fleet was not counted: a refusal, and the step of the script at fault, counted from 1, where one is.
+/// Why a fleet was not counted: a refusal, and the step of the script at fault, counted from 1, if one is.
 #[derive(Debug, Clone, Copy, PartialEq, Eq, Drop)]
 pub struct Stop {
     pub refusal: Refusal,
     pub step: Option<usize>,
 }
 
-/// Runs the coordinators that the script lists at the same time: each is told its tells and runs so many rounds, in two threads,
-/// and merges what the others knew once they were told theirs. Then they are closed and audited, tell one another all that they
-/// know, and their histories are gathered into one list of steps. The caller owes that no two of them have one number. Each
-/// round that is done adds 1 to the counter, for whoever looks on.
-/// The first tell whose coordinator is not listed, or a field of which is out of range, is named, and then no thread was
-/// started: NoCoordinator, BadOp. Else no step is named: OutOfMemory, also where a thread cannot be made; HistoryFull;
-/// InboxFull; NotMine where an audit fails; Stuck.
+/// Runs the coordinators that the script lists at the same time: each is told its operations and runs the given
+/// number of rounds, in two threads, and merges what the others knew after they were told theirs. Then they are
+/// closed and audited, exchange all that they know, and their histories are gathered into one list of steps. The
+/// caller must ensure that no two of them have one number. Each round that is done adds 1 to the counter, for
+/// observers. The first tell whose coordinator is not listed, or a field of which is out of range, is named, and then
+/// no thread was started: NoCoordinator, BadOp. Else no step is named: OutOfMemory, also if a thread cannot be made;
+/// HistoryFull; InboxFull; NotMine if an audit fails; Stuck.
 pub fn muster<R: Threads + Wait + Sync>(
     rt: &R,
     alloc: Global,

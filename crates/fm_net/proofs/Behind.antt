@@ -1,4 +1,4 @@
--- Pairs whose keys rise: a key behind the last goes to the end, and one that equals that of a pair is there.
+-- Pairs whose keys rise: a key after the last goes to the end, and one that equals that of a pair is there.
 use Rattle.std.proofs.Common.{◌≡◌, ℕ, ◌+◌, List, ◌<◌, length, get_or, sym, ◌∙◌, ap, inl, inr, true, arith}
 use Rattle.std.specs.Ordering.{is_lt, is_eq}
 use Rattle.std.specs.Cmp.{IsTotalOrder}

@@ -1,4 +1,4 @@
--- Cells and an index that are cloned, where a clone is what was cloned.
+-- Cells and an index that are cloned, if a clone is what was cloned.
 use Rattle.std.proofs.Common.{◌≡◌, ℕ, List, Option, Some, None, is_some, length, slice_index_or, sym, ap, ◌∙◌, subst}
 use Rattle.std.specs.Prelude.{count_by}
 use Rattle.std.specs.List.{AllZip}

@@ -6,7 +6,7 @@ use Rattle.fm_net.specs.declared.node.Node.{Node}
 use Rattle.fm_net.specs.Net.{Net}
 use Rattle.fm_net.specs.Same.{same_node, same_arc, same_net, net_Decides}
 
--- pairs of nothing but a key are the same where the keys are
+-- pairs of nothing but a key are the same if the keys are
 and_true : (b : Bool) → (b && true) ≡ b
 and_true true = refl
 and_true false = refl

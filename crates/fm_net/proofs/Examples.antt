@@ -54,7 +54,7 @@ one_task_net = record {
 one_task_waits : net_of (know one_task) ≡ one_task_net
 one_task_waits = refl
 
--- a task that prefers the machine has an arc to it, at the cost of a place there less the credit, and at no cost where the
+-- a task that prefers the machine has an arc to it, at the cost of a place there less the credit, and at no cost if the
 -- credit is greater
 preferred : net_of (know (job_with 500 800 ∷ machine_with 2 ∷ prefers 30 ∷ [])) ≡ record { nodes = one_task_net.nodes; arcs = one_task_net.arcs ++ ((Task t1, Machine A), (1, 70)) ∷ [] }
 preferred = refl
@@ -62,7 +62,7 @@ preferred = refl
 preferred_for_nothing : net_of (know (job_with 500 800 ∷ machine_with 2 ∷ prefers 200 ∷ [])) ≡ record { nodes = one_task_net.nodes; arcs = one_task_net.arcs ++ ((Task t1, Machine A), (1, 0)) ∷ [] }
 preferred_for_nothing = refl
 
--- where there is no room there is no such arc
+-- if there is no room there is no such arc
 preferred_without_room : arc_in (op.Report A 1 1 950 ∷ job_with 500 800 ∷ machine_with 2 ∷ prefers 30 ∷ []) (Task t1) (Machine A) ≡ None
 preferred_without_room = refl
 
@@ -140,7 +140,7 @@ of_set_job = refl
 of_set_request : is_node_in held (Request 100) ≡ false
 of_set_request = refl
 
--- A request of 0 fits as often as there are slots, and not where the use is above the nic.
+-- A request of 0 fits as often as there are slots, and not if the use is above the nic.
 
 abbrev asks_nothing : List Op
 asks_nothing = job_with 500 800 ∷ machine_with 2 ∷ task_of t1 0 ∷ []

@@ -12,7 +12,7 @@ use Rattle.fm_net.specs.Nodes.{node_cmp, ends_cmp, IsInRange}
 use Rattle.fm_net.specs.NodeOrder.{node_exact, node_total, ends_exact}
 use Rattle.fm_net.specs.Net.{Net, CanBeNet, IsArc, IsTouched, has_node, arc_at, are_ends}
 
--- an arc stands as it did where its ends do
+-- an arc is unchanged if its ends are
 arc_kept : (old new : Net) (from to : Node) (arc : ℕ × ℕ) → IsArc old from to arc → has_node new from ≡ true → has_node new to ≡ true → IsArc new from to arc
 arc_kept old new from to arc a f t = record {
   from_stands = f;

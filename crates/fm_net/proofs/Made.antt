@@ -6,7 +6,7 @@ use Rattle.fm_net.specs.Net.{Net}
 use Rattle.fm_net.specs.Edits.{edited, after, MayEdit, MayEditAll}
 use Rattle.fm_net.specs.EditLaws.{after_both}
 
--- the edit at a place comes after those before it and before those behind it
+-- the edit at a place comes after those before it and before those after it
 module _ (es : List Edit) (k : ℕ) (e : Edit) (lt : k < length es) (is : e ≡ get_or es k e) where
   pub left_is : drop k es ≡ e ∷ drop (k + 1) es
   left_is = drop_more es k e lt ∙ ap (λ f. f ∷ drop (k + 1) es) (sym is)

@@ -51,7 +51,7 @@ module _ {K V : Type 0} (cmp : K → K → Ordering) (total : IsTotalOrder cmp) 
         | Some q ↦ λ is. ap (λ z. option_map (λ (e : K × V). e.1) (at z)) is
       ] told ∙ sym (shown_at cmp total at k es a.cells)
 
-  -- where nothing stood it is the next
+  -- if nothing stood it is the next
   next_told : at p ≡ None → p ≡ next
   next_told e =
       elim (lookup cmp k es) as (λ o. lookup cmp k es ≡ o → Told o → p ≡ next) [
@@ -71,7 +71,7 @@ module _ {K V : Type 0} (cmp : K → K → Ordering) (total : IsTotalOrder cmp) 
         | Some q ↦ λ was is. sym (ap is_some (ap at is ∙ (found cmp total at k q es a.cells was).cell))
       ] refl told
 
-  -- so the slab has one more just where the index has
+  -- so the slab has one more exactly if the index has
   pub no_more_told : (former : Option (K × V)) (was mid now many : ℕ) → former ≡ at p → OnSome former (mid + 1 ≡ was) → IfNone former (mid ≡ was) → now ≡ mid + 1 → was ≡ length es → many ≡ length es + (if is_some (lookup cmp k es) then 0 else 1) → now ≡ many
   no_more_told None was mid now many is emptied unchanged fills before after = let left = rw (has_told, ← is) at after in omega (arith, unchanged, fills, before, left)
   no_more_told (Some e) was mid now many is emptied unchanged fills before after = let left = rw (has_told, ← is) at after in omega (arith, emptied, fills, before, left)

@@ -124,7 +124,7 @@ module _ {K V : Type 0} (cmp : K → K → Ordering) (total : IsTotalOrder cmp) 
   rising_shown at [] c r = tt
   rising_shown at (x ∷ es) c r = rw c.0.1 (below_shown at x.0 es c.1 r.0, rising_shown at es c.1 r.1)
 
-  -- where the key is not found there is nothing to remove
+  -- if the key is not found there is nothing to remove
   pub shown_absent : (at : ℕ → Option (K × V)) (k : K) (es : List (K × ℕ)) → EachHasCell at es → lookup cmp k es ≡ None → remove_entry (is_at (cmp k)) (shown at es) ≡ shown at es
   shown_absent at k [] c e = refl
   shown_absent at k (x ∷ es) c e =
@@ -134,7 +134,7 @@ module _ {K V : Type 0} (cmp : K → K → Ordering) (total : IsTotalOrder cmp) 
         | false ↦ λ h. ap (λ z. (x.0, c.0.0) ∷ z) (rest h)
       ] e)
 
-  -- cells that are alike but for one that no key has
+  -- cells that are alike except for one that no key has
   module _ (at new : ℕ → Option (K × V)) (p : ℕ) (others : (q : ℕ) → q ≢ p → new q ≡ at q) where
     pub still : (es : List (K × ℕ)) → IsNoPlace p es → EachHasCell at es → EachHasCell new es
     still [] n c = tt

@@ -1,4 +1,4 @@
--- Pairs whose keys rise: one that is taken out, and one that is put behind the others.
+-- Pairs whose keys rise: one that is taken out, and one that is put after the others.
 use Rattle.std.proofs.Common.{◌≡◌, ℕ, zero, suc, ◌<◌, true, false, cond, List, [], ◌∷◌, length, get_or, take, refl, sym, ◌∙◌, ap, arith}
 use Rattle.std.specs.List.{remove}
 use Rattle.std.specs.Map.{remove_entry}
@@ -30,13 +30,13 @@ module _ {K V : Type 0} (cmp : K → K → Ordering) (total : IsTotalOrder cmp) 
   rising_taken k [] r = r
   rising_taken k (e ∷ es) r = elim (is_eq (cmp k e.0)) as (λ t. IsRising cmp (cond t es (e ∷ remove_entry (is_at (cmp k)) es))) [ true ↦ r.1 | false ↦ (below_taken e.0 k es r.0, rising_taken k es r.1) ]
 
-  -- where the key is not there, nothing goes
+  -- if the key is not there, nothing goes
   pub taken_gap : (es : List (K × V)) (k : K) (i : ℕ) → IsGap cmp es k i → es ≡ remove_entry (is_at (cmp k)) es
   taken_gap [] k i gap = refl
   taken_gap (e ∷ es) k zero gap = rw (greater_less cmp total e.0 k (gap.after 0 e (omega arith) (omega arith))) (ap (λ z. e ∷ z) (taken_gap es k zero (record { in_range = omega arith; before = λ j d lt. absurd (omega arith); after = λ j d le lt. gap.after (suc j) d (omega arith) (omega arith) })))
   taken_gap (e ∷ es) k (suc i) gap = rw (less_greater cmp total e.0 k (gap.before 0 e (omega arith))) (ap (λ z. e ∷ z) (taken_gap es k i (record { in_range = omega (arith, gap.in_range); before = λ j d lt. gap.before (suc j) d (omega arith); after = λ j d le lt. gap.after (suc j) d (omega arith) (omega arith) })))
 
-  -- the pair at a place goes behind those before it
+  -- the pair at a place goes after those before it
   pub put_next : (join : V → V → V) (es : List (K × V)) (i : ℕ) (d : K × V) → IsRising cmp es → i < length es → put cmp join (get_or es i d).0 (get_or es i d).1 (take i es) ≡ take (suc i) es
   put_next join [] i d r lt = absurd (omega arith)
   put_next join (e ∷ es) zero d r lt = refl

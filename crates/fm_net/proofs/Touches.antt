@@ -1,4 +1,4 @@
--- An arc touches a node where a search of the arcs' ends finds it.
+-- An arc touches a node if a search of the arcs' ends finds it.
 use Rattle.std.proofs.Common.{◌≡◌, ◌⊎◌, ◌↔◌, ◌||◌, inl, inr, sym, ap, refl, Bool, true, false, cond, List, [], ◌∷◌, Some, IsTrue, IsSome, ℕ}
 use Rattle.std.specs.List.{list_any}
 use Rattle.std.specs.Ordering.{is_eq}

@@ -1,4 +1,4 @@
--- The network of a table that can be is one that can be.
+-- The network of a possible table is possible.
 use Rattle.std.specs.Prelude.{◌≡◌, ℕ, ◌+◌, ◌-◌, ◌/◌, ◌<◌, ◌≤◌, ◌^◌, Bool, true, false, cond, ◌==◌, ◌||◌, min, count_by, is_none, length, List, [], ◌∷◌, Option, Some, None, refl}
 use Rattle.std.specs.List.{list_any}
 use Rattle.std.proofs.Common.{sym, ap, ◌∙◌, subst, eq-eqb, arith}
@@ -27,7 +27,7 @@ use Rattle.fm_net.specs.NetworkLaws.{passed, mapped_from, where_true, live_entry
 none : {A P : Type 0} {a : A} → None ≡ Some a → P
 none e = absurd (let no : ⊥ = cc in no)
 
--- a field passes its test where none fails
+-- a field passes its test if none fails
 unfailing : (f : Field) (b : Bool) (rest : Option Field) → is_none (cond b rest (Some f)) ≡ true → (b ≡ true) × (is_none rest ≡ true)
 unfailing f true rest e = (refl, e)
 unfailing f false rest e = absurd (let no : ⊥ = cc in no)
@@ -46,7 +46,7 @@ some_count p (x ∷ xs) h =
     ] h in
     subst (λ n. 1 ≤ n) (sym (sum_by-cons (λ y. cond (p y) 1 0) x xs)) at_least
 
--- What is in the ranges of a table that can be.
+-- What is in the ranges of a possible table.
 
 module _ (k : Table) (is : CanBe k) where
   pub job_prices : (j : ℕ) (r : JobReg) → job_of k j ≡ Some r → (r.wait ≤ 1000000000) × (r.preempt ≤ 1000000000)

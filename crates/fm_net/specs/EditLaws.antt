@@ -109,7 +109,7 @@ at_removed e q (a ∷ arcs) r =
     (λ _. refl)))
     (λ g. at_removed_other e q a arcs (rw (greater_less ends_cmp ends_total e a.0 g) refl) rest)
 
--- what is put stands, over what stood there
+-- what is put, over what was there
 abbrev over : Option (ℕ × ℕ) → Option (ℕ × ℕ) → Option (ℕ × ℕ)
 over None o = o
 over (Some v) o = Some v

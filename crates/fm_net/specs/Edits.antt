@@ -24,7 +24,7 @@ abbrev pub after : List Edit → Net → Net
 after [] net = net
 after (e ∷ es) net = after es (edited e net)
 
--- what the caller owes for an arc
+-- what the caller must ensure for an arc
 pub record MayPutArc (net : Net) (from to : Node) (capacity cost : ℕ) : Type 0 where
   pub from_stands : IsTrue (has_node net from)
   pub to_stands : IsTrue (has_node net to)
@@ -32,7 +32,7 @@ pub record MayPutArc (net : Net) (from to : Node) (capacity cost : ℕ) : Type 0
   pub capacity_above : 1 ≤ capacity
   pub cost_within : cost ≤ 1000000000
 
--- what the caller of the edit's call owes
+-- what the caller of the edit's call must ensure
 abbrev pub MayEdit : Net → Edit → Type 0
 MayEdit net (DropArc from to) = Unit {0}
 MayEdit net (DropNode n) = (¬ (n ≡ Sink)) × (¬ IsTouched net n)
@@ -44,7 +44,7 @@ abbrev pub MayEditAll : Net → List Edit → Type 0
 MayEditAll net [] = Unit {0}
 MayEditAll net (e ∷ es) = MayEdit net e × MayEditAll (edited e net) es
 
--- whether an arc stands between these ends, and whether just this arc does
+-- whether there is an arc between these ends, and whether exactly this arc does
 abbrev pub joins : Net → Node × Node → Bool
 joins net ends = is_some (lookup ends_cmp ends net.arcs)
 
@@ -54,7 +54,8 @@ same_value v w = (v.0 == w.0) && (v.1 == w.1)
 abbrev pub has_arc : Net → Arc → Bool
 has_arc net a = passes (same_value a.1) (lookup ends_cmp a.0 net.arcs)
 
--- The change from one network to another: what is in the one alone goes, and what is in the other alone, or differs, comes.
+-- The change from one network to another: what is in the one alone goes, and what is in the other alone, or differs,
+-- comes.
 abbrev pub gone_arcs : Net → Net → List Arc
 gone_arcs n m = filter (λ a. not (joins m a.0)) n.arcs
 

@@ -71,7 +71,7 @@ module _ {X Y : Type 0} where
     | inr later ↦ member_behind y (f z) (flat_map f xs) (member_of_one f x y xs later g)
   ]
 
--- what is looked up stands in the list
+-- what is looked up is in the list
 pub entry_member : {K V : Type 0} (cmp : K → K → Ordering) → TellsApart cmp → (k : K) (v : V) (es : List (K × V)) → lookup cmp k es ≡ Some v → IsMember (k, v) es
 entry_member cmp same k v [] e = absurd (let no : ⊥ = cc in no)
 entry_member {K} {V} cmp same k v (x ∷ es) e =
@@ -82,7 +82,7 @@ entry_member {K} {V} cmp same k v (x ∷ es) e =
     (λ _ g. inr (rest g))
     e
 
--- whether a key stands in a list
+-- whether a key is in a list
 module _ {K : Type 0} (cmp : K → K → Ordering) (total : IsTotalOrder cmp) (same : TellsApart cmp) where
   abbrev has : List K → K → Bool
   has xs k = list_any (λ x. is_eq (cmp k x)) xs

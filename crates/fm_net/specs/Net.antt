@@ -1,4 +1,4 @@
--- A network as its nodes and arcs, and what a change makes of it. Firmament, Quincy; the limits are this project's profile.
+-- A network as its nodes and arcs, and how changes affect it. Firmament, Quincy; the limits are this project's profile.
 use Rattle.std.specs.Prelude.{◌≡◌, ℕ, ◌<◌, ◌≤◌, ◌^◌, ◌⊎◌, Bool, cond, List, [], ◌∷◌, Option, Some, IsTrue, IsSome}
 use Rattle.std.specs.List.{list_any}
 use Rattle.std.specs.Ordering.{is_eq}
@@ -14,11 +14,11 @@ pub record Net : Type 0 where
   pub nodes : List Node
   pub arcs : List ((Node × Node) × (ℕ × ℕ))
 
--- whether the node stands
+-- whether the network has the node
 abbrev pub has_node : Net → Node → Bool
 has_node net n = list_any (λ m. is_eq (node_cmp n m)) net.nodes
 
--- capacity and cost of the arc from one node to the other, where it stands
+-- capacity and cost of the arc from one node to the other, if there is one
 abbrev pub arc_at : Net → Node → Node → Option (ℕ × ℕ)
 arc_at net from to = lookup ends_cmp (from, to) net.arcs
 
@@ -50,7 +50,7 @@ pub record IsArc (net : Net) (from to : Node) (arc : ℕ × ℕ) : Type 0 where
   pub capacity_fits : arc.0 < 2 ^ 64
   pub cost_within : arc.1 ≤ 1000000000
 
--- the networks that can be
+-- the possible networks
 pub record CanBeNet (net : Net) : Type 0 where
   pub has_sink : IsTrue (has_node net Sink)
   pub nodes_rise : Rises node_cmp net.nodes
@@ -75,7 +75,7 @@ remove_node n (m ∷ ms) = cond (is_eq (node_cmp n m)) ms (m ∷ remove_node n m
 abbrev pub without_node : Node → Net → Net
 without_node n net = record { nodes = remove_node n net.nodes; arcs = net.arcs }
 
--- the network with the arc in its place, in place of one that stood there
+-- the network with the arc in its place, in place of an existing one
 abbrev pub with_arc : Node → Node → ℕ × ℕ → Net → Net
 with_arc from to arc net = record { nodes = net.nodes; arcs = put ends_cmp replaced (from, to) arc net.arcs }
 

@@ -1,5 +1,5 @@
--- The network of a table: Firmament's network-aware policy with Quincy's unscheduled aggregators; capacities and costs are
--- this project's profile.
+-- The network of a table: Firmament's network-aware policy with Quincy's unscheduled aggregators; capacities and costs
+-- are this project's profile.
 use Rattle.std.specs.Prelude.{◌≡◌, ℕ, ◌+◌, ◌-◌, ◌/◌, Bool, true, cond, not, ◌==◌, ◌&&◌, List, [], ◌∷◌, ◌++◌, Option, Some, None, option_map, min, count_by, filter, flat_map, map, nat_le}
 use Rattle.std.specs.List.{list_any}
 use Rattle.std.specs.Ordering.{nat_cmp}
@@ -53,27 +53,28 @@ is_node k (Task t) = is_live k t
 abbrev pub places : MachineReg → ℕ → ℕ → ℕ
 places state spare r = cond (r == 0) state.slots (min state.slots (spare / r))
 
--- the capacity and cost of a request's arc into a machine: where there is a spare, and it is the request or more
+-- the capacity and cost of a request's arc into a machine: if there is a spare, and it is the request or more
 abbrev pub place_arc : Table → ℕ → ℕ → MachineReg → ℕ → Option (ℕ × ℕ)
 place_arc k r m state spare = when (nat_le r spare) (places state spare r, r + load_of k m)
 
 abbrev pub room_arc : Table → ℕ → ℕ → Option (ℕ × ℕ)
 room_arc k r m = and_then (λ state. and_then (place_arc k r m state) (spare_of k m)) (open_state k m)
 
--- the capacity and cost of a task's arc into a machine that it prefers: where there is room for its request, at the cost that
--- its request has there less the credit, and at none where the credit is greater
+-- the capacity and cost of a task's arc into a machine that it prefers: if there is room for its request, at the cost
+-- that its request has there less the credit, and at none if the credit is greater
 abbrev pub preferred_arc : Table → SpecReg → ℕ → Option (ℕ × ℕ)
 preferred_arc k s m = and_then (λ credit. option_map (λ a. (1, a.1 - credit)) (room_arc k s.request m)) (lookup nat_cmp m s.prefer)
 
--- The capacity and cost of the arc from one node to another, where there is one.
+-- The capacity and cost of the arc from one node to another, if there is one.
 abbrev pub arc_of : Table → Node → Node → Option (ℕ × ℕ)
 -- a live task that is not held, to its request
 arc_of k (Task t) (Request r) = when (waits_for k r t) (1, 0)
 -- a request to a machine that has room for it
 arc_of k (Request r) (Machine m) = cond (is_node k (Request r)) (room_arc k r m) None
--- a task that is held to the machine that holds it, and a live one that is not to each machine that it prefers and that has room
+-- a task that is held to the machine that holds it, and a live one that is not to each machine that it prefers and that
+-- has room
 arc_of k (Task t) (Machine m) = cond (is_held k t) (when (holds k m t) (1, 0)) (and_then (λ s. preferred_arc k s m) (live_spec k t))
--- a live task to its job, for the price of waiting, or of a preemption where it is held
+-- a live task to its job, for the price of waiting, or of a preemption if it is held
 arc_of k (Task t) (Unscheduled j) = cond (is_live_of k j t) (option_map (λ job. (1, cond (is_held k t) job.preempt job.wait)) (job_of k j)) None
 -- a machine to the sink
 arc_of k (Machine m) Sink = option_map (λ state. (state.slots, 0)) (open_state k m)

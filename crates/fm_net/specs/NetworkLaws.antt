@@ -1,4 +1,4 @@
--- A network is the table's exactly where it is the one computed.
+-- A network is the table's exactly if it is the one computed.
 use Rattle.std.specs.Prelude.{◌≡◌, ◌↔◌, ◌≤◌, ℕ, ◌+◌, ◌-◌, nat_le, Bool, true, false, cond, ◌==◌, [], ◌∷◌, Option, Some, None, option_map, flat_map, map, refl}
 use Rattle.std.specs.List.{list_any}
 use Rattle.std.specs.Ordering.{nat_cmp, is_eq}
@@ -103,7 +103,7 @@ module _ (k : Table) where
         ] refl
       ] refl
 
-  -- A live task makes its node, its job's, and, where it waits, its request's.
+  -- A live task makes its node, its job's, and, if it waits, its request's.
 
   is_some_task : (test : ℕ → Bool) (t : ℕ) (s : SpecReg) → live_spec k t ≡ Some s → test t ≡ true → some_task test k ≡ true
   is_some_task test t s e h = let m = task_member t s e in any_of (λ (x : ℕ × TaskValue). test x.0) (t, m.0) k.tasks m.1 h

@@ -1,5 +1,5 @@
--- The network of a set of operations, by the facts of the set: the rules of `Network.antt` with no table between. A law says
--- that it is the network of the set's table.
+-- The network of a set of operations, by the facts of the set: the rules of `Network.antt` without a table. A law
+-- says that it is the network of the set's table.
 use Rattle.std.specs.Prelude.{◌≡◌, ℕ, ◌+◌, ◌-◌, Bool, true, cond, not, ◌==◌, ◌&&◌, List, Option, None, option_map, is_some, count_by, nat_le}
 use Rattle.std.specs.List.{list_any}
 use Rattle.std.specs.Ordering.{nat_cmp}
@@ -44,15 +44,16 @@ is_node_in S (Task t) = is_some (live S t)
 abbrev pub room_in : List Op → ℕ → ℕ → Option (ℕ × ℕ)
 room_in S r m = and_then (λ state. and_then (λ free. when (nat_le r free) (places state free r, r + load S m)) (spare S m)) (opened S m)
 
--- The capacity and cost of the arc from one node to another, where there is one.
+-- The capacity and cost of the arc from one node to another, if there is one.
 abbrev pub arc_in : List Op → Node → Node → Option (ℕ × ℕ)
 -- a live task that is not held, to its request
 arc_in S (Task t) (Request r) = when (waiting S r t) (1, 0)
 -- a request to a machine that has room for it
 arc_in S (Request r) (Machine m) = cond (is_node_in S (Request r)) (room_in S r m) None
--- a task that is held to the machine that holds it, and a live one that is not to each machine that it prefers and that has room
+-- a task that is held to the machine that holds it, and a live one that is not to each machine that it prefers and that
+-- has room
 arc_in S (Task t) (Machine m) = cond (held S t) (when (is_held_by S m t) (1, 0)) (and_then (λ s. and_then (λ credit. option_map (λ a. (1, a.1 - credit)) (room_in S s.request m)) (lookup nat_cmp m s.prefer)) (live S t))
--- a live task to its job, for the price of waiting, or of a preemption where it is held
+-- a live task to its job, for the price of waiting, or of a preemption if it is held
 arc_in S (Task t) (Unscheduled j) = cond (live_of S j t) (option_map (λ r. (1, cond (held S t) r.preempt r.wait)) (job S j)) None
 -- a machine to the sink
 arc_in S (Machine m) Sink = option_map (λ state. (state.slots, 0)) (opened S m)

@@ -17,7 +17,8 @@ use Rattle.fm_net.specs.Edits.{joins, has_arc}
 abbrev pub is_among : {K : Type 0} → (K → K → Ordering) → List K → K → Bool
 is_among cmp ks k = list_any (λ x. is_eq (cmp k x)) ks
 
--- the lists rise, and each node and each pair of ends that is not among them stands, or is joined, in both networks alike
+-- the lists rise, and each node and each pair of ends that is not among them is there, or is joined, in both networks
+-- or in neither
 pub record Touches (n m : Net) (nodes : List Node) (pairs : List (Node × Node)) : Type 0 where
   pub nodes_rise : Rises node_cmp nodes
   pub pairs_rise : Rises ends_cmp pairs

@@ -1,4 +1,4 @@
--- Where all that differs was touched, the edits found among what was touched are the change.
+-- If all that differs was touched, the edits found among what was touched are the change.
 use Rattle.std.specs.Prelude.{◌≡◌, ℕ, Bool, true, false, cond, not, ◌&&◌, ◌||◌, List, [], ◌∷◌, ◌++◌, Option, Some, None, is_some, filter, map, option_map, refl}
 use Rattle.std.specs.List.{filter_map, cons_option}
 use Rattle.std.specs.Ordering.{is_eq}

@@ -34,7 +34,7 @@ impl<K: Ord + Copy, V: Copy> Model for Cells<K, V> {
 }
 
 impl<K: Ord + Copy, V: Copy> Cells<K, V> {
-    /// No pairs. It takes no memory.
+    /// No pairs. It allocates nothing.
     pub(crate) fn new(alloc: Global) -> Self
         ensures { result ≡ [] }
     {
@@ -61,9 +61,9 @@ impl<K: Ord + Copy, V: Copy> Cells<K, V> {
         self.places.contains_key(key)
     }
 
-    /// Puts the value at the key in place of one that stood there, and answers what stood there. The index is searched once: it
-    /// tells the cell that the key has, which is filled again, or takes the next empty cell for it.
-    /// After a refusal of memory all is as it was. O(log n).
+    /// Puts the value at the key in place of an existing one, and returns the old one. The index is searched
+    /// once: it tells the cell that the key has, which is filled again, or takes the next empty cell for it. If memory
+    /// runs out, all is unchanged. O(log n).
     pub(crate) fn put(&mut self, key: K, value: V) -> Result<Option<V>, OutOfMemory>
         requires { TellsApart K.cmp }
         ensures ok { OnOk result (self.new ≡ put K.cmp replaced key value self.old) }
@@ -78,7 +78,7 @@ impl<K: Ord + Copy, V: Copy> Cells<K, V> {
         Ok(value_of(former))
     }
 
-    /// Takes the pair at the key out, and answers its value, if it was there. O(log n).
+    /// Takes the pair at the key out, and returns its value, if it was there. O(log n).
     pub(crate) fn remove(&mut self, key: &K) -> Option<V>
         ensures without { self.new ≡ remove_entry (is_at (K.cmp key.now)) self.old }
         ensures stood { result ≡ lookup K.cmp key.now self.old }

@@ -3,7 +3,7 @@
 use crate::node::Node;
 
 /// One call that changes a network, as data: the nodes that an arc joins or the node, and of an arc that is put its
-/// capacity and cost. What the call's caller owes is owed by whoever makes the edit.
+/// capacity and cost. Who makes the edit must meet the premises of that call.
 #[derive(Clone, Copy, Debug, PartialEq, Eq, Drop)]
 pub enum Edit {
     /// Drops the arc from one node to another.
@@ -12,6 +12,6 @@ pub enum Edit {
     DropNode(Node),
     /// Puts a node.
     PutNode(Node),
-    /// Puts an arc from one node to another, with its capacity and cost, in place of one that stood there.
+    /// Puts an arc from one node to another, with its capacity and cost, in place of an existing one.
     PutArc(Node, Node, u64, u32),
 }

@@ -12,18 +12,18 @@ ghost use Rattle.fm_net.specs.declared.node.Node.{Node as NodeName};
 ghost use Rattle.fm_net.specs.Edits.{MayEditAll, after, change};
 ghost use Rattle.fm_net.specs.Touched.{Touches, touched_change};
 
-/// A network has exactly the nodes and arcs of a table where it is the one computed from the table, so a table has one.
+/// A network has exactly the nodes and arcs of a table if it is the one computed from the table, so a table has one.
 pub fn law_network()
     ensures { (k : Table) (net : Net) → (IsNetworkOf k net ↔ (net ≡ net_of k)) }
 {}
 
-/// A network has exactly the nodes and arcs of a set of operations, by the facts of the set, where it is the one that is
+/// A network has exactly the nodes and arcs of a set of operations, by the facts of the set, if it is the one that is
 /// computed from the table of the set.
 pub fn law_network_of_sets()
     ensures { (S : List Op) (net : Net) → (IsNetworkOfSet S net ↔ (net ≡ net_of (know S))) }
 {}
 
-/// The network of a table that can be, of fewer than 2^64 tasks, is a network that can be.
+/// The network of a possible table, of fewer than 2^64 tasks, is a possible network.
 pub fn law_can_be_net()
     ensures { (k : Table) → CanBe k → length k.tasks < 2 ^ 64 → CanBeNet (net_of k) }
 {}
@@ -34,7 +34,7 @@ pub fn law_change()
     ensures gives { (n m : Net) → CanBeNet n → CanBeNet m → after (change n m) n ≡ m }
 {}
 
-/// Where the touched nodes and pairs are all that differ, the edits of these are the whole change, in its order.
+/// If the touched nodes and pairs are all that differ, the edits of these are the complete change, in its order.
 pub fn law_touched()
     ensures { (n m : Net) (nodes : List NodeName) (pairs : List (NodeName × NodeName)) → CanBeNet n → CanBeNet m → Touches n m nodes pairs → touched_change n m nodes pairs ≡ change n m }
 {}

@@ -33,8 +33,8 @@ fn make(network: &mut Network, edit: &Edit) -> Result<(), OutOfMemory>
     }
 }
 
-/// Makes the edits one after another. The caller owes for each what the call owes that it stands for, on what the earlier
-/// ones left. After a refusal of memory some of them are made, in order. O(log n) for each.
+/// Makes the edits one after another. For each edit the caller must meet the premises of its call, on what the
+/// earlier ones left. If memory runs out, some of them are made, in order. O(log n) for each.
 pub fn make_all(network: &mut Network, edits: &[Edit]) -> Result<(), OutOfMemory>
     requires { MayEditAll network.old edits.now }
     ensures ok { OnOk result (network.new ≡ after edits.now network.old) }

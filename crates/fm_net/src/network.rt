@@ -15,9 +15,9 @@ use fm_lattice::join::OutOfMemory;
 use std::alloc::{AllocError, Global};
 use std::marker::Model;
 
-/// A network: a set of nodes with the sink, and at most one arc from one of them to another, with a capacity and a cost. While
-/// nodes and arcs are put in their order they lie packed, and a put is O(1) amortised; the first put or drop elsewhere moves them, in
-/// O(n log n), once.
+/// A network: a set of nodes with the sink, and at most one arc from one of them to another, with a capacity and a
+/// cost. As long as nodes and arcs are put in order, they are packed in an array, and a put is O(1) amortised. The
+/// first put or drop elsewhere moves them, in O(n log n), once.
 #[derive(Debug, Drop)]
 pub struct Network {
     nodes: Ordered<Node, ()>,
@@ -48,15 +48,15 @@ impl Network {
         })
     }
 
-    /// What is known of every network: the sink stands, both ends of each arc stand, and all is in range.
+    /// What is known of every network: it has the sink and both ends of each arc, and all is in range.
     pub fn known(&self)
         ensures { CanBeNet self.now }
     {
         let _ = &self.nodes;
     }
 
-    /// Puts a node, and tells whether it is new. The caller owes a request of at most 1,000,000.
-    /// After a refusal of memory the network is as it was. O(log n).
+    /// Puts a node, and returns whether it is new. The caller must pass a request of at most 1,000,000.
+    /// If memory runs out, the network is unchanged. O(log n).
     pub fn put_node(&mut self, node: Node) -> Result<bool, OutOfMemory>
         requires { IsRequestInRange node }
         ensures ok { OnOk result (self.new ≡ with_node node self.old) }
@@ -70,8 +70,8 @@ impl Network {
         Ok(stood.is_none())
     }
 
-    /// Drops a node, and tells whether it was there. The caller owes that it is not the sink and that no arc touches it.
-    /// O(log n).
+    /// Drops a node, and returns whether it was there. The caller must ensure that it is not the sink and that no arc
+    /// touches it. O(log n).
     pub fn drop_node(&mut self, node: &Node) -> bool
         requires not_sink { ¬ (node.now ≡ NodeName.Sink) }
         requires not_touched { ¬ IsTouched self.old node.now }
@@ -83,9 +83,9 @@ impl Network {
         self.nodes.remove(node).is_some()
     }
 
-    /// Puts an arc in place of one that stood there, and answers what stood there: capacity and cost.
-    /// The caller owes that both nodes are there, an arc may join their kinds, the capacity is at least 1 and the cost at
-    /// most 1,000,000,000. After a refusal of memory the network is as it was. O(log n).
+    /// Puts an arc in place of an existing one, and returns the old one: capacity and cost. The caller must
+    /// ensure that both nodes are there, an arc may join their kinds, the capacity is at least 1 and the cost at most
+    /// 1,000,000,000. If memory runs out, the network is unchanged. O(log n).
     pub fn put_arc(
         &mut self,
         from: Node,
@@ -107,7 +107,7 @@ impl Network {
         Ok(self.arcs.put((from, to), (capacity, cost))?)
     }
 
-    /// Drops an arc, and answers its capacity and cost, if it was there. O(log n).
+    /// Drops an arc, and returns its capacity and cost, if it was there. O(log n).
     pub fn drop_arc(&mut self, from: Node, to: Node) -> Option<(u64, u32)>
         ensures without { self.new ≡ without_arc from to self.old }
         ensures stood { result ≡ arc_at self.old from to }

@@ -10,7 +10,7 @@ use std::cmp::Ordering;
 /// The name of a node, in node order: by kind as listed, then by id or request.
 #[derive(Debug, Clone, Copy, PartialEq, Eq, PartialOrd, Ord, Drop)]
 pub enum Node {
-    /// Where all units go.
+    /// The sink of all units.
     Sink,
     /// The unscheduled aggregator of a job.
     Unscheduled(JobId),

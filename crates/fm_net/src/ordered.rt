@@ -1,4 +1,4 @@
-//! Pairs by rising key: packed one behind another while they come in order, and in cells once they are edited.
+//! Pairs by rising key: packed one after another while they come in order, and in cells once they are edited.
 
 ghost use Rattle.std.specs.Prelude.{◌≡◌, ◌<◌, ◌^◌, ◌&&◌, [], length, is_some, IfOk, OnOk, OnErr};
 ghost use Rattle.std.specs.Iterator.{YieldsFirst, item_count};
@@ -19,8 +19,9 @@ use std::marker::Model;
 // How many pairs may move for one that comes out of order, or goes.
 const FEW: usize = 64;
 
-/// A map of pairs. While keys come in order the pairs lie packed, so that a put is a push and a walk is one over memory. The
-/// first key that comes before others, or goes, moves them into cells, where each edit is a search. A few pairs stay packed.
+/// A map of pairs. While keys come in order the pairs lie packed, so that a put is a push and a walk is one over
+/// memory. The first key that comes before others, or goes, moves them into cells, where each edit is a search. A few
+/// pairs stay packed.
 #[derive(Drop)]
 pub(crate) struct Ordered<K: Chain, V: Copy> {
     form: Form<K, V>,
@@ -44,7 +45,7 @@ impl<K: Chain, V: Copy> Model for Ordered<K, V> {
 }
 
 impl<K: Chain, V: Copy> Ordered<K, V> {
-    /// No pairs. It takes no memory.
+    /// No pairs. It allocates nothing.
     pub(crate) fn new(alloc: Global) -> Self
         ensures { result ≡ [] }
     {
@@ -70,9 +71,9 @@ impl<K: Chain, V: Copy> Ordered<K, V> {
         self.get(key).is_some()
     }
 
-    /// Puts the value at the key in place of one that stood there, and answers what stood there.
-    /// After a refusal of memory the pairs are as they were. Amortised O(1) behind the last key of packed pairs, O(n log n) once,
-    /// where they move into cells, and O(log n) else.
+    /// Puts the value at the key in place of an existing one, and returns the old one. If memory runs out,
+    /// the pairs are unchanged. Amortised O(1) after the last key of packed pairs, O(n log n) once, when they move
+    /// into cells, and O(log n) else.
     pub(crate) fn put(&mut self, key: K, value: V) -> Result<Option<V>, OutOfMemory>
         ensures ok { OnOk result (self.new ≡ put K.cmp replaced key value self.old) }
         ensures stood { IfOk result (λ old. old ≡ lookup K.cmp key self.old) }
@@ -87,8 +88,8 @@ impl<K: Chain, V: Copy> Ordered<K, V> {
         }
     }
 
-    /// Takes the pair at the key out, and answers its value, if it was there. Many packed pairs move into cells first, O(n log n)
-    /// once; where that is refused memory, those behind the key move instead. O(log n) else.
+    /// Takes the pair at the key out, and returns its value, if it was there. Many packed pairs move into cells first,
+    /// O(n log n) once; if that runs out of memory, those behind the key move instead. O(log n) else.
     pub(crate) fn remove(&mut self, key: &K) -> Option<V>
         ensures without { self.new ≡ remove_entry (is_at (K.cmp key.now)) self.old }
         ensures stood { result ≡ lookup K.cmp key.now self.old }
@@ -138,7 +139,8 @@ impl<K: Chain, V: Copy> Ordered<K, V> {
         Ok(Ordered { form })
     }
 
-    // Whether many packed pairs lie behind the place of a key that is not the last. It decides what a put costs, and no more.
+    // Whether many packed pairs lie behind the place of a key that is not the last. It decides what a put costs, and no
+    // more.
     fn comes_before_many(&self, key: &K) -> bool {
         match &self.form {
             Form::Packed(pairs) if pairs.len() > FEW => pairs[pairs.len() - FEW].0.cmp(key).is_gt(),
@@ -146,7 +148,7 @@ impl<K: Chain, V: Copy> Ordered<K, V> {
         }
     }
 
-    // Moves packed pairs into cells. After a refusal of memory they lie as they lay. O(n log n).
+    // Moves packed pairs into cells. If memory runs out, they stay packed. O(n log n).
     fn scatter(&mut self) -> Result<(), OutOfMemory>
         ensures { self.new ≡ self.old }
     {

@@ -9,7 +9,7 @@ ghost use Rattle.fm_lattice.specs.Places.{IsAt, IsGap};
 
 use fm_lattice::join::OutOfMemory;
 
-// Where the key is, or where it would go. O(log n), and one comparison for a key behind the last.
+// Where the key is, or where it would go. O(log n), and one comparison for a key after the last.
 fn place<K: Ord + Copy, V>(pairs: &[(K, V)], key: &K) -> Result<usize, usize>
     requires exact { TellsApart K.cmp }
     requires rising { IsRising K.cmp pairs.now }
@@ -38,7 +38,7 @@ pub fn value_at<K: Ord + Copy, V: Copy>(pairs: &[(K, V)], key: &K) -> Option<V>
     }
 }
 
-/// As `value_at`, and looks at the place near before it searches: where the key is there, in one comparison.
+/// As `value_at`, and looks at the place near before it searches: if the key is there, in one comparison.
 pub fn value_near<K: Ord + Copy, V: Copy>(pairs: &[(K, V)], near: usize, key: &K) -> Option<V>
     requires exact { TellsApart K.cmp }
     requires rising { IsRising K.cmp pairs.now }
@@ -53,9 +53,9 @@ pub fn value_near<K: Ord + Copy, V: Copy>(pairs: &[(K, V)], near: usize, key: &K
     value_at(pairs, key)
 }
 
-/// Sets the value at the key, and gives the one that was there. After a refusal of memory the pairs are as they were.
-/// A key behind the last is pushed, in amortised O(1); a key that is there is found in O(log n); before any other new key the
-/// pairs behind it move, in O(n).
+/// Sets the value at the key, and gives the one that was there. If memory runs out, the pairs are unchanged. A
+/// key after the last is pushed, in amortised O(1); a key that is there is found in O(log n); before any other new key
+/// the pairs after it move, in O(n).
 pub fn set<K: Ord + Copy, V: Copy>(
     pairs: &mut Vec<(K, V)>,
     key: K,
@@ -81,8 +81,8 @@ pub fn set<K: Ord + Copy, V: Copy>(
     }
 }
 
-/// Takes the pair at the key out, and gives its value, if the key was there. It is found in O(log n), and the pairs behind it
-/// move, in O(n).
+/// Takes the pair at the key out, and gives its value, if the key was there. It is found in O(log n), and the pairs
+/// after it move, in O(n).
 pub fn take<K: Ord + Copy, V: Copy>(pairs: &mut Vec<(K, V)>, key: &K) -> Option<V>
     requires exact { TellsApart K.cmp }
     requires rising { IsRising K.cmp pairs.old.items }

@@ -65,7 +65,7 @@ potential_there (m ∷ nodes) (p ∷ values) zero n rises at = let is : m ≡ n 
 potential_there (m ∷ nodes) [] (suc v) n rises at = found_later n m (pos 0) (named_potentials nodes []) (earlier_less (m ∷ nodes) 0 (suc v) m n rises refl at (omega arith)) ∙ potential_there nodes [] v n rises.1 at
 potential_there (m ∷ nodes) (p ∷ values) (suc v) n rises at = found_later n m p (named_potentials nodes values) (earlier_less (m ∷ nodes) 0 (suc v) m n rises refl at (omega arith)) ∙ potential_there nodes values v n rises.1 at
 
--- where each arc's units fit, all do
+-- if each arc's units fit, all do
 fit_all : (potentials : List (Node × ℤ)) (arcs : List NetArc) (units : List ℕ) → length units ≡ length arcs → ((i : ℕ) (b : NetArc) → slice_get arcs i ≡ Some b → Fits (slice_index units i) b.1.0 (reduced_at potentials b)) → FitAll potentials (named_units arcs units) arcs
 fit_all potentials [] units sized each = tt
 fit_all potentials (b ∷ arcs) [] sized each = absurd (omega arith)

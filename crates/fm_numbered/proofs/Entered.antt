@@ -51,7 +51,7 @@ entered_rise (n ∷ nodes) (s ∷ sums) r =
     let rest = entered_rise nodes sums r.1 in
     elim (nat_eq s 0) as (λ t. IsRising node_cmp (cond t (entered_by nodes sums) ((n, s) ∷ entered_by nodes sums))) [ true ↦ rest | false ↦ (below_entered n nodes sums r.0, rest) ]
 
--- The sum of a node is the one at its place, and 0 where it has none.
+-- The sum of a node is the one at its place, and 0 if it has none.
 
 none_there : {A P : Type 0} {x : A} → None ≡ Some x → P
 none_there e = absurd (let no : ⊥ = cc in no)

@@ -41,7 +41,7 @@ valued_rise [] values r = tt
 valued_rise (n ∷ nodes) [] r = (below_valued n nodes [] r.0, valued_rise nodes [] r.1)
 valued_rise (n ∷ nodes) (p ∷ values) r = (below_valued n nodes values r.0, valued_rise nodes values r.1)
 
--- each unit fits where all do
+-- each unit fits if all do
 pub named_fit : (arcs : List NetArc) (units : List ℕ) → ((i : ℕ) → slice_index units i < 2 ^ 64) → AreValues (λ units. units < 2 ^ 64) (named_units arcs units)
 named_fit [] units fits = tt
 named_fit (a ∷ arcs) [] fits = (omega arith, named_fit arcs [] fits)

@@ -70,7 +70,7 @@ earlier_less (x ∷ xs) (suc i) (suc j) m n rises at_m at_n less = earlier_less 
 less_other : (m n : Node) → node_cmp m n ≡ Less → m ≡ n → ⊥
 less_other m n less is = let no : Less ≡ Equal = sym less ∙ ap (node_cmp m) (sym is) ∙ tied_itself node_total m in absurd (cc)
 
--- nodes are one where their places are
+-- nodes are one if their places are
 pub one_place : (ns : List Node) (i j : ℕ) (m n : Node) → Rises node_cmp ns → slice_get ns i ≡ Some m → slice_get ns j ≡ Some n → same_node m n ≡ nat_eq i j
 one_place ns i j m n rises at_m at_n = elim (cases_lt i j) [
   | inl before ↦

@@ -129,7 +129,7 @@ within_at_place (b ∷ arcs) [] i a sized at all = absurd (omega arith)
 within_at_place (b ∷ arcs) (u ∷ units) zero a sized at all = let is : b ≡ a = cc in let e = ap (λ (d : Arc). d.capacity) is in let m = all.0 in omega arith
 within_at_place (b ∷ arcs) (u ∷ units) (suc i) a sized at all = within_at_place arcs units i a (omega arith) at all.1
 
--- no units enter where no arc leads
+-- no units enter if no arc leads
 pub none_enter : (test : ℕ → Bool) (arcs : List Arc) (units : List ℕ) (v : ℕ) → ((i : ℕ) (a : Arc) → slice_get arcs i ≡ Some a → test a.to ≡ false) → test v ≡ true → units_at (λ a. a.to) arcs units v ≡ 0
 none_enter test [] units v none is = refl
 none_enter test (a ∷ arcs) [] v none is = refl

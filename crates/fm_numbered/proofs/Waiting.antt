@@ -1,4 +1,5 @@
--- In the network of a table all tasks can be left unscheduled: each has one arc to a job, and the job's arc room for all of its tasks.
+-- In the network of a table all tasks can be left unscheduled: each has one arc to a job, and the job's arc room for
+-- all of its tasks.
 use Rattle.std.proofs.Common.{◌≡◌, ◌∙◌, ap, sym, subst, refl, inl, inr, ℕ, zero, suc, ◌+◌, ◌<◌, ◌≤◌, Bool, true, false, cond, not, ◌==◌, ◌&&◌, List, [], ◌∷◌, Option, Some, None, option_map, IsTrue, length, count_by, eq-eqb, eqb-true, arith}
 use Rattle.std.specs.List.{sum_by}
 use Rattle.std.specs.Ordering.{nat_cmp}
@@ -68,7 +69,7 @@ sum_le f g h (b ∷ arcs) each =
     let first = each b in
     omega (arith, sum_by-cons f b arcs, sum_by-cons g b arcs, sum_by-cons h b arcs)
 
--- the units on an arc to a node, where so many enter its source
+-- the units on an arc to a node, if so many enter its source
 abbrev pub named_by : Node → ℕ → ℕ
 named_by Sink entered = entered
 named_by (Unscheduled j) entered = 1
@@ -79,7 +80,7 @@ named_by (Task t) entered = 0
 abbrev pub waits : NetArc → ℕ
 waits b = named_by b.0.1 0
 
--- where an arc's end is a node, what it counts is what it counts for that node
+-- if an arc's end is a node, what it counts is what it counts for that node
 counted : (end n : Node) (f : Node → ℕ) (x : ℕ) → (end ≡ n → f end ≡ x) → cond (same_node end n) (f end) 0 ≡ cond (same_node end n) x 0
 counted end n f x is = elim (same_node end n) as (λ s. same_node end n ≡ s → cond s (f end) 0 ≡ cond s x 0) [ true ↦ λ e. is ((node_Decides end n).0 e) | false ↦ λ _. refl ] refl
 
@@ -233,7 +234,7 @@ module _ (k : Table) (net : Net) (can : CanBeNet net) (of : IsNetworkOf k net) w
     most_one : (p : Node → Bool) (b : NetArc) → arcs_from p b ≤ 1
     most_one p b = elim (p b.0.0 && same_node b.0.1 (Unscheduled j)) as (λ t. cond {A = ℕ} t 1 0 ≤ 1) [ true ↦ omega arith | false ↦ omega arith ]
 
-    -- from one task there is at most one, and only where it is a live task of the job
+    -- from one task there is at most one, and only if it is a live task of the job
     once : (t : ℕ) → sum_by (arc_from t) net.arcs ≤ cond (is_live_of k j t) 1 0
     once t = elim (arc_of k (Task t) (Unscheduled j)) as (λ o. arc_of k (Task t) (Unscheduled j) ≡ o → sum_by (arc_from t) net.arcs ≤ cond (is_live_of k j t) 1 0) [
       | None ↦ λ e.

@@ -15,7 +15,7 @@ Sends (Request i) entered left = entered ≡ left
 Sends (Machine i) entered left = entered ≡ left
 Sends (Task i) entered left = left ≡ 1
 
--- units for just the arcs, within their capacities, which each node sends as it has to
+-- units for exactly the arcs, within their capacities, which each node sends as it has to
 pub record IsFlowOf (places : Places) (arcs : List Arc) (units : List ℕ) : Type 0 where
   pub sized : length units ≡ length arcs
   pub within : AreWithin arcs units

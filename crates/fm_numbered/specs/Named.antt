@@ -25,13 +25,13 @@ name_at nodes v = slice_index_or nodes v Sink
 abbrev pub ends_at : List Node → Arc → Node × Node
 ends_at nodes a = (name_at nodes a.from, name_at nodes a.to)
 
--- arcs by number with these units, in turn, by the nodes at their ends; 0 behind the end of the units
+-- arcs by number with these units, in turn, by the nodes at their ends; 0 beyond the end of the units
 abbrev pub units_by : List Node → List Arc → List ℕ → List ((Node × Node) × ℕ)
 units_by nodes [] units = []
 units_by nodes (a ∷ arcs) [] = (ends_at nodes a, 0) ∷ units_by nodes arcs []
 units_by nodes (a ∷ arcs) (u ∷ units) = (ends_at nodes a, u) ∷ units_by nodes arcs units
 
--- the nodes with these sums, in turn, but for those whose sum is 0
+-- the nodes with these sums, in turn, except those whose sum is 0
 abbrev pub entered_by : List Node → List ℕ → List (Node × ℕ)
 entered_by [] sums = []
 entered_by (n ∷ nodes) [] = []

@@ -13,7 +13,7 @@ use Rattle.fm_numbered.specs.Places.{ArePlacesOf, kind_at, is_task}
 abbrev pub NetArc : Type 0
 NetArc = (Node × Node) × (ℕ × ℕ)
 
--- the ends stand at their places, and capacity and cost are the arc's
+-- the ends are at their places, and capacity and cost are the arc's
 pub record IsArcOf (nodes : List Node) (arc : NetArc) (a : Arc) : Type 0 where
   pub from : slice_get nodes a.from ≡ Some arc.0.0
   pub to : slice_get nodes a.to ≡ Some arc.0.1
@@ -39,7 +39,8 @@ bandwidth_in (node.Unscheduled j) = None
 bandwidth_in (node.Machine m) = None
 bandwidth_in (node.Task t) = None
 
--- what is known of all networks by numbers: both ends of an arc are places of nodes, its numbers fit, and none leads to a task
+-- what is known of all networks by numbers: both ends of an arc are places of nodes, its numbers fit, and none leads to
+-- a task
 pub record IsFormed (places : Places) (arcs : List Arc) : Type 0 where
   pub few : places.end < 2 ^ 63
   pub ends : AreArcs arcs places.end

@@ -11,7 +11,7 @@ use Rattle.fm_numbered.specs.Places.{kind_at}
 use Rattle.fm_numbered.specs.Numbered.{IsNumbered}
 use Rattle.fm_numbered.specs.Feasible.{IsFlowOf}
 
--- the units on an arc that leads to a node of this kind, where so many enter its source
+-- the units on an arc that leads to a node of this kind, if so many enter its source
 abbrev pub unscheduled_by : Kind → ℕ → ℕ
 unscheduled_by Sink entered = entered
 unscheduled_by (Unscheduled i) entered = 1

@@ -22,7 +22,7 @@ use fm_net::network::Network;
 use fm_net::node::Node;
 use std::alloc::Global;
 
-// The node at a place, the sink behind the end.
+// The node at a place, the sink beyond the end.
 fn node_at(nodes: &[Node], place: usize) -> Node
     ensures { result ≡ name_at nodes.now place }
 {
@@ -46,7 +46,7 @@ fn units_of(
     Ok(entries)
 }
 
-// What enters the nodes, in order, but for those that nothing enters.
+// What enters the nodes, in order, except those that nothing enters.
 fn entered_of(
     alloc: Global,
     nodes: &[Node],
@@ -84,7 +84,7 @@ fn flow_of(
     Ok(flow)
 }
 
-// The value at a place, 0 behind the end.
+// The value at a place, 0 beyond the end.
 fn value_at(values: &[i128], place: usize) -> i128
     ensures { result ≡ costs_in values.now place }
 {
@@ -121,8 +121,8 @@ fn potentials_of(
     Ok(Potentials::of(pairs))
 }
 
-/// The flow and the potentials by their names in the network. The caller owes a flow of this network by numbers, and
-/// potentials that show it to be least: then they certify it. Refused memory alone.
+/// The flow and the potentials by their names in the network. The caller must pass a flow of this network by numbers,
+/// and potentials that show it to be least: then they certify it. Refused only if memory runs out.
 pub fn certified(
     alloc: Global,
     network: &Network,

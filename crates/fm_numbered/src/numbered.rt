@@ -23,7 +23,7 @@ impl Numbered {
     ghost use Rattle.std.specs.List.{filter_map};
     ghost use Rattle.fm_numbered.specs.Numbered.{IsNumbered, bandwidth_in};
 
-    /// The network by numbers. O(arcs), but for a search where an end is not behind that of the arc before.
+    /// The network by numbers. O(arcs), except a search if an end is not behind that of the arc before.
     pub fn of(alloc: Global, network: &Network) -> Result<Self, OutOfMemory>
         ensures numbered { IfOk result (λ n. IsNumbered network.now n.places n.arcs.items) }
         ensures requests { IfOk result (λ n. n.requests.items ≡ filter_map bandwidth_in network.now.nodes) }

@@ -10,7 +10,7 @@ use crate::places::{Places, range_of};
 use fm_cycles::lookup::value_or;
 use fm_net::node::Node;
 
-// Whether the node stands at the place.
+// Whether the node is at the place.
 fn stands_at(nodes: &[Node], place: usize, node: &Node) -> bool
     ensures { IsTrue result ↔ (slice_get nodes.now place ≡ Some node.now) }
 {
@@ -37,7 +37,7 @@ fn search(nodes: &[Node], places: &Places, node: &Node) -> usize
     }
 }
 
-/// The place of a node, looked for at the guess, behind it, and then among its kind.
+/// The place of a node, looked for at the guess, after it, and then among its kind.
 pub(crate) fn place_of(nodes: &[Node], places: &Places, guess: usize, node: &Node) -> usize
     requires rises { Rises node_cmp nodes.now }
     requires places { ArePlacesOf nodes.now places.now }
@@ -57,8 +57,8 @@ pub(crate) fn place_of(nodes: &[Node], places: &Places, guess: usize, node: &Nod
 /// How many guesses are kept: in 64 KB, which stay in a processor's cache, one for each machine of some thousand.
 pub(crate) const GUESSES: usize = 8192;
 
-// Knuth's multiplier, a prime near 2^32 over the golden ratio: it spreads bandwidths, most of which are multiples of a round
-// number.
+// Knuth's multiplier, a prime near 2^32 over the golden ratio: it spreads bandwidths, most of which are multiples of a
+// round number.
 const SPREAD: u64 = 2_654_435_761;
 
 // The lowest bits of a product depend on the lowest bits of the bandwidth alone, so the slot is taken above them.
@@ -75,8 +75,8 @@ fn slot_of(node: &Node) -> usize {
     }
 }
 
-/// The place of a node, looked for behind the one near, then at the guess for the node, and then among its kind; that is the
-/// guess from then on. Nodes share guesses, so that a guess may be wrong.
+/// The place of a node, looked for behind the one near, then at the guess for the node, and then among its kind; that
+/// is the guess from then on. Nodes share guesses, so that a guess may be wrong.
 pub(crate) fn place_by(
     nodes: &[Node],
     places: &Places,

@@ -8,14 +8,14 @@ use fm_cycles::lookup::value_or;
 use fm_lattice::join::OutOfMemory;
 use std::alloc::Global;
 
-/// The number at a place, 0 behind the end.
+/// The number at a place, 0 beyond the end.
 pub fn at(numbers: &[u64], place: usize) -> u64
     ensures { result ≡ slice_index numbers.now place }
 {
     value_or(numbers, place, 0)
 }
 
-/// The sum at a place, 0 behind the end.
+/// The sum at a place, 0 beyond the end.
 pub fn sum_at(sums: &[u128], place: usize) -> u128
     ensures { result ≡ slice_index sums.now place }
 {

@@ -11,7 +11,7 @@ use fm_cycles::arcs::Arc;
 use fm_lattice::join::OutOfMemory;
 use std::alloc::Global;
 
-// The units on an arc, where so many enter its source.
+// The units on an arc, if so many enter its source.
 fn units_on(places: &Places, arc: &Arc, entered: u64) -> u64
     ensures { result ≡ unscheduled_by (kind_at places.now arc.now.to) entered }
 {

@@ -16,8 +16,9 @@ use std::alloc::Global;
 /// How many entries a coordinator's history may have.
 pub const HISTORY_LIMIT: usize = 1_000_000;
 
-/// A coordinator to which nothing happened, which is listed at the place, counted from 0: the first, the third and so on
-/// edit their networks when somebody looks, once little changes between looks; the others build them anew. Only memory is refused.
+/// A coordinator to which nothing happened, which is listed at the place, counted from 0: the first, the third and so
+/// on edit their networks when they are read, once little changes between reads; the others rebuild them. Refused only
+/// if memory runs out.
 pub fn coordinator_at(
     alloc: Global,
     number: CoordId,

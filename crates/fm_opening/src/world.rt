@@ -12,8 +12,8 @@ use fm_records::ids::CoordId;
 use fm_world::world::World;
 use std::alloc::Global;
 
-/// The world of the coordinators that are listed, to which nothing happened. No two of them may have one number. Only memory is
-/// refused.
+/// The world of the coordinators that are listed, to which nothing happened. No two of them may have one number.
+/// Refused only if memory runs out.
 pub fn open(alloc: Global, listed: &[CoordId]) -> Result<World<Keeper>, OutOfMemory>
     requires { AreDistinct listed.now }
     ensures { IfOk result (λ world. WorldStandsFor world (opened listed.now)) }

@@ -13,8 +13,8 @@ use fm_round::parts::Plan;
 use fm_round::plan::plan;
 use std::alloc::Global;
 
-/// The plan of a least flow of the network, which must be that of what is known. Only memory is refused. It costs what `solve`
-/// does, and a walk over the arcs.
+/// The plan of a least flow of the network, which must be that of what is known. Refused only if memory runs out. It
+/// costs what `solve` does, and a walk over the arcs.
 pub fn least_plan(alloc: Global, knowledge: &Knowledge, network: &Network) -> Result<Plan, Refusal>
     requires { network.now ≡ net_of knowledge.now }
     ensures ok { IfOk result (λ plan. IsPlanOf knowledge.now plan) }

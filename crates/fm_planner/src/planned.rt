@@ -49,7 +49,8 @@ pub fn plan_for(alloc: Global, tally: &Tally, knowledge: &Knowledge) -> Result<P
     })
 }
 
-/// A plan of a least flow of the network of what is known. Only memory is refused. It costs what `Tally::of` and `plan_for` do.
+/// The plan of `plan_for` by a tally that is made of what is known for this call. Only memory is refused. It costs what
+/// `Tally::of` does, O(n log n) in the records, and what `plan_for` does.
 pub fn plan_of(alloc: Global, knowledge: &Knowledge) -> Result<Plan, OutOfMemory>
     ensures { IfOk result (IsPlanOf knowledge.now) }
 {

@@ -23,7 +23,7 @@ use Rattle.fm_policy.proofs.Finished.{some_found, and_left, and_right}
 use Rattle.fm_policy.proofs.Listed.{HasKey, listed}
 use Rattle.fm_policy.proofs.Named.{has, has_rising}
 
--- something passes the test where some are counted, and some are counted where something does
+-- something passes the test if some are counted, and some are counted if something does
 pub counted_some : {A : Type 0} (p : A → Bool) (xs : List A) → 1 ≤ count_by p xs → list_any p xs ≡ true
 counted_some p [] h = absurd (omega arith)
 counted_some p (x ∷ xs) h =

@@ -89,17 +89,17 @@ keys_joined k l k_can l_can =
     let machines = both machine_join k.machines l.machines maps.machines.rising in
     let told : Table → List ℕ = λ t. map (λ e. e.0) t.tasks ++ map (λ e. e.0.0) t.proposals in
     let tasks : rising nat_cmp (told (table_join k l)) ≡ rising nat_cmp (rising nat_cmp (told k) ++ rising nat_cmp (told l)) =
-        same_rising nat_cmp nat_cmp_total nat_same (rising nat_cmp (told (table_join k l))) (rising nat_cmp (rising nat_cmp (told k) ++ rising nat_cmp (told l)))
-        (rises_rising nat_cmp nat_cmp_total nat_same (told (table_join k l))) (rises_rising nat_cmp nat_cmp_total nat_same (rising nat_cmp (told k) ++ rising nat_cmp (told l)))
-        (λ q.
-          has_rising (told (table_join k l)) q
-          ∙ has_append (map (λ e. e.0) (table_join k l).tasks) (map (λ e. e.0.0) (table_join k l).proposals) q
-          ∙ (λ i. join_names nat_cmp nat_same task_join (λ t. t) k.tasks l.tasks q i || join_names attempt_cmp same_attempt spots_join (λ at. at.0) k.proposals l.proposals q i)
-          ∙ regrouped (has (map (λ e. e.0) k.tasks) q) (has (map (λ e. e.0) l.tasks) q) (has (map (λ e. e.0.0) k.proposals) q) (has (map (λ e. e.0.0) l.proposals) q)
-          ∙ sym (λ i. has_append (map (λ e. e.0) k.tasks) (map (λ e. e.0.0) k.proposals) q i || has_append (map (λ e. e.0) l.tasks) (map (λ e. e.0.0) l.proposals) q i)
-          ∙ sym (λ i. has_rising (told k) q i || has_rising (told l) q i)
-          ∙ sym (has_append (rising nat_cmp (told k)) (rising nat_cmp (told l)) q)
-          ∙ sym (has_rising (rising nat_cmp (told k) ++ rising nat_cmp (told l)) q)) in
+    same_rising nat_cmp nat_cmp_total nat_same (rising nat_cmp (told (table_join k l))) (rising nat_cmp (rising nat_cmp (told k) ++ rising nat_cmp (told l)))
+    (rises_rising nat_cmp nat_cmp_total nat_same (told (table_join k l))) (rises_rising nat_cmp nat_cmp_total nat_same (rising nat_cmp (told k) ++ rising nat_cmp (told l)))
+    (λ q.
+    has_rising (told (table_join k l)) q
+    ∙ has_append (map (λ e. e.0) (table_join k l).tasks) (map (λ e. e.0.0) (table_join k l).proposals) q
+    ∙ (λ i. join_names nat_cmp nat_same task_join (λ t. t) k.tasks l.tasks q i || join_names attempt_cmp same_attempt spots_join (λ at. at.0) k.proposals l.proposals q i)
+    ∙ regrouped (has (map (λ e. e.0) k.tasks) q) (has (map (λ e. e.0) l.tasks) q) (has (map (λ e. e.0.0) k.proposals) q) (has (map (λ e. e.0.0) l.proposals) q)
+    ∙ sym (λ i. has_append (map (λ e. e.0) k.tasks) (map (λ e. e.0.0) k.proposals) q i || has_append (map (λ e. e.0) l.tasks) (map (λ e. e.0.0) l.proposals) q i)
+    ∙ sym (λ i. has_rising (told k) q i || has_rising (told l) q i)
+    ∙ sym (has_append (rising nat_cmp (told k)) (rising nat_cmp (told l)) q)
+    ∙ sym (has_rising (rising nat_cmp (told k) ++ rising nat_cmp (told l)) q)) in
     λ i. record { jobs = jobs i; tasks = tasks i; machines = machines i }
 
 -- Keys that are none.

@@ -41,7 +41,7 @@ module _ {V : Type 0} where
   pub sum_picked : (f : ℕ × V → ℕ) (p : ℕ × V → Bool) (e : ℕ × V) (es : List (ℕ × V)) → sum_by f (filter p (e ∷ es)) ≡ cond (p e) (f e) 0 + sum_by f (filter p es)
   sum_picked f p e es = elim (p e) as (λ b. sum_by f (cond b (e ∷ filter p es) (filter p es)) ≡ cond b (f e) 0 + sum_by f (filter p es)) [ true ↦ sum_by-cons f e (filter p es) | false ↦ omega arith ]
 
-  -- what holds of each key of the list, but for those of the rest
+  -- what holds of each key of the list, except those of the rest
   abbrev pub HoldsBefore : (ℕ → Type 0) → List (ℕ × V) → List (ℕ × V) → Type 0
   HoldsBefore P all rest = (q : ℕ) → HasKey q all → HasKey q rest ⊎ P q
 

@@ -42,7 +42,7 @@ module _ (k : Table) where
   pub open_listed : (m : ℕ) → is_open k m ≡ true → HasKey m k.machines
   open_listed m h = elim (open_state k m) as (λ o. open_state k m ≡ o → passes (λ r. true) o ≡ true → HasKey m k.machines) [ None ↦ λ _ no. absurd (let no2 : ⊥ = cc in no2) | Some s ↦ λ e _. state_listed m s e ] refl h
 
-  -- a request leads into a machine only where some task waits for it and the machine is open
+  -- a request leads into a machine only if some task waits for it and the machine is open
   pub place_needs : (r m : ℕ) → is_some (arc_of k (Request r) (Machine m)) ≡ true → (is_node k (Request r) ≡ true) × HasKey m k.machines
   place_needs r m h =
       elim (is_node k (Request r)) as (λ b. is_some (cond b (and_then (λ state. and_then (place_arc k r m state) (spare_of k m)) (open_state k m)) None) ≡ true → (b ≡ true) × HasKey m k.machines) [
@@ -97,7 +97,7 @@ module _ (k : Table) where
   pub spare_is : (m : ℕ) (s : MachineReg) → open_state k m ≡ Some s → spare_of k m ≡ when (nat_le (load_of k m) s.nic) (s.nic - load_of k m)
   spare_is m s e = ap (and_then (λ r. when (nat_le (load_of k m) r.nic) (r.nic - load_of k m))) e
 
-  -- a request that is a node has an arc just where a machine has room
+  -- a request that is a node has an arc exactly if a machine has room
   pub place_there : (r m : ℕ) → is_node k (Request r) ≡ true → is_some (arc_of k (Request r) (Machine m)) ≡ true → is_some (room_arc k r m) ≡ true
   place_there r m waits some = ap is_some (sym (request_to_machine r m (room_arc k r m) waits refl)) ∙ some
 

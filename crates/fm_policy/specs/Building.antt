@@ -19,7 +19,7 @@ pub record IsPart (k : Table) (net : Net) : Type 0 where
   pub nodes : (n : Node) → Stands net n → IsTrue (is_node k n)
   pub arcs : (a b : Node) → Leads net a b → arc_at net a b ≡ arc_of k a b
 
--- what stood stands
+-- what was there stays
 pub record Grows (old new : Net) : Type 0 where
   pub nodes : (n : Node) → Stands old n → Stands new n
   pub arcs : (a b : Node) → Leads old a b → Leads new a b
@@ -33,7 +33,7 @@ pub record Adds (k : Table) (old new : Net) : Type 0 where
 abbrev pub IsWithinArcs : ℕ × ℕ → Type 0
 IsWithinArcs arc = (1 ≤ arc.0) × (arc.1 ≤ 1000000)
 
--- the node stands if it is one of the table's, and so do all
+-- the node is there if it is one of the table's, and so are all
 abbrev pub HasNode : Table → Node → Net → Type 0
 HasNode k n net = IsTrue (is_node k n) → Stands net n
 

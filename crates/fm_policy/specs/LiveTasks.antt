@@ -5,7 +5,7 @@ use Rattle.fm_records.specs.Table.{Table}
 use Rattle.fm_records.specs.Facts.{live_spec, holder_of}
 use Rattle.fm_policy.specs.declared.live_task.LiveTask.{LiveTask}
 
--- the task, where it is live
+-- the task, if it is live
 abbrev pub live_task : Table → ℕ → Option LiveTask
 live_task k t = option_map (λ s. record { task = t; spec = s; holder = holder_of k t }) (live_spec k t)
 
@@ -13,7 +13,7 @@ live_task k t = option_map (λ s. record { task = t; spec = s; holder = holder_o
 abbrev pub all_live : Table → List LiveTask
 all_live k = filter_map (λ e. live_task k e.0) k.tasks
 
--- the request that the task waits for, where no machine holds it
+-- the request that the task waits for, if no machine holds it
 abbrev pub request_unless_held : ℕ → Option ℕ → Option ℕ
 request_unless_held r None = Some r
 request_unless_held r (Some m) = None

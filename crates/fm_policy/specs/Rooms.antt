@@ -6,7 +6,7 @@ use Rattle.fm_records.specs.Table.{Table}
 use Rattle.fm_records.specs.Facts.{open_state, load_of, spare_of}
 use Rattle.fm_policy.specs.declared.room.Room.{Room}
 
--- the room on the machine, where it is open and its load is within its bandwidth
+-- the room on the machine, if it is open and its load is within its bandwidth
 abbrev pub room_at : Table → ℕ → Option Room
 room_at k m = and_then (λ state. option_map (λ spare. record { machine = m; slots = state.slots; load = load_of k m; spare = spare }) (spare_of k m)) (open_state k m)
 
@@ -18,7 +18,7 @@ all_rooms k = filter_map (λ e. room_at k e.0) k.machines
 abbrev pub places_in : Room → ℕ → ℕ
 places_in room r = cond (r == 0) room.slots (min room.slots (room.spare / r))
 
--- how many fit and what each costs, where one fits
+-- how many fit and what each costs, if one fits
 abbrev pub fit_in : Room → ℕ → Option (ℕ × ℕ)
 fit_in room r = when (nat_le r room.spare) (places_in room r, r + room.load)
 

@@ -36,7 +36,7 @@ pub(crate) fn put_jobs(
     Ok(())
 }
 
-// Puts the arc of the job to the sink, where it has live tasks.
+// Puts the arc of the job to the sink, if it has live tasks.
 fn put_job(
     network: &mut Network,
     knowledge: &Knowledge,
@@ -93,7 +93,7 @@ fn put_request(
     Ok(())
 }
 
-// Puts the arc of a request that waits to the machine, where it fits.
+// Puts the arc of a request that waits to the machine, if it fits.
 fn put_place(
     network: &mut Network,
     knowledge: &Knowledge,
@@ -127,7 +127,7 @@ pub(crate) fn put_machines(network: &mut Network, knowledge: &Knowledge) -> Resu
     Ok(())
 }
 
-// Puts the arc of the machine to the sink, where it is open.
+// Puts the arc of the machine to the sink, if it is open.
 fn put_machine(
     network: &mut Network,
     knowledge: &Knowledge,
@@ -276,7 +276,7 @@ fn put_preferences(
     Ok(())
 }
 
-// Puts the arc of a live task that is not held to the machine, where it prefers that and it has room.
+// Puts the arc of a live task that is not held to the machine, if it prefers that and it has room.
 fn put_preferred(
     network: &mut Network,
     knowledge: &Knowledge,

@@ -11,10 +11,10 @@ use fm_lattice::join::OutOfMemory;
 use fm_net::network::Network;
 use std::alloc::Global;
 
-/// The network of what is known: the sink, the open machines, the live tasks, their jobs, and the requests of those that
-/// no machine holds, with their arcs. The records of tasks are gone over once, with a look-up of the job and of the proposals
-/// of each, and each arc is put behind the one before: O(n log n) in the records, and O(1) amortised for each pair of a request
-/// and a machine with room.
+/// The network of what is known: the sink, the open machines, the live tasks, their jobs, and the requests of those
+/// that no machine holds, with their arcs. The records of tasks are gone over once, with a look-up of the job and of
+/// the proposals of each, and each arc is put after the one before: O(n log n) in the records, and O(1) amortised for
+/// each pair of a request and a machine with room.
 pub fn build(alloc: Global, knowledge: &Knowledge) -> Result<Network, OutOfMemory>
     ensures { IfOk result (λ net. net ≡ net_of knowledge.now) }
 {

@@ -30,11 +30,7 @@ impl Model for Changed {
 
 impl Changed {
     // These keys.
-    pub(crate) fn of(
-        jobs: Vec<JobId>,
-        tasks: Vec<TaskId>,
-        machines: Vec<MachineId>,
-    ) -> Changed
+    pub(crate) fn of(jobs: Vec<JobId>, tasks: Vec<TaskId>, machines: Vec<MachineId>) -> Changed
         ensures { result ≡ record { jobs = jobs.items; tasks = tasks.items; machines = machines.items } }
     {
         Changed {

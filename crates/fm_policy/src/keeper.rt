@@ -14,14 +14,15 @@ use fm_lattice::shared::Shared;
 use fm_net::network::Network;
 use std::alloc::Global;
 
-/// What holds the network of a knowledge while that grows: it is fresh, and the network is the one that is built from what
-/// is known; or it is stale, and nothing is said of its network.
+/// What maintains the network of a knowledge (incremental view maintenance: Gupta and Mumick, 1995). A keeper is
+/// fresh, and its network is the one that is built from what is known; or it is stale, and no clause speaks of its
+/// network.
 pub trait NetKeeper: Drop {
     /// Whether it is fresh.
     ghost fresh: { Self → Bool };
 
-    /// Whether a fresh one holds the network of the table, and with it all that it needs to follow from there: the network
-    /// alone does not say what the next delta makes of it.
+    /// Whether a fresh one holds the network of the table, and all that it needs to follow deltas: the network alone
+    /// does not determine what the next delta makes of it.
     ghost is_for: { Self → Table → Type 0 };
 
     /// Whether a keeper, fresh or stale, can become fresh for the table from what it keeps.
@@ -33,8 +34,8 @@ pub trait NetKeeper: Drop {
     /// What becomes of a keeper that takes in a delta with these keys.
     ghost absorbs: { Self → Keys → Self → Type 0 };
 
-    /// Follows the knowledge, which took a delta with these keys in. The caller owes that the keeper, if fresh, was for what
-    /// was known before. After a refusal of memory the keeper is stale; a stale one stays stale.
+    /// Follows the knowledge, which took a delta with these keys in. The caller must ensure that the keeper, if fresh,
+    /// was for what was known before. If memory runs out, the keeper is stale; a stale one stays stale.
     fn absorb(
         &mut self,
         alloc: Global,
@@ -48,14 +49,14 @@ pub trait NetKeeper: Drop {
         ensures keeps_up { TookIn true (follows self.old) now.now changed.now → follows self.new now.now }
         ensures absorbs { absorbs self.old changed.now self.new };
 
-    /// Builds the network of the knowledge, after which the keeper is fresh. After a refusal of memory it is stale.
+    /// Builds the network of the knowledge, after which the keeper is fresh. If memory runs out, it is stale.
     fn rebuild(&mut self, alloc: Global, now: &Knowledge) -> Result<(), OutOfMemory>
         ensures fresh { OnOk result (IsTrue (fresh self.new)) }
         ensures given { OnOk result (is_for self.new now.now) }
         ensures err { OnErr result (fresh self.new ≡ false) };
 
-    /// Makes the network that of the knowledge, from what is kept or by building. The keeper must follow what is known, and still
-    /// does after a refusal of memory, if stale. A fresh keeper stays as it is.
+    /// Makes the network that of the knowledge, from what is kept or by building. The keeper must follow what is
+    /// known. If memory runs out, it is stale and still follows it. A fresh keeper is unchanged.
     fn refresh(&mut self, alloc: Global, now: &Knowledge) -> Result<(), OutOfMemory>
         requires { follows self.old now.now }
         ensures fresh { OnOk result (IsTrue (fresh self.new)) }
@@ -71,9 +72,9 @@ pub trait NetKeeper: Drop {
     fn network(&self) -> &Network
         ensures { IsTrue (fresh self.now) → (k : Table) → is_for self.now k → result.now ≡ net_of k };
 
-    /// The network, for one more owner: a pointer. It stays as it is while the keeper goes on: a keeper that edits copies the
-    /// network first, where another owner has it. Of a stale keeper it may be any.
-    /// It is refused where no more owners can be counted.
+    /// The network, for one more owner: a pointer. It stays as it is while the keeper goes on: a keeper that edits
+    /// copies the network first, if another owner has it. Of a stale keeper it may be any. It is refused if no more
+    /// owners can be counted.
     fn share(&self) -> Result<Shared<Network>, OutOfMemory>
         ensures { IfOk result (λ network. IsTrue (fresh self.now) → (k : Table) → is_for self.now k → network ≡ net_of k) };
 }

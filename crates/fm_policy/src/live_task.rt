@@ -23,7 +23,7 @@ pub(crate) struct LiveTask {
 }
 
 impl LiveTask {
-    // The task, of which the record is known, where it is live.
+    // The task, of which the record is known, if it is live.
     fn of(knowledge: &Knowledge, task: TaskId, known: &TaskRec) -> Option<LiveTask>
         requires { lookup nat_cmp task knowledge.now.tasks ≡ Some known.now }
         ensures { result ≡ live_task knowledge.now task }
@@ -32,7 +32,7 @@ impl LiveTask {
         Some(LiveTask { task, spec, holder })
     }
 
-    // The request that the task waits for, where no machine holds it.
+    // The request that the task waits for, if no machine holds it.
     fn waits_for(&self) -> Option<u32>
         ensures { result ≡ waiting_request self.now }
     {

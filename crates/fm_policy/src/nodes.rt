@@ -47,7 +47,7 @@ fn put_jobs(
     Ok(())
 }
 
-// Puts the job, where it has live tasks.
+// Puts the job, if it has live tasks.
 fn put_job(
     network: &mut Network,
     knowledge: &Knowledge,
@@ -92,7 +92,7 @@ fn put_machines(network: &mut Network, knowledge: &Knowledge) -> Result<(), OutO
     Ok(())
 }
 
-// Puts the machine, where it is open.
+// Puts the machine, if it is open.
 fn put_machine(
     network: &mut Network,
     knowledge: &Knowledge,

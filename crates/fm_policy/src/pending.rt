@@ -1,4 +1,4 @@
-//! The keys of deltas that were taken in and are not followed yet.
+//! The keys of deltas that the network does not include yet.
 
 ghost use Rattle.std.specs.Prelude.{◌≡◌, ◌||◌, IfOk, OnOk, true};
 ghost use Rattle.std.specs.Ordering.{is_eq};
@@ -12,8 +12,8 @@ use std::alloc::Global;
 use std::collections::BTreeSet;
 use std::marker::Model;
 
-/// The jobs, tasks and machines of which some deltas told something: each once, ids rising. It is of the size of these keys,
-/// however many deltas there were.
+/// The jobs, tasks and machines of which some deltas told something: each once, ids rising. It is of the size of these
+/// keys, however many deltas there were.
 #[derive(Drop)]
 pub struct Pending {
     jobs: BTreeSet<JobId>,
@@ -30,7 +30,7 @@ impl Model for Pending {
 }
 
 impl Pending {
-    /// No delta. It takes no memory.
+    /// No delta. It allocates nothing.
     pub fn new(alloc: Global) -> Pending
         ensures { result ≡ no_keys }
     {

@@ -1,4 +1,4 @@
-//! A keeper that builds anew.
+//! A keeper that rebuilds.
 
 ghost use Rattle.std.specs.Prelude.{◌≡◌, [], Some, false, is_some, IsTrue, IfOk};
 ghost use Rattle.fm_records.specs.Know.{know};
@@ -14,7 +14,7 @@ use fm_net::network::Network;
 use std::alloc::Global;
 use std::marker::Model;
 
-/// A keeper that any delta makes stale, and that builds the whole network anew where it is wanted.
+/// A keeper that any delta makes stale, and that builds the complete network on demand.
 #[derive(Debug, Drop)]
 pub struct Rebuilder {
     network: Shared<Network>,

@@ -22,7 +22,7 @@ pub(crate) struct Room {
 }
 
 impl Room {
-    /// The room on the machine, where it is open and its load is within its bandwidth. O(log n).
+    /// The room on the machine, if it is open and its load is within its bandwidth. O(log n).
     pub(crate) fn of(knowledge: &Knowledge, tallies: &Tallies, machine: MachineId) -> Option<Room>
         requires tally { IsTally knowledge.now tallies.now }
         ensures room { result ≡ room_at knowledge.now machine }
@@ -42,7 +42,7 @@ impl Room {
         })
     }
 
-    /// How many tasks of the request fit, and what each costs, where one fits.
+    /// How many tasks of the request fit, and what each costs, if one fits.
     pub(crate) fn fit(&self, request: u32) -> Option<(u64, u32)>
         requires { RoomWithin self.now }
         ensures fit { result ≡ fit_in self.now request }

@@ -120,7 +120,7 @@ two_proposals-holder = refl
 two_proposals-load : load_of (know two_proposals) A ≡ 100
 two_proposals-load = refl
 
--- The report of the greater number counts, also where another comes later.
+-- The report of the greater number counts, also if another comes later.
 
 abbrev reported : List Op
 reported = one_task ++ op.Report A 1 3 950 ∷ op.Report A 1 2 0 ∷ []
@@ -242,8 +242,8 @@ done-live = refl
 done-again : is_live (know (op.Progress t1 1 Pending ∷ op.Progress t1 0 Done ∷ one_task)) t1 ≡ true
 done-again = refl
 
--- A job that is withdrawn makes its task not live, and so held by nobody; the machine has all of its nic again. Of two
--- registers of one version and one writer, the one that is withdrawn counts. A newer version brings the job back.
+-- A job that is withdrawn makes its task not live, and so held by no machine; the machine has all of its nic again. Of
+-- two registers of one version and one writer, the one that is withdrawn counts. A newer version brings the job back.
 
 abbrev job_withdrawn : List Op
 job_withdrawn = held ++ op.Job J 1 1 true 500 800 ∷ []
@@ -405,8 +405,8 @@ credit_beyond = refl
 request_first : op_fault (preferring 1000001 ((B, 1) ∷ (A, 1) ∷ [])) ≡ Some field.Request
 request_first = refl
 
--- Of two specs of one version that are equal but for their preferences, the one counts whose list comes later: a list that
--- begins another is the lesser, and of two entries of one machine the greater credit counts.
+-- Of two specs of one version that are equal except for their preferences, the one counts whose list comes later: a
+-- list that begins another is the lesser, and of two entries of one machine the greater credit counts.
 
 abbrev prefers_A : SpecReg
 prefers_A = record { version = 1; writer = 1; withdrawn = false; job = J; request = 100; prefer = (A, 1) ∷ [] }

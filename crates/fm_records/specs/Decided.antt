@@ -22,7 +22,7 @@ credit_Decides a b =
     let both : Decides (a.0 == b.0 && a.1 == b.1) ((a.0 ≡ b.0) × (a.1 ≡ b.1)) = Decides-and (a.0 == b.0) (a.1 == b.1) (unsigned_Decides a.0 b.0) (unsigned_Decides a.1 b.1) in
     (λ h. let p = both.0 h in λ i. (p.0 i, p.1 i), λ q. both.1 (ap (λ z. z.0) q, ap (λ z. z.1) q))
 
--- lists of preferences are the same where each entry is
+-- lists of preferences are the same if each entry is
 pub preferences_Decides : (a b : List (ℕ × ℕ)) → Decides (preferences_eq a b) (a ≡ b)
 preferences_Decides a b = slice_eq-Decides credit_Decides a b _ refl
 
@@ -35,7 +35,7 @@ op_Decides (op.Report i n r u) (op.Report i2 n2 r2 u2) = search rules
 op_Decides (op.Propose i a x m n) (op.Propose i2 a2 x2 m2 n2) = search rules
 op_Decides a b = search rules
 
--- pairs are the same where both parts are
+-- pairs are the same if both parts are
 pub pair_Decides : {A B : Type 0} (E : A → A → Bool) (F : B → B → Bool) → ((a b : A) → Decides (E a b) (a ≡ b)) → ((a b : B) → Decides (F a b) (a ≡ b)) → (x y : A × B) → Decides (E x.0 y.0 && F x.1 y.1) (x ≡ y)
 pair_Decides E F d e x y =
     let both : Decides (E x.0 y.0 && F x.1 y.1) ((x.0 ≡ y.0) × (x.1 ≡ y.1)) = Decides-and (E x.0 y.0) (F x.1 y.1) (d x.0 y.0) (e x.1 y.1) in

@@ -28,7 +28,7 @@ job_of k j = lookup nat_cmp j k.jobs
 abbrev pub spec_of : Table → ℕ → Option SpecReg
 spec_of k t = and_then (λ v. v.0) (lookup nat_cmp t k.tasks)
 
--- attempt 0 pending where no record is known
+-- attempt 0 pending if no record is known
 abbrev pub progress_of : Table → ℕ → Progress
 progress_of k t = or_else none_begun (option_map (λ v. v.1) (lookup nat_cmp t k.tasks))
 
@@ -44,7 +44,7 @@ state_of k m = and_then (λ v. v.1.0) (lookup nat_cmp m k.machines)
 abbrev pub report_of : Table → ℕ → Option Report
 report_of k m = and_then (λ v. v.1.1) (lookup nat_cmp m k.machines)
 
--- the reported use, 0 where no report is known
+-- the reported use, 0 if no report is known
 abbrev pub used_of : Table → ℕ → ℕ
 used_of k m = or_else 0 (option_map (λ r. r.used) (report_of k m))
 
@@ -87,7 +87,7 @@ is_present k s = is_open k s.machine && passes (λ i. i == s.incarnation) (incar
 abbrev pub won_spot : Table → ℕ → Option Spot
 won_spot k t = option_map (λ w. w.1) (winner_of k t (attempt_of k t))
 
--- the machine that holds a live task: the one that the winner of its present attempt names, where it is present
+-- the machine that holds a live task: the one that the winner of its present attempt names, if it is present
 abbrev pub holder_of : Table → ℕ → Option ℕ
 holder_of k t = cond (is_live k t) (option_map (λ s. s.machine) (only_if (is_present k) (won_spot k t))) None
 
@@ -106,7 +106,7 @@ request_of (Some s) = s.request
 abbrev pub load_of : Table → ℕ → ℕ
 load_of k m = max (used_of k m) (sum_by (λ e. request_of e.1.0) (held_tasks k m))
 
--- what the load leaves of an open machine's nic, none where the load is greater
+-- what the load leaves of an open machine's nic, none if the load is greater
 abbrev pub spare_of : Table → ℕ → Option ℕ
 spare_of k m = and_then (λ r. when (nat_le (load_of k m) r.nic) (r.nic - load_of k m)) (open_state k m)
 

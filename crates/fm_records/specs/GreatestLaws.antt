@@ -45,7 +45,7 @@ module _ {R : Type 0} (cmp : R → R → Ordering) (total : IsTotalOrder cmp) wh
   greatest_is [] = refl
   greatest_is (x ∷ xs) = longer_by x xs (greatest cmp xs) (greatest_is xs)
 
-  -- y is below x where x is above y
+  -- y is below x if x is above y
   below_above : (x y : R) → is_lt (cmp y x) ≡ is_gt (cmp x y)
   below_above x y = ap is_lt (total.antisymm y x) ∙ turned (cmp x y)
 

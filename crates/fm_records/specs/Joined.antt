@@ -18,7 +18,7 @@ task_join = pair_join (option_join (max_join spec_cmp)) (max_join progress_cmp)
 abbrev pub parts_join : Option MachineReg × Option Report → Option MachineReg × Option Report → Option MachineReg × Option Report
 parts_join = pair_join (option_join (max_join machine_cmp)) (option_join (max_join report_cmp))
 
--- the value of the greater incarnation, and the parts joined where the incarnations are equal
+-- the value of the greater incarnation, and the parts joined if the incarnations are equal
 abbrev pub machine_join : MachineValue → MachineValue → MachineValue
 machine_join = lex_join nat_cmp parts_join
 

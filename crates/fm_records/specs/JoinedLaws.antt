@@ -1,4 +1,4 @@
--- The join of tables that can be is a join-semilattice's, since it is the table of both sets together.
+-- The join of possible tables is a join-semilattice's, since it is the table of both sets together.
 use Rattle.std.specs.Prelude.{◌≡◌, ◌⊎◌, List, [], ◌∷◌, ◌++◌}
 use Rattle.std.proofs.Common.{sym, ap, ◌∙◌, subst, inl, inr, append_assoc}
 use Rattle.fm_records.specs.Sets.{IsMember, HaveSameMembers}

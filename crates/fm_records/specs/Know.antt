@@ -1,4 +1,4 @@
--- What a set of operations comes to: of each register the greatest, and the table of all that occurs.
+-- The table of a set of operations: the greatest of each register, and the table of all that occurs.
 -- Delta-state CRDTs (Almeida, Shoker and Baquero): a state stands for the set of updates that it includes.
 use Rattle.std.specs.Prelude.{ℕ, Bool, ◌==◌, ◌&&◌, List, Option, Some, None, option_map}
 use Rattle.std.specs.List.{filter_map}
@@ -43,21 +43,21 @@ state_in m i o = second_if (λ at. at.0 == m && at.1 == i) (state_told o)
 abbrev pub report_in : ℕ → ℕ → Op → Option Report
 report_in m i o = second_if (λ at. at.0 == m && at.1 == i) (report_told o)
 
--- the coordinator that an operation tells of for the task's attempt, and where that would run it
+-- the coordinator that an operation names for the task's attempt, and where that would run it
 abbrev pub coordinator_in : ℕ × ℕ → Op → Option ℕ
 coordinator_in at o = second_if (λ a. a.0 == at.0 && a.1 == at.1) (option_map (λ e. e.0) (spot_told o))
 
 abbrev pub spot_in : ℕ × ℕ → ℕ → Op → Option Spot
 spot_in at c o = second_if (λ a. a.0.0 == at.0 && a.0.1 == at.1 && a.1 == c) (spot_told o)
 
--- the register of a job, and of a task's spec: the greatest told
+-- the register of a job, and the spec of a task: the greatest told
 abbrev pub job : List Op → ℕ → Option JobReg
 job S j = greatest job_cmp (filter_map (job_in j) S)
 
 abbrev pub spec : List Op → ℕ → Option SpecReg
 spec S t = greatest spec_cmp (filter_map (spec_in t) S)
 
--- the progress of a task: the greatest told, and attempt 0 pending where none is
+-- the progress of a task: the greatest told, and attempt 0 pending if none is
 abbrev pub none_begun : Progress
 none_begun = record { attempt = 0; phase = Pending }
 
@@ -126,7 +126,7 @@ machine_at S m i = (i, (state_at S m i, report_at S m i))
 abbrev pub machine : List Op → ℕ → Option MachineValue
 machine S m = option_map (machine_at S m) (incarnation S m)
 
--- the entries for a task's attempt, by coordinator, where there are any
+-- the entries for a task's attempt, by coordinator, if there are any
 abbrev pub entries : List Op → ℕ × ℕ → Option (List (ℕ × Spot))
 entries S at = unless_empty (table nat_cmp (filter_map coordinator_named S) (entry S at))
 

@@ -1,4 +1,4 @@
--- The table of a set of operations is the one with rising keys where each lookup gives what is told of the key.
+-- The table of a set of operations is the one with rising keys in which each lookup gives what is told of the key.
 use Rattle.std.specs.Prelude.{◌≡◌, List}
 use Rattle.std.specs.List.{filter_map}
 use Rattle.std.specs.Ordering.{nat_cmp}

@@ -91,7 +91,7 @@ lookup_machine S m = lookup_table nat_cmp nat_cmp_total nat_same (machine S) (fi
 pub lookup_entry : (S : List Op) (at : ℕ × ℕ) (c : ℕ) → lookup nat_cmp c (table nat_cmp (filter_map coordinator_named S) (entry S at)) ≡ entry S at c
 lookup_entry S at c = lookup_table nat_cmp nat_cmp_total nat_same (entry S at) (filter_map coordinator_named S) c (λ v e. named (spot_in at c) coordinator_named _ c (λ o w g. (spot_names at c o w g).1) S v e)
 
--- some key of the list has a value where the table has a row
+-- some key of the list has a value if the table has a row
 has_row : {K V : Type 0} (f : K → Option V) (xs : List K) (e : K × V) (es : List (K × V)) → filter_map (with_value f) xs ≡ e ∷ es → (k : K) × (v : V) × (f k ≡ Some v)
 has_row f [] e es h = absurd (let no : ⊥ = cc in no)
 has_row f (x ∷ xs) e es h =

@@ -1,7 +1,7 @@
 -- Values that are there only where a test holds.
 use Rattle.std.specs.Prelude.{Bool, false, cond, Option, Some, None}
 
--- the value where the test holds
+-- the value if the test holds
 abbrev pub when : {A : Type 0} → Bool → A → Option A
 when b x = cond b (Some x) None
 
@@ -19,7 +19,7 @@ abbrev pub passes : {A : Type 0} → (A → Bool) → Option A → Bool
 passes test None = false
 passes test (Some a) = test a
 
--- the value, or another where there is none
+-- the value, or another if there is none
 abbrev pub or_else : {A : Type 0} → A → Option A → A
 or_else a None = a
 or_else a (Some x) = x

@@ -23,7 +23,7 @@ preferences_ties = lists_ties credit_cmp credit_ties
 pub partial_preferences : IsPartialOrder preferences_eq (as_partial_cmp preferences_cmp)
 partial_preferences = partial_order_from_agreeing_total preferences_cmp total_preferences (Prim.search (comparing, rules)) preferences_ties
 
--- a machine is among the first entries and one more, where it is among the first or is that one's
+-- a machine is among the first entries and one more, if it is among the first or is that one's
 pub one_more_preferred : (m : ℕ) (es : List (ℕ × ℕ)) (i : ℕ) (e : ℕ × ℕ) → i < length es → e ≡ get_or es i e → is_some (lookup nat_cmp m (take (suc i) es)) ≡ (is_eq (nat_cmp m e.0) || is_some (lookup nat_cmp m (take i es)))
 one_more_preferred m [] i e h is = absurd (omega (arith, h))
 one_more_preferred m (x ∷ es) zero e h is =

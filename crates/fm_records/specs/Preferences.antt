@@ -1,5 +1,5 @@
--- The machines that a task prefers, each with a credit: their order, their range, and how a row keeps them (this project's
--- profile).
+-- The machines that a task prefers, each with a credit: their order, their range, and how a row keeps them (this
+-- project's profile).
 use Rattle.std.specs.Prelude.{◌≡◌, ◌++◌, ◌&&◌, ℕ, Bool, true, nat_eq, nat_lt, List, [], ◌∷◌, length, take}
 use Rattle.std.specs.Cmp.Lexicographic.{pointwise, slice_cmp}
 use Rattle.std.specs.Ordering.{nat_cmp, on, then_cmp, eq_of_both}
@@ -30,7 +30,7 @@ abbrev pub machines_rise : List (ℕ × ℕ) → Bool
 machines_rise [] = true
 machines_rise (e ∷ es) = rises_above e.0 es
 
--- the list, and behind it zeros up to four entries
+-- the list, and after it zeros up to four entries
 abbrev pub filled : List (ℕ × ℕ) → List (ℕ × ℕ)
 filled l = take 4 (l ++ (0, 0) ∷ (0, 0) ∷ (0, 0) ∷ (0, 0) ∷ [])
 

@@ -1,4 +1,4 @@
--- What a set of operations in range comes to is a table that can be.
+-- The table of a set of operations in range is a possible table.
 use Rattle.std.specs.Prelude.{◌≡◌, ◌⊎◌, ℕ, Bool, true, false, cond, ◌==◌, ◌&&◌, List, [], ◌∷◌, ◌++◌, Option, Some, None, option_map, flat_map, refl}
 use Rattle.std.specs.List.{filter_map, list_all}
 use Rattle.std.specs.Ordering.{nat_cmp, is_eq}
@@ -151,7 +151,7 @@ greatest_member cmp total xs r e = let g : IsGreatest cmp xs r = subst (IsGreate
 pub least_member : {R : Type 0} (cmp : R → R → Ordering) → IsTotalOrder cmp → (xs : List R) (r : R) → least cmp xs ≡ Some r → IsMember r xs
 least_member cmp total xs r e = let g : IsLeast cmp xs r = subst (IsLeastOf cmp xs) e (least_is cmp total xs) in g.is_member
 
--- a list with a member comes to something
+-- a list with a member has a join
 pub all_of_some : {R : Type 0} (join : R → R → R) (xs : List R) (x : R) → IsMember x xs → all_of join xs ≡ None → ⊥
 all_of_some join [] x h e = h
 all_of_some join (y ∷ ys) x h e = elim (all_of join ys) as (λ o. option_join join (Some y) o ≡ None → ⊥) [ None ↦ λ g. some_none y g | Some z ↦ λ g. some_none (join y z) g ] e
@@ -286,7 +286,7 @@ know_in_range S ranged =
 pub know_can_be : (S : List Op) → all_in_range S ≡ true → CanBe (know S)
 know_can_be S ranged = record { table = know_table S; in_range = know_in_range S ranged }
 
--- What is found in a table that can be is in range.
+-- What is found in a possible table is in range.
 
 module _ (k : Table) (is : CanBe k) where
   abbrev first_two : List Op

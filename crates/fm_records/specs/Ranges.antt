@@ -1,4 +1,4 @@
--- Operations in range, and the tables that can be.
+-- Operations in range, and the possible tables.
 use Rattle.std.specs.Prelude.{ℕ, Bool, nat_lt, nat_le, is_none, ◌&&◌, ◌^◌, List, length, IsTrue}
 use Rattle.std.specs.List.{list_all}
 use Rattle.fm_records.specs.declared.ops.Op.{Op}
@@ -38,7 +38,7 @@ in_range o = fits o && is_none (op_fault o)
 abbrev pub all_in_range : List Op → Bool
 all_in_range = list_all in_range
 
--- a table that can be: one of the form that operations come to, all of whose fields are in range
+-- a possible table: of the form of tables of operations, with all fields in range
 pub record CanBe (k : Table) : Type 0 where
   pub table : IsTable k
   pub in_range : IsTrue (all_in_range (ops k))

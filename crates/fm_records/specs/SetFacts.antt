@@ -1,6 +1,6 @@
--- The facts of a set of operations: what is live, open and held, and what a machine has left, by the greatest that the set
--- tells (this project's profile, after Firmament's network-aware policy). No table stands between: a law says that these are
--- the facts on the table of the set.
+-- The facts of a set of operations: what is live, open and held, and what a machine has left, by the greatest that
+-- the set tells (this project's profile, after Firmament's network-aware policy), without a table. A law says that
+-- these are the facts on the table of the set.
 use Rattle.std.specs.Prelude.{ℕ, ◌-◌, Bool, cond, not, nat_le, ◌==◌, ◌&&◌, List, Option, None, option_map, is_some, filter, max, sum_by}
 use Rattle.std.specs.List.{filter_map}
 use Rattle.std.specs.Ordering.{nat_cmp}
@@ -33,7 +33,7 @@ present S s = is_some (opened S s.machine) && passes (λ i. i == s.incarnation) 
 abbrev pub won : List Op → ℕ → Option Spot
 won S t = option_map (λ w. w.1) (winner S (t, (progress S t).attempt))
 
--- the machine that holds a live task: the one that the winner of its present attempt names, where it is present
+-- the machine that holds a live task: the one that the winner of its present attempt names, if it is present
 abbrev pub holder : List Op → ℕ → Option ℕ
 holder S t = cond (is_some (live S t)) (option_map (λ s. s.machine) (only_if (present S) (won S t))) None
 
@@ -48,7 +48,7 @@ tasks S = rising nat_cmp (filter_map task_named S)
 abbrev pub held : List Op → ℕ → List ℕ
 held S m = filter (is_held_by S m) (tasks S)
 
--- the use that the machine reported, 0 where it reported none
+-- the use that the machine reported, 0 if it reported none
 abbrev pub used : List Op → ℕ → ℕ
 used S m = or_else 0 (option_map (λ r. r.used) (report S m))
 
@@ -60,7 +60,7 @@ requested S t = request_of (spec S t)
 abbrev pub load : List Op → ℕ → ℕ
 load S m = max (used S m) (sum_by (requested S) (held S m))
 
--- what the load leaves of an open machine's nic, none where the load is greater
+-- what the load leaves of an open machine's nic, none if the load is greater
 abbrev pub spare : List Op → ℕ → Option ℕ
 spare S m = and_then (λ r. when (nat_le (load S m) r.nic) (r.nic - load S m)) (opened S m)
 

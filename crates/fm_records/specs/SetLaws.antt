@@ -1,4 +1,4 @@
--- What the members of lists come to joined.
+-- The joins of the members of lists.
 use Rattle.std.specs.Prelude.{◌≡◌, List, [], ◌∷◌, ◌++◌, Option, Some, None, refl}
 use Rattle.std.specs.List.{filter_map, cons_option}
 use Rattle.std.proofs.Common.{sym, ap, ◌∙◌, subst, inl, inr}

@@ -1,20 +1,20 @@
--- Lists as sets, the greatest and the least of a list, and lists of keys that rise.
+-- Lists as sets, the greatest and the least of a list, and lists of rising keys.
 use Rattle.std.specs.Prelude.{◌≡◌, ◌⊎◌, List, [], ◌∷◌, ◌++◌, Option, Some, None, option_map}
 use Rattle.std.specs.List.{filter_map}
 use Rattle.std.specs.declared.cmp.Ordering.{Ordering}
 use Rattle.fm_lattice.specs.Chains.{by_order}
 use Rattle.fm_lattice.specs.Joins.{max_join, min_join, option_join}
 
--- m is one of the list
+-- m is a member of the list
 abbrev pub IsMember : {R : Type 0} → R → List R → Type 0
 IsMember m [] = ⊥
 IsMember m (x ∷ xs) = (x ≡ m) ⊎ IsMember m xs
 
--- the lists have the same members: as sets they are one
+-- the lists have the same members: they are equal as sets
 abbrev pub HaveSameMembers : {R : Type 0} → List R → List R → Type 0
 HaveSameMembers {R} xs ys = ((x : R) → IsMember x xs → IsMember x ys) × ((x : R) → IsMember x ys → IsMember x xs)
 
--- the sets together
+-- the union of the sets
 abbrev pub union : {R : Type 0} → List (List R) → List R
 union [] = []
 union (xs ∷ xss) = xs ++ union xss

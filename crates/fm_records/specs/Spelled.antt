@@ -1,4 +1,4 @@
--- The operations that spell a table out, and the form of the tables that operations come to.
+-- The operations that a table is written out as, and the form of the tables of operations.
 use Rattle.std.specs.Prelude.{◌≡◌, ℕ, List, [], ◌∷◌, ◌++◌, Option, Some, None, flat_map, map}
 use Rattle.std.specs.Ordering.{nat_cmp}
 use Rattle.fm_records.specs.declared.ops.Op.{Op}
@@ -52,7 +52,7 @@ machine_ops e = each (machine_op e.0 e.1.0) e.1.1.0 ++ each (report_op e.0 e.1.0
 abbrev pub entry_ops : (ℕ × ℕ) × List (ℕ × Spot) → List Op
 entry_ops e = map (λ c. propose_op e.0 c.0 c.1) e.1
 
--- the operations that spell the table out
+-- the operations that the table is written out as
 abbrev pub ops : Table → List Op
 ops k =
     flat_map job_ops k.jobs

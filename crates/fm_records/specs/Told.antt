@@ -1,4 +1,4 @@
--- What one operation tells: of what, and the record (this project's profile).
+-- What one operation says: about what, and the record (this project's profile).
 use Rattle.std.specs.Prelude.{ℕ, is_none, Option, Some, None}
 use Rattle.fm_records.specs.declared.ops.Op.{Op}
 use Rattle.fm_records.specs.declared.ops.Op.TheVariants as op
@@ -47,7 +47,7 @@ abbrev pub spot_told : Op → Option (((ℕ × ℕ) × ℕ) × Spot)
 spot_told (op.Propose id attempt coordinator machine incarnation) = Some (((id, attempt), coordinator), record { machine = machine; incarnation = incarnation })
 spot_told _ = None
 
--- the record that an operation tells, where all of its fields are in their ranges
+-- the record that an operation tells, if all of its fields are in their ranges
 abbrev pub record_of : {K R : Type 0} → (Op → Option (K × R)) → Op → Option R
 record_of told o = and_then (λ e. when (is_none (op_fault o)) e.1) (told o)
 

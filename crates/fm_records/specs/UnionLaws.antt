@@ -145,7 +145,7 @@ module _ (S T : List Op) where
   reports : (m n : ℕ) → report_at (S ++ T) m n ≡ option_join (max_join report_cmp) (report_at S m n) (report_at T m n)
   reports m n = one (max_join report_cmp) (max_laws report_cmp total_report same_report) (report_in m n)
 
-  -- where the second has told nothing at the incarnation, and where the first has not
+  -- if the second has told nothing at the incarnation, and if the first has not
   first_alone : (m n : ℕ) → (greater (Some n) (incarnation T m) ≡ incarnation T m → ⊥) → machine_at (S ++ T) m n ≡ machine_at S m n
   first_alone m n missing =
       let a = states m n ∙ ap (option_join (max_join machine_cmp) (state_at S m n)) (no_state T m n missing) ∙ none_after (max_join machine_cmp) (state_at S m n) in

@@ -46,7 +46,7 @@ impl JobId {
         self.number
     }
 
-    /// The id that a text spells, in any of the forms of a UUID; none where the text is no UUID. It takes no memory.
+    /// The id that a text spells, in any of the forms of a UUID; none if the text is no UUID. It allocates nothing.
     pub fn read(text: &str) -> Option<JobId>
         ensures { result ≡ read_id text.now }
     {
@@ -102,7 +102,7 @@ impl TaskId {
         self.number
     }
 
-    /// The id that a text spells, in any of the forms of a UUID; none where the text is no UUID. It takes no memory.
+    /// The id that a text spells, in any of the forms of a UUID; none if the text is no UUID. It allocates nothing.
     pub fn read(text: &str) -> Option<TaskId>
         ensures { result ≡ read_id text.now }
     {
@@ -158,7 +158,7 @@ impl MachineId {
         self.number
     }
 
-    /// The id that a text spells, in any of the forms of a UUID; none where the text is no UUID. It takes no memory.
+    /// The id that a text spells, in any of the forms of a UUID; none if the text is no UUID. It allocates nothing.
     pub fn read(text: &str) -> Option<MachineId>
         ensures { result ≡ read_id text.now }
     {

@@ -1,5 +1,5 @@
-//! The laws of what a set of operations means. Each function does nothing: its contract is the law. `equal` and `order` have
-//! the laws of `==` and `cmp`, whose functions do that one call.
+//! The laws of what a set of operations means. Each function does nothing: its contract is the law. `equal` and `order`
+//! have the laws of `==` and `cmp`, whose functions do that one call.
 
 ghost use Rattle.std.specs.Prelude.{◌≡◌, ◌↔◌, ◌++◌, ℕ, List, IsTrue};
 ghost use Rattle.std.specs.Ordering.{nat_cmp};
@@ -82,18 +82,18 @@ pub fn law_union()
     ensures { (S T : List Op) → know (S ++ T) ≡ table_join (know S) (know T) }
 {}
 
-/// The operations that spell a table out come to that table.
+/// The operations that a table is written out as have that table.
 pub fn law_ops()
     ensures { (k : Table) → IsTable k → know (ops k) ≡ k }
 {}
 
-/// Any set comes to a table's form, and a set in range to a table that can be.
+/// The table of any set has the form of tables, and that of a set in range is possible.
 pub fn law_can_be()
     ensures form { (S : List Op) → IsTable (know S) }
     ensures ranges { (S : List Op) → IsTrue (all_in_range S) → CanBe (know S) }
 {}
 
-/// The join of tables that can be is one, and is associative, commutative and idempotent.
+/// The join of possible tables is one, and is associative, commutative and idempotent.
 pub fn law_tables()
     ensures { JoinLaws CanBe table_join }
 {}

@@ -14,8 +14,9 @@ use crate::ids::MachineId;
 use std::cmp::Ordering;
 use std::marker::Model;
 
-/// Machines that a task prefers, up to four, each with a credit: by how much less it costs to run the task there. A fixed
-/// row, which takes no memory. Ordered entry by entry, each by machine and then credit; a list that begins another is less.
+/// Machines that a task prefers, up to four, each with a credit: by how much less it costs to run the task there. A
+/// fixed row, which allocates nothing. Ordered entry by entry, each by machine and then credit; a list that begins
+/// another is less.
 #[derive(Debug, Clone, Copy, Drop)]
 pub struct Prefer {
     // Behind the entries there are zeros.
@@ -37,7 +38,7 @@ impl Model for Prefer {
 }
 
 impl Prefer {
-    /// The preferences in the order of the list; none where there are more than four. Whether the machines rise and the
+    /// The preferences in the order of the list; none if there are more than four. Whether the machines rise and the
     /// credits are in their range is tested by the check of an operation.
     pub fn new(entries: &[(MachineId, u32)]) -> Option<Prefer>
         ensures { result ≡ (if nat_le (length entries.now) 4 then Some entries.now else None) }
@@ -61,14 +62,15 @@ impl Prefer {
         &self.row[..self.len]
     }
 
-    /// The credit of the machine, where it is preferred: that of its first entry. O(1), there are four at most.
+    /// The credit of the machine, if it is preferred: that of its first entry. O(1), there are four at most.
     pub fn credit(&self, machine: MachineId) -> Option<u32>
         ensures { result ≡ lookup nat_cmp machine self.now }
     {
         credit_in(self.entries(), machine)
     }
 
-    /// That the entries fit their types, which a clause does not see by itself: they are four at most, and ids have 128 bits.
+    /// That the entries fit their types, which a clause does not see by itself: they are four at most, and ids have 128
+    /// bits.
     pub fn law_fits(&self)
         ensures { IsTrue (fits_row self.now) }
     {

@@ -146,7 +146,7 @@ pub(crate) fn dumped(memory: Memory, kind: Kind) -> Result<Verdict, Refusal> {
     Ok(judged(refusal, is_written && is_right))
 }
 
-// Why it is refused, if it is, and whether what went out is the whole text, or may be part of it.
+// Why it is refused, if it is, and whether what was written is the complete text, or may be part of it.
 fn dumps(memory: Memory, coordinator: &mut Either) -> Result<(Option<Refusal>, bool), Refusal> {
     let text = text_of_known(memory.alloc, coordinator.knowledge())?;
     let mut out = writer_for(memory.alloc, text.len())?;

@@ -1,7 +1,7 @@
 //! What is known of a cluster.
 //!
-//! Calls with long contracts stand by themselves here and elsewhere, in functions without one: so the proofs of what goes through
-//! many of them are short.
+//! Calls with long contracts are by themselves here and elsewhere, in functions without one: so the proofs of what
+//! goes through many of them are short.
 
 use fm_delta::packet::Packet;
 use fm_know::knowledge::Knowledge;
@@ -83,6 +83,18 @@ fn preferred(number: u32) -> Prefer {
     }
 }
 
+// Two machines, each by its number and with its credit.
+fn preferring(one: (u32, u32), other: (u32, u32)) -> Prefer {
+    let first = (MachineId::new(scattered(one.0)), one.1);
+    let second = (MachineId::new(scattered(other.0)), other.1);
+    let entries = if first.0 < second.0 {
+        [first, second]
+    } else {
+        [second, first]
+    };
+    Prefer::new(&entries).unwrap_or_default()
+}
+
 fn progress(number: u32) -> Op {
     Op::Progress {
         id: TaskId::new(scattered(number)),
@@ -115,13 +127,61 @@ pub(crate) fn op(number: u32) -> Op {
     }
 }
 
-/// What these operations come to, the second number's not among them.
+/// The knowledge of these operations, the second number's not among them.
 pub(crate) fn known(alloc: Global, from: u32, to: u32) -> Result<Knowledge, Refusal> {
     let mut known = Knowledge::empty(alloc);
     for number in from..to {
         tell(alloc, &mut known, &op(number))?;
     }
     Ok(known)
+}
+
+/// What is known of a chain of so many machines of one slot, and of one more behind them: a task of each prefers it and, a little
+/// less, the next one, and one task more prefers the first two. So all tasks but one have to move on.
+pub(crate) fn chain(alloc: Global, machines: u32) -> Result<Knowledge, Refusal> {
+    let mut known = Knowledge::empty(alloc);
+    tell(alloc, &mut known, &patient_job())?;
+    for number in 0..=machines {
+        let first = number.saturating_sub(1);
+        tell(alloc, &mut known, &narrow_machine(number))?;
+        tell(alloc, &mut known, &chained_task(number, first))?;
+    }
+    Ok(known)
+}
+
+fn patient_job() -> Op {
+    Op::Job {
+        id: JobId::new(scattered(0)),
+        version: 1,
+        writer: 1,
+        withdrawn: false,
+        wait: 1_000_000,
+        preempt: 1_000_000,
+    }
+}
+
+fn narrow_machine(number: u32) -> Op {
+    Op::Machine {
+        id: MachineId::new(scattered(number)),
+        incarnation: 1,
+        version: 1,
+        writer: 1,
+        up: true,
+        slots: 1,
+        nic: 1000,
+    }
+}
+
+fn chained_task(number: u32, first: u32) -> Op {
+    Op::Spec {
+        id: TaskId::new(scattered(number)),
+        version: 1,
+        writer: 1,
+        withdrawn: false,
+        job: JobId::new(scattered(0)),
+        request: 1000,
+        prefer: preferring((first, 20), (first.saturating_add(1), 10)),
+    }
 }
 
 /// Takes the operation in.
@@ -147,7 +207,7 @@ pub(crate) fn are_same(one: &Knowledge, other: &Knowledge) -> bool {
     one == other
 }
 
-/// A packet of what these operations come to.
+/// A packet of the knowledge of these operations.
 pub(crate) fn packet(alloc: Global, from: u32, to: u32) -> Result<Packet, Refusal> {
     Ok(Packet {
         sender: numbered(2)?,

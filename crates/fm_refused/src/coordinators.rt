@@ -1,4 +1,4 @@
-//! Coordinators: what happened to one before a call, what it is asked for, and whether two are alike.
+//! Coordinators: what happened to one before a call, the call, and whether two are equal.
 
 ghost use Rattle.std.specs.Prelude.{[], IsTrue, IfOk};
 ghost use Rattle.fm_records.specs.Know.{know};
@@ -22,9 +22,9 @@ use fm_records::refusal::Refusal;
 use fm_round::parts::Plan;
 use std::alloc::Global;
 
-// How many operations each is told before it lets deltas go, how many before the one by which a network may become stale, and
-// which ones after its packet. There are 64 entries then, 4 of them of a seat that tells the last ones, and 32 deltas, so that
-// lists which double their room have to grow for one more.
+// How many operations each is told before it lets deltas go, how many before the one by which a network may become
+// stale, and which ones after its packet. There are 64 entries then, 4 of them of a seat that tells the last ones, and
+// 32 deltas, so that lists which double their room have to grow for one more.
 const TOLD_FIRST: u32 = 32;
 
 const TOLD: u32 = 57;
@@ -48,9 +48,10 @@ pub(crate) type Either = Coordinator<Keeper>;
 pub(crate) enum Kind {
     /// By edits.
     Edits,
-    /// By edits, of which one was refused this allocation: so the network is stale, unless no allocation is refused at all.
+    /// By edits, of which one was refused this allocation: so the network is stale, unless no allocation is refused at
+    /// all.
     Stale(u32),
-    /// Built anew where it is wanted.
+    /// Built on demand.
     Builds,
 }
 
@@ -65,7 +66,7 @@ impl Kind {
     }
 }
 
-/// A coordinator that took operations in, let its first deltas go, gave a packet, and took some in again.
+/// A coordinator that was told operations, dropped its first deltas, cut a packet, and was told some again.
 pub(crate) fn made(memory: Memory, kind: Kind, number: u8) -> Result<Either, Refusal> {
     let mut coordinator = begun(memory, kind, number)?;
     go_on(&mut coordinator, 0)?;
@@ -79,8 +80,8 @@ pub(crate) fn begun(memory: Memory, kind: Kind, number: u8) -> Result<Either, Re
     Ok(coordinator)
 }
 
-/// Which allocation of a tell is the first that its edits cannot do without: refused that, it is accepted, and the network is
-/// stale. 0 where none is refused.
+/// Which allocation of a tell is the first that its edits cannot do without: refused that, it is accepted, and the
+/// network is stale. 0 if none is refused.
 pub(crate) fn place_of_edits(memory: Memory) -> Result<u32, Refusal> {
     if memory.place == 0 {
         return Ok(0);
@@ -153,7 +154,7 @@ fn is_told(memory: Memory, coordinator: &mut Either, op: Op) -> bool {
     told.is_ok()
 }
 
-// Stuck where a coordinator has not the kind of network that it should have.
+// Stuck if a coordinator has not the kind of network that it should have.
 fn check_kind(memory: Memory, kind: Kind, coordinator: &Either) -> Result<(), Refusal> {
     let is_fresh = match kind {
         Kind::Edits => true,
@@ -209,8 +210,8 @@ pub(crate) fn give(coordinator: &mut Either, by: u32, range: Range) -> Result<()
     Ok(())
 }
 
-/// Whether both know, keep and list the same, and the first one's network is that of what it knows: where it is fresh, and in
-/// any case in the next view.
+/// Whether both know, keep and list the same, and the first one's network is that of what it knows: if it is fresh, and
+/// in any case in the next view.
 pub(crate) fn are_alike(
     alloc: Global,
     one: &mut Either,

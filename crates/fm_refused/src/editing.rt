@@ -19,7 +19,8 @@ use fm_policy::keeper::NetKeeper;
 use fm_records::refusal::Refusal;
 use std::alloc::Global;
 
-// What became of an Editor: why it was refused, which edits it answered, and whether its network is then as it should be.
+// What became of an Editor: why it was refused, which edits it answered, and whether its network is then as it should
+// be.
 #[derive(Drop)]
 struct Answered {
     refusal: Option<Refusal>,
@@ -27,8 +28,8 @@ struct Answered {
     is_right: bool,
 }
 
-/// An Editor whose network is shared follows what machines, tasks and proposals are added to much. Where that is refused memory
-/// it is stale, and the next build is of what is known.
+/// An Editor whose network is shared follows what machines, tasks and proposals are added to much. If that runs out of
+/// memory it is stale, and the next build is of what is known.
 pub(crate) fn edited(memory: Memory) -> Result<Verdict, Refusal> {
     follows(memory, 48)
 }

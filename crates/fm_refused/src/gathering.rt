@@ -18,7 +18,7 @@ struct Outcome {
     left: usize,
 }
 
-/// Two histories are gathered, of coordinators that told one another what they know, and one of which committed a plan.
+/// Two histories are gathered, of coordinators that exchanged what they know, and one of which committed a plan.
 pub(crate) fn gathered(memory: Memory) -> Result<Verdict, Refusal> {
     let coordinators = two(memory)?;
     let whole = Outcome {
@@ -29,7 +29,7 @@ pub(crate) fn gathered(memory: Memory) -> Result<Verdict, Refusal> {
     gathers(memory, coordinators.as_slice(), &whole)
 }
 
-/// The same, but the second one merged last what nobody cut.
+/// The same, but the last merge of the second one is of a packet that was not cut.
 pub(crate) fn stuck(memory: Memory) -> Result<Verdict, Refusal> {
     let mut coordinators = two(memory)?;
     merge_at_last(memory.alloc, coordinators.as_mut_slice())?;

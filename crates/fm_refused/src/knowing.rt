@@ -10,14 +10,15 @@ use fm_wire::reading::decode;
 use fm_wire::writing::encode;
 use std::alloc::Global;
 
-/// Much is joined into much, with new keys in each map, and with keys that are there: maps are merged aside.
+/// Much is joined into much, with new keys in each map, and with keys that are there: maps are merged into new blocks.
 pub(crate) fn join_much(memory: Memory) -> Result<Verdict, Refusal> {
     let before = known(memory.alloc, 0, 600)?;
     let other = known(memory.alloc, 500, 1100)?;
     join_into(memory, &before, &other)
 }
 
-/// A little is joined into much, with a new key in each map: maps change in place, after room was made for blocks and in them.
+/// A little is joined into much, with a new key in each map: maps change in place, after room was made for blocks and
+/// in them.
 pub(crate) fn join_little(memory: Memory) -> Result<Verdict, Refusal> {
     let before = known(memory.alloc, 0, 1200)?;
     let other = known(memory.alloc, 1200, 1208)?;

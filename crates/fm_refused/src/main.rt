@@ -1,10 +1,10 @@
-//! Calls that are refused memory, and a look at what that leaves. Each is made on values that are made anew for it, and a line
-//! says what became of it: its name, and a verdict.
+//! Calls that run out of memory, and checks of what that leaves. Each is made on fresh values, and a line says its
+//! result: its name, and a verdict.
 //!
-//! With no word memory is ample. Where this program runs on the allocator of tests/refusing.c, words can ask for more: with a
-//! number that allocation within each call is refused; with a second number further ones in turn, each by so many after the
-//! last, until the call has no more, and a line for each. Another word picks a group of calls: `values`, those of coordinators
-//! that keep their networks in one way, `edits`, `stale` or `builds`, or `others`.
+//! With no word memory is ample. If this program runs on the allocator of tests/refusing.c, words can ask for more:
+//! with a number that allocation within each call is refused; with a second number further ones in turn, each by so
+//! many after the last, until the call has no more, and a line for each. Another word picks a group of calls: `values`,
+//! those of coordinators that keep their networks in one way, `edits`, `stale` or `builds`, or `others`.
 #![tactic(auto)]
 
 mod bytes;
@@ -51,8 +51,8 @@ fn main(rt: HostRuntime) -> Result<(), anyhow::Error> {
     Ok(())
 }
 
-// What is asked for: which allocation of each call is refused first, or 0, how many the next one is after that, or 0, and of
-// which group of calls, if not of all.
+// What is asked for: which allocation of each call is refused first, or 0, how many the next one is after that, or 0,
+// and of which group of calls, if not of all.
 #[derive(Drop)]
 struct Words {
     first: u32,
@@ -135,7 +135,7 @@ fn print_kept<W: Wait>(
     print(rt, waits, words, Trial::Kept(Kept::Round, kind))
 }
 
-// Tries a call, with each allocation refused that is to be, until it has no more.
+// Tries a call, with each of the chosen allocations refused in turn, until it has no more.
 fn print<W: Wait>(
     rt: &HostRuntime,
     waits: &W,

@@ -2,8 +2,8 @@
 
 use std::alloc::Global;
 
-// What the allocator of tests/refusing.c is asked for where it is to refuse an allocation, with the place of that one added,
-// and where it is to refuse none any more. Any other allocator has no room for the first, and some for the second.
+// What the allocator of tests/refusing.c is asked for if it is to refuse an allocation, with the place of that one
+// added, and if it is to refuse none any more. Any other allocator has no room for the first, and some for the second.
 const REFUSE: usize = 0x7ee0_0000_0000_0000;
 
 const GIVE: usize = 1_234_567;

@@ -1,11 +1,11 @@
-//! Networks: their texts, their flows, and what a flow comes to.
+//! Networks: their texts, their flows, and the results of flows.
 
 ghost use Rattle.std.specs.Prelude.{◌≡◌, IfOk};
 ghost use Rattle.fm_certificate.specs.Built.{IsBuilt};
 ghost use Rattle.fm_certificate.specs.Flows.{units_in, IsFeasible};
 ghost use Rattle.fm_net.specs.Network.{net_of};
 
-use crate::cluster::known;
+use crate::cluster::{chain, known};
 use crate::memory::Memory;
 use crate::verdict::{Verdict, judged};
 use fm_certificate::cost::cost;
@@ -27,10 +27,13 @@ const TOLD: u32 = 320;
 
 const EARLIER: u32 = 280;
 
-// The same of networks where most tasks are placed.
+// The same of networks in which most tasks are placed.
 const PLACED: u32 = 160;
 
 const PLACED_EARLIER: u32 = 150;
+
+/// How many machines a chain has.
+pub(crate) const CHAINED: u32 = 40;
 
 /// The network of what is known.
 pub(crate) fn network_of(alloc: Global, known: &Knowledge) -> Result<Network, Refusal>
@@ -130,7 +133,7 @@ pub(crate) fn writer_for(alloc: Global, bytes: usize) -> Result<Over<Vec<u8>>, R
     Ok(Over::new(room))
 }
 
-/// Whether what went out is the whole text, or where it may be part of it, how it begins.
+/// Whether what was written is the complete text, or, if it may be a part of it, how it begins.
 pub(crate) fn is_part(may_be: bool, out: &[u8], text: &[u8]) -> bool {
     if may_be {
         text.starts_with(out)
@@ -165,6 +168,13 @@ fn reads_again(
 /// A network is solved.
 pub(crate) fn solved(memory: Memory) -> Result<Verdict, Refusal> {
     let network = told(memory.alloc, TOLD)?;
+    solves(memory, &network)
+}
+
+/// The network of a chain is solved.
+pub(crate) fn solved_chain(memory: Memory) -> Result<Verdict, Refusal> {
+    let known = chain(memory.alloc, CHAINED)?;
+    let network = network_of(memory.alloc, &known)?;
     solves(memory, &network)
 }
 
@@ -226,13 +236,13 @@ fn is_solution_written(memory: Memory, network: &Network, flow: &Flow) -> Result
     Ok(judged(refusal, is_right))
 }
 
-/// A network is solved from the flow of an earlier one. So few tasks are placed that it is solved anew.
+/// A network is solved from the flow of an earlier one. So few tasks are placed that it is solved from nothing.
 pub(crate) fn solved_from(memory: Memory) -> Result<Verdict, Refusal> {
     let start = earlier_flow(memory.alloc, EARLIER)?;
     solved_from_flow(memory, TOLD, &start)
 }
 
-/// The same where most tasks are placed, and stay.
+/// The same in which most tasks are placed, and stay.
 pub(crate) fn solved_from_most(memory: Memory) -> Result<Verdict, Refusal> {
     let start = earlier_flow(memory.alloc, PLACED_EARLIER)?;
     solved_from_flow(memory, PLACED, &start)

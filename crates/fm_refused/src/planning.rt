@@ -1,16 +1,17 @@
-//! Plans: what a flow comes to, what is admitted of it, and what has to stop.
+//! Plans: those of flows, what is admitted of them, and what has to stop.
 
 ghost use Rattle.std.specs.Prelude.{◌≡◌, IfOk};
 ghost use Rattle.fm_certificate.specs.Flows.{units_in, IsFeasible};
 ghost use Rattle.fm_net.specs.Network.{net_of};
 
-use crate::cluster::{known, numbered};
+use crate::cluster::{chain, known, numbered};
 use crate::memory::Memory;
-use crate::networks::{flow_of, network_of};
+use crate::networks::{CHAINED, flow_of, network_of};
 use crate::verdict::{Verdict, judged};
 use fm_certificate::flow::Flow;
 use fm_know::knowledge::Knowledge;
 use fm_net::network::Network;
+use fm_planner::planned::plan_of as plan_of_known;
 use fm_records::ids::CoordId;
 use fm_records::refusal::Refusal;
 use fm_round::admission::admit;
@@ -87,6 +88,33 @@ fn plans(
     let answer = plan_of(memory.alloc, network, flow, known);
     memory.give();
     let wanted = plan_of(memory.alloc, network, flow, known)?;
+    match answer {
+        Ok(plan) => Ok(judged(None, are_same_plans(&plan, &wanted))),
+        Err(refusal) => Ok(judged(Some(refusal), true)),
+    }
+}
+
+fn tallied(alloc: Global, known: &Knowledge) -> Result<Plan, Refusal> {
+    Ok(plan_of_known(alloc, known)?)
+}
+
+/// What is known is planned for.
+pub(crate) fn planned_known(memory: Memory) -> Result<Verdict, Refusal> {
+    let known = known(memory.alloc, 0, TOLD)?;
+    tallies(memory, &known)
+}
+
+/// What is known of a chain is planned for.
+pub(crate) fn planned_chain(memory: Memory) -> Result<Verdict, Refusal> {
+    let known = chain(memory.alloc, CHAINED)?;
+    tallies(memory, &known)
+}
+
+fn tallies(memory: Memory, known: &Knowledge) -> Result<Verdict, Refusal> {
+    memory.refuse();
+    let answer = tallied(memory.alloc, known);
+    memory.give();
+    let wanted = tallied(memory.alloc, known)?;
     match answer {
         Ok(plan) => Ok(judged(None, are_same_plans(&plan, &wanted))),
         Err(refusal) => Ok(judged(Some(refusal), true)),

@@ -13,8 +13,9 @@ use fm_edit::keepers::Keeper;
 use fm_fleet::audit::audit;
 use fm_fleet::closing::{Closed, close};
 use fm_fleet::node::Node;
-use fm_fleet::round::{NoGate, plan_for, run_round};
+use fm_fleet::round::{NoGate, run_round};
 use fm_fleet::seat::{NodeName, Seat};
+use fm_planner::planned::plan_of;
 use fm_records::ops::Op;
 use fm_records::refusal::Refusal;
 use fm_round::parts::Plan;
@@ -256,12 +257,12 @@ fn ask(alloc: Global, coordinator: &mut Either, wanted: Wanted) -> Result<(), Re
 
 // A round, without a node.
 fn round(alloc: Global, coordinator: &mut Either) -> Result<(), Refusal> {
-    let seen = coordinator.view(SEAT)?;
-    let plan = plan_for(alloc, &seen)?;
+    let sight = coordinator.see(SEAT)?;
+    let plan = plan_of(alloc, sight.knowledge.get())?;
     commit(coordinator, SEAT, plan)
 }
 
-/// A node is made of a coordinator, which is handed back where that is refused.
+/// A node is made of a coordinator, which is returned if that is refused.
 pub(crate) fn made_node(memory: Memory) -> Result<Verdict, Refusal> {
     let coordinator = begun(memory, Kind::Edits, 1)?;
     let (mut kept, refusal) = picked_node(memory, coordinator)?;

@@ -22,15 +22,18 @@ pub(crate) enum Value {
     Solution,
     Read,
     Solve,
+    SolveChain,
     SolveFrom,
     SolveFromMost,
     Plan,
+    PlanOf,
+    PlanOfChain,
     Admit,
     Stops,
 }
 
 /// Each of these calls.
-pub(crate) const VALUES: [Value; 14] = [
+pub(crate) const VALUES: [Value; 17] = [
     Value::JoinMuch,
     Value::JoinLittle,
     Value::Encode,
@@ -40,9 +43,12 @@ pub(crate) const VALUES: [Value; 14] = [
     Value::Solution,
     Value::Read,
     Value::Solve,
+    Value::SolveChain,
     Value::SolveFrom,
     Value::SolveFromMost,
     Value::Plan,
+    Value::PlanOf,
+    Value::PlanOfChain,
     Value::Admit,
     Value::Stops,
 ];
@@ -97,9 +103,12 @@ impl Value {
             Value::Solution => "write_solution",
             Value::Read => "read",
             Value::Solve => "solve",
+            Value::SolveChain => "solve of a chain",
             Value::SolveFrom => "solve_from",
             Value::SolveFromMost => "solve_from of what stays",
             Value::Plan => "plan",
+            Value::PlanOf => "plan_of",
+            Value::PlanOfChain => "plan_of of a chain",
             Value::Admit => "admit",
             Value::Stops => "stops",
         }
@@ -117,9 +126,12 @@ impl Value {
             Value::Solution => networks::solution_written(memory),
             Value::Read => networks::was_read(memory),
             Value::Solve => networks::solved(memory),
+            Value::SolveChain => networks::solved_chain(memory),
             Value::SolveFrom => networks::solved_from(memory),
             Value::SolveFromMost => networks::solved_from_most(memory),
             Value::Plan => planning::planned(memory),
+            Value::PlanOf => planning::planned_known(memory),
+            Value::PlanOfChain => planning::planned_chain(memory),
             Value::Admit => planning::was_admitted(memory),
             Value::Stops => planning::stopped(memory),
         }
@@ -186,7 +198,7 @@ impl fmt::Display for Trial {
 }
 
 impl Trial {
-    /// Makes the call, and says what became of it. Refused where what it is made on could not be made.
+    /// Makes the call, and says its result. Refused if what it is made on could not be made.
     pub(crate) fn made<R: Wait>(&self, rt: &R, memory: Memory) -> Result<Verdict, Refusal> {
         match self {
             Trial::Value(value) => value.made(memory),

@@ -2,7 +2,7 @@
 
 use fm_records::refusal::Refusal;
 
-/// What became of a call that may have been refused memory.
+/// What became of a call that may have run out of memory.
 #[derive(Clone, Copy, Drop)]
 pub(crate) enum Verdict {
     /// It was answered as with ample memory.
@@ -11,11 +11,11 @@ pub(crate) enum Verdict {
     DoneStale,
     /// It was answered otherwise, or what it changed is something else.
     DoneOtherwise,
-    /// It was refused memory, and all is as before.
+    /// It ran out of memory, and all is as before.
     Unchanged,
-    /// It was refused memory after its view, which alone is listed.
+    /// It ran out of memory after its view, which alone is listed.
     Viewed,
-    /// It was refused memory, and something is not as before.
+    /// It ran out of memory, and something is not as before.
     Changed,
     /// It was refused for something else.
     RefusedOtherwise,

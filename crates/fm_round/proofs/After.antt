@@ -76,7 +76,7 @@ module _ (k : Table) (form : IsTable k) (t : ℕ) (spec : SpecReg) (live : live_
     begun_live : live_spec (begun t a k) t ≡ Some spec
     begun_live = (λ i. live_from k.jobs (keeps_begun.spec t i) (now_pending i)) ∙ still_live k.jobs (spec_of k t) (progress_of k t) spec a live
 
-    -- where a later attempt begins, the winner is the one that is known for it
+    -- if a later attempt begins, the winner is the one that is known for it
     pub after_begun : After k (begun t a k) t spec (option_map (λ w. w.1) (winner_of k t a))
     after_begun = record {
       keeps = keeps_begun;
@@ -84,7 +84,7 @@ module _ (k : Table) (form : IsTable k) (t : ℕ) (spec : SpecReg) (live : live_
       holder = λ i. holder_from (begun_live i) k.machines (winner_of k t (now_pending i).attempt);
     }
 
-    -- where a later attempt begins and a spot is proposed for it
+    -- if a later attempt begins and a spot is proposed for it
     pub after_both : (c : ℕ) (s : Spot) → After k (proposed (t, a) c s (begun t a k)) t spec (Some (winner_with (winner_of k t a) c s).1)
     after_both c s =
         let l = begun t a k in
@@ -97,7 +97,7 @@ module _ (k : Table) (form : IsTable k) (t : ℕ) (spec : SpecReg) (live : live_
           holder = λ i. holder_from (begun_live i) k.machines (at i);
         }
 
-  -- where a spot is proposed for the present attempt
+  -- if a spot is proposed for the present attempt
   pub after_proposed : (c : ℕ) (s : Spot) → After k (proposed (t, attempt_of k t) c s k) t spec (Some (winner_with (winner_of k t (attempt_of k t)) c s).1)
   after_proposed c s =
       let won = proposed_winner k form t (attempt_of k t) c s in

@@ -238,7 +238,7 @@ module _ (arcs : List NetArc) (last : Option ℕ) where
       let told = walk.told t (ap (λ b. b || list_any (λ (a : NetArc). leaves t a.0) rest) own) in
       sym (told ∙ ap (λ b. passes (λ w. w == t) last || b) (none_later t m v rest walk.rising.0) ∙ or_false (passes (λ w. w == t) last))
 
--- the walk asks for just the arcs that the plan rests on
+-- the walk asks for exactly the arcs that the plan rests on
 pub asks_for : (network : Net) (last : Option ℕ) (a : NetArc) (rest : List NetArc) (u : ℕ) → IsWalk network.arcs (a ∷ rest) last → is_asked_after (waiting_after last a.0) (a.0, u) ≡ is_asked network (a.0, u)
 asks_for network last ((Task t, Machine m), v) rest u walk = ap (λ b. nat_lt 0 u && b) (at_machine network.arcs last t m v rest walk)
 asks_for network last _ rest u walk = refl

@@ -61,7 +61,7 @@ not_held test (Some h) m none counted =
       | false ↦ λ _. refl
     ] refl
 
--- the holder, where one is counted
+-- the holder, if one is counted
 pub held_by : (test : ℕ → Bool) (o : Option ℕ) (h : ℕ) → only_if test o ≡ Some h → (o ≡ Some h) × IsTrue (test h)
 held_by test None h e = absurd (let no : ⊥ = cc in no)
 held_by test (Some g) h e = elim (test g) as (λ b. test g ≡ b → cond b (Some g) None ≡ Some h → (Some g ≡ Some h) × IsTrue (test h)) [ true ↦ λ yes is. let same : g ≡ h = cc in (is, subst (λ z. test z ≡ true) same yes) | false ↦ λ _ is. absurd (let no : ⊥ = cc in no) ] refl e

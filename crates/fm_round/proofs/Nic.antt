@@ -28,7 +28,7 @@ nic_bears : (k : Table) (m : ℕ) (o : Option MachineReg) → open_state k m ≡
 nic_bears k m None known e = absurd (let no : ⊥ = cc in no)
 nic_bears k m (Some st) known e = (st, known, leb-true (load_of k m) st.nic e)
 
--- where a machine's load is no greater, it stays within the nic
+-- if a machine's load is no greater, it stays within the nic
 stays_within : (t : ℕ) (k l : Table) (m : ℕ) → Keeps t k l → load_of l m ≤ load_of k m → is_within_nic k m ≡ true → is_within_nic l m ≡ true
 stays_within t k l m keeps less e =
     let bears = nic_bears k m (open_state k m) refl e in

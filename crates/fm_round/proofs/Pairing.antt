@@ -80,7 +80,7 @@ module _ (left : ℕ → List ℕ) (ss : List Seat) (k : Table) (before after : 
   placed_as ((Task t, Machine m), u) apart = refl
   placed_as _ apart = refl
 
-  -- and what is left behind it
+  -- and what is left after it
   pub left_behind : (a : (Node × Node) × ℕ) (r : ℕ) → drop (length (tasks_of r (option_to_list (wait_in a)))) (left r) ≡ drop (length (tasks_of r (waits (before ++ a ∷ [])))) (machines_of r ss)
   left_behind a r =
       let now : length (tasks_of r (waits (before ++ a ∷ []))) ≡ length (tasks_of r (waits before)) + length (tasks_of r (option_to_list (wait_in a))) =

@@ -1,4 +1,4 @@
--- What follows where an answer is Ok.
+-- What follows if an answer is Ok.
 use Rattle.std.proofs.Common.{Result, Ok, Err}
 use Rattle.std.specs.Result.{IfOk, OnOk}
 

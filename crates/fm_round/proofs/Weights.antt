@@ -40,7 +40,7 @@ module _ {V : Type 0} where
         | false ↦ omega (arith, rest)
       ] ∙ sym (weight_cons (λ v. 1) test e es)
 
-  -- tests that agree but for a key that is below all
+  -- tests that agree except for a key that is below all
   agree_above : (f : V → ℕ) (test more : ℕ → Bool) (t : ℕ) (es : List (ℕ × V)) → ((q : ℕ) → (q ≡ t → ⊥) → more q ≡ test q) → IsBelow nat_cmp t es → weight f more es ≡ weight f test es
   agree_above f test more t [] agree below = refl
   agree_above f test more t (e ∷ es) agree below =
@@ -48,7 +48,7 @@ module _ {V : Type 0} where
       let rest = agree_above f test more t es agree below.1 in
       weight_cons f more e es ∙ (λ i. cond (here i) (f e.1) 0 + rest i) ∙ sym (weight_cons f test e es)
 
-  -- tests that agree but for one key, which has a value
+  -- tests that agree except for one key, which has a value
   pub moved : (f : V → ℕ) (test more : ℕ → Bool) (t : ℕ) (v : V) (es : List (ℕ × V)) → IsRising nat_cmp es → ((q : ℕ) → (q ≡ t → ⊥) → more q ≡ test q) → lookup nat_cmp t es ≡ Some v → weight f more es + cond (test t) (f v) 0 ≡ weight f test es + cond (more t) (f v) 0
   moved f test more t v [] rising agree found = absurd (let no : ⊥ = cc in no)
   moved f test more t v (e ∷ es) rising agree found =

@@ -1,5 +1,5 @@
--- What becomes of a plan: each entry is judged on what is known with the operations of the earlier accepted entries, and
--- the first rule that applies is its answer (this project's profile).
+-- Admission of a plan: each entry is decided on what is known with the operations of the earlier accepted entries, by
+-- the first rule that applies (this project's profile).
 use Rattle.std.specs.Prelude.{ℕ, ◌+◌, Bool, true, false, cond, not, nat_le, ◌==◌, ◌&&◌, ◌||◌, List, [], ◌∷◌, ◌++◌, length, zip}
 use Rattle.std.specs.List.{list_any}
 use Rattle.fm_records.specs.declared.ops.Phase.TheVariants.{Pending}
@@ -21,7 +21,7 @@ use Rattle.fm_round.specs.declared.parts.Answer.TheVariants.{Gone, Held, Attempt
 unfoldable pub told : Table → List Op → Table
 told k ops = table_join k (know ops)
 
--- the answer of the first rule that applies, and Accepted where none does
+-- the answer of the first rule that applies, and Accepted if none does
 abbrev pub first_rule : List (Bool × Answer) → Answer
 first_rule [] = Accepted
 first_rule (rule ∷ rules) = cond rule.0 rule.1 (first_rule rules)
@@ -46,12 +46,12 @@ has_incarnation k m i = passes (λ n. n == i) (incarnation_of k m)
 abbrev pub is_open_at : Table → ℕ → ℕ → Bool
 is_open_at k m i = is_open k m && has_incarnation k m i
 
--- the attempt that a place is for: the present one where that has no proposal, else the next
+-- the attempt that a place is for: the present one if that has no proposal, else the next
 abbrev pub place_attempt : Table → Place → ℕ
 place_attempt k p = let a = attempt_of k p.task in cond (has_proposal k p.task a) (a + 1) a
 
--- the operations of a place by coordinator c: a proposal for the present attempt where that has none, else the next attempt,
--- pending, and a proposal for that
+-- the operations of a place by coordinator c: a proposal for the present attempt if that has none, else the next
+-- attempt, pending, and a proposal for that
 abbrev pub place_ops : ℕ → Table → Place → List Op
 place_ops c k p =
     let a = attempt_of k p.task in
@@ -68,9 +68,9 @@ place_answer c k p =
     ((not (is_live k p.task) || not (is_open_at k p.machine p.incarnation), Gone)
     -- some machine holds the task
     ∷ (is_held k p.task, Held)
-    -- a next attempt is needed, and there is none
+    -- a next attempt is needed, and there is no greater number
     ∷ (has_proposal k p.task a && a == last_attempt, AttemptsSpent)
-    -- the operations would not leave the task held by the machine
+    -- after the operations the task would not be held by the machine
     ∷ (not (holds (told k (place_ops c k p)) p.machine p.task), Contested)
     -- the machine holds as many tasks as it has slots
     ∷ (is_full k p.machine, NoSlot)
@@ -90,7 +90,7 @@ preempt_answer k p =
     ((not (is_live k p.task) || not (is_held k p.task) || not (attempt_of k p.task == p.attempt), Gone)
     -- there is no next attempt
     ∷ (p.attempt == last_attempt, AttemptsSpent)
-    -- the proposals for the next attempt would leave the task held
+    -- because of proposals for the next attempt the task would still be held
     ∷ (is_held (told k (preempt_ops k p)) p.task, Contested)
     ∷ [])
 
@@ -103,7 +103,7 @@ is_accepted NoSlot = false
 is_accepted NoRoom = false
 is_accepted Accepted = true
 
--- an entry with its answer: its operations are added where it is accepted
+-- an entry with its answer: its operations are added if it is accepted
 abbrev pub one_entry : Answer → List Op → Admitted
 one_entry answer ops = record { ops = cond (is_accepted answer) ops []; answers = answer ∷ [] }
 
@@ -111,7 +111,7 @@ one_entry answer ops = record { ops = cond (is_accepted answer) ops []; answers 
 abbrev pub followed : Admitted → Admitted → Admitted
 followed a b = record { ops = a.ops ++ b.ops; answers = a.answers ++ b.answers }
 
--- entries in turn, each judged on what is known with what the earlier ones added
+-- entries in turn, each decided on what is known with what the earlier ones added
 abbrev pub in_turn : {E : Type 0} → (Table → E → Answer) → (Table → E → List Op) → Table → List E → Admitted
 in_turn answer_to ops_of k [] = record { ops = []; answers = [] }
 in_turn answer_to ops_of k (e ∷ es) =
@@ -124,13 +124,13 @@ placed c = in_turn (place_answer c) (place_ops c)
 abbrev pub preempted : Table → List Preempt → Admitted
 preempted = in_turn preempt_answer preempt_ops
 
--- what a plan of coordinator c comes to: the places in turn, and then the preempts
+-- what is admitted of a plan of coordinator c: the places in turn, and then the preempts
 abbrev pub admitted : Table → ℕ → Plan → Admitted
 admitted k c plan =
     let first = placed c k plan.places in
     followed first (preempted (told k first.ops) plan.preempts)
 
--- some place on the machine was accepted, where the answers begin with those to the places
+-- some place on the machine was accepted, if the answers begin with those to the places
 abbrev pub got_place : List Place → List Answer → ℕ → Bool
 got_place places answers m = list_any (λ e. e.0.machine == m && is_accepted e.1) (zip places answers)
 

@@ -1,4 +1,4 @@
--- The plan that a flow comes to: after Quincy, a unit from a task through a machine means "run there", and one from a
+-- The plan of a flow: after Quincy, a unit from a task through a machine means "run there", and one from a
 -- running task to its unscheduled aggregator means "preempt".
 use Rattle.std.specs.Prelude.{ℕ, Bool, nat_lt, cond, not, ◌&&◌, ◌==◌, List, [], Option, None, option_map, flat_map, map, replicate, zip}
 use Rattle.std.specs.List.{filter_map}
@@ -25,7 +25,7 @@ Units = List ((Node × Node) × ℕ)
 abbrev pub units_over : Net → (Node → Node → ℕ) → Units
 units_over net sent = map (λ a. (a.0, sent a.0.0 a.0.1)) net.arcs
 
--- the units from one node to another, 0 where there is no arc
+-- the units from one node to another, 0 if there is no arc
 abbrev pub units : Units → Node → Node → ℕ
 units f from to = or_else 0 (lookup ends_cmp (from, to) f)
 
@@ -73,8 +73,8 @@ place_at k t m = option_map (λ i. record { task = t; machine = m; incarnation =
 abbrev pub place_of : List Wait → List Seat → Table → Wait → Option Place
 place_of ws ss k w = and_then (place_at k w.task) (machine_for ws ss w)
 
--- a task with a unit to its request goes where its turn brings it; one with a unit straight to a machine, which does not hold
--- it yet, goes there, and takes no seat of its request
+-- a task with a unit to its request goes where its turn brings it; one with a unit straight to a machine, which does
+-- not hold it yet, goes there, and takes no seat of its request
 abbrev pub placed_in : List Wait → List Seat → Table → (Node × Node) × ℕ → Option Place
 placed_in ws ss k ((Task t, Request r), u) = and_then (place_of ws ss k) (wait_in ((Task t, Request r), u))
 placed_in ws ss k ((Task t, Machine m), u) = cond (nat_lt 0 u && not (is_held k t)) (place_at k t m) None

@@ -1,4 +1,4 @@
--- Equality of plans and of what they come to: item by item.
+-- Equality of plans and of their admission: item by item.
 use Rattle.std.specs.Prelude.{Bool, ◌&&◌}
 use Rattle.std.specs.Cmp.Lexicographic.{pointwise}
 use Rattle.fm_records.specs.Decided.{same_op}

@@ -10,7 +10,7 @@ use Rattle.fm_records.specs.Facts.{attempt_of, holds}
 use Rattle.fm_round.specs.declared.parts.Stop.{Stop}
 use Rattle.fm_round.specs.Admission.{has_incarnation}
 
--- the attempt is the task's present one, and just the machine at that incarnation holds the task
+-- the attempt is the task's present one, and exactly the machine at that incarnation holds the task
 abbrev pub is_present_holding : Table → ℕ × ℕ → Spot → Bool
 is_present_holding k at s = attempt_of k at.0 == at.1 && holds k s.machine at.0 && has_incarnation k s.machine s.incarnation
 

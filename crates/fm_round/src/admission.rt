@@ -1,4 +1,4 @@
-//! Admission: what a plan comes to.
+//! Admission of a plan.
 
 ghost use Rattle.std.specs.Prelude.{◌≡◌, ℕ, ◌<◌, ◌^◌, ◌∷◌, ◌++◌, ◌==◌, ◌&&◌, [], true, false, IsTrue, IfOk, IfSome, OnOk};
 ghost use Rattle.fm_records.specs.declared.ops.Op.{Op as Operation};
@@ -21,12 +21,11 @@ use fm_records::ids::{CoordId, MachineId, TaskId};
 use fm_records::ops::{Op, Phase};
 use std::alloc::Global;
 
-/// What the plan of the coordinator comes to: the places are judged in their order, and then the preempts, each on what is
-/// known with the operations of the earlier accepted entries, and the first rule that applies is the answer.
-/// A machine that got a place has a load of at most its nic after all that is added.
-/// O(log n) for each entry, with the moves within a block of a map; and where the plan has places, one walk over the tasks that
-/// are known, of which those that another machine won cost a look-up.
-/// It is refused only if memory runs out.
+/// What is admitted of the coordinator's plan: the places are decided in their order, and then the preempts, each on
+/// what is known with the operations of the earlier accepted entries, by the first rule that applies. A machine that
+/// got a place has a load of at most its nic after all that is added. O(log n) for each entry, with the moves within
+/// a block of a map; and if the plan has places, one scan of the known tasks, of which those that another machine won
+/// cost a look-up. It is refused only if memory runs out.
 pub fn admit(
     alloc: Global,
     knowledge: &Knowledge,
@@ -44,7 +43,8 @@ pub fn admit(
     Ok(desk.into_admitted())
 }
 
-/// What is known with the operations of the entries that were accepted so far, these operations, and the answers so far.
+/// What is known with the operations of the entries that were accepted so far, these operations, and the answers so
+/// far.
 #[derive(Drop)]
 pub(crate) struct Desk {
     pub(crate) alloc: Global,
@@ -70,7 +70,7 @@ impl Desk {
         })
     }
 
-    // What the entries came to.
+    // What was admitted of the entries.
     fn into_admitted(self) -> Admitted
         ensures { result ≡ record { ops = self.ops.items; answers = self.answers.items } }
     {
@@ -182,7 +182,7 @@ impl Desk {
         self.tell(pending(preempt.task, preempt.attempt + 1))
     }
 
-    // Judges the place, and adds its operations where it is accepted.
+    // Judges the place, and adds its operations if it is accepted.
     fn take_place(
         &mut self,
         holdings: &mut Holdings,
@@ -205,7 +205,7 @@ impl Desk {
         self.answer(answer)
     }
 
-    // Judges the preempt, and adds its operation where it is accepted.
+    // Judges the preempt, and adds its operation if it is accepted.
     fn take_preempt(&mut self, preempt: &Preempt) -> Result<(), OutOfMemory>
         requires { IsReady self.old }
         ensures took { OnOk result (Took (one_entry (preempt_answer self.old.now preempt.now) (preempt_ops self.old.now preempt.now)) self.old self.new) }

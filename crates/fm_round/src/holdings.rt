@@ -37,8 +37,8 @@ pub(crate) struct Holdings {
 }
 
 impl Holdings {
-    /// What each machine of the places holds. Nothing is walked where there is no place; else O(n log n) in the tasks, where
-    /// one that no such machine won costs a look-up.
+    /// What each machine of the places holds. Nothing is walked if there is no place; else O(n log n) in the tasks, of
+    /// which one that no such machine won costs a look-up.
     pub(crate) fn of(
         alloc: Global,
         knowledge: &Knowledge,
@@ -83,7 +83,8 @@ impl Holdings {
         Ok(())
     }
 
-    // The machine that holds the task with the record, if it is counted. Whether the one that won it is, is asked first.
+    // The machine that holds the task with the record, if it is counted. Whether the one that won it is, is asked
+    // first.
     fn holder(&self, knowledge: &Knowledge, task: TaskId, found: &TaskRec) -> Option<MachineId>
         requires { lookup nat_cmp task knowledge.now.tasks ≡ Some found.now }
         ensures { result ≡ only_if (is_counted self.now) (holder_of knowledge.now task) }

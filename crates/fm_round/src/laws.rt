@@ -1,5 +1,5 @@
-//! Laws of rounds. Each function does nothing: its contract is the law. `equal` has the laws of `==`, whose functions do that
-//! one call.
+//! Laws of rounds. Each function does nothing: its contract is the law. `equal` has the laws of `==`, whose functions
+//! do that one call.
 
 ghost use Rattle.std.specs.Prelude.{◌≡◌, ◌↔◌, ◌<◌, ◌==◌, ◌++◌, ℕ, List, count_by};
 ghost use Rattle.fm_records.specs.declared.ops.Op.{Op};
@@ -15,19 +15,19 @@ ghost use Rattle.fm_round.specs.Stopping.{stops_of};
 
 pub mod equal;
 
-/// What a set comes to, told more operations, is what the set with these comes to.
+/// The table of a set, told more operations, is the table of the set with these.
 pub fn law_told()
     ensures { (S more : List Op) → told (know S) more ≡ know (S ++ more) }
 {}
 
-/// Admission and stops depend on what is known alone: sets that come to the same have the same.
+/// Admission and stops depend on what is known alone: sets with the same table have the same admission and stops.
 pub fn law_sets()
     ensures admitted { (S T : List Op) (c : ℕ) (plan : Plan) → know S ≡ know T → admitted (know S) c plan ≡ admitted (know T) c plan }
     ensures stops { (S T : List Op) (c : ℕ) → know S ≡ know T → stops_of (know S) c ≡ stops_of (know T) c }
 {}
 
-/// Of a flow in order, the plan's tasks of a request are those with a unit to it, and each machine stands behind a request
-/// as often as there are units between them.
+/// Of a flow in order, the plan's tasks of a request are those with a unit to it, and each machine is listed for a
+/// request as often as there are units between them.
 pub fn law_flows()
     ensures tasks { (f : Units) (r t : ℕ) → IsRising ends_cmp f → (IsMember t (tasks_of r (waits f)) ↔ (0 < units f (Node.Task t) (Node.Request r))) }
     ensures machines { (f : Units) (r m : ℕ) → IsRising ends_cmp f → count_by (λ x. x == m) (machines_of r (seats f)) ≡ units f (Node.Request r) (Node.Machine m) }

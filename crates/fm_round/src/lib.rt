@@ -1,4 +1,4 @@
-//! Rounds: plans, what becomes of their entries, and what a coordinator has to stop.
+//! Rounds: plans, their admission, and what a coordinator has to stop.
 #![tactic(auto)]
 
 pub mod admission;

@@ -21,7 +21,7 @@ impl<T> Model for Listed<T> {
 }
 
 impl<T> Listed<T> {
-    /// The items, in their order. It takes no memory.
+    /// The items, in their order. It allocates nothing.
     pub fn new(items: Vec<T>) -> Listed<T>
         ensures { result ≡ items.items }
     {
@@ -35,7 +35,7 @@ impl<T> Listed<T> {
         self.items.as_slice()
     }
 
-    /// The items, given back. It takes no memory.
+    /// The items, given back. It allocates nothing.
     pub fn into_vec(self) -> Vec<T>
         ensures { result.items ≡ self }
     {

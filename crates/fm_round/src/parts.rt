@@ -1,4 +1,4 @@
-//! The parts of plans, what becomes of an entry, and stops.
+//! The parts of plans, the answers to entries, and stops.
 
 ghost use Rattle.std.specs.Prelude.{◌≡◌, ◌↔◌, IsTrue, IfOk};
 ghost use Rattle.fm_round.specs.Same.{same_plan, same_admitted};
@@ -16,14 +16,14 @@ pub struct Place {
     pub incarnation: u64,
 }
 
-/// An entry of a plan: let the task's attempt run no longer.
+/// An entry of a plan: stop the task's attempt.
 #[derive(Debug, Clone, Copy, PartialEq, Eq, Drop)]
 pub struct Preempt {
     pub task: TaskId,
     pub attempt: u32,
 }
 
-/// What becomes of an entry of a plan.
+/// The answer to an entry of a plan.
 #[derive(Debug, Clone, Copy, PartialEq, Eq, Drop)]
 pub enum Answer {
     /// The task is not live, or the machine, its incarnation, or the attempt is no longer the one that is named.
@@ -32,7 +32,7 @@ pub enum Answer {
     Held,
     /// There is no attempt after the present one.
     AttemptsSpent,
-    /// Another coordinator's proposals would stand against it.
+    /// Another coordinator's proposals would win against it.
     Contested,
     /// The machine holds as many tasks as it has slots, or more.
     NoSlot,
@@ -42,7 +42,7 @@ pub enum Answer {
     Accepted,
 }
 
-/// An entry of a coordinator that is to run no longer.
+/// An entry that the coordinator has to stop.
 #[derive(Debug, Clone, Copy, PartialEq, Eq, Drop)]
 pub struct Stop {
     pub task: TaskId,
@@ -87,8 +87,8 @@ impl PartialEq for Plan {
     }
 }
 
-/// What a plan came to: the operations of the accepted entries in their order, and the answer to each entry, those to
-/// places first.
+/// What was admitted of a plan: the operations of the accepted entries in their order, and the answer to each entry,
+/// those to places first.
 #[derive(Debug, Drop)]
 pub struct Admitted {
     pub ops: Listed<Op>,

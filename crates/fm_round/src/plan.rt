@@ -1,4 +1,4 @@
-//! The plan of a schedule: what the flow of a knowledge's network comes to.
+//! The plan of a flow of a knowledge's network.
 
 ghost use Rattle.std.specs.Prelude.{◌≡◌, ◌∷◌, ◌++◌, [], cond, filter, IfOk, OnOk};
 ghost use Rattle.fm_net.specs.Network.{net_of};
@@ -16,11 +16,11 @@ use fm_net::node::Node;
 use fm_records::ids::TaskId;
 use std::alloc::Global;
 
-/// The plan of the flow. The caller owes that the network is the knowledge's and that the flow is feasible. Within an
-/// aggregator of a request the i-th task by id that has a unit to it goes to the i-th machine by id, where a machine stands
-/// as often as there are units to it, at the machine's present incarnation; a held task that has a unit to its job is
-/// preempted at its present attempt. Both in the order of the tasks' ids. A walk over the arcs, and O(log n) for each unit, but
-/// for those of tasks that stay where they are held.
+/// The plan of the flow. The caller must ensure that the network is the knowledge's and that the flow is feasible.
+/// Within an aggregator of a request the i-th task by id that has a unit to it goes to the i-th machine by id, where a
+/// machine is listed as often as there are units to it, at the machine's present incarnation; a held task that has a
+/// unit to its job is preempted at its present attempt. Both in the order of the tasks' ids. A walk over the arcs, and
+/// O(log n) for each unit, except those of tasks that stay where they are held.
 pub fn plan(
     alloc: Global,
     network: &Network,
@@ -36,8 +36,8 @@ pub fn plan(
     plan_of(alloc, &units, knowledge)
 }
 
-// The arcs that the plan rests on, with their units. Those of an arc are looked for first where they lie in a flow of just the
-// network's arcs.
+// The arcs that the plan rests on, with their units. Those of an arc are looked for first where they lie in a flow of
+// exactly the network's arcs.
 fn asked(
     alloc: Global,
     network: &Network,
@@ -73,8 +73,8 @@ fn add_asked(
     Ok(())
 }
 
-// In a walk over the arcs: the task of the last arc from a task to a request. A task's arc to its request comes before those to
-// machines, and a task that a machine holds has none.
+// In a walk over the arcs: the task of the last arc from a task to a request. A task's arc to its request comes before
+// those to machines, and a task that a machine holds has none.
 #[derive(Drop)]
 struct Waiting {
     last: Option<TaskId>,

@@ -1,4 +1,4 @@
-//! The plan that a flow comes to.
+//! The plan of a flow.
 
 ghost use Rattle.std.specs.Prelude.{◌≡◌, ◌==◌, ◌++◌, ℕ, None, not, cond, drop, length, replicate, option_to_list, IfOk, OnOk};
 ghost use Rattle.std.specs.List.{filter_map, slice_get};
@@ -18,11 +18,11 @@ use fm_records::ids::{MachineId, TaskId};
 use std::alloc::Global;
 use std::collections::{BTreeMap, VecDeque};
 
-/// The plan of a flow, which is given as its arcs with their units, in the order of their ends: within an aggregator of a
-/// request the i-th task that has a unit to it goes to the i-th machine, where a machine stands as often as there are units
-/// to it; a task that is not held and has a unit straight to a machine goes there; each at the machine's present incarnation.
-/// A held task that has a unit to its job is preempted at its present attempt. Both in the order of the tasks' ids.
-/// O(n log n) in the arcs and the units.
+/// The plan of a flow, which is given as its arcs with their units, in the order of their ends: within an aggregator of
+/// a request the i-th task that has a unit to it goes to the i-th machine, where a machine is listed as often as there
+/// are units to it; a task that is not held and has a unit straight to a machine goes there; each at the machine's
+/// present incarnation. A held task that has a unit to its job is preempted at its present attempt. Both in the order
+/// of the tasks' ids. O(n log n) in the arcs and the units.
 pub fn plan_of(
     alloc: Global,
     flow: &[((Node, Node), u64)],
@@ -47,7 +47,7 @@ pub(crate) struct Seat {
     pub(crate) machine: MachineId,
 }
 
-// The task, where it has a unit to its job.
+// The task, if it has a unit to its job.
 fn unscheduled_in(from: Node, to: Node, units: u64) -> Option<TaskId>
     ensures { result ≡ unscheduled_in ((from, to), units) }
 {
@@ -113,7 +113,7 @@ impl Queues {
         Ok(queues)
     }
 
-    // Adds the machine of a seat behind those of its request.
+    // Adds the machine of a seat after those of its request.
     fn add(&mut self, alloc: Global, seat: &Seat) -> Result<(), OutOfMemory>
         ensures { OnOk result ((r : ℕ) → queue_of self.new r ≡ queue_of self.old r ++ option_to_list (when (seat.now.request == r) seat.now.machine)) }
     {
@@ -133,7 +133,8 @@ impl Queues {
         self.by_request.get_mut(&request)?.pop_front()
     }
 
-    // Where the task of an arc with units goes: on the first machine that is left of its request, or where it has a unit to.
+    // Where the task of an arc with units goes: on the first machine that is left of its request, or where it has a
+    // unit to.
     fn placed(&mut self, knowledge: &Knowledge, from: Node, to: Node, units: u64) -> Option<Place>
         ensures place { result ≡ placed_next (queue_of self.old) knowledge.now ((from, to), units) }
         ensures rest { (r : ℕ) → queue_of self.new r ≡ drop (length (tasks_of r (option_to_list (wait_in ((from, to), units))))) (queue_of self.old r) }
@@ -165,8 +166,8 @@ fn place_straight(knowledge: &Knowledge, task: TaskId, machine: MachineId) -> Op
     place_at(knowledge, task, machine)
 }
 
-// The places of the tasks: each that waits takes the first machine that is left of its request, so the i-th goes to the i-th
-// seat.
+// The places of the tasks: each that waits takes the first machine that is left of its request, so the i-th goes to the
+// i-th seat.
 fn places_of(
     alloc: Global,
     flow: &[((Node, Node), u64)],
@@ -238,7 +239,7 @@ fn preempts_of(
     Ok(found)
 }
 
-// The preempt of the task at its present attempt, where some machine holds it.
+// The preempt of the task at its present attempt, if some machine holds it.
 fn preempt_of(knowledge: &Knowledge, task: TaskId) -> Option<Preempt>
     ensures { result ≡ preempt_of knowledge.now task }
 {

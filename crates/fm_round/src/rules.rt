@@ -99,7 +99,7 @@ fn is_spent(known: &Knowledge, task: TaskId) -> bool
     has_proposal(known, task, attempt) && attempt == u32::MAX
 }
 
-/// The request of the task; 0 where its spec is not known.
+/// The request of the task; 0 if its spec is not known.
 pub(crate) fn request_of(known: &Knowledge, task: TaskId) -> u32
     ensures request { result ≡ request_of (spec_of known.now task) }
     ensures within { result ≤ 1000000 }
@@ -137,7 +137,7 @@ fn has_room(known: &Knowledge, holdings: &Holdings, machine: MachineId, request:
     load <= nic && u128::from(request) <= nic - load
 }
 
-// The attempt that a place is for: the present one where that has no proposal, else the next, if there is one.
+// The attempt that a place is for: the present one if that has no proposal, else the next, if there is one.
 fn attempt_for(known: &Knowledge, task: TaskId) -> u32
     requires { (has_proposal known.now task (attempt_of known.now task) && attempt_of known.now task == last_attempt) ≡ false }
     ensures { result ≡ cond (has_proposal known.now task (attempt_of known.now task)) (attempt_of known.now task + 1) (attempt_of known.now task) }

@@ -13,8 +13,8 @@ use fm_records::ids::{CoordId, MachineId, TaskId};
 use fm_records::records::Spot;
 use std::alloc::Global;
 
-/// The entries of the coordinator that are no present holding, by task and attempt: those for an attempt that is not the
-/// task's present one, and those whose machine, at just that incarnation, does not hold the task. Whose entry won does
+/// The entries that the coordinator has to stop, by task and attempt: those for an attempt that is not the task's
+/// present one, and those whose machine, at exactly that incarnation, does not hold the task. Whose entry won does
 /// not matter. O(p log n) for p attempts with proposals.
 pub fn stops(
     alloc: Global,
@@ -53,7 +53,7 @@ fn stop_of(
     })
 }
 
-// Whether the attempt is the task's present one, and just the machine at that incarnation holds the task.
+// Whether the attempt is the task's present one, and exactly the machine at that incarnation holds the task.
 fn is_present_holding(knowledge: &Knowledge, at: (TaskId, u32), spot: Spot) -> bool
     ensures { result ≡ is_present_holding knowledge.now at spot }
 {

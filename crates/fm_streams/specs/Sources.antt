@@ -19,13 +19,13 @@ pub record IsTooLong (old new : Option (List ℕ)) : Type 0 where
   pub consumed : Consumes old new bytes
   pub beyond : most_bytes < length bytes
 
--- why an input was not read: memory was refused, the source failed, or it gave too much
+-- why an input was not read: memory ran out, the source failed, or it gave too much
 abbrev pub IsUnread : Refusal → Option (List ℕ) → Option (List ℕ) → Bool → Type 0
 IsUnread refusal old new has_failed =
     (refusal ≡ OutOfMemory) ⊎ ((refusal ≡ BadScript 0) × ((has_failed ≡ true) ⊎ IsTooLong old new))
 
--- the two ends of a run: the bytes that the source had to give and has left, where they are known, and whether it has failed;
--- the bytes that the sink took before and after, where they are known, and whether it had failed and has
+-- the two ends of a run: the bytes that the source had to give and has left, if they are known, and whether it has
+-- failed; the bytes that the sink took before and after, if they are known, and whether it had failed and has
 pub record Streams : Type 0 where
   pub given : Option (List ℕ)
   pub left : Option (List ℕ)

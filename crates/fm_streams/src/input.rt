@@ -1,4 +1,4 @@
-//! A whole input.
+//! A complete input.
 
 ghost use Rattle.std.specs.Prelude.{◌≡◌, ◌≤◌, IfOk, IfErr, IfSome, OnOk, vec_len};
 ghost use Rattle.fm_streams.specs.Sources.{IsUnread};
@@ -10,8 +10,8 @@ use std::alloc::Global;
 /// The most bytes that an input may have.
 pub const MOST_BYTES: usize = 16_777_216;
 
-/// All bytes of the source, up to its end. `BadScript(0)` if the source fails or gives more than `MOST_BYTES` bytes, else only
-/// memory is refused; then some of its bytes may be consumed. O(n).
+/// All bytes of the source, up to its end. `BadScript(0)` if the source fails or gives more than `MOST_BYTES` bytes,
+/// else refused only if memory runs out; then some of its bytes may be consumed. O(n).
 pub fn read_input<S: Source>(alloc: Global, source: &mut S) -> Result<Vec<u8>, Refusal>
     ensures whole { IfOk result (λ bytes. IfSome (S.remaining source.old) (λ all. bytes.items ≡ all)) }
     ensures size { IfOk result (λ bytes. vec_len bytes ≤ MOST_BYTES) }

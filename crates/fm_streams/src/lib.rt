@@ -1,4 +1,4 @@
-//! The ends of a program: bytes that come in from a source, and bytes that go out to a sink.
+//! The input and output of a program: bytes from a source, and bytes to a sink.
 #![tactic(auto)]
 
 pub mod input;

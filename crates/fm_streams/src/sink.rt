@@ -1,4 +1,4 @@
-//! Where bytes go, until all of them went out.
+//! Sinks: outputs that can be flushed.
 
 ghost use Rattle.std.specs.Prelude.{◌≡◌, ◌||◌, not};
 ghost use Rattle.std.specs.Io.KnownBytes.{Keeps};
@@ -6,9 +6,9 @@ ghost use Rattle.std.specs.Io.KnownBytes.{Keeps};
 use fm_dimacs::out::{Out, Over};
 use std::io::Write;
 
-/// What takes bytes, and has them go out. `Over` makes one of any writer.
+/// What accepts bytes, and flushes them. `Over` makes one of any writer.
 pub trait Sink: Out {
-    /// Has all that was taken go out, and answers whether it did. False is a failure.
+    /// Flushes all that was accepted, and returns whether it did. False is a failure.
     fn flush(&mut self) -> bool
         ensures keeps { Keeps (Self.written self.old) (Self.written self.new) }
         ensures fails { Self.has_failed self.new ≡ (Self.has_failed self.old || not result) };

@@ -1,4 +1,4 @@
-//! Where bytes come from.
+//! Sources of bytes.
 
 ghost use Rattle.std.specs.Prelude.{◌≡◌, ◌≤◌, ◌||◌, ℕ, List, Bool, Option, false, is_none, length, IfSome, MatchOption};
 ghost use Rattle.std.specs.Io.KnownBytes.{Keeps};
@@ -15,8 +15,8 @@ pub trait Source {
     /// Whether it has failed.
     ghost has_failed: { Self → Bool };
 
-    /// Puts its next bytes at the front of the piece, and answers how many. For a piece that is not empty, 0 is the end of the
-    /// bytes. None is a failure: then nothing was given.
+    /// Puts its next bytes at the front of the piece, and returns how many. For a piece that is not empty, 0 is the end
+    /// of the bytes. None is a failure: then nothing was given.
     fn get(&mut self, piece: &mut [u8]) -> Option<usize>
         ensures within { IfSome result (λ n. n ≤ length piece.new) }
         ensures gives { MatchOption result (Keeps (remaining self.old) (remaining self.new))
@@ -65,7 +65,8 @@ impl<R: Read> Source for Input<R> {
     }
 }
 
-// How many bytes the reader puts at the front of the piece; None if it fails. A read that was interrupted is made again.
+// How many bytes the reader puts at the front of the piece; None if it fails. A read that was interrupted is made
+// again.
 fn read_some<R: Read>(reader: &mut R, piece: &mut [u8]) -> Option<usize>
     ensures within { IfSome result (λ n. n ≤ length piece.new) }
     ensures gives { MatchOption result (Keeps (R.remaining reader.old) (R.remaining reader.new))

@@ -26,7 +26,7 @@ fn task() -> Node {
     Node::Task(TaskId::new(17))
 }
 
-// The functions below hold few values where they may be refused: a proof looks at what is let go at each refusal.
+// The functions below hold few values if they may be refused: a proof considers what is dropped at each refusal.
 
 // One task of request 100, a machine with two slots, and a wait of 500.
 fn one_task(alloc: Global) -> Result<Network, OutOfMemory> {

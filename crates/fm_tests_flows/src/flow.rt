@@ -1,5 +1,5 @@
-//! Small networks, and drawn ones: the first flow of either start is least, and cancelling from all tasks unscheduled ends at its
-//! cost.
+//! Small networks, and drawn ones: the first flow of either start is least, and cancelling from all tasks unscheduled
+//! ends at its cost.
 
 ghost use Rattle.std.specs.Prelude.{IsTrue, IfOk};
 ghost use Rattle.fm_numbered.specs.Feasible.{IsFlowOf};
@@ -97,7 +97,7 @@ fn is_least(alloc: Global, numbered: &Numbered, units: &[u64]) -> Result<bool, O
     }
 }
 
-// What the first flow costs, where it is a least flow.
+// What the first flow costs, if it is a least flow.
 fn started(alloc: Global, network: &Network) -> Result<Option<u128>, OutOfMemory> {
     let numbered = Numbered::of(alloc, network)?;
     if !can_wait(alloc, &numbered)? {
@@ -120,7 +120,7 @@ fn cancelled(alloc: Global, network: &Network) -> Result<Option<u128>, OutOfMemo
     Ok(Some(total(&numbered, &units)))
 }
 
-// Whether both ways end at this cost, or at any one where none is given.
+// Whether both ways end at this cost, or at any one if none is given.
 fn both_cost(alloc: Global, network: &Network, want: Option<u128>) -> Result<bool, OutOfMemory> {
     let first = started(alloc, network)?;
     let last = cancelled(alloc, network)?;
@@ -305,7 +305,7 @@ fn drawn_preferring(
     Ok(network)
 }
 
-// What the flow costs that the simplex ends at, where it is a least flow.
+// What the flow costs that the simplex ends at, if it is a least flow.
 fn pivoted(alloc: Global, network: &Network) -> Result<Option<u128>, OutOfMemory> {
     let numbered = Numbered::of(alloc, network)?;
     let Some((units, _costs)) = simplex(alloc, &numbered)? else {
@@ -339,8 +339,8 @@ fn the_simplex_ends_at_a_least_flow(rt: HostRuntime) {
     }
 }
 
-// A chain of so many machines of one slot, the last beside them, and ids in another order: a task of each prefers it and, for one
-// more, the next one, and one task more prefers the first.
+// A chain of so many machines of one slot, the last beside them, and ids in another order: a task of each prefers it
+// and, for one more, the next one, and one task more prefers the first.
 fn chained(alloc: Global, machines: u16) -> Result<Network, OutOfMemory> {
     let mut network = Network::new(alloc)?;
     let end = u128::from(machines) + 1;
@@ -363,7 +363,7 @@ fn chained(alloc: Global, machines: u16) -> Result<Network, OutOfMemory> {
     Ok(network)
 }
 
-// What the flow costs that the simplex ends at on a chain, where it is a least flow.
+// What the flow costs that the simplex ends at on a chain, if it is a least flow.
 fn pivoted_chain(alloc: Global, machines: u16) -> Result<Option<u128>, OutOfMemory> {
     let network = chained(alloc, machines)?;
     pivoted(alloc, &network)
@@ -375,7 +375,7 @@ fn chains_of_preferences_are_moved_on(rt: HostRuntime) {
     assert_eq!(rt; pivoted_chain(rt.alloc(), 40), Ok(Some(81)));
 }
 
-// Whether the simplex hands out a flow however early it is stopped.
+// Whether the simplex returns a flow however early it is stopped.
 fn is_stopped(alloc: Global, seed: u64) -> Result<bool, OutOfMemory> {
     let network = drawn_preferring(alloc, seed, 8, 40)?;
     let numbered = Numbered::of(alloc, &network)?;

@@ -102,8 +102,8 @@ fn unscheduled() -> Node
     Node::Unscheduled(JobId::new(JOB))
 }
 
-// The functions below have no contract: the tests are of what is answered, and proofs of them stay short. Each holds few values
-// where it may be refused: a proof looks at what is let go at each refusal.
+// The functions below have no contract: the tests are of what is answered, and proofs of them stay short. Each holds
+// few values if it may be refused: a proof considers what is dropped at each refusal.
 
 fn coordinator(number: u8) -> Result<CoordId, Refusal> {
     CoordId::new(number).ok_or(Refusal::NoCoordinator)

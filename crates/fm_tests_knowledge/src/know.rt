@@ -84,7 +84,7 @@ fn spec(machines: &[(MachineId, u32)]) -> Op {
     }
 }
 
-// What is known to be preferred where the operations are told.
+// What is known to be preferred if the operations are told.
 fn preferred(alloc: Global, ops: &[Op]) -> Result<Option<Prefer>, Fail> {
     let known = known(alloc, ops)?;
     Ok(known.spec(TaskId::new(17)).map(|spec| spec.prefer()))
@@ -146,14 +146,15 @@ fn has_joined(known: &mut Knowledge, other: &Knowledge) -> bool {
     known.join_into(other).is_ok()
 }
 
-// Whether it has a key more in each map, or where memory was refused in none.
+// Whether it has a key more in each map, or if memory ran out in none.
 fn joins_or_not(known: &mut Knowledge, other: &Knowledge) -> bool {
     let before = keys(known);
     let more = usize::from(has_joined(known, other));
     keys(known) == before.map(|count| count.saturating_add(more))
 }
 
-// Memory is ample here. `tests/wrong_bodies` has an allocation among these joins refused, in a tree where one joins map by map.
+// Memory is ample here. `tests/wrong_bodies` has an allocation among these joins refused, in a tree in which one joins
+// map by map.
 #[test]
 fn a_refused_join_leaves_no_key(rt: HostRuntime) -> Result<(), Fail> {
     let mut known = Knowledge::empty(rt.alloc());

@@ -25,7 +25,8 @@ fn joined<T: Join>(a: &T, b: &T) -> Result<T, Fail> {
     Ok(a.joined(b)?)
 }
 
-// Whether the laws are seen to hold of the values, and a copy of the last is the same. The contracts say so of all values.
+// Whether the laws are seen to hold of the values, and a copy of the last is the same. The contracts say so of all
+// values.
 fn obey_laws<T: Join>(a: &T, b: &T, c: &T) -> Result<bool, Fail> {
     law_assoc(a, b, c);
     law_comm(a, b);
@@ -210,7 +211,7 @@ fn the_laws_hold_of_lexicographic_values(rt: HostRuntime) -> Result<(), Fail> {
 
 type Counts = JoinMap<u32, Max<u8>>;
 
-// What is shared or copied stays as it was, in each of several blocks.
+// What is shared or copied stays unchanged, in each of several blocks.
 #[test]
 fn what_is_shared_stays_as_it_was(rt: HostRuntime) -> Result<(), Fail> {
     let mut map: Counts = JoinMap::new(rt.alloc());
@@ -286,7 +287,7 @@ fn single_keys(alloc: Global, count: u32) -> Result<Vec<Counts>, Fail> {
     Ok(maps)
 }
 
-// Whether it has a key more, or where memory was refused as many as before.
+// Whether it has a key more, or if memory ran out as many as before.
 fn joins_or_not(map: &mut Counts, other: &Counts) -> bool {
     let before = map.len();
     match map.join_into(other) {
@@ -295,7 +296,8 @@ fn joins_or_not(map: &mut Counts, other: &Counts) -> bool {
     }
 }
 
-// Memory is ample here. `tests/wrong_bodies` has an allocation among these joins refused, in a tree where one is half done then.
+// Memory is ample here. `tests/wrong_bodies` has an allocation among these joins refused, in a tree in which one is
+// half done then.
 #[test]
 fn a_refused_join_of_maps_leaves_no_key(rt: HostRuntime) -> Result<(), Fail> {
     let mut map = JoinMap::new(rt.alloc());

@@ -27,7 +27,7 @@ fn tell(alloc: Global, known: &mut Knowledge, op: &Op) -> Result<(), Fail> {
     join(known, &delta)
 }
 
-/// What the operations come to, told one by one.
+/// The table of the operations, told one by one.
 pub(crate) fn known(alloc: Global, ops: &[Op]) -> Result<Knowledge, Fail> {
     let mut known = nothing(alloc);
     for op in ops {

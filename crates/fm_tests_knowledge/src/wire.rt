@@ -50,8 +50,8 @@ fn spells(alloc: Global, bytes: &[u8], packet: &Packet) -> Result<bool, Fail> {
     Ok(written.as_slice() == bytes && reads(alloc, bytes, packet)?)
 }
 
-// Whether the bytes spell the packet in FDG1: they are read as the packet, and where it has no spec it is written with another
-// word alone.
+// Whether the bytes spell the packet in FDG1: they are read as the packet, and if it has no spec it is written with
+// another word alone.
 fn spells_in_first(alloc: Global, bytes: &[u8], packet: &Packet) -> Result<bool, Fail> {
     let second = with_byte(alloc, bytes, 3, 0x32)?;
     Ok(reads(alloc, bytes, packet)? && spells(alloc, &second, packet)?)

@@ -117,7 +117,7 @@ fn a_task_waits(rt: HostRuntime) {
     assert!(rt; is_waiting);
 }
 
-// The number of the first line that breaks a rule, 0 where the text is a network's.
+// The number of the first line that breaks a rule, 0 if the text is a network's.
 fn broken_line(alloc: Global, text: &[u8]) -> Result<usize, Refusal> {
     match read(alloc, text) {
         Ok(_) => Ok(0),
@@ -154,7 +154,7 @@ fn what_is_written_is_read(rt: HostRuntime) {
     assert_eq!(rt; sink_is_read(rt.alloc()), Ok((true, true)));
 }
 
-// Where the text that waits is cut off behind so many lines, the next one is missing.
+// If the text that waits is cut off after so many lines, the next one is missing.
 #[test]
 fn a_text_cut_off_behind_each_byte(rt: HostRuntime) -> Result<(), Fail> {
     for end in 0..WAITING.len() {
@@ -347,7 +347,8 @@ impl Text {
     }
 }
 
-// What became of writing: why it was refused, whether the writer failed, how much it takes of nothing then, and what it took.
+// What became of writing: why it was refused, whether the writer failed, how much it takes of nothing then, and what it
+// took.
 #[derive(Drop)]
 struct Outcome {
     refusal: Option<Refusal>,

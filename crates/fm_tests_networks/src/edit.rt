@@ -34,7 +34,8 @@ fn finds_any(look: &mut KnowLook) -> Result<bool, OutOfMemory> {
     Ok(any || finds_task(look)? || finds_winner(look)?)
 }
 
-// Whether any record is found where nothing is known, and how many keys were stored, of which the last is that of a winner.
+// Whether any record is found if nothing is known, and how many keys were stored, of which the last is that of a
+// winner.
 fn found(alloc: Global) -> Result<(bool, usize, bool), OutOfMemory> {
     let known = Knowledge::empty(alloc);
     let mut look = KnowLook::new(alloc, &known);
@@ -97,7 +98,7 @@ fn task_and_job() -> [Op; 2] {
     [task(17), job()]
 }
 
-// Sizes after the first so many operations, each told by itself, and once it is built anew.
+// Sizes after the first so many operations, each told by itself, and once it is rebuilt.
 fn sizes_after(
     alloc: Global,
     count: usize,

@@ -12,8 +12,8 @@ use fm_records::ids::{JobId, MachineId, TaskId};
 use std::alloc::Global;
 use std::cmp::Ordering;
 
-// The functions below have no contract beside what the next one owes: the tests are of what is answered, and proofs of them
-// stay short.
+// The functions below have no contract except what the next one requires: the tests are of what is answered, and
+// proofs of them stay short.
 
 fn machine() -> Node {
     Node::Machine(MachineId::new(10))
@@ -36,10 +36,10 @@ fn put(network: &mut Network, node: Node) -> Result<bool, OutOfMemory> {
     network.put_node(node)
 }
 
-// An arc as it stands: capacity and cost.
+// An arc as it is: capacity and cost.
 type Arc = Option<(u64, u32)>;
 
-// Whether this stood where the arc from the machine to the sink is put, if both are there.
+// Whether this stood when the arc from the machine to the sink is put, if both are there.
 fn puts_slots(network: &mut Network, slots: u64, stood: Arc) -> Result<bool, OutOfMemory> {
     let machine = Node::Machine(MachineId::new(10));
     if slots == 0 || !network.has(&machine) || !network.has(&Node::Sink) {
@@ -49,7 +49,7 @@ fn puts_slots(network: &mut Network, slots: u64, stood: Arc) -> Result<bool, Out
     Ok(found == stood)
 }
 
-// Whether this stood where that arc is dropped.
+// Whether this stood when that arc is dropped.
 fn drops_slots(network: &mut Network, stood: Arc) -> bool {
     network.drop_arc(machine(), Node::Sink) == stood
 }
@@ -168,7 +168,8 @@ fn is_joined(network: &Network) -> bool {
         && network.touched(&Node::Sink)
 }
 
-// Whether the network has the machine, whether that is bare, and whether it is joined, and how many nodes and arcs there are.
+// Whether the network has the machine, whether that is bare, and whether it is joined, and how many nodes and arcs
+// there are.
 type Looks = (bool, bool, bool, (usize, usize));
 
 fn looks(alloc: Global, steps: &[Made]) -> Result<Option<Looks>, OutOfMemory> {

@@ -118,7 +118,7 @@ fn picked<R: Threads + Wait + Sync>(
     play::<Brand, R>(rt, alloc, Blank::new(2), coordinator, scene)
 }
 
-// Functions that may be refused hold few values there: a proof looks at what is let go at each refusal.
+// Functions that may be refused hold few values there: a proof considers what is dropped at each refusal.
 
 // What a wait beyond its range is answered, what a cut below the floor, and the number of the first packet.
 fn asked_in_turn<L: NodeName, R: Wait>(
@@ -133,7 +133,7 @@ fn asked_in_turn<L: NodeName, R: Wait>(
     Ok((beyond, trimmed, packet.get().number))
 }
 
-// Asks as above, and hands the seat back where all is answered as it should be.
+// Asks as above, and returns the seat if all is answered as it should be.
 fn answered_in_turn<L: NodeName, R: Wait>(
     rt: &R,
     node: &Node<Rebuilder, L>,
@@ -148,7 +148,7 @@ fn answered_in_turn<L: NodeName, R: Wait>(
     Ok(seat)
 }
 
-// The node and the seats, where it is not closed without the first one.
+// The node and the seats, if it is not closed without the first one.
 fn refused_without<L: NodeName>(
     node: Node<Rebuilder, L>,
     seats: Vec<Seat<L>>,
@@ -168,7 +168,7 @@ fn one_seat<L: NodeName>(alloc: Global, seat: Seat<L>) -> Result<Vec<Seat<L>>, F
     Ok(seats)
 }
 
-// The closed node, where all its seats are there.
+// The closed node, if all its seats are there.
 fn closed_with<L: NodeName>(
     node: Node<Rebuilder, L>,
     mut seats: Vec<Seat<L>>,
@@ -194,7 +194,7 @@ fn calls_in_turn<L: NodeName, R: Wait>(
     is(counts(&closed) == (3, 5, 2), "two entries since the start")
 }
 
-// The base, the entries, and those of the first seat, where the audit finds no fault.
+// The base, the entries, and those of the first seat, if the audit finds no fault.
 fn counts(closed: &Closed<Rebuilder>) -> (usize, usize, usize) {
     match (audit(closed), closed.logs.first()) {
         (Ok(()), Some(log)) => (

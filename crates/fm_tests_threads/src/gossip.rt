@@ -103,7 +103,7 @@ impl<'a> Gate for Meeting<'a> {
     }
 }
 
-// How many of two members are served, whose rounds wait for one another.
+// How many of two members are served, whose rounds wait for each other.
 fn served<'a, R: Threads + Wait + Sync>(
     rt: &R,
     alloc: Global,

@@ -106,7 +106,7 @@ enum Became {
     LostOrOtherwise,
 }
 
-// Puts the packet, and hands the door back with what became of it.
+// Puts the packet, and returns the door with its result.
 fn put_once<R: Wait>(rt: &R, mut door: Door, packet: Packet) -> (Door, Became) {
     let number = packet.number;
     let became = match door.put(rt, packet) {

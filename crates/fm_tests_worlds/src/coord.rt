@@ -56,8 +56,8 @@ fn task() -> Op {
     }
 }
 
-// The functions below have no contract: the tests are of what is answered, and proofs of them stay short. Each may be refused
-// at few places, and holds few values there: a proof looks at what is let go at each.
+// The functions below have no contract: the tests are of what is answered, and proofs of them stay short. Each may be
+// refused at few places, and holds few values there: a proof considers what is dropped at each.
 
 type Node = Coordinator<Rebuilder>;
 
@@ -123,7 +123,8 @@ fn seen(node: &mut Node) -> Result<(usize, usize, usize), Refusal> {
     Ok((seen.at, network.nodes_len(), network.arcs_len()))
 }
 
-// The same after three tells, with the entries that there are then, and whether the network was fresh before and is now.
+// The same after three tells, with the entries that there are then, and whether the network was fresh before and is
+// now.
 fn seen_after_three(alloc: Global) -> Result<((usize, usize, usize), usize, bool, bool), Refusal> {
     let mut node = three_told(alloc)?;
     let was_fresh = node.is_fresh();
@@ -205,7 +206,7 @@ fn a_full_packet_tells_all(rt: HostRuntime) {
     assert_eq!(rt; told_by_a_packet(rt.alloc()), Ok((true, 1)));
 }
 
-// How two tells are answered where there is room for one entry, and how many there are then.
+// How two tells are answered if there is room for one entry, and how many there are then.
 fn told_twice(alloc: Global) -> Result<(bool, Result<(), Refusal>, usize), Refusal> {
     let mut node = coordinator(alloc, 1, 1)?;
     let is_told = tell(&mut node, job()).is_ok();
@@ -320,7 +321,7 @@ fn a_dump_of_nothing_is_the_sink(rt: HostRuntime) {
     assert!(rt; is_sink);
 }
 
-// A keeper that counts how often it builds, and the keys that it is handed.
+// A keeper that counts how often it builds, and the keys that it is given.
 #[derive(Drop)]
 struct Counting {
     inner: Rebuilder,
@@ -389,7 +390,8 @@ fn counted(alloc: Global) -> Result<Counted, Refusal> {
     Ok(Coordinator::new(alloc, number, 1_000, keeper))
 }
 
-// What a coordinator that counts is asked for: to be told of so many tasks, one by one, to be looked at, or to be dumped.
+// What a coordinator that counts is asked for: to be told of so many tasks, one by one, to be looked at, or to be
+// dumped.
 #[derive(Clone, Copy, Drop)]
 enum Want {
     Tasks(u32),
@@ -433,7 +435,7 @@ fn give(alloc: Global, node: &mut Counted, want: Want) -> Result<(), Refusal> {
     }
 }
 
-// How many keys the keeper was handed and how often it built after these, and whether it is fresh then.
+// How many keys the keeper was given and how often it built after these, and whether it is fresh then.
 fn counts(alloc: Global, wants: &[Want]) -> Result<(usize, usize, bool), Refusal> {
     let mut node = counted(alloc)?;
     for want in wants {

@@ -6,8 +6,8 @@ use fm_records::ids::CoordId;
 use fm_records::refusal::Refusal;
 use std::alloc::Global;
 
-// The functions below have no contract: the tests are of what is answered, and proofs of them stay short. Each may be refused
-// at few places, and holds few values there: a proof looks at what is let go at each.
+// The functions below have no contract: the tests are of what is answered, and proofs of them stay short. Each may be
+// refused at few places, and holds few values there: a proof considers what is dropped at each.
 
 type Node = Coordinator<Deferred>;
 
@@ -19,7 +19,8 @@ fn node(alloc: Global) -> Result<Node, Refusal> {
     Ok(Coordinator::new(alloc, number, 1_000, keeper))
 }
 
-// What a look finds: whether the network is what is built, and how many looks were answered by edits and by builds so far.
+// What a look finds: whether the network is what is built, and how many looks were answered by edits and by builds so
+// far.
 type Look = (bool, u64, u64);
 
 fn look(alloc: Global, node: &mut Node) -> Result<Look, Refusal> {

@@ -96,7 +96,7 @@ fn operation(state: &mut u32) -> Op {
     }
 }
 
-// An act, where so many packets were cut.
+// An act, if so many packets were cut.
 fn act(state: &mut u32, cuts: u32) -> Act {
     match draw(state, 5) {
         0 => Act::Cut(Range::Full),
@@ -160,7 +160,8 @@ fn gathered(alloc: Global, nodes: &[Coordinator<Keeper>]) -> Option<Vec<Step>> {
     }
 }
 
-// Whether what is drawn is gathered to as many steps as were played, which a new world takes and which come to the same.
+// Whether what is drawn is gathered to as many steps as were played, which a new world takes and which come to the
+// same.
 fn is_gathered(alloc: Global, seed: u32) -> Result<bool, Fail> {
     let count = 2 + (seed % 4) as u8;
     let mut played = world(alloc, true)?;

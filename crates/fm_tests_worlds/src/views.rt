@@ -8,8 +8,8 @@ use fm_records::ops::Op;
 use fm_records::refusal::Refusal;
 use std::alloc::Global;
 
-// The functions below have no contract: the tests are of what is answered, and proofs of them stay short. Each may be refused
-// at few places, and holds few values there: a proof looks at what is let go at each.
+// The functions below have no contract: the tests are of what is answered, and proofs of them stay short. Each may be
+// refused at few places, and holds few values there: a proof considers what is dropped at each.
 
 type Node = Coordinator<Keeper>;
 

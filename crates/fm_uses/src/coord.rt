@@ -8,8 +8,8 @@ use fm_coord::entry::Range;
 use fm_policy::keeper::NetKeeper;
 use fm_records::refusal::Refusal;
 
-/// Hands all that `from` knows to `to`, which then knows what both did. Seat 0 asks for it at both.
-/// HistoryFull if the history of one of them is full, OutOfMemory if memory runs out: then `to` is as it was.
+/// Sends all that `from` knows to `to`, which then knows what both did. Seat 0 makes both calls.
+/// HistoryFull if the history of one of them is full, OutOfMemory if memory runs out: then `to` is unchanged.
 pub fn hand_over<N: NetKeeper>(
     from: &mut Coordinator<N>,
     to: &mut Coordinator<N>,

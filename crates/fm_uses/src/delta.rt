@@ -10,8 +10,8 @@ use fm_delta::buffer::Buffer;
 use fm_know::knowledge::Knowledge;
 use fm_records::refusal::Refusal;
 
-/// All that was kept from place `from` on, as one delta: what the operations of these places come to together. Refused for
-/// BadInterval if nothing lies from there on, for Trimmed if it was let go, or if memory runs out.
+/// All deltas that were kept from place `from` on, as one delta: that of all their operations. Refused for
+/// BadInterval if `from` is beyond the end, for Trimmed if it was trimmed, or if memory runs out.
 pub fn since(buffer: &Buffer, from: u64) -> Result<Knowledge, Refusal>
     ensures { (Ss : List (List Op)) → between buffer.now.deltas from (end_of buffer.now.deltas) ≡ map know Ss → IfOk result (λ k. k ≡ know (union Ss)) }
 {

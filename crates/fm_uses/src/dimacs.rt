@@ -1,4 +1,4 @@
-//! The texts of networks alone: a filter for dumps from elsewhere.
+//! The texts of networks alone: a filter for dumps of other programs.
 
 ghost use Rattle.std.specs.Prelude.{◌≡◌, OnOk, OnErr};
 ghost use Rattle.std.specs.Io.KnownBytes.{Appends};
@@ -10,8 +10,8 @@ use fm_dimacs::read::read;
 use fm_records::refusal::Refusal;
 use std::alloc::Global;
 
-/// Passes a dump on, byte for byte, where it is the text of a network. Refused for the first line that breaks a rule, and then
-/// nothing is written; by the writer; or if memory runs out.
+/// Passes a dump on, byte for byte, if it is the text of a network. Refused for the first line that breaks a rule,
+/// and then nothing is written; by the writer; or if memory runs out.
 pub fn pass_on<W: Out>(alloc: Global, text: &[u8], out: &mut W) -> Result<(), Refusal>
     ensures ok { OnOk result (Appends (W.written out.old) (W.written out.new) text.now) }
 {

@@ -1,4 +1,4 @@
-//! Threads alone: what they did to a coordinator that they shared is looked at afterwards.
+//! Threads alone: afterwards it is checked what they did to a coordinator that they shared.
 
 ghost use Rattle.std.specs.Prelude.{◌≡◌, IfOk};
 ghost use Rattle.fm_fleet.specs.Audits.{StandInOne};
@@ -10,8 +10,9 @@ use fm_fleet::seat::{NodeName, Seat};
 use fm_policy::keeper::NetKeeper;
 use fm_records::refusal::Refusal;
 
-/// Closes a node once its threads gave all seats back: then the calls of all seats, with the answers that they got, stand in one
-/// legal history, each once and in each seat's order. Refused for the least seat that is missing, or that the audit names.
+/// Closes a node after its threads gave all seats back: then the calls of all seats, with the answers that they got,
+/// form one legal history, each once and in each seat's order. Refused for the least seat that is missing, or that
+/// the audit names.
 pub fn settled<N: NetKeeper, L: NodeName>(
     node: Node<N, L>,
     seats: Vec<Seat<L>>,

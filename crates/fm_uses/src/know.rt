@@ -1,4 +1,4 @@
-//! Knowledge alone: a fact of what some operations come to.
+//! Knowledge alone: a fact that some operations determine.
 
 ghost use Rattle.std.specs.Prelude.{◌≡◌, IsTrue, IfOk, is_none};
 ghost use Rattle.std.specs.List.{list_all};

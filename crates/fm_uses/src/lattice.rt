@@ -20,7 +20,7 @@ pub fn note(readings: &mut Readings, sensor: u64, value: u64) -> Result<(), OutO
     readings.put(sensor, Max(value))
 }
 
-/// Takes in what two peers sent; it comes to the same with theirs in the other order, and with both merged on the way.
+/// Merges what two peers sent. The result is the same in the other order, and if both were merged on the way.
 pub fn take_both(
     readings: &mut Readings,
     first: &Readings,

@@ -1,16 +1,18 @@
-//! One layer at a time, as an engineer would embed it: a caller of each crate that is worth taking alone, with the contract
-//! that it gets from ours. The page `CALLING.md` of each crate shows its caller from here.
+//! One layer at a time, as an engineer would embed it: a caller of each crate that is useful alone, with a contract
+//! that follows from that crate's. The page `CALLING.md` of each crate shows its caller from here.
 
 #![tactic(auto)]
 
 pub mod coord;
 pub mod delta;
 pub mod dimacs;
+pub mod edit;
 pub mod fleet;
 pub mod know;
 pub mod lattice;
 pub mod lines;
 pub mod net;
+pub mod policy;
 pub mod records;
 pub mod round;
 pub mod schedule;

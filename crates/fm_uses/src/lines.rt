@@ -10,7 +10,7 @@ use fm_streams::sink::Sink;
 use fm_streams::source::Source;
 use std::alloc::Global;
 
-/// Whoever answers each line by itself.
+/// A responder whose answer to a line depends on that line alone.
 #[derive(Drop)]
 pub struct Repeater {
     pub alloc: Global,
@@ -27,7 +27,7 @@ impl Responder for Repeater {
     }
 }
 
-/// Answers each line of the stream by itself, up to the stream's end.
+/// Answers each line of the stream by itself, until the stream's end.
 pub fn echo<S: Source, W: Sink>(
     repeater: &mut Repeater,
     source: &mut S,

@@ -16,8 +16,8 @@ use fm_round::parts::Admitted;
 use fm_round::plan::plan;
 use std::alloc::Global;
 
-/// What a coordinator that knows this would admit: the plan of a least flow of its network, entry by entry. No machine that
-/// gets a place is asked for more than its bandwidth. Refused only if memory runs out.
+/// What a coordinator with this knowledge would admit of the plan of a least flow of its network. No machine that
+/// gets a task is asked for more than its bandwidth. Refused only if memory runs out.
 pub fn decide(
     alloc: Global,
     knowledge: &Knowledge,

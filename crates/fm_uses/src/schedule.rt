@@ -24,7 +24,7 @@ pub fn least_cost(alloc: Global, network: &Network) -> Result<u128, Refusal>
     Ok(cost(network, &flow))
 }
 
-/// Whether a flow that was found elsewhere may be taken for least, by its potentials: it is, wherever this answers true.
+/// Whether a flow of another solver is certified as least by its potentials. If this is true, the flow is least.
 pub fn may_trust(network: &Network, flow: &Flow, potentials: &Potentials) -> bool
     ensures { IsTrue result → IsLeast network.now (units_in flow.now) }
 {

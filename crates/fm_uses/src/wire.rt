@@ -1,4 +1,4 @@
-//! Packets as bytes alone: a relay that lets nothing through but packets.
+//! Packets as bytes alone: a relay that passes only packets.
 
 ghost use Rattle.std.specs.Prelude.{◌≡◌, IfOk, IfErr, option_map};
 ghost use Rattle.fm_records.specs.Options.{or_else};
@@ -11,8 +11,8 @@ use fm_wire::reading::decode;
 use fm_wire::writing::encode;
 use std::alloc::Global;
 
-/// The packet that the bytes spell, in whatever version, written anew in the version of today. Refused at the first byte that no
-/// packet has there, or if memory runs out.
+/// The packet that the bytes encode, in any version, written in the last version. Refused at the first fault, or if
+/// memory runs out.
 pub fn relayed(alloc: Global, bytes: &[u8]) -> Result<Vec<u8>, Refusal>
     ensures same { IfOk result (λ out. (p : Packet) × Spells bytes.now p × (out.items ≡ spelling p)) }
     ensures err { IfErr result (λ refusal. refusal ≡ or_else Refusal.OutOfMemory (option_map Refusal.BadPacket (fault bytes.now))) }

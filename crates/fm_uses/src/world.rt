@@ -1,4 +1,4 @@
-//! A world alone: steps that were written down are run, and what comes of them is dumped.
+//! A world alone: recorded steps are run again, and the resulting network is dumped.
 
 ghost use Rattle.std.specs.Prelude.{◌≡◌, OnOk};
 ghost use Rattle.fm_world.specs.Worlds.{WorldOfSets, with_number, run_of};
@@ -12,8 +12,8 @@ use fm_records::refusal::Refusal;
 use fm_world::step::Step;
 use fm_world::world::World;
 
-/// Runs the steps, and writes the network of the coordinator: that of the operations which its replica took in, in a world that
-/// is nothing but sets of operations. Stops at the first refused step, with its cause, and then writes nothing.
+/// Runs the steps, and writes the network of the coordinator: that of the operations which its replica received, in a
+/// world of sets of operations. Stops at the first refused step, with its cause, and then writes nothing.
 pub fn run_and_dump<N: NetKeeper, W: Out>(
     world: &mut World<N>,
     steps: &[Step],

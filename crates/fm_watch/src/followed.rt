@@ -63,7 +63,7 @@ impl Followed {
         })
     }
 
-    /// The network of what is known, built anew.
+    /// The network of what is known, built from nothing.
     pub(crate) fn built(&self, alloc: Global) -> Result<Network, Refusal> {
         law_can_be(&self.known);
         let network = build(alloc, &self.known)?;
@@ -79,7 +79,7 @@ pub(crate) struct Taken {
     pub(crate) keys: Vec<Key>,
 }
 
-// Has the Editor follow what is known, and answers the edits and the keys.
+// Has the Editor follow what is known, and returns the edits and the keys.
 fn follow(
     alloc: Global,
     editor: &mut Editor,

@@ -1,4 +1,4 @@
-//! Two coordinators that are told the same and looked at together: one edits its network or builds it, the other builds it.
+//! Two coordinators that are told the same and read together: one edits its network or builds it, the other builds it.
 
 use fm_coord::coordinator::Coordinator;
 use fm_coord::view::View;

@@ -1,10 +1,11 @@
-//! What an Editor makes of a script's operations: it reads a script and takes in the operations that are told, those before
-//! each cut as one delta, whoever is told them. For each delta it prints a line, the edits of the network, and the keys that
-//! were looked up. With the word `looks` two coordinators are told the operations, one that edits or builds its network and one
-//! that builds it, and are looked at at each cut: it prints whether both networks are equal, how many looks at the first were
-//! edits and how many builds, and the network. With the word `steps` and a number it takes so many steps of the script, of a
-//! round the view alone, and prints nothing: on an allocator that counts, this shows what a step asks for. With any other word it
-//! prints how long an edit took, and how long building takes.
+//! The edits of an Editor for a script's operations: it reads a script and merges the operations that are told, those
+//! before each cut as one delta, whichever coordinator is told them. For each delta it prints a line, the edits of
+//! the network, and the keys that were looked up. With the word `looks` two coordinators are told the operations, one
+//! that edits or builds its network and one that builds it, and are looked at at each cut: it prints whether both
+//! networks are equal, how many looks at the first were edits and how many builds, and the network. With the word
+//! `steps` and a number it takes so many steps of the script, of a round the view alone, and prints nothing: on an
+//! allocator that counts, this shows what a step asks for. With any other word it prints how long an edit took, and
+//! how long building takes.
 #![tactic(auto)]
 
 mod followed;
@@ -23,10 +24,10 @@ use fm_streams::input::read_input;
 use fm_streams::source::Input;
 use followed::{Followed, Taken};
 use looked::Looked;
-use stepped::take_first;
 use std::alloc::Global;
 use std::env;
 use std::time::Instant;
+use stepped::take_first;
 
 fn main(rt: HostRuntime) -> Result<(), anyhow::Error> {
     let script = script(&rt)?;
@@ -96,8 +97,8 @@ fn script(rt: &HostRuntime) -> Result<Script, Refusal>
     read_script(rt.alloc(), text.as_slice())
 }
 
-// What was taken in, and what was told since. Functions that may be refused hold one value each: a proof looks at what is let
-// go at each refusal.
+// What was taken in, and what was told since. Functions that may be refused hold one value each: a proof considers
+// what is dropped at each refusal.
 #[derive(Drop)]
 struct Watch {
     followed: Followed,
@@ -165,7 +166,7 @@ fn show(rt: &HostRuntime, taken: &Taken) -> Result<(), anyhow::Error> {
     Ok(())
 }
 
-// Takes the delta in, and prints how long that took, beside building the network anew.
+// Takes the delta in, and prints how long that took, beside building the network from nothing.
 fn timed(
     rt: &HostRuntime,
     followed: Followed,
@@ -177,7 +178,7 @@ fn timed(
     Ok(followed)
 }
 
-// How many edits taking the delta in comes to, and how many nanoseconds it took.
+// How many edits merging the delta takes, and how many nanoseconds it took.
 fn taken_in(
     rt: &HostRuntime,
     followed: Followed,
@@ -189,7 +190,7 @@ fn taken_in(
     Ok((taken.followed, taken.edits.len(), took))
 }
 
-// How many arcs the network has, and how many nanoseconds it took to build it anew.
+// How many arcs the network has, and how many nanoseconds it took to build it from nothing.
 fn built(rt: &HostRuntime, followed: &Followed) -> Result<(usize, u128), anyhow::Error> {
     let begun = Instant::now(rt)?;
     let network = followed.built(rt.alloc())?;

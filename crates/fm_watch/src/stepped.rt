@@ -1,4 +1,4 @@
-//! The first steps of a script, so that it can be counted what the last one of them asks for.
+//! The first steps of a script, so that the allocations of the last one can be counted.
 
 ghost use Rattle.fm_coord.specs.Numbers.{AreDistinct};
 
@@ -10,8 +10,8 @@ use fm_world::step::{Act as WorldAct, Step as WorldStep};
 use fm_world::world::World;
 use std::alloc::Global;
 
-/// Takes so many steps of the script on a world of its coordinators; of a round it takes the view alone. Refused as the first
-/// step that is refused.
+/// Takes the given number of steps of the script on a world of its coordinators; of a round it takes only the view.
+/// Refused as the first step that is refused.
 pub(crate) fn take_first(alloc: Global, script: &Script, count: usize) -> Result<(), Refusal>
     requires { AreDistinct script.now.coordinators.items }
 {
@@ -31,7 +31,7 @@ fn take(world: &mut World<Keeper>, step: &Step) -> Result<(), Refusal> {
     Ok(())
 }
 
-// The act of a world that a script's act comes to, of a round the view.
+// The act of a world for a script's act, of a round the view.
 fn act_of(act: Act) -> WorldAct {
     match act {
         Act::Tell(op) => WorldAct::Tell(op),

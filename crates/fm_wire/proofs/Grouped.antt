@@ -106,7 +106,7 @@ full_put c s spots r above =
 then_second : (o p : Ordering) → o ≡ Equal → ordering_then o p ≡ Less → p ≡ Less
 then_second o p e h = rw e at h
 
--- where the attempt is that of the last group, the new coordinator comes after its coordinators
+-- if the attempt is that of the last group, the new coordinator comes after its coordinators
 above_in : (at here : ℕ × ℕ) (c : ℕ) (spots : Spots) → attempt_cmp here at ≡ Equal → IsAbove entry_cmp entry_total (at, c) (entries_at here spots) → IsAbove nat_cmp nat_cmp_total c spots
 above_in at here c [] e h = tt
 above_in at here c (s ∷ spots) e h = (then_second (attempt_cmp here at) (nat_cmp s.0 c) e h.0, above_in at here c spots e h.1)

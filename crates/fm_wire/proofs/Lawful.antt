@@ -105,7 +105,7 @@ seen_lawful {A} {B} F to from f back forth = record {
       });
 }
 
--- ---- parts that follow where a byte says so
+-- ---- parts that follow if a byte says so
 
 pub part_lawful : {A : Type 0} (b : Bool) (F : Format A) → Lawful F → Lawful (part b F)
 part_lawful {A} true F f = record {

@@ -215,7 +215,8 @@ same_listed p q is_p is_q e =
     let groups = one_grouping p.value.proposals q.value.proposals is_p.value.table.proposals is_q.value.table.proposals (ap (λ (w : Listed). w.entries) e) in
     λ i. record { sender = (e i).sender; number = (e i).number; value = record { jobs = (e i).jobs; tasks = (e i).tasks; machines = (e i).machines; proposals = groups i } }
 
--- what begins with a packet's bytes and is a packet's bytes is that packet's, in that version, and has nothing behind them
+-- what begins with a packet's bytes and is a packet's bytes is that packet's, in that version, and has nothing after
+-- them
 pub begins : (v w : Version) (p q : Packet) (rest : List ℕ) → IsPacket p → IsPacket q → CanSpell v p → CanSpell w q → spelling_in v p ++ rest ≡ spelling_in w q → (v ≡ w) × (p ≡ q) × (rest ≡ [])
 begins v w p q rest is_p is_q can_p can_q e =
     let left = read_again v p rest is_p can_p in
@@ -229,7 +230,7 @@ begins v w p q rest is_p is_q can_p can_q e =
 no_place : (n : ℕ) → Some n ≡ None → ⊥
 no_place n e = cc
 
--- where there is no fault, the format's reading took all
+-- if there is no fault, the format's reading took all
 whole_of : (bytes : List ℕ) (r : Result (Told × List ℕ) ℕ) → packet.read bytes ≡ r → fault_place (length bytes) r ≡ None → (x : Told) × (packet.read bytes ≡ Ok (x, []))
 whole_of bytes (Ok (x, [])) e h = (x, e)
 whole_of bytes (Ok (x, y ∷ rest)) e h = absurd (no_place _ h)

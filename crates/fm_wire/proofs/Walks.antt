@@ -151,6 +151,6 @@ wrote spell out first second a b e es left all p q r s t =
 pub written : {E : Type 0} (spell : E → List ℕ) (out all : List ℕ) (left : List E) → left ≡ [] → out ++ flat_map spell left ≡ all → out ≡ all
 written spell out all left p t = sym (append-nil out) ∙ ap (λ z. out ++ flat_map spell z) (sym p) ∙ t
 
--- where nothing is left, what stands there is all
+-- if nothing is left, what stands there is all
 pub none_left : {A B : Type 0} (listed : List A → List B) (now all : List B) (left : List A) → left ≡ [] → listed [] ≡ [] → now ++ listed left ≡ all → now ≡ all
 none_left listed now all left p q t = sym (append-nil now) ∙ ap (λ z. now ++ z) (sym q ∙ ap listed (sym p)) ∙ t

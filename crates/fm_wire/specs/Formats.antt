@@ -6,8 +6,8 @@ use Rattle.std.specs.Ordering.{is_lt}
 use Rattle.std.specs.declared.cmp.Ordering.{Ordering}
 use Rattle.fm_lattice.specs.Maps.{IsRising}
 
--- What reading from the front of bytes gives: a value and the bytes after it; or, at the first fault, how many bytes there
--- are from the fault to the end, none where they end too early.
+-- What reading from the front of bytes gives: a value and the bytes after it; or, at the first fault, how many bytes
+-- there are from the fault to the end, none if they end too early.
 abbrev pub Reading : Type 0 → Type 0
 Reading A = Result (A × List ℕ) ℕ
 
@@ -50,7 +50,7 @@ only a = record {
   read = λ bytes. Ok (a, bytes);
 }
 
--- one after the other, where the first tells by what format the second is spelled
+-- one after the other, and the first tells by what format the second is spelled
 abbrev pub leading : {A B : Type 0} → Format A → (A → Format B) → Format (A × B)
 leading F G = record {
   has = λ x. F.has x.0 × (G x.0).has x.1;
@@ -84,7 +84,7 @@ abbrev spell_some : {A : Type 0} → Format A → Option A → List ℕ
 spell_some F None = []
 spell_some F (Some a) = F.spell a
 
--- the value where the part is there, and no byte where it is not
+-- the value if the part is there, and no byte if it is not
 abbrev pub part : {A : Type 0} → Bool → Format A → Format (Option A)
 part true F = record {
   has = HasSome F;
@@ -145,8 +145,8 @@ counted w greatest cmp F G = record {
 abbrev pub records : {K V : Type 0} → (K → K → Ordering) → Format K → Format V → Format (List (K × V))
 records = counted w64 (2 ^ 64 - 1)
 
--- the place of the first fault in so many bytes that are to be one value and nothing more: none where all were read, the first
--- byte after the value where there is one, else where the reading failed
+-- the place of the first fault in so many bytes that are to be one value and nothing more: none if all were read, the
+-- first byte after the value if there is one, else where the reading failed
 abbrev pub fault_place : {A : Type 0} → ℕ → Reading A → Option ℕ
 fault_place len (Ok (a, [])) = None
 fault_place len (Ok (a, byte ∷ rest)) = Some (len - length (byte ∷ rest))

@@ -1,6 +1,6 @@
--- The format of packets: every field, its width and its range, in the order in which they stand (this project's profile).
--- There are two versions, which differ in what ends a spec. Packets are written in the second and read in both; within each
--- version there is one spelling per packet.
+-- The format of packets: every field, its width and its range, in their order (this project's
+-- profile). There are two versions, which differ in what ends a spec. Packets are written in the second and read in
+-- both; within each version there is one spelling per packet.
 use Rattle.std.specs.Prelude.{◌≡◌, ℕ, ◌<◌, IsTrue, length, ◌-◌, ◌^◌, ◌==◌, ◌||◌, Bool, cond, is_some, List, [], Option, Some, None, flat_map, map}
 use Rattle.std.specs.List.{AllByRecursion}
 use Rattle.std.specs.Int.{w8, w32, w64, w128}
@@ -68,7 +68,7 @@ spec v = seen_as (count ⨾ coordinator ⨾ flag ⨾ id ⨾ bandwidth ⨾ prefer
     (λ f. record { version = f.0; writer = f.1.0; withdrawn = f.1.1.0; job = f.1.1.1.0; request = f.1.1.1.1.0; prefer = f.1.1.1.1.1 })
     (λ r. (r.version, (r.writer, (r.withdrawn, (r.job, (r.request, r.prefer))))))
 
--- whether a spec follows: 1 where it does, else 0
+-- whether a spec follows: 1 if it does, else 0
 abbrev pub has_of : Option SpecReg → ℕ
 has_of o = cond (is_some o) 1 0
 
@@ -109,7 +109,7 @@ machine = count ⨾ parts
 unfoldable pub spot : Format Spot
 spot = seen_as (id ⨾ count) (λ f. record { machine = f.0; incarnation = f.1 }) (λ s. (s.machine, s.incarnation))
 
--- a packet whose proposals stand in one list, each under its task, attempt and coordinator
+-- a packet whose proposals are in one list, each under its task, attempt and coordinator
 pub record Listed : Type 0 where
   pub sender : ℕ
   pub number : ℕ
@@ -190,7 +190,7 @@ spelling = spelling_in Fdg2
 abbrev pub fault : List ℕ → Option ℕ
 fault = fault_in packet
 
--- a packet that can be: its sender and its number fit, its knowledge is one that operations come to, and it has fewer
+-- a possible packet: its sender and its number fit, its knowledge is the table of some operations, and it has fewer
 -- records of each kind than 64 bits count, as any memory does
 pub record IsPacket (p : Packet) : Type 0 where
   pub sender : IsTrue (is_coordinator p.sender)

@@ -26,12 +26,12 @@ abbrev pub rest_of : {A : Type 0} → Reading A → Result (List ℕ) ℕ
 rest_of (Ok x) = Ok x.1
 rest_of (Err left) = Err left
 
--- the packet's lists stand at the front, unless memory ran out
+-- the packet's lists are at the front, unless memory ran out
 abbrev pub FindsListed : Result Packet ReadError → Reading Listed → Type 0
 FindsListed (Ok p) read = (rest : List ℕ) × (read ≡ Ok (listed p, rest))
 FindsListed (Err e) read = Fails e read
 
--- the packet stands at the front in one of the versions, unless memory ran out
+-- the packet is at the front in one of the versions, unless memory ran out
 abbrev pub Finds : Result Packet ReadError → Reading (Version × Listed) → Type 0
 Finds (Ok p) read = (v : Version) × (rest : List ℕ) × (read ≡ Ok ((v, listed p), rest))
 Finds (Err e) read = Fails e read

@@ -30,7 +30,7 @@ pub(crate) fn entries_in(alloc: Global, proposals: &Proposals) -> Result<Entries
     Ok(entries)
 }
 
-// Adds the entries for the attempt, which come after all that stand there.
+// Adds the entries for the attempt, which come after all that are there.
 fn add_entries(
     entries: &mut Entries,
     attempt: &(TaskId, u32),

@@ -1,4 +1,4 @@
-//! Why a value could not be made of bytes.
+//! Why a value could not be read from bytes.
 
 ghost use Rattle.std.specs.Prelude.{◌≡◌};
 ghost use Rattle.fm_wire.specs.declared.fault.ReadError.TheVariants.{Memory, Fault};

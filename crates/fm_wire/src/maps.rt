@@ -66,7 +66,8 @@ fn record_at<K: Chain + Spelled, V: Join + Recorded>(
     Ok(((key, value), rest))
 }
 
-// Goes over the records that the version spells at the front, without memory, and answers the bytes after them or the first fault. O(n).
+// Checks the records that the version spells at the front, without allocating, and returns the bytes after them or
+// the first fault. O(n).
 pub(crate) fn rest_of_map<K: Chain + Spelled, V: Join + Recorded>(
     version: Version,
     bytes: &[u8],
@@ -77,7 +78,7 @@ pub(crate) fn rest_of_map<K: Chain + Spelled, V: Join + Recorded>(
     rest_of_records::<K, V>(version, count, rest)
 }
 
-// Goes over so many records.
+// Checks the given number of records.
 fn rest_of_records<K: Chain + Spelled, V: Join + Recorded>(
     version: Version,
     count: u64,
@@ -107,7 +108,7 @@ pub(crate) fn map_at<K: Chain + Spelled, V: Join + Recorded>(
     records_at(alloc, version, count, rest)
 }
 
-// The map of so many records.
+// The map of the given number of records.
 fn records_at<K: Chain + Spelled, V: Join + Recorded>(
     alloc: Global,
     version: Version,

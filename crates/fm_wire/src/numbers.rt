@@ -1,5 +1,6 @@
-//! Numbers as bytes, the most significant first. The readers answer the number and the bytes after it; at a fault how many
-//! bytes there are from it to the end: 0 where they end too early, and all where the number is out of its range.
+//! Numbers as bytes, the most significant first. The readers return the number and the bytes after it; at a fault
+//! they return how many bytes there are from it to the end: 0 if they end too early, and all if the number is out of
+//! its range.
 
 ghost use Rattle.std.specs.Prelude.{◌≡◌, ◌++◌, ◌-◌, ◌^◌, ◌≤◌, OnOk, IfOk};
 ghost use Rattle.std.specs.Int.{w8, w32, w64, w128};

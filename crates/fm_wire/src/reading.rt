@@ -19,8 +19,8 @@ use fm_records::records::{JobReg, MachineRec, Spot, TaskRec};
 use fm_records::refusal::Refusal;
 use std::alloc::Global;
 
-/// The place of the first fault, counted from 0; none where the bytes are a packet's spelling in one of the versions. It takes
-/// no memory. O(n).
+/// The place of the first fault, counted from 0; none if the bytes are a packet's spelling in one of the versions. It
+/// allocates nothing. O(n).
 pub fn fault_of(bytes: &[u8]) -> Option<usize>
     ensures { result ≡ fault bytes.now }
 {
@@ -31,8 +31,9 @@ pub fn fault_of(bytes: &[u8]) -> Option<usize>
     }
 }
 
-/// The packet that the bytes spell, in FDG1 or in FDG2. They are gone over before any memory is taken, so a count of records
-/// takes none. BadPacket with the place of the first fault where they are no packet's spelling. O(n log n).
+/// The packet that the bytes spell, in FDG1 or in FDG2. All bytes are checked before anything is allocated, so a
+/// false count of records costs no memory. BadPacket with the place of the first fault if they are no packet's
+/// spelling. O(n log n).
 pub fn decode(alloc: Global, bytes: &[u8]) -> Result<Packet, Refusal>
     ensures spelling { IfOk result (Spells bytes.now) }
     ensures packet { IfOk result IsPacket }
@@ -77,7 +78,7 @@ fn body_at(alloc: Global, version: Version, bytes: &[u8]) -> Result<Packet, Read
     })
 }
 
-// Goes over the packet at the front without memory, and answers the bytes after it.
+// Checks the packet at the front without allocating, and returns the bytes after it.
 fn rest_of_packet(bytes: &[u8]) -> Result<&[u8], usize>
     ensures { Gives (λ rest. rest.now) result (rest_of (packet.read bytes.now)) }
 {
@@ -85,7 +86,7 @@ fn rest_of_packet(bytes: &[u8]) -> Result<&[u8], usize>
     rest_of_body(version, rest)
 }
 
-// Goes over the packet that the version spells at the front.
+// Checks the packet that the version spells at the front.
 fn rest_of_body(version: Version, bytes: &[u8]) -> Result<&[u8], usize>
     ensures { Gives (λ rest. rest.now) result (rest_of ((body version).read bytes.now)) }
 {

@@ -119,7 +119,7 @@ impl Recorded for Min<Spot> {
     }
 }
 
-// Adds the spec behind a byte that is 1, or a byte that is 0 where there is none.
+// Adds a byte that is 1 and the spec, or a byte that is 0 if there is none.
 #[tactic(auto, unfolding(crate::specs::Grammar::optional_spec))]
 fn put_optional_spec(out: &mut Vec<u8>, spec: &Option<Max<SpecReg>>) -> Result<(), OutOfMemory>
     ensures { OnOk result (out.new.items ≡ out.old.items ++ (optional_spec Fdg2).spell spec.now) }
@@ -133,7 +133,7 @@ fn put_optional_spec(out: &mut Vec<u8>, spec: &Option<Max<SpecReg>>) -> Result<(
     }
 }
 
-// The spec, if a byte tells that it follows.
+// The spec, if a byte says that it follows.
 #[tactic(auto, unfolding(crate::specs::Grammar::optional_spec))]
 fn optional_spec_at(version: Version, bytes: &[u8]) -> Result<(Option<Max<SpecReg>>, &[u8]), usize>
     ensures { Gives (λ x. (x.0, x.1.now)) result ((optional_spec version).read bytes.now) }
@@ -187,7 +187,7 @@ fn spec_at(version: Version, bytes: &[u8]) -> Result<(SpecReg, &[u8]), usize>
     }
 }
 
-// Adds the state and the report that are there, behind a byte that tells which.
+// Adds a byte that says which of state and report are there, and then these.
 #[tactic(auto, unfolding(crate::specs::Grammar::parts))]
 fn put_parts(out: &mut Vec<u8>, known: &Parts) -> Result<(), OutOfMemory>
     ensures { OnOk result (out.new.items ≡ out.old.items ++ parts.spell known.now) }
@@ -210,7 +210,7 @@ fn put_parts(out: &mut Vec<u8>, known: &Parts) -> Result<(), OutOfMemory>
     }
 }
 
-// The state, the report, or both, behind a byte that tells which follow.
+// The state, the report, or both, after a byte that says which follow.
 #[tactic(auto, unfolding(crate::specs::Grammar::parts))]
 fn parts_at(bytes: &[u8]) -> Result<(Parts, &[u8]), usize>
     ensures { Gives (λ x. (x.0, x.1.now)) result (parts.read bytes.now) }
@@ -284,7 +284,7 @@ fn report_at(bytes: &[u8]) -> Result<(Report, &[u8]), usize>
     Ok((Report { number, used }, rest))
 }
 
-// Adds a byte, 1 where the flag is set and else 0.
+// Adds a byte, 1 if the flag is set and else 0.
 fn put_flag(out: &mut Vec<u8>, flag: bool) -> Result<(), OutOfMemory>
     ensures { OnOk result (out.new.items ≡ out.old.items ++ bytes_of w8 (cond flag 1 0)) }
 {

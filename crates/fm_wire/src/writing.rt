@@ -29,7 +29,7 @@ pub fn encode(alloc: Global, packet: &Packet) -> Result<Vec<u8>, OutOfMemory>
     Ok(bytes)
 }
 
-// Adds what stands between the version's word and the records.
+// Adds what is between the version's word and the records.
 #[tactic(auto, unfolding(crate::specs::Grammar::header))]
 fn put_header(out: &mut Vec<u8>, sender: CoordId, number: u64) -> Result<(), OutOfMemory>
     ensures ok { OnOk result (out.new.items ≡ out.old.items ++ header.spell (sender, number)) }

@@ -61,7 +61,7 @@ same_minus : (least most n : ℕ) → most < 2 ^ 63 → Same least most true tru
 same_minus least most zero few = same_zero least most (nat_le least 0) refl
 same_minus least most (suc k) few = rw (and_false (nat_lt k (2 ^ 63)), positive k, and_false (nat_le (suc k) most), and_false (nat_le least (suc k))) refl
 
--- the parser takes the value just where it spells a number in range
+-- the parser takes the value exactly if it spells a number in range
 pub taken : (least most : ℕ) (v : Text) → most < 2 ^ 63 → is_signed_in (pos least) (pos most) v ≡ is_some (number_in least most v)
 taken least most v few = go (is_numeral (without_leading_sign v)) (starts_with_minus v) (value v)
   where

@@ -1,4 +1,4 @@
--- Where the value that is held is at fault, whatever follows is wrong.
+-- If the value that is held is at fault, whatever follows is wrong.
 use Rattle.std.proofs.Common.{◌≡◌, ◌==◌, refl, true, false, Bool, ℕ, List, [], ◌∷◌, Option, Some, None}
 use Rattle.std.specs.Prelude.{slice_get}
 use Rattle.std.specs.Str.{chars}
@@ -68,7 +68,7 @@ at_plain f w rest None e l s o = rw (e, l, s, f.no_positional) refl
 at_plain f w rest (Some []) e l s o = rw (e, l, s, f.no_positional) refl
 at_plain f w rest (Some (x ∷ xs)) e l s o = rw (e, l, s, o, f.no_positional) refl
 
--- where nothing waits for a value
+-- if nothing waits for a value
 pub faulty : (f : Faulty) (rest : List Text) → comes f idle rest ≡ wrong ∷ []
 faulty f [] = at_last f idle
 faulty f (w ∷ rest) = by_look w (λ look. comes f idle (w ∷ rest) ≡ wrong ∷ []) (at_dashes f idle w rest) (at_long f idle w rest) (at_short f idle w rest) (at_plain f w rest)

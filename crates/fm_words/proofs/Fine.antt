@@ -1,4 +1,4 @@
--- Where the last argument was given and is not at fault, the command is told, unless help is asked for.
+-- If the last argument was given and is not at fault, the command is told, unless help is asked for.
 use Rattle.std.proofs.Common.{◌≡◌, ◌==◌, refl, true, false, Bool, ℕ, List, [], ◌∷◌, Option, Some, None}
 use Rattle.std.specs.Prelude.{bytes_eq, codes, slice_get}
 use Rattle.std.specs.Str.{chars}
@@ -12,7 +12,7 @@ use Rattle.fm_words.specs.Heard.{dashes, long, short, ends, ends_at, shown}
 use Rattle.fm_words.proofs.Looks.{by_look, is_end, letter_in}
 use Rattle.fm_words.proofs.Leaf.{HasLetterOfHelp, HelpsAt, at, built_with, held_at, leaf_from}
 
--- what stands before the next word, where nothing waits for a value
+-- what stands before the next word, if nothing waits for a value
 pub record Place : Type 0 where
   pub name : Text
   pub rules : List Rule
@@ -64,7 +64,7 @@ at_plain p t last w rest None e l s o = rw (e, l, s, last.no_positional) refl
 at_plain p t last w rest (Some []) e l s o = rw (e, l, s, last.no_positional) refl
 at_plain p t last w rest (Some (x ∷ xs)) e l s o = rw (e, l, s, o, last.no_positional) refl
 
--- where help alone has a long name
+-- if help alone has a long name
 pub fine : (p : Place) (t : Telling) → IsLast p t → (rest : List Text) → ((n : Text) → HelpsAt p.rules n) → comes p rest ≡ ends t rest ∷ []
 fine p t last [] k = last.is_told
 fine p t last (w ∷ rest) k = by_look w (λ look. comes p (w ∷ rest) ≡ ends_at look t rest ∷ [])

@@ -15,7 +15,7 @@ ended s end = or_else (settle_fault s.rules s.args_override_self end.held)
     (or_else (defaults_fault (settled s.rules end.held).rows s.rules)
     (check_fault s (finished s.rules end.held) false))
 
--- what the command comes to from where its walk stands, where its rows tell so
+-- what the command comes to from where its walk stands, if its rows tell so
 abbrev pub leaf_from : Shape → (List Row → Telling) → Walk → List Text → List Telling
 leaf_from s tell w rest = told_or (or_else (walk_fault s [] w rest) (ended s (fold (walked s.rules []) w rest)))
     (tell (finished s.rules (fold (walked s.rules []) w rest).held))

@@ -21,7 +21,7 @@ firmament_is_free = refl
 at_no_fault : (t : Telling) (kinds : Kinds) → kinds ≡ [] → IsOneOf t (told_or kinds t)
 at_no_fault t kinds none = rw none (inl refl)
 
--- where it takes the words there is no fault, and its matches tell what may be told
+-- if it takes the words there is no fault, and its matches tell what may be told
 pub of_matches : (c : Command) (words : List Text) (m : ArgMatches) → app_of c ≡ firmament → HasMatchesOf (app_of c) words m
     → (is_simple_and_free (app_of c) ≡ true → fault_of (app_of c) words ≡ [])
     → (fault_of firmament words ≡ []) × IsOneOf (told_by (subcommand_rows_of m)) (tellings words)

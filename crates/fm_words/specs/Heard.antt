@@ -32,7 +32,7 @@ look_of w = if bytes_eq w (codes "--") then dashes
     else flag_or_plain (long_of w) (option_and_then (λ flags. slice_get (chars flags) 0) (short_of w))
 
 -- the whole number that a word spells, if it is no less than the least and no greater than the most: decimal digits,
--- one at least, that may stand behind `+`; behind `-` only 0
+-- one at least, that may follow `+`; behind `-` only 0
 abbrev pub number_in : ℕ → ℕ → Text → Option ℕ
 number_in least most v =
     let digits = without_leading_sign v in
@@ -48,7 +48,7 @@ shown (long name None) = if bytes_eq (codes "help") name then help else wrong
 shown (short c) = if 104 == c then help else wrong
 shown _ = wrong
 
--- behind the last argument there is nothing more, or `--` alone
+-- after the last argument there is nothing more, or `--` alone
 abbrev pub ends_at : Look → Telling → List Text → Telling
 ends_at dashes t [] = t
 ends_at dashes t (w ∷ rest) = wrong
@@ -113,7 +113,7 @@ asks q = one_number (codes "at") 0 255 (λ at. run (ask q at))
 abbrev pub fleets : Takes
 fleets = one_number (codes "rounds") 0 1000 (λ rounds. fleet (unwrap_or rounds 0))
 
--- where no N is told: an entry takes about a kilobyte, so that a history takes some 100 MB
+-- if no N is told: an entry takes about a kilobyte, so that a history takes some 100 MB
 abbrev pub default_renew_after : ℕ
 default_renew_after = 100000
 
@@ -121,7 +121,7 @@ default_renew_after = 100000
 abbrev pub most_renew_after : ℕ
 most_renew_after = 1000000
 
--- `--renew-after N`: coordinators that are kept running, and are made anew once a history has N entries, 1 at least
+-- `--renew-after N`: coordinators that are kept running, and are renewed once a history has N entries, 1 at least
 abbrev pub follows : Takes
 follows = one_number (codes "renew-after") 1 most_renew_after (λ n. follow (unwrap_or n default_renew_after))
 

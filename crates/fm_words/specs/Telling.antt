@@ -1,4 +1,4 @@
--- What the words of a command line come to, without the texts that are printed (this project's profile).
+-- What the words of a command line ask for, without the texts that are printed (this project's profile).
 use Rattle.std.specs.Prelude.{ℕ, List, Option}
 use Rattle.fm_words.specs.declared.words.Question.{Question}
 use Rattle.fm_words.specs.declared.words.Command.{Command}
@@ -22,7 +22,7 @@ pub data Asked : Type 0 where
 
 -- what is asked for: the command's answer
 -- or a fleet that is run for so many rounds
--- or coordinators that are kept running, and are made anew once a history has so many entries
+-- or coordinators that are kept running, and are renewed once a history has so many entries
 -- or a text of help
 -- or the page of refusals
 -- or nothing, since the words are wrong

@@ -4,7 +4,7 @@ ghost use Rattle.std.specs.Prelude.{◌≡◌, map, string_bytes};
 ghost use Rattle.fm_words.specs.Heard.{ask_for_refusals, is_topic};
 ghost use Rattle.fm_words.specs.Parser.{asks_for_help, begins_with_help};
 
-/// Whether the words are `help refusals`, behind the program's name.
+/// Whether the words are `help refusals`, after the program's name.
 pub fn ask_for_refusals(words: &[String]) -> bool
     ensures { result ≡ ask_for_refusals (map string_bytes words.now) }
 {

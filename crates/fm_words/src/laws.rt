@@ -5,7 +5,7 @@ ghost use Rattle.fm_words.specs.Heard.{heard, number_in};
 ghost use Rattle.fm_words.specs.Telling.{Text, ask, fleet, follow, help, pack, page, run, wrong};
 ghost use Rattle.fm_words.specs.declared.words.Question.TheVariants.{Graph, Plan, Solve, Winners};
 
-/// A number in range that is written in decimal digits, as the program itself writes numbers, is told as that number.
+/// A number in range that is written in decimal digits, as the program itself writes numbers, is read as that number.
 pub fn law_number()
     ensures { (n least most : ℕ) → least ≤ n → n ≤ most → n < 2 ^ 64 → number_in least most (decimal n) ≡ Some n }
 {}

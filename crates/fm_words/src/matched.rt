@@ -1,4 +1,4 @@
-//! What the parser's answer comes to.
+//! The meaning of the parser's answer.
 
 ghost use Rattle.std.specs.Prelude.{◌≡◌, ◌≢◌, IfOk, codes, map, option_map, string_bytes};
 ghost use Rattle.clap.specs.Words.{first_of, found_of, kind_of, rows_of, subcommand_rows_of};
@@ -13,7 +13,7 @@ use clap::{ArgMatches, Error};
 use fm_lattice::join::OutOfMemory;
 use std::alloc::Global;
 
-/// What the matches of a command come to.
+/// The meaning of the matches of a command.
 pub fn named<'a>(alloc: Global, matches: &ArgMatches<'a>) -> Words<'a>
     ensures { told_of result ≡ told_by (subcommand_rows_of matches.now) }
 {
@@ -23,7 +23,7 @@ pub fn named<'a>(alloc: Global, matches: &ArgMatches<'a>) -> Words<'a>
     }
 }
 
-// What the matches of the command of the name come to.
+// The meaning of the matches of the command of the name.
 fn named_as<'a>(alloc: Global, name: &str, inner: &ArgMatches<'a>) -> Words<'a>
     ensures { told_of result ≡ told_as name.now (rows_of (found_of inner.now)) }
 {
@@ -70,7 +70,7 @@ fn rounds_in<'a>(matches: &ArgMatches<'a>) -> Option<u32>
     matches.get_one::<u32>("rounds")
 }
 
-// Coordinators that are kept running, made anew after as many entries as are named.
+// Coordinators that are kept running, renewed after as many entries as are named.
 fn follows<'a>(matches: &ArgMatches<'a>) -> Words<'a>
     ensures { told_of result ≡ told_with follows (rows_of (found_of matches.now)) }
 {

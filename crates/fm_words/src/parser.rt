@@ -13,7 +13,7 @@ use clap::{Arg, ArgAction, Command, value_parser};
 use fm_lattice::join::OutOfMemory;
 use std::alloc::Global;
 
-/// The program, with its commands in the order of their names, but that `plan` is behind `solve`.
+/// The program, with its commands in the order of their names, except that `plan` is after `solve`.
 pub fn parser<'a>(alloc: Global) -> Result<Command<'a>, OutOfMemory>
     ensures { IfOk result (λ c. app_of c ≡ firmament) }
 {
@@ -62,7 +62,7 @@ fn agree<'a>(alloc: Global) -> Command<'a>
 {
     Command::new(alloc, "agree")
         .about(
-            "Prints `same` where all coordinators know the same, and else `differ A B`: the first listed, and the first that knows something else; then the status is 5",
+            "Prints `same` if all coordinators know the same, else `differ A B`: the first that is listed, and the first that knows something else; then the status is 5",
         )
         .after_help("Example: firmament agree < examples/gossip.json")
 }
@@ -73,7 +73,7 @@ fn fleet<'a>(alloc: Global) -> Result<Command<'a>, OutOfMemory>
 {
     let command = Command::new(alloc, "fleet")
         .about(
-            "Runs the coordinators of a script that only tells, each in threads of its own, and has them tell one another all that they know; prints `calls C K` for each, `audit ok`, `gather L`, and what `agree` would",
+            "Runs the coordinators of a script that only tells, each in threads of its own, and lets them exchange all that they know; prints `calls C K` for each, `audit ok`, `gather L`, and what `agree` would",
         )
         .after_help("Example: firmament fleet --rounds 1 < examples/fleet.json");
     Ok(command.arg(rounds(alloc))?)
@@ -147,7 +147,7 @@ fn unpack<'a>(alloc: Global) -> Command<'a>
 {
     Command::new(alloc, "unpack")
         .about(
-            "Prints the records of a packet, which stands on standard input in hexadecimal digits, a line each",
+            "Prints the records of a packet, a line each; standard input has the packet in hexadecimal digits",
         )
         .after_help("Example: firmament unpack < examples/packet.hex")
 }
@@ -197,12 +197,12 @@ fn rounds<'a>(alloc: Global) -> Arg<'a>
     Arg::new(alloc, "rounds")
         .long("rounds")
         .value_name("N")
-        .help("How many rounds each coordinator runs, from 0 to 1000; none where it is left out")
+        .help("How many rounds each coordinator runs, from 0 to 1000; none if it is left out")
         .action(ArgAction::Set)
         .value_parser(value_parser!(u32).range(0..=MOST_ROUNDS))
 }
 
-// After how many entries coordinators that are kept running are made anew.
+// After how many entries coordinators that are kept running are renewed.
 fn renew_after<'a>(alloc: Global) -> Arg<'a>
     ensures rule { rule_of result ≡ number_rule (codes "renew-after") 1 most_renew_after }
     ensures local { result.global ≡ false }
@@ -211,7 +211,7 @@ fn renew_after<'a>(alloc: Global) -> Arg<'a>
         .long("renew-after")
         .value_name("N")
         .help(
-            "Makes the coordinators anew from what they know once one of them has N entries in its history, 1 to 1000000 [default: 100000]",
+            "Renews all coordinators from what they know once one of them has N entries in its history, 1 to 1000000 [default: 100000]",
         )
         .action(ArgAction::Set)
         .value_parser(value_parser!(u32).range(1..=MOST_RENEW_AFTER))
@@ -226,7 +226,7 @@ fn at<'a>(alloc: Global) -> Arg<'a>
         .long("at")
         .value_name("N")
         .help(
-            "The coordinator that is asked, from 0 to 255; the first of the script where it is left out",
+            "The coordinator that is asked, from 0 to 255; the first of the script if it is left out",
         )
         .action(ArgAction::Set)
         .value_parser(value_parser!(u8))

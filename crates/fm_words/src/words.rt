@@ -16,17 +16,17 @@ use std::alloc::Global;
 /// The most rounds that a fleet may be asked for.
 pub const MOST_ROUNDS: i64 = 1_000;
 
-/// After how many entries of a history coordinators that are kept running are made anew, where no number is told. An
-/// entry takes about a kilobyte, so that a history takes some 100 MB; making them anew copies once what they know.
+/// After how many entries of a history coordinators that are kept running are renewed, if no number is given. An
+/// entry takes about a kilobyte, so that a history takes some 100 MB; renewing them copies what they know once.
 pub const DEFAULT_RENEW_AFTER: u32 = 100_000;
 
-/// The most that may be told: as many entries as a history can have.
+/// The greatest number that may be given: as many entries as a history can have.
 pub const MOST_RENEW_AFTER: i64 = 1_000_000;
 
 /// What the program is asked to do.
 #[derive(Debug, Clone, Copy, PartialEq, Eq, Drop)]
 pub enum Command<'a> {
-    /// Answer the question about a coordinator, the first that the script lists where none is named.
+    /// Answer the question about a coordinator, the first that the script lists if none is named.
     Ask { question: Question, at: Option<u8> },
     /// Say whether all coordinators know the same.
     Agree,
@@ -49,13 +49,13 @@ pub enum Question {
     Winners,
 }
 
-/// What the words come to.
+/// What the words ask for.
 #[derive(Debug, Drop)]
 pub enum Words<'a> {
     Run(Command<'a>),
     /// Run the coordinators of a script of tells in threads, each with so many rounds.
     Fleet { rounds: u32 },
-    /// Keep coordinators running, and make them anew once one of them has so many entries in its history.
+    /// Keep coordinators running, and renew them once one of them has so many entries in its history.
     Follow { renew_after: u32 },
     /// A text that was asked for.
     Help(String),
@@ -65,9 +65,9 @@ pub enum Words<'a> {
     Wrong(String),
 }
 
-/// Reads the words of a command line, the program's own name first. `heard` defines what any words ask for; what the
-/// texts of help and of wrong words say is left open. `OutOfMemory` is the one refusal, and words that ask for the page
-/// of refusals are never refused.
+/// Reads the words of a command line, the program's own name first. `heard` defines what any words ask for; the texts
+/// of help and of wrong words are not defined. `OutOfMemory` is the only refusal, and words that ask for the page of
+/// refusals are never refused.
 pub fn read_words<'a>(alloc: Global, words: &'a [String]) -> Result<Words<'a>, Refusal>
     ensures heard { IfOk result (λ w. told_of w ≡ heard (map string_bytes words.entry.now)) }
     ensures refusals { IsTrue (ask_for_refusals (map string_bytes words.entry.now)) → result ≡ Ok asked.Refusals }
@@ -82,7 +82,7 @@ pub fn read_words<'a>(alloc: Global, words: &'a [String]) -> Result<Words<'a>, R
     }
 }
 
-// What the parser makes of the words, but for the page of refusals, of which it does not know.
+// What the parser makes of the words, except the page of refusals, of which it does not know.
 fn parsed<'a>(alloc: Global, words: &'a [String]) -> Result<Words<'a>, OutOfMemory>
     ensures { let all = map string_bytes words.entry.now in ask_for_refusals all ≡ false → IsHeard all result }
 {

@@ -54,7 +54,7 @@ asked_alike ps sent act.View is spelled = refl
 asked_alike ps sent (act.Commit plan) is spelled = refl
 asked_alike ps sent (act.Take p) is spelled = ap (λ (q : Packet). Some (call.Merge q)) (as_spelled p spelled)
 
--- where there is a call, there is an event
+-- if there is a call, there is an event
 record Comes (o : Option Event) (c : Call) : Type 0 where
   event : Event
   asks : o ≡ Some event

@@ -20,7 +20,7 @@ a_member [] n i d lt h = absurd (omega arith)
 a_member (c ∷ cs) n zero d lt h = inl (eqb-true (number_of c) n h)
 a_member (c ∷ cs) n (suc i) d lt h = inr (a_member cs n i d (omega arith) h)
 
--- no coordinator has the number where none is found
+-- no coordinator has the number if none is found
 pub not_there : {N : Type 0} (cs : List (WithKeeper N)) (n : ℕ) → position (λ d. number_of d == n) cs ≡ None → IsMember n (map number_of cs) → ⊥
 not_there cs n none =
     let far : length cs ≤ position_or_len (λ d. number_of d == n) cs = ltb-false (position_or_len (λ d. number_of d == n) cs) (length cs) (test_failed _ _ _ none) in

@@ -12,7 +12,7 @@ numbers_of : {N : Type 0} (cs : List (WithKeeper N)) → map number_of cs ≡ ma
 numbers_of [] = refl
 numbers_of (c ∷ cs) = ap (λ ns. c.state.number ∷ ns) (numbers_of cs)
 
--- where nothing has happened
+-- if nothing has happened
 pub reached_at_first : {N : Type 0} (cs : List (WithKeeper N)) (k : Kept) → AreDistinct (map number_of cs) → WorldStandsFor k (opening_world (map opening_of cs)) → IsReached k
 reached_at_first cs k distinct stands =
     record {

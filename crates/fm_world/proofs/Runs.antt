@@ -69,7 +69,7 @@ module _ (k : Kept) (w : WorldOfSets) (h : WorldStandsFor k w) where
         subst (λ (o : Option Replica). IsDumpOf o old new) (sym q.at)
         (subst (λ table. Appends old new (dump_text (net_of table))) q.stands.knowledge sent)
 
--- what is said of an option, where it is none and where it is there
+-- what is said of an option, if it is none and if it is there
 pub at_none : {T : Type 0} (P : Type 0) (Q : T → Type 0) (o : Option T) → o ≡ None → P → MatchOption o P Q
 at_none P Q None e p = p
 at_none P Q (Some s) e p = absurd (let no : ⊥ = cc in no)

@@ -30,7 +30,7 @@ unused s is none = subst (λ es. StandsFor s (replay (opening s.number s.limit) 
 abbrev kept : {N : Type 0} → List (WithKeeper N) → List Packet → Kept
 kept cs ps = record { coordinators = map state_of cs; packets = ps }
 
--- where no coordinator has the number
+-- if no coordinator has the number
 pub nobody : {N : Type 0} (cs : List (WithKeeper N)) (ps : List Packet) (step : Step) → None ≡ position (λ c. number_of c == step.at) cs → (k : Kept) → kept cs ps ≡ k → (w : WorldOfSets) → WorldStandsFor k w → NoCoordinator ≡ refusal_of w step
 nobody cs ps step none k whole w h =
     let stands : WorldStandsFor (kept cs ps) w = subst (λ (l : Kept). WorldStandsFor l w) (sym whole) h in

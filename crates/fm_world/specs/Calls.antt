@@ -1,4 +1,4 @@
--- Which calls acts come to.
+-- The calls of acts.
 use Rattle.std.specs.Prelude.{◌≡◌, ◌<◌, ℕ, List, Option, Some, None, option_map, slice_get}
 use Rattle.fm_records.specs.declared.refusal.Refusal.{Refusal}
 use Rattle.fm_records.specs.declared.refusal.Refusal.TheVariants.{NoPacket}
@@ -31,7 +31,7 @@ abbrev pub HasRoomFor : Call → ℕ → ℕ → Type 0
 HasRoomFor (call.Cut range) len capacity = len < capacity
 HasRoomFor _ len capacity = Unit {0}
 
--- a packet that another world cut is what the operations that it spells out come to
+-- a packet that another world cut is the table of the operations that it is written out as
 abbrev pub IsSpelled : Act → Type 0
 IsSpelled (act.Take packet) = know (ops packet.value) ≡ packet.value
 IsSpelled _ = Unit {0}

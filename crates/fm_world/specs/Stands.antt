@@ -1,4 +1,4 @@
--- What a world of coordinators keeps, and for which world of sets it stands.
+-- The state of a world of coordinators, and for which world of sets it stands.
 use Rattle.std.specs.Prelude.{◌≡◌, ◌==◌, ℕ, cond, List, [], ◌∷◌, ◌++◌, length, Option, Some, None, map}
 use Rattle.fm_delta.specs.declared.packet.Packet.{Packet}
 use Rattle.fm_net.specs.Network.{net_of}
@@ -27,7 +27,7 @@ number_of c = c.state.number
 abbrev pub opening_of : {N : Type 0} → WithKeeper N → ℕ × ℕ
 opening_of c = (c.state.number, c.state.limit)
 
--- nothing happened to the coordinators
+-- the coordinators are unused: nothing happened to them
 abbrev pub AreUnused : {N : Type 0} → List (WithKeeper N) → Type 0
 AreUnused [] = Unit {0}
 AreUnused (c ∷ cs) = (c.state.history ≡ []) × AreUnused cs
@@ -39,12 +39,12 @@ AllStand (s ∷ ss) (r ∷ rs) = StandsFor s r × AllStand ss rs
 AllStand [] (r ∷ rs) = ⊥
 AllStand (s ∷ ss) [] = ⊥
 
--- the coordinators stand for the replicas, and the packets are those of the world with what their sets come to
+-- the coordinators stand for the replicas, and the packets are those of the world, with the tables of their sets
 pub record WorldStandsFor (k : Kept) (w : WorldOfSets) : Type 0 where
   pub coordinators : AllStand k.coordinators w.replicas
   pub packets : k.packets ≡ map seen w.packets
 
--- accepted steps lead here, from coordinators of distinct numbers to which nothing had happened
+-- accepted steps lead here, from unused coordinators of distinct numbers
 pub record IsReached (k : Kept) : Type 0 where
   -- the numbers of the coordinators, and how many entries their histories may have
   pub openings : List (ℕ × ℕ)

@@ -20,7 +20,7 @@ pub record WorldOfSets : Type 0 where
   pub replicas : List Replica
   pub packets : List Sent
 
--- a world to which nothing happened, of replicas with these numbers and limits
+-- a world of unused replicas with these numbers and limits
 abbrev pub opening_world : List (ℕ × ℕ) → WorldOfSets
 opening_world cs = record { replicas = map (λ c. opening c.0 c.1) cs; packets = [] }
 
@@ -34,11 +34,11 @@ abbrev pub changed_at : ℕ → (Replica → Replica) → List Replica → List 
 changed_at n change [] = []
 changed_at n change (r ∷ rs) = cond (r.number == n) (change r ∷ rs) (r ∷ changed_at n change rs)
 
--- a packet that another world cut, as the operations that its value spells out
+-- a packet that another world cut, as the operations that its value is written out as
 abbrev pub spelled_out : Packet → Sent
 spelled_out p = record { sender = p.sender; number = p.number; set = ops p.value }
 
--- the event that an act comes to: a delivery is the merge of the packet that was cut as the i-th, counted from 0
+-- the event of an act: a delivery is the merge of the packet with number i, counted from 0 in the order of cuts
 abbrev pub event_asked : List Sent → Act → Option Event
 event_asked sent (act.Tell op) = Some (event.Tell op)
 event_asked sent (act.Cut range) = Some (event.Cut range)
@@ -68,11 +68,11 @@ abbrev pub cause_at : Option Replica → Option Event → Option Refusal
 cause_at None event = Some NoCoordinator
 cause_at (Some r) event = cause_here r event
 
--- the cause for which a step is refused, where it is not for want of memory
+-- the cause for which a step is refused, unless memory ran out
 abbrev pub cause_of : WorldOfSets → Step → Option Refusal
 cause_of w s = cause_at (with_number w.replicas s.at) (event_asked w.packets s.act)
 
--- the refusal of a step that is refused: its cause, and want of memory where it has none
+-- the refusal of a step that is refused: its cause, and out of memory if it has none
 abbrev pub refusal_of : WorldOfSets → Step → Refusal
 refusal_of w s = or_else OutOfMemory (cause_of w s)
 

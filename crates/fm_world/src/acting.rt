@@ -47,8 +47,8 @@ pub(crate) fn act_at<N: NetKeeper>(
     }
 }
 
-// The call that the act comes to: a delivery looks its packet up. For a cut there is room for one more packet then.
-// NoPacket, or as the coordinator would refuse the call; then the packets are as they were.
+// The call of the act: a delivery looks its packet up. For a cut there is room for one more packet then.
+// NoPacket, or as the coordinator would refuse the call; then the packets are unchanged.
 fn call_for<N: NetKeeper>(
     coordinator: &Coordinator<N>,
     packets: &mut Vec<Shared<Packet>>,
@@ -90,7 +90,7 @@ fn call_for<N: NetKeeper>(
     }
 }
 
-// The merge of the packet, whose records are shared where they were.
+// The merge of the packet, whose records are shared if they were.
 fn merge_of<N: NetKeeper>(coordinator: &Coordinator<N>, packet: &Packet) -> Result<Call, Refusal>
     ensures ok { IfOk result (λ call. call ≡ Call.Merge packet.now) }
     ensures err { IfErr result (λ refusal. refusal ≡ refusal_for (bounds coordinator.now.state) (Call.Merge packet.now)) }

@@ -1,4 +1,4 @@
-//! Many coordinators as steps.
+//! Several coordinators, run in steps, and the main theorem about them.
 #![tactic(auto)]
 
 mod acting;

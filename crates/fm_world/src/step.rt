@@ -11,15 +11,15 @@ use fm_round::parts::Plan;
 pub enum Act {
     /// Take the operation in.
     Tell(Op),
-    /// Cut a packet of what the range comes to.
+    /// Cut a packet of the range.
     Cut(Range),
-    /// Take in the packet that was cut as the one with the number, counted from 0 over all coordinators.
+    /// Merge the packet with the number, counted from 0 in the order of cuts over all coordinators.
     Deliver(usize),
-    /// Let the deltas below the number go.
+    /// Drop the deltas below the number.
     Trim(u64),
     /// Show what is known.
     View,
-    /// Admit the plan, and take in what it comes to.
+    /// Admit the plan, and merge what is admitted.
     Commit(Plan),
     /// Merge the packet, which another world cut.
     Take(Packet),

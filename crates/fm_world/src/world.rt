@@ -27,8 +27,8 @@ use fm_records::ids::CoordId;
 use fm_records::refusal::Refusal;
 use std::marker::Model;
 
-/// Coordinators, and every packet that they cut. Contracts see what the coordinators keep, without their networks. Each world
-/// was reached by accepted steps.
+/// Coordinators, and every packet that they cut. Contracts see what the coordinators keep, without their networks. Each
+/// world was reached by accepted steps.
 #[derive(Drop)]
 pub struct World<N: NetKeeper> {
     coordinators: Vec<Coordinator<N>>,
@@ -47,8 +47,8 @@ impl<N: NetKeeper> Model for World<N> {
 }
 
 impl<N: NetKeeper> World<N> {
-    /// The coordinators with no packets. The caller owes that no two of them have one number, and that nothing happened to
-    /// them. It takes no memory.
+    /// The coordinators with no packets. The caller must ensure that no two of them have one number, and that nothing
+    /// happened to them. It allocates nothing.
     pub fn new(coordinators: Vec<Coordinator<N>>) -> World<N>
         requires distinct { AreDistinct (map number_of coordinators.items) }
         requires unused { AreUnused coordinators.items }
@@ -63,9 +63,10 @@ impl<N: NetKeeper> World<N> {
         }
     }
 
-    /// What holds of every world: accepted steps led to it from coordinators to which nothing had happened. For whatever world
-    /// of sets the coordinators stand, as for the one to which those steps lead, each knows what it took in, and those that took
-    /// in the same operations, in whatever order, as often and by whatever packets, agree.
+    /// What holds of every world: accepted steps led to it from unused coordinators. For each world of sets for which
+    /// the coordinators stand, such as the one to which those steps lead, each coordinator has the knowledge of the
+    /// operations that it received, and those that received the same operations agree, in whatever order, number of
+    /// times and packets these arrived.
     pub fn known(&self)
         ensures reached { IsReached self.now }
         ensures each_knows { (w : WorldOfSets) → WorldStandsFor self.now w → EachKnows self.now w }
@@ -91,7 +92,7 @@ impl<N: NetKeeper> World<N> {
         }
     }
 
-    /// The coordinators, as they were handed in.
+    /// The coordinators, as they were passed.
     pub fn coordinators(&self) -> &[Coordinator<N>]
         ensures { map state_of result.now ≡ self.now.coordinators }
     {
@@ -105,7 +106,7 @@ impl<N: NetKeeper> World<N> {
         self.packets.len()
     }
 
-    /// The packet that was cut as the one with the number, counted from 0 over all coordinators, if there is one.
+    /// The packet with the number, counted from 0 in the order of cuts over all coordinators, if there is one.
     pub fn packet(&self, number: usize) -> Option<&Packet>
         ensures { option_map (λ packet. packet.now) result ≡ slice_get self.now.packets number }
     {
@@ -115,9 +116,9 @@ impl<N: NetKeeper> World<N> {
         }
     }
 
-    /// Takes a step, and answers the view of a View.
-    /// NoCoordinator, NoPacket, then as the coordinator's call: BadOp, BadInterval, Trimmed, HistoryFull, OutOfMemory.
-    /// After a refusal nothing has changed, but for a network that is fresh or stale.
+    /// Takes a step, and returns the view if it is a View. Refused with NoCoordinator, NoPacket, then as the
+    /// coordinator's call: BadOp, BadInterval, Trimmed, HistoryFull, OutOfMemory. Then nothing has changed, except
+    /// possibly whether a network is fresh.
     pub fn step(&mut self, step: &Step) -> Result<Option<View>, Refusal>
         ensures stands { (w : WorldOfSets) → WorldStandsFor self.old w → OnOk result (WorldStandsFor self.new (step_of w step.now)) }
         ensures accepted { (w : WorldOfSets) → WorldStandsFor self.old w → OnOk result (cause_of w step.now ≡ None) }
@@ -136,9 +137,8 @@ impl<N: NetKeeper> World<N> {
         }
     }
 
-    /// What the coordinator with this number knows, as a View shows it, but with no network: a stale one stays stale. The history
-    /// has the same entry.
-    /// NoCoordinator, HistoryFull, OutOfMemory. After a refusal nothing has changed.
+    /// What the coordinator with this number knows, as a View shows it, but with no network: a stale one stays stale.
+    /// The history has the same entry. NoCoordinator, HistoryFull, OutOfMemory. After a refusal nothing has changed.
     pub fn see(&mut self, at: u8, by: u32) -> Result<Sight, Refusal>
         ensures stands { (w : WorldOfSets) → WorldStandsFor self.old w
             → OnOk result (WorldStandsFor self.new (step_of w (record { at = at; by = by; act = act.View }))) }
@@ -156,9 +156,9 @@ impl<N: NetKeeper> World<N> {
         }
     }
 
-    /// Merges a packet that another world cut, or another process. For whatever operations the packet may stand, the coordinators
-    /// then stand for the world in which these were merged: all that its sender took in, if the packet came from a cut of that.
-    /// NoCoordinator, HistoryFull, OutOfMemory. After a refusal nothing has changed, but for a network that is fresh or stale.
+    /// Merges a packet of another world or process. Whatever operations the packet stands for, the coordinators then
+    /// stand for the world in which these were merged: for example all that its sender had received. NoCoordinator,
+    /// HistoryFull, OutOfMemory. Then nothing has changed, except possibly whether a network is fresh.
     pub fn take(&mut self, at: u8, by: u32, mut packet: Packet) -> Result<(), Refusal>
         ensures stands { (w : WorldOfSets) (sent : Sent) → WorldStandsFor self.old w → packet ≡ seen sent
             → OnOk result (WorldStandsFor self.new (taken_in w at by sent)) }
@@ -182,9 +182,9 @@ impl<N: NetKeeper> World<N> {
         }
     }
 
-    /// Takes the steps in order, up to the first that is refused: it answers that one's place, counted from 0, and why. Those
-    /// before it stand. Two coordinators that took in the same operations, in whatever order, as often and by whatever
-    /// packets, then know the same, name the same winners, and have one network.
+    /// Takes the steps in order, until the first that is refused: then it returns the place of that step, counted
+    /// from 0, and why. The steps before it are done. Two coordinators that received the same operations, in whatever
+    /// order, number of times and packets, then have equal knowledge, name the same winners, and have one network.
     pub fn run(&mut self, steps: &[Step]) -> Result<(), RunStop>
         ensures stands { (w : WorldOfSets) → WorldStandsFor self.old w → WorldStandsFor self.new (run_of w (taken_by result steps.now)) }
         ensures accepted { (w : WorldOfSets) → WorldStandsFor self.old w → AreAccepted w (taken_by result steps.now) }
@@ -200,9 +200,9 @@ impl<N: NetKeeper> World<N> {
         Ok(())
     }
 
-    /// Writes the text of the coordinator's network: it is the network of the operations that it took in. What is known, kept
-    /// and listed stays as it is, also where it is refused: then a prefix was written.
-    /// NoCoordinator, before anything is written; WriteFault, OutOfMemory.
+    /// Writes the text of the coordinator's network: the network of the operations that it received. The world is
+    /// unchanged, also if the dump is refused: then a prefix was written. NoCoordinator, before anything is written;
+    /// WriteFault, OutOfMemory.
     pub fn dump<W: Out>(&mut self, number: CoordId, out: &mut W) -> Result<(), Refusal>
         ensures ok { (w : WorldOfSets) → WorldStandsFor self.old w → OnOk result (IsDumpOf (with_number w.replicas number) (W.written out.old) (W.written out.new)) }
         ensures ok_fails_not { OnOk result (W.has_failed out.new ≡ W.has_failed out.old) }
@@ -217,7 +217,7 @@ impl<N: NetKeeper> World<N> {
     }
 }
 
-// Coordinators to which nothing happened stand for replicas to which nothing happened.
+// Unused coordinators stand for unused replicas.
 fn see_unused<N: NetKeeper>(coordinators: &[Coordinator<N>])
     requires { AreUnused coordinators.now }
     ensures { AllStand (map state_of coordinators.now) (opening_world (map opening_of coordinators.now)).replicas }

@@ -1,4 +1,4 @@
-//! The laws of equality of plain values: `==` holds exactly where the values are the same.
+//! The laws of equality of plain values: `==` holds exactly if the values are the same.
 
 ghost use Rattle.std.specs.Prelude.{◌≡◌, ◌↔◌, IsTrue};
 

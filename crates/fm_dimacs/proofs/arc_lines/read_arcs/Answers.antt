@@ -1,4 +1,4 @@
--- Each arc leads on from those before it; where none comes next, the line is broken.
+-- Each arc leads on from those before it; if none comes next, the line is broken.
 use Rattle.std.proofs.Common.{◌≡◌, ◌+◌, ◌++◌, ◌∷◌, [], refl, sym, ap, ◌∙◌, subst, arith}
 use Rattle.fm_net.specs.Walks.{arc_entry}
 use Rattle.fm_dimacs.specs.Scan.{IsAfter}

@@ -1,4 +1,4 @@
--- The nodes so far stand behind those that stood before.
+-- The nodes so far stand after those that stood before.
 use Rattle.std.proofs.Common.{◌≡◌, ◌++◌, take}
 use Rattle.fm_dimacs.proofs.read.put_nodes.Given as goal
 

@@ -1,4 +1,4 @@
--- The problem line, the demand and the supplies, and the arcs lead on from one another.
+-- The problem line, the demand and the supplies, and the arcs lead on from each other.
 use Rattle.std.proofs.Common.{◌≡◌, ◌+◌, [], length, refl, sym, ap, subst, arith}
 use Rattle.fm_dimacs.specs.Lines.{Comments, Body, Leads, unit_lines}
 use Rattle.fm_dimacs.proofs.Lasting.{leads_on}

@@ -1,4 +1,4 @@
--- A supply leads on from those before it, and is broken where it does not stand.
+-- A supply leads on from those before it, and is broken if it is not the next one.
 use Rattle.std.proofs.Common.{◌≡◌, ◌+◌, ◌++◌, [], drop, refl, sym, ap, subst, ◌∙◌, arith}
 use Rattle.fm_dimacs.specs.Text.{supply_line}
 use Rattle.fm_dimacs.specs.Lines.{Body, Leads, IsFault, with_line, supplies_from}

@@ -1,4 +1,4 @@
--- The number so far is that of the digits before a byte that is none; it is too great where it does not fit.
+-- The number so far is that of the digits before a byte that is none; it is too great if it does not fit.
 use Rattle.std.proofs.Common.{◌≡◌, ◌+◌, ◌-◌, ◌*◌, ◌^◌, ◌<◌, ◌≤◌, false, true, Some, sym, ap, ◌∙◌, length, get_or, drop, arith}
 use Rattle.std.specs.Char.{is_ascii_digit}
 use Rattle.fm_dimacs.specs.Scan.{digits_from, fitting}

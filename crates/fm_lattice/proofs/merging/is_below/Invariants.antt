@@ -3,7 +3,7 @@ use Rattle.fm_lattice.specs.Maps.{IsRising, map_join}
 use Rattle.fm_lattice.specs.Blocks.{pairs_of}
 use Rattle.fm_lattice.proofs.merging.is_below.Given as goal
 
--- the rest of the left is below the rest of the right just where the left is below the right
+-- the rest of the left is below the rest of the right exactly if the left is below the right
 abbrev pub invariant-both : goal.invariant-both
 invariant-both g l = record {
   right_rises : IsRising g.K.Ord.cmp l.rights;

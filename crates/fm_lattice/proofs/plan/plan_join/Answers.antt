@@ -42,8 +42,8 @@ returns-then-is_empty-clause-outcome g c =
     let joined = joined_to_none g.K.Ord.cmp g.met.K.Ord.total g.met.K.Chain.same g.V.Join.join g.V.Join.is_value g.met.V.Join.laws there c.requires.there.map in
     IfOk-weaker c.plan_copy.result (λ plan. (plan.aside ≡ true) × (pairs_of plan.whole.items ≡ there)) (λ plan. outcome g.K.Ord.cmp here plan.aside plan.whole.items plan.changes.items ≡ map_join g.K.Ord.cmp g.V.Join.join here there)
     (λ plan made.
-        ap (λ b. cond b (pairs_of plan.whole.items) (map_join g.K.Ord.cmp replaced here (map (λ c. c.0) plan.changes.items))) made.0
-        ∙ made.1 ∙ joined ∙ ap (λ es. map_join g.K.Ord.cmp g.V.Join.join es there) (sym none))
+    ap (λ b. cond b (pairs_of plan.whole.items) (map_join g.K.Ord.cmp replaced here (map (λ c. c.0) plan.changes.items))) made.0
+    ∙ made.1 ∙ joined ∙ ap (λ es. map_join g.K.Ord.cmp g.V.Join.join es there) (sym none))
     c.plan_copy.ensures.pairs
 
 pub returns-then-is_below-clause-outcome : goal.returns-then-is_below-clause-outcome

@@ -1,4 +1,4 @@
--- All are within their capacities where those still to come are.
+-- All are within their capacities if those still to come are.
 use Rattle.std.proofs.Common.{◌↔◌, drop}
 use Rattle.fm_cycles.specs.Units.{AreWithin}
 use Rattle.fm_numbered.proofs.feasible.are_within.Given as goal

@@ -1,0 +1,201 @@
+//! Rounds of drawn clusters: what is planned costs what a least flow does.
+
+use crate::cluster::{Cluster, Sizes};
+use crate::corners::Corners;
+use crate::draw::Draw;
+use crate::solving::{anew, network_of};
+use fm_know::knowledge::Knowledge;
+use fm_lattice::join::OutOfMemory;
+use fm_planner::planned::{Planned, Source, plan_for};
+use fm_records::ids::{MachineId, TaskId};
+use fm_records::prefer::Prefer;
+use fm_records::refusal::Refusal;
+use fm_round::parts::Plan;
+use fm_tally::sorted::Sorted;
+use fm_tally::tally::{LiveTask, Tally};
+use std::alloc::Global;
+
+const CLUSTERS: u32 = 500;
+
+const ROUNDS: u32 = 3;
+
+// More waiting tasks than are planned from a tally.
+const CROWD: u32 = 5000;
+
+// What rounds came to: how many there were, how many plans were made from the network, and how many cost more or less than a least
+// flow.
+#[derive(Clone, Copy, Drop)]
+struct Counts {
+    rounds: u32,
+    from_network: u32,
+    wrong: u32,
+}
+
+// What a task costs that is placed on the machine.
+fn placed(
+    known: &Knowledge,
+    tally: &Tally,
+    task: TaskId,
+    live: LiveTask,
+    machine: MachineId,
+) -> u128 {
+    let Some(open) = tally.machines.get(&machine) else {
+        return u128::MAX;
+    };
+    let credit = match known.live_spec(task) {
+        Some(spec) => spec.prefer.credit(machine).unwrap_or(0),
+        None => 0,
+    };
+    let asked = u128::from(live.request).saturating_add(open.load);
+    asked.saturating_sub(u128::from(credit))
+}
+
+// Where the plan places tasks.
+fn places_of(alloc: Global, plan: &Plan) -> Result<Sorted<TaskId, MachineId>, OutOfMemory> {
+    let mut places = Sorted::new(alloc);
+    for place in plan.places.as_slice() {
+        places.put(place.task, place.machine)?;
+    }
+    Ok(places)
+}
+
+// Which tasks the plan preempts.
+fn stopped_by(alloc: Global, plan: &Plan) -> Result<Sorted<TaskId, ()>, OutOfMemory> {
+    let mut stopped = Sorted::new(alloc);
+    for preempt in plan.preempts.as_slice() {
+        stopped.put(preempt.task, ())?;
+    }
+    Ok(stopped)
+}
+
+// What the flow of the plan costs: each task that waits or is preempted costs its price, each that is placed what its place does.
+fn cost_of(
+    alloc: Global,
+    known: &Knowledge,
+    tally: &Tally,
+    plan: &Plan,
+) -> Result<u128, OutOfMemory> {
+    let places = places_of(alloc, plan)?;
+    let stopped = stopped_by(alloc, plan)?;
+    let mut cost = 0u128;
+    for (task, live) in tally.tasks.pairs() {
+        let price = u128::from(live.price);
+        let own = match (live.holder, places.get(task)) {
+            (None, Some(machine)) => placed(known, tally, *task, *live, machine),
+            (None, None) => price,
+            (Some(_), _) if stopped.get(task).is_some() => price,
+            (Some(_), _) => 0,
+        };
+        cost = cost.saturating_add(own);
+    }
+    Ok(cost)
+}
+
+// What a least flow of the network of what is known costs.
+fn least(alloc: Global, known: &Knowledge) -> Result<u128, Refusal> {
+    let network = network_of(alloc, known)?;
+    let (_, cost) = anew(alloc, &network)?;
+    Ok(cost)
+}
+
+// The plan of what is known, and whether it costs what a least flow does.
+fn planned(alloc: Global, known: &Knowledge) -> Result<(Planned, bool), Refusal> {
+    let tally = Tally::of(alloc, known)?;
+    let planned = plan_for(alloc, &tally, known)?;
+    let cost = cost_of(alloc, known, &tally, &planned.plan)?;
+    let is_least = cost == least(alloc, known)?;
+    Ok((planned, is_least))
+}
+
+impl Counts {
+    fn none() -> Counts {
+        Counts {
+            rounds: 0,
+            from_network: 0,
+            wrong: 0,
+        }
+    }
+
+    fn count(&mut self, source: Source, is_least: bool) {
+        self.rounds = self.rounds.saturating_add(1);
+        let is_network = source == Source::Network;
+        self.from_network = self.from_network.saturating_add(u32::from(is_network));
+        self.wrong = self.wrong.saturating_add(u32::from(!is_least));
+    }
+}
+
+// Rounds of the cluster of a seed, with changes in between.
+fn round_cluster(
+    alloc: Global,
+    seed: u32,
+    is_preferring: bool,
+    counts: &mut Counts,
+) -> Result<(), Refusal> {
+    let mut draw = Draw::new(u64::from(seed));
+    let mut corners = Corners::new(alloc, &mut draw, is_preferring)?;
+    for _ in 0..ROUNDS {
+        let (planned, is_least) = planned(alloc, &corners.cluster.known)?;
+        counts.count(planned.source, is_least);
+        corners.commit(&planned.plan)?;
+        corners.change(&mut draw)?;
+    }
+    Ok(())
+}
+
+// The same of many clusters.
+fn counted(alloc: Global, is_preferring: bool) -> Result<Counts, Refusal> {
+    let mut counts = Counts::none();
+    for seed in 0..CLUSTERS {
+        round_cluster(alloc, seed, is_preferring, &mut counts)?;
+    }
+    Ok(counts)
+}
+
+// Two machines, and a crowd of tasks that wait for them.
+fn crowded(alloc: Global) -> Result<Cluster, Refusal> {
+    let sizes = Sizes {
+        jobs: 1,
+        machines: 2,
+        tasks: 0,
+        requests: 1,
+        wait: 100,
+        preferring: 0,
+    };
+    let mut cluster = Cluster::empty(alloc, sizes);
+    cluster.tell_job(0, 100, 200)?;
+    cluster.tell_machine(0, true, 10, 1000)?;
+    cluster.tell_machine(1, true, 10, 1000)?;
+    for _ in 0..CROWD {
+        cluster.tell_task(0, 1, Prefer::default())?;
+    }
+    Ok(cluster)
+}
+
+// What the round of a crowd comes to.
+fn crowd(alloc: Global) -> Result<Counts, Refusal> {
+    let cluster = crowded(alloc)?;
+    let mut counts = Counts::none();
+    let (planned, is_least) = planned(alloc, &cluster.known)?;
+    counts.count(planned.source, is_least);
+    Ok(counts)
+}
+
+fn say(rt: &HostRuntime, kind: &str, counts: Counts) -> Result<(), anyhow::Error> {
+    let Counts {
+        rounds,
+        from_network,
+        wrong,
+    } = counts;
+    println!(rt;
+        "{rounds} rounds {kind}: {wrong} cost more or less than a least flow, {from_network} planned from the network"
+    )?;
+    Ok(())
+}
+
+/// How many rounds there were, and what is wrong with them.
+pub(crate) fn print(rt: &HostRuntime, alloc: Global) -> Result<(), anyhow::Error> {
+    say(rt, "without preferences", counted(alloc, false)?)?;
+    say(rt, "with preferences", counted(alloc, true)?)?;
+    say(rt, "of a crowd", crowd(alloc)?)?;
+    Ok(())
+}
