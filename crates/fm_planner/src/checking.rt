@@ -21,8 +21,8 @@ use std::collections::BTreeMap;
 // Loads and rises beyond this are not planned from a tally.
 const MOST: u64 = 1 << 40;
 
-/// Whether the claim holds by these counts of its moves. O(n log n) in tasks, machines and offers, and a comparison with each offer for
-/// each machine that some offer with room by bandwidth alone is beyond.
+/// Whether the claim holds by these counts of its moves. O(n log n) in tasks, machines and offers. A machine is compared with each
+/// offer only if one that its bandwidth has room for is beyond its price.
 pub(crate) fn passes(
     alloc: Global,
     knowledge: &Knowledge,

@@ -1,5 +1,5 @@
-//! The cheapest slots to which requests lead by themselves: of machines with free slots by load, and of the others by the price of the
-//! next slot.
+//! The cheapest slots to which requests lead by themselves: of machines with free slots by load, and of the others by the price of
+//! the next slot.
 
 use crate::board::{Board, FAR, NONE};
 use crate::tree::LEAST;
@@ -28,8 +28,8 @@ pub(crate) struct Sought {
 }
 
 impl Board {
-    /// The cheapest slot to which one more task of the request can go by itself, and what it costs. Prices rise while tasks are placed,
-    /// so what was found stays the cheapest as long as its price stays, unless a machine got room again.
+    /// The cheapest slot to which one more task of the request can go by itself, and what it costs. Prices rise while tasks are
+    /// placed. So what was found stays the cheapest as long as its price stays, unless a machine got room again.
     pub(crate) fn exit(&mut self, request: usize) -> Result<Exit, OutOfMemory> {
         let Some(sought) = self.sought.get(request).copied() else {
             return Ok(NO_EXIT);

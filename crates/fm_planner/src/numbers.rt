@@ -4,8 +4,8 @@ use fm_lattice::join::OutOfMemory;
 use fm_records::ids::MachineId;
 use std::alloc::Global;
 
-/// Machines by id, each with a number. The ids between the least and the greatest are cut into as many ranges of one width as there are
-/// machines.
+/// Machines by id, each with a number. The ids between the least and the greatest are cut into as many ranges of one width as there
+/// are machines.
 #[derive(Drop)]
 pub(crate) struct Numbers {
     pairs: Vec<(MachineId, usize)>,

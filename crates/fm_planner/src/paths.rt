@@ -1,6 +1,6 @@
-//! The cheapest path of a task to a slot: over its request or straight to a machine, and from a full machine on to another one, for a
-//! task that makes room there. Any other machine is found by a query, so only requests, full machines with tasks that were placed
-//! there, and tasks with wishes are walked over.
+//! The cheapest path of a task to a slot: over its request or straight to a machine, and from a full machine on to another one, for
+//! a task that makes room there. Any other machine is found by a query. So only requests, full machines with tasks that were
+//! placed there, and tasks with wishes are walked over.
 
 use crate::bits::{set_bit, width_of};
 use crate::board::{Board, FAR, NONE};
@@ -19,9 +19,9 @@ enum End {
     Leave,
 }
 
-/// A node that a path leads over, by number.
+// A node that a path leads over, by number.
 #[derive(Clone, Copy, Drop)]
-pub(crate) enum Stop {
+enum Stop {
     Request(usize),
     Place(usize),
     Wisher(usize),
@@ -60,7 +60,7 @@ pub(crate) struct Paths {
     // The requests with tasks on full machines that are yet to be reached.
     rest: Vec<usize>,
     source: usize,
-    // The cheapest path so far: what it costs, its last node, and how it ends.
+    /// What the cheapest path so far costs. Beside it, its last node, and how it ends.
     pub(crate) cost: i64,
     last: usize,
     end: End,
@@ -183,8 +183,8 @@ impl Paths {
         }
     }
 
-    /// Searches for the cheapest path from a node; one that costs no more than the bound is the cheapest. Answers whether the search came
-    /// to its end.
+    /// Searches for the cheapest path from a node. One that costs no more than the bound is the cheapest. Answers whether the search
+    /// came to its end.
     pub(crate) fn search(
         &mut self,
         board: &mut Board,
@@ -253,8 +253,8 @@ impl Paths {
         self.go_to_wishers(waiting, request, request, None, cost)
     }
 
-    // Goes on over full machines with room for the request, if all costs nothing: to requests with tasks on one that no request before
-    // had room on.
+    // Goes on over full machines with room for the request, if all costs nothing: to requests with tasks on one that no request
+    // before had room on.
     fn go_to_requests(
         &mut self,
         board: &Board,

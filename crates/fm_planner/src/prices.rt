@@ -7,6 +7,9 @@ use fm_records::ids::MachineId;
 use fm_tally::sorted::Sorted;
 use std::alloc::Global;
 
+// How often prices are lowered at most: after that, the check refuses them.
+const MOST_TURNS: usize = 256;
+
 /// What one more task costs at each machine and at each request, and, for a task with wishes that was placed, elsewhere.
 #[derive(Drop)]
 pub(crate) struct Prices {
@@ -32,8 +35,7 @@ fn at(numbers: &[i64], at: usize) -> i64 {
 }
 
 impl Prices {
-    /// The prices of what was placed. O(n), and a walk over requests, full machines and tasks with wishes for each machine on the longest
-    /// of the cheapest paths.
+    /// The prices of what was placed. O(n), and some walks over requests, full machines and tasks with wishes: at most 256.
     pub(crate) fn of(
         alloc: Global,
         board: &mut Board,
@@ -64,12 +66,7 @@ impl Prices {
 
     // Lowers prices, as long as a task that goes elsewhere makes room for less.
     fn fall(&mut self, board: &Board, waiting: &Waiting) {
-        let turns = board
-            .requests
-            .len()
-            .saturating_add(waiting.wishers.len())
-            .saturating_add(8);
-        for _ in 0..turns {
+        for _ in 0..MOST_TURNS {
             let by_wishers = self.fall_by_wishers(waiting);
             let by_room = self.fall_by_room(board);
             let by_streams = self.fall_by_streams(board);

@@ -20,7 +20,7 @@ use std::alloc::Global;
 const MOST_PAIRS: usize = 1 << 26;
 
 /// A claim of a plan of the tally. None if the searches take too many steps, or for too many requests and machines.
-/// O(n log n) in the tasks and machines, and, for each task that no free slot is left for, a search over requests and full machines.
+/// O(n log n) in the tasks and machines. For each task that no free slot is left for, a search over requests and full machines.
 pub(crate) fn search(
     alloc: Global,
     knowledge: &Knowledge,

@@ -22,8 +22,8 @@ pub(crate) enum Spot {
     Straight(usize),
 }
 
-/// A task with wishes: what it costs to let it wait, less its request, and where it was placed. Those at one request or machine are in
-/// one list.
+/// A task with wishes: what it costs to let it wait, less its request, and where it was placed. Those at one request or machine are
+/// in one list.
 #[derive(Clone, Copy, Drop)]
 pub(crate) struct Wisher {
     pub(crate) task: TaskId,
