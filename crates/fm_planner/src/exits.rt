@@ -27,6 +27,13 @@ pub(crate) struct Sought {
     pub(crate) exit: Exit,
 }
 
+/// Nothing yet.
+pub(crate) const NOT_SOUGHT: Sought = Sought {
+    from: 0,
+    is_known: false,
+    exit: NO_EXIT,
+};
+
 impl Board {
     /// The cheapest slot to which one more task of the request can go by itself, and what it costs. Prices rise while tasks are
     /// placed. So what was found stays the cheapest as long as its price stays, unless a machine got room again.

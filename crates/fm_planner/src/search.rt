@@ -6,7 +6,6 @@ use crate::claim::Claim;
 use crate::exits::Exit;
 use crate::paths::Paths;
 use crate::prices::Prices;
-use crate::setup::requests_of;
 use crate::waiting::{Spot, Waiting};
 use fm_know::knowledge::Knowledge;
 use fm_lattice::join::OutOfMemory;
@@ -16,9 +15,6 @@ use fm_tally::tally::Tally;
 use fm_ways::way::Way;
 use std::alloc::Global;
 
-// For more pairs of a request and a machine, a network is built.
-const MOST_PAIRS: usize = 1 << 26;
-
 /// A claim of a plan of the tally. None if the searches take too many steps, or for too many requests and machines.
 /// O(n log n) in the tasks and machines. For each task that no free slot is left for, a search over requests and full machines.
 pub(crate) fn search(
@@ -26,11 +22,9 @@ pub(crate) fn search(
     knowledge: &Knowledge,
     tally: &Tally,
 ) -> Result<Option<Claim>, OutOfMemory> {
-    let requests = requests_of(alloc, tally)?;
-    if requests.len().saturating_mul(tally.machines.pairs().len()) > MOST_PAIRS {
+    let Some(mut board) = Board::of(alloc, tally)? else {
         return Ok(None);
-    }
-    let mut board = Board::of(alloc, tally, requests)?;
+    };
     let mut waiting = Waiting::of(alloc, knowledge, tally, &mut board)?;
     let mut paths = Paths::of(alloc, &board, &waiting)?;
     if !place_all(alloc, &mut board, &mut waiting, &mut paths)? {

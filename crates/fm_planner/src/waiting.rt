@@ -105,8 +105,8 @@ impl Waiting {
                 least,
             })?;
         }
-        for (task, live) in tally.tasks.pairs() {
-            if live.holder.is_none() {
+        for number in &board.idle {
+            if let Some((task, live)) = tally.tasks.pairs().get(*number) {
                 waiting.take_in(knowledge, board, *task, live)?;
             }
         }
