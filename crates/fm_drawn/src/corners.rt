@@ -40,7 +40,7 @@ fn happens(draw: &mut Draw, percent: u32) -> bool {
     draw.below(100) < percent
 }
 
-fn bounds(draw: &mut Draw, is_preferring: bool) -> Bounds {
+fn drawn_bounds(draw: &mut Draw, is_preferring: bool) -> Bounds {
     let preferring = one(draw, &[10, 20, 40, 80]);
     Bounds {
         costs: one(draw, &[3, 6, 20, 1000]),
@@ -69,7 +69,7 @@ impl Corners {
         };
         let mut corners = Corners {
             cluster: Cluster::empty(alloc, sizes),
-            bounds: bounds(draw, is_preferring),
+            bounds: drawn_bounds(draw, is_preferring),
             jobs: sizes.jobs,
             machines: sizes.machines,
             tasks: 0,

@@ -86,7 +86,7 @@ struct Round {
     planned: u128,
 }
 
-fn round(rt: &HostRuntime, known: &Knowledge) -> Result<Round, anyhow::Error> {
+fn timed(rt: &HostRuntime, known: &Knowledge) -> Result<Round, anyhow::Error> {
     let (tally, tallied) = tallied(rt, known)?;
     let (found, planned) = planned(rt, &tally, known)?;
     let Planned { plan, source } = found;
@@ -99,7 +99,7 @@ fn round(rt: &HostRuntime, known: &Knowledge) -> Result<Round, anyhow::Error> {
 }
 
 fn print_round(rt: &HostRuntime, number: u32, cluster: &mut Cluster) -> Result<(), anyhow::Error> {
-    let round = round(rt, &cluster.known)?;
+    let round = timed(rt, &cluster.known)?;
     let committed = committed(rt, cluster, &round.plan)?;
     let (tallied, planned) = (round.tallied, round.planned);
     let (places, source) = (round.plan.places.as_slice().len(), round.source);

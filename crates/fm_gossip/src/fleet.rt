@@ -1,6 +1,6 @@
 //! Coordinators that run at the same time.
 ghost use Rattle.std.specs.Prelude.{◌≡◌, ◌∷◌, ◌++◌, [], map, IfOk};
-ghost use Rattle.fm_gossip.specs.Served.{AreServed};
+ghost use Rattle.fm_gossip.specs.Served.{AreServed, IsServed};
 ghost use Rattle.fm_gossip.specs.Members.{tasks_of};
 
 use crate::halt::{Halt, both};
@@ -78,7 +78,13 @@ fn serve_all<
         return Ok(Vec::new(alloc));
     };
     let promise = Served(Snapshot::of(&work));
-    let Ok(handle) = scope.spawn_with(promise, move || serve_one(rt, alloc, work, stop)) else {
+    let started = scope.spawn_with(
+        promise,
+        move || -> Result<Coordinator<N>, Halt>
+            ensures { IfOk result (λ coordinator. IsServed work coordinator.state) }
+        { serve_one(rt, alloc, work, stop) },
+    );
+    let Ok(handle) = started else {
         stop.store(true, Ordering::SeqCst);
         return Err(Halt::Refused(Refusal::OutOfMemory));
     };
