@@ -3,3 +3,4 @@ pub mod Lists
 pub mod Entries
 pub mod Turns
 pub mod Shown
+mod Tops

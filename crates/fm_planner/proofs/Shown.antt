@@ -34,7 +34,7 @@ use Rattle.fm_planner.specs.declared.claim.Claim.{Claim}
 use Rattle.fm_planner.specs.declared.counts.Counts.{Counts}
 use Rattle.fm_planner.specs.Claims.{rise_of, price_of, offer_of}
 use Rattle.fm_planner.specs.Counts.{AreCounts}
-use Rattle.fm_planner.specs.Checks.{AllOf, IsFairAtRest, IsFairTask, load_in, straight_cost, own_cost, HasRoom, IsNoCheaper, Leaves, Asks, GoesStraight, IsFairMove, HasMoreRoom, HasFairSlots, IsFairOffer, IsFairMachine, GoInTurn, Passes, fits}
+use Rattle.fm_planner.specs.Checks.{IsFairAtRest, IsFairTask, load_in, straight_cost, own_cost, IsNoCheaper, Leaves, Asks, GoesStraight, IsFairMove, IsFairOffer, IsFairMachine, Passes, fits}
 use Rattle.fm_planner.proofs.Lists.{all_at, counted_member}
 use Rattle.fm_planner.proofs.Entries.{task_found, entry_of, in_tally, open_of, machine_found, open_in_tally, room_is, spare_left}
 use Rattle.fm_planner.proofs.Turns.{in_turn}

@@ -1,5 +1,5 @@
 -- What the checks of a claim test, of each task, move and machine of a tally.
-use Rattle.std.specs.Prelude.{◌≡◌, ℕ, ◌+◌, ◌<◌, ◌≤◌, ◌/◌, ◌==◌, cond, false, List, [], ◌∷◌, Option, Some, None, option_map, min, ◌-◌, true}
+use Rattle.std.specs.Prelude.{◌≡◌, ℕ, ◌+◌, ◌<◌, ◌≤◌, ◌/◌, ◌==◌, cond, List, [], ◌∷◌, Option, Some, None, option_map, min, ◌-◌, true}
 use Rattle.std.specs.Ordering.{nat_cmp, is_eq}
 use Rattle.fm_lattice.specs.Maps.{lookup}
 use Rattle.fm_records.specs.declared.records.SpecReg.{SpecReg}
@@ -118,6 +118,10 @@ pub record HasMoreRoom (counts : Counts) (m : ℕ) (machine : OpenMachine) (r : 
 -- then it pays no more than the price of the machine
 abbrev pub IsFairOffer : Claim → Counts → ℕ → OpenMachine → ℕ × ℕ → Type 0
 IsFairOffer claim counts m machine o = HasMoreRoom counts m machine o.0 → o.1 ≤ machine.load + rise_of claim m
+
+-- no request below this one pays more
+abbrev pub IsTop : List (ℕ × ℕ) → ℕ × ℕ → Type 0
+IsTop offers top = AllOf (λ o. o.0 < top.0 → o.1 ≤ top.1) offers
 
 -- a machine has slots for all, and its price rises only where none is free
 pub record HasFairSlots (claim : Claim) (counts : Counts) (m : ℕ) (machine : OpenMachine) : Type 0 where

@@ -5,7 +5,7 @@ ghost use Rattle.std.specs.Prelude.{◌≡◌, ◌≤◌, ◌<◌, ◌+◌, ◌�
 ghost use Rattle.std.specs.Ordering.{nat_cmp};
 ghost use Rattle.std.specs.BTreeMap.{get};
 ghost use Rattle.fm_planner.specs.Claims.{rise_of, offer_of};
-ghost use Rattle.fm_planner.specs.Checks.{AllOf, IsFairTask, IsFairMove, IsFairMachine, IsFairOffer, IsFairAtRest, IsPreferredFairly, IsNoCheaper, HasRoom, GoesStraight, own_cost, straight_cost, load_in, HasFairSlots, HasMoreRoom, Leaves, Asks, GoInTurn, IsNext, after_move, fits, Passes};
+ghost use Rattle.fm_planner.specs.Checks.{AllOf, IsFairTask, IsFairMove, IsFairMachine, IsFairOffer, IsTop, IsFairAtRest, IsPreferredFairly, IsNoCheaper, HasRoom, GoesStraight, own_cost, straight_cost, load_in, HasFairSlots, HasMoreRoom, Leaves, Asks, GoInTurn, IsNext, after_move, fits, Passes};
 
 use crate::claim::Claim;
 use crate::counts::Counts;
@@ -21,7 +21,8 @@ use std::collections::BTreeMap;
 // Loads and rises beyond this are not planned from a tally.
 const MOST: u64 = 1 << 40;
 
-/// Whether the claim holds by these counts of its moves. O((tasks + machines * offers) log n) at worst.
+/// Whether the claim holds by these counts of its moves. O(n log n) in tasks, machines and offers. A machine is compared with each
+/// offer only if one that its bandwidth has room for is beyond its price.
 pub(crate) fn passes(
     alloc: Global,
     knowledge: &Knowledge,
@@ -32,10 +33,11 @@ pub(crate) fn passes(
     ensures { IfOk result (λ yes. IsTrue yes → Passes knowledge.now tally.now claim.now counts.now) }
 {
     let in_turn = go_in_turn(alloc, claim.moves.pairs())?;
+    let tops = tops_of(alloc, claim)?;
     Ok(
         in_turn
             && are_fair_moves(knowledge, tally, claim, counts)
-            && are_fair_machines(tally, claim, counts)
+            && are_fair_machines(tally, claim, counts, &tops)
             && are_fair_tasks(knowledge, tally, claim),
     )
 }
@@ -44,10 +46,12 @@ pub(crate) fn passes(
 fn are_fair_tasks(knowledge: &Knowledge, tally: &Tally, claim: &Claim) -> bool
     ensures { IsTrue result → AllOf (IsFairTask knowledge.now tally.now claim.now) tally.now.tasks }
 {
+    let mut number = 0usize;
     for (task, live) in tally.tasks.pairs() {
-        if !is_fair_task(knowledge, tally, claim, *task, live) {
+        if !is_fair_task(knowledge, tally, claim, number, *task, live) {
             return false;
         }
+        number = number.saturating_add(1);
     }
     true
 }
@@ -56,12 +60,13 @@ fn is_fair_task(
     knowledge: &Knowledge,
     tally: &Tally,
     claim: &Claim,
+    number: usize,
     task: TaskId,
     live: &LiveTask,
 ) -> bool
     ensures { IsTrue result → IsFairTask knowledge.now tally.now claim.now (task, live.now) }
 {
-    if !rests_fairly(claim, live) && !claim.has_move(task) {
+    if !rests_fairly(claim, number, live) && !claim.has_move(task) {
         return false;
     }
     live.holder.is_some()
@@ -71,11 +76,11 @@ fn is_fair_task(
 
 // Whether the task may rest: preempting it costs no less than the rise of its machine, or letting it wait no more than its request
 // pays.
-fn rests_fairly(claim: &Claim, live: &LiveTask) -> bool
+fn rests_fairly(claim: &Claim, number: usize, live: &LiveTask) -> bool
     ensures { IsTrue result → IsFairAtRest claim.now live.now live.now.holder }
 {
     match live.holder {
-        Some(machine) => claim.rise(machine) <= u64::from(live.price),
+        Some(machine) => claim.rise_at(number, machine) <= u64::from(live.price),
         None => is_left_fairly(claim, live),
     }
 }
@@ -340,25 +345,34 @@ fn fits(slots: u32, spare: u32, request: u32) -> u32
 }
 
 // Whether each machine is fair.
-fn are_fair_machines(tally: &Tally, claim: &Claim, counts: &Counts) -> bool
+fn are_fair_machines(tally: &Tally, claim: &Claim, counts: &Counts, tops: &[(u64, u64)]) -> bool
+    requires { AllOf (IsTop claim.now.offers) tops.now }
     ensures { IsTrue result → AllOf (IsFairMachine claim.now counts.now) tally.now.machines }
 {
     for (machine, open) in tally.machines.pairs() {
-        if !is_fair_machine(claim, counts, *machine, open) {
+        if !is_fair_machine(claim, counts, tops, *machine, open) {
             return false;
         }
     }
     true
 }
 
-fn is_fair_machine(claim: &Claim, counts: &Counts, machine: MachineId, open: &OpenMachine) -> bool
+fn is_fair_machine(
+    claim: &Claim,
+    counts: &Counts,
+    tops: &[(u64, u64)],
+    machine: MachineId,
+    open: &OpenMachine,
+) -> bool
+    requires { AllOf (IsTop claim.now.offers) tops.now }
     ensures { IsTrue result → IsFairMachine claim.now counts.now (machine, open.now) }
 {
     let Some(price) = price_of(claim, machine, open) else {
         return false;
     };
     has_fair_slots(claim, counts, machine, open)
-        && are_fair_offers(claim, counts, machine, open, price)
+        && (are_low_offers(claim, counts, tops, machine, open, price)
+            || are_fair_offers(claim, counts, machine, open, price))
 }
 
 // Whether the slots suffice, and the price is the load if one is free.
@@ -368,6 +382,56 @@ fn has_fair_slots(claim: &Claim, counts: &Counts, machine: MachineId, open: &Ope
     let taken = u128::from(open.held) + u128::from(counts.arriving(machine));
     let there = u128::from(open.slots) + u128::from(counts.leaving(machine));
     taken <= there && (taken == there || claim.rise(machine) == 0)
+}
+
+// For each request that offers, the greatest offer of lesser ones; and at last the greatest of all.
+fn tops_of(alloc: Global, claim: &Claim) -> Result<Vec<(u64, u64)>, OutOfMemory>
+    ensures { IfOk result (λ tops. AllOf (IsTop claim.now.offers) tops.items) }
+{
+    let mut tops = Vec::new(alloc);
+    let mut most = 0u64;
+    for (request, offer) in claim.offers.pairs() {
+        tops.push((u64::from(*request), most))?;
+        most = most.max(*offer);
+    }
+    tops.push((1 << 32, most))?;
+    Ok(tops)
+}
+
+// Whether no request that the machine's bandwidth has room for pays more than the price. One comparison, and a search for it.
+fn are_low_offers(
+    claim: &Claim,
+    counts: &Counts,
+    tops: &[(u64, u64)],
+    machine: MachineId,
+    open: &OpenMachine,
+    price: u64,
+) -> bool
+    requires price { price ≡ open.now.load + rise_of claim.now machine }
+    requires tops { AllOf (IsTop claim.now.offers) tops.now }
+    ensures { IsTrue result → AllOf (IsFairOffer claim.now counts.now machine open.now) claim.now.offers }
+{
+    let Some(spare) = open.spare else {
+        return false;
+    };
+    let spare = u64::from(spare);
+    let at = tops.partition_point(|top| top.0 <= spare);
+    match top_at(claim, tops, at) {
+        Some((request, most)) => spare < request && most <= price,
+        None => false,
+    }
+}
+
+// One of these greatest offers, with the request that it is before.
+fn top_at(claim: &Claim, tops: &[(u64, u64)], at: usize) -> Option<(u64, u64)>
+    requires { AllOf (IsTop claim.now.offers) tops.now }
+    ensures { IfSome result (IsTop claim.now.offers) }
+{
+    if at < tops.len() {
+        Some(tops[at])
+    } else {
+        None
+    }
 }
 
 // Whether no request that more fits of pays more than the price.

@@ -5,6 +5,7 @@ ghost use Rattle.std.specs.Ordering.{nat_cmp};
 ghost use Rattle.fm_lattice.specs.Maps.{lookup};
 ghost use Rattle.fm_planner.specs.Claims.{rise_of, offer_of};
 
+use fm_net::rising::value_near;
 use fm_records::ids::{MachineId, TaskId};
 use fm_tally::sorted::Sorted;
 use fm_ways::way::Way;
@@ -17,6 +18,8 @@ pub(crate) struct Claim {
     pub(crate) rises: Sorted<MachineId, u64>,
     /// What the units of a request pay for a machine, if anything.
     pub(crate) offers: Sorted<u32, u64>,
+    /// Where the rise of each task's machine may stand, if it is held, by the task's number in the tally.
+    pub(crate) holders: Vec<usize>,
 }
 
 impl Claim {
@@ -25,6 +28,14 @@ impl Claim {
         ensures { result ≡ rise_of self.now machine }
     {
         self.rises.get(&machine).unwrap_or(0)
+    }
+
+    /// The same for the machine that holds the task of the number: O(1) if its rise stands where it may.
+    pub(crate) fn rise_at(&self, task: usize, machine: MachineId) -> u64
+        ensures { result ≡ rise_of self.now machine }
+    {
+        let near = self.holders.get(task).copied().unwrap_or(0);
+        value_near(self.rises.pairs(), near, &machine).unwrap_or(0)
     }
 
     /// What the units of the request pay for a machine.

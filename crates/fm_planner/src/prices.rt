@@ -1,23 +1,25 @@
-//! The prices of what was placed: what one more task would cost at each request, and no less than what each machine has to cost.
+//! The prices of what was placed: what one more task would cost at each machine and request.
 
 use crate::board::{Board, FAR};
-use crate::paths::{BASE, Spot, Wish};
-use crate::search::{Placed, Wisher};
+use crate::waiting::{Spot, Waiting, Wisher};
 use fm_lattice::join::OutOfMemory;
 use fm_records::ids::MachineId;
 use fm_tally::sorted::Sorted;
 use std::alloc::Global;
 
-/// By number: what one more task costs at each machine at most, and at each request; and the least price of each machine.
+// How often prices are lowered at most: after that, the check refuses them.
+const MOST_TURNS: usize = 256;
+
+/// What one more task costs at each machine and at each request, and, for a task with wishes that was placed, elsewhere.
 #[derive(Drop)]
 pub(crate) struct Prices {
-    most: Vec<u64>,
-    offers: Vec<u64>,
-    least: Vec<u64>,
+    places: Vec<i64>,
+    requests: Vec<i64>,
+    elsewhere: Vec<i64>,
 }
 
 // Lowers a number to another. Answers whether it fell.
-fn lower(numbers: &mut [u64], at: usize, to: u64) -> bool {
+fn lower(numbers: &mut [i64], at: usize, to: i64) -> bool {
     match numbers.get_mut(at) {
         Some(number) if to < *number => {
             *number = to;
@@ -27,178 +29,123 @@ fn lower(numbers: &mut [u64], at: usize, to: u64) -> bool {
     }
 }
 
-// Raises a number to another. Answers whether it rose.
-fn raise(numbers: &mut [u64], at: usize, to: u64) -> bool {
-    match numbers.get_mut(at) {
-        Some(number) if to > *number => {
-            *number = to;
-            true
-        }
-        _ => false,
-    }
-}
-
 // The number there, or one beyond all prices.
-fn at(numbers: &[u64], at: usize) -> u64 {
+fn at(numbers: &[i64], at: usize) -> i64 {
     numbers.get(at).copied().unwrap_or(FAR)
 }
 
-// The gain of the wish for the machine.
-fn gain_at(wishes: &[Wish], place: usize) -> u64 {
-    for wish in wishes {
-        if wish.place == place {
-            return wish.gain;
-        }
-    }
-    0
-}
-
 impl Prices {
-    /// The prices of what was placed.
-    pub(crate) fn of(alloc: Global, board: &Board, placed: &Placed) -> Result<Prices, OutOfMemory> {
-        let mut most = Vec::new(alloc);
-        let mut least = Vec::new(alloc);
-        for (number, place) in board.places.iter().enumerate() {
-            most.push(board.price_at(number))?;
-            least.push(place.load.saturating_add(u64::from(place.preempted)))?;
+    /// The prices of what was placed. O(n), and some walks over requests, full machines and tasks with wishes: at most 256.
+    pub(crate) fn of(
+        alloc: Global,
+        board: &mut Board,
+        waiting: &Waiting,
+    ) -> Result<Prices, OutOfMemory> {
+        let mut places = Vec::new(alloc);
+        for number in 0..board.places.len() {
+            places.push(board.price_at(number))?;
         }
-        let mut offers = Vec::new(alloc);
-        for (request, worth) in placed.least.iter().enumerate() {
-            offers.push(board.cheapest(request, *worth).0)?;
+        let mut requests = Vec::new(alloc);
+        for request in 0..board.requests.len() {
+            let exit = board.exit(request)?.price;
+            requests.push(exit.min(waiting.last_worth(request).unwrap_or(FAR)))?;
+            board.look(request);
+        }
+        let mut elsewhere = Vec::new(alloc);
+        for wisher in &waiting.wishers {
+            elsewhere.push(wisher.worth)?;
         }
         let mut prices = Prices {
-            most,
-            offers,
-            least,
+            places,
+            requests,
+            elsewhere,
         };
-        prices.fall(board, placed);
-        prices.rise(board, placed);
+        prices.fall(board, waiting);
         Ok(prices)
     }
 
-    // Lowers what one more task costs, as long as one that goes elsewhere makes room for less.
-    fn fall(&mut self, board: &Board, placed: &Placed) {
-        let turns = board.requests.len().saturating_mul(2).saturating_add(8);
-        for _ in 0..turns {
+    // Lowers prices, as long as a task that goes elsewhere makes room for less.
+    fn fall(&mut self, board: &Board, waiting: &Waiting) {
+        for _ in 0..MOST_TURNS {
+            let by_wishers = self.fall_by_wishers(waiting);
+            let by_room = self.fall_by_room(board);
             let by_streams = self.fall_by_streams(board);
-            let by_wishers = self.fall_by_wishers(board, placed);
-            if !by_streams && !by_wishers {
+            if !by_wishers && !by_room && !by_streams {
                 break;
             }
         }
+    }
+
+    // A task with wishes that was placed goes elsewhere.
+    fn fall_by_wishers(&mut self, waiting: &Waiting) -> bool {
+        let mut fell = false;
+        for (number, wisher) in waiting.wishers.iter().enumerate() {
+            if wisher.spot != Spot::Nowhere {
+                fell = self.fall_by_wisher(waiting, number, wisher) || fell;
+            }
+        }
+        fell
+    }
+
+    fn fall_by_wisher(&mut self, waiting: &Waiting, number: usize, wisher: &Wisher) -> bool {
+        let mut least = at(&self.elsewhere, number);
+        if wisher.spot != Spot::ByRequest {
+            least = least.min(at(&self.requests, wisher.request));
+        }
+        for wish in waiting.wishes_of(wisher) {
+            if wisher.spot != Spot::Straight(wish.place) {
+                let there = at(&self.places, wish.place).saturating_sub(wish.gain);
+                least = least.min(there);
+            }
+        }
+        let fell = lower(&mut self.elsewhere, number, least);
+        match wisher.spot {
+            Spot::Nowhere => fell,
+            Spot::ByRequest => lower(&mut self.requests, wisher.request, least) || fell,
+            Spot::Straight(place) => {
+                let there = least.saturating_add(waiting.gain(wisher, place));
+                lower(&mut self.places, place, there) || fell
+            }
+        }
+    }
+
+    // A task of a request goes to a full machine with room for it.
+    fn fall_by_room(&mut self, board: &Board) -> bool {
+        let mut fell = false;
+        for (full, number) in board.full.iter().enumerate() {
+            let price = at(&self.places, *number);
+            for (request, offer) in self.requests.iter_mut().enumerate() {
+                if price < *offer && board.room.has(request, full) {
+                    *offer = price;
+                    fell = true;
+                }
+            }
+        }
+        fell
     }
 
     // A task of a stream goes elsewhere over its request.
     fn fall_by_streams(&mut self, board: &Board) -> bool {
         let mut fell = false;
         for stream in &board.streams {
-            if stream.units > 0 {
-                let offer = at(&self.offers, stream.request);
-                fell = lower(&mut self.most, stream.place, offer) || fell;
-                fell = self.lower_offers(board, stream.place) || fell;
+            if stream.units > 0 && board.is_full(stream.place) {
+                let offer = at(&self.requests, stream.request);
+                fell = lower(&mut self.places, stream.place, offer) || fell;
             }
         }
         fell
     }
 
-    // A task that went straight to a machine goes over its request, or straight to another, or waits.
-    fn fall_by_wishers(&mut self, board: &Board, placed: &Placed) -> bool {
-        let mut fell = false;
-        for wisher in &placed.wishers {
-            let Spot::Straight(place) = wisher.spot else {
-                continue;
-            };
-            let elsewhere = self.elsewhere(placed.wishes_of(wisher), wisher, place);
-            fell = lower(&mut self.most, place, elsewhere) || fell;
-            fell = self.lower_offers(board, place) || fell;
-        }
-        fell
-    }
-
-    // What a task that went straight to the machine would cost elsewhere, as the price of that machine.
-    fn elsewhere(&self, wishes: &[Wish], wisher: &Wisher, place: usize) -> u64 {
-        let gain = gain_at(wishes, place);
-        let offer = at(&self.offers, wisher.request).saturating_add(BASE);
-        let mut least = wisher
-            .worth
-            .min(offer)
-            .saturating_add(gain)
-            .saturating_sub(BASE);
-        for wish in wishes {
-            if wish.place != place {
-                let there = at(&self.most, wish.place).saturating_add(gain);
-                least = least.min(there.saturating_sub(wish.gain));
-            }
-        }
-        least
-    }
-
-    // Lowers the offers of requests with room on the machine to its price.
-    fn lower_offers(&mut self, board: &Board, number: usize) -> bool {
-        let Some(place) = board.places.get(number) else {
-            return false;
-        };
-        let price = at(&self.most, number);
-        let mut fell = false;
-        for (request, offer) in self.offers.iter_mut().enumerate() {
-            if price < *offer && board.has_room(request, place) {
-                *offer = price;
-                fell = true;
-            }
-        }
-        fell
-    }
-
-    // Raises least prices: to what requests with room would pay, and to what keeps tasks with wishes where they are.
-    fn rise(&mut self, board: &Board, placed: &Placed) {
-        self.rise_by_offers(board);
-        for _ in 0..placed.wishers.len().saturating_add(1) {
-            if !self.rise_by_wishers(placed) {
-                break;
-            }
-        }
-    }
-
-    fn rise_by_offers(&mut self, board: &Board) {
-        for (place, least) in board.places.iter().zip(self.least.iter_mut()) {
-            for (request, offer) in self.offers.iter().enumerate() {
-                if *offer > *least && board.has_room(request, place) {
-                    *least = *offer;
-                }
-            }
-        }
-    }
-
-    fn rise_by_wishers(&mut self, placed: &Placed) -> bool {
-        let mut rose = false;
-        for wisher in &placed.wishers {
-            let wishes = placed.wishes_of(wisher);
-            let own = match wisher.spot {
-                Spot::Nowhere => wisher.worth,
-                Spot::ByRequest => at(&self.offers, wisher.request).saturating_add(BASE),
-                Spot::Straight(place) => at(&self.least, place)
-                    .saturating_add(BASE)
-                    .saturating_sub(gain_at(wishes, place)),
-            };
-            for wish in wishes {
-                let price = own.saturating_add(wish.gain).saturating_sub(BASE);
-                rose = raise(&mut self.least, wish.place, price) || rose;
-            }
-        }
-        rose
-    }
-
-    /// By how much the least prices are above loads, if they are.
+    /// By how much the prices of machines are above their loads.
     pub(crate) fn rises(
         &self,
         alloc: Global,
         board: &Board,
     ) -> Result<Sorted<MachineId, u64>, OutOfMemory> {
         let mut rises = Sorted::new(alloc);
-        for (place, price) in board.places.iter().zip(self.least.iter()) {
-            if *price > place.load {
-                rises.put(place.machine, price.saturating_sub(place.load))?;
-            }
+        for (machine, number) in board.numbers.pairs() {
+            let above = at(&self.places, *number).saturating_sub(board.load_at(*number));
+            rises.put(*machine, u64::try_from(above).unwrap_or(0))?;
         }
         Ok(rises)
     }
@@ -210,8 +157,8 @@ impl Prices {
         board: &Board,
     ) -> Result<Sorted<u32, u64>, OutOfMemory> {
         let mut sorted = Sorted::new(alloc);
-        for (request, offer) in board.requests.iter().zip(self.offers.iter()) {
-            sorted.put(*request, *offer)?;
+        for (request, offer) in board.requests.iter().zip(self.requests.iter()) {
+            sorted.put(*request, u64::try_from(*offer).unwrap_or(0))?;
         }
         Ok(sorted)
     }

@@ -1,217 +1,165 @@
 //! The search for a plan: waiting tasks are placed by falling worth, each over the cheapest path. After successive shortest
 //! paths, where nearly all costs sit at the two ends of a path. Nothing is claimed of its result: a claim is checked.
 
-use crate::board::{Board, FAR};
+use crate::board::Board;
 use crate::claim::Claim;
-use crate::paths::{BASE, Spot, Wish, place};
+use crate::exits::Exit;
+use crate::paths::Paths;
 use crate::prices::Prices;
+use crate::waiting::{Spot, Waiting};
 use fm_know::knowledge::Knowledge;
 use fm_lattice::join::OutOfMemory;
 use fm_records::ids::{MachineId, TaskId};
 use fm_tally::sorted::Sorted;
-use fm_tally::tally::{LiveTask, Tally};
+use fm_tally::tally::Tally;
 use fm_ways::way::Way;
 use std::alloc::Global;
 
-// More tasks that wait at once are planned faster on a network.
-const MOST_WAITING: usize = 4096;
-
-// A task that waits, in the order in which they are placed: by falling worth. Its wishes are some in a row.
-#[derive(Clone, Copy, PartialEq, Eq, PartialOrd, Ord, Drop)]
-struct Waiting {
-    worth_below: u64,
-    request: u32,
-    task: TaskId,
-    first: usize,
-    end: usize,
-}
-
-/// A task with wishes, its worth above the base, and where it was placed.
-#[derive(Clone, Copy, Drop)]
-pub(crate) struct Wisher {
-    pub(crate) task: TaskId,
-    pub(crate) request: usize,
-    pub(crate) worth: u64,
-    pub(crate) spot: Spot,
-    first: usize,
-    end: usize,
-}
-
-/// What was placed: over requests, each task with the number of its request, and the least worth placed of each request; and the
-/// tasks with wishes.
-#[derive(Drop)]
-pub(crate) struct Placed {
-    tasks: Vec<(usize, TaskId)>,
-    pub(crate) least: Vec<u64>,
-    pub(crate) wishers: Vec<Wisher>,
-    wishes: Vec<Wish>,
-}
-
-impl Placed {
-    /// The wishes of the task.
-    pub(crate) fn wishes_of(&self, wisher: &Wisher) -> &[Wish] {
-        self.wishes.get(wisher.first..wisher.end).unwrap_or(&[])
-    }
-
-    // Notes where a task was placed.
-    fn note(
-        &mut self,
-        next: &Waiting,
-        request: usize,
-        worth: u64,
-        spot: Spot,
-    ) -> Result<(), OutOfMemory> {
-        if spot == Spot::ByRequest {
-            self.tasks.push((request, next.task))?;
-            if let Some(least) = self.least.get_mut(request) {
-                *least = worth.saturating_sub(BASE);
-            }
-        }
-        if next.first < next.end {
-            self.wishers.push(Wisher {
-                task: next.task,
-                request,
-                worth,
-                spot,
-                first: next.first,
-                end: next.end,
-            })?;
-        }
-        Ok(())
-    }
-}
-
-/// A claim of a plan of the tally. None if too many tasks wait.
-/// O(n log n) in the tasks and machines, and for each task that waits a search over machines and streams.
+/// A claim of a plan of the tally. None if the searches take too many steps, or for too many requests and machines.
+/// O(n log n) in the tasks and machines. For each task that no free slot is left for, a search over requests and full machines.
 pub(crate) fn search(
     alloc: Global,
     knowledge: &Knowledge,
     tally: &Tally,
 ) -> Result<Option<Claim>, OutOfMemory> {
-    let mut board = Board::of(alloc, tally)?;
-    let mut wishes = Vec::new(alloc);
-    let Some(waiting) = waiting_of(alloc, knowledge, tally, &board, &mut wishes)? else {
+    let Some(mut board) = Board::of(alloc, tally)? else {
         return Ok(None);
     };
-    let placed = place_all(alloc, &mut board, &waiting, wishes)?;
-    let prices = Prices::of(alloc, &board, &placed)?;
+    let mut waiting = Waiting::of(alloc, knowledge, tally, &mut board)?;
+    let mut paths = Paths::of(alloc, &board, &waiting)?;
+    if !place_all(alloc, &mut board, &mut waiting, &mut paths)? {
+        return Ok(None);
+    }
+    let prices = Prices::of(alloc, &mut board, &waiting)?;
     let rises = prices.rises(alloc, &board)?;
     let offers = prices.by_request(alloc, &board)?;
-    let moves = moves_of(alloc, &board, placed)?;
+    let moves = moves_of(alloc, tally, &board, &waiting)?;
     Ok(Some(Claim {
         moves,
         rises,
         offers,
+        holders: board.holders,
     }))
 }
 
-// What it costs to let the task wait, less its request, above the base.
-fn worth_of(live: &LiveTask) -> u64 {
-    let above = u64::from(live.price).saturating_add(BASE);
-    above.saturating_sub(u64::from(live.request))
-}
-
-// The waiting tasks that may be worth a place, and their wishes. None if there are too many.
-fn waiting_of(
+// Places the tasks in their order, each if a path costs less than its worth. Answers whether each search came to its end.
+fn place_all(
     alloc: Global,
-    knowledge: &Knowledge,
-    tally: &Tally,
-    board: &Board,
-    wishes: &mut Vec<Wish>,
-) -> Result<Option<Vec<Waiting>>, OutOfMemory> {
-    let mut waiting = Vec::new(alloc);
-    for (task, live) in tally.tasks.pairs() {
-        if live.holder.is_some() {
-            continue;
+    board: &mut Board,
+    waiting: &mut Waiting,
+    paths: &mut Paths,
+) -> Result<bool, OutOfMemory> {
+    for turn in &waiting.turns(alloc)? {
+        let worth = turn.below.saturating_neg();
+        let is_done = match turn.number.checked_sub(waiting.groups.len()) {
+            Some(wisher) => place_wisher(board, waiting, paths, wisher)?,
+            None => place(board, waiting, paths, turn.number, worth)?,
+        };
+        if !is_done {
+            return Ok(false);
         }
-        let first = wishes.len();
-        add_wishes(knowledge, board, *task, live, wishes)?;
-        if live.price <= live.request && wishes.len() == first {
-            continue;
-        }
-        if waiting.len() == MOST_WAITING {
-            return Ok(None);
-        }
-        waiting.push(Waiting {
-            worth_below: FAR.saturating_sub(worth_of(live)),
-            request: live.request,
-            task: *task,
-            first,
-            end: wishes.len(),
-        })?;
     }
-    waiting.sort_unstable();
-    Ok(Some(waiting))
+    Ok(true)
 }
 
-// Adds the wishes of the task: the open machines that it prefers and that have room.
-fn add_wishes(
-    knowledge: &Knowledge,
-    board: &Board,
-    task: TaskId,
-    live: &LiveTask,
-    wishes: &mut Vec<Wish>,
-) -> Result<(), OutOfMemory> {
-    if !live.prefers {
-        return Ok(());
+// Places the next task of a request, if it is worth the place.
+fn place(
+    board: &mut Board,
+    waiting: &mut Waiting,
+    paths: &mut Paths,
+    request: usize,
+    worth: i64,
+) -> Result<bool, OutOfMemory> {
+    let least = waiting.least(request);
+    if least >= worth {
+        return Ok(true);
     }
-    let Some(spec) = knowledge.live_spec(task) else {
-        return Ok(());
-    };
-    for (machine, credit) in spec.prefer.entries() {
-        if let Some(place) = board.roomy(*machine, live.request) {
-            let full = board.load_at(place).saturating_add(u64::from(live.request));
-            wishes.push(Wish {
-                place,
-                gain: u64::from(*credit).min(full),
-            })?;
-        }
+    let exit = board.exit(request)?;
+    if exit.price <= least || board.full.is_empty() {
+        place_at(board, waiting, request, worth, exit)?;
+        return Ok(true);
+    }
+    if !paths.search(board, waiting, request, least)? {
+        return Ok(false);
+    }
+    if paths.cost < worth {
+        paths.send(board, waiting)?;
+        waiting.place_next(request);
+    }
+    Ok(true)
+}
+
+// Places the next task of a request at the exit.
+fn place_at(
+    board: &mut Board,
+    waiting: &mut Waiting,
+    request: usize,
+    worth: i64,
+    exit: Exit,
+) -> Result<(), OutOfMemory> {
+    waiting.raise(request, exit.price);
+    if exit.price < worth {
+        board.add(request, exit.place)?;
+        board.take(exit.place)?;
+        waiting.place_next(request);
     }
     Ok(())
 }
 
-// Places the tasks in their order, each if a path costs less than its worth.
-fn place_all(
-    alloc: Global,
+// Places a task with wishes, if it is worth the place.
+fn place_wisher(
     board: &mut Board,
-    waiting: &[Waiting],
-    wishes: Vec<Wish>,
-) -> Result<Placed, OutOfMemory> {
-    let mut placed = Placed {
-        tasks: Vec::new(alloc),
-        least: vec![in alloc; FAR; board.requests.len()]?,
-        wishers: Vec::new(alloc),
-        wishes,
-    };
-    for next in waiting {
-        let Ok(request) = board.requests.binary_search(&next.request) else {
-            continue;
-        };
-        let worth = FAR.saturating_sub(next.worth_below);
-        let own = placed.wishes.get(next.first..next.end).unwrap_or(&[]);
-        let spot = place(alloc, board, request, worth, own)?;
-        placed.note(next, request, worth, spot)?;
+    waiting: &mut Waiting,
+    paths: &mut Paths,
+    number: usize,
+) -> Result<bool, OutOfMemory> {
+    if !is_worth(board, waiting, number) {
+        return Ok(true);
     }
-    Ok(placed)
+    let source = paths.wisher_node(number);
+    if !paths.search(board, waiting, source, i64::MIN)? {
+        return Ok(false);
+    }
+    paths.send(board, waiting)?;
+    Ok(true)
+}
+
+// Whether the task with wishes may be worth a place.
+fn is_worth(board: &Board, waiting: &Waiting, number: usize) -> bool {
+    let Some(wisher) = waiting.wishers.get(number) else {
+        return false;
+    };
+    let mut least = waiting.least(wisher.request);
+    for wish in waiting.wishes_of(wisher) {
+        let price = if board.full_number(wish.place) < board.full.len() {
+            board.load_at(wish.place)
+        } else {
+            board.price_at(wish.place)
+        };
+        least = least.min(price.saturating_sub(wish.gain));
+    }
+    least < wisher.worth
 }
 
 // The moves: of each request, the machines to which its tasks go by rising id, to its placed tasks by rising id; the tasks that go
 // straight; and the tasks that were preempted.
 fn moves_of(
     alloc: Global,
+    tally: &Tally,
     board: &Board,
-    placed: Placed,
+    waiting: &Waiting,
 ) -> Result<Sorted<TaskId, Way>, OutOfMemory> {
-    let mut moves = straight_moves(alloc, board, &placed.wishers)?;
-    let mut tasks = placed.tasks;
-    tasks.sort_unstable();
+    let mut moves = straight_moves(alloc, board, waiting)?;
+    let tasks = tasks_of(alloc, waiting)?;
     let seats = seats_of(alloc, board)?;
     for ((request, task), (_, machine)) in tasks.iter().zip(seats.iter()) {
         let request = board.requests.get(*request).copied().unwrap_or(0);
         moves.push((*task, Way::ByRequest(request, *machine)))?;
     }
-    for (task, job) in &board.gone {
-        moves.push((*task, Way::ToJob(*job)))?;
+    for number in &board.gone {
+        if let Some((task, live)) = tally.tasks.pairs().get(*number) {
+            moves.push((*task, Way::ToJob(live.job)))?;
+        }
     }
     in_order(alloc, moves)
 }
@@ -220,10 +168,10 @@ fn moves_of(
 fn straight_moves(
     alloc: Global,
     board: &Board,
-    wishers: &[Wisher],
+    waiting: &Waiting,
 ) -> Result<Vec<(TaskId, Way)>, OutOfMemory> {
     let mut moves = Vec::new(alloc);
-    for wisher in wishers {
+    for wisher in &waiting.wishers {
         let Spot::Straight(number) = wisher.spot else {
             continue;
         };
@@ -232,6 +180,24 @@ fn straight_moves(
         }
     }
     Ok(moves)
+}
+
+// The tasks that go over their requests, by request and task.
+fn tasks_of(alloc: Global, waiting: &Waiting) -> Result<Vec<(usize, TaskId)>, OutOfMemory> {
+    let mut tasks = Vec::new(alloc);
+    for (request, group) in waiting.groups.iter().enumerate() {
+        let end = group.first.saturating_add(group.placed);
+        for waiter in waiting.waiters.get(group.first..end).unwrap_or(&[]) {
+            tasks.push((request, waiter.task))?;
+        }
+    }
+    for wisher in &waiting.wishers {
+        if wisher.spot == Spot::ByRequest {
+            tasks.push((wisher.request, wisher.task))?;
+        }
+    }
+    tasks.sort_unstable();
+    Ok(tasks)
 }
 
 // A machine for each task that goes to it over a request, by request and machine.

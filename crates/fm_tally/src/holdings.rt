@@ -1,12 +1,19 @@
 //! What machines hold, counted in one walk over the tasks.
 
 ghost use Rattle.std.specs.Prelude.{◌≡◌, ◌<◌, ◌+◌, ◌^◌, ℕ, [], IfOk, OnOk};
+ghost use Rattle.std.specs.Ordering.{nat_cmp};
+ghost use Rattle.fm_lattice.specs.Maps.{lookup};
+ghost use Rattle.fm_records.specs.Options.{and_then};
 ghost use Rattle.fm_tally.specs.Holdings.{requests_in, tasks_in, share, AreHoldings};
+ghost use Rattle.fm_tally.specs.Tallies.{task_at};
 
+use crate::sorted::Sorted;
+use crate::tally::LiveTask;
 use fm_know::facts::request_in;
 use fm_know::knowledge::Knowledge;
 use fm_lattice::join::OutOfMemory;
-use fm_records::ids::MachineId;
+use fm_net::rising::value_near;
+use fm_records::ids::{MachineId, TaskId};
 use std::alloc::Global;
 use std::collections::BTreeMap;
 
@@ -24,15 +31,22 @@ pub(crate) struct Holdings {
 }
 
 impl Holdings {
-    /// What each machine holds. O(n log n) in the tasks.
-    pub(crate) fn of(alloc: Global, knowledge: &Knowledge) -> Result<Holdings, OutOfMemory>
+    /// What each machine holds, by the live tasks. O(n log n) in the tasks.
+    pub(crate) fn of(
+        alloc: Global,
+        knowledge: &Knowledge,
+        tasks: &Sorted<TaskId, LiveTask>,
+    ) -> Result<Holdings, OutOfMemory>
+        requires { (t : ℕ) → lookup nat_cmp t tasks.now ≡ task_at knowledge.now t }
         ensures { IfOk result (AreHoldings knowledge.now) }
     {
         let mut holdings = Holdings {
             by_machine: BTreeMap::new(alloc),
         };
+        let mut near = 0usize;
         for (task, known) in knowledge.tasks().iter() {
-            if let Some(machine) = knowledge.holder(*task) {
+            near = place_near(tasks, near, *task);
+            if let Some(machine) = holder_near(tasks, near, *task) {
                 holdings.add(machine, request_in(known))?;
             }
         }
@@ -65,4 +79,19 @@ impl Holdings {
         self.by_machine.insert(machine, holding)?;
         Ok(())
     }
+}
+
+// Where the task may stand: behind the one before, if that is a lesser one.
+fn place_near(tasks: &Sorted<TaskId, LiveTask>, near: usize, task: TaskId) -> usize {
+    match tasks.pairs().get(near) {
+        Some(pair) if pair.0 < task => near.saturating_add(1),
+        _ => near,
+    }
+}
+
+// The machine that holds the task, if it is live. O(1) if the task stands near, else O(log n).
+fn holder_near(tasks: &Sorted<TaskId, LiveTask>, near: usize, task: TaskId) -> Option<MachineId>
+    ensures { result ≡ and_then (λ l. l.holder) (lookup nat_cmp task tasks.now) }
+{
+    value_near(tasks.pairs(), near, &task)?.holder
 }

@@ -48,13 +48,13 @@ pub struct Tally {
 }
 
 impl Tally {
-    /// The tally of what is known. Two walks over the tasks with a look-up or two for each, and one over the machines:
+    /// The tally of what is known. Two walks over the tasks, one of them with look-ups for each, and one over the machines:
     /// O(n log n).
     pub fn of(alloc: Global, knowledge: &Knowledge) -> Result<Tally, OutOfMemory>
         ensures { IfOk result (TallyIsFor knowledge.now) }
     {
         let tasks = tasks_of(alloc, knowledge)?;
-        let holdings = Holdings::of(alloc, knowledge)?;
+        let holdings = Holdings::of(alloc, knowledge, &tasks)?;
         let machines = machines_of(alloc, knowledge, &holdings)?;
         Ok(Tally { tasks, machines })
     }

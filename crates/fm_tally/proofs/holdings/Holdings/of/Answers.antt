@@ -1,6 +1,9 @@
-use Rattle.std.proofs.Common.{◌≡◌, ◌<◌, ◌^◌, ℕ, List, [], length, sym, subst, arith, rules}
+use Rattle.std.proofs.Common.{◌≡◌, ◌∙◌, ◌<◌, ◌^◌, ℕ, List, [], length, sym, ap, subst, arith, rules}
+use Rattle.fm_records.specs.Options.{and_then}
 use Rattle.fm_records.specs.Table.{TaskValue}
+use Rattle.fm_tally.specs.declared.tally.LiveTask.{LiveTask}
 use Rattle.fm_tally.proofs.Counting.{IsCounting, counting_begins, counting_skips, counting_adds, counting_ends}
+use Rattle.fm_tally.proofs.Held.{held_is}
 use Rattle.fm_tally.proofs.holdings.Holdings.of.Goals as goal
 
 pub loop-task-init : goal.loop-task-init
@@ -14,7 +17,7 @@ add-requires-clause-requests_fit c =
     let counting = subst (λ xs. IsCounting c.args.knowledge.now xs c.loop-task.holdings) c.in-Some.ensures.steps c.loop-task.invariant in
     let few : length c.args.knowledge.now.tasks < 2 ^ 64 = subst (λ (xs : List (ℕ × TaskValue)). length xs < 2 ^ 64) c.tasks.ensures c.iter-task-items.ensures.fits in
     let fits : c.request_in.result < 2 ^ 32 = omega arith in
-    let before = counting.requests_fit c.in-Some-holder.machine in
+    let before = counting.requests_fit c.in-Some-holder_near.machine in
     omega (arith, before, few, fits)
 
 pub add-requires-clause-tasks_fit : goal.add-requires-clause-tasks_fit
@@ -22,7 +25,7 @@ add-requires-clause-tasks_fit c =
     let counting = subst (λ xs. IsCounting c.args.knowledge.now xs c.loop-task.holdings) c.in-Some.ensures.steps c.loop-task.invariant in
     let few : length c.args.knowledge.now.tasks < 2 ^ 64 = subst (λ (xs : List (ℕ × TaskValue)). length xs < 2 ^ 64) c.tasks.ensures c.iter-task-items.ensures.fits in
     let fits : c.request_in.result < 2 ^ 32 = omega arith in
-    let before = counting.tasks_fit c.in-Some-holder.machine in
+    let before = counting.tasks_fit c.in-Some-holder_near.machine in
     omega (arith, before, few, fits)
 
 pub loop-task-preserved-in-Continue-1 : goal.loop-task-preserved-in-Continue-1
@@ -36,7 +39,7 @@ loop-task-preserved-in-Continue-1 c =
     let r = c.request_in.result in
     let told = c.in_ok-add.ensures in
     let fits : r < 2 ^ 32 = omega arith in
-    counting_adds k t c.in-Some-holder.machine r v rest old new (sym c.in-Some-holder.ensures) c.request_in.ensures fits told.requests told.tasks (subst (λ xs. IsCounting k xs old) c.in-Some.ensures.steps c.loop-task.invariant)
+    counting_adds k t c.in-Some-holder_near.machine r v rest old new (sym (c.in-Some-holder_near.ensures ∙ ap (and_then (λ (l : LiveTask). l.holder)) (c.requires t) ∙ held_is k t)) c.request_in.ensures fits told.requests told.tasks (subst (λ xs. IsCounting k xs old) c.in-Some.ensures.steps c.loop-task.invariant)
 
 pub loop-task-preserved : goal.loop-task-preserved
 loop-task-preserved c =
@@ -45,7 +48,7 @@ loop-task-preserved c =
     let v = c.in-Some.known.now in
     let rest = c.next.new.self in
     let old = c.loop-task.holdings in
-    counting_skips k t v rest old (sym c.in_default.ensures) (subst (λ xs. IsCounting k xs old) c.in-Some.ensures.steps c.loop-task.invariant)
+    counting_skips k t v rest old (sym (c.in_default.ensures ∙ ap (and_then (λ (l : LiveTask). l.holder)) (c.requires t) ∙ held_is k t)) (subst (λ xs. IsCounting k xs old) c.in-Some.ensures.steps c.loop-task.invariant)
 
 pub returns : goal.returns
 returns c =

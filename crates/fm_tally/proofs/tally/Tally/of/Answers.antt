@@ -1,13 +1,16 @@
 use Rattle.std.proofs.Common.{◌∙◌, ap}
 use Rattle.std.specs.Ordering.{nat_cmp}
 use Rattle.fm_lattice.specs.Maps.{lookup}
-use Rattle.fm_records.specs.Facts.{live_spec, open_state}
-use Rattle.fm_net.specs.NetworkLaws.{came_from, mapped_from, live_entry, open_entry}
-use Rattle.fm_tally.specs.declared.tally.LiveTask.{LiveTask}
+use Rattle.fm_records.specs.Facts.{open_state}
+use Rattle.fm_net.specs.NetworkLaws.{mapped_from, open_entry}
 use Rattle.fm_tally.specs.declared.tally.OpenMachine.{OpenMachine}
-use Rattle.fm_tally.specs.Tallies.{task_at, machine_at}
+use Rattle.fm_tally.specs.Tallies.{machine_at}
+use Rattle.fm_tally.proofs.Held.{rows_are}
 use Rattle.fm_tally.proofs.Rows.{lookup_rows}
 use Rattle.fm_tally.proofs.tally.Tally.of.Goals as goal
+
+pub of-requires : goal.of-requires
+of-requires c t = ap (lookup nat_cmp t) c.in_ok-tasks.ensures ∙ rows_are c.args.knowledge.now t
 
 pub returns : goal.returns
 returns c =
@@ -15,7 +18,7 @@ returns c =
     record {
       tasks = λ t.
           ap (lookup nat_cmp t) c.in_ok-tasks.ensures
-          ∙ lookup_rows (task_at k) k.tasks t (λ (w : LiveTask) e. let s = came_from _ (live_spec k t) w e in let v = live_entry k t s.0 s.1 in (v.0, v.1));
+          ∙ rows_are k t;
       machines = λ m.
           ap (lookup nat_cmp m) c.in_ok-machines.ensures
           ∙ lookup_rows (machine_at k) k.machines m (λ (w : OpenMachine) e. let s = mapped_from _ (open_state k m) w e in let v = open_entry k m s.0 s.1 in (v.0, v.1));

@@ -1,0 +1,162 @@
+//! Numbers in a row with queries on them: the first that is great enough, and the greatest of the first so many.
+
+use fm_lattice::join::OutOfMemory;
+use std::alloc::Global;
+
+/// Below every number that is kept in a tree.
+pub(crate) const LEAST: i64 = i64::MIN;
+
+// More levels than any tree has.
+const LEVELS: usize = 64;
+
+/// A row of numbers under a binary tree, of which each node has the greatest number below it. Node 1 is the root, and below node n
+/// are nodes 2n and 2n + 1.
+#[derive(Drop)]
+pub(crate) struct Tree {
+    nodes: Vec<i64>,
+    leaves: usize,
+}
+
+// The least power of two that is no less.
+fn power_for(count: usize) -> usize {
+    let mut power = 1usize;
+    for _ in 0..LEVELS {
+        if power >= count {
+            break;
+        }
+        power = power.saturating_mul(2);
+    }
+    power
+}
+
+// The number of the first node behind all below this one, on the deepest level on which there is one; 0 if there is none.
+fn next_right(node: usize) -> usize {
+    let mut node = node;
+    for _ in 0..LEVELS {
+        if node <= 1 {
+            return 0;
+        }
+        if node % 2 == 0 {
+            return node.saturating_add(1);
+        }
+        node /= 2;
+    }
+    0
+}
+
+impl Tree {
+    /// The numbers in their row. O(n).
+    pub(crate) fn of(alloc: Global, numbers: &[i64]) -> Result<Tree, OutOfMemory> {
+        let leaves = power_for(numbers.len());
+        let nodes = vec![in alloc; LEAST; leaves.saturating_mul(2)]?;
+        let mut tree = Tree { nodes, leaves };
+        for (leaf, number) in numbers.iter().enumerate() {
+            tree.write(leaves.saturating_add(leaf), *number);
+        }
+        for back in 1..leaves {
+            let node = leaves.saturating_sub(back);
+            let greatest = tree.below(node);
+            tree.write(node, greatest);
+        }
+        Ok(tree)
+    }
+
+    // The number of a node.
+    fn at(&self, node: usize) -> i64 {
+        self.nodes.get(node).copied().unwrap_or(LEAST)
+    }
+
+    fn write(&mut self, node: usize, number: i64) {
+        if let Some(old) = self.nodes.get_mut(node) {
+            *old = number;
+        }
+    }
+
+    // The greatest number right below a node.
+    fn below(&self, node: usize) -> i64 {
+        let left = node.saturating_mul(2);
+        self.at(left).max(self.at(left.saturating_add(1)))
+    }
+
+    /// The greatest number of all.
+    pub(crate) fn greatest(&self) -> i64 {
+        self.at(1)
+    }
+
+    /// Puts a number in place of another. O(log n), as each query.
+    pub(crate) fn set(&mut self, leaf: usize, number: i64) {
+        let mut node = self.leaves.saturating_add(leaf);
+        self.write(node, number);
+        for _ in 0..LEVELS {
+            node /= 2;
+            if node == 0 {
+                break;
+            }
+            let greatest = self.below(node);
+            if self.at(node) == greatest {
+                break;
+            }
+            self.write(node, greatest);
+        }
+    }
+
+    // The first place below the node whose number is no less.
+    fn first_below(&self, node: usize, least: i64) -> usize {
+        let mut node = node;
+        for _ in 0..LEVELS {
+            if node >= self.leaves {
+                break;
+            }
+            let left = node.saturating_mul(2);
+            node = if self.at(left) >= least {
+                left
+            } else {
+                left.saturating_add(1)
+            };
+        }
+        node.saturating_sub(self.leaves)
+    }
+
+    /// The first place from here on whose number is no less. None if there is none.
+    pub(crate) fn first(&self, from: usize, least: i64) -> Option<usize> {
+        if from >= self.leaves {
+            return None;
+        }
+        let mut node = self.leaves.saturating_add(from);
+        for _ in 0..LEVELS {
+            if self.at(node) >= least {
+                return Some(self.first_below(node, least));
+            }
+            node = next_right(node);
+            if node == 0 {
+                break;
+            }
+        }
+        None
+    }
+
+    // The node with the greatest number of the first so many, if one is above the least.
+    fn greatest_node(&self, end: usize) -> Option<usize> {
+        if end >= self.leaves {
+            return Some(1);
+        }
+        let mut right = self.leaves.saturating_add(end);
+        let mut found = None;
+        let mut most = LEAST;
+        for _ in 0..LEVELS {
+            let left = right.saturating_sub(1);
+            if right % 2 == 1 && self.at(left) > most {
+                most = self.at(left);
+                found = Some(left);
+            }
+            right /= 2;
+        }
+        found
+    }
+
+    /// The place of the greatest of the first so many numbers.
+    pub(crate) fn greatest_before(&self, end: usize) -> Option<usize> {
+        let node = self.greatest_node(end)?;
+        Some(self.first_below(node, self.at(node)))
+    }
+}
