@@ -29,7 +29,7 @@ rounds that were checked), and costs are equal. Bandwidth is what the running ta
 together above its nic. Runs in vain were preempted, lost to another coordinator's proposal, or went on when their task was over."""
 
 CLOCKS = {"wall": "Times are by the clock.", "processor": "Times of coordinators are those for which each process had a processor, since the "
-          "machine had other work; LEMON's are by the clock."}
+          "machine had other work. LEMON's are by the clock, so they are not shown here: only its costs were compared."}
 
 
 def shown(value):
@@ -60,6 +60,8 @@ def refused(lives):
 
 def page(results):
     lives = [life for life in results["lives"] if "broke" not in life]
+    for life in lives if results["clock"] == "processor" else ():
+        life["beside"] = {name: value for name, value in life["beside"].items() if name not in ("lemon", "whole")}
     broke = ["<p class=broke>%s tasks, %d coordinators: %s</p>" % (shown(life["tasks"]), life["coordinators"], html.escape(life["broke"]))
              for life in results["lives"] if "broke" in life]
     drawn = "\n".join("<div>%s</div>" % svg for _, svg in plots.all_plots(lives)) if lives else ""
