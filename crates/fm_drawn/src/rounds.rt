@@ -19,8 +19,11 @@ const CLUSTERS: u32 = 500;
 
 const ROUNDS: u32 = 3;
 
-// More waiting tasks than are planned from a tally.
-const CROWD: u32 = 5000;
+// How many machines a chain has.
+const CHAINED: u32 = 400;
+
+// As many sizes of requests, and machines, as make too many pairs for a plan from the tally: more than 2^26.
+const MANY_SIZES: u32 = 8193;
 
 // What rounds came to: how many there were, how many plans were made from the network, and how many cost more or less than a least
 // flow.
@@ -151,33 +154,44 @@ fn counted(alloc: Global, is_preferring: bool) -> Result<Counts, Refusal> {
     Ok(counts)
 }
 
-// Two machines, and a crowd of tasks that wait for them.
-fn crowded(alloc: Global) -> Result<Cluster, Refusal> {
+// So many machines without bandwidth, and as many tasks that wait, each of another size: so the network has few arcs, but there are too
+// many pairs of a request and a machine for a plan from the tally.
+fn scattered_sizes(alloc: Global, count: u32) -> Result<Cluster, Refusal> {
     let sizes = Sizes {
         jobs: 1,
-        machines: 2,
+        machines: count,
         tasks: 0,
-        requests: 1,
+        requests: count,
         wait: 100,
         preferring: 0,
     };
     let mut cluster = Cluster::empty(alloc, sizes);
     cluster.tell_job(0, 100, 200)?;
-    cluster.tell_machine(0, true, 10, 1000)?;
-    cluster.tell_machine(1, true, 10, 1000)?;
-    for _ in 0..CROWD {
-        cluster.tell_task(0, 1, Prefer::default())?;
+    for number in 0..count {
+        cluster.tell_machine(number, true, 10, 0)?;
+        cluster.tell_task(0, number.saturating_add(1), Prefer::default())?;
     }
     Ok(cluster)
 }
 
-// What the round of a crowd comes to.
-fn crowd(alloc: Global) -> Result<Counts, Refusal> {
-    let cluster = crowded(alloc)?;
+// What a round of the cluster comes to.
+fn round_once(alloc: Global, cluster: &Cluster) -> Result<Counts, Refusal> {
     let mut counts = Counts::none();
     let (planned, is_least) = planned(alloc, &cluster.known)?;
     counts.count(planned.source, is_least);
     Ok(counts)
+}
+
+// What a round of a chain of so many machines comes to.
+fn of_chain(alloc: Global, machines: u32) -> Result<Counts, Refusal> {
+    let cluster = Cluster::chained(alloc, machines)?;
+    round_once(alloc, &cluster)
+}
+
+// What a round comes to with so many sizes of requests and as many machines.
+fn of_sizes(alloc: Global, count: u32) -> Result<Counts, Refusal> {
+    let cluster = scattered_sizes(alloc, count)?;
+    round_once(alloc, &cluster)
 }
 
 fn say(rt: &HostRuntime, kind: &str, counts: Counts) -> Result<(), anyhow::Error> {
@@ -187,7 +201,7 @@ fn say(rt: &HostRuntime, kind: &str, counts: Counts) -> Result<(), anyhow::Error
         wrong,
     } = counts;
     println!(rt;
-        "{rounds} rounds {kind}: {wrong} cost more or less than a least flow, {from_network} planned from the network"
+        "rounds {kind}: {rounds}, of which {wrong} cost more or less than a least flow, and {from_network} planned from the network"
     )?;
     Ok(())
 }
@@ -196,6 +210,7 @@ fn say(rt: &HostRuntime, kind: &str, counts: Counts) -> Result<(), anyhow::Error
 pub(crate) fn print(rt: &HostRuntime, alloc: Global) -> Result<(), anyhow::Error> {
     say(rt, "without preferences", counted(alloc, false)?)?;
     say(rt, "with preferences", counted(alloc, true)?)?;
-    say(rt, "of a crowd", crowd(alloc)?)?;
+    say(rt, "of a chain", of_chain(alloc, CHAINED)?)?;
+    say(rt, "of many sizes", of_sizes(alloc, MANY_SIZES)?)?;
     Ok(())
 }
