@@ -47,10 +47,9 @@ impl Looked {
     }
 
     /// Tells both the operation.
-    pub(crate) fn told(mut self, op: Op) -> Result<Looked, Refusal> {
+    pub(crate) fn tell(&mut self, op: Op) -> Result<(), Refusal> {
         self.deferring.tell(0, op)?;
-        self.building.tell(0, op)?;
-        Ok(self)
+        self.building.tell(0, op)
     }
 
     /// Looks at both.

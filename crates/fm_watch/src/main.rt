@@ -65,28 +65,29 @@ fn steps(rt: &HostRuntime, script: &Script) -> Result<(), anyhow::Error>
 fn looks(rt: &HostRuntime, script: Script) -> Result<(), anyhow::Error> {
     let mut looked = Looked::new(rt.alloc())?;
     for step in script.steps {
-        looked = looked_at(rt, looked, step.act)?;
+        looked_at(rt, &mut looked, step.act)?;
     }
     Ok(())
 }
 
 // After a step of the script.
-fn looked_at(rt: &HostRuntime, looked: Looked, act: Act) -> Result<Looked, anyhow::Error> {
+fn looked_at(rt: &HostRuntime, looked: &mut Looked, act: Act) -> Result<(), anyhow::Error> {
     match act {
-        Act::Tell(op) => Ok(looked.told(op)?),
-        Act::Cut(_) => shown_at(rt, looked),
-        _ => Ok(looked),
+        Act::Tell(op) => looked.tell(op)?,
+        Act::Cut(_) => shown_at(rt, looked)?,
+        _ => {}
     }
+    Ok(())
 }
 
 // Looks, and prints what is seen.
-fn shown_at(rt: &HostRuntime, mut looked: Looked) -> Result<Looked, anyhow::Error> {
+fn shown_at(rt: &HostRuntime, looked: &mut Looked) -> Result<(), anyhow::Error> {
     let seen = looked.look(rt.alloc())?;
     let (same, edits, builds) = (seen.is_same, seen.edits, seen.builds);
     println!(rt; "look: same {same}, {edits} edits, {builds} builds")?;
     let text = String::from_utf8(seen.text)?;
     print!(rt; "{text}")?;
-    Ok(looked)
+    Ok(())
 }
 
 // The script on standard input.
