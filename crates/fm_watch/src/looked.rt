@@ -47,9 +47,9 @@ impl Looked {
     }
 
     /// Tells both the operation.
-    pub(crate) fn tell(&mut self, op: Op) -> Result<(), Refusal> {
-        self.deferring.tell(0, op)?;
-        self.building.tell(0, op)
+    pub(crate) fn tell(&mut self, op: &Op) -> Result<(), Refusal> {
+        self.deferring.tell(0, *op)?;
+        self.building.tell(0, *op)
     }
 
     /// Looks at both.

@@ -73,7 +73,7 @@ fn looks(rt: &HostRuntime, script: Script) -> Result<(), anyhow::Error> {
 // After a step of the script.
 fn looked_at(rt: &HostRuntime, looked: &mut Looked, act: Act) -> Result<(), anyhow::Error> {
     match act {
-        Act::Tell(op) => looked.tell(op)?,
+        Act::Tell(op) => looked.tell(&op)?,
         Act::Cut(_) => shown_at(rt, looked)?,
         _ => {}
     }
