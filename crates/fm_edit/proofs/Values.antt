@@ -1,6 +1,7 @@
 -- Values at keys that are set one by one, and lists that are walked over.
-use Rattle.std.proofs.Common.{◌≡◌, ◌∙◌, ℕ, ◌+◌, ◌<◌, Bool, true, false, cond, ◌||◌, ◌⊎◌, inl, inr, List, [], ◌∷◌, length, drop, get_or, suc, add-one, Option, refl, sym, ap, subst}
+use Rattle.std.proofs.Common.{◌≡◌, ◌∙◌, ℕ, ◌+◌, ◌-◌, ◌^◌, ◌<◌, arith, Bool, true, false, cond, ◌||◌, ◌⊎◌, inl, inr, List, [], ◌∷◌, length, drop, get_or, suc, add-one, Option, refl, sym, ap, subst}
 use Rattle.std.proofs.Math.Seq.{drop-cons}
+use Rattle.std.specs.Prelude.{min}
 use Rattle.std.specs.List.{AllByRecursion}
 use Rattle.std.proofs.lemmas.List.Folds.{list_any_at}
 use Rattle.std.specs.List.Sorted.{IsStrictlySortedBy}
@@ -111,3 +112,7 @@ module _ {V : Type 0} where
 
   pub as_many : (es fs : List (ℕ × V)) → IsStrictlySortedBy nat_cmp (keys_of es) → IsRising nat_cmp fs → ((q : ℕ) → lookup nat_cmp q es ≡ lookup nat_cmp q fs) → length es ≡ length fs
   as_many es fs sorted rise alike = ap length (same_map nat_cmp nat_cmp_total nat_same es fs (rising_entries es sorted) rise alike)
+
+-- a count that stops at its end, after one more
+pub also_counted : (first i now : ℕ) → now ≡ min (first + i) (2 ^ 64 - 1) → min (now + 1) (2 ^ 64 - 1) ≡ min (first + (i + 1)) (2 ^ 64 - 1)
+also_counted first i now is = omega (arith, is)

@@ -1,6 +1,6 @@
 //! The laws of what a delta can change. Each function does nothing: its contract is the law.
 
-ghost use Rattle.std.specs.Prelude.{◌≡◌, ℕ, false, List};
+ghost use Rattle.std.specs.Prelude.{◌≡◌, ℕ, false, List, []};
 ghost use Rattle.fm_records.specs.Sets.{IsMember};
 ghost use Rattle.fm_records.specs.Table.{Table};
 ghost use Rattle.fm_records.specs.Ranges.{CanBe};
@@ -22,6 +22,12 @@ pub fn law_same_beyond()
 pub fn law_clean_task()
     ensures live { (k after : Table) (keys : Keys) (turned : List ℕ) → SameBeyond k after keys turned → (t : ℕ) → dirty_task k after keys turned t ≡ false → live_spec after t ≡ live_spec k t }
     ensures holder { (k after : Table) (keys : Keys) (turned : List ℕ) → SameBeyond k after keys turned → (t : ℕ) → dirty_task k after keys turned t ≡ false → holder_of after t ≡ holder_of k t }
+{}
+
+/// A delta that tells of no job and no task, and with which no machine turned, makes no task dirty: so a report alone
+/// makes none dirty.
+pub fn law_report()
+    ensures { (k after : Table) (keys : Keys) → keys.jobs ≡ [] → keys.tasks ≡ [] → (t : ℕ) → dirty_task k after keys [] t ≡ false }
 {}
 
 /// A machine that is not dirty has the same load and spare.

@@ -1,4 +1,5 @@
-use Rattle.std.proofs.Common.{◌≡◌, ◌∙◌, ◌++◌, ◌<◌, ◌^◌, ℕ, List, true, map, sym, ap, subst, refl, length}
+use Rattle.std.proofs.Common.{◌≡◌, ◌∙◌, ◌++◌, ◌+◌, ◌-◌, ◌<◌, ◌^◌, ℕ, List, true, map, sym, ap, subst, refl, length, inl, inr}
+use Rattle.std.specs.Prelude.{min}
 use Rattle.std.specs.Ordering.{nat_cmp}
 use Rattle.fm_lattice.specs.Maps.{lookup}
 use Rattle.fm_records.specs.Facts.{job_of, won_spot, attempt_of}
@@ -9,7 +10,7 @@ use Rattle.fm_edit.specs.Sight.{seen_in}
 use Rattle.fm_edit.specs.Seeing.{values_at}
 use Rattle.fm_edit.specs.Memory.{Counts}
 use Rattle.fm_edit.specs.Touched.{has_touched, TouchesTask}
-use Rattle.fm_edit.proofs.Followed.{seen_as, five, after_can_be, base, turned, turned_is, spots_as, all_found, counts_on, all_touched}
+use Rattle.fm_edit.proofs.Followed.{seen_as, five, after_can_be, base, turned, turned_is, spots_as, all_found, only_dirty, dirty_as_seen, counts_on, all_touched}
 use Rattle.fm_edit.proofs.memory.Memory.follow.Goals as goal
 
 pub see-requires-clause-jobs : goal.see-requires-clause-jobs
@@ -62,9 +63,9 @@ returns g c =
     let all = all_found k d now keys r.before_can_be r.delta_can_be r.joined r.keys c.args.self.now.index held.remembers.counts ds
     c.in_ok-dirty.ensures.told c.in_ok-dirty.ensures.jobs
     (λ m t h. c.in_ok-dirty.ensures.machines m t (ap (λ xs. has_id xs m) ts ∙ h)) in
-    let taken = subst (λ zs. Counts (has_id zs) k c.take_out_all.new.self) c.as_slice-4.ensures.value (c.in_ok-take_out_all.ensures k r.before_can_be sees0 held.remembers.counts) in
+    let taken = subst (λ zs. Counts (has_id zs) k c.take_out_all.new.self) c.as_slice-4.ensures.value (c.in_ok-take_out_all.ensures.counts k r.before_can_be sees0 held.remembers.counts) in
     let kept = counts_on k d now keys r.before_can_be r.delta_can_be r.joined r.keys ds all c.take_out_all.new.self taken in
-    let counts = c.in_ok-put_back_all.ensures now can fits sees (subst (λ zs. Counts (has_id zs) now c.take_out_all.new.self) (sym c.as_slice-6.ensures.value) kept) in
+    let counts = c.in_ok-put_back_all.ensures.counts now can fits sees (subst (λ zs. Counts (has_id zs) now c.take_out_all.new.self) (sym c.as_slice-6.ensures.value) kept) in
     let K = g.L.Look.keys c.args.look.now in
     let looked : g.L.Look.keys c.machines_now.new.look ≡ K ++ map key.Machine keys.machines = c.in_ok-machines.ensures.keys ∙ ap (λ (ms : List ℕ). K ++ map key.Machine ms) c.machines.ensures in
     record {
@@ -78,6 +79,13 @@ returns g c =
           (subst (λ zs. (t : ℕ) → has_id zs t ≡ true → TouchesTask (seen_in c.args.self.now.seen) t c.tasks.new.self) c.as_slice-3.ensures.value c.in_ok-tasks.ensures.touches)
           (subst (λ zs. (t : ℕ) → has_id zs t ≡ true → TouchesTask (seen_in seen) t c.tasks-2.new.self) c.as_slice-7.ensures.value c.in_ok-tasks-2.ensures.touches)
           c.in_ok-touch_pairs.ensures c.known-2.ensures.nodes c.known-2.ensures.pairs;
+      taken = λ seen_as_well other. (
+        ds,
+        dirty_as_seen k d now keys r.before_can_be r.delta_can_be r.joined r.keys seen_as_well (sym other.sees ∙ sees0) ds c.in_ok-dirty.ensures.rises
+            (only_dirty k d now keys r.before_can_be r.delta_can_be r.joined r.keys c.args.self.now.index held.remembers.counts ds all
+            (λ t h. elim (c.in_ok-dirty.ensures.only t h) [ inl told ↦ inl told | inr listed ↦ elim listed [ inl of_job ↦ inr (inl of_job) | inr of_machine ↦ inr (inr (of_machine.0, ap (λ xs. has_id xs of_machine.0) (sym ts) ∙ of_machine.1, of_machine.2)) ] ])),
+        c.in_ok-put_back_all.ensures.taken ∙ c.in_ok-take_out_all.ensures.taken ∙ ap (λ (zs : List ℕ). min (c.args.self.now.index.taken + length zs) (2 ^ 64 - 1)) c.as_slice-4.ensures.value,
+      );
       small = fits;
       keys =
           c.in_ok-see.ensures.keys
