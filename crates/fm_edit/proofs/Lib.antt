@@ -8,6 +8,7 @@ pub mod Followed
 pub mod Filled
 pub mod Late
 pub mod Listings
+pub mod Made
 pub mod Preferring
 pub mod Ranges
 pub mod ShownLaws

@@ -12,6 +12,8 @@ use Rattle.fm_records.specs.TableLaws.{Rises}
 use Rattle.fm_records.specs.Facts.{spec_of, live_spec, won_spot, holder_of, is_present}
 use Rattle.fm_net.specs.declared.node.Node.{Node}
 use Rattle.fm_net.specs.declared.node.Node.TheVariants.{Sink, Unscheduled, Request, Machine, Task}
+use Rattle.fm_net.specs.declared.edit.Edit.{Edit}
+use Rattle.fm_net.specs.declared.edit.Edit.TheVariants.{DropArc, DropNode, PutNode, PutArc}
 use Rattle.fm_net.specs.Network.{is_held}
 use Rattle.fm_policy.specs.Changes.{Keys}
 use Rattle.fm_edit.specs.Seeing.{turns}
@@ -84,6 +86,13 @@ module _ (k after : Table) (keys : Keys) (turned : List ℕ) where
   MayDiffer (Machine m) Sink = IsDirtyMachine m
   MayDiffer (Unscheduled j) Sink = IsDirtyJob j
   MayDiffer _ _ = ⊥
+
+  -- the edits that may be made: of a node that may come or go, or of a pair whose arc may
+  abbrev pub MayMake : Edit → Type 0
+  MayMake (DropArc a b) = MayDiffer a b
+  MayMake (DropNode n) = MayTurn n
+  MayMake (PutNode n) = MayTurn n
+  MayMake (PutArc a b capacity cost) = MayDiffer a b
 
 -- the machines of these keys that turned from one table to the other
 abbrev pub turned_in : Table → Table → Keys → List ℕ
