@@ -9,6 +9,7 @@ pub mod Filled
 pub mod Late
 pub mod Listings
 pub mod Made
+pub mod Once
 pub mod Preferring
 pub mod Ranges
 pub mod ShownLaws

@@ -9,10 +9,12 @@ ghost use Rattle.fm_records.specs.Facts.{live_spec, holder_of, load_of, spare_of
 ghost use Rattle.fm_net.specs.declared.node.Node.{Node as NodeName};
 ghost use Rattle.fm_net.specs.declared.edit.Edit.{Edit as EditName};
 ghost use Rattle.fm_net.specs.Edits.{change};
+ghost use Rattle.fm_net.specs.Net.{Net, CanBeNet};
 ghost use Rattle.fm_net.specs.Network.{is_node, arc_of, net_of};
 ghost use Rattle.fm_policy.specs.Changes.{Keys, changed_keys};
 ghost use Rattle.fm_edit.specs.declared.look.Key.{Key as KeyName};
 ghost use Rattle.fm_edit.specs.Dirty.{SameBeyond, dirty_task, IsDirtyMachine, MayTurn, MayDiffer, MayMake};
+ghost use Rattle.fm_edit.specs.Change.{AreApart};
 ghost use Rattle.fm_edit.specs.Looking.{looks_of, IsDirtyKey};
 
 /// A delta changes nothing that its keys do not name: at most its machines turn.
@@ -48,6 +50,11 @@ pub fn law_local()
 /// The change from a network to that after a delta puts and drops only nodes that may turn and pairs that may differ.
 pub fn law_edits()
     ensures { (k after : Table) (keys : Keys) (turned : List ℕ) → SameBeyond k after keys turned → (e : EditName) → ¬ MayMake k after keys turned e → ¬ IsMember e (change (net_of k) (net_of after)) }
+{}
+
+/// No two edits of the change from one network to another are of the same node, or of an arc with the same ends.
+pub fn law_once()
+    ensures { (n m : Net) → CanBeNet n → CanBeNet m → AreApart (change n m) }
 {}
 
 /// The arc of a request to a machine that is not dirty is unchanged, unless the request came or went as a node: so a
