@@ -7,6 +7,7 @@ mod Examples
 pub mod Followed
 pub mod Filled
 pub mod Late
+pub mod Least
 pub mod Listings
 pub mod Made
 pub mod Once

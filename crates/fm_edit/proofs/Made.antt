@@ -22,11 +22,11 @@ use Rattle.fm_edit.specs.LocalLaws.{node_same, arc_same}
 use Rattle.fm_edit.specs.LookLaws.{each_of_both, each_mapped}
 use Rattle.fm_edit.proofs.Sums.{kept_member}
 
-not_both : {P : Type 0} (b : Bool) → b ≡ true → not b ≡ true → P
+pub not_both : {P : Type 0} (b : Bool) → b ≡ true → not b ≡ true → P
 not_both true e f = absurd (let no : ⊥ = cc in no)
 not_both false e f = absurd (let no : ⊥ = cc in no)
 
-same_itself : (v : ℕ × ℕ) → same_value v v ≡ true
+pub same_itself : (v : ℕ × ℕ) → same_value v v ≡ true
 same_itself v = λ i. eq-eqb v.0 v.0 refl i && eq-eqb v.1 v.1 refl i
 
 module _ (k after : Table) (keys : Keys) (turned : List ℕ) (same : SameBeyond k after keys turned) where

@@ -64,7 +64,7 @@ arcs_apart : (f : Arc → Edit) → ((a b : Arc) → edit_of (f b) ≡ edit_of (
 arcs_apart f names [] r = tt
 arcs_apart f names (a ∷ es) r = (
   each_mapped (IsOther (f a)) f es
-  (λ b h same. less_tied (sym (below_arc a.0 b es r.0 h) ∙ ap (ends_cmp a.0) (names a b same) ∙ tied_itself ends_total a.0)),
+      (λ b h same. less_tied (sym (below_arc a.0 b es r.0 h) ∙ ap (ends_cmp a.0) (names a b same) ∙ tied_itself ends_total a.0)),
   arcs_apart f names es r.1,
 )
 
@@ -72,7 +72,7 @@ nodes_apart : (f : Node → Edit) → ((a b : Node) → edit_of (f b) ≡ edit_o
 nodes_apart f names [] r = tt
 nodes_apart f names (n ∷ ns) r = (
   each_mapped (IsOther (f n)) f ns
-  (λ b h same. less_tied (sym (below_node n b ns r.0 h) ∙ ap (node_cmp n) (names n b same) ∙ tied_itself node_total n)),
+      (λ b h same. less_tied (sym (below_node n b ns r.0 h) ∙ ap (node_cmp n) (names n b same) ∙ tied_itself node_total n)),
   nodes_apart f names ns r.1,
 )
 

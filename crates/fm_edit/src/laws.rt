@@ -1,6 +1,6 @@
 //! The laws of what a delta can change. Each function does nothing: its contract is the law.
 
-ghost use Rattle.std.specs.Prelude.{◌≡◌, ℕ, false, List, []};
+ghost use Rattle.std.specs.Prelude.{◌≡◌, ◌≤◌, ℕ, false, List, [], length};
 ghost use Rattle.fm_records.specs.Sets.{IsMember};
 ghost use Rattle.fm_records.specs.Table.{Table};
 ghost use Rattle.fm_records.specs.Ranges.{CanBe};
@@ -8,7 +8,7 @@ ghost use Rattle.fm_records.specs.Joined.{table_join};
 ghost use Rattle.fm_records.specs.Facts.{live_spec, holder_of, load_of, spare_of};
 ghost use Rattle.fm_net.specs.declared.node.Node.{Node as NodeName};
 ghost use Rattle.fm_net.specs.declared.edit.Edit.{Edit as EditName};
-ghost use Rattle.fm_net.specs.Edits.{change};
+ghost use Rattle.fm_net.specs.Edits.{change, after as after_edits};
 ghost use Rattle.fm_net.specs.Net.{Net, CanBeNet};
 ghost use Rattle.fm_net.specs.Network.{is_node, arc_of, net_of};
 ghost use Rattle.fm_policy.specs.Changes.{Keys, changed_keys};
@@ -50,6 +50,11 @@ pub fn law_local()
 /// The change from a network to that after a delta puts and drops only nodes that may turn and pairs that may differ.
 pub fn law_edits()
     ensures { (k after : Table) (keys : Keys) (turned : List ℕ) → SameBeyond k after keys turned → (e : EditName) → ¬ MayMake k after keys turned e → ¬ IsMember e (change (net_of k) (net_of after)) }
+{}
+
+/// Edits that turn one network into another are at least as many as those of the change.
+pub fn law_least()
+    ensures { (n m : Net) → CanBeNet n → CanBeNet m → (edits : List EditName) → after_edits edits n ≡ m → length (change n m) ≤ length edits }
 {}
 
 /// No two edits of the change from one network to another are of the same node, or of an arc with the same ends.
