@@ -10,4 +10,5 @@ abbrev pub invariant-loop-entry : goal.invariant-loop-entry
 invariant-loop-entry l = record {
   grows : Grows l.fn.self l.self;
   has : (m : ℕ) → is_some (lookup nat_cmp m (take l.entry-index l.prefer)) ≡ true → has_pair l.self (Task l.task) (Machine m) ≡ true;
+  nodes : l.self.nodes ≡ l.fn.self.nodes;
 }
