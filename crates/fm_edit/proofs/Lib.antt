@@ -15,4 +15,5 @@ pub mod Preferring
 pub mod Ranges
 pub mod ShownLaws
 pub mod Sums
+pub mod Turning
 pub mod Values

@@ -6,7 +6,9 @@ use Rattle.fm_net.specs.declared.node.Node.{Node}
 use Rattle.fm_net.specs.declared.node.Node.TheVariants.{Machine, Task}
 use Rattle.fm_net.specs.Nodes.{node_cmp, ends_cmp}
 use Rattle.fm_edit.specs.declared.touched.Touched.{Touched}
-use Rattle.fm_edit.specs.Dirty.{has_id}
+use Rattle.fm_records.specs.Table.{Table}
+use Rattle.fm_policy.specs.Changes.{Keys}
+use Rattle.fm_edit.specs.Dirty.{has_id, turned_in, MayTurn}
 use Rattle.fm_edit.specs.Sight.{Sight, job_node_in, request_node_in, holder_node_in, prefers_in}
 
 abbrev pub has_touched : Touched → Node → Bool
@@ -42,3 +44,7 @@ IsEnd s t n = (Task t ≡ n) ⊎ ((job_node_in s t ≡ Some n) ⊎ ((request_nod
 
 abbrev pub IsEndOf : Sight → List ℕ → Node → Type 0
 IsEndOf s ts n = (t : ℕ) × (has_id ts t ≡ true) × IsEnd s t n
+
+-- only nodes that may come or go are touched
+abbrev pub TouchesOnlyDirty : Table → Table → Keys → Touched → Type 0
+TouchesOnlyDirty k after keys x = (n : Node) → has_touched x n ≡ true → MayTurn k after keys (turned_in k after keys) n

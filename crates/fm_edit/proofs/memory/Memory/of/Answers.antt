@@ -1,4 +1,4 @@
-use Rattle.std.proofs.Common.{◌≡◌, ◌∙◌, ◌<◌, ◌^◌, List, [], ℕ, sym, ap, subst, length}
+use Rattle.std.proofs.Common.{◌∙◌, ◌<◌, ◌^◌, [], sym, ap, subst, length}
 use Rattle.std.specs.Ordering.{nat_cmp}
 use Rattle.fm_lattice.specs.Maps.{lookup}
 use Rattle.fm_records.specs.TableLaws.{Rises}
