@@ -28,7 +28,8 @@ pub(crate) struct Touched {
 impl Touched {
     /// Nothing is touched.
     pub(crate) fn new(alloc: Global) -> Touched
-        ensures { (n : NodeName) → has_touched result n ≡ false }
+        ensures nodes { (n : NodeName) → has_touched result n ≡ false }
+        ensures pairs { (a b : NodeName) → has_pair result a b ≡ false }
     {
         Touched {
             nodes: BTreeSet::new(alloc),
@@ -50,6 +51,7 @@ impl Touched {
         ensures grows { OnOk result (Grows self.old self.new) }
         ensures has { OnOk result (has_touched self.new node.now ≡ true) }
         ensures only { OnOk result ((n : NodeName) → has_touched self.new n ≡ true → (has_touched self.old n ≡ true) ⊎ (node.now ≡ n)) }
+        ensures pairs { self.new.pairs ≡ self.old.pairs }
     {
         self.nodes.insert(*node)?;
         Ok(())
@@ -59,6 +61,7 @@ impl Touched {
     pub(crate) fn pair(&mut self, from: &Node, to: &Node) -> Result<(), OutOfMemory>
         ensures grows { OnOk result (Grows self.old self.new) }
         ensures has { OnOk result (has_pair self.new from.now to.now ≡ true) }
+        ensures only { OnOk result ((a b : NodeName) → has_pair self.new a b ≡ true → (has_pair self.old a b ≡ true) ⊎ ((from.now ≡ a) × (to.now ≡ b))) }
         ensures nodes { self.new.nodes ≡ self.old.nodes }
     {
         self.pairs.insert((*from, *to))?;
@@ -70,6 +73,7 @@ impl Touched {
         ensures grows { OnOk result (Grows self.old self.new) }
         ensures leads { OnOk result (Leads self.new task end) }
         ensures only { OnOk result ((n : NodeName) → has_touched self.new n ≡ true → (has_touched self.old n ≡ true) ⊎ (end ≡ Some n)) }
+        ensures starts { OnOk result ((a b : NodeName) → has_pair self.new a b ≡ true → (has_pair self.old a b ≡ true) ⊎ (NodeName.Task task ≡ a)) }
     {
         if let Some(end) = end {
             self.node(&end)?;
@@ -83,6 +87,7 @@ impl Touched {
         ensures grows { OnOk result (Grows self.old self.new) }
         ensures touches { OnOk result (TouchesTask (seen_in seen.now) task self.new) }
         ensures only { OnOk result ((n : NodeName) → has_touched self.new n ≡ true → (has_touched self.old n ≡ true) ⊎ IsEnd (seen_in seen.now) task n) }
+        ensures starts { OnOk result ((a b : NodeName) → has_pair self.new a b ≡ true → (has_pair self.old a b ≡ true) ⊎ (NodeName.Task task ≡ a)) }
     {
         let found = seen.task(task);
         self.node(&Node::Task(task))?;
@@ -97,6 +102,7 @@ impl Touched {
         ensures grows { OnOk result (Grows self.old self.new) }
         ensures has { OnOk result ((m : ℕ) → is_some (lookup nat_cmp m prefer.now) ≡ true → has_pair self.new (NodeName.Task task) (NodeName.Machine m) ≡ true) }
         ensures nodes { self.new.nodes ≡ self.old.nodes }
+        ensures starts { OnOk result ((a b : NodeName) → has_pair self.new a b ≡ true → (has_pair self.old a b ≡ true) ⊎ (NodeName.Task task ≡ a)) }
     {
         for entry in prefer.entries() {
             self.pair(&Node::Task(task), &Node::Machine(entry.0))?;
@@ -109,6 +115,7 @@ impl Touched {
         ensures grows { OnOk result (Grows self.old self.new) }
         ensures touches { OnOk result ((t : ℕ) → has_id tasks.now t ≡ true → TouchesTask (seen_in seen.now) t self.new) }
         ensures only { OnOk result ((n : NodeName) → has_touched self.new n ≡ true → (has_touched self.old n ≡ true) ⊎ IsEndOf (seen_in seen.now) tasks.now n) }
+        ensures starts { OnOk result ((a b : NodeName) → has_pair self.new a b ≡ true → (has_pair self.old a b ≡ true) ⊎ IsNodeOf NodeName.Task tasks.now a) }
     {
         for task in tasks {
             self.task(seen, *task)?;
@@ -121,6 +128,7 @@ impl Touched {
         ensures grows { OnOk result (Grows self.old self.new) }
         ensures touches { OnOk result ((j : ℕ) → has_id jobs.now j ≡ true → has_touched self.new (NodeName.Unscheduled j) ≡ true) }
         ensures only { OnOk result ((n : NodeName) → has_touched self.new n ≡ true → (has_touched self.old n ≡ true) ⊎ IsNodeOf NodeName.Unscheduled jobs.now n) }
+        ensures pairs { self.new.pairs ≡ self.old.pairs }
     {
         for job in jobs {
             self.node(&Node::Unscheduled(*job))?;
@@ -133,6 +141,7 @@ impl Touched {
         ensures grows { OnOk result (Grows self.old self.new) }
         ensures touches { OnOk result ((m : ℕ) → has_id machines.now m ≡ true → has_touched self.new (NodeName.Machine m) ≡ true) }
         ensures only { OnOk result ((n : NodeName) → has_touched self.new n ≡ true → (has_touched self.old n ≡ true) ⊎ IsNodeOf NodeName.Machine machines.now n) }
+        ensures pairs { self.new.pairs ≡ self.old.pairs }
     {
         for machine in machines {
             self.node(&Node::Machine(*machine))?;

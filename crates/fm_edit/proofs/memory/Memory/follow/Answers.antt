@@ -92,7 +92,7 @@ returns g c =
       only = λ other_k other.
           only_turning other_k now keys ds (are other_k other) (seen_in c.args.self.now.seen) (seen_in seen) (other.sees) sees
           c.new-touched.result c.jobs-2.new.self c.machines-3.new.self c.tasks.new.self c.tasks-2.new.self c.touch_pairs.new.touched
-          c.new-touched.ensures
+          c.new-touched.ensures.nodes
           (subst (λ zs. (n : Node) → has_touched c.jobs-2.new.self n ≡ true → (has_touched c.new-touched.result n ≡ true) ⊎ IsNodeOf Unscheduled zs n) c.jobs.ensures c.in_ok-jobs.ensures.only)
           (subst (λ zs. (n : Node) → has_touched c.machines-3.new.self n ≡ true → (has_touched c.jobs-2.new.self n ≡ true) ⊎ IsNodeOf Machine zs n) c.machines-2.ensures c.in_ok-machines-2.ensures.only)
           (subst (λ zs. (n : Node) → has_touched c.tasks.new.self n ≡ true → (has_touched c.machines-3.new.self n ≡ true) ⊎ IsEndOf (seen_in c.args.self.now.seen) zs n) c.as_slice-3.ensures.value c.in_ok-tasks.ensures.only)

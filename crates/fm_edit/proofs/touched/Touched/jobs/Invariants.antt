@@ -10,4 +10,5 @@ invariant-loop-job l = record {
   grows : Grows l.fn.self l.self;
   touches : (x : ℕ) → has_id l.jobs x ≡ true → has_id (drop l.job-index l.jobs) x ≡ false → has_touched l.self (Unscheduled x) ≡ true;
   only : (n : Node) → has_touched l.self n ≡ true → (has_touched l.fn.self n ≡ true) ⊎ IsNodeOf Unscheduled l.jobs n;
+  pairs : l.self.pairs ≡ l.fn.self.pairs;
 }

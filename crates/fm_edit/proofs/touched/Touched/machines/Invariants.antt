@@ -10,4 +10,5 @@ invariant-loop-machine l = record {
   grows : Grows l.fn.self l.self;
   touches : (x : ℕ) → has_id l.machines x ≡ true → has_id (drop l.machine-index l.machines) x ≡ false → has_touched l.self (Machine x) ≡ true;
   only : (n : Node) → has_touched l.self n ≡ true → (has_touched l.fn.self n ≡ true) ⊎ IsNodeOf Machine l.machines n;
+  pairs : l.self.pairs ≡ l.fn.self.pairs;
 }
