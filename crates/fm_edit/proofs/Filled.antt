@@ -15,7 +15,7 @@ use Rattle.fm_records.specs.UnionLaws.{know_append}
 use Rattle.fm_records.specs.Joined.{table_join}
 use Rattle.fm_net.specs.declared.node.Node.{Node}
 use Rattle.fm_net.specs.declared.node.Node.TheVariants.{Sink, Unscheduled, Request, Machine, Task}
-use Rattle.fm_policy.specs.Changes.{Keys, changed_keys, changed_tasks}
+use Rattle.fm_policy.specs.Changes.{Keys, changed_keys}
 use Rattle.fm_edit.specs.declared.index.Index.{Index}
 use Rattle.fm_edit.specs.Dirty.{has_id}
 use Rattle.fm_edit.specs.Index.{lists, is_listed}

@@ -1,5 +1,5 @@
 -- From what the steps of following do to what was touched and what is remembered.
-use Rattle.std.proofs.Common.{◌≡◌, ◌∙◌, ℕ, ◌<◌, ◌^◌, Bool, true, false, cond, List, [], ◌∷◌, ◌++◌, append_assoc, Option, Some, None, refl, sym, ap, subst, eq-eqb}
+use Rattle.std.proofs.Common.{◌≡◌, ◌∙◌, ◌⊎◌, inl, inr, ℕ, ◌<◌, ◌^◌, Bool, true, false, cond, List, [], ◌∷◌, ◌++◌, append_assoc, Option, Some, None, refl, sym, ap, subst, eq-eqb}
 use Rattle.std.specs.Prelude.{◌&&◌, ◌||◌, ◌==◌, not, is_some, IsSome, option_map, map, filter}
 use Rattle.std.proofs.lemmas.Bool.{eqb-true, ltb-true}
 use Rattle.std.specs.Ordering.{nat_cmp, is_eq}
@@ -33,12 +33,12 @@ use Rattle.fm_net.specs.Touched.{Touches}
 use Rattle.fm_policy.specs.Changes.{Keys, changed_keys}
 use Rattle.fm_edit.specs.declared.index.Index.{Index}
 use Rattle.fm_edit.specs.declared.touched.Touched.{Touched}
-use Rattle.fm_edit.specs.Dirty.{SameBeyond, has_id, dirty_task, prefers, job_of_task, won_machine}
+use Rattle.fm_edit.specs.Dirty.{SameBeyond, AreDirtyTasks, turned_in, has_id, dirty_task, prefers, job_of_task, won_machine}
 use Rattle.fm_edit.specs.LocalLaws.{same_beyond}
 use Rattle.fm_edit.specs.Sight.{Sight, sight_of, seen_in}
 use Rattle.fm_edit.specs.declared.seen.Seen.{Seen}
 use Rattle.fm_edit.specs.Seeing.{values_at, turns, standing, same_standing}
-use Rattle.fm_edit.specs.Index.{lists, sum_in}
+use Rattle.fm_edit.specs.Index.{lists, sum_in, ListsAtOne}
 use Rattle.fm_edit.specs.Memory.{none_out, Counts}
 use Rattle.fm_edit.specs.Shown.{node_shown}
 use Rattle.fm_edit.specs.Touched.{has_touched, Grows, Leads, TouchesTask}
@@ -60,6 +60,25 @@ either_of : {P : Type 0} (a a2 b b2 : Bool) → a2 ≡ a → b2 ≡ b → (a || 
 either_of true a2 b b2 e f h p q = p refl
 either_of false a2 true b2 e f h p q = q refl
 either_of false a2 false b2 e f h p q = absurd (let no : false ≡ true = sym (λ i. (false || e i || false || f i)) ∙ h in let wrong : ⊥ = cc in wrong)
+
+second_true : (a b c d e : Bool) → b ≡ true → (a || b || c || d || e) ≡ true
+second_true true b c d e h = refl
+second_true false b c d e h = ap (λ z. z || c || d || e) h
+
+fourth_true : (a b c d e : Bool) → d ≡ true → (a || b || c || d || e) ≡ true
+fourth_true true b c d e h = refl
+fourth_true false true c d e h = refl
+fourth_true false false true d e h = refl
+fourth_true false false false d e h = ap (λ z. z || e) h
+
+alike : (a b : Bool) → (a ≡ true → b ≡ true) → (b ≡ true → a ≡ true) → a ≡ b
+alike true b f g = sym (f refl)
+alike false true f g = g refl
+alike false false f g = refl
+
+named_by : {V : Type 0} (f : V → ℕ) (o : Option V) (x : ℕ) → passes (λ v. f v == x) o ≡ true → option_map f o ≡ Some x
+named_by f None x h = absurd (let no : ⊥ = cc in no)
+named_by f (Some v) x h = ap Some (eqb-true (f v) x h)
 
 -- Which machines turned.
 standing_same : (a b : Option ℕ) → not (same_standing a b) ≡ false → a ≡ b
@@ -89,6 +108,15 @@ module _ (f now : ℕ → Option MachineValue) where
               | false ↦ λ w. w
             ] e)
       ] refl h
+
+  as_kept : (ms : List ℕ) → turned_of ms ≡ filter (λ m. turns (f m) (now m)) ms
+  as_kept [] = refl
+  as_kept (m ∷ ms) =
+      let rest = as_kept ms in
+      elim (turns (f m) (now m)) as (λ b. map (λ v. v.0) (cond b ((m, now m) ∷ filter (λ v. turns (f v.0) v.1) (values_at now ms)) (filter (λ v. turns (f v.0) v.1) (values_at now ms))) ≡ cond b (m ∷ filter (λ q. turns (f q) (now q)) ms) (filter (λ q. turns (f q) (now q)) ms)) [
+        | true ↦ ap (λ xs. m ∷ xs) rest
+        | false ↦ rest
+      ]
 
 present_by : (o : Option MachineValue) (i : ℕ) → (passes (λ (r : MachineReg). true) (only_if (λ r. r.up) (and_then (λ (v : MachineValue). v.1.0) o)) && passes (λ j. j == i) (option_map (λ (v : MachineValue). v.0) o)) ≡ passes (λ j. j == i) (standing o)
 present_by None i = refl
@@ -176,6 +204,24 @@ module _ (k d after : Table) (keys : Keys) (can_k : CanBe k) (can_d : CanBe d) (
   pub turned_is : (s : Sight) (vs : List (ℕ × Option MachineValue)) → s ≡ sight_of k → vs ≡ values_at (λ m. lookup nat_cmp m after.machines) keys.machines → map (λ v. v.0) (filter (λ v. turns (s.machine v.0) v.1) vs) ≡ turned
   turned_is s vs e f = λ i. map (λ v. v.0) (filter (λ v. turns ((e i).machine v.0) v.1) (f i))
 
+  -- which tasks are dirty is the same for each table that is seen alike
+  turned_are : turned ≡ turned_in k after keys
+  turned_are = as_kept (λ m. lookup nat_cmp m k.machines) (λ m. lookup nat_cmp m after.machines) keys.machines
+
+  pub dirty_as_seen : (l : Table) → sight_of l ≡ sight_of k → (ds : List ℕ) → Rises nat_cmp ds → ((t : ℕ) → has_id ds t ≡ dirty_task k after keys turned t) → AreDirtyTasks l after keys ds
+  dirty_as_seen l e ds rise each = record {
+    rise = rise;
+    each = λ t.
+        each t
+        ∙ ap (λ ms. dirty_task k after keys ms t) turned_are
+        ∙ sym (λ i.
+        let s = e i in
+        let turned_now = filter (λ m. turns (s.machine m) (lookup nat_cmp m after.machines)) keys.machines in
+        has_id keys.tasks t
+        || passes (has_id keys.jobs) (option_map (λ r. r.job) (and_then (λ v. v.0) (s.task t))) || passes (has_id keys.jobs) (job_of_task after t)
+        || passes (has_id turned_now) (option_map (λ p. p.machine) (s.spot t)) || passes (has_id turned_now) (won_machine after t));
+  }
+
   -- The tasks that are found through the index are all that are dirty.
   module _ (x : Index) (counts : Counts none_out k x) (ds : List ℕ)
       (told : (t : ℕ) → has_id keys.tasks t ≡ true → has_id ds t ≡ true)
@@ -205,6 +251,36 @@ module _ (k d after : Table) (keys : Keys) (can_k : CanBe k) (can_d : CanBe d) (
               either_of (passes (has_id keys.jobs) (job_of_task k t)) (passes (has_id keys.jobs) (job_of_task after t)) (passes (has_id turned) (won_machine k t)) (passes (has_id turned) (won_machine after t))
               (ap (passes (has_id keys.jobs)) jobs) (ap (passes (has_id turned)) winners) g (by_job t) (by_machine t)
         ] refl h
+
+  -- And they are dirty.
+  module _ (x : Index) (counts : Counts none_out k x) where
+    of_job : (j t : ℕ) → lists x (Unscheduled j) t ≡ true → job_of_task k t ≡ Some j
+    of_job j t h = named_by (λ (s : SpecReg). s.job) (spec_of k t) j ((both_true _ _ (sym (counts.listed (Unscheduled j) t) ∙ h)).0)
+
+    of_machine : (m t : ℕ) → lists x (Machine m) t ≡ true → won_machine k t ≡ Some m
+    of_machine m t h = named_by (λ (s : Spot). s.machine) (won_spot k t) m ((both_true _ _ (sym (counts.listed (Machine m) t) ∙ h)).0)
+
+    is_dirty : (t : ℕ) → (has_id keys.tasks t ≡ true) ⊎ (ListsAtOne x Unscheduled keys.jobs t ⊎ ListsAtOne x Machine turned t) → dirty_task k after keys turned t ≡ true
+    is_dirty t h =
+        let told = has_id keys.tasks t in
+        let before = passes (has_id keys.jobs) (job_of_task k t) in
+        let later = passes (has_id keys.jobs) (job_of_task after t) in
+        let won = passes (has_id turned) (won_machine k t) in
+        let wins = passes (has_id turned) (won_machine after t) in
+        elim h [
+          | inl told_of ↦ ap (λ b. b || before || later || won || wins) told_of
+          | inr listed ↦ elim listed [
+            | inl job ↦
+                second_true told before later won wins (ap (passes (has_id keys.jobs)) (of_job job.0 t job.2) ∙ job.1)
+            | inr machine ↦
+                fourth_true told before later won wins (ap (passes (has_id turned)) (of_machine machine.0 t machine.2) ∙ machine.1)
+          ]
+        ]
+
+    pub only_dirty : (ds : List ℕ) → ((t : ℕ) → dirty_task k after keys turned t ≡ true → has_id ds t ≡ true)
+        → ((t : ℕ) → has_id ds t ≡ true → (has_id keys.tasks t ≡ true) ⊎ (ListsAtOne x Unscheduled keys.jobs t ⊎ ListsAtOne x Machine turned t))
+        → (t : ℕ) → has_id ds t ≡ dirty_task k after keys turned t
+    only_dirty ds all only t = alike (has_id ds t) (dirty_task k after keys turned t) (λ h. is_dirty t (only t h)) (all t)
 
   -- All that was touched, and what counts in the end.
   module _ (ds : List ℕ) (all : (t : ℕ) → dirty_task k after keys turned t ≡ true → has_id ds t ≡ true) where

@@ -57,6 +57,42 @@ module _ {K : Type 0} (cmp : K → K → Ordering) (total : IsTotalOrder cmp) (e
             ]
       ] refl h
 
+-- and those between the two pairs are listed under the key
+module _ {K : Type 0} (cmp : K → K → Ordering) (total : IsTotalOrder cmp) (exact : TellsApart cmp) (n : K) (t : ℕ) where
+  under : (p : K × ℕ) → range_contains (pair_cmp cmp) (Included (n, 0)) (Included (n, 2 ^ 128 - 1)) p ≡ true → n ≡ p.0
+  under p h =
+      by_cases (cmp n p.0) (λ o. cmp n p.0 ≡ o → (is_le (ordering_then o (nat_cmp 0 p.1)) && not (is_lt (ordering_then o (nat_cmp (2 ^ 128 - 1) p.1)))) ≡ true → n ≡ p.0)
+      (λ _ _ g. absurd (let no : ⊥ = cc in no))
+      (λ _ e _. exact n p.0 e)
+      (λ _ _ g. absurd (let no : ⊥ = cc in no))
+      refl h
+
+  tied : (p : K × ℕ) → n ≡ p.0 → is_eq (nat_cmp t p.1) ≡ true → is_eq (pair_cmp cmp (n, t) p) ≡ true
+  tied p same e = ap (λ m. is_eq (ordering_then (cmp n m) (nat_cmp t p.1))) (sym same) ∙ ap (λ o. is_eq (ordering_then o (nat_cmp t p.1))) (tied_itself total n) ∙ e
+
+  or_either : {P : Type 0} (a b : Bool) → (a || b) ≡ true → (a ≡ true → P) → (b ≡ true → P) → P
+  or_either true b h p q = p refl
+  or_either false b h p q = q h
+
+  or_first : (a b : Bool) → a ≡ true → (a || b) ≡ true
+  or_first true b h = refl
+  or_first false b h = absurd (let no : ⊥ = cc in no)
+
+  or_rest : (a b : Bool) → b ≡ true → (a || b) ≡ true
+  or_rest true b h = refl
+  or_rest false b h = h
+
+  pub named_listed : (ps : List (K × ℕ)) → named_in (listed_at cmp n ps) t ≡ true → list_any (λ p. is_eq (pair_cmp cmp (n, t) p)) ps ≡ true
+  named_listed [] h = h
+  named_listed (p ∷ ps) h =
+      let first = is_eq (pair_cmp cmp (n, t) p) in
+      let rest = list_any (λ q. is_eq (pair_cmp cmp (n, t) q)) ps in
+      let later = named_listed ps in
+      elim (range_contains (pair_cmp cmp) (Included (n, 0)) (Included (n, 2 ^ 128 - 1)) p) as (λ b. range_contains (pair_cmp cmp) (Included (n, 0)) (Included (n, 2 ^ 128 - 1)) p ≡ b → named_in (cond b (p ∷ listed_at cmp n ps) (listed_at cmp n ps)) t ≡ true → (first || rest) ≡ true) [
+        | true ↦ λ e g. or_either (is_eq (nat_cmp t p.1)) (named_in (listed_at cmp n ps) t) g (λ same. or_first first rest (tied p (under p e) same)) (λ more. or_rest first rest (later more))
+        | false ↦ λ _ g. or_rest first rest (later g)
+      ] refl h
+
 moved_by : (e a c : Bool) → (cond e true a || c) ≡ (a || (e || c))
 moved_by true true c = refl
 moved_by true false c = refl

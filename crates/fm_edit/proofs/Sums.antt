@@ -136,7 +136,7 @@ module _ {X : Type 0} (f : X → ℕ) where
       let first = h x (inl refl) in
       subst (λ n. n ≤ 1000000 * length (x ∷ xs)) (sym (sum_by-cons f x xs)) (omega (arith, rest, first))
 
-kept_member : {X : Type 0} (p : X → Bool) (x : X) (xs : List X) → IsMember x (filter p xs) → IsMember x xs
+pub kept_member : {X : Type 0} (p : X → Bool) (x : X) (xs : List X) → IsMember x (filter p xs) → IsMember x xs
 kept_member p x [] h = absurd h
 kept_member p x (z ∷ xs) h =
     let rest = kept_member p x xs in

@@ -1,7 +1,9 @@
 -- Values at keys that are set one by one, and lists that are walked over.
-use Rattle.std.proofs.Common.{◌≡◌, ◌∙◌, ℕ, ◌+◌, ◌<◌, Bool, true, false, cond, ◌||◌, List, [], ◌∷◌, length, drop, get_or, suc, add-one, Option, refl, sym, ap, subst}
+use Rattle.std.proofs.Common.{◌≡◌, ◌∙◌, ℕ, ◌+◌, ◌-◌, ◌^◌, ◌<◌, arith, Bool, true, false, cond, ◌||◌, ◌⊎◌, inl, inr, List, [], ◌∷◌, length, drop, get_or, suc, add-one, Option, refl, sym, ap, subst}
 use Rattle.std.proofs.Math.Seq.{drop-cons}
+use Rattle.std.specs.Prelude.{min}
 use Rattle.std.specs.List.{AllByRecursion}
+use Rattle.std.proofs.lemmas.List.Folds.{list_any_at}
 use Rattle.std.specs.List.Sorted.{IsStrictlySortedBy}
 use Rattle.std.specs.Ordering.{nat_cmp, is_eq}
 use Rattle.std.specs.Cmp.{Equal-is, nat_cmp_total}
@@ -64,6 +66,18 @@ walked xs i x here is P Q keep new before t told rest =
       | false ↦ λ e. keep t (before t told (ap (λ ys. has_id ys t) split ∙ ap (λ b. b || has_id (drop (i + 1) xs) t) e ∙ rest))
     ] refl
 
+-- what was walked over is one of the ids
+pub has_item : (xs : List ℕ) (i x : ℕ) → i < length xs → x ≡ get_or xs i x → has_id xs x ≡ true
+has_item xs i x here is = list_any_at (λ y. is_eq (nat_cmp x y)) xs i x here (ap (λ y. is_eq (nat_cmp x y)) (sym is) ∙ ap is_eq (tied_itself nat_cmp_total x))
+
+-- what is in after one was put was in before, or is that one
+pub came_from : {P : Type 0} (b a v : Bool) → v ≡ cond b true a → v ≡ true → (a ≡ true → P) → (b ≡ true → P) → P
+came_from true a v e h stayed put = put refl
+came_from false a v e h stayed put = stayed (sym e ∙ h)
+
+pub came_by : (P : ℕ → Type 0) (x t : ℕ) (a v : Bool) → v ≡ cond (is_eq (nat_cmp x t)) true a → v ≡ true → (a ≡ true → P t) → P x → P t
+came_by P x t a v e h stayed put = came_from (is_eq (nat_cmp x t)) a v e h stayed (λ same. subst P (nat_same x t ((Equal-is (nat_cmp x t)).0 same)) put)
+
 pub kept_true : (b a v : Bool) → v ≡ cond b true a → a ≡ true → v ≡ true
 kept_true true a v e h = e
 kept_true false a v e h = e ∙ h
@@ -80,6 +94,11 @@ pub came_in : (now before to_come all : Bool) → (now || to_come) ≡ (before |
 came_in true before to_come all e f g = refl
 came_in false before to_come all e f g = sym f ∙ e ∙ ap (λ b. before || b) g ∙ elim before as (λ b. (b || true) ≡ true) [ true ↦ refl | false ↦ refl ]
 
+-- what is in was in before, or was to come
+pub came_of : (now before to_come all : Bool) → (now || to_come) ≡ (before || all) → now ≡ true → (before ≡ true) ⊎ (all ≡ true)
+came_of now true to_come all e h = inl refl
+came_of now false to_come all e h = inr (sym e ∙ ap (λ b. b || to_come) h)
+
 -- a map that answers as a list with rising keys does is as long
 module _ {V : Type 0} where
   below_entries : (n : ℕ) (es : List (ℕ × V)) → AllByRecursion (λ m. nat_cmp n m ≡ Less) (keys_of es) → IsBelow nat_cmp n es
@@ -93,3 +112,7 @@ module _ {V : Type 0} where
 
   pub as_many : (es fs : List (ℕ × V)) → IsStrictlySortedBy nat_cmp (keys_of es) → IsRising nat_cmp fs → ((q : ℕ) → lookup nat_cmp q es ≡ lookup nat_cmp q fs) → length es ≡ length fs
   as_many es fs sorted rise alike = ap length (same_map nat_cmp nat_cmp_total nat_same es fs (rising_entries es sorted) rise alike)
+
+-- a count that stops at its end, after one more
+pub also_counted : (first i now : ℕ) → now ≡ min (first + i) (2 ^ 64 - 1) → min (now + 1) (2 ^ 64 - 1) ≡ min (first + (i + 1)) (2 ^ 64 - 1)
+also_counted first i now is = omega (arith, is)

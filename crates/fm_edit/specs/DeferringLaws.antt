@@ -1,5 +1,5 @@
 -- Laws of keepers that follow late.
-use Rattle.std.proofs.Common.{◌≡◌, ◌∙◌, ℕ, Bool, true, false, List, [], ◌∷◌, Option, Some, None, refl, sym, ap, subst}
+use Rattle.std.proofs.Common.{◌≡◌, ℕ, Bool, true, List, [], ◌∷◌, Option, Some, None, refl}
 use Rattle.std.specs.Prelude.{◌&&◌, IsTrue}
 use Rattle.fm_records.specs.Table.{Table}
 use Rattle.fm_records.specs.Ranges.{CanBe}

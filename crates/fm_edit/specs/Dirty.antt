@@ -1,6 +1,6 @@
 -- What a delta can change: the jobs, tasks and machines whose facts may differ once it is taken in, and the nodes and pairs of
 -- nodes that may come, go or differ. This project's own.
-use Rattle.std.specs.Prelude.{◌≡◌, ◌⊎◌, ℕ, Bool, false, not, ◌&&◌, ◌||◌, is_some, List, Option, Some, option_map, IsTrue}
+use Rattle.std.specs.Prelude.{◌≡◌, ◌⊎◌, ℕ, ◌+◌, ◌-◌, ◌^◌, Bool, false, not, ◌&&◌, ◌||◌, is_some, List, length, filter, min, Option, Some, option_map, IsTrue}
 use Rattle.std.specs.List.{list_any}
 use Rattle.std.specs.Ordering.{nat_cmp, is_eq}
 use Rattle.fm_lattice.specs.Maps.{lookup, IsRising}
@@ -8,11 +8,15 @@ use Rattle.fm_records.specs.declared.records.Spot.{Spot}
 use Rattle.fm_records.specs.Options.{passes}
 use Rattle.fm_records.specs.Orders.{attempt_cmp}
 use Rattle.fm_records.specs.Table.{Table}
+use Rattle.fm_records.specs.TableLaws.{Rises}
 use Rattle.fm_records.specs.Facts.{spec_of, live_spec, won_spot, holder_of, is_present}
 use Rattle.fm_net.specs.declared.node.Node.{Node}
 use Rattle.fm_net.specs.declared.node.Node.TheVariants.{Sink, Unscheduled, Request, Machine, Task}
+use Rattle.fm_net.specs.declared.edit.Edit.{Edit}
+use Rattle.fm_net.specs.declared.edit.Edit.TheVariants.{DropArc, DropNode, PutNode, PutArc}
 use Rattle.fm_net.specs.Network.{is_held}
 use Rattle.fm_policy.specs.Changes.{Keys}
+use Rattle.fm_edit.specs.Seeing.{turns}
 
 -- the id is one of the list
 abbrev pub has_id : List ℕ → ℕ → Bool
@@ -82,3 +86,23 @@ module _ (k after : Table) (keys : Keys) (turned : List ℕ) where
   MayDiffer (Machine m) Sink = IsDirtyMachine m
   MayDiffer (Unscheduled j) Sink = IsDirtyJob j
   MayDiffer _ _ = ⊥
+
+  -- the edits that may be made: of a node that may come or go, or of a pair whose arc may
+  abbrev pub MayMake : Edit → Type 0
+  MayMake (DropArc a b) = MayDiffer a b
+  MayMake (DropNode n) = MayTurn n
+  MayMake (PutNode n) = MayTurn n
+  MayMake (PutArc a b capacity cost) = MayDiffer a b
+
+-- the machines of these keys that turned from one table to the other
+abbrev pub turned_in : Table → Table → Keys → List ℕ
+turned_in k after keys = filter (λ m. turns (lookup nat_cmp m k.machines) (lookup nat_cmp m after.machines)) keys.machines
+
+-- the dirty tasks and no others, each once
+pub record AreDirtyTasks (k after : Table) (keys : Keys) (ts : List ℕ) : Type 0 where
+  pub rise : Rises nat_cmp ts
+  pub each : (t : ℕ) → has_id ts t ≡ dirty_task k after keys (turned_in k after keys) t
+
+-- a count of at most 2^64 - 1, with one more for each dirty task
+abbrev pub CountsDirtyTasks : Table → Table → Keys → ℕ → ℕ → Type 0
+CountsDirtyTasks k after keys old new = (ts : List ℕ) × AreDirtyTasks k after keys ts × (new ≡ min (old + length ts) (2 ^ 64 - 1))

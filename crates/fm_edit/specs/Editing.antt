@@ -7,6 +7,10 @@ use Rattle.fm_edit.specs.Memory.{IsAt}
 abbrev pub is_fresh_editor : Editor → Bool
 is_fresh_editor e = e.fresh
 
+-- how many tasks its edits took out of its memory
+abbrev pub taken_out : Editor → ℕ
+taken_out e = e.memory.index.taken
+
 -- it holds the network of the table, and remembers the table
 abbrev pub IsFor : Editor → Table → Type 0
 IsFor e k = IsAt e.memory e.network k

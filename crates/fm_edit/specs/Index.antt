@@ -1,5 +1,5 @@
 -- Where tasks are listed, and where they count for how much. Own.
-use Rattle.std.specs.Prelude.{ℕ, Bool, false, cond, not, ◌==◌, ◌&&◌, Option, true, unwrap_or}
+use Rattle.std.specs.Prelude.{◌≡◌, List, ℕ, Bool, false, cond, not, ◌==◌, ◌&&◌, Option, true, unwrap_or}
 use Rattle.std.specs.BTreeMap.{get}
 use Rattle.std.specs.List.{list_any}
 use Rattle.std.specs.Ordering.{nat_cmp, is_eq, on, then_cmp}
@@ -11,6 +11,7 @@ use Rattle.fm_net.specs.declared.node.Node.{Node}
 use Rattle.fm_net.specs.declared.node.Node.TheVariants.{Unscheduled, Request, Machine}
 use Rattle.fm_net.specs.Nodes.{node_cmp}
 use Rattle.fm_edit.specs.declared.index.Index.{Index}
+use Rattle.fm_edit.specs.Dirty.{has_id}
 use Rattle.fm_edit.specs.Sight.{Sight, spec_in, live_in, holder_in}
 
 -- a task is listed at the job that its spec names, and at the machine that the winner of its present attempt names
@@ -53,3 +54,7 @@ lists_preferred x m t = list_any (λ p. is_eq (preferred_cmp (m, t) p)) x.prefer
 
 abbrev pub sum_in : Index → Node → ℕ
 sum_in x n = unwrap_or (get node_cmp x.sums n) 0
+
+-- the task is listed at the node of one of the ids
+abbrev pub ListsAtOne : Index → (ℕ → Node) → List ℕ → ℕ → Type 0
+ListsAtOne x node ids t = (i : ℕ) × (has_id ids i ≡ true) × (lists x (node i) t ≡ true)

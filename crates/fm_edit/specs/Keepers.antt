@@ -2,10 +2,9 @@
 use Rattle.std.specs.Prelude.{◌≡◌, Bool, Some, is_some, IsTrue}
 use Rattle.fm_records.specs.Table.{Table}
 use Rattle.fm_net.specs.Network.{net_of}
-use Rattle.fm_policy.specs.Changes.{Keys}
 use Rattle.fm_edit.specs.declared.keepers.Keeper.{Keeper}
 use Rattle.fm_edit.specs.declared.keepers.Keeper.TheVariants.{Edits, Builds, Defers}
-use Rattle.fm_edit.specs.Deferring.{is_fresh_deferred, DeferredIsFor, DeferredFollows, DeferredAbsorbs}
+use Rattle.fm_edit.specs.Deferring.{is_fresh_deferred, DeferredIsFor, DeferredFollows}
 use Rattle.fm_edit.specs.Editing.{is_fresh_editor, IsFor}
 
 abbrev pub is_fresh_keeper : Keeper → Bool

@@ -1,5 +1,6 @@
 pub mod Deferring
 pub mod DeferringLaws
+pub mod Change
 pub mod Completing
 pub mod Dirty
 pub mod Editing

@@ -87,6 +87,21 @@ module _ (k d : Table) (p : IsTable k) (q : IsTable d) where
     after_rise = rising_join nat_cmp nat_cmp_total nat_same _ k.tasks d.tasks p.tasks.rising;
   }
 
+-- With no job, no task and no machine that turned, no task is dirty.
+none_passes : (o : Option ℕ) → passes (has_id []) o ≡ false
+none_passes None = refl
+none_passes (Some x) = refl
+
+pub none_dirty : (k after : Table) (keys : Keys) → keys.jobs ≡ [] → keys.tasks ≡ [] → (t : ℕ) → dirty_task k after keys [] t ≡ false
+none_dirty k after keys jobs tasks t =
+    (λ i.
+    has_id (tasks i) t
+    || passes (has_id (jobs i)) (job_of_task k t) || passes (has_id (jobs i)) (job_of_task after t)
+    || passes (has_id []) (won_machine k t) || passes (has_id []) (won_machine after t))
+    ∙ (λ i.
+    none_passes (job_of_task k t) i || none_passes (job_of_task after t) i
+    || none_passes (won_machine k t) i || none_passes (won_machine after t) i)
+
 -- Kept pairs: what they count and whether there are any.
 
 module _ {X : Type 0} where

@@ -16,12 +16,12 @@ use Rattle.fm_edit.specs.Dirty.{has_id, job_of_task, won_machine, dirty_task}
 use Rattle.fm_edit.specs.Looking.{looks_of, IsDirtyKey}
 
 -- a fact of each of the first and of each of the second is one of each of both
-each_of_both : {Y : Type 0} (P : Y → Type 0) (xs ys : List Y) → ((y : Y) → IsMember y xs → P y) → ((y : Y) → IsMember y ys → P y) → (y : Y) → IsMember y (xs ++ ys) → P y
+pub each_of_both : {Y : Type 0} (P : Y → Type 0) (xs ys : List Y) → ((y : Y) → IsMember y xs → P y) → ((y : Y) → IsMember y ys → P y) → (y : Y) → IsMember y (xs ++ ys) → P y
 each_of_both P [] ys p q y h = q y h
 each_of_both P (x ∷ xs) ys p q y h = elim h [ inl is ↦ p y (inl is) | inr later ↦ each_of_both P xs ys (λ z g. p z (inr g)) q y later ]
 
 module _ {X Y : Type 0} (P : Y → Type 0) where
-  each_mapped : (f : X → Y) (xs : List X) → ((x : X) → IsMember x xs → P (f x)) → (y : Y) → IsMember y (map f xs) → P y
+  pub each_mapped : (f : X → Y) (xs : List X) → ((x : X) → IsMember x xs → P (f x)) → (y : Y) → IsMember y (map f xs) → P y
   each_mapped f [] p y h = absurd h
   each_mapped f (x ∷ xs) p y h = elim h [ inl is ↦ subst P is (p x (inl refl)) | inr later ↦ each_mapped f xs (λ z g. p z (inr g)) y later ]
 

@@ -1,11 +1,14 @@
 -- What was touched: nodes, and pairs of nodes. Own.
-use Rattle.std.specs.Prelude.{◌≡◌, ℕ, Bool, true, Option, Some}
+use Rattle.std.specs.Prelude.{◌≡◌, ◌⊎◌, ℕ, Bool, true, List, Option, Some}
 use Rattle.std.specs.List.{list_any}
 use Rattle.std.specs.Ordering.{is_eq}
 use Rattle.fm_net.specs.declared.node.Node.{Node}
 use Rattle.fm_net.specs.declared.node.Node.TheVariants.{Machine, Task}
 use Rattle.fm_net.specs.Nodes.{node_cmp, ends_cmp}
 use Rattle.fm_edit.specs.declared.touched.Touched.{Touched}
+use Rattle.fm_records.specs.Table.{Table}
+use Rattle.fm_policy.specs.Changes.{Keys}
+use Rattle.fm_edit.specs.Dirty.{has_id, turned_in, MayTurn}
 use Rattle.fm_edit.specs.Sight.{Sight, job_node_in, request_node_in, holder_node_in, prefers_in}
 
 abbrev pub has_touched : Touched → Node → Bool
@@ -30,3 +33,18 @@ pub record TouchesTask (s : Sight) (t : ℕ) (x : Touched) : Type 0 where
   pub request : Leads x t (request_node_in s t)
   pub holder : Leads x t (holder_node_in s t)
   pub preferred : (m : ℕ) → prefers_in s m t ≡ true → has_pair x (Task t) (Machine m) ≡ true
+
+-- the node of one of the ids
+abbrev pub IsNodeOf : (ℕ → Node) → List ℕ → Node → Type 0
+IsNodeOf node ids n = (i : ℕ) × (has_id ids i ≡ true) × (node i ≡ n)
+
+-- the task's node, or that of its job, of its request or of its holder
+abbrev pub IsEnd : Sight → ℕ → Node → Type 0
+IsEnd s t n = (Task t ≡ n) ⊎ ((job_node_in s t ≡ Some n) ⊎ ((request_node_in s t ≡ Some n) ⊎ (holder_node_in s t ≡ Some n)))
+
+abbrev pub IsEndOf : Sight → List ℕ → Node → Type 0
+IsEndOf s ts n = (t : ℕ) × (has_id ts t ≡ true) × IsEnd s t n
+
+-- only nodes that may come or go are touched
+abbrev pub TouchesOnlyDirty : Table → Table → Keys → Touched → Type 0
+TouchesOnlyDirty k after keys x = (n : Node) → has_touched x n ≡ true → MayTurn k after keys (turned_in k after keys) n

@@ -1,13 +1,13 @@
 //! Which machines turned, and which tasks are dirty.
 
-ghost use Rattle.std.specs.Prelude.{◌≡◌, ◌<◌, ◌^◌, ℕ, true, Some, filter, map, IfOk, OnOk};
+ghost use Rattle.std.specs.Prelude.{◌≡◌, ◌⊎◌, ◌<◌, ◌^◌, ℕ, true, Some, filter, map, IfOk, OnOk};
 ghost use Rattle.std.specs.Ordering.{nat_cmp};
 ghost use Rattle.fm_records.specs.TableLaws.{Rises};
 ghost use Rattle.fm_net.specs.declared.node.Node.{Node as NodeName};
 ghost use Rattle.fm_edit.specs.Dirty.{has_id};
 ghost use Rattle.fm_edit.specs.Sight.{seen_in};
 ghost use Rattle.fm_edit.specs.Seeing.{standing, standing_of, same_standing, turns};
-ghost use Rattle.fm_edit.specs.Index.{lists};
+ghost use Rattle.fm_edit.specs.Index.{lists, ListsAtOne};
 
 use crate::index::Index;
 use crate::seen::Seen;
@@ -66,8 +66,8 @@ fn standing(known: &MachineRec) -> Option<u64>
     }
 }
 
-/// The tasks of a delta, those that are listed at a job of the delta, and those listed at a machine that turned: ids
-/// rising. O(m log n) in these.
+/// The tasks of a delta, those that are listed at a job of the delta, and those listed at a machine that turned, and
+/// no others: ids rising. O(m log n) in these.
 pub(crate) fn dirty_tasks(
     alloc: Global,
     index: &Index,
@@ -78,6 +78,7 @@ pub(crate) fn dirty_tasks(
     ensures told { IfOk result (λ ts. (t : ℕ) → has_id changed.now.tasks t ≡ true → has_id ts.items t ≡ true) }
     ensures jobs { IfOk result (λ ts. (j t : ℕ) → has_id changed.now.jobs j ≡ true → t < 2 ^ 128 → lists index.now (NodeName.Unscheduled j) t ≡ true → has_id ts.items t ≡ true) }
     ensures machines { IfOk result (λ ts. (m t : ℕ) → has_id turned.now m ≡ true → t < 2 ^ 128 → lists index.now (NodeName.Machine m) t ≡ true → has_id ts.items t ≡ true) }
+    ensures only { IfOk result (λ ts. (t : ℕ) → has_id ts.items t ≡ true → (has_id changed.now.tasks t ≡ true) ⊎ (ListsAtOne index.now NodeName.Unscheduled changed.now.jobs t ⊎ ListsAtOne index.now NodeName.Machine turned.now t)) }
 {
     let mut tasks = BTreeSet::new(alloc);
     add_told(&mut tasks, changed.tasks())?;
@@ -96,7 +97,8 @@ fn in_order(alloc: Global, tasks: &BTreeSet<TaskId>) -> Result<Vec<TaskId>, OutO
 
 // Adds the tasks.
 fn add_told(tasks: &mut BTreeSet<TaskId>, told: &[TaskId]) -> Result<(), OutOfMemory>
-    ensures { OnOk result ((t : ℕ) → has_id told.now t ≡ true → has_id tasks.new.keys t ≡ true) }
+    ensures told { OnOk result ((t : ℕ) → has_id told.now t ≡ true → has_id tasks.new.keys t ≡ true) }
+    ensures only { OnOk result ((t : ℕ) → has_id tasks.new.keys t ≡ true → (has_id tasks.old.keys t ≡ true) ⊎ (has_id told.now t ≡ true)) }
 {
     for task in told {
         tasks.insert(*task)?;
@@ -112,6 +114,7 @@ fn add_of_jobs(
 ) -> Result<(), OutOfMemory>
     ensures grows { OnOk result ((t : ℕ) → has_id tasks.old.keys t ≡ true → has_id tasks.new.keys t ≡ true) }
     ensures listed { OnOk result ((j t : ℕ) → has_id jobs.now j ≡ true → t < 2 ^ 128 → lists index.now (NodeName.Unscheduled j) t ≡ true → has_id tasks.new.keys t ≡ true) }
+    ensures only { OnOk result ((t : ℕ) → has_id tasks.new.keys t ≡ true → (has_id tasks.old.keys t ≡ true) ⊎ ListsAtOne index.now NodeName.Unscheduled jobs.now t) }
 {
     for job in jobs {
         add_listed(tasks, index, &Node::Unscheduled(*job))?;
@@ -127,6 +130,7 @@ fn add_of_machines(
 ) -> Result<(), OutOfMemory>
     ensures grows { OnOk result ((t : ℕ) → has_id tasks.old.keys t ≡ true → has_id tasks.new.keys t ≡ true) }
     ensures listed { OnOk result ((m t : ℕ) → has_id machines.now m ≡ true → t < 2 ^ 128 → lists index.now (NodeName.Machine m) t ≡ true → has_id tasks.new.keys t ≡ true) }
+    ensures only { OnOk result ((t : ℕ) → has_id tasks.new.keys t ≡ true → (has_id tasks.old.keys t ≡ true) ⊎ ListsAtOne index.now NodeName.Machine machines.now t) }
 {
     for machine in machines {
         add_listed(tasks, index, &Node::Machine(*machine))?;
@@ -138,6 +142,7 @@ fn add_of_machines(
 fn add_listed(tasks: &mut BTreeSet<TaskId>, index: &Index, node: &Node) -> Result<(), OutOfMemory>
     ensures grows { OnOk result ((t : ℕ) → has_id tasks.old.keys t ≡ true → has_id tasks.new.keys t ≡ true) }
     ensures listed { OnOk result ((t : ℕ) → t < 2 ^ 128 → lists index.now node.now t ≡ true → has_id tasks.new.keys t ≡ true) }
+    ensures only { OnOk result ((t : ℕ) → has_id tasks.new.keys t ≡ true → (has_id tasks.old.keys t ≡ true) ⊎ (lists index.now node.now t ≡ true)) }
 {
     let first = (*node, TaskId::new(0));
     let last = (*node, TaskId::new(u128::MAX));

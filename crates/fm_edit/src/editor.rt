@@ -6,8 +6,9 @@ ghost use Rattle.fm_records.specs.Table.{Table};
 ghost use Rattle.fm_net.specs.Edits.{after, change, MayEditAll};
 ghost use Rattle.fm_net.specs.Network.{net_of};
 ghost use Rattle.fm_policy.specs.Keeping.{TookIn};
+ghost use Rattle.fm_edit.specs.Dirty.{CountsDirtyTasks};
 ghost use Rattle.fm_edit.specs.Looking.{looks_of};
-ghost use Rattle.fm_edit.specs.Editing.{is_fresh_editor, one_more, IsFor};
+ghost use Rattle.fm_edit.specs.Editing.{is_fresh_editor, taken_out, one_more, IsFor};
 
 use crate::listing::list;
 use crate::look::{KnowLook, Look};
@@ -77,13 +78,22 @@ impl Editor {
     {
         self.edits
     }
+
+    /// How many tasks its edits took out of its memory and put back since its network was built, at most 2^64 - 1. An
+    /// edit takes out each dirty task once, and no other.
+    pub fn taken_out(&self) -> u64
+        ensures { result ≡ taken_out self.now }
+    {
+        self.memory.index.taken
+    }
 }
 
 /// Follows a knowledge after a delta with these keys was merged into it, and returns the edits that were made:
 /// exactly those that turn the network of the earlier knowledge into that of the present one, that is, arcs that go,
 /// nodes that go, nodes that come, and arcs that come or differ, each in node order. It looks up only the records of
-/// the delta, and for each of its tasks the winner of the present attempt. The caller must pass a fresh Editor for
-/// the earlier knowledge. If memory runs out, the Editor is stale.
+/// the delta, and for each of its tasks the winner of the present attempt, and it takes out and puts back only the
+/// dirty tasks. The caller must pass a fresh Editor for the earlier knowledge. If memory runs out, the Editor is
+/// stale.
 pub fn edit<L: Look>(
     alloc: Global,
     editor: &mut Editor,
@@ -98,6 +108,7 @@ pub fn edit<L: Look>(
     ensures looks { OnOk result (L.keys look.new ≡ L.keys look.old ++ looks_of (L.table look.old) changed.now) }
     ensures same { L.table look.new ≡ L.table look.old }
     ensures counted { OnOk result (editor.new.edits ≡ one_more editor.old.edits) }
+    ensures taken { (k : Table) → IsFor editor.old k → OnOk result (CountsDirtyTasks k (L.table look.old) changed.now (taken_out editor.old) (taken_out editor.new)) }
     ensures err { OnErr result (is_fresh_editor editor.new ≡ false) }
 {
     editor.fresh = false;

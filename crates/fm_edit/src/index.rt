@@ -1,6 +1,6 @@
 //! Where tasks are listed, and their sums.
 
-ghost use Rattle.std.specs.Prelude.{◌≡◌, ℕ, Bool, ◌+◌, ◌-◌, ◌<◌, ◌^◌, ◌&&◌, true, false, is_some, [], cond, length, OnOk};
+ghost use Rattle.std.specs.Prelude.{◌≡◌, ℕ, Bool, ◌+◌, ◌-◌, ◌<◌, ◌^◌, ◌&&◌, true, false, is_some, [], cond, length, min, OnOk};
 ghost use Rattle.fm_records.specs.Know.{know};
 ghost use Rattle.std.specs.Ordering.{is_eq, nat_cmp};
 ghost use Rattle.fm_lattice.specs.Maps.{lookup};
@@ -25,12 +25,13 @@ use std::collections::{BTreeMap, BTreeSet};
 
 /// The tasks by job, by their winner's machine, and, while they wait, by each machine that they prefer; and of each job
 /// how many live tasks it has, of each request how many wait for it, and of each machine the sum of the requests of the
-/// tasks that it holds, if these are not 0.
+/// tasks that it holds, if these are not 0. It counts the tasks that were taken out.
 #[derive(Drop)]
 pub(crate) struct Index {
     pub(crate) listed: BTreeSet<(Node, TaskId)>,
     pub(crate) preferred: BTreeSet<(MachineId, TaskId)>,
     pub(crate) sums: BTreeMap<Node, u128>,
+    pub(crate) taken: u64,
 }
 
 impl Index {
@@ -42,6 +43,7 @@ impl Index {
             listed: BTreeSet::new(alloc),
             preferred: BTreeSet::new(alloc),
             sums: BTreeMap::new(alloc),
+            taken: 0,
         }
     }
 
@@ -57,6 +59,7 @@ impl Index {
         ensures sums { OnOk result ((n : NodeName) → sum_in self.new n ≡ cond (is_eq (node_cmp node n)) sum (sum_in self.old n)) }
         ensures lists { self.new.listed ≡ self.old.listed }
         ensures preferred { self.new.preferred ≡ self.old.preferred }
+        ensures taken { self.new.taken ≡ self.old.taken }
     {
         if sum == 0 {
             self.sums.remove(&node);
@@ -71,6 +74,7 @@ impl Index {
         ensures sums { OnOk result ((n : NodeName) → sum_in self.old n + cond (is_eq (node_cmp node n)) by 0 < 2 ^ 128 → sum_in self.new n ≡ sum_in self.old n + cond (is_eq (node_cmp node n)) by 0) }
         ensures lists { self.new.listed ≡ self.old.listed }
         ensures preferred { self.new.preferred ≡ self.old.preferred }
+        ensures taken { self.new.taken ≡ self.old.taken }
     {
         let sum = self.sum(&node).saturating_add(by);
         self.set_sum(node, sum)
@@ -81,6 +85,7 @@ impl Index {
         ensures sums { OnOk result ((n : NodeName) → sum_in self.new n ≡ sum_in self.old n - cond (is_eq (node_cmp node n)) by 0) }
         ensures lists { self.new.listed ≡ self.old.listed }
         ensures preferred { self.new.preferred ≡ self.old.preferred }
+        ensures taken { self.new.taken ≡ self.old.taken }
     {
         let sum = self.sum(&node).saturating_sub(by);
         self.set_sum(node, sum)
@@ -91,6 +96,7 @@ impl Index {
         ensures lists { OnOk result ((n : NodeName) (t : ℕ) → lists self.new n t ≡ cond (passes (λ x. is_eq (listed_cmp (x, task) (n, t))) node) true (lists self.old n t)) }
         ensures sums { self.new.sums ≡ self.old.sums }
         ensures preferred { self.new.preferred ≡ self.old.preferred }
+        ensures taken { self.new.taken ≡ self.old.taken }
     {
         if let Some(node) = node {
             self.listed.insert((node, task))?;
@@ -103,6 +109,7 @@ impl Index {
         ensures lists { (n : NodeName) (t : ℕ) → lists self.new n t ≡ cond (passes (λ x. is_eq (listed_cmp (x, task) (n, t))) node) false (lists self.old n t) }
         ensures sums { self.new.sums ≡ self.old.sums }
         ensures preferred { self.new.preferred ≡ self.old.preferred }
+        ensures taken { self.new.taken ≡ self.old.taken }
     {
         if let Some(node) = node {
             self.listed.remove(&(node, task));
@@ -114,6 +121,7 @@ impl Index {
         ensures lists { OnOk result ((s : Sight) → IsSeenTask s task found.now → (n : NodeName) (t : ℕ) → lists self.new n t ≡ cond (is_eq (nat_cmp task t) && is_listed s n t) true (lists self.old n t)) }
         ensures preferred { self.new.preferred ≡ self.old.preferred }
         ensures sums { self.new.sums ≡ self.old.sums }
+        ensures taken { self.new.taken ≡ self.old.taken }
     {
         self.list_at(found.job, task)?;
         self.list_at(found.spot, task)?;
@@ -125,6 +133,7 @@ impl Index {
         ensures lists { (s : Sight) → IsSeenTask s task found.now → (n : NodeName) (t : ℕ) → lists self.new n t ≡ cond (is_eq (nat_cmp task t) && is_listed s n t) false (lists self.old n t) }
         ensures preferred { self.new.preferred ≡ self.old.preferred }
         ensures sums { self.new.sums ≡ self.old.sums }
+        ensures taken { self.new.taken ≡ self.old.taken }
     {
         self.unlist_at(found.job, task);
         self.unlist_at(found.spot, task);
@@ -135,6 +144,7 @@ impl Index {
         ensures preferred { OnOk result ((m t : ℕ) → lists_preferred self.new m t ≡ cond (is_eq (nat_cmp task t) && is_some (lookup nat_cmp m prefer.now)) true (lists_preferred self.old m t)) }
         ensures lists { self.new.listed ≡ self.old.listed }
         ensures sums { self.new.sums ≡ self.old.sums }
+        ensures taken { self.new.taken ≡ self.old.taken }
     {
         for entry in prefer.entries() {
             self.preferred.insert((entry.0, task))?;
@@ -147,6 +157,7 @@ impl Index {
         ensures preferred { (m t : ℕ) → lists_preferred self.new m t ≡ cond (is_eq (nat_cmp task t) && is_some (lookup nat_cmp m prefer.now)) false (lists_preferred self.old m t) }
         ensures lists { self.new.listed ≡ self.old.listed }
         ensures sums { self.new.sums ≡ self.old.sums }
+        ensures taken { self.new.taken ≡ self.old.taken }
     {
         for entry in prefer.entries() {
             self.preferred.remove(&(entry.0, task));
@@ -158,6 +169,7 @@ impl Index {
         ensures sums { OnOk result ((s : Sight) (t : ℕ) → IsSeenTask s t found.now → (n : NodeName) → sum_in self.old n + amount_at s n t < 2 ^ 128 → sum_in self.new n ≡ sum_in self.old n + amount_at s n t) }
         ensures lists { self.new.listed ≡ self.old.listed }
         ensures preferred { self.new.preferred ≡ self.old.preferred }
+        ensures taken { self.new.taken ≡ self.old.taken }
     {
         let Some(spec) = found.live else {
             return Ok(());
@@ -174,6 +186,7 @@ impl Index {
         ensures sums { OnOk result ((s : Sight) (t : ℕ) → IsSeenTask s t found.now → (n : NodeName) → sum_in self.new n ≡ sum_in self.old n - amount_at s n t) }
         ensures lists { self.new.listed ≡ self.old.listed }
         ensures preferred { self.new.preferred ≡ self.old.preferred }
+        ensures taken { self.new.taken ≡ self.old.taken }
     {
         let Some(spec) = found.live else {
             return Ok(());
@@ -190,6 +203,7 @@ impl Index {
         ensures lists { OnOk result ((n : NodeName) (t : ℕ) → lists self.new n t ≡ cond (is_eq (nat_cmp task t) && is_listed (seen_in seen.now) n t) true (lists self.old n t)) }
         ensures preferred { OnOk result ((m t : ℕ) → lists_preferred self.new m t ≡ cond (is_eq (nat_cmp task t) && prefers_in (seen_in seen.now) m t) true (lists_preferred self.old m t)) }
         ensures sums { OnOk result ((n : NodeName) → sum_in self.old n + amount_at (seen_in seen.now) n task < 2 ^ 128 → sum_in self.new n ≡ sum_in self.old n + amount_at (seen_in seen.now) n task) }
+        ensures taken { OnOk result (self.new.taken ≡ self.old.taken) }
     {
         let found = seen.task(task);
         self.list(&found, task)?;
@@ -197,22 +211,25 @@ impl Index {
         self.count(&found)
     }
 
-    /// No longer lists and counts the task, as it was seen. O(log n).
+    /// No longer lists and counts the task, as it was seen: it is taken out. O(log n).
     fn take_out(&mut self, seen: &Seen, task: TaskId) -> Result<(), OutOfMemory>
         ensures lists { OnOk result ((n : NodeName) (t : ℕ) → lists self.new n t ≡ cond (is_eq (nat_cmp task t) && is_listed (seen_in seen.now) n t) false (lists self.old n t)) }
         ensures preferred { OnOk result ((m t : ℕ) → lists_preferred self.new m t ≡ cond (is_eq (nat_cmp task t) && prefers_in (seen_in seen.now) m t) false (lists_preferred self.old m t)) }
         ensures sums { OnOk result ((n : NodeName) → sum_in self.new n ≡ sum_in self.old n - amount_at (seen_in seen.now) n task) }
+        ensures taken { OnOk result (self.new.taken ≡ min (self.old.taken + 1) (2 ^ 64 - 1)) }
     {
         let found = seen.task(task);
         self.unlist(&found, task);
         self.unlist_preferred(&found.preferred(), task);
+        self.taken = self.taken.saturating_add(1);
         self.uncount(&found)
     }
 
-    /// Takes out the tasks, given by rising ids. O(m log n).
+    /// Takes out the tasks, given by rising ids, and counts them. O(m log n).
     pub(crate) fn take_out_all(&mut self, seen: &Seen, tasks: &[TaskId]) -> Result<(), OutOfMemory>
         requires { Rises nat_cmp tasks.now }
-        ensures { OnOk result ((k : Table) → CanBe k → seen_in seen.now ≡ sight_of k → Counts none_out k self.old → Counts (has_id tasks.now) k self.new) }
+        ensures counts { OnOk result ((k : Table) → CanBe k → seen_in seen.now ≡ sight_of k → Counts none_out k self.old → Counts (has_id tasks.now) k self.new) }
+        ensures taken { OnOk result (self.new.taken ≡ min (self.old.taken + length tasks.now) (2 ^ 64 - 1)) }
     {
         for task in tasks {
             self.take_out(seen, *task)?;
@@ -223,7 +240,8 @@ impl Index {
     /// Puts back the tasks, given by rising ids, which are all that are out. O(m log n).
     pub(crate) fn put_back_all(&mut self, seen: &Seen, tasks: &[TaskId]) -> Result<(), OutOfMemory>
         requires { Rises nat_cmp tasks.now }
-        ensures { OnOk result ((k : Table) → CanBe k → length k.tasks < 2 ^ 63 → seen_in seen.now ≡ sight_of k → Counts (has_id tasks.now) k self.old → Counts none_out k self.new) }
+        ensures counts { OnOk result ((k : Table) → CanBe k → length k.tasks < 2 ^ 63 → seen_in seen.now ≡ sight_of k → Counts (has_id tasks.now) k self.old → Counts none_out k self.new) }
+        ensures taken { OnOk result (self.new.taken ≡ self.old.taken) }
     {
         for task in tasks {
             self.put_back(seen, *task)?;

@@ -2,13 +2,16 @@
 
 ghost use Rattle.std.specs.Prelude.{◌≡◌, ◌<◌, ◌^◌, ◌++◌, [], true, length, IfOk, OnOk};
 ghost use Rattle.fm_records.specs.Know.{know};
+ghost use Rattle.fm_records.specs.Table.{Table};
 ghost use Rattle.fm_net.specs.Network.{net_of};
 ghost use Rattle.fm_net.specs.Touched.{Touches};
 ghost use Rattle.fm_records.specs.Ranges.{CanBe};
 ghost use Rattle.fm_policy.specs.Changes.{changed_keys};
 ghost use Rattle.fm_policy.specs.Keeping.{TookIn};
+ghost use Rattle.fm_edit.specs.Dirty.{CountsDirtyTasks};
 ghost use Rattle.fm_edit.specs.Looking.{looks_of};
 ghost use Rattle.fm_edit.specs.Memory.{Remembers, IsAt};
+ghost use Rattle.fm_edit.specs.Touched.{TouchesOnlyDirty};
 
 use crate::completing::touch_pairs;
 use crate::dirty::{dirty_tasks, turned};
@@ -60,7 +63,8 @@ impl Memory {
 
     /// Follows the table after a delta was merged into it, and returns the nodes and pairs of nodes that it touched:
     /// nothing else differs between the network of the earlier knowledge and that of the present one. It looks up
-    /// only the delta's records. After a refusal no clause speaks of the memory.
+    /// only the delta's records, and takes out and puts back only dirty tasks. After a refusal no clause speaks of the
+    /// memory.
     pub(crate) fn follow<L: Look>(
         &mut self,
         alloc: Global,
@@ -71,6 +75,8 @@ impl Memory {
         requires { TookIn true (IsAt self.old network.now) (L.table look.old) changed.now }
         ensures remembers { OnOk result (Remembers (L.table look.old) self.new) }
         ensures touches { IfOk result (λ x. Touches network.now (net_of (L.table look.old)) x.nodes.keys x.pairs.keys) }
+        ensures only { (k : Table) → Remembers k self.old → IfOk result (TouchesOnlyDirty k (L.table look.old) changed.now) }
+        ensures taken { (k : Table) → Remembers k self.old → OnOk result (CountsDirtyTasks k (L.table look.old) changed.now self.old.index.taken self.new.index.taken) }
         ensures small { OnOk result (length (L.table look.old).tasks < 2 ^ 63) }
         ensures keys { OnOk result (L.keys look.new ≡ L.keys look.old ++ looks_of (L.table look.old) changed.now) }
         ensures same { L.table look.new ≡ L.table look.old }

@@ -1,6 +1,6 @@
 //! The nodes and pairs of nodes that a delta touches.
 
-ghost use Rattle.std.specs.Prelude.{◌≡◌, ℕ, true, is_some, OnOk};
+ghost use Rattle.std.specs.Prelude.{◌≡◌, ◌⊎◌, ℕ, true, false, is_some, Some, OnOk};
 ghost use Rattle.std.specs.Ordering.{nat_cmp};
 ghost use Rattle.fm_lattice.specs.Maps.{lookup};
 ghost use Rattle.fm_records.specs.TableLaws.{Rises};
@@ -8,7 +8,7 @@ ghost use Rattle.fm_net.specs.Nodes.{node_cmp, ends_cmp};
 ghost use Rattle.fm_net.specs.declared.node.Node.{Node as NodeName};
 ghost use Rattle.fm_edit.specs.Dirty.{has_id};
 ghost use Rattle.fm_edit.specs.Sight.{seen_in};
-ghost use Rattle.fm_edit.specs.Touched.{has_touched, has_pair, Grows, Leads, TouchesTask};
+ghost use Rattle.fm_edit.specs.Touched.{has_touched, has_pair, Grows, Leads, TouchesTask, IsNodeOf, IsEnd, IsEndOf};
 
 use crate::seen::Seen;
 use fm_lattice::join::OutOfMemory;
@@ -27,7 +27,10 @@ pub(crate) struct Touched {
 
 impl Touched {
     /// Nothing is touched.
-    pub(crate) fn new(alloc: Global) -> Touched {
+    pub(crate) fn new(alloc: Global) -> Touched
+        ensures nodes { (n : NodeName) → has_touched result n ≡ false }
+        ensures pairs { (a b : NodeName) → has_pair result a b ≡ false }
+    {
         Touched {
             nodes: BTreeSet::new(alloc),
             pairs: BTreeSet::new(alloc),
@@ -47,6 +50,8 @@ impl Touched {
     pub(crate) fn node(&mut self, node: &Node) -> Result<(), OutOfMemory>
         ensures grows { OnOk result (Grows self.old self.new) }
         ensures has { OnOk result (has_touched self.new node.now ≡ true) }
+        ensures only { OnOk result ((n : NodeName) → has_touched self.new n ≡ true → (has_touched self.old n ≡ true) ⊎ (node.now ≡ n)) }
+        ensures pairs { self.new.pairs ≡ self.old.pairs }
     {
         self.nodes.insert(*node)?;
         Ok(())
@@ -56,6 +61,7 @@ impl Touched {
     pub(crate) fn pair(&mut self, from: &Node, to: &Node) -> Result<(), OutOfMemory>
         ensures grows { OnOk result (Grows self.old self.new) }
         ensures has { OnOk result (has_pair self.new from.now to.now ≡ true) }
+        ensures only { OnOk result ((a b : NodeName) → has_pair self.new a b ≡ true → (has_pair self.old a b ≡ true) ⊎ ((from.now ≡ a) × (to.now ≡ b))) }
         ensures nodes { self.new.nodes ≡ self.old.nodes }
     {
         self.pairs.insert((*from, *to))?;
@@ -66,6 +72,8 @@ impl Touched {
     fn lead(&mut self, task: TaskId, end: Option<Node>) -> Result<(), OutOfMemory>
         ensures grows { OnOk result (Grows self.old self.new) }
         ensures leads { OnOk result (Leads self.new task end) }
+        ensures only { OnOk result ((n : NodeName) → has_touched self.new n ≡ true → (has_touched self.old n ≡ true) ⊎ (end ≡ Some n)) }
+        ensures starts { OnOk result ((a b : NodeName) → has_pair self.new a b ≡ true → (has_pair self.old a b ≡ true) ⊎ (NodeName.Task task ≡ a)) }
     {
         if let Some(end) = end {
             self.node(&end)?;
@@ -78,6 +86,8 @@ impl Touched {
     fn task(&mut self, seen: &Seen, task: TaskId) -> Result<(), OutOfMemory>
         ensures grows { OnOk result (Grows self.old self.new) }
         ensures touches { OnOk result (TouchesTask (seen_in seen.now) task self.new) }
+        ensures only { OnOk result ((n : NodeName) → has_touched self.new n ≡ true → (has_touched self.old n ≡ true) ⊎ IsEnd (seen_in seen.now) task n) }
+        ensures starts { OnOk result ((a b : NodeName) → has_pair self.new a b ≡ true → (has_pair self.old a b ≡ true) ⊎ (NodeName.Task task ≡ a)) }
     {
         let found = seen.task(task);
         self.node(&Node::Task(task))?;
@@ -91,6 +101,8 @@ impl Touched {
     fn preferred(&mut self, task: TaskId, prefer: &Prefer) -> Result<(), OutOfMemory>
         ensures grows { OnOk result (Grows self.old self.new) }
         ensures has { OnOk result ((m : ℕ) → is_some (lookup nat_cmp m prefer.now) ≡ true → has_pair self.new (NodeName.Task task) (NodeName.Machine m) ≡ true) }
+        ensures nodes { self.new.nodes ≡ self.old.nodes }
+        ensures starts { OnOk result ((a b : NodeName) → has_pair self.new a b ≡ true → (has_pair self.old a b ≡ true) ⊎ (NodeName.Task task ≡ a)) }
     {
         for entry in prefer.entries() {
             self.pair(&Node::Task(task), &Node::Machine(entry.0))?;
@@ -102,6 +114,8 @@ impl Touched {
     pub(crate) fn tasks(&mut self, seen: &Seen, tasks: &[TaskId]) -> Result<(), OutOfMemory>
         ensures grows { OnOk result (Grows self.old self.new) }
         ensures touches { OnOk result ((t : ℕ) → has_id tasks.now t ≡ true → TouchesTask (seen_in seen.now) t self.new) }
+        ensures only { OnOk result ((n : NodeName) → has_touched self.new n ≡ true → (has_touched self.old n ≡ true) ⊎ IsEndOf (seen_in seen.now) tasks.now n) }
+        ensures starts { OnOk result ((a b : NodeName) → has_pair self.new a b ≡ true → (has_pair self.old a b ≡ true) ⊎ IsNodeOf NodeName.Task tasks.now a) }
     {
         for task in tasks {
             self.task(seen, *task)?;
@@ -113,6 +127,8 @@ impl Touched {
     pub(crate) fn jobs(&mut self, jobs: &[JobId]) -> Result<(), OutOfMemory>
         ensures grows { OnOk result (Grows self.old self.new) }
         ensures touches { OnOk result ((j : ℕ) → has_id jobs.now j ≡ true → has_touched self.new (NodeName.Unscheduled j) ≡ true) }
+        ensures only { OnOk result ((n : NodeName) → has_touched self.new n ≡ true → (has_touched self.old n ≡ true) ⊎ IsNodeOf NodeName.Unscheduled jobs.now n) }
+        ensures pairs { self.new.pairs ≡ self.old.pairs }
     {
         for job in jobs {
             self.node(&Node::Unscheduled(*job))?;
@@ -124,6 +140,8 @@ impl Touched {
     pub(crate) fn machines(&mut self, machines: &[MachineId]) -> Result<(), OutOfMemory>
         ensures grows { OnOk result (Grows self.old self.new) }
         ensures touches { OnOk result ((m : ℕ) → has_id machines.now m ≡ true → has_touched self.new (NodeName.Machine m) ≡ true) }
+        ensures only { OnOk result ((n : NodeName) → has_touched self.new n ≡ true → (has_touched self.old n ≡ true) ⊎ IsNodeOf NodeName.Machine machines.now n) }
+        ensures pairs { self.new.pairs ≡ self.old.pairs }
     {
         for machine in machines {
             self.node(&Node::Machine(*machine))?;

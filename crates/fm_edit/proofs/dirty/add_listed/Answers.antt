@@ -1,12 +1,12 @@
-use Rattle.std.proofs.Common.{◌∙◌, ap, sym}
+use Rattle.std.proofs.Common.{◌∙◌, ap, sym, inl, inr}
 use Rattle.std.specs.Prelude.{◌||◌}
 use Rattle.std.specs.Ordering.{nat_cmp, is_eq}
 use Rattle.fm_net.specs.Nodes.{node_cmp}
 use Rattle.fm_net.specs.NodeOrder.{node_exact, node_total}
 use Rattle.fm_edit.specs.Dirty.{has_id}
 use Rattle.fm_edit.specs.Listed.{named_in}
-use Rattle.fm_edit.proofs.Ranges.{listed_named, moved}
-use Rattle.fm_edit.proofs.Values.{kept_true, came_in}
+use Rattle.fm_edit.proofs.Ranges.{listed_named, named_listed, moved}
+use Rattle.fm_edit.proofs.Values.{kept_true, came_in, came_of}
 use Rattle.fm_edit.proofs.dirty.add_listed.Goals as goal
 
 pub loop-pair-preserved : goal.loop-pair-preserved
@@ -27,3 +27,10 @@ returns-clause-listed c = λ t small h.
     (c.loop-pair.invariant.listed t)
     (ap (λ ps. named_in ps t) c.in-None.ensures.steps.0)
     (listed_named node_cmp node_total node_exact c.args.node.now t small c.args.index.now.listed.keys h)
+
+pub returns-clause-only : goal.returns-clause-only
+returns-clause-only c = λ t h.
+    elim (came_of (has_id c.loop-pair.tasks.keys t) (has_id c.args.tasks.now.keys t) (named_in c.loop-pair.pair-iterator t) _ (c.loop-pair.invariant.listed t) h) [
+      | inl before ↦ inl before
+      | inr named ↦ inr (named_listed node_cmp node_total node_exact c.args.node.now t c.args.index.now.listed.keys named)
+    ]

@@ -27,6 +27,9 @@ returns-clause-least g c = λ k is_for.
     let edits : c.in_ok-edits.edits.items ≡ change net (net_of now) = c.in_ok-edits.ensures ∙ edits_are now can told.small c.follow.new.self told.remembers net c.in_ok-touched.touched.nodes.keys c.in_ok-touched.touched.pairs.keys c.known.ensures told.touches in
     edits ∙ ap (λ n. change n (net_of now)) (c.get-network.ensures ∙ is_for.network)
 
+pub returns-clause-taken : goal.returns-clause-taken
+returns-clause-taken g c = λ k is_for. c.in_ok-touched.ensures.taken k is_for.remembers
+
 pub returns-clause-given : goal.returns-clause-given
 returns-clause-given g c =
     let r = c.requires.took_in in

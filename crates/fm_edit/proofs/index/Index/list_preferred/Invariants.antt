@@ -10,4 +10,5 @@ invariant-loop-entry l = record {
   preferred : (m t : ℕ) → lists_preferred l.self m t ≡ cond (is_eq (nat_cmp l.task t) && is_some (lookup nat_cmp m (take l.entry-index l.prefer))) true (lists_preferred l.fn.self m t);
   lists : l.self.listed ≡ l.fn.self.listed;
   sums : l.self.sums ≡ l.fn.self.sums;
+  taken : l.self.taken ≡ l.fn.self.taken;
 }

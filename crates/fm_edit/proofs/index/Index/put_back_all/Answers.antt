@@ -1,3 +1,4 @@
+use Rattle.std.proofs.Common.{◌∙◌}
 use Rattle.fm_edit.specs.Sight.{seen_in}
 use Rattle.fm_edit.proofs.Sums.{rises_on, put_step}
 use Rattle.fm_edit.proofs.index.Index.put_back_all.Goals as goal
@@ -13,4 +14,5 @@ loop-task-preserved c =
       counts = λ k can small sees before.
           put_step xs i t c.loop-task-test.true c.task-item.is inv.rises (seen_in c.args.seen.now) c.loop-task.self c.put_back.new.self k can sees
           small c.in_ok-put_back.ensures.lists c.in_ok-put_back.ensures.preferred c.in_ok-put_back.ensures.sums (inv.counts k can small sees before);
+      taken = c.in_ok-put_back.ensures.taken ∙ inv.taken;
     }

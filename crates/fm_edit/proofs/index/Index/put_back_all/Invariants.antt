@@ -12,4 +12,5 @@ abbrev pub invariant-loop-task : goal.invariant-loop-task
 invariant-loop-task l = record {
   rises : Rises nat_cmp (drop l.task-index l.tasks);
   counts : (k : Table) → CanBe k → length k.tasks < 2 ^ 63 → seen_in l.seen ≡ sight_of k → Counts (has_id l.tasks) k l.fn.self → Counts (has_id (drop l.task-index l.tasks)) k l.self;
+  taken : l.self.taken ≡ l.fn.self.taken;
 }

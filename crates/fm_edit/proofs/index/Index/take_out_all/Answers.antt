@@ -1,4 +1,6 @@
+use Rattle.std.proofs.Common.{◌∙◌}
 use Rattle.fm_edit.specs.Sight.{seen_in}
+use Rattle.fm_edit.proofs.Values.{also_counted}
 use Rattle.fm_edit.proofs.Sums.{rises_on, within_on, take_step}
 use Rattle.fm_edit.proofs.index.Index.take_out_all.Goals as goal
 
@@ -14,4 +16,5 @@ loop-task-preserved c =
       counts = λ k can sees before.
           take_step xs i t c.loop-task-test.true c.task-item.is inv.rises (seen_in c.args.seen.now) c.loop-task.self c.take_out.new.self k can sees
           inv.within c.in_ok-take_out.ensures.lists c.in_ok-take_out.ensures.preferred c.in_ok-take_out.ensures.sums (inv.counts k can sees before);
+      taken = c.in_ok-take_out.ensures.taken ∙ also_counted c.args.self.now.taken i c.loop-task.self.taken inv.taken;
     }

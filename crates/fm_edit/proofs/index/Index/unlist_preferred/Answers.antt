@@ -24,6 +24,7 @@ loop-entry-preserved c =
           (c.remove.ensures.updates.0 (m, t)));
       lists = inv.lists;
       sums = inv.sums;
+      taken = inv.taken;
     }
 
 pub returns-clause-preferred : goal.returns-clause-preferred

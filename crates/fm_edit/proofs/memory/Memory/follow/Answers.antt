@@ -1,15 +1,21 @@
-use Rattle.std.proofs.Common.{◌≡◌, ◌∙◌, ◌++◌, ◌<◌, ◌^◌, ℕ, List, true, map, sym, ap, subst, refl, length}
-use Rattle.std.specs.Ordering.{nat_cmp}
+use Rattle.std.proofs.Common.{◌≡◌, ◌∙◌, ◌⊎◌, ◌++◌, ◌+◌, ◌-◌, ◌<◌, ◌^◌, ℕ, List, true, map, sym, ap, subst, refl, length, inl, inr}
+use Rattle.std.specs.Prelude.{min}
+use Rattle.std.specs.List.{list_any}
+use Rattle.std.specs.Ordering.{nat_cmp, is_eq}
+use Rattle.fm_records.specs.Table.{Table}
+use Rattle.fm_net.specs.declared.node.Node.{Node}
+use Rattle.fm_net.specs.Nodes.{node_cmp}
 use Rattle.fm_lattice.specs.Maps.{lookup}
 use Rattle.fm_records.specs.Facts.{job_of, won_spot, attempt_of}
 use Rattle.fm_net.specs.declared.node.Node.TheVariants.{Unscheduled, Machine}
 use Rattle.fm_edit.specs.declared.look.Key.TheVariants as key
-use Rattle.fm_edit.specs.Dirty.{has_id}
+use Rattle.fm_edit.specs.Dirty.{has_id, AreDirtyTasks}
 use Rattle.fm_edit.specs.Sight.{seen_in}
 use Rattle.fm_edit.specs.Seeing.{values_at}
-use Rattle.fm_edit.specs.Memory.{Counts}
-use Rattle.fm_edit.specs.Touched.{has_touched, TouchesTask}
-use Rattle.fm_edit.proofs.Followed.{seen_as, five, after_can_be, base, turned, turned_is, spots_as, all_found, counts_on, all_touched}
+use Rattle.fm_edit.specs.Memory.{Counts, Remembers}
+use Rattle.fm_edit.specs.Touched.{has_touched, TouchesTask, IsNodeOf, IsEndOf}
+use Rattle.fm_edit.proofs.Followed.{seen_as, five, after_can_be, base, turned, turned_is, spots_as, all_found, only_dirty, dirty_as_seen, counts_on, all_touched}
+use Rattle.fm_edit.proofs.Turning.{only_turning}
 use Rattle.fm_edit.proofs.memory.Memory.follow.Goals as goal
 
 pub see-requires-clause-jobs : goal.see-requires-clause-jobs
@@ -62,9 +68,14 @@ returns g c =
     let all = all_found k d now keys r.before_can_be r.delta_can_be r.joined r.keys c.args.self.now.index held.remembers.counts ds
     c.in_ok-dirty.ensures.told c.in_ok-dirty.ensures.jobs
     (λ m t h. c.in_ok-dirty.ensures.machines m t (ap (λ xs. has_id xs m) ts ∙ h)) in
-    let taken = subst (λ zs. Counts (has_id zs) k c.take_out_all.new.self) c.as_slice-4.ensures.value (c.in_ok-take_out_all.ensures k r.before_can_be sees0 held.remembers.counts) in
+    let taken = subst (λ zs. Counts (has_id zs) k c.take_out_all.new.self) c.as_slice-4.ensures.value (c.in_ok-take_out_all.ensures.counts k r.before_can_be sees0 held.remembers.counts) in
     let kept = counts_on k d now keys r.before_can_be r.delta_can_be r.joined r.keys ds all c.take_out_all.new.self taken in
-    let counts = c.in_ok-put_back_all.ensures now can fits sees (subst (λ zs. Counts (has_id zs) now c.take_out_all.new.self) (sym c.as_slice-6.ensures.value) kept) in
+    let counts = c.in_ok-put_back_all.ensures.counts now can fits sees (subst (λ zs. Counts (has_id zs) now c.take_out_all.new.self) (sym c.as_slice-6.ensures.value) kept) in
+    let are : (l : Table) → Remembers l c.args.self.now → AreDirtyTasks l now keys ds = λ seen_as_well other.
+    dirty_as_seen k d now keys r.before_can_be r.delta_can_be r.joined r.keys seen_as_well (sym other.sees ∙ sees0) ds c.in_ok-dirty.ensures.rises
+    (only_dirty k d now keys r.before_can_be r.delta_can_be r.joined r.keys c.args.self.now.index held.remembers.counts ds all
+    (λ t h. elim (c.in_ok-dirty.ensures.only t h) [ inl told ↦ inl told | inr listed ↦ elim listed [ inl of_job ↦ inr (inl of_job) | inr of_machine ↦ inr (inr (of_machine.0, ap (λ xs. has_id xs of_machine.0) (sym ts) ∙ of_machine.1, of_machine.2)) ] ]))
+    in
     let K = g.L.Look.keys c.args.look.now in
     let looked : g.L.Look.keys c.machines_now.new.look ≡ K ++ map key.Machine keys.machines = c.in_ok-machines.ensures.keys ∙ ap (λ (ms : List ℕ). K ++ map key.Machine ms) c.machines.ensures in
     record {
@@ -78,6 +89,20 @@ returns g c =
           (subst (λ zs. (t : ℕ) → has_id zs t ≡ true → TouchesTask (seen_in c.args.self.now.seen) t c.tasks.new.self) c.as_slice-3.ensures.value c.in_ok-tasks.ensures.touches)
           (subst (λ zs. (t : ℕ) → has_id zs t ≡ true → TouchesTask (seen_in seen) t c.tasks-2.new.self) c.as_slice-7.ensures.value c.in_ok-tasks-2.ensures.touches)
           c.in_ok-touch_pairs.ensures c.known-2.ensures.nodes c.known-2.ensures.pairs;
+      only = λ other_k other.
+          only_turning other_k now keys ds (are other_k other) (seen_in c.args.self.now.seen) (seen_in seen) (other.sees) sees
+          c.new-touched.result c.jobs-2.new.self c.machines-3.new.self c.tasks.new.self c.tasks-2.new.self c.touch_pairs.new.touched
+          c.new-touched.ensures.nodes
+          (subst (λ zs. (n : Node) → has_touched c.jobs-2.new.self n ≡ true → (has_touched c.new-touched.result n ≡ true) ⊎ IsNodeOf Unscheduled zs n) c.jobs.ensures c.in_ok-jobs.ensures.only)
+          (subst (λ zs. (n : Node) → has_touched c.machines-3.new.self n ≡ true → (has_touched c.jobs-2.new.self n ≡ true) ⊎ IsNodeOf Machine zs n) c.machines-2.ensures c.in_ok-machines-2.ensures.only)
+          (subst (λ zs. (n : Node) → has_touched c.tasks.new.self n ≡ true → (has_touched c.machines-3.new.self n ≡ true) ⊎ IsEndOf (seen_in c.args.self.now.seen) zs n) c.as_slice-3.ensures.value c.in_ok-tasks.ensures.only)
+          (subst (λ zs. (n : Node) → has_touched c.tasks-2.new.self n ≡ true → (has_touched c.tasks.new.self n ≡ true) ⊎ IsEndOf (seen_in seen) zs n) c.as_slice-7.ensures.value c.in_ok-tasks-2.ensures.only)
+          (λ n h. ap (λ ks. list_any (λ m. is_eq (node_cmp n m)) ks.keys) (sym c.in_ok-touch_pairs.ensures.nodes) ∙ h);
+      taken = λ other_k other. (
+        ds,
+        are other_k other,
+        c.in_ok-put_back_all.ensures.taken ∙ c.in_ok-take_out_all.ensures.taken ∙ ap (λ (zs : List ℕ). min (c.args.self.now.index.taken + length zs) (2 ^ 64 - 1)) c.as_slice-4.ensures.value,
+      );
       small = fits;
       keys =
           c.in_ok-see.ensures.keys

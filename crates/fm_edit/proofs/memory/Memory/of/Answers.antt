@@ -1,4 +1,4 @@
-use Rattle.std.proofs.Common.{◌≡◌, ◌∙◌, ◌<◌, ◌^◌, List, [], ℕ, sym, ap, subst, length}
+use Rattle.std.proofs.Common.{◌∙◌, ◌<◌, ◌^◌, [], sym, ap, subst, length}
 use Rattle.std.specs.Ordering.{nat_cmp}
 use Rattle.fm_lattice.specs.Maps.{lookup}
 use Rattle.fm_records.specs.TableLaws.{Rises}
@@ -44,5 +44,5 @@ returns g c =
     let sees = seen_as c.see.new.seen (g.L.Look.table c.machines_now.new.look) now c.in_ok-machines.ensures.same c.in_ok-see.ensures.jobs c.in_ok-see.ensures.tasks c.in_ok-see.ensures.machines c.in_ok-see.ensures.spots in
     let fits : length now.tasks < 2 ^ 63 = c.known.ensures now can.table.tasks.rising sees in
     let kept = filled c.new-memory.result.index c.new-memory.ensures.counts now c.args.all.now can c.requires.all in
-    let counts = c.in_ok-put_back_all.ensures now can fits sees (subst (λ zs. Counts (has_id zs) now c.new-memory.result.index) (sym c.tasks.ensures) kept) in
+    let counts = c.in_ok-put_back_all.ensures.counts now can fits sees (subst (λ zs. Counts (has_id zs) now c.new-memory.result.index) (sym c.tasks.ensures) kept) in
     record { sees = sees; counts = counts }

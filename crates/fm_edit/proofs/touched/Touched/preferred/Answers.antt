@@ -1,4 +1,4 @@
-use Rattle.std.proofs.Common.{◌≡◌, true, suc, add-one, sym, subst, take, rules}
+use Rattle.std.proofs.Common.{◌≡◌, ◌∙◌, inl, inr, true, suc, add-one, sym, subst, take, rules}
 use Rattle.std.specs.Prelude.{is_some}
 use Rattle.std.specs.Ordering.{nat_cmp}
 use Rattle.std.proofs.lemmas.List.{take_all}
@@ -24,6 +24,8 @@ loop-entry-preserved c =
           among_more es i c.entry-item.result c.loop-entry-test.true c.entry-item.is m (λ n. has_pair new (Task c.args.task) (Machine n) ≡ true)
           (λ before. step.grows.pairs (Task c.args.task) (Machine m) (inv.has m (subst (λ xs. is_some (lookup nat_cmp m (take i xs)) ≡ true) is before)))
           step.has (subst (λ xs. is_some (lookup nat_cmp m (take (suc i) xs)) ≡ true) (sym is) (rw add-one at h));
+      nodes = c.pair.ensures.nodes ∙ inv.nodes;
+      starts = λ a b h. elim (step.only a b h) [ inl before ↦ inv.starts a b before | inr these ↦ inr these.0 ];
     }
 
 pub returns-clause-has : goal.returns-clause-has

@@ -1,0 +1,5 @@
+use Rattle.fm_edit.specs.LocalLaws.{none_dirty}
+use Rattle.fm_edit.proofs.laws.law_report.Goals as goal
+
+pub returns : goal.returns
+returns c = none_dirty
