@@ -4,11 +4,12 @@ import json
 
 import drawn
 
-# What a pair of a task takes at most, and so what one copy of a task that is known takes, in bytes.
-PAIR = 256
-# The fewest pairs of a block but the last.
-FULL = 32
-POINTER = 16
+# What a pair of a task takes at least, in bytes, and so a copy of a task that is known.
+PAIR = 200
+# The pairs of a full block. Tasks whose ids rise fill their blocks.
+FULL = 64
+# What a map has for each block: its first key, and the pointer to it. A share takes as much.
+HEAD = 48
 
 
 def job():
@@ -48,17 +49,17 @@ def around(count):
 def all_tests(allocator, program):
     """Each test with whether it holds."""
     known = [{"at": 1, "tell": job()}, *told(1, 0, 10000)]
-    blocks = 10000 // FULL + 8
+    share = HEAD * (10000 // FULL + 8)
     asked = more(allocator, program, [1], known + told(1, 10000, 1), "asked")
     yield "a new task among 10,000 asks for %d bytes, less than 4 KB" % asked, 0 < asked < 4096
     packet = [*told(2, 20000, 100), {"at": 2, "cut": {"name": "p"}}, {"at": 1, "deliver": "p"}]
     asked = more(allocator, program, [1, 2], known + packet, "asked")
-    yield "a packet of 100 new tasks to 10,000 asks for %d bytes, less than 200 KB" % asked, 0 < asked < 200000
+    yield "a packet of 100 new tasks to 10,000 asks for %d bytes, less than 256 KB" % asked, 0 < asked < 256000
     look, cut = {"at": 1, "round": True}, {"at": 1, "cut": {"name": "q"}}
     asked = more(allocator, program, [1], known + [look, look], "asked")
-    yield "a view after a view of 10,000 tasks asks for %d bytes, at most a pointer a block" % asked, 0 < asked < POINTER * blocks + 1024
+    yield "a view after a view of 10,000 tasks asks for %d bytes, at most two shares" % asked, 0 < asked < 2 * share + 1024
     asked = more(allocator, program, [1], known + [look, cut], "asked")
-    yield "a Full packet after a view of 10,000 tasks asks for %d bytes, at most a few pointers a block" % asked, 0 < asked < 4 * POINTER * blocks + 1024
+    yield "a Full packet after a view of 10,000 tasks asks for %d bytes, at most three shares" % asked, 0 < asked < 3 * share + 1024
     ring, count = around(8), 20000
     asked = more(allocator, program, range(1, 9), [{"at": 1, "tell": job()}, *told(1, 0, count), *ring], "asked", len(ring))
-    yield "a Full packet of 20,000 tasks round 8 coordinators asks for %d bytes, less than two copies" % asked, 0 < asked < 2 * PAIR * count
+    yield "a Full packet of 20,000 tasks round 8 coordinators asks for %d bytes, less than four copies" % asked, 0 < asked < 4 * PAIR * count
