@@ -1,5 +1,5 @@
 -- What a certified flow says of each other: how much dearer that is at least for its units on one arc.
-use Rattle.std.proofs.Common.{◌≡◌, ◌∙◌, ap, sym, subst, refl, inl, inr, ℕ, ◌+◌, ◌-◌, ◌*◌, ◌≤◌, ◌<◌, List, [], ◌∷◌, Some, arith}
+use Rattle.std.proofs.Common.{◌≡◌, sym, subst, refl, inl, inr, ℕ, ◌+◌, ◌-◌, ◌*◌, ◌≤◌, ◌<◌, List, [], ◌∷◌, Some, arith}
 use Rattle.std.specs.Prelude.{ℤ, pos, ◌+ℤ◌, ◌-ℤ◌, ◌≤ℤ◌}
 use Rattle.std.proofs.lemmas.Int.{ints}
 use borrow.Author.Differences.{up, down}
@@ -10,8 +10,8 @@ use Rattle.fm_net.specs.declared.node.Node.{Node}
 use Rattle.fm_net.specs.Nodes.{ends_cmp}
 use Rattle.fm_net.specs.NodeOrder.{ends_exact, ends_total}
 use Rattle.fm_net.specs.Net.{Net, CanBeNet, arc_at}
-use Rattle.fm_certificate.specs.Flows.{Units, units_in, cost_of, IsFeasible}
-use Rattle.fm_certificate.specs.Certificates.{potential_in, reduced_cost, IsCertified}
+use Rattle.fm_certificate.specs.Flows.{Units, cost_of, IsFeasible}
+use Rattle.fm_certificate.specs.Certificates.{reduced_cost}
 use Rattle.fm_certificate.proofs.Members.{lookup_member}
 use Rattle.fm_certificate.proofs.Exchange.{Arc, units_at}
 use Rattle.fm_certificate.proofs.Least.{arc_member, earns_alike, trade, traded, Traded, costs, from_sum, to_sum}

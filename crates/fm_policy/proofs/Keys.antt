@@ -5,7 +5,7 @@ use Rattle.std.specs.Ordering.{nat_cmp, is_eq}
 use Rattle.std.specs.List.Sorted.{IsStrictlySortedBy}
 use Rattle.std.specs.Cmp.{nat_cmp_total}
 use Rattle.std.specs.declared.cmp.Ordering.{Ordering}
-use Rattle.std.specs.declared.cmp.Ordering.TheVariants.{Less, Equal, Greater}
+use Rattle.std.specs.declared.cmp.Ordering.TheVariants.{Equal}
 use Rattle.fm_lattice.specs.Chains.{by_order, by_cases, nat_same}
 use Rattle.fm_lattice.specs.Maps.{IsBelow, IsRising, put, map_join}
 use Rattle.fm_records.specs.Sets.{insert_once, rising}

@@ -1,5 +1,5 @@
 -- Tasks and seats of a request, paired by number.
-use Rattle.std.proofs.Common.{◌≡◌, ℕ, ◌+◌, zero, suc, Bool, true, false, cond, List, [], ◌∷◌, ◌++◌, Option, Some, None, refl, sym, ◌∙◌, ap, subst, arith, length, drop, inl, inr, eq-eqb, length-append}
+use Rattle.std.proofs.Common.{◌≡◌, ℕ, ◌+◌, zero, suc, Bool, true, false, cond, List, [], ◌∷◌, ◌++◌, Option, Some, None, refl, sym, ◌∙◌, ap, subst, length, drop, inl, inr, eq-eqb, length-append}
 use Rattle.std.specs.Prelude.{◌==◌, nat_lt, zip, option_to_list}
 use Rattle.std.specs.List.{filter_map, cons_option, slice_get}
 use Rattle.std.specs.Ordering.{nat_cmp, is_eq}

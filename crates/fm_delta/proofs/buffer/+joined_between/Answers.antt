@@ -1,6 +1,5 @@
-use Rattle.std.proofs.Common.{◌≡◌, ◌≤◌, ◌+◌, ◌-◌, ◌/◌, arith}
-use Rattle.std.specs.List.{slice_range}
-use Rattle.fm_delta.specs.DeltaLaws.{IsJoinOf, split_between}
+use Rattle.std.proofs.Common.{◌+◌, ◌-◌, ◌/◌, arith}
+use Rattle.fm_delta.specs.DeltaLaws.{split_between}
 use Rattle.fm_delta.proofs.Joined.{parts}
 use Rattle.fm_delta.proofs.buffer.+joined_between.Goals as goal
 

@@ -1,4 +1,4 @@
-use Rattle.std.proofs.Common.{◌≡◌, ◌<◌, length, get_or, refl, subst, add-one, arith}
+use Rattle.std.proofs.Common.{◌<◌, length, refl, add-one, arith}
 use Rattle.fm_lattice.specs.Stocks.{Stock}
 use Rattle.fm_lattice.proofs.Copies.{more_pairs, more_headed}
 use Rattle.fm_lattice.proofs.blocks.copied_blocks.Goals as goal

@@ -1,4 +1,4 @@
-use Rattle.std.proofs.Common.{◌≡◌, ◌∙◌, ◌≤◌, ◌||◌, [], drop, length, sym, rules, arith}
+use Rattle.std.proofs.Common.{◌∙◌, ◌≤◌, ◌||◌, length, sym, rules}
 use Rattle.std.proofs.lemmas.List.{drop_all}
 use Rattle.std.specs.Ordering.{is_eq}
 use Rattle.std.specs.List.{list_any}

@@ -1,4 +1,4 @@
-use Rattle.std.proofs.Common.{◌≡◌, ◌∙◌, ap}
+use Rattle.std.proofs.Common.{◌∙◌, ap}
 use Rattle.fm_delta.specs.Deltas.{joined_all}
 use Rattle.fm_delta.specs.DeltaLaws.{joined_union}
 use Rattle.fm_delta.proofs.buffer.Buffer.cut.Goals as goal

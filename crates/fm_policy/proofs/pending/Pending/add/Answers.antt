@@ -1,4 +1,4 @@
-use Rattle.std.proofs.Common.{◌≡◌, ◌∙◌, ◌++◌, ℕ, List, sym, ap}
+use Rattle.std.proofs.Common.{◌∙◌, ◌++◌, ap}
 use Rattle.std.specs.Ordering.{nat_cmp}
 use Rattle.fm_records.specs.Sets.{rising}
 use Rattle.fm_policy.specs.Changes.{joined_keys}
