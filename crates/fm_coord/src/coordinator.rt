@@ -356,8 +356,7 @@ impl<N: NetKeeper> Coordinator<N> {
     }
 
     /// What is known now, with the number of entries before this one's, and the network, which is built first if it
-    /// is stale. The knowledge is shared and not copied: a pointer for each block of records, and memory for each
-    /// that was written since the last view. The network is shared by one pointer; a keeper that edits copies it,
+    /// is stale. The knowledge is shared and not copied: it costs what `see` costs. The network is shared by one pointer; a keeper that edits copies it,
     /// O(arcs), at its first edit while the view still exists. HistoryFull, OutOfMemory; then nothing has changed,
     /// except that a stale network may have been built.
     pub fn view(&mut self, by: u32) -> Result<View, Refusal>
@@ -383,9 +382,9 @@ impl<N: NetKeeper> Coordinator<N> {
         })
     }
 
-    /// As `view`, but without the network: a stale one stays stale. The history has the same entry. It costs a
-    /// pointer for each block of records, and memory for each that was written since the last view. HistoryFull,
-    /// OutOfMemory; then nothing has changed.
+    /// As `view`, but without the network: a stale one stays stale. The history has the same entry. It costs two
+    /// shares of the knowledge, each the first key of each block of records and a pointer to it, and memory for each
+    /// block that was written since the last view. HistoryFull, OutOfMemory; then nothing has changed.
     pub fn see(&mut self, by: u32) -> Result<Sight, Refusal>
         ensures ok { IfOk result (λ sight. self.new.state ≡ noted self.old.state (entry by Call.View (Reply.Seen sight.at sight.knowledge))) }
         ensures at { IfOk result (λ sight. sight.at ≡ length self.old.state.history) }

@@ -32,6 +32,7 @@ pub fn plan_of_tally(
 {
     law_can_be(knowledge);
     law_moves();
+    // The tasks are in memory, so there are fewer than 2^63: the check counts them.
     let _few = knowledge.tasks().len();
     let Some(claim) = search(alloc, knowledge, tally)? else {
         return Ok(None);
