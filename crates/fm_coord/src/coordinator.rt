@@ -356,9 +356,9 @@ impl<N: NetKeeper> Coordinator<N> {
     }
 
     /// What is known now, with the number of entries before this one's, and the network, which is built first if it
-    /// is stale. The knowledge is shared and not copied: it costs what `see` costs. The network is shared by one pointer; a keeper that edits copies it,
-    /// O(arcs), at its first edit while the view still exists. HistoryFull, OutOfMemory; then nothing has changed,
-    /// except that a stale network may have been built.
+    /// is stale. The knowledge is shared and not copied: it costs what `see` costs. The network is shared by one
+    /// pointer; a keeper that edits copies it, O(arcs), at its first edit while the view still exists. HistoryFull,
+    /// OutOfMemory; then nothing has changed, except that a stale network may have been built.
     pub fn view(&mut self, by: u32) -> Result<View, Refusal>
         ensures ok { IfOk result (λ view. self.new.state ≡ noted self.old.state (entry by Call.View (Reply.Seen view.at view.knowledge))) }
         ensures at { IfOk result (λ view. view.at ≡ length self.old.state.history) }
