@@ -29,7 +29,9 @@ module _ {K V : Type 0} (cmp : K → K → Ordering) (total : IsTotalOrder cmp) 
   shown_refilled [] r c h = no_place p h
   shown_refilled (x ∷ es) r c h =
       let rest = shown_refilled es r.1 c.1 in
-      rw c.0.1 (by_cases (cmp k x.0) (λ o. cmp k x.0 ≡ o → cond (is_eq o) (Some x.1) (lookup cmp k es) ≡ Some p → shown new (match_ordering o ((k, p) ∷ x ∷ es) ((x.0, p) ∷ es) (x ∷ insert_entry cmp es k p)) ≡ by_order o ((k, v) ∷ (x.0, c.0.0) ∷ shown at es) ((x.0, v) ∷ shown at es) ((x.0, c.0.0) ∷ put cmp replaced k v (shown at es)))
+      rw c.0.1 (by_cases (cmp k x.0) (λ o. cmp k x.0 ≡ o → cond (is_eq o) (Some x.1) (lookup cmp k es) ≡ Some p → shown new
+      (match_ordering o ((k, p) ∷ x ∷ es) ((x.0, p) ∷ es) (x ∷ insert_entry cmp es k p)) ≡ by_order o
+      ((k, v) ∷ (x.0, c.0.0) ∷ shown at es) ((x.0, v) ∷ shown at es) ((x.0, c.0.0) ∷ put cmp replaced k v (shown at es)))
       (λ _ l g. less_not cmp total at new p u.others k f x es r l g)
       (λ _ t g.
       let is = same k x.0 t in

@@ -204,7 +204,9 @@ module _ {K V : Type 0} (cmp : K → K → Ordering) (total : IsTotalOrder cmp) 
 -- What a map in cells has after a call, for its invariant and for what it shows.
 
 -- a pair was put into a cell that was empty, and the index tells it
-module _ {K V : Type 0} (cmp : K → K → Ordering) (total : IsTotalOrder cmp) (same : TellsApart cmp) (at new : ℕ → Option (K × V)) (p : ℕ) (k : K) (v : V) (es after : List (K × ℕ)) (a : AreInCells cmp at es) (u : CellIs at new p (Some (k, v))) (vacant : at p ≡ None) (is : after ≡ insert_entry cmp es k p) where
+module _ {K V : Type 0} (cmp : K → K → Ordering) (total : IsTotalOrder cmp) (same : TellsApart cmp)
+    (at new : ℕ → Option (K × V)) (p : ℕ) (k : K) (v : V) (es after : List (K × ℕ)) (a : AreInCells cmp at es)
+    (u : CellIs at new p (Some (k, v))) (vacant : at p ≡ None) (is : after ≡ insert_entry cmp es k p) where
   pub put_in_cells : IsRising cmp after → AreInCells cmp new after
   put_in_cells r = record {
     rising = r;

@@ -34,7 +34,14 @@ module _ {K V : Type 0} (cmp : K → K → Ordering) (total : IsTotalOrder cmp) 
   pub taken_gap : (es : List (K × V)) (k : K) (i : ℕ) → IsGap cmp es k i → es ≡ remove_entry (is_at (cmp k)) es
   taken_gap [] k i gap = refl
   taken_gap (e ∷ es) k zero gap = rw (greater_less cmp total e.0 k (gap.after 0 e (omega arith) (omega arith))) (ap (λ z. e ∷ z) (taken_gap es k zero (record { in_range = omega arith; before = λ j d lt. absurd (omega arith); after = λ j d le lt. gap.after (suc j) d (omega arith) (omega arith) })))
-  taken_gap (e ∷ es) k (suc i) gap = rw (less_greater cmp total e.0 k (gap.before 0 e (omega arith))) (ap (λ z. e ∷ z) (taken_gap es k i (record { in_range = omega (arith, gap.in_range); before = λ j d lt. gap.before (suc j) d (omega arith); after = λ j d le lt. gap.after (suc j) d (omega arith) (omega arith) })))
+  taken_gap (e ∷ es) k (suc i) gap = rw (less_greater cmp total e.0 k (gap.before 0 e (omega arith)))
+      (ap (λ z. e ∷ z) (taken_gap es k i
+      (record {
+        in_range = omega (arith, gap.in_range);
+        before = λ j d lt. gap.before (suc j) d (omega arith);
+        after = λ j d le
+            lt. gap.after (suc j) d (omega arith) (omega arith);
+      })))
 
   -- the pair at a place goes after those before it
   pub put_next : (join : V → V → V) (es : List (K × V)) (i : ℕ) (d : K × V) → IsRising cmp es → i < length es → put cmp join (get_or es i d).0 (get_or es i d).1 (take i es) ≡ take (suc i) es

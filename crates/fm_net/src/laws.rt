@@ -36,5 +36,6 @@ pub fn law_change()
 
 /// If the touched nodes and pairs are all that differ, the edits of these are the complete change, in its order.
 pub fn law_touched()
-    ensures { (n m : Net) (nodes : List NodeName) (pairs : List (NodeName × NodeName)) → CanBeNet n → CanBeNet m → Touches n m nodes pairs → touched_change n m nodes pairs ≡ change n m }
+    ensures { (n m : Net) (nodes : List NodeName) (pairs : List (NodeName × NodeName)) → CanBeNet n → CanBeNet m
+        → Touches n m nodes pairs → touched_change n m nodes pairs ≡ change n m }
 {}

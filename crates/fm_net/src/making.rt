@@ -7,7 +7,10 @@ use crate::edit::Edit;
 use crate::network::Network;
 use fm_lattice::join::OutOfMemory;
 
-// Makes one edit. O(log n).
+// How many edits are too few to be worth moving all nodes and arcs into cells first.
+const FEW: usize = 8;
+
+// Makes one edit.
 fn make(network: &mut Network, edit: &Edit) -> Result<(), OutOfMemory>
     requires { MayEdit network.old edit.now }
     ensures ok { OnOk result (network.new ≡ edited edit.now network.old) }
@@ -34,8 +37,22 @@ fn make(network: &mut Network, edit: &Edit) -> Result<(), OutOfMemory>
 }
 
 /// Makes the edits one after another. For each edit the caller must meet the premises of its call, on what the
-/// earlier ones left. If memory runs out, some of them are made, in order. O(log n) for each.
+/// earlier ones left. If memory runs out, some of them are made, in order. More than 8 edits scatter the network first:
+/// O(n log n) once, and O(log n) for each. Of fewer, each drop moves what is packed after it, O(n).
 pub fn make_all(network: &mut Network, edits: &[Edit]) -> Result<(), OutOfMemory>
+    requires { MayEditAll network.old edits.now }
+    ensures ok { OnOk result (network.new ≡ after edits.now network.old) }
+    ensures err { OnErr result (IsPartMade network.old edits.now network.new) }
+{
+    if edits.len() > FEW {
+        // If there is no memory for it, each edit costs more.
+        let _ = network.scatter();
+    }
+    make_each(network, edits)
+}
+
+// Makes the edits one after another.
+fn make_each(network: &mut Network, edits: &[Edit]) -> Result<(), OutOfMemory>
     requires { MayEditAll network.old edits.now }
     ensures ok { OnOk result (network.new ≡ after edits.now network.old) }
     ensures err { OnErr result (IsPartMade network.old edits.now network.new) }

@@ -17,7 +17,7 @@ use std::marker::Model;
 
 /// A network: a set of nodes with the sink, and at most one arc from one of them to another, with a capacity and a
 /// cost. As long as nodes and arcs are put in order, they are packed in an array, and a put is O(1) amortised. The
-/// first put or drop elsewhere moves them, in O(n log n), once.
+/// first new one elsewhere moves them into cells, in O(n log n), once; `scatter` does so before many edits.
 #[derive(Debug, Drop)]
 pub struct Network {
     nodes: Ordered<Node, ()>,
@@ -61,7 +61,8 @@ impl Network {
         requires { IsRequestInRange node }
         ensures ok { OnOk result (self.new ≡ with_node node self.old) }
         ensures is_new { IfOk result (λ new. new ≡ not (has_node self.old node)) }
-        ensures has { OnOk result ((k : NodeName) → IsTrue (has_node self.new k) ↔ ((k ≡ node) ⊎ IsTrue (has_node self.old k))) }
+        ensures has { OnOk result ((k : NodeName)
+            → IsTrue (has_node self.new k) ↔ ((k ≡ node) ⊎ IsTrue (has_node self.old k))) }
         ensures arc { OnOk result ((a b : NodeName) → arc_at self.new a b ≡ arc_at self.old a b) }
         ensures err { OnErr result (self.new ≡ self.old) }
     {
@@ -71,13 +72,14 @@ impl Network {
     }
 
     /// Drops a node, and returns whether it was there. The caller must ensure that it is not the sink and that no arc
-    /// touches it. O(log n).
+    /// touches it. It allocates nothing. O(log n); while nodes are packed, those after it move, O(nodes).
     pub fn drop_node(&mut self, node: &Node) -> bool
         requires not_sink { ¬ (node.now ≡ NodeName.Sink) }
         requires not_touched { ¬ IsTouched self.old node.now }
         ensures without { self.new ≡ without_node node.now self.old }
         ensures was_there { result ≡ has_node self.old node.now }
-        ensures has { (k : NodeName) → IsTrue (has_node self.new k) ↔ (¬ (k ≡ node.now) × IsTrue (has_node self.old k)) }
+        ensures has { (k : NodeName) → IsTrue (has_node self.new k) ↔ (¬ (k ≡ node.now)
+            × IsTrue (has_node self.old k)) }
         ensures arc { (a b : NodeName) → arc_at self.new a b ≡ arc_at self.old a b }
     {
         self.nodes.remove(node).is_some()
@@ -101,20 +103,32 @@ impl Network {
         ensures ok { OnOk result (self.new ≡ with_arc from to (capacity, cost) self.old) }
         ensures stood { IfOk result (λ old. old ≡ arc_at self.old from to) }
         ensures has { OnOk result ((k : NodeName) → has_node self.new k ≡ has_node self.old k) }
-        ensures arc { OnOk result ((a b : NodeName) → arc_at self.new a b ≡ (if are_ends from to a b then Some (capacity, cost) else arc_at self.old a b)) }
+        ensures arc { OnOk result ((a b : NodeName)
+            → arc_at self.new a b ≡ (if are_ends from to a b then Some (capacity, cost) else arc_at self.old a b)) }
         ensures err { OnErr result (self.new ≡ self.old) }
     {
         Ok(self.arcs.put((from, to), (capacity, cost))?)
     }
 
-    /// Drops an arc, and returns its capacity and cost, if it was there. O(log n).
+    /// Drops an arc, and returns its capacity and cost, if it was there. It allocates nothing. O(log n); while arcs are
+    /// packed, those after it move, O(arcs).
     pub fn drop_arc(&mut self, from: Node, to: Node) -> Option<(u64, u32)>
         ensures without { self.new ≡ without_arc from to self.old }
         ensures stood { result ≡ arc_at self.old from to }
         ensures has { (k : NodeName) → has_node self.new k ≡ has_node self.old k }
-        ensures arc { (a b : NodeName) → arc_at self.new a b ≡ (if are_ends from to a b then None else arc_at self.old a b) }
+        ensures arc { (a b : NodeName) → arc_at self.new a b
+            ≡ (if are_ends from to a b then None else arc_at self.old a b) }
     {
         self.arcs.remove(&(from, to))
+    }
+
+    /// Moves packed nodes and arcs into cells, so that each later put and drop is O(log n). The network is unchanged,
+    /// also if memory runs out. O(n log n) once.
+    pub fn scatter(&mut self) -> Result<(), OutOfMemory>
+        ensures { self.new ≡ self.old }
+    {
+        self.nodes.scatter()?;
+        self.arcs.scatter()
     }
 
     /// The capacity and cost of the arc from one node to another, if it is there. O(log n).

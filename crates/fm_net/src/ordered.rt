@@ -16,12 +16,11 @@ use std::alloc::Global;
 use std::fmt;
 use std::marker::Model;
 
-// How many pairs may move for one that comes out of order, or goes.
+// How many pairs may move for a new one that comes out of order.
 const FEW: usize = 64;
 
 /// A map of pairs. While keys come in order the pairs lie packed, so that a put is a push and a walk is one over
-/// memory. The first key that comes before others, or goes, moves them into cells, where each edit is a search. A few
-/// pairs stay packed.
+/// memory. The first new key that comes before many others moves them into cells, where each edit is a search.
 #[derive(Drop)]
 pub(crate) struct Ordered<K: Chain, V: Copy> {
     form: Form<K, V>,
@@ -72,14 +71,14 @@ impl<K: Chain, V: Copy> Ordered<K, V> {
     }
 
     /// Puts the value at the key in place of an existing one, and returns the old one. If memory runs out,
-    /// the pairs are unchanged. Amortised O(1) after the last key of packed pairs, O(n log n) once, when they move
-    /// into cells, and O(log n) else.
+    /// the pairs are unchanged. Amortised O(1) after the last key of packed pairs, O(n log n) once, when a new key
+    /// moves them into cells, and O(log n) else.
     pub(crate) fn put(&mut self, key: K, value: V) -> Result<Option<V>, OutOfMemory>
         ensures ok { OnOk result (self.new ≡ put K.cmp replaced key value self.old) }
         ensures stood { IfOk result (λ old. old ≡ lookup K.cmp key self.old) }
         ensures err { OnErr result (self.new ≡ self.old) }
     {
-        if self.comes_before_many(&key) {
+        if self.comes_before_many(&key) && !self.has(&key) {
             self.scatter()?;
         }
         match &mut self.form {
@@ -88,19 +87,26 @@ impl<K: Chain, V: Copy> Ordered<K, V> {
         }
     }
 
-    /// Takes the pair at the key out, and returns its value, if it was there. Many packed pairs move into cells first,
-    /// O(n log n) once; if that runs out of memory, those behind the key move instead. O(log n) else.
+    /// Takes the pair at the key out, and returns its value, if it was there. It allocates nothing. O(log n) in cells;
+    /// of packed pairs those after the key move, O(n).
     pub(crate) fn remove(&mut self, key: &K) -> Option<V>
         ensures without { self.new ≡ remove_entry (is_at (K.cmp key.now)) self.old }
         ensures stood { result ≡ lookup K.cmp key.now self.old }
     {
-        if self.len() > FEW {
-            let _ = self.scatter();
-        }
         match &mut self.form {
             Form::Packed(pairs) => take(pairs, key),
             Form::Cells(cells) => cells.remove(key),
         }
+    }
+
+    /// Moves packed pairs into cells, where each edit is a search. If memory runs out, they stay packed. O(n log n).
+    pub(crate) fn scatter(&mut self) -> Result<(), OutOfMemory>
+        ensures { self.new ≡ self.old }
+    {
+        if let Form::Packed(pairs) = &self.form {
+            self.form = Form::Cells(cells_of(*pairs.allocator(), pairs)?);
+        }
+        Ok(())
     }
 
     /// How many pairs there are: fewer than 2^63.
@@ -146,16 +152,6 @@ impl<K: Chain, V: Copy> Ordered<K, V> {
             Form::Packed(pairs) if pairs.len() > FEW => pairs[pairs.len() - FEW].0.cmp(key).is_gt(),
             _ => false,
         }
-    }
-
-    // Moves packed pairs into cells. If memory runs out, they stay packed. O(n log n).
-    fn scatter(&mut self) -> Result<(), OutOfMemory>
-        ensures { self.new ≡ self.old }
-    {
-        if let Form::Packed(pairs) = &self.form {
-            self.form = Form::Cells(cells_of(*pairs.allocator(), pairs)?);
-        }
-        Ok(())
     }
 }
 

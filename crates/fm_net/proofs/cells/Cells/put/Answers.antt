@@ -34,7 +34,10 @@ invariant_of-self-2 g c =
     let u = filled_again (get s) (get mid) (get c.insert_reserved.new.self) p c.insert_reserved.result (Some (c.args.key, c.args.value)) fills gone filled in
     record {
       indexed = cells_told g.K.Ord.cmp g.met.K.Ord.total (get s) c.vacant_key-next.result p c.args.key es c.self.invariant.indexed empty told c.requires (get c.insert_reserved.new.self) c.args.value _ u (search rules) (rising_said g.K.Ord.cmp _ (search rules));
-      no_more = no_more_told g.K.Ord.cmp g.met.K.Ord.total (get s) c.vacant_key-next.result p c.args.key es c.self.invariant.indexed empty told c.try_remove-former.result (slab_len c.reserve.new.self) (slab_len mid) (slab_len c.insert_reserved.new.self) _ stood c.try_remove-former.ensures.len (search rules) c.insert_reserved.ensures.len (ap (count_by is_some) slots ∙ c.self.invariant.no_more) (search rules);
+      no_more = no_more_told g.K.Ord.cmp g.met.K.Ord.total (get s) c.vacant_key-next.result p c.args.key es
+          c.self.invariant.indexed empty told c.try_remove-former.result (slab_len c.reserve.new.self) (slab_len mid)
+          (slab_len c.insert_reserved.new.self) _ stood c.try_remove-former.ensures.len (search rules)
+          c.insert_reserved.ensures.len (ap (count_by is_some) slots ∙ c.self.invariant.no_more) (search rules);
     }
 
 pub returns-clause-ok : goal.returns-clause-ok

@@ -16,7 +16,16 @@ invariant_of-self-2 c =
     after_put_arc old new c.self.invariant c.args.from c.args.to refl
     (subst (IsRising ends_cmp) (sym c.in_ok-put.ensures.ok) (rising_put ends_cmp ends_total ends_exact replaced (c.args.from, c.args.to) (c.args.capacity, c.args.cost) c.self.inside.arcs c.self.invariant.arcs_rise))
     (c.args.capacity, c.args.cost)
-    (record { from_stands = ap (λ net. has_node net c.args.from) c.self.view_is ∙ c.requires.from_stands; to_stands = ap (λ net. has_node net c.args.to) c.self.view_is ∙ c.requires.to_stands; kinds = c.requires.kinds; capacity_above = c.requires.capacity_above; capacity_fits = omega arith; cost_within = c.requires.cost_within })
+    (record {
+      from_stands = ap (λ net. has_node net c.args.from) c.self.view_is ∙ c.requires.from_stands;
+      to_stands = ap
+          (λ net. has_node net c.args.to) c.self.view_is ∙ c.requires.to_stands;
+      kinds = c.requires.kinds;
+      capacity_above =
+          c.requires.capacity_above;
+      capacity_fits = omega arith;
+      cost_within = c.requires.cost_within;
+    })
     (λ a b. ap (lookup ends_cmp (a, b)) c.in_ok-put.ensures.ok ∙ arc_with c.args.from c.args.to (c.args.capacity, c.args.cost) old c.self.invariant.arcs_rise a b)
 
 pub returns-clause-arc : goal.returns-clause-arc

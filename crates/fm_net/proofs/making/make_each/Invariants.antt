@@ -1,6 +1,6 @@
 use Rattle.std.proofs.Common.{◌≡◌, drop, take}
 use Rattle.fm_net.specs.Edits.{after, MayEditAll}
-use Rattle.fm_net.proofs.making.make_all.Given as goal
+use Rattle.fm_net.proofs.making.make_each.Given as goal
 
 abbrev pub invariant-loop-edit : goal.invariant-loop-edit
 invariant-loop-edit l = record {

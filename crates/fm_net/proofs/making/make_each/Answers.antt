@@ -2,7 +2,7 @@ use Rattle.std.proofs.Common.{◌≡◌, ◌∙◌, ◌<◌, ◌+◌, length, dr
 use Rattle.fm_net.specs.Net.{Net}
 use Rattle.fm_net.specs.Edits.{edited, MayEditAll}
 use Rattle.fm_net.proofs.Made.{may_next, one_more}
-use Rattle.fm_net.proofs.making.make_all.Goals as goal
+use Rattle.fm_net.proofs.making.make_each.Goals as goal
 
 pub loop-edit-preserved : goal.loop-edit-preserved
 loop-edit-preserved c =
