@@ -4,6 +4,7 @@ ghost use Rattle.std.specs.Prelude.{◌≡◌, ◌≤◌, ◌<◌, ◌+◌, ◌+
 ghost use Rattle.fm_lattice.specs.Maps.{IsRising, lookup, put, replaced};
 ghost use Rattle.fm_lattice.specs.Stocks.{alone};
 
+use crate::blocks::FULL;
 use crate::chain::Chain;
 use crate::join::{Join, OutOfMemory, copied};
 use crate::rising::set;
@@ -169,7 +170,7 @@ impl<K: Chain, V: Join> Block<K, V> {
         Ok(())
     }
 
-    // Makes the map the only owner of the block, and reserves room for as many more pairs.
+    // Makes the map the only owner of the block, and reserves room for as many more pairs, up to a full block.
     // If memory runs out, the pairs are unchanged.
     pub(crate) fn own_for(&mut self, more: usize) -> Result<(), OutOfMemory>
         ensures items { self.new.items ≡ self.old.items }
@@ -177,7 +178,7 @@ impl<K: Chain, V: Join> Block<K, V> {
     {
         self.own()?;
         match &mut self.held {
-            Held::Own(pairs) => pairs.reserve(more)?,
+            Held::Own(pairs) => pairs.reserve(more.min(FULL.saturating_sub(pairs.len())))?,
             Held::Shared(_) => unreachable!(),
         }
         Ok(())
