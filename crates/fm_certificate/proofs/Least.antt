@@ -160,9 +160,13 @@ module _ (rising falling : Node → ℕ) (f g : Units) where
   to_sum weight p arcs = sum_by (λ (a : Arc). weight a.0.1 * units_at p a) arcs
 
   abbrev pub Traded : Units → Units → Arc → Type 0
-  Traded p q a = a.1.1 * units_at p a + rising a.0.0 * units_at p a + falling a.0.1 * units_at p a + (rising a.0.1 * units_at q a + falling a.0.0 * units_at q a) ≤ a.1.1 * units_at q a + rising a.0.0 * units_at q a + falling a.0.1 * units_at q a + (rising a.0.1 * units_at p a + falling a.0.0 * units_at p a)
+  Traded p q a = a.1.1 * units_at p a + rising a.0.0 * units_at p a + falling a.0.1 * units_at p a +
+      (rising a.0.1 * units_at q a + falling a.0.0 * units_at q a) ≤ a.1.1 * units_at q a + rising a.0.0 * units_at q a +
+      falling a.0.1 * units_at q a + (rising a.0.1 * units_at p a + falling a.0.0 * units_at p a)
 
-  pub traded : (arcs : List Arc) → ((a : Arc) → IsMember a arcs → Traded f g a) → costs f arcs + from_sum rising f arcs + to_sum falling f arcs + (to_sum rising g arcs + from_sum falling g arcs) ≤ costs g arcs + from_sum rising g arcs + to_sum falling g arcs + (to_sum rising f arcs + from_sum falling f arcs)
+  pub traded : (arcs : List Arc) → ((a : Arc) → IsMember a arcs → Traded f g a) → costs f arcs + from_sum rising f arcs + to_sum
+      falling f arcs + (to_sum rising g arcs + from_sum falling g arcs) ≤ costs g arcs + from_sum rising g arcs + to_sum falling
+      g arcs + (to_sum rising f arcs + from_sum falling f arcs)
   traded [] each = omega arith
   traded (a ∷ arcs) each =
       let rest = traded arcs (λ b m. each b (inr m)) in
@@ -173,7 +177,10 @@ module _ (rising falling : Node → ℕ) (f g : Units) where
       omega (arith, cost f, cost g, from rising f, from rising g, from falling f, from falling g, to rising f, to rising g, to falling f, to falling g)
 
 -- units and potentials as functions
-pub shown_is_least : (net : Net) (f : Units) (at : Node → ℤ) → CanBeNet net → IsFeasible net f → ((from to : Node) (arc : ℕ × ℕ) → arc_at net from to ≡ Some arc → f from to < arc.0 → pos 0 ≤ℤ reduced_cost arc.1 (at from) (at to)) → ((from to : Node) (arc : ℕ × ℕ) → arc_at net from to ≡ Some arc → 0 < f from to → reduced_cost arc.1 (at from) (at to) ≤ℤ pos 0) → IsLeast net f
+pub shown_is_least : (net : Net) (f : Units) (at : Node → ℤ) → CanBeNet net → IsFeasible net f →
+    ((from to : Node) (arc : ℕ × ℕ) → arc_at net from to ≡ Some arc → f from to < arc.0 → pos 0 ≤ℤ reduced_cost arc.1 (at from)
+    (at to)) → ((from to : Node) (arc : ℕ × ℕ) → arc_at net from to ≡ Some arc → 0 < f from to → reduced_cost arc.1 (at from)
+    (at to) ≤ℤ pos 0) → IsLeast net f
 shown_is_least net f at can feasible no_gain no_waste =
     record {
       feasible = feasible;

@@ -8,18 +8,21 @@ ghost use Rattle.fm_certificate.specs.Certificates.{potential_in, reduced_cost, 
 
 /// A flow that potentials certify is least: no feasible flow of the network costs less. Complementary slackness.
 pub fn law_least()
-    ensures { (net : Net) (flow : List ((NodeName × NodeName) × ℕ)) (potentials : List (NodeName × ℤ)) → CanBeNet net → IsCertified net flow potentials → IsLeast net (units_in flow) }
+    ensures { (net : Net) (flow : List ((NodeName × NodeName) × ℕ)) (potentials : List (NodeName × ℤ)) → CanBeNet net
+        → IsCertified net flow potentials → IsLeast net (units_in flow) }
 {}
 
 /// How much dearer than a certified flow every feasible flow is that differs from it on an arc: by its reduced cost at least,
 /// if it sends units over an arc that the certified one leaves empty, and by less that cost, if it leaves an arc empty that the
 /// certified one uses. Sensitivity analysis of linear programs.
 pub fn law_dearer()
-    ensures used { (net : Net) (flow : List ((NodeName × NodeName) × ℕ)) (potentials : List (NodeName × ℤ)) (others : Units) (from to : NodeName) (arc : ℕ × ℕ)
+    ensures used { (net : Net) (flow : List ((NodeName × NodeName) × ℕ)) (potentials : List (NodeName × ℤ))
+        (others : Units) (from to : NodeName) (arc : ℕ × ℕ)
         → CanBeNet net → IsCertified net flow potentials → IsFeasible net others → arc_at net from to ≡ Some arc
         → units_in flow from to ≡ 0 → 0 < others from to
         → (pos (cost_of net (units_in flow)) +ℤ reduced_cost arc.1 (potential_in potentials from) (potential_in potentials to)) ≤ℤ pos (cost_of net others) }
-    ensures unused { (net : Net) (flow : List ((NodeName × NodeName) × ℕ)) (potentials : List (NodeName × ℤ)) (others : Units) (from to : NodeName) (arc : ℕ × ℕ)
+    ensures unused { (net : Net) (flow : List ((NodeName × NodeName) × ℕ)) (potentials : List (NodeName × ℤ))
+        (others : Units) (from to : NodeName) (arc : ℕ × ℕ)
         → CanBeNet net → IsCertified net flow potentials → IsFeasible net others → arc_at net from to ≡ Some arc
         → 0 < units_in flow from to → others from to ≡ 0
         → (pos (cost_of net (units_in flow)) -ℤ reduced_cost arc.1 (potential_in potentials from) (potential_in potentials to)) ≤ℤ pos (cost_of net others) }

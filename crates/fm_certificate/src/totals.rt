@@ -51,7 +51,8 @@ pub(crate) fn change(totals: &mut BTreeMap<Node, u128>, node: Node, old: u64, ne
     requires room { 0 < new → IsSome (lookup node_cmp node totals.old.entries) }
     requires part { old ≤ total_in totals.old.entries node }
     requires fits { total_in totals.old.entries node + 2 ^ 64 < 2 ^ 128 }
-    ensures { (n : NodeName) → total_in totals.new.entries n + cond (same_node node n) old 0 ≡ total_in totals.old.entries n + cond (same_node node n) new 0 }
+    ensures { (n : NodeName) → total_in totals.new.entries n + cond (same_node node n) old 0
+        ≡ total_in totals.old.entries n + cond (same_node node n) new 0 }
 {
     if old == new {
         return;

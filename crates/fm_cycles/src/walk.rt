@@ -64,7 +64,8 @@ fn walk_back(
     requires labels { AreParents (residual arcs.now units.now) (parents_in parents.now) }
     requires empty { walk.old.items ≡ [] }
     requires before { AreBefore start visits.old }
-    ensures { IfOk result (IsWalkedBack (residual arcs.now units.now) (parents_in parents.now) start visits.old visits.new walk.new.items) }
+    ensures { IfOk result (IsWalkedBack (residual arcs.now units.now)
+        (parents_in parents.now) start visits.old visits.new walk.new.items) }
 {
     let mut node = start;
     'back: loop {
@@ -95,7 +96,9 @@ pub(crate) fn cycles_in(
 ) -> Result<Vec<Vec<Step>>, AllocError>
     requires arcs { AreArcs arcs.now (length parents.now) }
     requires labels { AreParents (residual arcs.now units.now) (parents_in parents.now) }
-    ensures { IfOk result (λ cycles. AreCyclesOf (residual arcs.now units.now) (parents_in parents.now) (length parents.now) cycles.items) }
+    ensures { IfOk result
+        (λ cycles. AreCyclesOf (residual arcs.now units.now) (parents_in parents.now)
+        (length parents.now) cycles.items) }
 {
     let mut visits: Vec<Option<Visit>> = vec![in alloc; None; parents.len()]?;
     let mut walk: Vec<Step> = Vec::new(alloc);

@@ -63,7 +63,10 @@ record IsTold (i : ℕ) (r : MachineReg) (o : Option MachineValue) : Type 0 wher
   incarnation : option_map (λ v. v.0) o ≡ Some i
   state : and_then (λ v. v.1.0) o ≡ Some r
 
-machine_after : (i : ℕ) (r : MachineReg) (o : Option MachineValue) → next_version (cond (passes (λ p. p == i) (option_map (λ v. v.0) o)) (option_map (λ s. s.version) (and_then (λ v. v.1.0) o)) None) ≡ Some r.version → IfSome (option_map (λ v. v.0) o) (λ p. p ≤ i) → IsTold i r (option_join machine_join o (Some (i, (Some r, None))))
+machine_after : (i : ℕ) (r : MachineReg) (o : Option MachineValue) → next_version
+    (cond (passes (λ p. p == i) (option_map (λ v. v.0) o)) (option_map (λ s. s.version) (and_then (λ v. v.1.0) o)) None) ≡ Some
+    r.version → IfSome (option_map (λ v. v.0) o) (λ p. p ≤ i) → IsTold i r
+    (option_join machine_join o (Some (i, (Some r, None))))
 machine_after i r None h below = record { incarnation = refl; state = refl }
 machine_after i r (Some (p, (s, report))) h below =
     elim (nat_cmp p i) as (λ c. nat_cmp p i ≡ c → IsTold i r (Some (by_order c (i, (Some r, None)) (p, (option_join (max_join machine_cmp) s (Some r), option_join (max_join report_cmp) report None)) (p, (s, report))))) [

@@ -16,7 +16,12 @@ use Rattle.fm_records.specs.UnionLaws.{know_append}
 use Rattle.fm_records.specs.JoinedLaws.{join_can_be}
 
 module _ {A E : Type 0} (k l : Table) (x : CanBe k) (y : CanBe l) where
-  pub all_grown : (r : Result A E) (j : List (ℕ × JobReg)) (t : List (ℕ × TaskValue)) (m : List (ℕ × MachineValue)) (p : List ((ℕ × ℕ) × List (ℕ × Spot))) → OnOk r (j ≡ map_join nat_cmp (max_join job_cmp) k.jobs l.jobs) → OnOk r (t ≡ map_join nat_cmp task_join k.tasks l.tasks) → OnOk r (m ≡ map_join nat_cmp machine_join k.machines l.machines) → OnOk r (p ≡ map_join attempt_cmp spots_join k.proposals l.proposals) → OnErr r ((j ≡ k.jobs) × (t ≡ k.tasks) × (m ≡ k.machines) × (p ≡ k.proposals)) → CanBe (record { jobs = j; tasks = t; machines = m; proposals = p })
+  pub all_grown : (r : Result A E) (j : List (ℕ × JobReg)) (t : List (ℕ × TaskValue)) (m : List (ℕ × MachineValue))
+      (p : List ((ℕ × ℕ) × List (ℕ × Spot))) → OnOk r (j ≡ map_join nat_cmp (max_join job_cmp) k.jobs l.jobs) → OnOk r
+      (t ≡ map_join nat_cmp task_join k.tasks l.tasks) → OnOk r (m ≡ map_join nat_cmp machine_join k.machines l.machines) → OnOk
+      r (p ≡ map_join attempt_cmp spots_join k.proposals l.proposals) → OnErr r
+      ((j ≡ k.jobs) × (t ≡ k.tasks) × (m ≡ k.machines) × (p ≡ k.proposals)) → CanBe
+      (record { jobs = j; tasks = t; machines = m; proposals = p })
   all_grown (Ok a) j t m p oj ot om op err = subst CanBe (λ i. record { jobs = sym oj i; tasks = sym ot i; machines = sym om i; proposals = sym op i }) (join_can_be k l x y)
   all_grown (Err e) j t m p oj ot om op err = subst CanBe (λ i. record { jobs = sym err.0 i; tasks = sym err.1 i; machines = sym err.2 i; proposals = sym err.3 i }) x
 

@@ -81,7 +81,8 @@ impl Knowledge {
     /// changed.
     pub fn join_into(&mut self, other: &Knowledge) -> Result<(), OutOfMemory>
         ensures ok { OnOk result (self.new ≡ table_join self.old other.now) }
-        ensures union { (S T : List Op) → self.old ≡ know S → other.now ≡ know T → OnOk result (self.new ≡ know (S ++ T)) }
+        ensures union { (S T : List Op) → self.old ≡ know S → other.now ≡ know T
+            → OnOk result (self.new ≡ know (S ++ T)) }
         ensures err { OnErr result (self.new ≡ self.old) }
     {
         self.take_in(other)

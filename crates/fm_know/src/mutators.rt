@@ -51,9 +51,12 @@ impl Knowledge {
         slots: u32,
         nic: u32,
     ) -> Result<Op, Refusal>
-        ensures op { result ≡ ok_or (next_machine_op self.now id incarnation writer up slots nic) Refusal.VersionsSpent }
-        ensures told { IfSome (incarnation_of self.now id) (λ i. i ≤ incarnation) → IfOk result (λ o. state_of (table_join self.now (know (o ∷ []))) id ≡ state_in id incarnation o) }
-        ensures present { IfSome (incarnation_of self.now id) (λ i. i ≤ incarnation) → IfOk result (λ o. incarnation_of (table_join self.now (know (o ∷ []))) id ≡ Some incarnation) }
+        ensures op { result
+            ≡ ok_or (next_machine_op self.now id incarnation writer up slots nic) Refusal.VersionsSpent }
+        ensures told { IfSome (incarnation_of self.now id) (λ i. i ≤ incarnation)
+            → IfOk result (λ o. state_of (table_join self.now (know (o ∷ []))) id ≡ state_in id incarnation o) }
+        ensures present { IfSome (incarnation_of self.now id) (λ i. i ≤ incarnation)
+            → IfOk result (λ o. incarnation_of (table_join self.now (know (o ∷ []))) id ≡ Some incarnation) }
     {
         self.known();
         let version = next_version(self.state_version(id, incarnation))?;
@@ -72,7 +75,8 @@ impl Knowledge {
     /// task. AttemptsSpent if the known attempt is the greatest u32.
     pub fn next_attempt(&self, id: TaskId) -> Result<Op, Refusal>
         ensures op { result ≡ ok_or (next_attempt_op self.now id) Refusal.AttemptsSpent }
-        ensures told { IfOk result (λ o. Some (progress_of (table_join self.now (know (o ∷ []))) id) ≡ progress_in id o) }
+        ensures told { IfOk result (λ o. Some (progress_of (table_join self.now (know (o ∷ []))) id)
+            ≡ progress_in id o) }
     {
         self.known();
         let attempt = self.attempt(id).attempt;

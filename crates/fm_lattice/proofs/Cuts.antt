@@ -12,7 +12,9 @@ use Rattle.fm_lattice.specs.Blocks.{pairs_of, BeginsWith, AreHeaded, IsAbove, Is
 use Rattle.fm_lattice.proofs.InBlocks.{inside_blocks, rising_in, begins_at, begins_front, front_below, above_trans, cut_left, cut_right, pairs_cut, headed_set, headed_insert, lower_at, upper_at, pairs_set, block_set}
 use Rattle.fm_lattice.proofs.Owned.{owned_cut, owned_set}
 
-module _ {K V : Type 0} (cmp : K → K → Ordering) (total : IsTotalOrder cmp) (same : TellsApart cmp) (bs new : List (K × Stock (K × V))) (k : K) (i : ℕ) (b c w : K × Stock (K × V)) (is : IsBlockOf cmp k bs i) (made : new ≡ insert (set bs i b) (suc i) c) (parts : b.1.items ++ c.1.items ≡ w.1.items) (read : w ≡ get_or bs i w) where
+module _ {K V : Type 0} (cmp : K → K → Ordering) (total : IsTotalOrder cmp) (same : TellsApart cmp)
+    (bs new : List (K × Stock (K × V))) (k : K) (i : ℕ) (b c w : K × Stock (K × V)) (is : IsBlockOf cmp k bs i)
+    (made : new ≡ insert (set bs i b) (suc i) c) (parts : b.1.items ++ c.1.items ≡ w.1.items) (read : w ≡ get_or bs i w) where
   inside : i < length bs
   inside = inside_blocks cmp total same bs k i is
 

@@ -166,7 +166,9 @@ module _ {K V : Type 0} (cmp : K → K → Ordering) (total : IsTotalOrder cmp) 
       (λ _ _ new. subst (λ z. cmp j z ≡ Less) (sym new) less)
       (λ _ _ new. subst (λ z. cmp j z ≡ Less) (sym new) less) refl new)
 
-  pub owned_put : (join : V → V → V) (bs : List (K × Stock (K × V))) (k : K) (v : V) (i : ℕ) (w c : K × Stock (K × V)) → IsRising cmp bs → w ≡ get_or bs i w → BeginsWith w.0 w.1.items → c.1.items ≡ put cmp join k v w.1.items → BeginsWith c.0 c.1.items → c.1.owned ≡ true → (j : K) → GoesToOwned cmp bs j → GoesToOwned cmp (set bs i c) j
+  pub owned_put : (join : V → V → V) (bs : List (K × Stock (K × V))) (k : K) (v : V) (i : ℕ) (w c : K × Stock (K × V)) →
+      IsRising cmp bs → w ≡ get_or bs i w → BeginsWith w.0 w.1.items → c.1.items ≡ put cmp join k v w.1.items → BeginsWith c.0
+      c.1.items → c.1.owned ≡ true → (j : K) → GoesToOwned cmp bs j → GoesToOwned cmp (set bs i c) j
   owned_put join bs k v i w c r read old items new own j goes =
       owned_earlier j bs i w c r (λ less. subst (λ z. cmp j z.0 ≡ Less) read (put_begins join j k v w.0 c.0 w.1.items old (subst (BeginsWith c.0) items new) less)) own goes
 

@@ -76,4 +76,11 @@ module _ {K V : Type 0} (cmp : K → K → Ordering) (total : IsTotalOrder cmp) 
   put_gap join [] k v zero gap = refl
   put_gap join [] k v (suc i) gap = refl
   put_gap join (e ∷ es) k v zero gap = rw (greater_less cmp total e.0 k (gap.after 0 e (omega arith) (omega arith))) refl
-  put_gap join (e ∷ es) k v (suc i) gap = rw (less_greater cmp total e.0 k (gap.before 0 e (omega arith))) (ap (λ z. e ∷ z) (put_gap join es k v i (record { in_range = omega (arith, gap.in_range); before = λ j d lt. gap.before (suc j) d (omega arith); after = λ j d le lt. gap.after (suc j) d (omega arith) (omega arith) })))
+  put_gap join (e ∷ es) k v (suc i) gap = rw (less_greater cmp total e.0 k (gap.before 0 e (omega arith)))
+      (ap (λ z. e ∷ z) (put_gap join es k v i
+      (record {
+        in_range = omega (arith, gap.in_range);
+        before = λ j d lt. gap.before (suc j) d (omega arith);
+        after = λ j d le
+            lt. gap.after (suc j) d (omega arith) (omega arith);
+      })))

@@ -11,7 +11,12 @@ use Rattle.fm_lattice.specs.Stocks.{Stock}
 use Rattle.fm_lattice.specs.Blocks.{pairs_of, AreHeaded, IsKept}
 use Rattle.fm_lattice.specs.Plans.{outcome}
 
-module _ {K V A : Type 0} (cmp : K → K → Ordering) (total : IsTotalOrder cmp) (same : TellsApart cmp) (join : V → V → V) (is_value : V → Type 0) (laws : JoinLaws is_value join) (bs now other after : List (K × Stock (K × V))) (len other_len : ℕ) (here : IsKept cmp is_value bs len) (there : IsKept cmp is_value other other_len) (aside : Bool) (whole : List (K × Stock (K × V))) (changes : List ((K × V) × Vec (K × V) A)) (pairs : pairs_of now ≡ pairs_of bs) (out : outcome cmp (pairs_of bs) aside whole changes ≡ map_join cmp join (pairs_of bs) (pairs_of other)) (made : pairs_of after ≡ outcome cmp (pairs_of now) aside whole changes) where
+module _ {K V A : Type 0} (cmp : K → K → Ordering) (total : IsTotalOrder cmp) (same : TellsApart cmp) (join : V → V → V)
+    (is_value : V → Type 0) (laws : JoinLaws is_value join) (bs now other after : List (K × Stock (K × V))) (len other_len : ℕ)
+    (here : IsKept cmp is_value bs len) (there : IsKept cmp is_value other other_len) (aside : Bool)
+    (whole : List (K × Stock (K × V))) (changes : List ((K × V) × Vec (K × V) A)) (pairs : pairs_of now ≡ pairs_of bs)
+    (out : outcome cmp (pairs_of bs) aside whole changes ≡ map_join cmp join (pairs_of bs) (pairs_of other))
+    (made : pairs_of after ≡ outcome cmp (pairs_of now) aside whole changes) where
   pub planned_pairs : pairs_of after ≡ map_join cmp join (pairs_of bs) (pairs_of other)
   planned_pairs = made ∙ ap (λ z. outcome cmp z aside whole changes) pairs ∙ out
 

@@ -92,7 +92,8 @@ pub(crate) fn own_block<K: Chain, V: Join>(
     ensures block { IfOk result (IsBlockOf K.cmp key.now blocks.new.items) }
     ensures alone { IfOk result (IsOwnedAt blocks.new.items) }
     ensures owned { OnOk result (GoesToOwned K.cmp blocks.new.items key.now) }
-    ensures keeps { OnOk result ((k : K) → GoesToOwned K.cmp blocks.old.items k → GoesToOwned K.cmp blocks.new.items k) }
+    ensures keeps { OnOk result ((k : K) → GoesToOwned K.cmp blocks.old.items k
+        → GoesToOwned K.cmp blocks.new.items k) }
 {
     let at = block_of(blocks, key);
     own(&mut blocks[at], more)?;

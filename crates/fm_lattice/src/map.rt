@@ -194,7 +194,8 @@ pub fn join_four<
     ensures second { OnOk result (second.new ≡ map_join K2.cmp V2.join second.old to_second.now) }
     ensures third { OnOk result (third.new ≡ map_join K3.cmp V3.join third.old to_third.now) }
     ensures fourth { OnOk result (fourth.new ≡ map_join K4.cmp V4.join fourth.old to_fourth.now) }
-    ensures err { OnErr result ((first.new ≡ first.old) × (second.new ≡ second.old) × (third.new ≡ third.old) × (fourth.new ≡ fourth.old)) }
+    ensures err { OnErr result ((first.new ≡ first.old) × (second.new ≡ second.old) × (third.new ≡ third.old)
+        × (fourth.new ≡ fourth.old)) }
 {
     let plan1 = plan_join(&mut first.blocks, first.len, &to_first.blocks, to_first.len)?;
     let plan2 = plan_join(

@@ -24,7 +24,8 @@ pub(crate) fn merged<K: Chain, V: Join>(
     requires left_headed { AreHeaded left.now }
     requires right_headed { AreHeaded right.now }
     requires right_rises { IsRising K.cmp (pairs_of right.now) }
-    ensures pairs { IfOk result (λ blocks. pairs_of blocks.items ≡ map_join K.cmp V.join (pairs_of left.now) (pairs_of right.now)) }
+    ensures pairs { IfOk result (λ blocks. pairs_of blocks.items
+        ≡ map_join K.cmp V.join (pairs_of left.now) (pairs_of right.now)) }
     ensures headed { IfOk result (λ blocks. AreHeaded blocks.items) }
 {
     let mut done = Vec::new(alloc);
@@ -182,7 +183,8 @@ pub(crate) fn changes<K: Chain, V: Join>(
     ensures left_pairs { pairs_of left.new.items ≡ pairs_of left.old.items }
     ensures left_headed { AreHeaded left.new.items }
     ensures left_len { vec_len left.new ≡ vec_len left.old }
-    ensures pairs { IfOk result (λ changes. map (λ c. c.0) changes.items ≡ map (joined_pair K.cmp V.join (pairs_of left.old.items)) (pairs_of right.now)) }
+    ensures pairs { IfOk result (λ changes. map (λ c. c.0) changes.items
+        ≡ map (joined_pair K.cmp V.join (pairs_of left.old.items)) (pairs_of right.now)) }
     ensures spares { IfOk result (λ changes. HaveSpares K.cmp 2 (pairs_of left.old.items) changes.items) }
     ensures owned { IfOk result (λ changes. GoToOwned K.cmp left.new.items changes.items) }
 {
@@ -212,7 +214,8 @@ fn change_at<K: Chain, V: Join>(
     ensures left_len { vec_len left.new ≡ vec_len left.old }
     ensures pair { IfOk result (λ change. change.0 ≡ joined_pair K.cmp V.join (pairs_of left.old.items) pair.now) }
     ensures empty { IfOk result (λ change. vec_len change.1 ≡ 0) }
-    ensures spare { IfOk result (λ change. lookup K.cmp pair.now.0 (pairs_of left.old.items) ≡ None → 2 ≤ vec_capacity change.1) }
+    ensures spare { IfOk result (λ change. lookup K.cmp pair.now.0 (pairs_of left.old.items) ≡ None
+        → 2 ≤ vec_capacity change.1) }
     ensures owned { OnOk result (GoesToOwned K.cmp left.new.items pair.now.0) }
     ensures keeps { OnOk result ((k : K) → GoesToOwned K.cmp left.old.items k → GoesToOwned K.cmp left.new.items k) }
 {
@@ -271,7 +274,8 @@ pub(crate) fn apply<K: Chain, V: Drop>(
     requires spares { HaveSpares K.cmp 2 (pairs_of blocks.old.items) changes.items }
     requires owned { GoToOwned K.cmp blocks.old.items changes.items }
     requires room { vec_len blocks.old + vec_len changes ≤ vec_capacity blocks.old }
-    ensures pairs { pairs_of blocks.new.items ≡ map_join K.cmp replaced (pairs_of blocks.old.items) (map (λ c. c.0) changes.items) }
+    ensures pairs { pairs_of blocks.new.items ≡ map_join K.cmp replaced (pairs_of blocks.old.items) (map
+        (λ c. c.0) changes.items) }
     ensures headed { AreHeaded blocks.new.items }
     ensures counted { length (pairs_of blocks.new.items) ≡ length (pairs_of blocks.old.items) + result }
     ensures few { result ≤ vec_len changes }

@@ -35,8 +35,11 @@ pub(crate) fn plan_join<K: Chain, V: Join>(
     requires there { IsKept K.cmp V.is_value other.now count }
     ensures pairs { pairs_of blocks.new.items ≡ pairs_of blocks.old.items }
     ensures kept { IsKept K.cmp V.is_value blocks.new.items len }
-    ensures ready { IfOk result (λ plan. IsReady K.cmp blocks.new len plan.aside plan.whole.items plan.len plan.changes) }
-    ensures outcome { IfOk result (λ plan. outcome K.cmp (pairs_of blocks.old.items) plan.aside plan.whole.items plan.changes.items ≡ map_join K.cmp V.join (pairs_of blocks.old.items) (pairs_of other.now)) }
+    ensures ready { IfOk result
+        (λ plan. IsReady K.cmp blocks.new len plan.aside plan.whole.items plan.len plan.changes) }
+    ensures outcome { IfOk result
+        (λ plan. outcome K.cmp (pairs_of blocks.old.items) plan.aside plan.whole.items plan.changes.items
+        ≡ map_join K.cmp V.join (pairs_of blocks.old.items) (pairs_of other.now)) }
 {
     let alloc = *blocks.allocator();
     if blocks.is_empty() {
@@ -97,7 +100,8 @@ fn plan_aside<K: Chain, V: Join>(
     ensures aside { IfOk result (λ plan. plan.aside ≡ true) }
     ensures headed { IfOk result (λ plan. AreHeaded plan.whole.items) }
     ensures counted { IfOk result (λ plan. plan.len ≡ length (pairs_of plan.whole.items)) }
-    ensures pairs { IfOk result (λ plan. pairs_of plan.whole.items ≡ map_join K.cmp V.join (pairs_of blocks.now.items) (pairs_of other.now)) }
+    ensures pairs { IfOk result (λ plan. pairs_of plan.whole.items
+        ≡ map_join K.cmp V.join (pairs_of blocks.now.items) (pairs_of other.now)) }
 {
     let alloc = *blocks.allocator();
     let whole = merged(alloc, blocks, other)?;
@@ -120,7 +124,8 @@ pub(crate) fn carry_out<K: Chain, V: Drop>(
     requires rising { IsRising K.cmp (pairs_of blocks.old.items) }
     requires counted { len ≡ length (pairs_of blocks.old.items) }
     requires ready { IsReady K.cmp blocks.old len plan.aside plan.whole.items plan.len plan.changes }
-    ensures pairs { pairs_of blocks.new.items ≡ outcome K.cmp (pairs_of blocks.old.items) plan.aside plan.whole.items plan.changes.items }
+    ensures pairs { pairs_of blocks.new.items
+        ≡ outcome K.cmp (pairs_of blocks.old.items) plan.aside plan.whole.items plan.changes.items }
     ensures headed { AreHeaded blocks.new.items }
     ensures counted { result ≡ length (pairs_of blocks.new.items) }
 {

@@ -54,7 +54,8 @@ impl<T: Clone> Shared<T> {
     /// The value, for writing (copy on write). If it has other owners, this one gets a clone of it first, and the
     /// others keep theirs.
     pub fn own(&mut self) -> Result<&mut T, OutOfMemory>
-        ensures* writes_back { sem 𝓛 (LendsSoOk (the_row T.row) T.row self.entry result (λ n w. n ≡ w) (λ n. (n ≡ self.old) ⊎ T.is_clone self.old n)) }
+        ensures* writes_back { sem 𝓛 (LendsSoOk (the_row T.row) T.row self.entry result (λ n w. n ≡ w)
+            (λ n. (n ≡ self.old) ⊎ T.is_clone self.old n)) }
         ensures value { IfOk result (λ x. (x.now ≡ self.old) ⊎ T.is_clone self.old x.now) }
     {
         Ok(Arc::make_mut(&mut self.inner)?)

@@ -76,7 +76,10 @@ and_false true = refl
 and_false false = refl
 
 module _ (r : ℕ) where
-  waits_too : (live : Option SpecReg) (holder : Option ℕ) (t : ℕ) (xs : List LiveTask) (rest : Bool) → has (filter_map waiting_request xs) r ≡ rest → has (filter_map waiting_request (cons_option (option_map (λ s. record { task = t; spec = s; holder = holder }) live) xs)) r ≡ ((passes (λ s. s.request == r) live && not (passes (λ m. true) holder)) || rest)
+  waits_too : (live : Option SpecReg) (holder : Option ℕ) (t : ℕ) (xs : List LiveTask) (rest : Bool) → has
+      (filter_map waiting_request xs) r ≡ rest → has (filter_map waiting_request
+      (cons_option (option_map (λ s. record { task = t; spec = s; holder = holder }) live) xs)) r ≡
+      ((passes (λ s. s.request == r) live && not (passes (λ m. true) holder)) || rest)
   waits_too None holder t xs rest e = e
   waits_too (Some s) None t xs rest e = (λ i. same_request r s.request i || e i) ∙ sym (ap (λ b. b || rest) (and_true (s.request == r)))
   waits_too (Some s) (Some m) t xs rest e = e ∙ sym (ap (λ b. b || rest) (and_false (s.request == r)))

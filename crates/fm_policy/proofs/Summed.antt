@@ -58,7 +58,10 @@ module _ (k : Table) where
   sums m [] a = refl
   sums m (e ∷ es) a =
       let rest = sums m es a.1 in
-      elim (live_spec k e.0) as (λ o. live_spec k e.0 ≡ o → sum_by (requested m) (cons_option (option_map (λ s. record { task = e.0; spec = s; holder = holder_of k e.0 }) o) (filter_map (λ x. live_task k x.0) es)) ≡ cond (holds k m e.0) (request_of e.1.0) 0 + sum_by (λ x. request_of x.1.0) (filter (λ x. holds k m x.0) es)) [
+      elim (live_spec k e.0) as (λ o. live_spec k e.0 ≡ o → sum_by (requested m)
+      (cons_option (option_map (λ s. record { task = e.0; spec = s; holder = holder_of k e.0 }) o)
+      (filter_map (λ x. live_task k x.0) es)) ≡ cond (holds k m e.0) (request_of e.1.0) 0 + sum_by (λ x. request_of x.1.0)
+      (filter (λ x. holds k m x.0) es)) [
         | None ↦ λ dead.
             let free : holds k m e.0 ≡ false = ap (passes (λ h. h == m)) (not_held e.0 dead) in
             subst (λ b. sum_by (requested m) (filter_map (λ x. live_task k x.0) es) ≡ cond b (request_of e.1.0) 0 + sum_by (λ x. request_of x.1.0) (filter (λ x. holds k m x.0) es)) (sym free) (omega (arith, rest))

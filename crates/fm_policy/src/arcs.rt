@@ -65,7 +65,8 @@ pub(crate) fn put_requests(
     requires survey { IsSurvey knowledge.now survey.now }
     requires nodes { HasNodes knowledge.now network.old }
     ensures adds { OnOk result (Adds knowledge.now network.old network.new) }
-    ensures covers { OnOk result ((r : ℕ) → IsTrue (is_node knowledge.now (NodeName.Request r)) → (m : ℕ) → CoversPlace knowledge.now r m network.new) }
+    ensures covers { OnOk result ((r : ℕ) → IsTrue (is_node knowledge.now (NodeName.Request r)) → (m : ℕ)
+        → CoversPlace knowledge.now r m network.new) }
 {
     for request in &survey.requests {
         put_request(network, knowledge, survey, *request)?;
@@ -191,7 +192,8 @@ fn put_unscheduled(
     requires live { live_spec knowledge.now live.now.task ≡ Some live.now.spec }
     requires holder { holder_of knowledge.now live.now.task ≡ live.now.holder }
     ensures adds { OnOk result (Adds knowledge.now network.old network.new) }
-    ensures unscheduled { OnOk result (Leads network.new (NodeName.Task live.now.task) (NodeName.Unscheduled live.now.spec.job)) }
+    ensures unscheduled { OnOk result (Leads network.new (NodeName.Task live.now.task)
+        (NodeName.Unscheduled live.now.spec.job)) }
 {
     let Some(job) = knowledge.job(live.spec.job) else {
         unreachable!()
@@ -221,7 +223,8 @@ fn put_holder(
     requires live { live_spec knowledge.now live.now.task ≡ Some live.now.spec }
     requires holder { holder_of knowledge.now live.now.task ≡ live.now.holder }
     ensures adds { OnOk result (Adds knowledge.now network.old network.new) }
-    ensures holder { OnOk result (HasHolder knowledge.now live.now.task live.now.spec.request live.now.holder network.new) }
+    ensures holder { OnOk result
+        (HasHolder knowledge.now live.now.task live.now.spec.request live.now.holder network.new) }
 {
     match live.holder {
         Some(machine) => {

@@ -76,5 +76,6 @@ pub trait NetKeeper: Drop {
     /// copies the network first, if another owner has it. Of a stale keeper it may be any. It is refused if no more
     /// owners can be counted.
     fn share(&self) -> Result<Shared<Network>, OutOfMemory>
-        ensures { IfOk result (λ network. IsTrue (fresh self.now) → (k : Table) → is_for self.now k → network ≡ net_of k) };
+        ensures { IfOk result (λ network. IsTrue (fresh self.now) → (k : Table) → is_for self.now k
+            → network ≡ net_of k) };
 }

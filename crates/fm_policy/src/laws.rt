@@ -9,7 +9,8 @@ ghost use Rattle.fm_policy.specs.Changes.{Keys, changed_keys, joined_keys, has_n
 /// The keys of two deltas joined are the keys of both: so a keeper that follows several deltas at once, by all their keys,
 /// follows one delta.
 pub fn law_joined_keys()
-    ensures { (k l : Table) → CanBe k → CanBe l → changed_keys (table_join k l) ≡ joined_keys (changed_keys k) (changed_keys l) }
+    ensures { (k l : Table) → CanBe k → CanBe l → changed_keys (table_join k l)
+        ≡ joined_keys (changed_keys k) (changed_keys l) }
 {}
 
 /// A delta without keys changes nothing.

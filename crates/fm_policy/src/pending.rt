@@ -80,7 +80,8 @@ impl Pending {
 
 // Adds each id to the set.
 fn add_all<T: Ord + Copy + Drop>(set: &mut BTreeSet<T>, ids: &[T]) -> Result<(), OutOfMemory>
-    ensures { OnOk result ((q : T) → list_any (λ x. is_eq (T.cmp q x)) set.new.keys ≡ (list_any (λ x. is_eq (T.cmp q x)) set.old.keys || list_any (λ x. is_eq (T.cmp q x)) ids.now)) }
+    ensures { OnOk result ((q : T) → list_any (λ x. is_eq (T.cmp q x)) set.new.keys
+        ≡ (list_any (λ x. is_eq (T.cmp q x)) set.old.keys || list_any (λ x. is_eq (T.cmp q x)) ids.now)) }
 {
     for id in ids {
         set.insert(*id)?;

@@ -100,7 +100,8 @@ pub fn law_tables()
 
 /// The join of proposals is associative, commutative and idempotent.
 pub fn law_proposals(a: &Proposals, b: &Proposals, c: &Proposals)
-    ensures assoc { proposals_join (proposals_join a.now b.now) c.now ≡ proposals_join a.now (proposals_join b.now c.now) }
+    ensures assoc { proposals_join (proposals_join a.now b.now) c.now
+        ≡ proposals_join a.now (proposals_join b.now c.now) }
     ensures comm { proposals_join a.now b.now ≡ proposals_join b.now a.now }
     ensures idem { proposals_join a.now a.now ≡ a.now }
 {

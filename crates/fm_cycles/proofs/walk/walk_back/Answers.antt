@@ -14,7 +14,9 @@ returns-then-visit-start c =
     let there : visit_of c.back.visits c.back.node ≡ Some c.in-Some.visit = search rules in
     came c.args.arcs.now c.args.units.now (length c.args.parents.now) (parents_in c.args.parents.now) c.args.start c.args.visits.now c.back.visits c.back.walk.items c.back.node c.back.invariant c.in-Some.visit there c.requires.before c.requires.sized
     (Some c.in-Some.visit.place)
-    (closed_here c.args.arcs.now c.args.units.now (length c.args.parents.now) (parents_in c.args.parents.now) c.args.start c.args.visits.now c.back.visits c.back.walk.items c.back.node c.back.invariant c.in-Some.visit there c.requires.before c.requires.labels.0 c.requires.labels.1 c.requires.labels.2 c.if-visit-start.true)
+    (closed_here c.args.arcs.now c.args.units.now (length c.args.parents.now) (parents_in c.args.parents.now) c.args.start
+    c.args.visits.now c.back.visits c.back.walk.items c.back.node c.back.invariant c.in-Some.visit there c.requires.before
+    c.requires.labels.0 c.requires.labels.1 c.requires.labels.2 c.if-visit-start.true)
     (λ no _. let wrong : ⊥ = cc in wrong)
 
 pub returns-else-visit-start : goal.returns-else-visit-start
@@ -47,6 +49,14 @@ back-preserved c =
     let last : parents_in c.args.parents.now c.back.node ≡ Some c.in-Some-parent_at.step = search rules in
     let from : c.source-node.result ≡ (residual c.args.arcs.now c.args.units.now).source c.in-Some-parent_at.step = c.source-node.ensures in
     subst (λ n. State c.args.arcs.now c.args.units.now (length c.args.parents.now) (parents_in c.args.parents.now) c.args.start c.args.visits.now (set c.back.visits c.back.node (Some (record { start = c.args.start; place = n }))) c.push.new.self.items c.source-node.result) (sym len)
-    (subst (λ (p : List Step). State c.args.arcs.now c.args.units.now (length c.args.parents.now) (parents_in c.args.parents.now) c.args.start c.args.visits.now (set c.back.visits c.back.node (Some (record { start = c.args.start; place = length c.back.walk.items }))) p c.source-node.result) (sym items)
-    (subst (λ n. State c.args.arcs.now c.args.units.now (length c.args.parents.now) (parents_in c.args.parents.now) c.args.start c.args.visits.now (set c.back.visits c.back.node (Some (record { start = c.args.start; place = length c.back.walk.items }))) (c.back.walk.items ++ c.in-Some-parent_at.step ∷ []) n) (sym from)
-    (advanced c.args.arcs.now c.args.units.now (length c.args.parents.now) (parents_in c.args.parents.now) c.args.start c.args.visits.now c.back.visits c.back.walk.items c.back.node c.back.invariant new c.requires.arcs c.requires.labels.0 c.requires.labels.1 c.requires.labels.2 c.in-Some-parent_at.step last)))
+    (subst (λ (p : List Step). State c.args.arcs.now c.args.units.now (length c.args.parents.now)
+    (parents_in c.args.parents.now) c.args.start c.args.visits.now
+    (set c.back.visits c.back.node (Some (record { start = c.args.start; place = length c.back.walk.items }))) p
+    c.source-node.result) (sym items)
+    (subst (λ n. State c.args.arcs.now c.args.units.now (length c.args.parents.now) (parents_in c.args.parents.now) c.args.start
+    c.args.visits.now (set c.back.visits c.back.node
+    (Some (record { start = c.args.start; place = length c.back.walk.items })))
+    (c.back.walk.items ++ c.in-Some-parent_at.step ∷ []) n) (sym from)
+    (advanced c.args.arcs.now c.args.units.now (length c.args.parents.now) (parents_in c.args.parents.now) c.args.start
+    c.args.visits.now c.back.visits c.back.walk.items c.back.node c.back.invariant new c.requires.arcs c.requires.labels.0
+    c.requires.labels.1 c.requires.labels.2 c.in-Some-parent_at.step last)))

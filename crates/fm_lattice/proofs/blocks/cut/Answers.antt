@@ -32,7 +32,10 @@ overflow_add-result-in-Greater g c =
 pub returns-in-Less-clause-takes : goal.returns-in-Less-clause-takes
 returns-in-Less-clause-takes g c =
     let made : c.insert.new.self.items ≡ insert (set c.args.blocks.now.items c.args.at c.split-upper.new.block) (suc c.args.at) c.split-upper.result = rw (c.unwrap.ensures, add-one) at c.insert.ensures.items in
-    takes_lower g.K.Ord.cmp g.met.K.Ord.total g.met.K.Chain.same c.args.blocks.now.items c.insert.new.self.items c.args.key.now c.args.at c.split-upper.new.block c.split-upper.result c.index_mut.result.now c.requires.block made c.split-upper.ensures.parts c.index_mut.ensures.value c.requires.rising c.split-upper.ensures.first c.split-upper.ensures.lower_owned c.split-upper.ensures.lower_room (sym c.in-Less.ensures)
+    takes_lower g.K.Ord.cmp g.met.K.Ord.total g.met.K.Chain.same c.args.blocks.now.items c.insert.new.self.items c.args.key.now
+    c.args.at c.split-upper.new.block c.split-upper.result c.index_mut.result.now c.requires.block made
+    c.split-upper.ensures.parts c.index_mut.ensures.value c.requires.rising c.split-upper.ensures.first
+    c.split-upper.ensures.lower_owned c.split-upper.ensures.lower_room (sym c.in-Less.ensures)
 
 pub returns-in-Less-clause-pairs : goal.returns-in-Less-clause-pairs
 returns-in-Less-clause-pairs g c =
@@ -42,12 +45,18 @@ returns-in-Less-clause-pairs g c =
 pub returns-in-Less-clause-headed : goal.returns-in-Less-clause-headed
 returns-in-Less-clause-headed g c =
     let made : c.insert.new.self.items ≡ insert (set c.args.blocks.now.items c.args.at c.split-upper.new.block) (suc c.args.at) c.split-upper.result = rw (c.unwrap.ensures, add-one) at c.insert.ensures.items in
-    cut_headed g.K.Ord.cmp g.met.K.Ord.total g.met.K.Chain.same c.args.blocks.now.items c.insert.new.self.items c.args.key.now c.args.at c.split-upper.new.block c.split-upper.result c.index_mut.result.now c.requires.block made c.split-upper.ensures.parts c.index_mut.ensures.value c.requires.headed c.split-upper.ensures.key c.split-upper.ensures.lower c.split-upper.ensures.first
+    cut_headed g.K.Ord.cmp g.met.K.Ord.total g.met.K.Chain.same c.args.blocks.now.items c.insert.new.self.items c.args.key.now
+    c.args.at c.split-upper.new.block c.split-upper.result c.index_mut.result.now c.requires.block made
+    c.split-upper.ensures.parts c.index_mut.ensures.value c.requires.headed c.split-upper.ensures.key
+    c.split-upper.ensures.lower c.split-upper.ensures.first
 
 pub returns-in-Equal-clause-takes : goal.returns-in-Equal-clause-takes
 returns-in-Equal-clause-takes g c =
     let made : c.insert.new.self.items ≡ insert (set c.args.blocks.now.items c.args.at c.split-upper.new.block) (suc c.args.at) c.split-upper.result = rw (c.unwrap.ensures, add-one) at c.insert.ensures.items in
-    rw add-one (takes_first g.K.Ord.cmp g.met.K.Ord.total g.met.K.Chain.same c.args.blocks.now.items c.insert.new.self.items c.args.key.now c.args.at c.split-upper.new.block c.split-upper.result c.index_mut.result.now c.requires.block made c.split-upper.ensures.parts c.index_mut.ensures.value c.requires.rising c.split-upper.ensures.first c.split-upper.ensures.upper_owned c.split-upper.ensures.upper_room (sym c.in-Equal.ensures))
+    rw add-one (takes_first g.K.Ord.cmp g.met.K.Ord.total g.met.K.Chain.same c.args.blocks.now.items c.insert.new.self.items
+    c.args.key.now c.args.at c.split-upper.new.block c.split-upper.result c.index_mut.result.now c.requires.block made
+    c.split-upper.ensures.parts c.index_mut.ensures.value c.requires.rising c.split-upper.ensures.first
+    c.split-upper.ensures.upper_owned c.split-upper.ensures.upper_room (sym c.in-Equal.ensures))
 
 pub returns-in-Equal-clause-pairs : goal.returns-in-Equal-clause-pairs
 returns-in-Equal-clause-pairs g c =
@@ -57,12 +66,18 @@ returns-in-Equal-clause-pairs g c =
 pub returns-in-Equal-clause-headed : goal.returns-in-Equal-clause-headed
 returns-in-Equal-clause-headed g c =
     let made : c.insert.new.self.items ≡ insert (set c.args.blocks.now.items c.args.at c.split-upper.new.block) (suc c.args.at) c.split-upper.result = rw (c.unwrap.ensures, add-one) at c.insert.ensures.items in
-    cut_headed g.K.Ord.cmp g.met.K.Ord.total g.met.K.Chain.same c.args.blocks.now.items c.insert.new.self.items c.args.key.now c.args.at c.split-upper.new.block c.split-upper.result c.index_mut.result.now c.requires.block made c.split-upper.ensures.parts c.index_mut.ensures.value c.requires.headed c.split-upper.ensures.key c.split-upper.ensures.lower c.split-upper.ensures.first
+    cut_headed g.K.Ord.cmp g.met.K.Ord.total g.met.K.Chain.same c.args.blocks.now.items c.insert.new.self.items c.args.key.now
+    c.args.at c.split-upper.new.block c.split-upper.result c.index_mut.result.now c.requires.block made
+    c.split-upper.ensures.parts c.index_mut.ensures.value c.requires.headed c.split-upper.ensures.key
+    c.split-upper.ensures.lower c.split-upper.ensures.first
 
 pub returns-in-Greater-clause-takes : goal.returns-in-Greater-clause-takes
 returns-in-Greater-clause-takes g c =
     let made : c.insert.new.self.items ≡ insert (set c.args.blocks.now.items c.args.at c.split-upper.new.block) (suc c.args.at) c.split-upper.result = rw (c.unwrap.ensures, add-one) at c.insert.ensures.items in
-    rw add-one (takes_later g.K.Ord.cmp g.met.K.Ord.total g.met.K.Chain.same c.args.blocks.now.items c.insert.new.self.items c.args.key.now c.args.at c.split-upper.new.block c.split-upper.result c.index_mut.result.now c.requires.block made c.split-upper.ensures.parts c.index_mut.ensures.value c.requires.rising c.split-upper.ensures.first c.split-upper.ensures.upper_owned c.split-upper.ensures.upper_room (sym c.in-Greater.ensures))
+    rw add-one (takes_later g.K.Ord.cmp g.met.K.Ord.total g.met.K.Chain.same c.args.blocks.now.items c.insert.new.self.items
+    c.args.key.now c.args.at c.split-upper.new.block c.split-upper.result c.index_mut.result.now c.requires.block made
+    c.split-upper.ensures.parts c.index_mut.ensures.value c.requires.rising c.split-upper.ensures.first
+    c.split-upper.ensures.upper_owned c.split-upper.ensures.upper_room (sym c.in-Greater.ensures))
 
 pub returns-in-Greater-clause-pairs : goal.returns-in-Greater-clause-pairs
 returns-in-Greater-clause-pairs g c =
@@ -72,19 +87,31 @@ returns-in-Greater-clause-pairs g c =
 pub returns-in-Greater-clause-headed : goal.returns-in-Greater-clause-headed
 returns-in-Greater-clause-headed g c =
     let made : c.insert.new.self.items ≡ insert (set c.args.blocks.now.items c.args.at c.split-upper.new.block) (suc c.args.at) c.split-upper.result = rw (c.unwrap.ensures, add-one) at c.insert.ensures.items in
-    cut_headed g.K.Ord.cmp g.met.K.Ord.total g.met.K.Chain.same c.args.blocks.now.items c.insert.new.self.items c.args.key.now c.args.at c.split-upper.new.block c.split-upper.result c.index_mut.result.now c.requires.block made c.split-upper.ensures.parts c.index_mut.ensures.value c.requires.headed c.split-upper.ensures.key c.split-upper.ensures.lower c.split-upper.ensures.first
+    cut_headed g.K.Ord.cmp g.met.K.Ord.total g.met.K.Chain.same c.args.blocks.now.items c.insert.new.self.items c.args.key.now
+    c.args.at c.split-upper.new.block c.split-upper.result c.index_mut.result.now c.requires.block made
+    c.split-upper.ensures.parts c.index_mut.ensures.value c.requires.headed c.split-upper.ensures.key
+    c.split-upper.ensures.lower c.split-upper.ensures.first
 
 pub returns-in-Less-clause-owned : goal.returns-in-Less-clause-owned
 returns-in-Less-clause-owned g c =
     let made : c.insert.new.self.items ≡ insert (set c.args.blocks.now.items c.args.at c.split-upper.new.block) (suc c.args.at) c.split-upper.result = rw (c.unwrap.ensures, add-one) at c.insert.ensures.items in
-    cut_owned g.K.Ord.cmp g.met.K.Ord.total g.met.K.Chain.same c.args.blocks.now.items c.insert.new.self.items c.args.key.now c.args.at c.split-upper.new.block c.split-upper.result c.index_mut.result.now c.requires.block made c.split-upper.ensures.parts c.index_mut.ensures.value c.split-upper.ensures.key c.split-upper.ensures.lower_owned c.split-upper.ensures.upper_owned
+    cut_owned g.K.Ord.cmp g.met.K.Ord.total g.met.K.Chain.same c.args.blocks.now.items c.insert.new.self.items c.args.key.now
+    c.args.at c.split-upper.new.block c.split-upper.result c.index_mut.result.now c.requires.block made
+    c.split-upper.ensures.parts c.index_mut.ensures.value c.split-upper.ensures.key c.split-upper.ensures.lower_owned
+    c.split-upper.ensures.upper_owned
 
 pub returns-in-Equal-clause-owned : goal.returns-in-Equal-clause-owned
 returns-in-Equal-clause-owned g c =
     let made : c.insert.new.self.items ≡ insert (set c.args.blocks.now.items c.args.at c.split-upper.new.block) (suc c.args.at) c.split-upper.result = rw (c.unwrap.ensures, add-one) at c.insert.ensures.items in
-    cut_owned g.K.Ord.cmp g.met.K.Ord.total g.met.K.Chain.same c.args.blocks.now.items c.insert.new.self.items c.args.key.now c.args.at c.split-upper.new.block c.split-upper.result c.index_mut.result.now c.requires.block made c.split-upper.ensures.parts c.index_mut.ensures.value c.split-upper.ensures.key c.split-upper.ensures.lower_owned c.split-upper.ensures.upper_owned
+    cut_owned g.K.Ord.cmp g.met.K.Ord.total g.met.K.Chain.same c.args.blocks.now.items c.insert.new.self.items c.args.key.now
+    c.args.at c.split-upper.new.block c.split-upper.result c.index_mut.result.now c.requires.block made
+    c.split-upper.ensures.parts c.index_mut.ensures.value c.split-upper.ensures.key c.split-upper.ensures.lower_owned
+    c.split-upper.ensures.upper_owned
 
 pub returns-in-Greater-clause-owned : goal.returns-in-Greater-clause-owned
 returns-in-Greater-clause-owned g c =
     let made : c.insert.new.self.items ≡ insert (set c.args.blocks.now.items c.args.at c.split-upper.new.block) (suc c.args.at) c.split-upper.result = rw (c.unwrap.ensures, add-one) at c.insert.ensures.items in
-    cut_owned g.K.Ord.cmp g.met.K.Ord.total g.met.K.Chain.same c.args.blocks.now.items c.insert.new.self.items c.args.key.now c.args.at c.split-upper.new.block c.split-upper.result c.index_mut.result.now c.requires.block made c.split-upper.ensures.parts c.index_mut.ensures.value c.split-upper.ensures.key c.split-upper.ensures.lower_owned c.split-upper.ensures.upper_owned
+    cut_owned g.K.Ord.cmp g.met.K.Ord.total g.met.K.Chain.same c.args.blocks.now.items c.insert.new.self.items c.args.key.now
+    c.args.at c.split-upper.new.block c.split-upper.result c.index_mut.result.now c.requires.block made
+    c.split-upper.ensures.parts c.index_mut.ensures.value c.split-upper.ensures.key c.split-upper.ensures.lower_owned
+    c.split-upper.ensures.upper_owned

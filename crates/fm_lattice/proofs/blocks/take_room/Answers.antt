@@ -32,8 +32,14 @@ returns-then-len-room-clause-takes g c =
       owned = λ d. home_owned g.K.Ord.cmp c.args.key.now c.args.blocks.now.items c.block_of-at.result d home c.requires.owned;
       room = λ none d.
           let small : length c.pairs-len.result.now < c.room-room.result = omega (arith, c.if-len-room.true) in
-          let len : length c.pairs-len.result.now ≡ length (get_or c.args.blocks.now.items c.block_of-at.result d).1.items = at_any g.K.Ord.cmp g.met.K.Ord.total g.met.K.Chain.same c.args.blocks.now.items c.args.key.now c.block_of-at.result c.index.result.now c.index.result.now is c.index.ensures (λ z. length c.pairs-len.result.now ≡ length z.1.items) (ap length c.pairs-len.ensures) d in
-          let room : c.room-room.result ≡ (get_or c.args.blocks.now.items c.block_of-at.result d).1.room = at_any g.K.Ord.cmp g.met.K.Ord.total g.met.K.Chain.same c.args.blocks.now.items c.args.key.now c.block_of-at.result c.index-2.result.now c.index-2.result.now is c.index-2.ensures (λ z. c.room-room.result ≡ z.1.room) c.room-room.ensures d in
+          let len : length c.pairs-len.result.now ≡ length (get_or c.args.blocks.now.items c.block_of-at.result d).1.items =
+          at_any g.K.Ord.cmp g.met.K.Ord.total g.met.K.Chain.same c.args.blocks.now.items c.args.key.now
+          c.block_of-at.result c.index.result.now c.index.result.now is c.index.ensures
+          (λ z. length c.pairs-len.result.now ≡ length z.1.items) (ap length c.pairs-len.ensures) d in
+          let room : c.room-room.result ≡ (get_or c.args.blocks.now.items c.block_of-at.result d).1.room = at_any g.K.Ord.cmp
+          g.met.K.Ord.total g.met.K.Chain.same c.args.blocks.now.items c.args.key.now c.block_of-at.result
+          c.index-2.result.now c.index-2.result.now is c.index-2.ensures (λ z. c.room-room.result ≡ z.1.room)
+          c.room-room.ensures d in
           omega (arith, len, room, small);
     }
 
@@ -56,10 +62,15 @@ pub enlarge-requires-clause-more : goal.enlarge-requires-clause-more
 enlarge-requires-clause-more g c =
     let is = subst (λ z. IsBlockOf g.K.Ord.cmp c.args.key.now z c.block_of-at.result) c.deref.ensures.value c.block_of-at.ensures.block in
     let small : length c.index.result.now.1.items < vec_capacity c.args.spare = omega (arith, ap length c.pairs-len.ensures, c.capacity-capacity.ensures, c.if-len-capacity.true) in
-    subst (λ z. length z.1.items < vec_capacity c.args.spare) (sym c.index_mut.ensures.value) (at_any g.K.Ord.cmp g.met.K.Ord.total g.met.K.Chain.same c.args.blocks.now.items c.args.key.now c.block_of-at.result c.index.result.now c.index.result.now is c.index.ensures (λ z. length z.1.items < vec_capacity c.args.spare) small c.index_mut.result.now)
+    subst (λ z. length z.1.items < vec_capacity c.args.spare) (sym c.index_mut.ensures.value)
+    (at_any g.K.Ord.cmp g.met.K.Ord.total g.met.K.Chain.same c.args.blocks.now.items c.args.key.now c.block_of-at.result
+    c.index.result.now c.index.result.now is c.index.ensures (λ z. length z.1.items < vec_capacity c.args.spare) small
+    c.index_mut.result.now)
 
 pub moved_count-requires : goal.moved_count-requires
-moved_count-requires g c = rw c.deref-2.ensures.value (inside_blocks g.K.Ord.cmp g.met.K.Ord.total g.met.K.Chain.same c.args.blocks.now.items c.args.key.now c.block_of-at.result (subst (λ z. IsBlockOf g.K.Ord.cmp c.args.key.now z c.block_of-at.result) c.deref.ensures.value c.block_of-at.ensures.block))
+moved_count-requires g c = rw c.deref-2.ensures.value (inside_blocks g.K.Ord.cmp g.met.K.Ord.total g.met.K.Chain.same
+    c.args.blocks.now.items c.args.key.now c.block_of-at.result (subst
+    (λ z. IsBlockOf g.K.Ord.cmp c.args.key.now z c.block_of-at.result) c.deref.ensures.value c.block_of-at.ensures.block))
 
 pub cut-requires-clause-owned : goal.cut-requires-clause-owned
 cut-requires-clause-owned g c d =

@@ -42,4 +42,7 @@ returns-clause-owned g c =
     let block = c.index_mut.result.now in
     let inside = inside_blocks g.K.Ord.cmp g.met.K.Ord.total g.met.K.Chain.same bs c.args.key c.args.at c.requires.takes.is_block in
     let before : BeginsWith block.0 block.1.items = subst (λ z. BeginsWith z.0 z.1.items) (sym c.index_mut.ensures.value) (begins_at bs c.args.at block c.requires.headed inside) in
-    owned_put g.K.Ord.cmp g.met.K.Ord.total g.met.K.Chain.same replaced bs c.args.key c.args.value c.args.at block c.write_in.new.block (blocks_rise g.K.Ord.cmp g.met.K.Ord.total g.met.K.Chain.same bs c.requires.headed c.requires.rising) c.index_mut.ensures.value before c.write_in.ensures.items c.write_in.ensures.first c.write_in.ensures.owned
+    owned_put g.K.Ord.cmp g.met.K.Ord.total g.met.K.Chain.same replaced bs c.args.key c.args.value c.args.at block
+    c.write_in.new.block (blocks_rise g.K.Ord.cmp g.met.K.Ord.total g.met.K.Chain.same bs c.requires.headed
+    c.requires.rising) c.index_mut.ensures.value before c.write_in.ensures.items c.write_in.ensures.first
+    c.write_in.ensures.owned

@@ -11,7 +11,9 @@ loop-machine-preserved c =
     let step = c.in_ok-put_machine.ensures in
     record {
       adds = adds_then k _ _ _ c.loop-machine.invariant.adds step.adds;
-      all = one_more (λ q. HasNode k (Machine q) c.loop-machine.network) (λ q. HasNode k (Machine q) c.put_machine.new.network) k.machines c.loop-machine.machine-iterator c.next.new.self _ c.loop-machine.invariant.all c.in-Some.ensures.steps (λ q has is. step.adds.grows.nodes (Machine q) (has is)) step.has;
+      all = one_more (λ q. HasNode k (Machine q) c.loop-machine.network) (λ q. HasNode k (Machine q) c.put_machine.new.network)
+          k.machines c.loop-machine.machine-iterator c.next.new.self _ c.loop-machine.invariant.all c.in-Some.ensures.steps
+          (λ q has is. step.adds.grows.nodes (Machine q) (has is)) step.has;
     }
 
 pub returns-clause-all : goal.returns-clause-all

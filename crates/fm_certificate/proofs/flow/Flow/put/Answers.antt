@@ -26,7 +26,9 @@ pub invariant_of-self-2 : goal.invariant_of-self-2
 invariant_of-self-2 c =
     let old = c.self.inside.units.items in
     let was : c.unwrap_or-old.result ≡ units_on (c.args.from, c.args.to) old = c.unwrap_or-old.ensures ∙ ap (λ o. unwrap_or o 0) c.in_ok-set.ensures.old ∙ or_zero (lookup ends_cmp (c.args.from, c.args.to) c.self.inside.units.items) in
-    let came : (n : Node) → total_in c.change.new.totals.entries n + cond (same_node c.args.to n) c.unwrap_or-old.result 0 ≡ total_in c.self.inside.entering.entries n + cond (same_node c.args.to n) c.args.units 0 = λ n. c.change.ensures n ∙ ap (λ t. t + cond (same_node c.args.to n) c.args.units 0) (c.in_ok-make_room.ensures.same n) in
+    let came : (n : Node) → total_in c.change.new.totals.entries n + cond (same_node c.args.to n) c.unwrap_or-old.result 0 ≡
+    total_in c.self.inside.entering.entries n + cond (same_node c.args.to n) c.args.units 0 = λ n. c.change.ensures n ∙ ap
+    (λ t. t + cond (same_node c.args.to n) c.args.units 0) (c.in_ok-make_room.ensures.same n) in
     rw (c.in_ok-set.ensures.ok)
     (flow_put old c.self.inside.entering.entries c.change.new.totals.entries (c.args.from, c.args.to) c.args.units c.unwrap_or-old.result c.self.invariant (omega arith) was came)
 

@@ -7,7 +7,11 @@ use Rattle.fm_lattice.proofs.map.JoinMap.join_into.Goals as goal
 
 pub returns-clause-ok : goal.returns-clause-ok
 returns-clause-ok g c =
-    planned_pairs g.K.Ord.cmp g.met.K.Ord.total g.met.K.Chain.same g.V.Join.join g.V.Join.is_value g.met.V.Join.laws c.self.inside.blocks.items c.plan_join.new.blocks.items c.other.inside.blocks.items c.carry_out-self-inside.new.blocks.items c.self.inside.len c.other.inside.len c.self.invariant c.other.invariant c.in_ok-plan.plan.aside c.in_ok-plan.plan.whole.items c.in_ok-plan.plan.changes.items c.in_ok-plan.ensures.pairs (rw c.deref.ensures.value at c.in_ok-plan.ensures.outcome) c.carry_out-self-inside.ensures.pairs
+    planned_pairs g.K.Ord.cmp g.met.K.Ord.total g.met.K.Chain.same g.V.Join.join g.V.Join.is_value g.met.V.Join.laws
+    c.self.inside.blocks.items c.plan_join.new.blocks.items c.other.inside.blocks.items
+    c.carry_out-self-inside.new.blocks.items c.self.inside.len c.other.inside.len c.self.invariant c.other.invariant
+    c.in_ok-plan.plan.aside c.in_ok-plan.plan.whole.items c.in_ok-plan.plan.changes.items c.in_ok-plan.ensures.pairs
+    (rw c.deref.ensures.value at c.in_ok-plan.ensures.outcome) c.carry_out-self-inside.ensures.pairs
     ∙ ap (λ z. map_join g.K.Ord.cmp g.V.Join.join z (pairs_of c.other.inside.blocks.items)) c.self.view_is
     ∙ ap (map_join g.K.Ord.cmp g.V.Join.join c.args.self.now) c.other.view_is
 
@@ -18,7 +22,12 @@ returns-clause-by_key g c k =
 
 pub invariant_of-self-2 : goal.invariant_of-self-2
 invariant_of-self-2 g c =
-    planned_kept g.K.Ord.cmp g.met.K.Ord.total g.met.K.Chain.same g.V.Join.join g.V.Join.is_value g.met.V.Join.laws c.self.inside.blocks.items c.plan_join.new.blocks.items c.other.inside.blocks.items c.carry_out-self-inside.new.blocks.items c.self.inside.len c.other.inside.len c.self.invariant c.other.invariant c.in_ok-plan.plan.aside c.in_ok-plan.plan.whole.items c.in_ok-plan.plan.changes.items c.in_ok-plan.ensures.pairs (rw c.deref.ensures.value at c.in_ok-plan.ensures.outcome) c.carry_out-self-inside.ensures.pairs c.carry_out-self-inside.result c.carry_out-self-inside.ensures.headed c.carry_out-self-inside.ensures.counted
+    planned_kept g.K.Ord.cmp g.met.K.Ord.total g.met.K.Chain.same g.V.Join.join g.V.Join.is_value g.met.V.Join.laws
+    c.self.inside.blocks.items c.plan_join.new.blocks.items c.other.inside.blocks.items
+    c.carry_out-self-inside.new.blocks.items c.self.inside.len c.other.inside.len c.self.invariant c.other.invariant
+    c.in_ok-plan.plan.aside c.in_ok-plan.plan.whole.items c.in_ok-plan.plan.changes.items c.in_ok-plan.ensures.pairs
+    (rw c.deref.ensures.value at c.in_ok-plan.ensures.outcome) c.carry_out-self-inside.ensures.pairs
+    c.carry_out-self-inside.result c.carry_out-self-inside.ensures.headed c.carry_out-self-inside.ensures.counted
 
 pub carry_out-self-inside-requires-clause-counted : goal.carry_out-self-inside-requires-clause-counted
 carry_out-self-inside-requires-clause-counted g c = c.self.invariant.counted ∙ ap length (sym c.in_ok-plan.ensures.pairs)
