@@ -89,7 +89,8 @@ impl Buffer {
     /// above the end, else Trimmed if `from` is below the floor.
     pub fn cut(&self, from: u64, to: u64) -> Result<Knowledge, Refusal>
         ensures ok { IfOk result (λ k. k ≡ joined_all (between self.now.deltas from to)) }
-        ensures union { (Ss : List (List Op)) → between self.now.deltas from to ≡ map know Ss → IfOk result (λ k. k ≡ know (union Ss)) }
+        ensures union { (Ss : List (List Op)) → between self.now.deltas from to ≡ map know Ss
+            → IfOk result (λ k. k ≡ know (union Ss)) }
         ensures within { IsOk result → cut_fault self.now.deltas from to ≡ None }
         ensures err { IfErr result (λ e. e ≡ or_else Refusal.OutOfMemory (cut_fault self.now.deltas from to)) }
     {

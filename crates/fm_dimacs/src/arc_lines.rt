@@ -21,8 +21,10 @@ use std::cmp::Ordering;
 // The node with the ID.
 fn node_with(nodes: &[Node], id: u64) -> Option<Node>
     requires { Rises node_cmp nodes.now }
-    ensures some { IfSome result (λ n. IsTrue (has_node (record { nodes = nodes.now; arcs = [] }) n) × (id_in nodes.now n ≡ id)) }
-    ensures none { IfNone result ((n : NodeName) → IsTrue (has_node (record { nodes = nodes.now; arcs = [] }) n) → id_in nodes.now n ≡ id → ⊥) }
+    ensures some { IfSome result (λ n. IsTrue (has_node (record { nodes = nodes.now; arcs = [] }) n)
+        × (id_in nodes.now n ≡ id)) }
+    ensures none { IfNone result ((n : NodeName) → IsTrue (has_node (record { nodes = nodes.now; arcs = [] }) n)
+        → id_in nodes.now n ≡ id → ⊥) }
 {
     if id == 0 {
         return None;
@@ -51,8 +53,10 @@ fn joins(from: &Node, to: &Node) -> bool
 // The arc with these IDs of its ends, capacity and cost, if a network of the nodes can have it.
 fn arc_with(nodes: &[Node], numbers: (u64, u64, u64, u64)) -> Option<(Node, Node, u64, u32)>
     requires { Rises node_cmp nodes.now }
-    ensures some { IfSome result (λ a. IsArcAmong nodes.now (arc_entry a) × (ids_of nodes.now (arc_entry a) ≡ numbers)) }
-    ensures none { IfNone result ((a : (NodeName × NodeName) × (ℕ × ℕ)) → IsArcAmong nodes.now a → ids_of nodes.now a ≡ numbers → ⊥) }
+    ensures some { IfSome result (λ a. IsArcAmong nodes.now (arc_entry a)
+        × (ids_of nodes.now (arc_entry a) ≡ numbers)) }
+    ensures none { IfNone result ((a : (NodeName × NodeName) × (ℕ × ℕ)) → IsArcAmong nodes.now a
+        → ids_of nodes.now a ≡ numbers → ⊥) }
 {
     let (source, target, capacity, cost) = numbers;
     let Some(from) = node_with(nodes, source) else {
@@ -89,8 +93,10 @@ fn next_arc<'a>(
     text: &'a [u8],
 ) -> Option<((Node, Node, u64, u32), &'a [u8])>
     requires { Rises node_cmp nodes.now }
-    ensures some { IfSome result (λ x. IsArcAmong nodes.now (arc_entry x.0) × IsAfter last (arc_entry x.0) × (text.now ≡ arc_line nodes.now (arc_entry x.0) ++ x.1.now)) }
-    ensures none { IfNone result ((a : (NodeName × NodeName) × (ℕ × ℕ)) (behind : List ℕ) → IsArcAmong nodes.now a → IsAfter last a → text.now ≡ arc_line nodes.now a ++ behind → ⊥) }
+    ensures some { IfSome result (λ x. IsArcAmong nodes.now (arc_entry x.0) × IsAfter last (arc_entry x.0)
+        × (text.now ≡ arc_line nodes.now (arc_entry x.0) ++ x.1.now)) }
+    ensures none { IfNone result ((a : (NodeName × NodeName) × (ℕ × ℕ)) (behind : List ℕ) → IsArcAmong nodes.now a
+        → IsAfter last a → text.now ≡ arc_line nodes.now a ++ behind → ⊥) }
 {
     let Some((numbers, behind)) = scan::numbers(text) else {
         return None;
@@ -109,7 +115,11 @@ fn next_arc<'a>(
 fn put(network: &mut Network, arc: &(Node, Node, u64, u32)) -> Result<(), OutOfMemory>
     requires is_arc { IsArcAmong network.old.nodes (arc_entry arc.now) }
     requires last { IsAfterLast (on (λ e. e.0) ends_cmp) network.old.arcs (arc_entry arc.now) }
-    ensures { OnOk result (network.new ≡ record { nodes = network.old.nodes; arcs = network.old.arcs ++ (arc_entry arc.now ∷ []) }) }
+    ensures { OnOk result (network.new ≡ record {
+      nodes = network.old.nodes;
+      arcs = network.old.arcs
+          ++ (arc_entry arc.now ∷ []);
+    }) }
 {
     network.known();
     let (from, to, capacity, cost) = *arc;
@@ -129,7 +139,8 @@ pub(crate) fn read_arcs(
     requires nodes { network.old ≡ record { nodes = nodes.now; arcs = [] } }
     requires room { lines + length text.now < 2 ^ 63 }
     ensures nodes { OnOk result (network.new ≡ record { nodes = nodes.now; arcs = network.new.arcs }) }
-    ensures ok { OnOk result (Leads left (Body nodes.now [] [] left) text.now (Body nodes.now [] network.new.arcs 0) []) }
+    ensures ok { OnOk result (Leads left (Body nodes.now [] [] left) text.now
+        (Body nodes.now [] network.new.arcs 0) []) }
     ensures err { IfErr result (IsFault lines (Body nodes.now [] [] left) text.now) }
 {
     let mut last = None;

@@ -40,7 +40,8 @@ fn put_text<W: Out>(
     out: &mut W,
 ) -> Result<(), Refusal>
     requires { Rises node_cmp nodes.now }
-    ensures { IsSent result (W.written out.old) (W.written out.new) (W.has_failed out.old) (W.has_failed out.new) (dump_text (record { nodes = nodes.now; arcs = network.now.arcs })) }
+    ensures { IsSent result (W.written out.old) (W.written out.new) (W.has_failed out.old) (W.has_failed out.new)
+        (dump_text (record { nodes = nodes.now; arcs = network.now.arcs })) }
 {
     let mut line = String::new(alloc);
     put_nodes(alloc, nodes, &mut line, out)?;
@@ -57,7 +58,8 @@ fn put_nodes<W: Out>(
     line: &mut String,
     out: &mut W,
 ) -> Result<(), Refusal>
-    ensures { IsSent result (W.written out.old) (W.written out.new) (W.has_failed out.old) (W.has_failed out.new) (lines_from node_line 1 nodes.now) }
+    ensures { IsSent result (W.written out.old) (W.written out.new) (W.has_failed out.old) (W.has_failed out.new)
+        (lines_from node_line 1 nodes.now) }
 {
     for (i, node) in nodes.iter().enumerate() {
         put_node(alloc, i + 1, node, line, out)?;
@@ -73,7 +75,8 @@ fn put_node<W: Out>(
     line: &mut String,
     out: &mut W,
 ) -> Result<(), Refusal>
-    ensures { IsSent result (W.written out.old) (W.written out.new) (W.has_failed out.old) (W.has_failed out.new) (node_line id node.now) }
+    ensures { IsSent result (W.written out.old) (W.written out.new) (W.has_failed out.old) (W.has_failed out.new)
+        (node_line id node.now) }
 {
     line.clear();
     write_node(alloc, line, id, node)?;
@@ -116,7 +119,8 @@ fn put_problem<W: Out>(
     line: &mut String,
     out: &mut W,
 ) -> Result<(), Refusal>
-    ensures { IsSent result (W.written out.old) (W.written out.new) (W.has_failed out.old) (W.has_failed out.new) (problem_line (length nodes.now) (length network.now.arcs)) }
+    ensures { IsSent result (W.written out.old) (W.written out.new) (W.has_failed out.old) (W.has_failed out.new)
+        (problem_line (length nodes.now) (length network.now.arcs)) }
 {
     let node_count = nodes.len();
     let arc_count = network.arcs_len();
@@ -133,7 +137,8 @@ fn is_task(node: &Node) -> bool
 
 // Writes the sink's demand, if there is a task.
 fn put_demand<W: Out>(nodes: &[Node], line: &mut String, out: &mut W) -> Result<(), Refusal>
-    ensures { IsSent result (W.written out.old) (W.written out.new) (W.has_failed out.old) (W.has_failed out.new) (demand_line (count_by is_task nodes.now)) }
+    ensures { IsSent result (W.written out.old) (W.written out.new) (W.has_failed out.old) (W.has_failed out.new)
+        (demand_line (count_by is_task nodes.now)) }
 {
     line.clear();
     write_demand(line, count_tasks(nodes))?;
@@ -160,7 +165,8 @@ pub(crate) fn write_demand(line: &mut String, tasks: usize) -> Result<(), Refusa
 
 // Writes each task's supply.
 fn put_supplies<W: Out>(nodes: &[Node], line: &mut String, out: &mut W) -> Result<(), Refusal>
-    ensures { IsSent result (W.written out.old) (W.written out.new) (W.has_failed out.old) (W.has_failed out.new) (lines_from supply_line 1 nodes.now) }
+    ensures { IsSent result (W.written out.old) (W.written out.new) (W.has_failed out.old) (W.has_failed out.new)
+        (lines_from supply_line 1 nodes.now) }
 {
     for (i, node) in nodes.iter().enumerate() {
         put_supply(i + 1, node, line, out)?;
@@ -170,7 +176,8 @@ fn put_supplies<W: Out>(nodes: &[Node], line: &mut String, out: &mut W) -> Resul
 
 // Writes the supply of a task, and nothing for another node.
 fn put_supply<W: Out>(id: usize, node: &Node, line: &mut String, out: &mut W) -> Result<(), Refusal>
-    ensures { IsSent result (W.written out.old) (W.written out.new) (W.has_failed out.old) (W.has_failed out.new) (supply_line id node.now) }
+    ensures { IsSent result (W.written out.old) (W.written out.new) (W.has_failed out.old) (W.has_failed out.new)
+        (supply_line id node.now) }
 {
     line.clear();
     write_supply(line, id, node)?;
@@ -197,7 +204,8 @@ fn put_arcs<W: Out>(
     out: &mut W,
 ) -> Result<(), Refusal>
     requires { Rises node_cmp nodes.now }
-    ensures { IsSent result (W.written out.old) (W.written out.new) (W.has_failed out.old) (W.has_failed out.new) (flat_map (arc_line nodes.now) network.now.arcs) }
+    ensures { IsSent result (W.written out.old) (W.written out.new) (W.has_failed out.old) (W.has_failed out.new)
+        (flat_map (arc_line nodes.now) network.now.arcs) }
 {
     let mut last = Ends {
         source: 1,
@@ -226,7 +234,8 @@ fn put_arc<W: Out>(
     out: &mut W,
 ) -> Result<(), Refusal>
     requires { Rises node_cmp nodes.now }
-    ensures { IsSent result (W.written out.old) (W.written out.new) (W.has_failed out.old) (W.has_failed out.new) (arc_line nodes.now (arc_entry arc)) }
+    ensures { IsSent result (W.written out.old) (W.written out.new) (W.has_failed out.old) (W.has_failed out.new)
+        (arc_line nodes.now (arc_entry arc)) }
 {
     let (from, to, capacity, cost) = arc;
     let source = id_near(nodes, &from, last.source);
@@ -239,7 +248,10 @@ fn put_arc<W: Out>(
 
 // Appends the line of an arc between the ends.
 fn write_arc(line: &mut String, ends: &Ends, capacity: u64, cost: u32) -> Result<(), OutOfMemory>
-    ensures { OnOk result (string_bytes line.new ≡ string_bytes line.old ++ (codes "a " ++ (decimal ends.now.source ++ (codes " " ++ (decimal ends.now.target ++ (codes " 0 " ++ (decimal capacity ++ (codes " " ++ (decimal cost ++ codes "\n"))))))))) }
+    ensures { OnOk result (string_bytes line.new
+        ≡ string_bytes line.old ++ (codes "a " ++ (decimal ends.now.source
+        ++ (codes " " ++ (decimal ends.now.target
+        ++ (codes " 0 " ++ (decimal capacity ++ (codes " " ++ (decimal cost ++ codes "\n"))))))))) }
 {
     push_number(line, "a ", ends.source as u64)?;
     push_number(line, " ", ends.target as u64)?;

@@ -9,7 +9,8 @@ use fm_records::refusal::Refusal;
 /// Puts the complete piece, in as many puts as the writer needs. Refused by the writer, which then has failed, in
 /// this call unless it had before; then a prefix of the piece is written.
 pub fn put_all<W: Out>(out: &mut W, piece: &[u8]) -> Result<(), Refusal>
-    ensures sent { IsSent result (W.written out.old) (W.written out.new) (W.has_failed out.old) (W.has_failed out.new) piece.now }
+    ensures sent { IsSent result (W.written out.old) (W.written out.new) (W.has_failed out.old)
+        (W.has_failed out.new) piece.now }
     ensures cause { IsOkUnless result Refusal.WriteFault }
 {
     let mut rest = piece;

@@ -38,8 +38,10 @@ fn next_node<'a>(
     text: &'a [u8],
 ) -> Result<Option<(Node, &'a [u8])>, Refusal>
     requires { length nodes.now + length text.now < 2 ^ 63 }
-    ensures some { IfOk result (λ found. IfSome found (λ x. IsNextNode nodes.now x.0 × (text.now ≡ node_line (length nodes.now + 1) x.0 ++ x.1.now))) }
-    ensures none { IfOk result (λ found. IfNone found ((n : NodeName) (behind : List ℕ) → IsNextNode nodes.now n → text.now ≡ node_line (length nodes.now + 1) n ++ behind → ⊥)) }
+    ensures some { IfOk result (λ found. IfSome found
+        (λ x. IsNextNode nodes.now x.0 × (text.now ≡ node_line (length nodes.now + 1) x.0 ++ x.1.now))) }
+    ensures none { IfOk result (λ found. IfNone found ((n : NodeName) (behind : List ℕ) → IsNextNode nodes.now n
+        → text.now ≡ node_line (length nodes.now + 1) n ++ behind → ⊥)) }
     ensures err { IfErr result (IsFault (length nodes.now) (Comments nodes.now) text.now) }
 {
     let id = nodes.len() + 1;
@@ -59,7 +61,8 @@ fn next_node<'a>(
 // The nodes of the comments, and what follows these.
 fn read_nodes(alloc: Global, text: &[u8]) -> Result<(Vec<Node>, &[u8]), Refusal>
     ensures ok { IfOk result (λ x. Leads (length x.0.items) (Comments []) text.now (Comments x.0.items) x.1.now) }
-    ensures last { IfOk result (λ x. (n : NodeName) (behind : List ℕ) → IsNextNode x.0.items n → x.1.now ≡ node_line (length x.0.items + 1) n ++ behind → ⊥) }
+    ensures last { IfOk result (λ x. (n : NodeName) (behind : List ℕ) → IsNextNode x.0.items n
+        → x.1.now ≡ node_line (length x.0.items + 1) n ++ behind → ⊥) }
     ensures err { IfErr result (IsFault 0 (Comments []) text.now) }
 {
     let mut nodes = Vec::new(alloc);
@@ -79,8 +82,10 @@ fn read_nodes(alloc: Global, text: &[u8]) -> Result<(Vec<Node>, &[u8]), Refusal>
 // The number of arcs of the problem line, and what follows it.
 fn read_problem<'a>(nodes: &[Node], text: &'a [u8]) -> Result<(u64, &'a [u8]), Refusal>
     requires room { length nodes.now + length text.now < 2 ^ 63 }
-    requires no_node { (n : NodeName) (behind : List ℕ) → IsNextNode nodes.now n → text.now ≡ node_line (length nodes.now + 1) n ++ behind → ⊥ }
-    ensures ok { IfOk result (λ x. Leads 1 (Comments nodes.now) text.now (Body nodes.now (unit_lines nodes.now) [] x.0) x.1.now) }
+    requires no_node { (n : NodeName) (behind : List ℕ) → IsNextNode nodes.now n
+        → text.now ≡ node_line (length nodes.now + 1) n ++ behind → ⊥ }
+    ensures ok { IfOk result
+        (λ x. Leads 1 (Comments nodes.now) text.now (Body nodes.now (unit_lines nodes.now) [] x.0) x.1.now) }
     ensures err { IfErr result (IsFault (length nodes.now) (Comments nodes.now) text.now) }
 {
     if nodes.is_empty() {
@@ -95,9 +100,11 @@ fn read_problem<'a>(nodes: &[Node], text: &'a [u8]) -> Result<(u64, &'a [u8]), R
 // How many lines the line is, none if it is empty, and what follows it.
 fn read_unit<'a>(line: &[u8], lines: usize, text: &'a [u8]) -> Result<(usize, &'a [u8]), Refusal>
     requires { lines < 2 ^ 63 }
-    ensures ok { IfOk result (λ x. (nodes : List NodeName) (units : List (List ℕ)) (left : ℕ) → Leads x.0 (Body nodes (with_line line.now units) [] left) text.now (Body nodes units [] left) x.1.now) }
+    ensures ok { IfOk result (λ x. (nodes : List NodeName) (units : List (List ℕ)) (left : ℕ)
+        → Leads x.0 (Body nodes (with_line line.now units) [] left) text.now (Body nodes units [] left) x.1.now) }
     ensures room { IfOk result (λ x. x.0 + length x.1.now ≤ length text.now) }
-    ensures err { (nodes : List NodeName) (units : List (List ℕ)) (left : ℕ) → IfErr result (IsFault lines (Body nodes (with_line line.now units) [] left) text.now) }
+    ensures err { (nodes : List NodeName) (units : List (List ℕ)) (left : ℕ)
+        → IfErr result (IsFault lines (Body nodes (with_line line.now units) [] left) text.now) }
 {
     if line.is_empty() {
         return Ok((0, text));
@@ -116,9 +123,12 @@ fn read_supplies<'a>(
     text: &'a [u8],
 ) -> Result<(usize, &'a [u8]), Refusal>
     requires { lines + length text.now < 2 ^ 63 }
-    ensures ok { IfOk result (λ x. (left : ℕ) → Leads x.0 (Body nodes.now (supplies_from 1 nodes.now) [] left) text.now (Body nodes.now [] [] left) x.1.now) }
+    ensures ok { IfOk result
+        (λ x. (left : ℕ) → Leads x.0 (Body nodes.now (supplies_from 1 nodes.now) [] left) text.now
+        (Body nodes.now [] [] left) x.1.now) }
     ensures room { IfOk result (λ x. x.0 + length x.1.now ≤ length text.now) }
-    ensures err { (left : ℕ) → IfErr result (IsFault lines (Body nodes.now (supplies_from 1 nodes.now) [] left) text.now) }
+    ensures err { (left : ℕ)
+        → IfErr result (IsFault lines (Body nodes.now (supplies_from 1 nodes.now) [] left) text.now) }
 {
     let mut count = 0;
     let mut rest = text;
@@ -140,7 +150,9 @@ fn read_units<'a>(
     text: &'a [u8],
 ) -> Result<(usize, &'a [u8]), Refusal>
     requires { lines + length text.now < 2 ^ 63 }
-    ensures ok { IfOk result (λ x. (left : ℕ) → Leads x.0 (Body nodes.now (unit_lines nodes.now) [] left) text.now (Body nodes.now [] [] left) x.1.now) }
+    ensures ok { IfOk result
+        (λ x. (left : ℕ) → Leads x.0 (Body nodes.now (unit_lines nodes.now) [] left) text.now
+        (Body nodes.now [] [] left) x.1.now) }
     ensures room { IfOk result (λ x. x.0 + length x.1.now ≤ length text.now) }
     ensures err { (left : ℕ) → IfErr result (IsFault lines (Body nodes.now (unit_lines nodes.now) [] left) text.now) }
 {
@@ -181,8 +193,10 @@ fn read_body(alloc: Global, nodes: &[Node], text: &[u8]) -> Result<Network, Refu
     requires first { 0 < length nodes.now → nodes.now ≡ NodeName.Sink ∷ drop 1 nodes.now }
     requires rise { Rises node_cmp nodes.now }
     requires in_range { AllByRecursion IsInRange nodes.now }
-    requires no_node { (n : NodeName) (behind : List ℕ) → IsNextNode nodes.now n → text.now ≡ node_line (length nodes.now + 1) n ++ behind → ⊥ }
-    ensures ok { IfOk result (λ net. (k : ℕ) × Leads k (Comments nodes.now) text.now (Body net.nodes [] net.arcs 0) []) }
+    requires no_node { (n : NodeName) (behind : List ℕ) → IsNextNode nodes.now n
+        → text.now ≡ node_line (length nodes.now + 1) n ++ behind → ⊥ }
+    ensures ok { IfOk result
+        (λ net. (k : ℕ) × Leads k (Comments nodes.now) text.now (Body net.nodes [] net.arcs 0) []) }
     ensures err { IfErr result (IsFault (length nodes.now) (Comments nodes.now) text.now) }
 {
     let (left, rest) = read_problem(nodes, text)?;
@@ -198,7 +212,8 @@ fn read_body(alloc: Global, nodes: &[Node], text: &[u8]) -> Result<Network, Refu
 /// because memory ran out. O(bytes log bytes).
 pub fn read(alloc: Global, text: &[u8]) -> Result<Network, Refusal>
     ensures found { IfOk result (λ net. CanBeNet net × (text.now ≡ dump_text net)) }
-    ensures only { (net : Net) → CanBeNet net → text.now ≡ dump_text net → MatchResult result (λ found. found ≡ net) (λ e. e ≡ refusal.OutOfMemory) }
+    ensures only { (net : Net) → CanBeNet net → text.now ≡ dump_text net
+        → MatchResult result (λ found. found ≡ net) (λ e. e ≡ refusal.OutOfMemory) }
     ensures broken { IfErr result (WhyNot text.now) }
 {
     match read_nodes(alloc, text) {

@@ -34,9 +34,11 @@ pub fn write_solution<W: Out>(
 ) -> Result<(), Refusal>
     requires built { IsBuilt network.now }
     requires feasible { IsFeasible network.now (units_in flow.now) }
-    ensures ok { OnOk result (Appends (W.written out.old) (W.written out.new) (solution_text network.now (units_in flow.now))) }
+    ensures ok { OnOk result (Appends (W.written out.old) (W.written out.new)
+        (solution_text network.now (units_in flow.now))) }
     ensures ok_fails_not { OnOk result (W.has_failed out.new ≡ W.has_failed out.old) }
-    ensures err { OnErr result (AppendsPrefix (W.written out.old) (W.written out.new) (solution_text network.now (units_in flow.now))) }
+    ensures err { OnErr result (AppendsPrefix (W.written out.old) (W.written out.new)
+        (solution_text network.now (units_in flow.now))) }
     ensures cause { IfErr result (λ refusal. StopsBy refusal (W.has_failed out.old) (W.has_failed out.new)) }
 {
     network.known();
@@ -62,7 +64,8 @@ fn put_text<W: Out>(
     requires rises { Rises node_cmp nodes.now }
     requires built { IsBuilt network.now }
     requires feasible { IsFeasible network.now (units_in flow.now) }
-    ensures { IsSent result (W.written out.old) (W.written out.new) (W.has_failed out.old) (W.has_failed out.new) (solution_text (record { nodes = nodes.now; arcs = network.now.arcs }) (units_in flow.now)) }
+    ensures { IsSent result (W.written out.old) (W.written out.new) (W.has_failed out.old) (W.has_failed out.new)
+        (solution_text (record { nodes = nodes.now; arcs = network.now.arcs }) (units_in flow.now)) }
 {
     let total = cost(network, flow);
     let mut line = String::new(alloc);
@@ -72,7 +75,8 @@ fn put_text<W: Out>(
 
 // Writes what the flow costs.
 fn put_cost<W: Out>(total: u128, line: &mut String, out: &mut W) -> Result<(), Refusal>
-    ensures { IsSent result (W.written out.old) (W.written out.new) (W.has_failed out.old) (W.has_failed out.new) (cost_line total) }
+    ensures { IsSent result (W.written out.old) (W.written out.new) (W.has_failed out.old) (W.has_failed out.new)
+        (cost_line total) }
 {
     line.clear();
     write!(line, "s {total}\n")?;
@@ -88,7 +92,8 @@ fn put_flow<W: Out>(
     out: &mut W,
 ) -> Result<(), Refusal>
     requires { Rises node_cmp nodes.now }
-    ensures { IsSent result (W.written out.old) (W.written out.new) (W.has_failed out.old) (W.has_failed out.new) (flat_map (flow_line nodes.now (units_in flow.now)) network.now.arcs) }
+    ensures { IsSent result (W.written out.old) (W.written out.new) (W.has_failed out.old) (W.has_failed out.new)
+        (flat_map (flow_line nodes.now (units_in flow.now)) network.now.arcs) }
 {
     let mut near = Near {
         place: 0,
@@ -120,7 +125,8 @@ fn put_units<W: Out>(
     out: &mut W,
 ) -> Result<(), Refusal>
     requires { Rises node_cmp nodes.now }
-    ensures { IsSent result (W.written out.old) (W.written out.new) (W.has_failed out.old) (W.has_failed out.new) (flow_line nodes.now (units_in flow.now) (arc_entry arc)) }
+    ensures { IsSent result (W.written out.old) (W.written out.new) (W.has_failed out.old) (W.has_failed out.new)
+        (flow_line nodes.now (units_in flow.now) (arc_entry arc)) }
 {
     let (from, to, _, _) = arc;
     let units = flow.units_near(near.place, from, to).unwrap_or(0);
@@ -140,7 +146,8 @@ fn write_units(
     line: &mut String,
 ) -> Result<(), Refusal>
     requires { Rises node_cmp nodes.now }
-    ensures ok { OnOk result (string_bytes line.new ≡ string_bytes line.old ++ units_line nodes.now from.now to.now units) }
+    ensures ok { OnOk result (string_bytes line.new
+        ≡ string_bytes line.old ++ units_line nodes.now from.now to.now units) }
     ensures err { IsOkUnless result Refusal.OutOfMemory }
 {
     if units == 0 {

@@ -121,7 +121,10 @@ module _ (s : Sight) (index : Index) (net : Net) (x0 x1 x2 x3 x4 x5 : Touched) (
         sinks = λ n h l. g5.pairs n Sink (g4.pairs n Sink (g3.pairs n Sink (g2.pairs n Sink (sinks n (among n1 e1 n h) l))));
         touched_places = λ q m hq hm. g5.pairs (Request q) (Machine m) (g4.pairs (Request q) (Machine m) (g3.pairs (Request q) (Machine m) (places (Machine m) (among n2 e2 (Machine m) hm) refl (Request q)
             (ap (λ ks. is_among node_cmp ks (Request q)) r_is ∙ has_kept node_cmp node_total node_exact is_request (Request q) x0.nodes.keys ∙ hq))));
-        waiting_places = λ q m w hm. g5.pairs (Request q) (Machine m) (g4.pairs (Request q) (Machine m) (waits (Machine m) (among n3 e3 (Machine m) hm) refl (Request q) (ap (λ ks. is_among node_cmp ks (Request q)) (w_is (machine_among m x0.nodes.keys hm)) ∙ backwards (waiting_in index) (Request q) ∙ waits_among index q w)));
+        waiting_places = λ q m w hm. g5.pairs (Request q) (Machine m)
+            (g4.pairs (Request q) (Machine m) (waits (Machine m) (among n3 e3 (Machine m) hm) refl (Request q)
+            (ap (λ ks. is_among node_cmp ks (Request q)) (w_is (machine_among m x0.nodes.keys hm)) ∙ backwards
+            (waiting_in index) (Request q) ∙ waits_among index q w)));
         preferring = λ m t small h hm. preferring (Machine m) (among n5 e5 (Machine m) hm) m t refl small h;
         turned_places = λ q m hq apart there. g5.pairs (Request q) (Machine m) (turns (Request q) (among n4 e4 (Request q) hq) refl apart m there);
       }

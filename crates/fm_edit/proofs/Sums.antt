@@ -102,7 +102,10 @@ module _ {V : Type 0} (f : ℕ × V → ℕ) (test : ℕ → Bool) (out : ℕ �
       elim (is_eq (nat_cmp t x.0)) as (λ b. is_eq (nat_cmp t x.0) ≡ b → cond b (Some x.1) (lookup nat_cmp t es) ≡ None → sum_by f (filter (stays out) (x ∷ es)) ≡ sum_by f (filter (stays (also_out t out)) (x ∷ es))) [
         | true ↦ λ _ g. absurd (let no : ⊥ = cc in no)
         | false ↦ λ a g.
-            let apart : is_eq (nat_cmp x.0 t) ≡ false = by_cases (nat_cmp t x.0) (λ o. nat_cmp t x.0 ≡ o → is_eq o ≡ false → is_eq (nat_cmp x.0 t) ≡ false) (λ _ l _. ap is_eq (less_greater nat_cmp nat_cmp_total t x.0 l)) (λ _ _ h. absurd (let no : ⊥ = cc in no)) (λ _ l _. ap is_eq (greater_less nat_cmp nat_cmp_total t x.0 l)) refl a in
+            let apart : is_eq (nat_cmp x.0 t) ≡ false = by_cases (nat_cmp t x.0)
+            (λ o. nat_cmp t x.0 ≡ o → is_eq o ≡ false → is_eq (nat_cmp x.0 t) ≡ false)
+            (λ _ l _. ap is_eq (less_greater nat_cmp nat_cmp_total t x.0 l)) (λ _ _ h. absurd (let no : ⊥ = cc in no))
+            (λ _ l _. ap is_eq (greater_less nat_cmp nat_cmp_total t x.0 l)) refl a in
             picked (stays out) x es
             ∙ (λ i. cond (test x.0 && not (sym (other t x.0 apart) i)) (f x) 0 + not_there t es g i)
             ∙ sym (picked (stays (also_out t out)) x es)

@@ -119,7 +119,8 @@ fn all_waiting(alloc: Global, index: &Index) -> Result<Vec<Node>, OutOfMemory>
 fn touch_sinks(touched: &mut Touched, nodes: &[Node]) -> Result<(), OutOfMemory>
     ensures grows { OnOk result (Grows touched.old touched.new) }
     ensures same { OnOk result (touched.new.nodes ≡ touched.old.nodes) }
-    ensures has { OnOk result ((n : NodeName) → is_among node_cmp nodes.now n ≡ true → leads_to_sink n ≡ true → has_pair touched.new n NodeName.Sink ≡ true) }
+    ensures has { OnOk result ((n : NodeName) → is_among node_cmp nodes.now n ≡ true → leads_to_sink n ≡ true
+        → has_pair touched.new n NodeName.Sink ≡ true) }
 {
     for node in nodes {
         touch_sink(touched, node)?;
@@ -142,7 +143,9 @@ fn touch_sink(touched: &mut Touched, node: &Node) -> Result<(), OutOfMemory>
 fn touch_preferring(touched: &mut Touched, nodes: &[Node], index: &Index) -> Result<(), OutOfMemory>
     ensures grows { OnOk result (Grows touched.old touched.new) }
     ensures same { OnOk result (touched.new.nodes ≡ touched.old.nodes) }
-    ensures has { OnOk result ((n : NodeName) → is_among node_cmp nodes.now n ≡ true → (m t : ℕ) → n ≡ NodeName.Machine m → t < 2 ^ 128 → lists_preferred index.now m t ≡ true → has_pair touched.new (NodeName.Task t) n ≡ true) }
+    ensures has { OnOk result ((n : NodeName) → is_among node_cmp nodes.now n ≡ true → (m t : ℕ)
+        → n ≡ NodeName.Machine m → t < 2 ^ 128 → lists_preferred index.now m t ≡ true
+        → has_pair touched.new (NodeName.Task t) n ≡ true) }
 {
     for node in nodes {
         touch_preferring_at(touched, node, index)?;
@@ -153,7 +156,8 @@ fn touch_preferring(touched: &mut Touched, nodes: &[Node], index: &Index) -> Res
 fn touch_preferring_at(touched: &mut Touched, node: &Node, index: &Index) -> Result<(), OutOfMemory>
     ensures grows { OnOk result (Grows touched.old touched.new) }
     ensures same { OnOk result (touched.new.nodes ≡ touched.old.nodes) }
-    ensures has { OnOk result ((m t : ℕ) → node.now ≡ NodeName.Machine m → t < 2 ^ 128 → lists_preferred index.now m t ≡ true → has_pair touched.new (NodeName.Task t) node.now ≡ true) }
+    ensures has { OnOk result ((m t : ℕ) → node.now ≡ NodeName.Machine m → t < 2 ^ 128
+        → lists_preferred index.now m t ≡ true → has_pair touched.new (NodeName.Task t) node.now ≡ true) }
 {
     match node {
         Node::Machine(machine) => touch_preferring_of(touched, *machine, index),
@@ -169,7 +173,8 @@ fn touch_preferring_of(
 ) -> Result<(), OutOfMemory>
     ensures grows { OnOk result (Grows touched.old touched.new) }
     ensures same { OnOk result (touched.new.nodes ≡ touched.old.nodes) }
-    ensures has { OnOk result ((t : ℕ) → t < 2 ^ 128 → lists_preferred index.now machine t ≡ true → has_pair touched.new (NodeName.Task t) (NodeName.Machine machine) ≡ true) }
+    ensures has { OnOk result ((t : ℕ) → t < 2 ^ 128 → lists_preferred index.now machine t ≡ true
+        → has_pair touched.new (NodeName.Task t) (NodeName.Machine machine) ≡ true) }
 {
     let first = (machine, TaskId::new(0));
     let last = (machine, TaskId::new(u128::MAX));
@@ -187,7 +192,8 @@ fn touch_machines(
 ) -> Result<(), OutOfMemory>
     ensures grows { OnOk result (Grows touched.old touched.new) }
     ensures same { OnOk result (touched.new.nodes ≡ touched.old.nodes) }
-    ensures has { OnOk result ((n : NodeName) → is_among node_cmp nodes.now n ≡ true → is_machine n ≡ true → (r : NodeName) → is_among node_cmp requests.now r ≡ true → has_pair touched.new r n ≡ true) }
+    ensures has { OnOk result ((n : NodeName) → is_among node_cmp nodes.now n ≡ true → is_machine n ≡ true
+        → (r : NodeName) → is_among node_cmp requests.now r ≡ true → has_pair touched.new r n ≡ true) }
 {
     for node in nodes {
         touch_machine(touched, node, requests)?;
@@ -198,7 +204,8 @@ fn touch_machines(
 fn touch_machine(touched: &mut Touched, node: &Node, requests: &[Node]) -> Result<(), OutOfMemory>
     ensures grows { OnOk result (Grows touched.old touched.new) }
     ensures same { OnOk result (touched.new.nodes ≡ touched.old.nodes) }
-    ensures has { OnOk result (is_machine node.now ≡ true → (r : NodeName) → is_among node_cmp requests.now r ≡ true → has_pair touched.new r node.now ≡ true) }
+    ensures has { OnOk result (is_machine node.now ≡ true → (r : NodeName) → is_among node_cmp requests.now r ≡ true
+        → has_pair touched.new r node.now ≡ true) }
 {
     match node {
         Node::Machine(_) => touch_places(touched, requests, node),
@@ -210,7 +217,8 @@ fn touch_machine(touched: &mut Touched, node: &Node, requests: &[Node]) -> Resul
 fn touch_places(touched: &mut Touched, requests: &[Node], machine: &Node) -> Result<(), OutOfMemory>
     ensures grows { OnOk result (Grows touched.old touched.new) }
     ensures same { OnOk result (touched.new.nodes ≡ touched.old.nodes) }
-    ensures has { OnOk result ((r : NodeName) → is_among node_cmp requests.now r ≡ true → has_pair touched.new r machine.now ≡ true) }
+    ensures has { OnOk result ((r : NodeName) → is_among node_cmp requests.now r ≡ true
+        → has_pair touched.new r machine.now ≡ true) }
 {
     for request in requests {
         touched.pair(request, machine)?;
@@ -228,7 +236,9 @@ fn touch_requests(
 ) -> Result<(), OutOfMemory>
     ensures grows { OnOk result (Grows touched.old touched.new) }
     ensures same { OnOk result (touched.new.nodes ≡ touched.old.nodes) }
-    ensures has { OnOk result ((n : NodeName) → is_among node_cmp nodes.now n ≡ true → is_request n ≡ true → (has_node network.now n ≡ node_shown (seen_in seen.now) (sum_in index.now) n → ⊥) → (m : ℕ) → is_some (get nat_cmp seen.now.machines m) ≡ true → has_pair touched.new n (NodeName.Machine m) ≡ true) }
+    ensures has { OnOk result ((n : NodeName) → is_among node_cmp nodes.now n ≡ true → is_request n ≡ true
+        → (has_node network.now n ≡ node_shown (seen_in seen.now) (sum_in index.now) n → ⊥) → (m : ℕ)
+        → is_some (get nat_cmp seen.now.machines m) ≡ true → has_pair touched.new n (NodeName.Machine m) ≡ true) }
 {
     for node in nodes {
         touch_request(touched, node, seen, index, network)?;
@@ -245,7 +255,10 @@ fn touch_request(
 ) -> Result<(), OutOfMemory>
     ensures grows { OnOk result (Grows touched.old touched.new) }
     ensures same { OnOk result (touched.new.nodes ≡ touched.old.nodes) }
-    ensures has { OnOk result (is_request node.now ≡ true → (has_node network.now node.now ≡ node_shown (seen_in seen.now) (sum_in index.now) node.now → ⊥) → (m : ℕ) → is_some (get nat_cmp seen.now.machines m) ≡ true → has_pair touched.new node.now (NodeName.Machine m) ≡ true) }
+    ensures has { OnOk result (is_request node.now ≡ true
+        → (has_node network.now node.now ≡ node_shown (seen_in seen.now) (sum_in index.now) node.now → ⊥) → (m : ℕ)
+        → is_some (get nat_cmp seen.now.machines m) ≡ true
+        → has_pair touched.new node.now (NodeName.Machine m) ≡ true) }
 {
     if is_request(node) && network.has(node) != stands(seen, index, node) {
         return touch_rooms(touched, node, seen);
@@ -257,7 +270,8 @@ fn touch_request(
 fn touch_rooms(touched: &mut Touched, request: &Node, seen: &Seen) -> Result<(), OutOfMemory>
     ensures grows { OnOk result (Grows touched.old touched.new) }
     ensures same { OnOk result (touched.new.nodes ≡ touched.old.nodes) }
-    ensures has { OnOk result ((m : ℕ) → is_some (get nat_cmp seen.now.machines m) ≡ true → has_pair touched.new request.now (NodeName.Machine m) ≡ true) }
+    ensures has { OnOk result ((m : ℕ) → is_some (get nat_cmp seen.now.machines m) ≡ true
+        → has_pair touched.new request.now (NodeName.Machine m) ≡ true) }
 {
     for (machine, _) in seen.machines.iter().rev() {
         touched.pair(request, &Node::Machine(*machine))?;

@@ -191,8 +191,10 @@ impl Deferred {
         requires { DeferredFollows self.old now.now }
         ensures fresh { OnOk result (IsTrue (is_fresh_deferred self.new)) }
         ensures given { OnOk result (DeferredIsFor self.new now.now) }
-        ensures edits { is_some self.old.editor ≡ true → OnOk result ((self.new.edits ≡ one_more self.old.edits) × (self.new.builds ≡ self.old.builds)) }
-        ensures builds { self.old.editor ≡ None → OnOk result ((self.new.edits ≡ self.old.edits) × (self.new.builds ≡ one_more self.old.builds)) }
+        ensures edits { is_some self.old.editor ≡ true
+            → OnOk result ((self.new.edits ≡ one_more self.old.edits) × (self.new.builds ≡ self.old.builds)) }
+        ensures builds { self.old.editor ≡ None → OnOk result ((self.new.edits ≡ self.old.edits)
+            × (self.new.builds ≡ one_more self.old.builds)) }
     {
         match &self.editor {
             Some(_) => self.edit(alloc, now),
@@ -258,8 +260,10 @@ impl NetKeeper for Deferred {
         ensures err { OnErr result (is_fresh_deferred self.new ≡ false) }
         ensures follows { DeferredFollows self.new now.now }
         ensures same { IsTrue (is_fresh_deferred self.old) → self.new ≡ self.old }
-        ensures edits { is_fresh_deferred self.old ≡ false → is_some self.old.editor ≡ true → OnOk result ((self.new.edits ≡ one_more self.old.edits) × (self.new.builds ≡ self.old.builds)) }
-        ensures builds { is_fresh_deferred self.old ≡ false → self.old.editor ≡ None → OnOk result ((self.new.edits ≡ self.old.edits) × (self.new.builds ≡ one_more self.old.builds)) }
+        ensures edits { is_fresh_deferred self.old ≡ false → is_some self.old.editor ≡ true
+            → OnOk result ((self.new.edits ≡ one_more self.old.edits) × (self.new.builds ≡ self.old.builds)) }
+        ensures builds { is_fresh_deferred self.old ≡ false → self.old.editor ≡ None
+            → OnOk result ((self.new.edits ≡ self.old.edits) × (self.new.builds ≡ one_more self.old.builds)) }
     {
         law_no_keys();
         law_can_be(now);

@@ -26,7 +26,8 @@ pub(crate) fn turned(
     seen: &Seen,
     values: &[(MachineId, Option<MachineRec>)],
 ) -> Result<Vec<MachineId>, OutOfMemory>
-    ensures { IfOk result (λ ms. ms.items ≡ map (λ v. v.0) (filter (λ v. turns ((seen_in seen.now).machine v.0) v.1) values.now)) }
+    ensures { IfOk result (λ ms. ms.items ≡ map (λ v. v.0) (filter
+        (λ v. turns ((seen_in seen.now).machine v.0) v.1) values.now)) }
 {
     Ok(
         values
@@ -76,9 +77,13 @@ pub(crate) fn dirty_tasks(
 ) -> Result<Vec<TaskId>, OutOfMemory>
     ensures rises { IfOk result (λ ts. Rises nat_cmp ts.items) }
     ensures told { IfOk result (λ ts. (t : ℕ) → has_id changed.now.tasks t ≡ true → has_id ts.items t ≡ true) }
-    ensures jobs { IfOk result (λ ts. (j t : ℕ) → has_id changed.now.jobs j ≡ true → t < 2 ^ 128 → lists index.now (NodeName.Unscheduled j) t ≡ true → has_id ts.items t ≡ true) }
-    ensures machines { IfOk result (λ ts. (m t : ℕ) → has_id turned.now m ≡ true → t < 2 ^ 128 → lists index.now (NodeName.Machine m) t ≡ true → has_id ts.items t ≡ true) }
-    ensures only { IfOk result (λ ts. (t : ℕ) → has_id ts.items t ≡ true → (has_id changed.now.tasks t ≡ true) ⊎ (ListsAtOne index.now NodeName.Unscheduled changed.now.jobs t ⊎ ListsAtOne index.now NodeName.Machine turned.now t)) }
+    ensures jobs { IfOk result (λ ts. (j t : ℕ) → has_id changed.now.jobs j ≡ true → t < 2 ^ 128
+        → lists index.now (NodeName.Unscheduled j) t ≡ true → has_id ts.items t ≡ true) }
+    ensures machines { IfOk result (λ ts. (m t : ℕ) → has_id turned.now m ≡ true → t < 2 ^ 128
+        → lists index.now (NodeName.Machine m) t ≡ true → has_id ts.items t ≡ true) }
+    ensures only { IfOk result (λ ts. (t : ℕ) → has_id ts.items t ≡ true → (has_id changed.now.tasks t ≡ true)
+        ⊎ (ListsAtOne index.now NodeName.Unscheduled changed.now.jobs t
+        ⊎ ListsAtOne index.now NodeName.Machine turned.now t)) }
 {
     let mut tasks = BTreeSet::new(alloc);
     add_told(&mut tasks, changed.tasks())?;
@@ -98,7 +103,8 @@ fn in_order(alloc: Global, tasks: &BTreeSet<TaskId>) -> Result<Vec<TaskId>, OutO
 // Adds the tasks.
 fn add_told(tasks: &mut BTreeSet<TaskId>, told: &[TaskId]) -> Result<(), OutOfMemory>
     ensures told { OnOk result ((t : ℕ) → has_id told.now t ≡ true → has_id tasks.new.keys t ≡ true) }
-    ensures only { OnOk result ((t : ℕ) → has_id tasks.new.keys t ≡ true → (has_id tasks.old.keys t ≡ true) ⊎ (has_id told.now t ≡ true)) }
+    ensures only { OnOk result ((t : ℕ) → has_id tasks.new.keys t ≡ true → (has_id tasks.old.keys t ≡ true)
+        ⊎ (has_id told.now t ≡ true)) }
 {
     for task in told {
         tasks.insert(*task)?;
@@ -113,8 +119,10 @@ fn add_of_jobs(
     jobs: &[JobId],
 ) -> Result<(), OutOfMemory>
     ensures grows { OnOk result ((t : ℕ) → has_id tasks.old.keys t ≡ true → has_id tasks.new.keys t ≡ true) }
-    ensures listed { OnOk result ((j t : ℕ) → has_id jobs.now j ≡ true → t < 2 ^ 128 → lists index.now (NodeName.Unscheduled j) t ≡ true → has_id tasks.new.keys t ≡ true) }
-    ensures only { OnOk result ((t : ℕ) → has_id tasks.new.keys t ≡ true → (has_id tasks.old.keys t ≡ true) ⊎ ListsAtOne index.now NodeName.Unscheduled jobs.now t) }
+    ensures listed { OnOk result ((j t : ℕ) → has_id jobs.now j ≡ true → t < 2 ^ 128
+        → lists index.now (NodeName.Unscheduled j) t ≡ true → has_id tasks.new.keys t ≡ true) }
+    ensures only { OnOk result ((t : ℕ) → has_id tasks.new.keys t ≡ true → (has_id tasks.old.keys t ≡ true)
+        ⊎ ListsAtOne index.now NodeName.Unscheduled jobs.now t) }
 {
     for job in jobs {
         add_listed(tasks, index, &Node::Unscheduled(*job))?;
@@ -129,8 +137,10 @@ fn add_of_machines(
     machines: &[MachineId],
 ) -> Result<(), OutOfMemory>
     ensures grows { OnOk result ((t : ℕ) → has_id tasks.old.keys t ≡ true → has_id tasks.new.keys t ≡ true) }
-    ensures listed { OnOk result ((m t : ℕ) → has_id machines.now m ≡ true → t < 2 ^ 128 → lists index.now (NodeName.Machine m) t ≡ true → has_id tasks.new.keys t ≡ true) }
-    ensures only { OnOk result ((t : ℕ) → has_id tasks.new.keys t ≡ true → (has_id tasks.old.keys t ≡ true) ⊎ ListsAtOne index.now NodeName.Machine machines.now t) }
+    ensures listed { OnOk result ((m t : ℕ) → has_id machines.now m ≡ true → t < 2 ^ 128
+        → lists index.now (NodeName.Machine m) t ≡ true → has_id tasks.new.keys t ≡ true) }
+    ensures only { OnOk result ((t : ℕ) → has_id tasks.new.keys t ≡ true → (has_id tasks.old.keys t ≡ true)
+        ⊎ ListsAtOne index.now NodeName.Machine machines.now t) }
 {
     for machine in machines {
         add_listed(tasks, index, &Node::Machine(*machine))?;
@@ -141,8 +151,10 @@ fn add_of_machines(
 // Adds the tasks that are listed at the node. O(log n) for each.
 fn add_listed(tasks: &mut BTreeSet<TaskId>, index: &Index, node: &Node) -> Result<(), OutOfMemory>
     ensures grows { OnOk result ((t : ℕ) → has_id tasks.old.keys t ≡ true → has_id tasks.new.keys t ≡ true) }
-    ensures listed { OnOk result ((t : ℕ) → t < 2 ^ 128 → lists index.now node.now t ≡ true → has_id tasks.new.keys t ≡ true) }
-    ensures only { OnOk result ((t : ℕ) → has_id tasks.new.keys t ≡ true → (has_id tasks.old.keys t ≡ true) ⊎ (lists index.now node.now t ≡ true)) }
+    ensures listed { OnOk result ((t : ℕ) → t < 2 ^ 128 → lists index.now node.now t ≡ true
+        → has_id tasks.new.keys t ≡ true) }
+    ensures only { OnOk result ((t : ℕ) → has_id tasks.new.keys t ≡ true → (has_id tasks.old.keys t ≡ true)
+        ⊎ (lists index.now node.now t ≡ true)) }
 {
     let first = (*node, TaskId::new(0));
     let last = (*node, TaskId::new(u128::MAX));

@@ -102,13 +102,16 @@ pub fn edit<L: Look>(
 ) -> Result<Vec<Edit>, OutOfMemory>
     requires fresh { IsTrue (is_fresh_editor editor.old) }
     requires took_in { TookIn true (IsFor editor.old) (L.table look.old) changed.now }
-    ensures least { (k : Table) → IsFor editor.old k → IfOk result (λ edits. edits.items ≡ change (net_of k) (net_of (L.table look.old))) }
+    ensures least { (k : Table) → IsFor editor.old k
+        → IfOk result (λ edits. edits.items ≡ change (net_of k) (net_of (L.table look.old))) }
     ensures fresh { OnOk result (IsTrue (is_fresh_editor editor.new)) }
     ensures given { OnOk result (IsFor editor.new (L.table look.old)) }
     ensures looks { OnOk result (L.keys look.new ≡ L.keys look.old ++ looks_of (L.table look.old) changed.now) }
     ensures same { L.table look.new ≡ L.table look.old }
     ensures counted { OnOk result (editor.new.edits ≡ one_more editor.old.edits) }
-    ensures taken { (k : Table) → IsFor editor.old k → OnOk result (CountsDirtyTasks k (L.table look.old) changed.now (taken_out editor.old) (taken_out editor.new)) }
+    ensures taken { (k : Table) → IsFor editor.old k
+        → OnOk result (CountsDirtyTasks k (L.table look.old) changed.now (taken_out editor.old)
+        (taken_out editor.new)) }
     ensures err { OnErr result (is_fresh_editor editor.new ≡ false) }
 {
     editor.fresh = false;
@@ -165,7 +168,8 @@ impl NetKeeper for Editor {
         ensures err { OnErr result (is_fresh_editor self.new ≡ false) }
         ensures stale { is_fresh_editor self.old ≡ false → is_fresh_editor self.new ≡ false }
         ensures edits { IsTrue (is_fresh_editor self.old) → OnOk result (self.new.edits ≡ one_more self.old.edits) }
-        ensures keeps_up { TookIn true (λ k. IsTrue (is_fresh_editor self.old) → IsFor self.old k) now.now changed.now → IsTrue (is_fresh_editor self.new) → IsFor self.new now.now }
+        ensures keeps_up { TookIn true (λ k. IsTrue (is_fresh_editor self.old) → IsFor self.old k) now.now changed.now
+            → IsTrue (is_fresh_editor self.new) → IsFor self.new now.now }
         ensures absorbs { Unit {0} }
     {
         if self.fresh {

@@ -56,7 +56,8 @@ impl Index {
 
     // Sets the sum at the node.
     fn set_sum(&mut self, node: Node, sum: u128) -> Result<(), OutOfMemory>
-        ensures sums { OnOk result ((n : NodeName) → sum_in self.new n ≡ cond (is_eq (node_cmp node n)) sum (sum_in self.old n)) }
+        ensures sums { OnOk result ((n : NodeName)
+            → sum_in self.new n ≡ cond (is_eq (node_cmp node n)) sum (sum_in self.old n)) }
         ensures lists { self.new.listed ≡ self.old.listed }
         ensures preferred { self.new.preferred ≡ self.old.preferred }
         ensures taken { self.new.taken ≡ self.old.taken }
@@ -71,7 +72,8 @@ impl Index {
 
     // Adds to the sum at the node. It fits: tasks in memory are fewer than 2^64, and each adds less than 2^32.
     fn raise(&mut self, node: Node, by: u128) -> Result<(), OutOfMemory>
-        ensures sums { OnOk result ((n : NodeName) → sum_in self.old n + cond (is_eq (node_cmp node n)) by 0 < 2 ^ 128 → sum_in self.new n ≡ sum_in self.old n + cond (is_eq (node_cmp node n)) by 0) }
+        ensures sums { OnOk result ((n : NodeName) → sum_in self.old n + cond (is_eq (node_cmp node n)) by 0 < 2 ^ 128
+            → sum_in self.new n ≡ sum_in self.old n + cond (is_eq (node_cmp node n)) by 0) }
         ensures lists { self.new.listed ≡ self.old.listed }
         ensures preferred { self.new.preferred ≡ self.old.preferred }
         ensures taken { self.new.taken ≡ self.old.taken }
@@ -82,7 +84,8 @@ impl Index {
 
     // Takes from the sum at the node.
     fn lower(&mut self, node: Node, by: u128) -> Result<(), OutOfMemory>
-        ensures sums { OnOk result ((n : NodeName) → sum_in self.new n ≡ sum_in self.old n - cond (is_eq (node_cmp node n)) by 0) }
+        ensures sums { OnOk result ((n : NodeName)
+            → sum_in self.new n ≡ sum_in self.old n - cond (is_eq (node_cmp node n)) by 0) }
         ensures lists { self.new.listed ≡ self.old.listed }
         ensures preferred { self.new.preferred ≡ self.old.preferred }
         ensures taken { self.new.taken ≡ self.old.taken }
@@ -93,7 +96,9 @@ impl Index {
 
     // Puts the task into the list at the node, if there is one.
     fn list_at(&mut self, node: Option<Node>, task: TaskId) -> Result<(), OutOfMemory>
-        ensures lists { OnOk result ((n : NodeName) (t : ℕ) → lists self.new n t ≡ cond (passes (λ x. is_eq (listed_cmp (x, task) (n, t))) node) true (lists self.old n t)) }
+        ensures lists { OnOk result ((n : NodeName) (t : ℕ)
+            → lists self.new n t
+            ≡ cond (passes (λ x. is_eq (listed_cmp (x, task) (n, t))) node) true (lists self.old n t)) }
         ensures sums { self.new.sums ≡ self.old.sums }
         ensures preferred { self.new.preferred ≡ self.old.preferred }
         ensures taken { self.new.taken ≡ self.old.taken }
@@ -106,7 +111,8 @@ impl Index {
 
     // Takes the task from the list at the node, if there is one.
     fn unlist_at(&mut self, node: Option<Node>, task: TaskId)
-        ensures lists { (n : NodeName) (t : ℕ) → lists self.new n t ≡ cond (passes (λ x. is_eq (listed_cmp (x, task) (n, t))) node) false (lists self.old n t) }
+        ensures lists { (n : NodeName) (t : ℕ) → lists self.new n t
+            ≡ cond (passes (λ x. is_eq (listed_cmp (x, task) (n, t))) node) false (lists self.old n t) }
         ensures sums { self.new.sums ≡ self.old.sums }
         ensures preferred { self.new.preferred ≡ self.old.preferred }
         ensures taken { self.new.taken ≡ self.old.taken }
@@ -118,7 +124,8 @@ impl Index {
 
     // Lists the task at its job and at its winner's machine, as it was seen.
     fn list(&mut self, found: &SeenTask, task: TaskId) -> Result<(), OutOfMemory>
-        ensures lists { OnOk result ((s : Sight) → IsSeenTask s task found.now → (n : NodeName) (t : ℕ) → lists self.new n t ≡ cond (is_eq (nat_cmp task t) && is_listed s n t) true (lists self.old n t)) }
+        ensures lists { OnOk result ((s : Sight) → IsSeenTask s task found.now → (n : NodeName) (t : ℕ)
+            → lists self.new n t ≡ cond (is_eq (nat_cmp task t) && is_listed s n t) true (lists self.old n t)) }
         ensures preferred { self.new.preferred ≡ self.old.preferred }
         ensures sums { self.new.sums ≡ self.old.sums }
         ensures taken { self.new.taken ≡ self.old.taken }
@@ -130,7 +137,8 @@ impl Index {
 
     // Removes the task from the lists of its job and its winner's machine, as it was seen.
     fn unlist(&mut self, found: &SeenTask, task: TaskId)
-        ensures lists { (s : Sight) → IsSeenTask s task found.now → (n : NodeName) (t : ℕ) → lists self.new n t ≡ cond (is_eq (nat_cmp task t) && is_listed s n t) false (lists self.old n t) }
+        ensures lists { (s : Sight) → IsSeenTask s task found.now → (n : NodeName) (t : ℕ)
+            → lists self.new n t ≡ cond (is_eq (nat_cmp task t) && is_listed s n t) false (lists self.old n t) }
         ensures preferred { self.new.preferred ≡ self.old.preferred }
         ensures sums { self.new.sums ≡ self.old.sums }
         ensures taken { self.new.taken ≡ self.old.taken }
@@ -141,7 +149,9 @@ impl Index {
 
     // Puts the task into the lists of the machines.
     fn list_preferred(&mut self, prefer: &Prefer, task: TaskId) -> Result<(), OutOfMemory>
-        ensures preferred { OnOk result ((m t : ℕ) → lists_preferred self.new m t ≡ cond (is_eq (nat_cmp task t) && is_some (lookup nat_cmp m prefer.now)) true (lists_preferred self.old m t)) }
+        ensures preferred { OnOk result ((m t : ℕ)
+            → lists_preferred self.new m t ≡ cond (is_eq (nat_cmp task t)
+            && is_some (lookup nat_cmp m prefer.now)) true (lists_preferred self.old m t)) }
         ensures lists { self.new.listed ≡ self.old.listed }
         ensures sums { self.new.sums ≡ self.old.sums }
         ensures taken { self.new.taken ≡ self.old.taken }
@@ -154,7 +164,9 @@ impl Index {
 
     // Takes the task from the lists of the machines.
     fn unlist_preferred(&mut self, prefer: &Prefer, task: TaskId)
-        ensures preferred { (m t : ℕ) → lists_preferred self.new m t ≡ cond (is_eq (nat_cmp task t) && is_some (lookup nat_cmp m prefer.now)) false (lists_preferred self.old m t) }
+        ensures preferred { (m t : ℕ) → lists_preferred self.new m t
+            ≡ cond (is_eq (nat_cmp task t)
+            && is_some (lookup nat_cmp m prefer.now)) false (lists_preferred self.old m t) }
         ensures lists { self.new.listed ≡ self.old.listed }
         ensures sums { self.new.sums ≡ self.old.sums }
         ensures taken { self.new.taken ≡ self.old.taken }
@@ -166,7 +178,8 @@ impl Index {
 
     // Counts the task at its job, and at its request or the machine that holds it, if it is live.
     fn count(&mut self, found: &SeenTask) -> Result<(), OutOfMemory>
-        ensures sums { OnOk result ((s : Sight) (t : ℕ) → IsSeenTask s t found.now → (n : NodeName) → sum_in self.old n + amount_at s n t < 2 ^ 128 → sum_in self.new n ≡ sum_in self.old n + amount_at s n t) }
+        ensures sums { OnOk result ((s : Sight) (t : ℕ) → IsSeenTask s t found.now → (n : NodeName)
+            → sum_in self.old n + amount_at s n t < 2 ^ 128 → sum_in self.new n ≡ sum_in self.old n + amount_at s n t) }
         ensures lists { self.new.listed ≡ self.old.listed }
         ensures preferred { self.new.preferred ≡ self.old.preferred }
         ensures taken { self.new.taken ≡ self.old.taken }
@@ -183,7 +196,8 @@ impl Index {
 
     // No longer counts the task.
     fn uncount(&mut self, found: &SeenTask) -> Result<(), OutOfMemory>
-        ensures sums { OnOk result ((s : Sight) (t : ℕ) → IsSeenTask s t found.now → (n : NodeName) → sum_in self.new n ≡ sum_in self.old n - amount_at s n t) }
+        ensures sums { OnOk result ((s : Sight) (t : ℕ) → IsSeenTask s t found.now → (n : NodeName)
+            → sum_in self.new n ≡ sum_in self.old n - amount_at s n t) }
         ensures lists { self.new.listed ≡ self.old.listed }
         ensures preferred { self.new.preferred ≡ self.old.preferred }
         ensures taken { self.new.taken ≡ self.old.taken }
@@ -200,9 +214,14 @@ impl Index {
 
     /// Lists and counts the task, as it was seen. O(log n).
     fn put_back(&mut self, seen: &Seen, task: TaskId) -> Result<(), OutOfMemory>
-        ensures lists { OnOk result ((n : NodeName) (t : ℕ) → lists self.new n t ≡ cond (is_eq (nat_cmp task t) && is_listed (seen_in seen.now) n t) true (lists self.old n t)) }
-        ensures preferred { OnOk result ((m t : ℕ) → lists_preferred self.new m t ≡ cond (is_eq (nat_cmp task t) && prefers_in (seen_in seen.now) m t) true (lists_preferred self.old m t)) }
-        ensures sums { OnOk result ((n : NodeName) → sum_in self.old n + amount_at (seen_in seen.now) n task < 2 ^ 128 → sum_in self.new n ≡ sum_in self.old n + amount_at (seen_in seen.now) n task) }
+        ensures lists { OnOk result ((n : NodeName) (t : ℕ)
+            → lists self.new n t ≡ cond (is_eq (nat_cmp task t)
+            && is_listed (seen_in seen.now) n t) true (lists self.old n t)) }
+        ensures preferred { OnOk result ((m t : ℕ)
+            → lists_preferred self.new m t ≡ cond (is_eq (nat_cmp task t)
+            && prefers_in (seen_in seen.now) m t) true (lists_preferred self.old m t)) }
+        ensures sums { OnOk result ((n : NodeName) → sum_in self.old n + amount_at (seen_in seen.now) n task < 2 ^ 128
+            → sum_in self.new n ≡ sum_in self.old n + amount_at (seen_in seen.now) n task) }
         ensures taken { OnOk result (self.new.taken ≡ self.old.taken) }
     {
         let found = seen.task(task);
@@ -213,9 +232,14 @@ impl Index {
 
     /// No longer lists and counts the task, as it was seen: it is taken out. O(log n).
     fn take_out(&mut self, seen: &Seen, task: TaskId) -> Result<(), OutOfMemory>
-        ensures lists { OnOk result ((n : NodeName) (t : ℕ) → lists self.new n t ≡ cond (is_eq (nat_cmp task t) && is_listed (seen_in seen.now) n t) false (lists self.old n t)) }
-        ensures preferred { OnOk result ((m t : ℕ) → lists_preferred self.new m t ≡ cond (is_eq (nat_cmp task t) && prefers_in (seen_in seen.now) m t) false (lists_preferred self.old m t)) }
-        ensures sums { OnOk result ((n : NodeName) → sum_in self.new n ≡ sum_in self.old n - amount_at (seen_in seen.now) n task) }
+        ensures lists { OnOk result ((n : NodeName) (t : ℕ)
+            → lists self.new n t ≡ cond (is_eq (nat_cmp task t)
+            && is_listed (seen_in seen.now) n t) false (lists self.old n t)) }
+        ensures preferred { OnOk result ((m t : ℕ)
+            → lists_preferred self.new m t ≡ cond (is_eq (nat_cmp task t)
+            && prefers_in (seen_in seen.now) m t) false (lists_preferred self.old m t)) }
+        ensures sums { OnOk result ((n : NodeName)
+            → sum_in self.new n ≡ sum_in self.old n - amount_at (seen_in seen.now) n task) }
         ensures taken { OnOk result (self.new.taken ≡ min (self.old.taken + 1) (2 ^ 64 - 1)) }
     {
         let found = seen.task(task);
@@ -228,7 +252,8 @@ impl Index {
     /// Takes out the tasks, given by rising ids, and counts them. O(m log n).
     pub(crate) fn take_out_all(&mut self, seen: &Seen, tasks: &[TaskId]) -> Result<(), OutOfMemory>
         requires { Rises nat_cmp tasks.now }
-        ensures counts { OnOk result ((k : Table) → CanBe k → seen_in seen.now ≡ sight_of k → Counts none_out k self.old → Counts (has_id tasks.now) k self.new) }
+        ensures counts { OnOk result ((k : Table) → CanBe k → seen_in seen.now ≡ sight_of k → Counts none_out k self.old
+            → Counts (has_id tasks.now) k self.new) }
         ensures taken { OnOk result (self.new.taken ≡ min (self.old.taken + length tasks.now) (2 ^ 64 - 1)) }
     {
         for task in tasks {
@@ -240,7 +265,8 @@ impl Index {
     /// Puts back the tasks, given by rising ids, which are all that are out. O(m log n).
     pub(crate) fn put_back_all(&mut self, seen: &Seen, tasks: &[TaskId]) -> Result<(), OutOfMemory>
         requires { Rises nat_cmp tasks.now }
-        ensures counts { OnOk result ((k : Table) → CanBe k → length k.tasks < 2 ^ 63 → seen_in seen.now ≡ sight_of k → Counts (has_id tasks.now) k self.old → Counts none_out k self.new) }
+        ensures counts { OnOk result ((k : Table) → CanBe k → length k.tasks < 2 ^ 63 → seen_in seen.now ≡ sight_of k
+            → Counts (has_id tasks.now) k self.old → Counts none_out k self.new) }
         ensures taken { OnOk result (self.new.taken ≡ self.old.taken) }
     {
         for task in tasks {

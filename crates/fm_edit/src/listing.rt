@@ -30,7 +30,9 @@ pub(crate) fn list(
     index: &Index,
     touched: &Touched,
 ) -> Result<Vec<Edit>, OutOfMemory>
-    ensures { IfOk result (λ es. es.items ≡ edits_of network.now (node_shown (seen_in seen.now) (sum_in index.now)) (arc_shown (seen_in seen.now) (sum_in index.now)) touched.now.nodes.keys touched.now.pairs.keys) }
+    ensures { IfOk result
+        (λ es. es.items ≡ edits_of network.now (node_shown (seen_in seen.now) (sum_in index.now))
+        (arc_shown (seen_in seen.now) (sum_in index.now)) touched.now.nodes.keys touched.now.pairs.keys) }
 {
     let mut edits = Vec::new(alloc);
     let mut coming = Vec::new(alloc);
@@ -66,8 +68,14 @@ fn add_arcs(
     index: &Index,
     pairs: &BTreeSet<(Node, Node)>,
 ) -> Result<(), OutOfMemory>
-    ensures going { OnOk result (going.new.items ≡ going.old.items ++ arcs_that_go network.now (node_shown (seen_in seen.now) (sum_in index.now)) (arc_shown (seen_in seen.now) (sum_in index.now)) pairs.now.keys) }
-    ensures coming { OnOk result (coming.new.items ≡ coming.old.items ++ arcs_that_come network.now (node_shown (seen_in seen.now) (sum_in index.now)) (arc_shown (seen_in seen.now) (sum_in index.now)) pairs.now.keys) }
+    ensures going { OnOk result (going.new.items
+        ≡ going.old.items
+        ++ arcs_that_go network.now (node_shown (seen_in seen.now) (sum_in index.now))
+        (arc_shown (seen_in seen.now) (sum_in index.now)) pairs.now.keys) }
+    ensures coming { OnOk result (coming.new.items
+        ≡ coming.old.items
+        ++ arcs_that_come network.now (node_shown (seen_in seen.now) (sum_in index.now))
+        (arc_shown (seen_in seen.now) (sum_in index.now)) pairs.now.keys) }
 {
     let mut last = None;
     for pair in pairs.iter() {
@@ -88,8 +96,14 @@ fn add_arc(
 ) -> Result<(), OutOfMemory>
     requires { IfSome last.old (IsPlace (seen_in seen.now) (sum_in index.now)) }
     ensures last { IfSome last.new (IsPlace (seen_in seen.now) (sum_in index.now)) }
-    ensures going { OnOk result (going.new.items ≡ going.old.items ++ arcs_that_go network.now (node_shown (seen_in seen.now) (sum_in index.now)) (arc_shown (seen_in seen.now) (sum_in index.now)) (pair.now ∷ [])) }
-    ensures coming { OnOk result (coming.new.items ≡ coming.old.items ++ arcs_that_come network.now (node_shown (seen_in seen.now) (sum_in index.now)) (arc_shown (seen_in seen.now) (sum_in index.now)) (pair.now ∷ [])) }
+    ensures going { OnOk result (going.new.items
+        ≡ going.old.items
+        ++ arcs_that_go network.now (node_shown (seen_in seen.now) (sum_in index.now))
+        (arc_shown (seen_in seen.now) (sum_in index.now)) (pair.now ∷ [])) }
+    ensures coming { OnOk result (coming.new.items
+        ≡ coming.old.items
+        ++ arcs_that_come network.now (node_shown (seen_in seen.now) (sum_in index.now))
+        (arc_shown (seen_in seen.now) (sum_in index.now)) (pair.now ∷ [])) }
 {
     match arc_after(seen, index, last, &pair.0, &pair.1) {
         None => {
@@ -115,8 +129,14 @@ fn add_nodes(
     index: &Index,
     nodes: &BTreeSet<Node>,
 ) -> Result<(), OutOfMemory>
-    ensures going { OnOk result (going.new.items ≡ going.old.items ++ nodes_that_go network.now (node_shown (seen_in seen.now) (sum_in index.now)) (arc_shown (seen_in seen.now) (sum_in index.now)) nodes.now.keys) }
-    ensures coming { OnOk result (coming.new.items ≡ coming.old.items ++ nodes_that_come network.now (node_shown (seen_in seen.now) (sum_in index.now)) (arc_shown (seen_in seen.now) (sum_in index.now)) nodes.now.keys) }
+    ensures going { OnOk result (going.new.items
+        ≡ going.old.items
+        ++ nodes_that_go network.now (node_shown (seen_in seen.now) (sum_in index.now))
+        (arc_shown (seen_in seen.now) (sum_in index.now)) nodes.now.keys) }
+    ensures coming { OnOk result (coming.new.items
+        ≡ coming.old.items
+        ++ nodes_that_come network.now (node_shown (seen_in seen.now) (sum_in index.now))
+        (arc_shown (seen_in seen.now) (sum_in index.now)) nodes.now.keys) }
 {
     for node in nodes.iter() {
         add_node(going, coming, network, seen, index, node)?;
@@ -133,8 +153,14 @@ fn add_node(
     index: &Index,
     node: &Node,
 ) -> Result<(), OutOfMemory>
-    ensures going { OnOk result (going.new.items ≡ going.old.items ++ nodes_that_go network.now (node_shown (seen_in seen.now) (sum_in index.now)) (arc_shown (seen_in seen.now) (sum_in index.now)) (node.now ∷ [])) }
-    ensures coming { OnOk result (coming.new.items ≡ coming.old.items ++ nodes_that_come network.now (node_shown (seen_in seen.now) (sum_in index.now)) (arc_shown (seen_in seen.now) (sum_in index.now)) (node.now ∷ [])) }
+    ensures going { OnOk result (going.new.items
+        ≡ going.old.items
+        ++ nodes_that_go network.now (node_shown (seen_in seen.now) (sum_in index.now))
+        (arc_shown (seen_in seen.now) (sum_in index.now)) (node.now ∷ [])) }
+    ensures coming { OnOk result (coming.new.items
+        ≡ coming.old.items
+        ++ nodes_that_come network.now (node_shown (seen_in seen.now) (sum_in index.now))
+        (arc_shown (seen_in seen.now) (sum_in index.now)) (node.now ∷ [])) }
 {
     match (network.has(node), stands(seen, index, node)) {
         (true, false) => going.push(Edit::DropNode(*node))?,

@@ -75,8 +75,11 @@ impl Memory {
         requires { TookIn true (IsAt self.old network.now) (L.table look.old) changed.now }
         ensures remembers { OnOk result (Remembers (L.table look.old) self.new) }
         ensures touches { IfOk result (λ x. Touches network.now (net_of (L.table look.old)) x.nodes.keys x.pairs.keys) }
-        ensures only { (k : Table) → Remembers k self.old → IfOk result (TouchesOnlyDirty k (L.table look.old) changed.now) }
-        ensures taken { (k : Table) → Remembers k self.old → OnOk result (CountsDirtyTasks k (L.table look.old) changed.now self.old.index.taken self.new.index.taken) }
+        ensures only { (k : Table) → Remembers k self.old
+            → IfOk result (TouchesOnlyDirty k (L.table look.old) changed.now) }
+        ensures taken { (k : Table) → Remembers k self.old
+            → OnOk result (CountsDirtyTasks k (L.table look.old) changed.now self.old.index.taken
+            self.new.index.taken) }
         ensures small { OnOk result (length (L.table look.old).tasks < 2 ^ 63) }
         ensures keys { OnOk result (L.keys look.new ≡ L.keys look.old ++ looks_of (L.table look.old) changed.now) }
         ensures same { L.table look.new ≡ L.table look.old }

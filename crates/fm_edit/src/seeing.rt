@@ -26,7 +26,8 @@ fn see_job<L: Look>(
     job: JobId,
 ) -> Result<(), OutOfMemory>
     ensures seen { OnOk result (get nat_cmp jobs.new job ≡ job_of (L.table look.old) job) }
-    ensures others { OnOk result ((q : ℕ) → has_id (job ∷ []) q ≡ false → get nat_cmp jobs.new q ≡ get nat_cmp jobs.old q) }
+    ensures others { OnOk result ((q : ℕ) → has_id (job ∷ []) q ≡ false
+        → get nat_cmp jobs.new q ≡ get nat_cmp jobs.old q) }
     ensures key { OnOk result (L.keys look.new ≡ L.keys look.old ++ KeyName.Job job ∷ []) }
     ensures same { L.table look.new ≡ L.table look.old }
 {
@@ -65,7 +66,8 @@ fn see_task<L: Look>(
     task: TaskId,
 ) -> Result<(), OutOfMemory>
     ensures seen { OnOk result (get nat_cmp tasks.new task ≡ lookup nat_cmp task (L.table look.old).tasks) }
-    ensures others { OnOk result ((q : ℕ) → has_id (task ∷ []) q ≡ false → get nat_cmp tasks.new q ≡ get nat_cmp tasks.old q) }
+    ensures others { OnOk result ((q : ℕ) → has_id (task ∷ []) q ≡ false
+        → get nat_cmp tasks.new q ≡ get nat_cmp tasks.old q) }
     ensures key { OnOk result (L.keys look.new ≡ L.keys look.old ++ KeyName.Task task ∷ []) }
     ensures same { L.table look.new ≡ L.table look.old }
 {
@@ -86,7 +88,8 @@ pub(crate) fn see_tasks<L: Look>(
     look: &mut L,
     changed: &[TaskId],
 ) -> Result<(), OutOfMemory>
-    requires { (q : ℕ) → has_id changed.now q ≡ false → get nat_cmp tasks.old q ≡ lookup nat_cmp q (L.table look.old).tasks }
+    requires { (q : ℕ) → has_id changed.now q ≡ false
+        → get nat_cmp tasks.old q ≡ lookup nat_cmp q (L.table look.old).tasks }
     ensures seen { OnOk result ((q : ℕ) → get nat_cmp tasks.new q ≡ lookup nat_cmp q (L.table look.old).tasks) }
     ensures keys { OnOk result (L.keys look.new ≡ L.keys look.old ++ map KeyName.Task changed.now) }
     ensures same { L.table look.new ≡ L.table look.old }
@@ -99,7 +102,8 @@ pub(crate) fn see_tasks<L: Look>(
 
 // Where the winner of the attempt of the task would run it.
 fn spot_at<L: Look>(look: &mut L, task: TaskId, attempt: u32) -> Result<Option<Spot>, OutOfMemory>
-    ensures value { attempt ≡ attempt_of (L.table look.old) task → IfOk result (λ s. s ≡ won_spot (L.table look.old) task) }
+    ensures value { attempt ≡ attempt_of (L.table look.old) task
+        → IfOk result (λ s. s ≡ won_spot (L.table look.old) task) }
     ensures key { OnOk result (L.keys look.new ≡ L.keys look.old ++ KeyName.Winner task attempt ∷ []) }
     ensures same { L.table look.new ≡ L.table look.old }
 {
@@ -121,8 +125,10 @@ fn see_spot<L: Look>(
 ) -> Result<(), OutOfMemory>
     requires { get nat_cmp tasks.now task ≡ lookup nat_cmp task (L.table look.old).tasks }
     ensures seen { OnOk result (get nat_cmp spots.new task ≡ won_spot (L.table look.old) task) }
-    ensures others { OnOk result ((q : ℕ) → has_id (task ∷ []) q ≡ false → get nat_cmp spots.new q ≡ get nat_cmp spots.old q) }
-    ensures key { OnOk result (L.keys look.new ≡ L.keys look.old ++ KeyName.Winner task (attempt_of (L.table look.old) task) ∷ []) }
+    ensures others { OnOk result ((q : ℕ) → has_id (task ∷ []) q ≡ false
+        → get nat_cmp spots.new q ≡ get nat_cmp spots.old q) }
+    ensures key { OnOk result (L.keys look.new ≡ L.keys look.old
+        ++ KeyName.Winner task (attempt_of (L.table look.old) task) ∷ []) }
     ensures same { L.table look.new ≡ L.table look.old }
 {
     let attempt = match tasks.get(&task) {
@@ -151,7 +157,8 @@ pub(crate) fn see_spots<L: Look>(
     requires tasks { (q : ℕ) → get nat_cmp tasks.now q ≡ lookup nat_cmp q (L.table look.old).tasks }
     requires others { (q : ℕ) → has_id changed.now q ≡ false → get nat_cmp spots.old q ≡ won_spot (L.table look.old) q }
     ensures seen { OnOk result ((q : ℕ) → get nat_cmp spots.new q ≡ won_spot (L.table look.old) q) }
-    ensures keys { OnOk result (L.keys look.new ≡ L.keys look.old ++ map (λ t. KeyName.Winner t (attempt_of (L.table look.old) t)) changed.now) }
+    ensures keys { OnOk result (L.keys look.new ≡ L.keys look.old
+        ++ map (λ t. KeyName.Winner t (attempt_of (L.table look.old) t)) changed.now) }
     ensures same { L.table look.new ≡ L.table look.old }
 {
     for task in changed {
@@ -166,7 +173,8 @@ pub(crate) fn machines_now<L: Look>(
     look: &mut L,
     machines: &[MachineId],
 ) -> Result<Vec<(MachineId, Option<MachineRec>)>, OutOfMemory>
-    ensures values { IfOk result (λ vs. vs.items ≡ values_at (λ m. lookup nat_cmp m (L.table look.old).machines) machines.now) }
+    ensures values { IfOk result (λ vs. vs.items
+        ≡ values_at (λ m. lookup nat_cmp m (L.table look.old).machines) machines.now) }
     ensures keys { OnOk result (L.keys look.new ≡ L.keys look.old ++ map KeyName.Machine machines.now) }
     ensures same { L.table look.new ≡ L.table look.old }
 {
@@ -185,7 +193,8 @@ fn set_machine(
     value: Option<MachineRec>,
 ) -> Result<(), OutOfMemory>
     ensures seen { OnOk result (get nat_cmp machines.new machine ≡ value) }
-    ensures others { OnOk result ((q : ℕ) → has_id (machine ∷ []) q ≡ false → get nat_cmp machines.new q ≡ get nat_cmp machines.old q) }
+    ensures others { OnOk result ((q : ℕ) → has_id (machine ∷ []) q ≡ false
+        → get nat_cmp machines.new q ≡ get nat_cmp machines.old q) }
 {
     match value {
         Some(known) => {
@@ -203,7 +212,9 @@ pub(crate) fn set_machines(
     machines: &mut BTreeMap<MachineId, MachineRec>,
     values: &[(MachineId, Option<MachineRec>)],
 ) -> Result<(), OutOfMemory>
-    ensures { OnOk result ((f : ℕ → Option MachineValue) → AreValuesOf f values.now → ((q : ℕ) → has_value values.now q ≡ false → get nat_cmp machines.old q ≡ f q) → (q : ℕ) → get nat_cmp machines.new q ≡ f q) }
+    ensures { OnOk result ((f : ℕ → Option MachineValue) → AreValuesOf f values.now
+        → ((q : ℕ) → has_value values.now q ≡ false → get nat_cmp machines.old q ≡ f q) → (q : ℕ)
+        → get nat_cmp machines.new q ≡ f q) }
 {
     for (machine, value) in values {
         set_machine(machines, *machine, *value)?;
@@ -218,16 +229,24 @@ pub(crate) fn see<L: Look>(
     changed: &Changed,
     machines: &[(MachineId, Option<MachineRec>)],
 ) -> Result<(), OutOfMemory>
-    requires jobs { (q : ℕ) → has_id changed.now.jobs q ≡ false → get nat_cmp seen.old.jobs q ≡ job_of (L.table look.old) q }
-    requires tasks { (q : ℕ) → has_id changed.now.tasks q ≡ false → get nat_cmp seen.old.tasks q ≡ lookup nat_cmp q (L.table look.old).tasks }
-    requires spots { (q : ℕ) → has_id changed.now.tasks q ≡ false → get nat_cmp seen.old.spots q ≡ won_spot (L.table look.old) q }
-    requires machines { (q : ℕ) → has_id changed.now.machines q ≡ false → get nat_cmp seen.old.machines q ≡ lookup nat_cmp q (L.table look.old).machines }
-    requires values { machines.now ≡ values_at (λ m. lookup nat_cmp m (L.table look.old).machines) changed.now.machines }
+    requires jobs { (q : ℕ) → has_id changed.now.jobs q ≡ false
+        → get nat_cmp seen.old.jobs q ≡ job_of (L.table look.old) q }
+    requires tasks { (q : ℕ) → has_id changed.now.tasks q ≡ false
+        → get nat_cmp seen.old.tasks q ≡ lookup nat_cmp q (L.table look.old).tasks }
+    requires spots { (q : ℕ) → has_id changed.now.tasks q ≡ false
+        → get nat_cmp seen.old.spots q ≡ won_spot (L.table look.old) q }
+    requires machines { (q : ℕ) → has_id changed.now.machines q ≡ false
+        → get nat_cmp seen.old.machines q ≡ lookup nat_cmp q (L.table look.old).machines }
+    requires values { machines.now
+        ≡ values_at (λ m. lookup nat_cmp m (L.table look.old).machines) changed.now.machines }
     ensures jobs { OnOk result ((q : ℕ) → get nat_cmp seen.new.jobs q ≡ job_of (L.table look.old) q) }
     ensures tasks { OnOk result ((q : ℕ) → get nat_cmp seen.new.tasks q ≡ lookup nat_cmp q (L.table look.old).tasks) }
     ensures spots { OnOk result ((q : ℕ) → get nat_cmp seen.new.spots q ≡ won_spot (L.table look.old) q) }
-    ensures machines { OnOk result ((q : ℕ) → get nat_cmp seen.new.machines q ≡ lookup nat_cmp q (L.table look.old).machines) }
-    ensures keys { OnOk result (L.keys look.new ≡ L.keys look.old ++ map KeyName.Job changed.now.jobs ++ map KeyName.Task changed.now.tasks ++ map (λ t. KeyName.Winner t (attempt_of (L.table look.old) t)) changed.now.tasks) }
+    ensures machines { OnOk result ((q : ℕ) → get nat_cmp seen.new.machines q
+        ≡ lookup nat_cmp q (L.table look.old).machines) }
+    ensures keys { OnOk result (L.keys look.new ≡ L.keys look.old ++ map KeyName.Job changed.now.jobs
+        ++ map KeyName.Task changed.now.tasks ++ map
+        (λ t. KeyName.Winner t (attempt_of (L.table look.old) t)) changed.now.tasks) }
     ensures same { L.table look.new ≡ L.table look.old }
 {
     set_machines(&mut seen.machines, machines)?;

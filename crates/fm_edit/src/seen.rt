@@ -93,7 +93,9 @@ impl SeenTask {
 
     /// The machines that the task prefers, while it waits; else none.
     pub(crate) fn preferred(&self) -> Prefer
-        ensures { (m : ℕ) → is_some (lookup nat_cmp m result) ≡ (passes (λ r. is_some (lookup nat_cmp m r.prefer)) self.now.live && not (passes (λ h. true) self.now.holder)) }
+        ensures { (m : ℕ) → is_some (lookup nat_cmp m result)
+            ≡ (passes (λ r. is_some (lookup nat_cmp m r.prefer)) self.now.live
+            && not (passes (λ h. true) self.now.holder)) }
     {
         match self.live {
             Some(spec) if self.holder.is_none() => spec.prefer,
@@ -140,7 +142,8 @@ impl Seen {
 
     // The same of a task with this record, of which the winner's spot is this.
     fn task_of(&self, known: &TaskRec, spot: &Option<Spot>) -> SeenTask
-        ensures { (t : ℕ) → (seen_in self.now).task t ≡ Some known.now → (seen_in self.now).spot t ≡ spot.now → IsSeenTask (seen_in self.now) t result }
+        ensures { (t : ℕ) → (seen_in self.now).task t ≡ Some known.now → (seen_in self.now).spot t ≡ spot.now
+            → IsSeenTask (seen_in self.now) t result }
     {
         let live = self.live_of(known);
         let holder = self.held_at(live.is_some(), spot);

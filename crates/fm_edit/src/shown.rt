@@ -87,7 +87,8 @@ fn machine_arc(
 ) -> Option<(u64, u32)>
     requires { IfSome last.old (IsPlace (seen_in seen.now) (sum_in index.now)) }
     ensures last { IfSome last.new (IsPlace (seen_in seen.now) (sum_in index.now)) }
-    ensures arc { result ≡ arc_shown (seen_in seen.now) (sum_in index.now) (NodeName.Task task) (NodeName.Machine machine) }
+    ensures arc { result
+        ≡ arc_shown (seen_in seen.now) (sum_in index.now) (NodeName.Task task) (NodeName.Machine machine) }
 {
     match seen.holder(task) {
         Some(holder) if holder == machine => Some((1, 0)),
@@ -106,7 +107,10 @@ fn preferred_arc(
 ) -> Option<(u64, u32)>
     requires { IfSome last.old (IsPlace (seen_in seen.now) (sum_in index.now)) }
     ensures last { IfSome last.new (IsPlace (seen_in seen.now) (sum_in index.now)) }
-    ensures arc { result ≡ and_then (λ r. and_then (λ credit. option_map (λ a. (1, a.1 - credit)) (room_shown (seen_in seen.now) (sum_in index.now) r.request machine)) (lookup nat_cmp machine r.prefer)) (live_in (seen_in seen.now) task) }
+    ensures arc { result ≡ and_then (λ r. and_then
+        (λ credit. option_map
+        (λ a. (1, a.1 - credit)) (room_shown (seen_in seen.now) (sum_in index.now) r.request machine))
+        (lookup nat_cmp machine r.prefer)) (live_in (seen_in seen.now) task) }
 {
     let spec = seen.live_spec(task)?;
     let credit = spec.prefer.credit(machine)?;
@@ -139,7 +143,8 @@ fn slots_arc(seen: &Seen, machine: MachineId) -> Option<(u64, u32)>
 
 // A job to the sink. The count fits: tasks in memory are fewer than 2^64.
 fn live_arc(index: &Index, job: JobId) -> Option<(u64, u32)>
-    ensures { result ≡ arc_shown (record { job = λ j. None; task = λ t. None; machine = λ m. None; spot = λ t. None }) (sum_in index.now) (NodeName.Unscheduled job) NodeName.Sink }
+    ensures { result ≡ arc_shown (record { job = λ j. None; task = λ t. None; machine = λ m. None; spot = λ t. None })
+        (sum_in index.now) (NodeName.Unscheduled job) NodeName.Sink }
 {
     let live = index.sum(&Node::Unscheduled(job));
     if live == 0 {
@@ -158,7 +163,8 @@ fn place_arc(
 ) -> Option<(u64, u32)>
     requires { IfSome last.old (IsPlace (seen_in seen.now) (sum_in index.now)) }
     ensures last { IfSome last.new (IsPlace (seen_in seen.now) (sum_in index.now)) }
-    ensures arc { result ≡ arc_shown (seen_in seen.now) (sum_in index.now) (NodeName.Request request) (NodeName.Machine machine) }
+    ensures arc { result
+        ≡ arc_shown (seen_in seen.now) (sum_in index.now) (NodeName.Request request) (NodeName.Machine machine) }
 {
     if index.sum(&Node::Request(request)) == 0 {
         return None;

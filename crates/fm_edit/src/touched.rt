@@ -50,7 +50,8 @@ impl Touched {
     pub(crate) fn node(&mut self, node: &Node) -> Result<(), OutOfMemory>
         ensures grows { OnOk result (Grows self.old self.new) }
         ensures has { OnOk result (has_touched self.new node.now ≡ true) }
-        ensures only { OnOk result ((n : NodeName) → has_touched self.new n ≡ true → (has_touched self.old n ≡ true) ⊎ (node.now ≡ n)) }
+        ensures only { OnOk result ((n : NodeName) → has_touched self.new n ≡ true → (has_touched self.old n ≡ true)
+            ⊎ (node.now ≡ n)) }
         ensures pairs { self.new.pairs ≡ self.old.pairs }
     {
         self.nodes.insert(*node)?;
@@ -61,7 +62,8 @@ impl Touched {
     pub(crate) fn pair(&mut self, from: &Node, to: &Node) -> Result<(), OutOfMemory>
         ensures grows { OnOk result (Grows self.old self.new) }
         ensures has { OnOk result (has_pair self.new from.now to.now ≡ true) }
-        ensures only { OnOk result ((a b : NodeName) → has_pair self.new a b ≡ true → (has_pair self.old a b ≡ true) ⊎ ((from.now ≡ a) × (to.now ≡ b))) }
+        ensures only { OnOk result ((a b : NodeName) → has_pair self.new a b ≡ true → (has_pair self.old a b ≡ true)
+            ⊎ ((from.now ≡ a) × (to.now ≡ b))) }
         ensures nodes { self.new.nodes ≡ self.old.nodes }
     {
         self.pairs.insert((*from, *to))?;
@@ -72,8 +74,10 @@ impl Touched {
     fn lead(&mut self, task: TaskId, end: Option<Node>) -> Result<(), OutOfMemory>
         ensures grows { OnOk result (Grows self.old self.new) }
         ensures leads { OnOk result (Leads self.new task end) }
-        ensures only { OnOk result ((n : NodeName) → has_touched self.new n ≡ true → (has_touched self.old n ≡ true) ⊎ (end ≡ Some n)) }
-        ensures starts { OnOk result ((a b : NodeName) → has_pair self.new a b ≡ true → (has_pair self.old a b ≡ true) ⊎ (NodeName.Task task ≡ a)) }
+        ensures only { OnOk result ((n : NodeName) → has_touched self.new n ≡ true → (has_touched self.old n ≡ true)
+            ⊎ (end ≡ Some n)) }
+        ensures starts { OnOk result ((a b : NodeName) → has_pair self.new a b ≡ true → (has_pair self.old a b ≡ true)
+            ⊎ (NodeName.Task task ≡ a)) }
     {
         if let Some(end) = end {
             self.node(&end)?;
@@ -86,8 +90,10 @@ impl Touched {
     fn task(&mut self, seen: &Seen, task: TaskId) -> Result<(), OutOfMemory>
         ensures grows { OnOk result (Grows self.old self.new) }
         ensures touches { OnOk result (TouchesTask (seen_in seen.now) task self.new) }
-        ensures only { OnOk result ((n : NodeName) → has_touched self.new n ≡ true → (has_touched self.old n ≡ true) ⊎ IsEnd (seen_in seen.now) task n) }
-        ensures starts { OnOk result ((a b : NodeName) → has_pair self.new a b ≡ true → (has_pair self.old a b ≡ true) ⊎ (NodeName.Task task ≡ a)) }
+        ensures only { OnOk result ((n : NodeName) → has_touched self.new n ≡ true → (has_touched self.old n ≡ true)
+            ⊎ IsEnd (seen_in seen.now) task n) }
+        ensures starts { OnOk result ((a b : NodeName) → has_pair self.new a b ≡ true → (has_pair self.old a b ≡ true)
+            ⊎ (NodeName.Task task ≡ a)) }
     {
         let found = seen.task(task);
         self.node(&Node::Task(task))?;
@@ -100,9 +106,11 @@ impl Touched {
     // Touches the pairs of the task and the machines.
     fn preferred(&mut self, task: TaskId, prefer: &Prefer) -> Result<(), OutOfMemory>
         ensures grows { OnOk result (Grows self.old self.new) }
-        ensures has { OnOk result ((m : ℕ) → is_some (lookup nat_cmp m prefer.now) ≡ true → has_pair self.new (NodeName.Task task) (NodeName.Machine m) ≡ true) }
+        ensures has { OnOk result ((m : ℕ) → is_some (lookup nat_cmp m prefer.now) ≡ true
+            → has_pair self.new (NodeName.Task task) (NodeName.Machine m) ≡ true) }
         ensures nodes { self.new.nodes ≡ self.old.nodes }
-        ensures starts { OnOk result ((a b : NodeName) → has_pair self.new a b ≡ true → (has_pair self.old a b ≡ true) ⊎ (NodeName.Task task ≡ a)) }
+        ensures starts { OnOk result ((a b : NodeName) → has_pair self.new a b ≡ true → (has_pair self.old a b ≡ true)
+            ⊎ (NodeName.Task task ≡ a)) }
     {
         for entry in prefer.entries() {
             self.pair(&Node::Task(task), &Node::Machine(entry.0))?;
@@ -113,9 +121,12 @@ impl Touched {
     /// Touches the tasks, and where their arcs can lead as they were seen. O(m log m + m log n).
     pub(crate) fn tasks(&mut self, seen: &Seen, tasks: &[TaskId]) -> Result<(), OutOfMemory>
         ensures grows { OnOk result (Grows self.old self.new) }
-        ensures touches { OnOk result ((t : ℕ) → has_id tasks.now t ≡ true → TouchesTask (seen_in seen.now) t self.new) }
-        ensures only { OnOk result ((n : NodeName) → has_touched self.new n ≡ true → (has_touched self.old n ≡ true) ⊎ IsEndOf (seen_in seen.now) tasks.now n) }
-        ensures starts { OnOk result ((a b : NodeName) → has_pair self.new a b ≡ true → (has_pair self.old a b ≡ true) ⊎ IsNodeOf NodeName.Task tasks.now a) }
+        ensures touches { OnOk result ((t : ℕ) → has_id tasks.now t ≡ true
+            → TouchesTask (seen_in seen.now) t self.new) }
+        ensures only { OnOk result ((n : NodeName) → has_touched self.new n ≡ true → (has_touched self.old n ≡ true)
+            ⊎ IsEndOf (seen_in seen.now) tasks.now n) }
+        ensures starts { OnOk result ((a b : NodeName) → has_pair self.new a b ≡ true → (has_pair self.old a b ≡ true)
+            ⊎ IsNodeOf NodeName.Task tasks.now a) }
     {
         for task in tasks {
             self.task(seen, *task)?;
@@ -126,8 +137,10 @@ impl Touched {
     /// Touches the jobs.
     pub(crate) fn jobs(&mut self, jobs: &[JobId]) -> Result<(), OutOfMemory>
         ensures grows { OnOk result (Grows self.old self.new) }
-        ensures touches { OnOk result ((j : ℕ) → has_id jobs.now j ≡ true → has_touched self.new (NodeName.Unscheduled j) ≡ true) }
-        ensures only { OnOk result ((n : NodeName) → has_touched self.new n ≡ true → (has_touched self.old n ≡ true) ⊎ IsNodeOf NodeName.Unscheduled jobs.now n) }
+        ensures touches { OnOk result ((j : ℕ) → has_id jobs.now j ≡ true
+            → has_touched self.new (NodeName.Unscheduled j) ≡ true) }
+        ensures only { OnOk result ((n : NodeName) → has_touched self.new n ≡ true → (has_touched self.old n ≡ true)
+            ⊎ IsNodeOf NodeName.Unscheduled jobs.now n) }
         ensures pairs { self.new.pairs ≡ self.old.pairs }
     {
         for job in jobs {
@@ -139,8 +152,10 @@ impl Touched {
     /// Touches the machines.
     pub(crate) fn machines(&mut self, machines: &[MachineId]) -> Result<(), OutOfMemory>
         ensures grows { OnOk result (Grows self.old self.new) }
-        ensures touches { OnOk result ((m : ℕ) → has_id machines.now m ≡ true → has_touched self.new (NodeName.Machine m) ≡ true) }
-        ensures only { OnOk result ((n : NodeName) → has_touched self.new n ≡ true → (has_touched self.old n ≡ true) ⊎ IsNodeOf NodeName.Machine machines.now n) }
+        ensures touches { OnOk result ((m : ℕ) → has_id machines.now m ≡ true
+            → has_touched self.new (NodeName.Machine m) ≡ true) }
+        ensures only { OnOk result ((n : NodeName) → has_touched self.new n ≡ true → (has_touched self.old n ≡ true)
+            ⊎ IsNodeOf NodeName.Machine machines.now n) }
         ensures pairs { self.new.pairs ≡ self.old.pairs }
     {
         for machine in machines {

@@ -27,7 +27,8 @@ fn has_preferences(numbered: &Numbered) -> bool {
 /// in which all tasks can be unscheduled. Refused if memory runs out, and for nothing else. Costs what the start
 /// takes that it chooses.
 pub fn first_flow(alloc: Global, numbered: &Numbered) -> Result<(Vec<u64>, Vec<i128>), OutOfMemory>
-    requires unscheduled { IsFlowOf numbered.now.places numbered.now.arcs.items (all_unscheduled numbered.now.places numbered.now.arcs.items) }
+    requires unscheduled { IsFlowOf numbered.now.places numbered.now.arcs.items
+        (all_unscheduled numbered.now.places numbered.now.arcs.items) }
     ensures flow { IfOk result (λ r. IsFlowOf numbered.now.places numbered.now.arcs.items r.0.items) }
     ensures sized { IfOk result (λ r. length r.1.items ≡ numbered.now.places.end) }
     ensures small { IfOk result (λ r. AreBounded (2 ^ 64) (costs_in r.1.items)) }

@@ -26,7 +26,8 @@ pub fn simplex(
     alloc: Global,
     numbered: &Numbered,
 ) -> Result<Option<(Vec<u64>, Vec<i64>)>, OutOfMemory>
-    ensures { IfOk result (λ found. IfSome found (λ r. IsFlowOf numbered.now.places numbered.now.arcs.items r.0.items)) }
+    ensures { IfOk result (λ found. IfSome found
+        (λ r. IsFlowOf numbered.now.places numbered.now.arcs.items r.0.items)) }
 {
     let most = numbered.arcs.len().saturating_mul(PIVOTS_A_LINK);
     simplex_within(alloc, numbered, most)
@@ -38,7 +39,8 @@ pub fn simplex_within(
     numbered: &Numbered,
     most: usize,
 ) -> Result<Option<(Vec<u64>, Vec<i64>)>, OutOfMemory>
-    ensures { IfOk result (λ found. IfSome found (λ r. IsFlowOf numbered.now.places numbered.now.arcs.items r.0.items)) }
+    ensures { IfOk result (λ found. IfSome found
+        (λ r. IsFlowOf numbered.now.places numbered.now.arcs.items r.0.items)) }
 {
     let alike = Alike::of(alloc, numbered)?;
     let contracted = Contracted::of(alloc, numbered, &alike)?;

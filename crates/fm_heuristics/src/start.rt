@@ -345,7 +345,8 @@ fn places_most(numbered: &Numbered, given: &[u64]) -> bool {
 /// in which all tasks can be unscheduled. Refused if memory runs out, and for nothing else. O(arcs log arcs), and for
 /// each class of tasks at most some searches between requests.
 pub fn start(alloc: Global, numbered: &Numbered) -> Result<Vec<u64>, OutOfMemory>
-    requires unscheduled { IsFlowOf numbered.now.places numbered.now.arcs.items (all_unscheduled numbered.now.places numbered.now.arcs.items) }
+    requires unscheduled { IsFlowOf numbered.now.places numbered.now.arcs.items
+        (all_unscheduled numbered.now.places numbered.now.arcs.items) }
     ensures { IfOk result (λ units. IsFlowOf numbered.now.places numbered.now.arcs.items units.items) }
 {
     let units = placed(alloc, numbered)?;
@@ -365,8 +366,10 @@ pub fn resume(
     numbered: &Numbered,
     given: &[u64],
 ) -> Result<Option<(Vec<u64>, Vec<i128>)>, OutOfMemory>
-    ensures flow { IfOk result (λ kept. IfSome kept (λ r. IsFlowOf numbered.now.places numbered.now.arcs.items r.0.items)) }
-    ensures potentials { IfOk result (λ kept. IfSome kept (λ r. ArePotentials (residual numbered.now.arcs.items r.0.items) (costs_in r.1.items))) }
+    ensures flow { IfOk result (λ kept. IfSome kept
+        (λ r. IsFlowOf numbered.now.places numbered.now.arcs.items r.0.items)) }
+    ensures potentials { IfOk result (λ kept. IfSome kept
+        (λ r. ArePotentials (residual numbered.now.arcs.items r.0.items) (costs_in r.1.items))) }
 {
     if !places_most(numbered, given) {
         return Ok(None);
@@ -388,8 +391,10 @@ pub fn resumed(
     numbered: &Numbered,
     flow: &Flow,
 ) -> Result<Option<(Vec<u64>, Vec<i128>)>, OutOfMemory>
-    ensures flow { IfOk result (λ kept. IfSome kept (λ r. IsFlowOf numbered.now.places numbered.now.arcs.items r.0.items)) }
-    ensures potentials { IfOk result (λ kept. IfSome kept (λ r. ArePotentials (residual numbered.now.arcs.items r.0.items) (costs_in r.1.items))) }
+    ensures flow { IfOk result (λ kept. IfSome kept
+        (λ r. IsFlowOf numbered.now.places numbered.now.arcs.items r.0.items)) }
+    ensures potentials { IfOk result (λ kept. IfSome kept
+        (λ r. ArePotentials (residual numbered.now.arcs.items r.0.items) (costs_in r.1.items))) }
 {
     if flow.is_empty() {
         return Ok(None);

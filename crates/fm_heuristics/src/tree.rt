@@ -373,7 +373,8 @@ impl Tree {
         requires node { node < vec_len self.old.knots }
         requires parent { parent < vec_len self.old.knots }
         requires number { number < vec_len self.old.links }
-        ensures { OnOk result ((vec_len self.new.knots ≡ vec_len self.old.knots) × (vec_len self.new.links ≡ vec_len self.old.links)) }
+        ensures { OnOk result ((vec_len self.new.knots ≡ vec_len self.old.knots)
+            × (vec_len self.new.links ≡ vec_len self.old.links)) }
     {
         let by = self.over(number, node).saturating_sub(self.potential(node));
         self.list_way(node, last)?;
@@ -393,7 +394,8 @@ impl Tree {
     // Adds to the potentials of a node and all below it, counts their depths again, and lists them as moved.
     fn shift(&mut self, node: usize, by: i64) -> Result<(), Stop>
         requires { node < vec_len self.old.knots }
-        ensures { OnOk result ((vec_len self.new.knots ≡ vec_len self.old.knots) × (vec_len self.new.links ≡ vec_len self.old.links)) }
+        ensures { OnOk result ((vec_len self.new.knots ≡ vec_len self.old.knots)
+            × (vec_len self.new.links ≡ vec_len self.old.links)) }
     {
         self.moved.clear();
         self.list(node)?;

@@ -149,7 +149,10 @@ one_waits kind = elim kind as (λ q. unscheduled_by q 0 ≤ 1) [
   | kinds.Task i ↦ omega arith
 ]
 
-pub drained : (places : Places) (arcs : List Arc) (nodes : ℕ) (entered : List ℕ) → AreArcs arcs nodes → length arcs < 2 ^ 63 → ((v : ℕ) → v < nodes → slice_index entered v ≡ entering arcs (waiting places arcs) v) → map (λ (a : Arc). unscheduled_by (kind_at places a.to) (min (slice_index entered a.from) (2 ^ 64 - 1))) arcs ≡ all_unscheduled places arcs
+pub drained : (places : Places) (arcs : List Arc) (nodes : ℕ) (entered : List ℕ) → AreArcs arcs nodes → length arcs < 2 ^ 63 →
+    ((v : ℕ) → v < nodes → slice_index entered v ≡ entering arcs (waiting places arcs) v) → map
+    (λ (a : Arc). unscheduled_by (kind_at places a.to) (min (slice_index entered a.from) (2 ^ 64 - 1))) arcs ≡ all_unscheduled
+    places arcs
 drained places arcs nodes entered known few sums =
     map_same _ _ arcs (λ i a at.
     let is = sums a.from (known i a at).0 in

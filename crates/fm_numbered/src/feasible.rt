@@ -37,7 +37,8 @@ fn sends(kind: Kind, entered: u128, left: u128) -> bool
 
 // Whether all nodes send what they have to.
 fn all_send(places: &Places, entered: &[u128], left: &[u128]) -> bool
-    ensures { IsTrue result ↔ ((v : ℕ) → v < places.now.end → Sends (kind_at places.now v) (slice_index entered.now v) (slice_index left.now v)) }
+    ensures { IsTrue result ↔ ((v : ℕ) → v < places.now.end
+        → Sends (kind_at places.now v) (slice_index entered.now v) (slice_index left.now v)) }
 {
     for place in 0..places.end {
         let kind = places.kind(place);
@@ -51,7 +52,8 @@ fn all_send(places: &Places, entered: &[u128], left: &[u128]) -> bool
 /// Whether the units are a flow: a number for each arc within its capacity, one out of each task, and what enters a node
 /// between tasks and sink leaves it. O(nodes + arcs).
 pub fn is_feasible(alloc: Global, numbered: &Numbered, units: &[u64]) -> Result<bool, OutOfMemory>
-    ensures { IfOk result (λ feasible. IsTrue feasible ↔ IsFlowOf numbered.now.places numbered.now.arcs.items units.now) }
+    ensures { IfOk result
+        (λ feasible. IsTrue feasible ↔ IsFlowOf numbered.now.places numbered.now.arcs.items units.now) }
 {
     if units.len() != numbered.arcs.len() || !are_within(&numbered.arcs, units) {
         return Ok(false);

@@ -24,7 +24,8 @@ pub fn improved(
     requires flow { IsFlowOf numbered.now.places numbered.now.arcs.items units.items }
     ensures flow { IfOk result (λ r. IsFlowOf numbered.now.places numbered.now.arcs.items r.0.items) }
     ensures sized { IfOk result (λ r. length r.1.items ≡ numbered.now.places.end) }
-    ensures potentials { IfOk result (λ r. ArePotentials (residual numbered.now.arcs.items r.0.items) (costs_in r.1.items)) }
+    ensures potentials { IfOk result
+        (λ r. ArePotentials (residual numbered.now.arcs.items r.0.items) (costs_in r.1.items)) }
 {
     let improved = improve_from(alloc, numbered.places.end, &numbered.arcs, units, first)?;
     Ok(improved)

@@ -25,7 +25,8 @@ pub fn sum_at(sums: &[u128], place: usize) -> u128
 /// The units that enter each node. O(arcs).
 pub fn inflow(alloc: Global, numbered: &Numbered, units: &[u64]) -> Result<Vec<u128>, OutOfMemory>
     ensures sized { IfOk result (λ sums. vec_len sums ≡ numbered.now.places.end) }
-    ensures sums { IfOk result (λ sums. (v : ℕ) → v < numbered.now.places.end → slice_index sums.items v ≡ entering numbered.now.arcs.items units.now v) }
+    ensures sums { IfOk result (λ sums. (v : ℕ) → v < numbered.now.places.end
+        → slice_index sums.items v ≡ entering numbered.now.arcs.items units.now v) }
 {
     let mut sums = vec![in alloc; 0u128; numbered.places.end]?;
     for (place, arc) in numbered.arcs.iter().enumerate() {
@@ -40,7 +41,8 @@ pub fn inflow(alloc: Global, numbered: &Numbered, units: &[u64]) -> Result<Vec<u
 /// The units that leave each node. O(arcs).
 pub fn outflow(alloc: Global, numbered: &Numbered, units: &[u64]) -> Result<Vec<u128>, OutOfMemory>
     ensures sized { IfOk result (λ sums. vec_len sums ≡ numbered.now.places.end) }
-    ensures sums { IfOk result (λ sums. (v : ℕ) → v < numbered.now.places.end → slice_index sums.items v ≡ leaving numbered.now.arcs.items units.now v) }
+    ensures sums { IfOk result (λ sums. (v : ℕ) → v < numbered.now.places.end
+        → slice_index sums.items v ≡ leaving numbered.now.arcs.items units.now v) }
 {
     let mut sums = vec![in alloc; 0u128; numbered.places.end]?;
     for (place, arc) in numbered.arcs.iter().enumerate() {

@@ -10,7 +10,8 @@ use fm_records::refusal::Refusal;
 /// Writes the complete text, in as many writes as the sink needs, and flushes it. WriteFault if the sink fails: then
 /// it accepted a prefix of the text. O(n).
 pub fn send<W: Sink>(sink: &mut W, text: &[u8]) -> Result<(), Refusal>
-    ensures sent { IsSent result (W.written sink.old) (W.written sink.new) (W.has_failed sink.old) (W.has_failed sink.new) text.now }
+    ensures sent { IsSent result (W.written sink.old) (W.written sink.new) (W.has_failed sink.old)
+        (W.has_failed sink.new) text.now }
     ensures cause { IsOkUnless result Refusal.WriteFault }
 {
     put_all(sink, text)?;

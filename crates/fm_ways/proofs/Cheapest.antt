@@ -28,7 +28,10 @@ no_some : {A P : Type 0} {a : A} → None ≡ Some a → P
 no_some e = absurd (let no : ⊥ = cc in no)
 
 -- costs to the sink for potentials
-pub least_by_costs : (net : Net) (f : Units) (costs : Node → ℕ) → CanBeNet net → IsFeasible net f → ((from to : Node) (arc : ℕ × ℕ) → arc_at net from to ≡ Some arc → f from to < arc.0 → costs from ≤ arc.1 + costs to) → ((from to : Node) (arc : ℕ × ℕ) → arc_at net from to ≡ Some arc → 0 < f from to → arc.1 + costs to ≤ costs from) → IsLeast net f
+pub least_by_costs : (net : Net) (f : Units) (costs : Node → ℕ) → CanBeNet net → IsFeasible net f →
+    ((from to : Node) (arc : ℕ × ℕ) → arc_at net from to ≡ Some arc → f from to < arc.0 → costs from ≤ arc.1 + costs to) →
+    ((from to : Node) (arc : ℕ × ℕ) → arc_at net from to ≡ Some arc → 0 < f from to → arc.1 + costs to ≤ costs from) → IsLeast
+    net f
 least_by_costs net f costs can feasible gain waste =
     shown_is_least net f (λ n. pos 0 -ℤ pos (costs n)) can feasible
     (λ from to arc at below. let h = gain from to arc at below in omega (arith, ints))

@@ -159,7 +159,9 @@ module _ (k : Table) (moves : List (ℕ × Way)) (can_be : CanBe k) (are : AreMo
       ∙ sym (sum_moves (λ w. cond (goes_by r m w) 1 0))
 
   -- a machine's slots are taken by those it holds, less those that move, and those that move to it
-  slot_one : (m t : ℕ) (o : Option Way) (h : Option ℕ) (held : ℕ) → held ≡ cond (passes (λ (x : ℕ). x == m) h) 1 0 → cond {A = ℕ} (takes_slot m (t, or_else (rest_at k t h) o)) 1 0 + part (λ (w : ℕ × Way). held) (option_map (λ w. (t, w)) o) ≡ held + part (λ w. cond (takes_slot m w) 1 0) (option_map (λ w. (t, w)) o)
+  slot_one : (m t : ℕ) (o : Option Way) (h : Option ℕ) (held : ℕ) → held ≡ cond (passes (λ (x : ℕ). x == m) h) 1 0 → cond
+      {A = ℕ} (takes_slot m (t, or_else (rest_at k t h) o)) 1 0 + part (λ (w : ℕ × Way). held) (option_map (λ w. (t, w)) o) ≡
+      held + part (λ w. cond (takes_slot m w) 1 0) (option_map (λ w. (t, w)) o)
   slot_one m t None None held is = omega arith
   slot_one m t None (Some p) held is = omega arith
   slot_one m t (Some w) h held is = omega arith
@@ -169,7 +171,10 @@ module _ (k : Table) (moves : List (ℕ × Way)) (can_be : CanBe k) (are : AreMo
 
   slot_at : (m t : ℕ) → cond {A = ℕ} (is_live k t) (cond (takes_slot m (t, way t)) 1 0) 0 + part (λ (w : ℕ × Way). held_one m w.0) (option_map (λ w. (t, w)) (at t)) ≡ held_one m t + part (λ w. cond (takes_slot m w) 1 0) (option_map (λ w. (t, w)) (at t))
   slot_at m t =
-      let same : part (λ (w : ℕ × Way). held_one m w.0) (option_map (λ w. (t, w)) (at t)) ≡ part (λ (w : ℕ × Way). held_one m t) (option_map (λ w. (t, w)) (at t)) = elim (at t) as (λ o. part (λ (w : ℕ × Way). held_one m w.0) (option_map (λ w. (t, w)) o) ≡ part (λ (w : ℕ × Way). held_one m t) (option_map (λ w. (t, w)) o)) [ None ↦ refl | Some w ↦ refl ] in
+      let same : part (λ (w : ℕ × Way). held_one m w.0) (option_map (λ w. (t, w)) (at t)) ≡ part (λ (w : ℕ × Way). held_one m t)
+      (option_map (λ w. (t, w)) (at t)) = elim (at t) as (λ o. part (λ (w : ℕ × Way). held_one m w.0)
+      (option_map (λ w. (t, w)) o) ≡ part (λ (w : ℕ × Way). held_one m t) (option_map (λ w. (t, w)) o))
+      [ None ↦ refl | Some w ↦ refl ] in
       elim (is_live k t) as (λ b. is_live k t ≡ b → cond {A = ℕ} b (cond (takes_slot m (t, way t)) 1 0) 0 + part (λ (w : ℕ × Way). held_one m w.0) (option_map (λ w. (t, w)) (at t)) ≡ held_one m t + part (λ w. cond (takes_slot m w) 1 0) (option_map (λ w. (t, w)) (at t))) [
         | true ↦ λ _. let one = slot_one m t (at t) (holder_of k t) (held_one m t) refl in omega arith
         | false ↦ λ dead.

@@ -20,37 +20,44 @@ ghost use Rattle.fm_ways.specs.Ways.{Way, units_of, ways_of, goes_by, takes_slot
 /// The units of any ways are conserved, if the network has their arcs: what enters a node between tasks and sink leaves it.
 /// Textbook: a sum of paths.
 pub fn law_conserved()
-    ensures { (net : Net) (ways : List (ℕ × Way)) → IsRising ends_cmp net.arcs → HasArcsOf net ways → (n : NodeName) → IsTrue (is_between n) → entering net (units_of ways) n ≡ leaving net (units_of ways) n }
+    ensures { (net : Net) (ways : List (ℕ × Way)) → IsRising ends_cmp net.arcs → HasArcsOf net ways → (n : NodeName)
+        → IsTrue (is_between n) → entering net (units_of ways) n ≡ leaving net (units_of ways) n }
 {}
 
 /// One way for each live task, within rooms and slots, makes a feasible flow.
 pub fn law_feasible()
-    ensures { (k : Table) (way : ℕ → Way) → CanBe k → CanBeNet (net_of k) → Fit k way → IsFeasible (net_of k) (units_of (ways_of k way)) }
+    ensures { (k : Table) (way : ℕ → Way) → CanBe k → CanBeNet (net_of k) → Fit k way
+        → IsFeasible (net_of k) (units_of (ways_of k way)) }
 {}
 
 /// If, at some prices and offers, no task has a cheaper way, the flow is least. Textbook: complementary slackness.
 pub fn law_least()
-    ensures { (k : Table) (way : ℕ → Way) (price offer : ℕ → ℕ) → CanBe k → CanBeNet (net_of k) → Fit k way → AreCheapest k way price offer → IsLeast (net_of k) (units_of (ways_of k way)) }
+    ensures { (k : Table) (way : ℕ → Way) (price offer : ℕ → ℕ) → CanBe k → CanBeNet (net_of k) → Fit k way
+        → AreCheapest k way price offer → IsLeast (net_of k) (units_of (ways_of k way)) }
 {}
 
 /// The same from fewer comparisons: no arc of a task but those to machines that it prefers.
 pub fn law_fair()
-    ensures { (k : Table) (way : ℕ → Way) (price offer : ℕ → ℕ) → CanBe k → CanBeNet (net_of k) → Fit k way → AreFair k way price offer → IsLeast (net_of k) (units_of (ways_of k way)) }
+    ensures { (k : Table) (way : ℕ → Way) (price offer : ℕ → ℕ) → CanBe k → CanBeNet (net_of k) → Fit k way
+        → AreFair k way price offer → IsLeast (net_of k) (units_of (ways_of k way)) }
 {}
 
 /// The plan of the flow preempts just the held tasks whose way is over their job.
 pub fn law_preempts()
-    ensures { (k : Table) (way : ℕ → Way) → CanBe k → CanBeNet (net_of k) → Fit k way → (planned (units_over (net_of k) (units_of (ways_of k way))) k).preempts ≡ preempts_of_ways k way }
+    ensures { (k : Table) (way : ℕ → Way) → CanBe k → CanBeNet (net_of k) → Fit k way
+        → (planned (units_over (net_of k) (units_of (ways_of k way))) k).preempts ≡ preempts_of_ways k way }
 {}
 
 /// If the tasks of each request go in turn, the plan of the flow has each task at the machine of its way.
 pub fn law_places()
-    ensures { (k : Table) (way : ℕ → Way) → CanBe k → CanBeNet (net_of k) → Fit k way → InTurn k way → (planned (units_over (net_of k) (units_of (ways_of k way))) k).places ≡ places_of_ways k way }
+    ensures { (k : Table) (way : ℕ → Way) → CanBe k → CanBeNet (net_of k) → Fit k way → InTurn k way
+        → (planned (units_over (net_of k) (units_of (ways_of k way))) k).places ≡ places_of_ways k way }
 {}
 
 /// So the plan of such ways is a plan of what is known: that of a least flow of its network. Nobody has to build the network.
 pub fn law_plan()
-    ensures { (k : Table) (way : ℕ → Way) (price offer : ℕ → ℕ) → CanBe k → CanBeNet (net_of k) → Fit k way → AreFair k way price offer → InTurn k way → IsPlanOf k (plan_of_ways k way) }
+    ensures { (k : Table) (way : ℕ → Way) (price offer : ℕ → ℕ) → CanBe k → CanBeNet (net_of k) → Fit k way
+        → AreFair k way price offer → InTurn k way → IsPlanOf k (plan_of_ways k way) }
 {}
 
 /// That each task goes over its job is always within rooms and slots.
@@ -61,17 +68,24 @@ pub fn law_at_jobs()
 /// If few tasks move, it is enough to count these: over requests go no others, and a machine has the tasks that it holds, less
 /// those that move, and those that move to it.
 pub fn law_counts()
-    ensures asked { (k : Table) (moves : List (ℕ × Way)) → CanBe k → AreMoves k moves → (r m : ℕ) → count_by (goes_by r m) (ways_of k (moved k moves)) ≡ count_by (goes_by r m) moves }
-    ensures slots { (k : Table) (moves : List (ℕ × Way)) → CanBe k → AreMoves k moves → (m : ℕ) → count_by (takes_slot m) (ways_of k (moved k moves)) + count_by (λ w. holds k m w.0) moves ≡ count_by (λ e. holds k m e.0) k.tasks + count_by (takes_slot m) moves }
+    ensures asked { (k : Table) (moves : List (ℕ × Way)) → CanBe k → AreMoves k moves → (r m : ℕ)
+        → count_by (goes_by r m) (ways_of k (moved k moves)) ≡ count_by (goes_by r m) moves }
+    ensures slots { (k : Table) (moves : List (ℕ × Way)) → CanBe k → AreMoves k moves → (m : ℕ)
+        → count_by (takes_slot m) (ways_of k (moved k moves)) + count_by (λ w. holds k m w.0) moves
+        ≡ count_by (λ e. holds k m e.0) k.tasks + count_by (takes_slot m) moves }
 {}
 
 /// And the plan is made of the moves alone.
 pub fn law_moves()
-    ensures fit { (k : Table) (moves : List (ℕ × Way)) → CanBe k → AreMoves k moves → FitMoves k moves → Fit k (moved k moves) }
-    ensures plan { (k : Table) (moves : List (ℕ × Way)) (price offer : ℕ → ℕ) → CanBe k → CanBeNet (net_of k) → AreMoves k moves → FitMoves k moves → AreFair k (moved k moves) price offer → InTurn k (moved k moves) → IsPlanOf k (plan_of_moves k moves) }
+    ensures fit { (k : Table) (moves : List (ℕ × Way)) → CanBe k → AreMoves k moves → FitMoves k moves
+        → Fit k (moved k moves) }
+    ensures plan { (k : Table) (moves : List (ℕ × Way)) (price offer : ℕ → ℕ) → CanBe k → CanBeNet (net_of k)
+        → AreMoves k moves → FitMoves k moves → AreFair k (moved k moves) price offer → InTurn k (moved k moves)
+        → IsPlanOf k (plan_of_moves k moves) }
 {}
 
 /// If no machine is open, the plan moves nothing.
 pub fn law_shut()
-    ensures { (k : Table) → CanBe k → CanBeNet (net_of k) → ((m : ℕ) → open_state k m ≡ None) → IsPlanOf k (plan_of_moves k []) }
+    ensures { (k : Table) → CanBe k → CanBeNet (net_of k) → ((m : ℕ) → open_state k m ≡ None)
+        → IsPlanOf k (plan_of_moves k []) }
 {}

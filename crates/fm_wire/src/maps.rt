@@ -84,7 +84,8 @@ fn rest_of_records<K: Chain + Spelled, V: Join + Recorded>(
     count: u64,
     bytes: &[u8],
 ) -> Result<&[u8], usize>
-    ensures { Gives (λ rest. rest.now) result (rest_of (records_at K.cmp K.format (V.format version) count None bytes.now)) }
+    ensures { Gives (λ rest. rest.now) result (rest_of
+        (records_at K.cmp K.format (V.format version) count None bytes.now)) }
 {
     let mut last: Option<K> = None;
     let mut rest = bytes;

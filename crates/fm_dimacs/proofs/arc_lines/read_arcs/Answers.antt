@@ -21,7 +21,9 @@ loop-done-preserved c =
     let line = arc_room c.args.nodes.now arc c.loop-done.rest.now c.in-Some.behind.now c.in-Some.ensures.some.2 in
     record {
       nodes = ap (λ net. net.nodes) c.in_ok-put.ensures ∙ inv.nodes;
-      leads = arc_leads c.args.nodes.now c.loop-done.network.arcs c.put.new.network.arcs c.args.left c.loop-done.done c.loop-done.last c.args.text.now c.loop-done.rest.now c.in-Some.behind.now arc c.loop-done-test.true inv.last inv.leads c.in-Some.ensures.some.0 c.in-Some.ensures.some.1 c.in-Some.ensures.some.2 arcs;
+      leads = arc_leads c.args.nodes.now c.loop-done.network.arcs c.put.new.network.arcs c.args.left c.loop-done.done
+          c.loop-done.last c.args.text.now c.loop-done.rest.now c.in-Some.behind.now arc c.loop-done-test.true inv.last
+          inv.leads c.in-Some.ensures.some.0 c.in-Some.ensures.some.1 c.in-Some.ensures.some.2 arcs;
       last = sym (last_more c.loop-done.network.arcs arc) ∙ ap last_ends (sym arcs);
       room = omega (arith, line, inv.room);
     }

@@ -18,7 +18,9 @@ returns-in_err-put_problem g c =
     let arcs = c.args.network.now.arcs in
     let comments : List ℕ = lines_from node_line 1 nodes in
     let problem : List ℕ = problem_line (length nodes) (length arcs) in
-    stopped_later _ _ _ _ _ _ _ _ _ (comments) problem (demand_line (count_by is_task nodes) ++ (lines_from supply_line 1 nodes ++ (flat_map (arc_line nodes) arcs))) c.from_residual-in_err-put_problem.ensures.1 (refl) (c.in_ok-put_nodes.ensures.0) (c.in_ok-put_nodes.ensures.1) c.in_err-put_problem.ensures
+    stopped_later _ _ _ _ _ _ _ _ _ (comments) problem (demand_line (count_by is_task nodes) ++
+    (lines_from supply_line 1 nodes ++ (flat_map (arc_line nodes) arcs))) c.from_residual-in_err-put_problem.ensures.1
+    (refl) (c.in_ok-put_nodes.ensures.0) (c.in_ok-put_nodes.ensures.1) c.in_err-put_problem.ensures
 
 pub returns-in_err-put_demand : goal.returns-in_err-put_demand
 returns-in_err-put_demand g c =
@@ -27,7 +29,10 @@ returns-in_err-put_demand g c =
     let comments : List ℕ = lines_from node_line 1 nodes in
     let problem : List ℕ = problem_line (length nodes) (length arcs) in
     let demand : List ℕ = demand_line (count_by is_task nodes) in
-    stopped_later _ _ _ _ _ _ _ _ _ (comments ++ problem) demand (lines_from supply_line 1 nodes ++ (flat_map (arc_line nodes) arcs)) c.from_residual-in_err-put_demand.ensures.1 (sym (append_assoc comments problem _)) (appends_more _ _ _ comments problem c.in_ok-put_nodes.ensures.0 c.in_ok-put_problem.ensures.0) (c.in_ok-put_problem.ensures.1 ∙ c.in_ok-put_nodes.ensures.1) c.in_err-put_demand.ensures
+    stopped_later _ _ _ _ _ _ _ _ _ (comments ++ problem) demand (lines_from supply_line 1 nodes ++
+    (flat_map (arc_line nodes) arcs)) c.from_residual-in_err-put_demand.ensures.1 (sym (append_assoc comments problem _))
+    (appends_more _ _ _ comments problem c.in_ok-put_nodes.ensures.0 c.in_ok-put_problem.ensures.0)
+    (c.in_ok-put_problem.ensures.1 ∙ c.in_ok-put_nodes.ensures.1) c.in_err-put_demand.ensures
 
 pub returns-in_err-put_supplies : goal.returns-in_err-put_supplies
 returns-in_err-put_supplies g c =
@@ -37,7 +42,12 @@ returns-in_err-put_supplies g c =
     let problem : List ℕ = problem_line (length nodes) (length arcs) in
     let demand : List ℕ = demand_line (count_by is_task nodes) in
     let supplies : List ℕ = lines_from supply_line 1 nodes in
-    stopped_later _ _ _ _ _ _ _ _ _ ((comments ++ problem) ++ demand) supplies (flat_map (arc_line nodes) arcs) c.from_residual-in_err-put_supplies.ensures.1 (simp append_assoc) (appends_more _ _ _ (comments ++ problem) demand (appends_more _ _ _ comments problem c.in_ok-put_nodes.ensures.0 c.in_ok-put_problem.ensures.0) c.in_ok-put_demand.ensures.0) (c.in_ok-put_demand.ensures.1 ∙ c.in_ok-put_problem.ensures.1 ∙ c.in_ok-put_nodes.ensures.1) c.in_err-put_supplies.ensures
+    stopped_later _ _ _ _ _ _ _ _ _ ((comments ++ problem) ++ demand) supplies (flat_map (arc_line nodes) arcs)
+    c.from_residual-in_err-put_supplies.ensures.1 (simp append_assoc)
+    (appends_more _ _ _ (comments ++ problem) demand (appends_more _ _ _ comments problem c.in_ok-put_nodes.ensures.0
+    c.in_ok-put_problem.ensures.0) c.in_ok-put_demand.ensures.0)
+    (c.in_ok-put_demand.ensures.1 ∙ c.in_ok-put_problem.ensures.1 ∙ c.in_ok-put_nodes.ensures.1)
+    c.in_err-put_supplies.ensures
 
 pub returns : goal.returns
 returns g c =
@@ -50,4 +60,9 @@ returns g c =
     let last : List ℕ = flat_map (arc_line nodes) arcs in
     let whole : (((comments ++ problem) ++ demand) ++ supplies) ++ last ≡ comments ++ (problem ++ (demand ++ (supplies ++ last))) = simp append_assoc in
     subst (λ (text : List ℕ). IsSent c.put_arcs.result (g.W.Out.written c.args.out.now) (g.W.Out.written c.put_arcs.new.out) (g.W.Out.has_failed c.args.out.now) (g.W.Out.has_failed c.put_arcs.new.out) text) whole
-    (sent_last c.put_arcs.result _ _ _ _ _ _ (((comments ++ problem) ++ demand) ++ supplies) last (appends_more _ _ _ ((comments ++ problem) ++ demand) supplies (appends_more _ _ _ (comments ++ problem) demand (appends_more _ _ _ comments problem c.in_ok-put_nodes.ensures.0 c.in_ok-put_problem.ensures.0) c.in_ok-put_demand.ensures.0) c.in_ok-put_supplies.ensures.0) (c.in_ok-put_supplies.ensures.1 ∙ c.in_ok-put_demand.ensures.1 ∙ c.in_ok-put_problem.ensures.1 ∙ c.in_ok-put_nodes.ensures.1) c.put_arcs.ensures)
+    (sent_last c.put_arcs.result _ _ _ _ _ _ (((comments ++ problem) ++ demand) ++ supplies) last
+    (appends_more _ _ _ ((comments ++ problem) ++ demand) supplies
+    (appends_more _ _ _ (comments ++ problem) demand (appends_more _ _ _ comments problem c.in_ok-put_nodes.ensures.0
+    c.in_ok-put_problem.ensures.0) c.in_ok-put_demand.ensures.0) c.in_ok-put_supplies.ensures.0)
+    (c.in_ok-put_supplies.ensures.1 ∙ c.in_ok-put_demand.ensures.1 ∙ c.in_ok-put_problem.ensures.1 ∙
+    c.in_ok-put_nodes.ensures.1) c.put_arcs.ensures)

@@ -18,5 +18,7 @@ abbrev pub invariant-loop-node : goal.invariant-loop-node
 invariant-loop-node l = record {
   grows : Grows l.fn.touched l.touched;
   same : l.touched.nodes ≡ l.fn.touched.nodes;
-  has : (n : Node) → is_among node_cmp l.nodes n ≡ true → is_among node_cmp (drop l.node-index l.nodes) n ≡ false → is_request n ≡ true → (has_node l.network n ≡ node_shown (seen_in l.seen) (sum_in l.index) n → ⊥) → (m : ℕ) → is_some (get nat_cmp l.seen.machines m) ≡ true → has_pair l.touched n (Machine m) ≡ true;
+  has : (n : Node) → is_among node_cmp l.nodes n ≡ true → is_among node_cmp (drop l.node-index l.nodes) n ≡ false → is_request n
+      ≡ true → (has_node l.network n ≡ node_shown (seen_in l.seen) (sum_in l.index) n → ⊥) → (m : ℕ) → is_some
+      (get nat_cmp l.seen.machines m) ≡ true → has_pair l.touched n (Machine m) ≡ true;
 }

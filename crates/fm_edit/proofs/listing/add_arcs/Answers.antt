@@ -20,5 +20,7 @@ loop-pair-preserved c =
     record {
       place = c.in_ok-add_arc.ensures.last;
       going = stepped_kept (λ (e : Node × Node). DropArc e.0 e.1) (λ (e : Node × Node). joins net e && not (is_some (arc e.0 e.1))) c.loop-pair.going.items c.add_arc.new.going.items c.loop-pair.pair-iterator c.next.new.self x next c.in_ok-add_arc.ensures.going ∙ c.loop-pair.invariant.going;
-      coming = stepped_made (λ (e : Node × Node). option_map (put_at e) (and_then (λ v. when (not (has_arc net (e, v))) v) (arc e.0 e.1))) c.loop-pair.coming.items c.add_arc.new.coming.items c.loop-pair.pair-iterator c.next.new.self x next c.in_ok-add_arc.ensures.coming ∙ c.loop-pair.invariant.coming;
+      coming = stepped_made (λ (e : Node × Node). option_map (put_at e)
+          (and_then (λ v. when (not (has_arc net (e, v))) v) (arc e.0 e.1))) c.loop-pair.coming.items c.add_arc.new.coming.items
+          c.loop-pair.pair-iterator c.next.new.self x next c.in_ok-add_arc.ensures.coming ∙ c.loop-pair.invariant.coming;
     }

@@ -8,6 +8,10 @@ use Rattle.fm_edit.proofs.listing.add_arcs.Given as goal
 abbrev pub invariant-loop-pair : goal.invariant-loop-pair
 invariant-loop-pair l = record {
   place : IfSome l.last (IsPlace (seen_in l.seen) (sum_in l.index));
-  going : l.going.items ++ arcs_that_go l.network (node_shown (seen_in l.seen) (sum_in l.index)) (arc_shown (seen_in l.seen) (sum_in l.index)) l.pair-iterator ≡ l.fn.going.items ++ arcs_that_go l.network (node_shown (seen_in l.seen) (sum_in l.index)) (arc_shown (seen_in l.seen) (sum_in l.index)) l.pairs.keys;
-  coming : l.coming.items ++ arcs_that_come l.network (node_shown (seen_in l.seen) (sum_in l.index)) (arc_shown (seen_in l.seen) (sum_in l.index)) l.pair-iterator ≡ l.fn.coming.items ++ arcs_that_come l.network (node_shown (seen_in l.seen) (sum_in l.index)) (arc_shown (seen_in l.seen) (sum_in l.index)) l.pairs.keys;
+  going : l.going.items ++ arcs_that_go l.network (node_shown (seen_in l.seen) (sum_in l.index))
+      (arc_shown (seen_in l.seen) (sum_in l.index)) l.pair-iterator ≡ l.fn.going.items ++ arcs_that_go l.network
+      (node_shown (seen_in l.seen) (sum_in l.index)) (arc_shown (seen_in l.seen) (sum_in l.index)) l.pairs.keys;
+  coming : l.coming.items ++ arcs_that_come l.network (node_shown (seen_in l.seen) (sum_in l.index))
+      (arc_shown (seen_in l.seen) (sum_in l.index)) l.pair-iterator ≡ l.fn.coming.items ++ arcs_that_come l.network
+      (node_shown (seen_in l.seen) (sum_in l.index)) (arc_shown (seen_in l.seen) (sum_in l.index)) l.pairs.keys;
 }

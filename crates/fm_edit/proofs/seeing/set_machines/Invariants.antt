@@ -6,4 +6,6 @@ use Rattle.fm_edit.specs.Seeing.{has_value, AreValuesOf}
 use Rattle.fm_edit.proofs.seeing.set_machines.Given as goal
 
 abbrev pub invariant-loop-machine : goal.invariant-loop-machine
-invariant-loop-machine l = (f : ℕ → Option MachineValue) → AreValuesOf f l.values → ((q : ℕ) → has_value l.values q ≡ false → get nat_cmp l.fn.machines q ≡ f q) → AreValuesOf f (drop l.machine-index l.values) × ((q : ℕ) → has_value (drop l.machine-index l.values) q ≡ false → get nat_cmp l.machines q ≡ f q)
+invariant-loop-machine l = (f : ℕ → Option MachineValue) → AreValuesOf f l.values →
+    ((q : ℕ) → has_value l.values q ≡ false → get nat_cmp l.fn.machines q ≡ f q) → AreValuesOf f (drop l.machine-index l.values)
+    × ((q : ℕ) → has_value (drop l.machine-index l.values) q ≡ false → get nat_cmp l.machines q ≡ f q)
