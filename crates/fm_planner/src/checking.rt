@@ -149,7 +149,7 @@ fn load_in(tally: &Tally, machine: MachineId) -> u128
     ensures { result ≡ load_in tally.now machine }
 {
     match tally.machines.get(&machine) {
-        Some(open) => open.load,
+        Some(state) => state.load,
         None => 0,
     }
 }
@@ -158,10 +158,10 @@ fn load_in(tally: &Tally, machine: MachineId) -> u128
 fn has_room(tally: &Tally, machine: MachineId, request: u32) -> bool
     ensures { IsTrue result ↔ HasRoom tally.now machine request }
 {
-    let Some(open) = tally.machines.get(&machine) else {
+    let Some(state) = tally.machines.get(&machine) else {
         return false;
     };
-    match open.spare {
+    match state.spare {
         Some(spare) => request <= spare,
         None => false,
     }
@@ -305,32 +305,32 @@ fn asks(
     if live.request != request || live.holder.is_some() {
         return false;
     }
-    let Some(open) = tally.machines.get(&machine) else {
+    let Some(state) = tally.machines.get(&machine) else {
         return false;
     };
-    let Some(spare) = open.spare else {
+    let Some(spare) = state.spare else {
         return false;
     };
-    let Some(price) = price_of(claim, machine, &open) else {
+    let Some(price) = price_of(claim, machine, &state) else {
         return false;
     };
     let offer = claim.offer(request);
     request <= spare
-        && counts.pair(request, machine) <= u64::from(fits(open.slots, spare, request))
+        && counts.pair(request, machine) <= u64::from(fits(state.slots, spare, request))
         && price <= offer
         && request <= live.price
         && offer <= u64::from(live.price - request)
 }
 
 // The price of the machine, if it is not beyond all bounds.
-fn price_of(claim: &Claim, machine: MachineId, open: &OpenMachine) -> Option<u64>
-    ensures { IfSome result (λ price. price ≡ open.now.load + rise_of claim.now machine) }
+fn price_of(claim: &Claim, machine: MachineId, state: &OpenMachine) -> Option<u64>
+    ensures { IfSome result (λ price. price ≡ state.now.load + rise_of claim.now machine) }
 {
     let rise = claim.rise(machine);
-    if open.load > u128::from(MOST) || rise > MOST {
+    if state.load > u128::from(MOST) || rise > MOST {
         return None;
     }
-    Some(open.load as u64 + rise)
+    Some(state.load as u64 + rise)
 }
 
 // How many tasks of the request fit into slots and spare.
@@ -349,8 +349,8 @@ fn are_fair_machines(tally: &Tally, claim: &Claim, counts: &Counts, tops: &[(u64
     requires { AllOf (IsTop claim.now.offers) tops.now }
     ensures { IsTrue result → AllOf (IsFairMachine claim.now counts.now) tally.now.machines }
 {
-    for (machine, open) in tally.machines.pairs() {
-        if !is_fair_machine(claim, counts, tops, *machine, open) {
+    for (machine, state) in tally.machines.pairs() {
+        if !is_fair_machine(claim, counts, tops, *machine, state) {
             return false;
         }
     }
@@ -362,25 +362,25 @@ fn is_fair_machine(
     counts: &Counts,
     tops: &[(u64, u64)],
     machine: MachineId,
-    open: &OpenMachine,
+    state: &OpenMachine,
 ) -> bool
     requires { AllOf (IsTop claim.now.offers) tops.now }
-    ensures { IsTrue result → IsFairMachine claim.now counts.now (machine, open.now) }
+    ensures { IsTrue result → IsFairMachine claim.now counts.now (machine, state.now) }
 {
-    let Some(price) = price_of(claim, machine, open) else {
+    let Some(price) = price_of(claim, machine, state) else {
         return false;
     };
-    has_fair_slots(claim, counts, machine, open)
-        && (are_low_offers(claim, counts, tops, machine, open, price)
-            || are_fair_offers(claim, counts, machine, open, price))
+    has_fair_slots(claim, counts, machine, state)
+        && (are_low_offers(claim, counts, tops, machine, state, price)
+            || are_fair_offers(claim, counts, machine, state, price))
 }
 
 // Whether the slots suffice, and the price is the load if one is free.
-fn has_fair_slots(claim: &Claim, counts: &Counts, machine: MachineId, open: &OpenMachine) -> bool
-    ensures { IsTrue result → HasFairSlots claim.now counts.now machine open.now }
+fn has_fair_slots(claim: &Claim, counts: &Counts, machine: MachineId, state: &OpenMachine) -> bool
+    ensures { IsTrue result → HasFairSlots claim.now counts.now machine state.now }
 {
-    let taken = u128::from(open.held) + u128::from(counts.arriving(machine));
-    let there = u128::from(open.slots) + u128::from(counts.leaving(machine));
+    let taken = u128::from(state.held) + u128::from(counts.arriving(machine));
+    let there = u128::from(state.slots) + u128::from(counts.leaving(machine));
     taken <= there && (taken == there || claim.rise(machine) == 0)
 }
 
@@ -404,14 +404,14 @@ fn are_low_offers(
     counts: &Counts,
     tops: &[(u64, u64)],
     machine: MachineId,
-    open: &OpenMachine,
+    state: &OpenMachine,
     price: u64,
 ) -> bool
-    requires price { price ≡ open.now.load + rise_of claim.now machine }
+    requires price { price ≡ state.now.load + rise_of claim.now machine }
     requires tops { AllOf (IsTop claim.now.offers) tops.now }
-    ensures { IsTrue result → AllOf (IsFairOffer claim.now counts.now machine open.now) claim.now.offers }
+    ensures { IsTrue result → AllOf (IsFairOffer claim.now counts.now machine state.now) claim.now.offers }
 {
-    let Some(spare) = open.spare else {
+    let Some(spare) = state.spare else {
         return false;
     };
     let spare = u64::from(spare);
@@ -439,14 +439,14 @@ fn are_fair_offers(
     claim: &Claim,
     counts: &Counts,
     machine: MachineId,
-    open: &OpenMachine,
+    state: &OpenMachine,
     price: u64,
 ) -> bool
-    requires { price ≡ open.now.load + rise_of claim.now machine }
-    ensures { IsTrue result → AllOf (IsFairOffer claim.now counts.now machine open.now) claim.now.offers }
+    requires { price ≡ state.now.load + rise_of claim.now machine }
+    ensures { IsTrue result → AllOf (IsFairOffer claim.now counts.now machine state.now) claim.now.offers }
 {
     for (request, offer) in claim.offers.pairs() {
-        if *offer > price && has_more_room(counts, machine, open, *request) {
+        if *offer > price && has_more_room(counts, machine, state, *request) {
             return false;
         }
     }
@@ -454,13 +454,13 @@ fn are_fair_offers(
 }
 
 // Whether more of the request fits.
-fn has_more_room(counts: &Counts, machine: MachineId, open: &OpenMachine, request: u32) -> bool
-    ensures { IsTrue result ↔ HasMoreRoom counts.now machine open.now request }
+fn has_more_room(counts: &Counts, machine: MachineId, state: &OpenMachine, request: u32) -> bool
+    ensures { IsTrue result ↔ HasMoreRoom counts.now machine state.now request }
 {
-    let Some(spare) = open.spare else {
+    let Some(spare) = state.spare else {
         return false;
     };
-    request <= spare && counts.pair(request, machine) < u64::from(fits(open.slots, spare, request))
+    request <= spare && counts.pair(request, machine) < u64::from(fits(state.slots, spare, request))
 }
 
 // Whether, of each request, tasks of greater ids go to no lesser machines.
