@@ -54,10 +54,10 @@ def all_tests(allocator, program):
     yield "a new task among 10,000 asks for %d bytes, less than 4 KB" % asked, 0 < asked < 4096
     packet = [*told(2, 20000, 100), {"at": 2, "cut": {"name": "p"}}, {"at": 1, "deliver": "p"}]
     asked = more(allocator, program, [1, 2], known + packet, "asked")
-    yield "a packet of 100 new tasks to 10,000 asks for %d bytes, less than 256 KB" % asked, 0 < asked < 256000
+    yield "a packet of 100 new tasks to 10,000 asks for %d bytes, less than 200 KB" % asked, 0 < asked < 200000
     look, cut = {"at": 1, "round": True}, {"at": 1, "cut": {"name": "q"}}
     asked = more(allocator, program, [1], known + [look, look], "asked")
-    yield "a view after a view of 10,000 tasks asks for %d bytes, at most two shares" % asked, 0 < asked < 2 * share + 1024
+    yield "a view after a view of 10,000 tasks asks for %d bytes, at most one share" % asked, 0 < asked < share + 1024
     asked = more(allocator, program, [1], known + [look, cut], "asked")
     yield "a Full packet after a view of 10,000 tasks asks for %d bytes, at most three shares" % asked, 0 < asked < 3 * share + 1024
     ring, count = around(8), 20000

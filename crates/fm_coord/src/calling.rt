@@ -21,7 +21,8 @@ impl<N: NetKeeper> Coordinator<N> {
     pub fn call(&mut self, by: u32, call: Call) -> Result<Answer, Refusal>
         ensures ok { IfOk result (λ answer. self.new.state ≡ after self.old.state (entry by call (said answer)) call) }
         ensures answer { IfOk result (λ answer. answer ≡ answered self.old.state call) }
-        ensures history { IfOk result (λ answer. self.new.state.history ≡ self.old.state.history ++ entry by call (said answer) ∷ []) }
+        ensures history { IfOk result (λ answer. self.new.state.history
+            ≡ self.old.state.history ++ entry by call (said answer) ∷ []) }
         ensures within { IsOk result → cause (bounds self.old.state) call ≡ None }
         ensures event { (r : Replica) (event : Event) → StandsFor self.old.state r → call ≡ call_of event
             → OnOk result (IsEventAt r by event (reply_of r event) self.new.state) }

@@ -210,10 +210,12 @@ impl<N: NetKeeper> Coordinator<N> {
     /// Tells the coordinator an operation. BadOp with the first field that is out of its range, HistoryFull,
     /// OutOfMemory; then nothing has changed.
     pub fn tell(&mut self, by: u32, op: Op) -> Result<(), Refusal>
-        ensures ok { OnOk result (self.new.state ≡ took self.old.state (know (op ∷ [])) (entry by (Call.Tell op) Reply.Nothing)) }
+        ensures ok { OnOk result (self.new.state
+            ≡ took self.old.state (know (op ∷ [])) (entry by (Call.Tell op) Reply.Nothing)) }
         ensures keeper { OnOk result (N.absorbs self.old.keeper (changed_keys (know (op ∷ []))) self.new.keeper) }
         ensures within { IsOk result → cause (bounds self.old.state) (Call.Tell op) ≡ None }
-        ensures event { (r : Replica) → StandsFor self.old.state r → OnOk result (IsEventAt r by (event.Tell op) Reply.Nothing self.new.state) }
+        ensures event { (r : Replica) → StandsFor self.old.state r
+            → OnOk result (IsEventAt r by (event.Tell op) Reply.Nothing self.new.state) }
         ensures err { IfErr result (λ refusal. refusal ≡ refusal_for (bounds self.old.state) (Call.Tell op)) }
         ensures unchanged { OnErr result (self.new ≡ self.old) }
     {
@@ -233,10 +235,12 @@ impl<N: NetKeeper> Coordinator<N> {
     /// Merges a packet's value. The history, the deltas and, if nothing was known before, the knowledge share its
     /// records. HistoryFull, OutOfMemory; then nothing has changed.
     pub fn merge(&mut self, by: u32, mut packet: Packet) -> Result<(), Refusal>
-        ensures ok { OnOk result (self.new.state ≡ took self.old.state packet.value (entry by (Call.Merge packet) Reply.Nothing)) }
+        ensures ok { OnOk result (self.new.state
+            ≡ took self.old.state packet.value (entry by (Call.Merge packet) Reply.Nothing)) }
         ensures keeper { OnOk result (N.absorbs self.old.keeper (changed_keys packet.value) self.new.keeper) }
         ensures within { IsOk result → cause (bounds self.old.state) (Call.Merge packet) ≡ None }
-        ensures event { (r : Replica) (sent : Sent) → StandsFor self.old.state r → packet ≡ seen sent → OnOk result (IsEventAt r by (event.Merge sent) Reply.Nothing self.new.state) }
+        ensures event { (r : Replica) (sent : Sent) → StandsFor self.old.state r → packet ≡ seen sent
+            → OnOk result (IsEventAt r by (event.Merge sent) Reply.Nothing self.new.state) }
         ensures err { IfErr result (λ refusal. refusal ≡ refusal_for (bounds self.old.state) (Call.Merge packet)) }
         ensures unchanged { OnErr result (self.new ≡ self.old) }
     {
@@ -257,11 +261,13 @@ impl<N: NetKeeper> Coordinator<N> {
     /// number is 1 plus the number of packets cut before. BadInterval, Trimmed, HistoryFull, OutOfMemory; then
     /// nothing has changed.
     pub fn cut(&mut self, by: u32, range: Range) -> Result<Shared<Packet>, Refusal>
-        ensures ok { IfOk result (λ packet. self.new.state ≡ gave self.old.state (entry by (Call.Cut range) (Reply.Packet packet))) }
+        ensures ok { IfOk result (λ packet. self.new.state
+            ≡ gave self.old.state (entry by (Call.Cut range) (Reply.Packet packet))) }
         ensures packet { IfOk result (λ packet. packet ≡ cut_packet self.old.state range) }
         ensures keeper { self.new.keeper ≡ self.old.keeper }
         ensures within { IsOk result → cause (bounds self.old.state) (Call.Cut range) ≡ None }
-        ensures event { (r : Replica) → StandsFor self.old.state r → IfOk result (λ packet. IsEventAt r by (event.Cut range) (Reply.Packet packet) self.new.state) }
+        ensures event { (r : Replica) → StandsFor self.old.state r
+            → IfOk result (λ packet. IsEventAt r by (event.Cut range) (Reply.Packet packet) self.new.state) }
         ensures err { IfErr result (λ refusal. refusal ≡ refusal_for (bounds self.old.state) (Call.Cut range)) }
         ensures unchanged { OnErr result (self.new ≡ self.old) }
     {
@@ -295,7 +301,8 @@ impl<N: NetKeeper> Coordinator<N> {
     pub fn packet_for(&self, range: Range) -> Result<Shared<Packet>, Refusal>
         ensures ok { IfOk result (λ packet. packet ≡ cut_packet self.now.state range) }
         ensures within { IsOk result → cause (bounds self.now.state) (Call.Cut range) ≡ None }
-        ensures seen { (r : Replica) → StandsFor self.now.state r → IfOk result (λ packet. packet ≡ seen (packet_of r range)) }
+        ensures seen { (r : Replica) → StandsFor self.now.state r
+            → IfOk result (λ packet. packet ≡ seen (packet_of r range)) }
         ensures err { IfErr result (λ refusal. refusal ≡ refusal_for (bounds self.now.state) (Call.Cut range)) }
     {
         self.check_range(range)?;
@@ -339,7 +346,8 @@ impl<N: NetKeeper> Coordinator<N> {
         ensures ok { OnOk result (self.new.state ≡ let_go self.old.state n (entry by (Call.Trim n) Reply.Nothing)) }
         ensures keeper { self.new.keeper ≡ self.old.keeper }
         ensures within { IsOk result → cause (bounds self.old.state) (Call.Trim n) ≡ None }
-        ensures event { (r : Replica) → StandsFor self.old.state r → OnOk result (IsEventAt r by (event.Trim n) Reply.Nothing self.new.state) }
+        ensures event { (r : Replica) → StandsFor self.old.state r
+            → OnOk result (IsEventAt r by (event.Trim n) Reply.Nothing self.new.state) }
         ensures err { IfErr result (λ refusal. refusal ≡ refusal_for (bounds self.old.state) (Call.Trim n)) }
         ensures unchanged { OnErr result (self.new ≡ self.old) }
     {
@@ -360,14 +368,16 @@ impl<N: NetKeeper> Coordinator<N> {
     /// pointer; a keeper that edits copies it, O(arcs), at its first edit while the view still exists. HistoryFull,
     /// OutOfMemory; then nothing has changed, except that a stale network may have been built.
     pub fn view(&mut self, by: u32) -> Result<View, Refusal>
-        ensures ok { IfOk result (λ view. self.new.state ≡ noted self.old.state (entry by Call.View (Reply.Seen view.at view.knowledge))) }
+        ensures ok { IfOk result (λ view. self.new.state
+            ≡ noted self.old.state (entry by Call.View (Reply.Seen view.at view.knowledge))) }
         ensures at { IfOk result (λ view. view.at ≡ length self.old.state.history) }
         ensures knowledge { IfOk result (λ view. view.knowledge ≡ self.old.state.knowledge) }
         ensures network { IfOk result (λ view. view.network ≡ net_of self.old.state.knowledge) }
         ensures fresh { OnOk result (IsTrue (N.fresh self.new.keeper)) }
         ensures keeper { IsTrue (N.fresh self.old.keeper) → self.new.keeper ≡ self.old.keeper }
         ensures within { IsOk result → cause (bounds self.old.state) Call.View ≡ None }
-        ensures event { (r : Replica) → StandsFor self.old.state r → IfOk result (λ view. IsEventAt r by event.View (Reply.Seen view.at view.knowledge) self.new.state) }
+        ensures event { (r : Replica) → StandsFor self.old.state r
+            → IfOk result (λ view. IsEventAt r by event.View (Reply.Seen view.at view.knowledge) self.new.state) }
         ensures err { IfErr result (λ refusal. refusal ≡ refusal_for (bounds self.old.state) Call.View) }
         ensures unchanged { OnErr result (self.new.state ≡ self.old.state) }
     {
@@ -382,22 +392,23 @@ impl<N: NetKeeper> Coordinator<N> {
         })
     }
 
-    /// As `view`, but without the network: a stale one stays stale. The history has the same entry. It costs two
-    /// shares of the knowledge, each the first key of each block of records and a pointer to it, and memory for each
-    /// block that was written since the last view. HistoryFull, OutOfMemory; then nothing has changed.
+    /// As `view`, but without the network: a stale one stays stale. The history has the same entry. It costs a share
+    /// of the knowledge, the first key of each block of records and a pointer to it, and memory for each block that
+    /// was written since the last view. HistoryFull, OutOfMemory; then nothing has changed.
     pub fn see(&mut self, by: u32) -> Result<Sight, Refusal>
-        ensures ok { IfOk result (λ sight. self.new.state ≡ noted self.old.state (entry by Call.View (Reply.Seen sight.at sight.knowledge))) }
+        ensures ok { IfOk result (λ sight. self.new.state
+            ≡ noted self.old.state (entry by Call.View (Reply.Seen sight.at sight.knowledge))) }
         ensures at { IfOk result (λ sight. sight.at ≡ length self.old.state.history) }
         ensures knowledge { IfOk result (λ sight. sight.knowledge ≡ self.old.state.knowledge) }
         ensures keeper { self.new.keeper ≡ self.old.keeper }
         ensures within { IsOk result → cause (bounds self.old.state) Call.View ≡ None }
-        ensures event { (r : Replica) → StandsFor self.old.state r → IfOk result (λ sight. IsEventAt r by event.View (Reply.Seen sight.at sight.knowledge) self.new.state) }
+        ensures event { (r : Replica) → StandsFor self.old.state r
+            → IfOk result (λ sight. IsEventAt r by event.View (Reply.Seen sight.at sight.knowledge) self.new.state) }
         ensures err { IfErr result (λ refusal. refusal ≡ refusal_for (bounds self.old.state) Call.View) }
         ensures unchanged { OnErr result (self.new.state ≡ self.old.state) }
     {
         self.known();
         self.check_room()?;
-        self.share_known()?;
         let sight = self.sight()?;
         let seen = Entry {
             by,
@@ -408,14 +419,18 @@ impl<N: NetKeeper> Coordinator<N> {
         Ok(sight)
     }
 
-    // What there is to see.
-    fn sight(&self) -> Result<Sight, OutOfMemory>
-        ensures at { IfOk result (λ sight. sight.at ≡ length self.now.state.history) }
-        ensures knowledge { IfOk result (λ sight. sight.knowledge ≡ self.now.state.knowledge) }
+    // What there is to see. The coordinator and the sight share what is known from then on.
+    fn sight(&mut self) -> Result<Sight, OutOfMemory>
+        ensures at { IfOk result (λ sight. sight.at ≡ length self.old.state.history) }
+        ensures knowledge { IfOk result (λ sight. sight.knowledge ≡ self.old.state.knowledge) }
+        ensures state { self.new.state ≡ self.old.state }
+        ensures keeper { self.new.keeper ≡ self.old.keeper }
+        ensures same { self.new ≡ self.old }
     {
+        let knowledge = self.knowledge.share()?;
         Ok(Sight {
             at: self.history.len(),
-            knowledge: Shared::new(self.alloc, self.knowledge.copy()?)?,
+            knowledge: Shared::new(self.alloc, knowledge)?,
         })
     }
 
@@ -471,11 +486,14 @@ impl<N: NetKeeper> Coordinator<N> {
     /// Admits a plan, merges the operations of the accepted entries, and returns these with the answers. If nothing
     /// is admitted, the delta is empty. HistoryFull, OutOfMemory; then nothing has changed.
     pub fn commit(&mut self, by: u32, plan: Plan) -> Result<Shared<Admitted>, Refusal>
-        ensures ok { IfOk result (λ admitted. self.new.state ≡ took self.old.state (know admitted.ops) (entry by (Call.Commit plan) (Reply.Admitted admitted))) }
-        ensures keeper { IfOk result (λ admitted. N.absorbs self.old.keeper (changed_keys (know admitted.ops)) self.new.keeper) }
+        ensures ok { IfOk result (λ admitted. self.new.state
+            ≡ took self.old.state (know admitted.ops) (entry by (Call.Commit plan) (Reply.Admitted admitted))) }
+        ensures keeper { IfOk result
+            (λ admitted. N.absorbs self.old.keeper (changed_keys (know admitted.ops)) self.new.keeper) }
         ensures admitted { IfOk result (λ a. a ≡ admitted self.old.state.knowledge self.old.state.number plan) }
         ensures within { IsOk result → cause (bounds self.old.state) (Call.Commit plan) ≡ None }
-        ensures event { (r : Replica) → StandsFor self.old.state r → IfOk result (λ admitted. IsEventAt r by (event.Commit plan) (Reply.Admitted admitted) self.new.state) }
+        ensures event { (r : Replica) → StandsFor self.old.state r
+            → IfOk result (λ admitted. IsEventAt r by (event.Commit plan) (Reply.Admitted admitted) self.new.state) }
         ensures err { IfErr result (λ refusal. refusal ≡ refusal_for (bounds self.old.state) (Call.Commit plan)) }
         ensures unchanged { OnErr result (self.new ≡ self.old) }
     {
@@ -504,9 +522,11 @@ impl<N: NetKeeper> Coordinator<N> {
     /// Writes the text of its network, which is built first if it is stale. It adds no entry, and knowledge, deltas
     /// and history are unchanged, also if it is refused: then a prefix was written. WriteFault, OutOfMemory.
     pub fn dump<W: Out>(&mut self, out: &mut W) -> Result<(), Refusal>
-        ensures ok { OnOk result (Appends (W.written out.old) (W.written out.new) (dump_text (net_of self.old.state.knowledge))) }
+        ensures ok { OnOk result (Appends (W.written out.old) (W.written out.new)
+            (dump_text (net_of self.old.state.knowledge))) }
         ensures ok_fails_not { OnOk result (W.has_failed out.new ≡ W.has_failed out.old) }
-        ensures err { OnErr result (AppendsPrefix (W.written out.old) (W.written out.new) (dump_text (net_of self.old.state.knowledge))) }
+        ensures err { OnErr result (AppendsPrefix (W.written out.old) (W.written out.new)
+            (dump_text (net_of self.old.state.knowledge))) }
         ensures cause { IfErr result (λ refusal. StopsBy refusal (W.has_failed out.old) (W.has_failed out.new)) }
         ensures state { self.new.state ≡ self.old.state }
         ensures fresh { OnOk result (IsTrue (N.fresh self.new.keeper)) }
@@ -519,7 +539,8 @@ impl<N: NetKeeper> Coordinator<N> {
     // Writes the text of the network.
     fn write<W: Out>(&self, out: &mut W) -> Result<(), Refusal>
         requires { IsTrue (N.fresh self.now.keeper) }
-        ensures { IsSent result (W.written out.old) (W.written out.new) (W.has_failed out.old) (W.has_failed out.new) (dump_text (net_of self.now.state.knowledge)) }
+        ensures { IsSent result (W.written out.old) (W.written out.new) (W.has_failed out.old) (W.has_failed out.new)
+            (dump_text (net_of self.now.state.knowledge)) }
     {
         dump(self.alloc, self.keeper.network(), out)
     }

@@ -11,5 +11,6 @@ ghost use Rattle.fm_coord.specs.States.{State, StandsFor, bounds, after};
 /// the state stands for the replica after the call's event.
 pub fn law_step()
     ensures causes { (s : State) (r : Replica) → StandsFor s r → bounds s ≡ bounds_of r }
-    ensures step { (s : State) (r : Replica) (e : Listed) (event : Event) → StandsFor s r → e.call ≡ call_of event → cause (bounds s) (call_of event) ≡ None → StandsFor (after s e (call_of event)) (happens r e.by event) }
+    ensures step { (s : State) (r : Replica) (e : Listed) (event : Event) → StandsFor s r → e.call ≡ call_of event
+        → cause (bounds s) (call_of event) ≡ None → StandsFor (after s e (call_of event)) (happens r e.by event) }
 {}

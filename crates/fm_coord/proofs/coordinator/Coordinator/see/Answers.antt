@@ -12,9 +12,9 @@ pub note-requires : goal.note-requires
 note-requires g c =
     let s : State = c.args.self.now.state in
     let room : room_fault (bounds s) ≡ None = search rules in
-    let same : c.share_known.new.self.state ≡ s = c.in_ok-share_known.ensures.state in
-    let at : c.in_ok-sight.sight.at ≡ length s.history = c.in_ok-sight.ensures.at ∙ ap (λ (t : State). length t.history) same in
-    let seen : c.in_ok-share.field-0 ≡ s.knowledge = c.in_ok-share.ensures ∙ c.in_ok-sight.ensures.knowledge ∙ ap (λ (t : State). t.knowledge) same in
+    let same : c.sight.new.self.state ≡ s = c.in_ok-sight.ensures.state in
+    let at : c.in_ok-sight.sight.at ≡ length s.history = c.in_ok-sight.ensures.at in
+    let seen : c.in_ok-share.field-0 ≡ s.knowledge = c.in_ok-share.ensures ∙ c.in_ok-sight.ensures.knowledge in
     subst (λ (p : State × ℕ × Table). IsCoordinator (noted p.0 (entry c.args.by call.View (reply.Seen p.1 p.2)))) (λ i. (sym same i, sym at i, sym seen i))
     (keeps_view s c.known.ensures.coordinator c.args.by room)
 
@@ -22,8 +22,8 @@ pub returns-clause-event : goal.returns-clause-event
 returns-clause-event g c =
     let s : State = c.args.self.now.state in
     let room : room_fault (bounds s) ≡ None = search rules in
-    let same : c.share_known.new.self.state ≡ s = c.in_ok-share_known.ensures.state in
-    let at : c.in_ok-sight.sight.at ≡ length s.history = c.in_ok-sight.ensures.at ∙ ap (λ (t : State). length t.history) same in
-    let known : c.in_ok-sight.sight.knowledge ≡ s.knowledge = c.in_ok-sight.ensures.knowledge ∙ ap (λ (t : State). t.knowledge) same in
+    let same : c.sight.new.self.state ≡ s = c.in_ok-sight.ensures.state in
+    let at : c.in_ok-sight.sight.at ≡ length s.history = c.in_ok-sight.ensures.at in
+    let known : c.in_ok-sight.sight.knowledge ≡ s.knowledge = c.in_ok-sight.ensures.knowledge in
     let made : c.note.new.self.state ≡ noted s (entry c.args.by call.View (reply.Seen c.in_ok-sight.sight.at c.in_ok-sight.sight.knowledge)) = search rules in
     λ r st. viewed s r st c.args.by c.note.new.self.state c.in_ok-sight.sight.at c.in_ok-sight.sight.knowledge at known room made
