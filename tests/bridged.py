@@ -25,7 +25,7 @@ sys.path[:0] = [str(ROOT / "bench"), str(ROOT / "tests"), str(ROOT / "bin")]
 import brokers
 import hostile
 import outlived
-from bridging import claims, lines as lines_of, mailbox, packets, settings
+from bridging import claims, follower, lines as lines_of, mailbox, packets, settings
 from brokers import QUICK, Bridge, Broker, told as tell, until
 from clustered import agree, cluster, ended, is_refused, refused, running, told_to
 
@@ -82,7 +82,7 @@ def guarded(program, folder):
 
 # what comes on standard input, with the answer's end
 REFUSED = [
-    b"x", b"", b"{", b"[1]", b"\xff", b"[" * 100000, b"\0" * 16777217, b'{"at":1,"tell":{}}', b'{"at":1,"tell":{"job":{"id":1%s}}}' % (b"0" * 5000),
+    b"x", b"", b"{", b"[1]", b"\xff", b"[" * 100000, b"\0" * (follower.MOST_LINE + 1), b'{"at":1,"tell":{}}', b'{"at":1,"tell":{"job":{"id":1%s}}}' % (b"0" * 5000),
     b'{"coordinators":[1]}', b'{"renew":true}', b'{"at":1,"news":true}', b'{"at":1,"trim":0}', b'{"at":1,"deliver":"p"}',
     b'{"at":1,"cut":{"name":"p"}}', b'{"at":1,"cut":{"from":0,"to":0}}']
 LINES = [
@@ -159,7 +159,7 @@ def parts(program):
     mail = box.collect(True)
     sizes = [len(parcel.packet) for parcel in mail.parcels]
     yield "a full mailbox", (sizes, mail.too_large, mail.dropped[5]) == ([1, 2, 4], 1, 1) and not box.collect(True).parcels
-    yield from split(b"one\n\ntwo\n" + b"x" * 16777217 + b"\nthree\nfour", [b"one", b"", b"two", b"", b"three", b"four"])
+    yield from split(b"one\n\ntwo\n" + b"x" * (follower.MOST_LINE + 1) + b"\nthree\nfour", [b"one", b"", b"two", b"", b"three", b"four"])
 
 
 def split(text, wanted):

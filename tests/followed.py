@@ -57,7 +57,7 @@ def answers_in(out):
 
 def request_in(line, names):
     """What the line asks for, as a kind and what belongs to it, given that packets of the names were cut before."""
-    if len(line) > strict.LIMIT:
+    if len(line) > strict.LINE:
         raise Refused(STRANGE)
     try:
         value = strict.read_json(line)

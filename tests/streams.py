@@ -242,18 +242,18 @@ def sizes(program):
     for name, padded, more, answer, after in (
             ("behind", told.ljust, 0, b"ok\n", graph), ("before", told.rjust, 0, b"ok\n", graph),
             ("behind", told.ljust, 1, b"refusal 16\n", EMPTY_GRAPH), ("before", told.rjust, 70000, b"refusal 16\n", EMPTY_GRAPH)):
-        text = lines(OPEN, padded(strict.LIMIT + more), GRAPH)
+        text = lines(OPEN, padded(strict.LINE + more), GRAPH)
         yield "blanks %s, %d bytes more" % (name, more), seen(program, text) == (0, b"ok\n" + answer + after, b"")
     for more, answer in (0, b"ok\n"), (1, b"refusal 16\n"):
-        text = lines(OPEN) + told.ljust(strict.LIMIT + more)
+        text = lines(OPEN) + told.ljust(strict.LINE + more)
         yield "a last line of %d bytes more" % more, seen(program, text) == (0, b"ok\n" + answer, b"")
-    name = "n" * (strict.LIMIT // 2)
+    name = "n" * (strict.LINE // 2)
     cut, other = {"at": 1, "cut": {"name": name}}, {"at": 2, "deliver": name[1:]}
     found = map(end_of, answers(program, lines(OPEN, cut, {"at": 2, "deliver": name}, other, cut)))
     yield "a name of many letters", list(found) == [b"ok", b"ok", b"ok", b"refusal 9", b"refusal 16"]
     long = [b"[" * (1 << 20)] * 8
     yield "many long lines", answers(program, lines(OPEN, *long, GRAPH)) == [b"ok\n"] + [b"refusal 16\n"] * 8 + [EMPTY_GRAPH]
-    yield "zeros that are too many", answers(program, lines(b"\0" * (strict.LIMIT + 1), OPEN)) == [b"refusal 16\n", b"ok\n"]
+    yield "zeros that are too many", answers(program, lines(b"\0" * (strict.LINE + 1), OPEN)) == [b"refusal 16\n", b"ok\n"]
     yield from large(program)
 
 

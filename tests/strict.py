@@ -3,7 +3,8 @@ of at most 127, integers of 64 bits, other numbers as floats, which are finite, 
 import json
 import re
 
-LIMIT = 16777216
+# the most bytes of a script, and of a line of a stream
+LIMIT, LINE = 16777216, 67108864
 DEEPEST = 127
 TOKEN = re.compile(r"""[ \t\n\r]*([\[\]{}:,]|"(?:[^"\\\x00-\x1f]|\\(?:["\\/bfnrt]|u[0-9a-fA-F]{4}))*"|"""
                    r"""-?(?:0|[1-9][0-9]*)(?:\.[0-9]+)?(?:[eE][+-]?[0-9]+)?|true|false|null)""")

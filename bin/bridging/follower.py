@@ -9,7 +9,7 @@ from typing import Optional
 from bridging.endings import FOLLOWER_ENDED, NO_PROGRAM, Failure
 
 # the program answers a line that is longer by refusal 16
-MOST_LINE = 16777216
+MOST_LINE = 67108864
 # what ends an answer
 END = re.compile(rb"^(?:ok|refusal [0-9]+)\n", re.MULTILINE)
 PIECE = 1 << 16

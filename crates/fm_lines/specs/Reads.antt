@@ -1,16 +1,19 @@
 -- What is read of a stream at a time (this project's profile).
 use Rattle.std.specs.Prelude.{◌≡◌, ◌≤◌, ◌<◌, ℕ, List, [], length, Bool, true, false}
-use Rattle.fm_streams.specs.Sources.{most_bytes}
 use Rattle.fm_lines.specs.declared.lines.Line.{Line}
 use Rattle.fm_lines.specs.declared.lines.Line.TheVariants.{Whole, TooLong, OutOfMemory}
 use Rattle.fm_lines.specs.declared.lines.Next.{Next}
 use Rattle.fm_lines.specs.declared.lines.Next.TheVariants as next
 use Rattle.fm_lines.specs.Lines.{IsLine, ended}
 
+-- the most bytes of a line: 64 MiB
+abbrev pub most_line : ℕ
+most_line = 67108864
+
 -- what is kept of a line: all of it, unless it is too long or memory ran out
 abbrev pub IsKept : Line → List ℕ → List ℕ → Type 0
-IsKept Whole line kept = (kept ≡ line) × (length line ≤ most_bytes)
-IsKept TooLong line kept = most_bytes < length line
+IsKept Whole line kept = (kept ≡ line) × (length line ≤ most_line)
+IsKept TooLong line kept = most_line < length line
 IsKept OutOfMemory line kept = Unit {0}
 
 -- the bytes that were read are a line and its line feed, and that is kept of it; or what follows the last line feed; or

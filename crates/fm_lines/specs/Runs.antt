@@ -5,13 +5,14 @@ use Rattle.std.specs.Io.KnownBytes.{Appends, Consumes, IsAtEnd}
 use Rattle.fm_records.specs.declared.refusal.Refusal.{Refusal}
 use Rattle.fm_records.specs.declared.refusal.Refusal.TheVariants.{OutOfMemory, BadScript, WriteFault}
 use Rattle.fm_dimacs.specs.Sending.{AppendsPrefix}
-use Rattle.fm_streams.specs.Sources.{Streams, most_bytes}
+use Rattle.fm_streams.specs.Sources.{Streams}
 use Rattle.fm_lines.specs.Lines.{lines_of, IsLine, ended}
+use Rattle.fm_lines.specs.Reads.{most_line}
 use Rattle.fm_lines.specs.Replies.{refused}
 
 -- a line is refused unread: memory ran out for it, or it is too long
 abbrev pub IsUnread : List ℕ → List ℕ → Type 0
-IsUnread line text = (text ≡ refused OutOfMemory) ⊎ ((most_bytes < length line) × (text ≡ refused (BadScript 0)))
+IsUnread line text = (text ≡ refused OutOfMemory) ⊎ ((most_line < length line) × (text ≡ refused (BadScript 0)))
 
 -- a line is answered so, and makes new of old: it is refused unread and changes nothing, or the responder answers it
 abbrev pub IsTaken : {D : Type 0} → (D → List ℕ → List ℕ → D → Type 0) → D → List ℕ → List ℕ → D → Type 0

@@ -15,7 +15,7 @@ use std::alloc::Global;
 
 /// Answers the lines of a stream, each before the next is read, until its end: the text of a line's answer and then
 /// `ok`, or `refusal N`. What follows the last line feed is a line too. A refused line changes nothing, and the next
-/// is read. A line of more than 16 MiB, or one for which memory ran out, is refused. BadScript(0) if the source
+/// is read. A line of more than 64 MiB, or one for which memory ran out, is refused. BadScript(0) if the source
 /// fails, WriteFault if the sink does; then no further line is read.
 pub fn follow<D: Responder, S: Source, W: Sink>(
     alloc: Global,
@@ -51,7 +51,8 @@ fn reply<D: Responder, W: Sink>(
     line: &[u8],
     sink: &mut W,
 ) -> Result<(), Refusal>
-    ensures taken { (whole : List ℕ) → IsKept kept whole line.now → (text : List ℕ) × IsTaken D.answers responder.old whole text responder.new
+    ensures taken { (whole : List ℕ) → IsKept kept whole line.now → (text : List ℕ)
+        × IsTaken D.answers responder.old whole text responder.new
         × IsSent result (W.written sink.old) (W.written sink.new) (W.has_failed sink.old) (W.has_failed sink.new) text }
     ensures cause { IsOkUnless result Refusal.WriteFault }
 {

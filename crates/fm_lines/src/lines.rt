@@ -8,15 +8,17 @@ ghost use Rattle.fm_lines.specs.Reads.{IsKept, IsNext, is_last};
 ghost use Rattle.fm_lines.specs.Runs.{most_counted};
 
 use fm_records::refusal::Refusal;
-use fm_streams::input::MOST_BYTES;
 use fm_streams::source::Source;
+
+/// The most bytes of a line, without its line feed: 64 MiB.
+pub const MOST_LINE: usize = 67_108_864;
 
 /// What is kept of a line.
 #[derive(Debug, Clone, Copy, PartialEq, Eq, Drop)]
 pub enum Line {
     /// All of it.
     Whole,
-    /// Nothing of use: it has more than `MOST_BYTES` bytes.
+    /// Nothing of use: it has more than `MOST_LINE` bytes.
     TooLong,
     /// Nothing of use: memory ran out for it.
     OutOfMemory,
@@ -37,10 +39,12 @@ pub enum Next {
 /// runs out, is also read to its end. BadScript(0) if the source fails, and only then, short of 2^64 bytes of one
 /// line. It asks the source for one byte at a time, so a source of its own should read ahead. O(n).
 pub fn next_line<S: Source>(source: &mut S, line: &mut Vec<u8>) -> Result<Next, Refusal>
-    ensures next { IfOk result (λ next. (bytes : List ℕ) × Consumes (S.remaining source.old) (S.remaining source.new) bytes
+    ensures next { IfOk result (λ next. (bytes : List ℕ)
+        × Consumes (S.remaining source.old) (S.remaining source.new) bytes
         × IsNext next bytes line.new.items) }
     ensures end { IfOk result (λ next. is_last next ≡ true → IsAtEnd (S.remaining source.new)) }
-    ensures err { OnErr result ((bytes : List ℕ) × Consumes (S.remaining source.old) (S.remaining source.new) bytes × IsLine bytes
+    ensures err { OnErr result ((bytes : List ℕ) × Consumes (S.remaining source.old) (S.remaining source.new) bytes
+        × IsLine bytes
         × ((S.has_failed source.new ≡ true) ⊎ (most_counted ≤ length bytes))) }
     ensures cause { IsOkUnless result (Refusal.BadScript 0) }
 {
@@ -59,7 +63,8 @@ pub fn next_line<S: Source>(source: &mut S, line: &mut Vec<u8>) -> Result<Next, 
 // What is at the end of the stream.
 fn end_of(kept: Line, is_empty: bool) -> Next
     ensures last { is_last result ≡ true }
-    ensures next { (bytes line : List ℕ) → IsLine bytes → (is_empty ≡ true → bytes ≡ []) → (is_empty ≡ false → 0 < length bytes)
+    ensures next { (bytes line : List ℕ) → IsLine bytes → (is_empty ≡ true → bytes ≡ [])
+        → (is_empty ≡ false → 0 < length bytes)
         → IsKept kept bytes line → IsNext result bytes line }
 {
     if is_empty {
@@ -82,9 +87,10 @@ fn keep(kept: Line, line: &mut Vec<u8>, byte: u8) -> Line
 
 // The same of a line that is whole so far.
 fn push_to(line: &mut Vec<u8>, byte: u8) -> Line
-    ensures { (bytes : List ℕ) → IsKept Line.Whole bytes line.old.items → IsKept result (bytes ++ byte ∷ []) line.new.items }
+    ensures { (bytes : List ℕ) → IsKept Line.Whole bytes line.old.items
+        → IsKept result (bytes ++ byte ∷ []) line.new.items }
 {
-    if line.len() >= MOST_BYTES {
+    if line.len() >= MOST_LINE {
         return Line::TooLong;
     }
     match line.push(byte) {
@@ -95,7 +101,8 @@ fn push_to(line: &mut Vec<u8>, byte: u8) -> Line
 
 // The next byte, if there is one.
 fn next_byte<S: Source>(source: &mut S) -> Result<Option<u8>, Refusal>
-    ensures byte { IfOk result (λ byte. Consumes (S.remaining source.old) (S.remaining source.new) (option_to_list byte)) }
+    ensures byte { IfOk result
+        (λ byte. Consumes (S.remaining source.old) (S.remaining source.new) (option_to_list byte)) }
     ensures end { IfOk result (λ byte. byte ≡ None → IsAtEnd (S.remaining source.new)) }
     ensures err { OnErr result (Consumes (S.remaining source.old) (S.remaining source.new) []) }
     ensures failed { OnErr result (S.has_failed source.new ≡ true) }

@@ -11,7 +11,8 @@ use fm_streams::sink::Sink;
 
 /// Writes the text of an accepted line's answer, and `ok`.
 pub(crate) fn send_accepted<W: Sink>(sink: &mut W, text: &[u8]) -> Result<(), Refusal>
-    ensures sent { IsSent result (W.written sink.old) (W.written sink.new) (W.has_failed sink.old) (W.has_failed sink.new) (accepted text.now) }
+    ensures sent { IsSent result (W.written sink.old) (W.written sink.new) (W.has_failed sink.old)
+        (W.has_failed sink.new) (accepted text.now) }
     ensures cause { IsOkUnless result Refusal.WriteFault }
 {
     put_all(sink, text)?;
@@ -20,7 +21,8 @@ pub(crate) fn send_accepted<W: Sink>(sink: &mut W, text: &[u8]) -> Result<(), Re
 
 /// Writes why a line was refused.
 pub(crate) fn send_refused<W: Sink>(sink: &mut W, refusal: Refusal) -> Result<(), Refusal>
-    ensures sent { IsSent result (W.written sink.old) (W.written sink.new) (W.has_failed sink.old) (W.has_failed sink.new) (refused refusal) }
+    ensures sent { IsSent result (W.written sink.old) (W.written sink.new) (W.has_failed sink.old)
+        (W.has_failed sink.new) (refused refusal) }
     ensures cause { IsOkUnless result Refusal.WriteFault }
 {
     send(sink, line_of(refusal).as_bytes())

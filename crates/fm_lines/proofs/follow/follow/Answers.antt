@@ -29,7 +29,10 @@ returns-in_err-reply-in-Line g c =
     let line = subst (λ (x : Next). IsNext x got.0 c.next_line.new.line.items) c.in-Line.is got.2 in
     let kept = subst (λ (xs : List ℕ). IsKept c.in-Line.kept line.0 xs) (sym c.deref-in-Line.ensures.value) line.2 in
     let taken = c.in_err-reply-in-Line.ensures.taken line.0 kept in
-    stopped _ _ _ _ _ _ _ _ _ _ c.loop-count.invariant got.0 _ got.1 _ _ _ _ line.0 taken.0 taken.1 c.from_residual-in_err-reply-in-Line.result c.in_err-reply-in-Line.field-0.0 c.from_residual-in_err-reply-in-Line.ensures.1 c.in_err-reply-in-Line.ensures.cause (one_ended line.0 got.0 line.1 line.3) taken.2
+    stopped _ _ _ _ _ _ _ _ _ _ c.loop-count.invariant got.0 _ got.1 _ _ _ _ line.0 taken.0 taken.1
+    c.from_residual-in_err-reply-in-Line.result c.in_err-reply-in-Line.field-0.0
+    c.from_residual-in_err-reply-in-Line.ensures.1 c.in_err-reply-in-Line.ensures.cause
+    (one_ended line.0 got.0 line.1 line.3) taken.2
 
 pub loop-count-preserved : goal.loop-count-preserved
 loop-count-preserved g c =
