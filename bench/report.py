@@ -26,7 +26,7 @@ COLUMNS = {
     "rounds": (("tasks", "tasks"), ("prefer machines", "prefer"), ("rounds", "rounds"), ("operations before each", "changed"),
                ("each, ms", "each"), ("MB that stay", "room")),
     "edits": (("tasks", "tasks"), ("a report", "report"), ("a task done", "done"), ("a proposal", "proposal"), ("a new task", "new"),
-              ("building", "built")),
+              ("10 operations", "10"), ("100 operations", "100"), ("1 % of the tasks", "1 %"), ("building", "built")),
     "alone": (("tasks", "tasks"), ("the earlier flow", "flow"), ("`solve`", "solve"), ("`solve_from`", "solve_from")),
 }
 COLORS = {"self": "#2a9d8f", "lemon": "#e9a23b", "whole": "#6d5bd0", "each": "#2a9d8f"}
