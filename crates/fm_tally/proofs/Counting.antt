@@ -1,12 +1,11 @@
 -- What machines hold, counted in a walk over the tasks.
-use Rattle.std.proofs.Common.{◌≡◌, ◌∙◌, ℕ, ◌+◌, ◌*◌, ◌<◌, ◌≤◌, ◌^◌, Bool, true, false, cond, List, [], ◌∷◌, Some, None, sym, ap, arith, length, zero-add}
-use Rattle.std.specs.Prelude.{◌==◌, filter, count_by, sum_by}
+use Rattle.std.proofs.Common.{◌≡◌, ◌∙◌, ℕ, ◌+◌, ◌*◌, ◌<◌, ◌≤◌, ◌^◌, Bool, true, false, cond, List, [], ◌∷◌, sym, ap, refl, arith, length, zero-add}
+use Rattle.std.specs.Prelude.{filter, count_by, sum_by}
 use Rattle.std.proofs.lemmas.List.Sums.{sum_by-cons}
-use Rattle.fm_records.specs.Options.{passes}
 use Rattle.fm_records.specs.Table.{Table, TaskValue}
-use Rattle.fm_records.specs.Facts.{request_of, holder_of, holds, held_tasks}
+use Rattle.fm_records.specs.Facts.{request_of, holds, held_tasks}
 use Rattle.fm_tally.specs.declared.holdings.Holdings.{Holdings}
-use Rattle.fm_tally.specs.Holdings.{requests_in, tasks_in, share, AreHoldings}
+use Rattle.fm_tally.specs.Holdings.{requests_in, tasks_in, AreHoldings}
 
 at_most : (b : Bool) (r : ℕ) → cond b r 0 ≤ r
 at_most true r = omega arith
@@ -36,27 +35,14 @@ module _ (k : Table) where
   next_task : (m t : ℕ) (v : TaskValue) (rest : List (ℕ × TaskValue)) (b : Bool) → holds k m t ≡ b → count_by (λ e. holds k m e.0) ((t, v) ∷ rest) ≡ cond b 1 0 + count_by (λ e. holds k m e.0) rest
   next_task m t v rest b is = sum_by-cons (λ (e : ℕ × TaskValue). cond (holds k m e.0) 1 0) (t, v) rest ∙ ap (λ c. cond c 1 0 + count_by (λ (e : ℕ × TaskValue). holds k m e.0) rest) is
 
-  -- a task that no machine holds
-  pub counting_skips : (t : ℕ) (v : TaskValue) (rest : List (ℕ × TaskValue)) (holdings : Holdings) → holder_of k t ≡ None → IsCounting k ((t, v) ∷ rest) holdings → IsCounting k rest holdings
-  counting_skips t v rest holdings none counting =
-      let apart = λ (m : ℕ). ap (passes (λ h. h == m)) none in
-      record {
-        requests = λ m. let a = counting.requests m in let b = next_request m t v rest false (apart m) in omega (arith, a, b);
-        tasks = λ m. let a = counting.tasks m in let b = next_task m t v rest false (apart m) in omega (arith, a, b);
-        requests_fit = λ m. let a = counting.requests_fit m in omega (arith, a);
-        tasks_fit = λ m. let a = counting.tasks_fit m in omega (arith, a);
-      }
-
-  -- a task that a machine holds
-  pub counting_adds : (t n r : ℕ) (v : TaskValue) (rest : List (ℕ × TaskValue)) (old new : Holdings) → holder_of k t ≡ Some n → r ≡ request_of v.0 → r < 2 ^ 32 → ((m : ℕ) → requests_in new m ≡ requests_in old m + share n m r) → ((m : ℕ) → tasks_in new m ≡ tasks_in old m + share n m 1) → IsCounting k ((t, v) ∷ rest) old → IsCounting k rest new
-  counting_adds t n r v rest old new holder request fits requests tasks counting =
-      let now = λ (m : ℕ). ap (passes (λ h. h == m)) holder in
-      record {
-        requests = λ m. let a = counting.requests m in let b = next_request m t v rest (n == m) (now m) in let c = requests m in let d : cond (n == m) r 0 ≡ cond (n == m) (request_of v.0) 0 = ap (λ x. cond (n == m) x 0) request in omega (arith, a, b, c, d);
-        tasks = λ m. let a = counting.tasks m in let b = next_task m t v rest (n == m) (now m) in let c = tasks m in omega (arith, a, b, c);
-        requests_fit = λ m. let a = counting.requests_fit m in let c = requests m in let d = at_most (n == m) r in omega (arith, a, c, d, fits);
-        tasks_fit = λ m. let a = counting.tasks_fit m in let c = tasks m in let d = at_most (n == m) 1 in omega (arith, a, c, d);
-      }
+  -- the next task, which counts for the machine that holds it
+  pub counting_next : (t : ℕ) (v : TaskValue) (rest : List (ℕ × TaskValue)) (old new : Holdings) → ((m : ℕ) → cond (holds k m t) (request_of v.0) 0 < 2 ^ 32) → ((m : ℕ) → requests_in new m ≡ requests_in old m + cond (holds k m t) (request_of v.0) 0) → ((m : ℕ) → tasks_in new m ≡ tasks_in old m + cond (holds k m t) 1 0) → IsCounting k ((t, v) ∷ rest) old → IsCounting k rest new
+  counting_next t v rest old new fits requests tasks counting = record {
+    requests = λ m. let a = counting.requests m in let b = next_request m t v rest (holds k m t) refl in let c = requests m in omega (arith, a, b, c);
+    tasks = λ m. let a = counting.tasks m in let b = next_task m t v rest (holds k m t) refl in let c = tasks m in omega (arith, a, b, c);
+    requests_fit = λ m. let a = counting.requests_fit m in let c = requests m in let d = fits m in omega (arith, a, c, d);
+    tasks_fit = λ m. let a = counting.tasks_fit m in let c = tasks m in let d = at_most (holds k m t) 1 in omega (arith, a, c, d);
+  }
 
   pub counting_ends : (holdings : Holdings) → IsCounting k [] holdings → AreHoldings k holdings
   counting_ends holdings counting = record {

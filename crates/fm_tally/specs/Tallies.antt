@@ -1,13 +1,17 @@
 -- The tally of a table: what plans need of each live task and of each open machine (this project's profile).
-use Rattle.std.specs.Prelude.{◌≡◌, ℕ, ◌-◌, Bool, true, false, cond, nat_le, List, [], ◌∷◌, Option, option_map, count_by}
+use Rattle.std.specs.Prelude.{◌≡◌, ℕ, ◌-◌, Bool, true, false, cond, not, ◌&&◌, nat_le, List, [], ◌∷◌, Option, Some, None, option_map, count_by, max}
 use Rattle.std.specs.List.{filter_map}
 use Rattle.std.specs.Ordering.{nat_cmp}
 use Rattle.fm_lattice.specs.Maps.{lookup}
-use Rattle.fm_records.specs.Options.{when, and_then}
+use Rattle.fm_records.specs.declared.records.JobReg.{JobReg}
+use Rattle.fm_records.specs.declared.records.SpecReg.{SpecReg}
+use Rattle.fm_records.specs.Options.{when, and_then, only_if, or_else, passes}
 use Rattle.fm_records.specs.Sets.{with_value}
-use Rattle.fm_records.specs.Table.{Table}
-use Rattle.fm_records.specs.Facts.{job_of, live_spec, open_state, holder_of, holds, load_of, spare_of}
+use Rattle.fm_records.specs.Table.{Table, TaskValue, MachineValue}
+use Rattle.fm_records.specs.Facts.{job_of, live_spec, open_state, holder_of, holds, load_of, spare_of, is_done}
+use Rattle.fm_know.specs.Records.{state_in}
 use Rattle.fm_net.specs.Network.{is_held}
+use Rattle.fm_tally.specs.Holdings.{share_by}
 use Rattle.fm_tally.specs.declared.tally.LiveTask.{LiveTask}
 use Rattle.fm_tally.specs.declared.tally.OpenMachine.{OpenMachine}
 use Rattle.fm_tally.specs.declared.tally.Tally.{Tally}
@@ -40,3 +44,33 @@ all_tasks k = filter_map (λ e. with_value (task_at k) e.0) k.tasks
 
 abbrev pub all_machines : Table → List (ℕ × OpenMachine)
 all_machines k = filter_map (λ e. with_value (machine_at k) e.0) k.machines
+
+-- The same of records at hand.
+
+-- the spec of a task that is known, not withdrawn and not done
+abbrev pub unfinished : TaskValue → Option SpecReg
+unfinished v = only_if (λ s. not s.withdrawn && not (is_done v.1.phase)) v.0
+
+-- a live task of the job, which the machine holds
+abbrev pub entry_of : SpecReg → JobReg → Option ℕ → LiveTask
+entry_of s job holder = record { job = s.job; request = s.request; price = cond (passes (λ m. true) holder) job.preempt job.wait; holder = holder; prefers = has_any s.prefer }
+
+-- a task with the record, which the machine holds if it is live
+abbrev pub task_by : List (ℕ × JobReg) → Option ℕ → TaskValue → Option LiveTask
+task_by jobs holder v =
+    and_then (λ s. option_map (λ job. entry_of s job holder) (only_if (λ r. not r.withdrawn) (lookup nat_cmp s.job jobs))) (unfinished v)
+
+-- what a task adds for a machine
+abbrev pub requests_by : Option LiveTask → ℕ → ℕ
+requests_by None m = 0
+requests_by (Some l) m = share_by l.holder m l.request
+
+abbrev pub tasks_by : Option LiveTask → ℕ → ℕ
+tasks_by None m = 0
+tasks_by (Some l) m = share_by l.holder m 1
+
+-- a machine with the record, which holds so much
+abbrev pub open_by : MachineValue → ℕ → ℕ → Option OpenMachine
+open_by v requests tasks =
+    let load = max (or_else 0 (option_map (λ r. r.used) v.1.1)) requests in
+    option_map (λ state. record { slots = state.slots; load = load; spare = left_of state.nic load; held = tasks }) (state_in v)

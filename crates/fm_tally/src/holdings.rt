@@ -1,97 +1,97 @@
-//! What machines hold, counted in one walk over the tasks.
+//! What machines hold, counted as tasks come.
 
-ghost use Rattle.std.specs.Prelude.{◌≡◌, ◌<◌, ◌+◌, ◌^◌, ℕ, [], IfOk, OnOk};
+ghost use Rattle.std.specs.Prelude.{◌≡◌, ◌<◌, ◌+◌, ◌^◌, ℕ, IfOk, option_map};
 ghost use Rattle.std.specs.Ordering.{nat_cmp};
 ghost use Rattle.fm_lattice.specs.Maps.{lookup};
-ghost use Rattle.fm_records.specs.Options.{and_then};
-ghost use Rattle.fm_tally.specs.Holdings.{requests_in, tasks_in, share, AreHoldings};
-ghost use Rattle.fm_tally.specs.Tallies.{task_at};
+ghost use Rattle.fm_records.specs.Options.{or_else};
+ghost use Rattle.fm_records.specs.declared.records.Spot.{Spot as At};
+ghost use Rattle.fm_tally.specs.Holdings.{requests_in, tasks_in, share_by, placed_by, is_there, holding_nothing, nothing_on};
 
 use crate::sorted::Sorted;
-use crate::tally::LiveTask;
-use fm_know::facts::request_in;
 use fm_know::knowledge::Knowledge;
 use fm_lattice::join::OutOfMemory;
-use fm_net::rising::value_near;
-use fm_records::ids::{MachineId, TaskId};
+use fm_records::ids::MachineId;
+use fm_records::records::{MachineRec, Spot};
 use std::alloc::Global;
-use std::collections::BTreeMap;
 
-/// The sum of the requests of the tasks that a machine holds, and how many they are.
+/// A machine, with the sum of the requests of the tasks that it holds, and how many they are.
 #[derive(Clone, Copy, Drop)]
 pub(crate) struct Holding {
+    pub(crate) is_open: bool,
+    pub(crate) incarnation: u64,
     pub(crate) requests: u128,
     pub(crate) tasks: u64,
 }
 
-/// The holding of each machine that holds a task.
+/// The holding of each machine that is known.
 #[derive(Drop)]
 pub(crate) struct Holdings {
-    pub(crate) by_machine: BTreeMap<MachineId, Holding>,
+    pub(crate) by_machine: Sorted<MachineId, Holding>,
 }
 
 impl Holdings {
-    /// What each machine holds, by the live tasks. O(n log n) in the tasks.
-    pub(crate) fn of(
-        alloc: Global,
-        knowledge: &Knowledge,
-        tasks: &Sorted<TaskId, LiveTask>,
-    ) -> Result<Holdings, OutOfMemory>
-        requires { (t : ℕ) → lookup nat_cmp t tasks.now ≡ task_at knowledge.now t }
-        ensures { IfOk result (AreHoldings knowledge.now) }
+    /// The known machines, of which none holds anything. O(n).
+    pub(crate) fn none(alloc: Global, knowledge: &Knowledge) -> Result<Holdings, OutOfMemory>
+        ensures { IfOk result (λ holdings. (m : ℕ) → lookup nat_cmp m holdings.by_machine ≡ option_map nothing_on (lookup nat_cmp m knowledge.now.machines)) }
     {
-        let mut holdings = Holdings {
-            by_machine: BTreeMap::new(alloc),
-        };
-        let mut near = 0usize;
-        for (task, known) in knowledge.tasks().iter() {
-            near = place_near(tasks, near, *task);
-            if let Some(machine) = holder_near(tasks, near, *task) {
-                holdings.add(machine, request_in(known))?;
-            }
+        let mut found = Vec::new(alloc);
+        for (machine, record) in knowledge.machines().iter() {
+            found.push((*machine, nothing_on(record)))?;
         }
-        Ok(holdings)
+        Ok(Holdings {
+            by_machine: Sorted::of(found),
+        })
     }
 
-    /// What the machine holds. O(log n).
-    pub(crate) fn of_machine(&self, machine: MachineId) -> Holding
-        ensures requests { result.requests ≡ requests_in self.now machine }
-        ensures tasks { result.tasks ≡ tasks_in self.now machine }
+    /// What the machine holds, of which the place is near. O(1) if it is there, else O(log n).
+    pub(crate) fn of_machine(&self, near: usize, machine: MachineId) -> Holding
+        ensures { result ≡ or_else holding_nothing (lookup nat_cmp machine self.now.by_machine) }
     {
-        self.by_machine.get(&machine).copied().unwrap_or(Holding {
+        self.by_machine.get_near(near, &machine).unwrap_or(Holding {
+            is_open: false,
+            incarnation: 0,
             requests: 0,
             tasks: 0,
         })
     }
 
-    // Counts a task that the machine holds.
-    fn add(&mut self, machine: MachineId, request: u32) -> Result<(), OutOfMemory>
-        requires requests_fit { requests_in self.old machine + request < 2 ^ 128 }
-        requires tasks_fit { tasks_in self.old machine + 1 < 2 ^ 64 }
-        ensures requests { OnOk result ((m : ℕ) → requests_in self.new m ≡ requests_in self.old m + share machine m request) }
-        ensures tasks { OnOk result ((m : ℕ) → tasks_in self.new m ≡ tasks_in self.old m + share machine m 1) }
+    /// Counts a task with the request at the machine of the spot, and answers the machine, if it is open and at that incarnation.
+    /// O(log n).
+    pub(crate) fn hold(&mut self, spot: Spot, request: u32) -> Option<MachineId>
+        requires requests_fit { (m : ℕ) → requests_in self.old m + request < 2 ^ 128 }
+        requires tasks_fit { (m : ℕ) → tasks_in self.old m + 1 < 2 ^ 64 }
+        ensures placed { result ≡ placed_by self.old spot }
+        ensures requests { (m : ℕ) → requests_in self.new m ≡ requests_in self.old m + share_by result m request }
+        ensures tasks { (m : ℕ) → tasks_in self.new m ≡ tasks_in self.old m + share_by result m 1 }
+        ensures same { (s : At) → is_there self.new s ≡ is_there self.old s }
     {
-        let Holding { requests, tasks } = self.of_machine(machine);
-        let holding = Holding {
-            requests: requests + u128::from(request),
-            tasks: tasks + 1,
+        let at = self.by_machine.place(&spot.machine)?;
+        let holding = self.by_machine.value(at, &spot.machine);
+        if !holding.is_open || holding.incarnation != spot.incarnation {
+            return None;
+        }
+        let more = Holding {
+            requests: holding.requests + u128::from(request),
+            tasks: holding.tasks + 1,
+            ..holding
         };
-        self.by_machine.insert(machine, holding)?;
-        Ok(())
+        self.by_machine.replace(at, spot.machine, more);
+        Some(spot.machine)
     }
 }
 
-// Where the task may stand: behind the one before, if that is a lesser one.
-fn place_near(tasks: &Sorted<TaskId, LiveTask>, near: usize, task: TaskId) -> usize {
-    match tasks.pairs().get(near) {
-        Some(pair) if pair.0 < task => near.saturating_add(1),
-        _ => near,
-    }
-}
-
-// The machine that holds the task, if it is live. O(1) if the task stands near, else O(log n).
-fn holder_near(tasks: &Sorted<TaskId, LiveTask>, near: usize, task: TaskId) -> Option<MachineId>
-    ensures { result ≡ and_then (λ l. l.holder) (lookup nat_cmp task tasks.now) }
+// The machine of the record, which holds nothing.
+fn nothing_on(machine: &MachineRec) -> Holding
+    ensures { result ≡ nothing_on machine.now }
 {
-    value_near(tasks.pairs(), near, &task)?.holder
+    let is_open = match &machine.1.0.0 {
+        Some(state) => state.0.up,
+        None => false,
+    };
+    Holding {
+        is_open,
+        incarnation: machine.0,
+        requests: 0,
+        tasks: 0,
+    }
 }

@@ -4,3 +4,4 @@
 mod holdings;
 pub mod sorted;
 pub mod tally;
+pub mod winners;

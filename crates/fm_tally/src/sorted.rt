@@ -1,11 +1,12 @@
 //! Pairs by rising key, one behind another.
 
-ghost use Rattle.std.specs.Prelude.{◌≡◌, [], IfOk, OnOk, OnErr};
+ghost use Rattle.std.specs.Prelude.{◌≡◌, [], Some, None, IfSome, IsNone, IfOk, OnOk, OnErr};
 ghost use Rattle.fm_lattice.specs.Maps.{lookup, put, replaced, IsRising};
+ghost use Rattle.fm_lattice.specs.Places.{IsAt};
 
 use fm_lattice::chain::Chain;
 use fm_lattice::join::OutOfMemory;
-use fm_net::rising::{set, value_at};
+use fm_net::rising::{set, value_at, value_near};
 use std::alloc::Global;
 use std::marker::Model;
 
@@ -49,6 +50,41 @@ impl<K: Chain, V: Copy> Sorted<K, V> {
         ensures { result ≡ lookup K.cmp key.now self.now }
     {
         value_at(&self.pairs, key)
+    }
+
+    /// As `get`, and looks at the place near before it searches: if the key is there, in one comparison.
+    pub(crate) fn get_near(&self, near: usize, key: &K) -> Option<V>
+        ensures { result ≡ lookup K.cmp key.now self.now }
+    {
+        value_near(&self.pairs, near, key)
+    }
+
+    /// Where the key is, if it is there. O(log n).
+    pub(crate) fn place(&self, key: &K) -> Option<usize>
+        ensures found { IfSome result (IsAt K.cmp self.now key.now) }
+        ensures absent { IsNone result → lookup K.cmp key.now self.now ≡ None }
+        ensures rising { IsRising K.cmp self.now }
+    {
+        match self.pairs.binary_search_by_key(key, |pair| pair.0) {
+            Ok(at) => Some(at),
+            Err(_) => None,
+        }
+    }
+
+    /// The value at the key, of which the caller passes the place.
+    pub(crate) fn value(&self, at: usize, key: &K) -> V
+        requires { IsAt K.cmp self.now key.now at }
+        ensures { lookup K.cmp key.now self.now ≡ Some result }
+    {
+        self.pairs[at].1
+    }
+
+    /// Replaces the value at the key, of which the caller passes the place.
+    pub(crate) fn replace(&mut self, at: usize, key: K, value: V)
+        requires { IsAt K.cmp self.old key at }
+        ensures { self.new ≡ put K.cmp replaced key value self.old }
+    {
+        self.pairs[at].1 = value;
     }
 
     /// Puts the value at the key, and answers the one that was there. After a refusal of memory nothing has changed. Amortised O(1)

@@ -1,17 +1,26 @@
 //! Live tasks and open machines, with what plans need of each.
 
-ghost use Rattle.std.specs.Prelude.{◌≡◌, Some, IfOk};
+ghost use Rattle.std.specs.Prelude.{◌≡◌, ◌<◌, ◌+◌, ◌^◌, ℕ, not, option_copied, option_map, IfOk, OnOk};
 ghost use Rattle.std.specs.Ordering.{nat_cmp};
+ghost use Rattle.std.specs.declared.cmp.Ordering.TheVariants.{Less};
 ghost use Rattle.fm_lattice.specs.Maps.{lookup};
-ghost use Rattle.fm_tally.specs.Holdings.{AreHoldings};
-ghost use Rattle.fm_tally.specs.Tallies.{task_at, machine_at, all_tasks, all_machines, left_of, TallyIsFor};
+ghost use Rattle.fm_records.specs.declared.records.Spot.{Spot as At};
+ghost use Rattle.fm_records.specs.Facts.{is_done, is_present};
+ghost use Rattle.fm_records.specs.Options.{and_then, or_else, only_if};
+ghost use Rattle.fm_records.specs.Orders.{attempt_cmp};
+ghost use Rattle.fm_know.specs.Records.{state_in};
+ghost use Rattle.fm_tally.specs.Holdings.{requests_in, tasks_in, share_by, placed_by, is_there, holding_nothing, nothing_on, AreHoldings};
+ghost use Rattle.fm_tally.specs.Tallies.{all_tasks, all_machines, left_of, unfinished, entry_of, task_by, requests_by, tasks_by, open_by, TallyIsFor};
+ghost use Rattle.fm_tally.specs.Winners.{spot_in};
 
-use crate::holdings::Holdings;
+use crate::holdings::{Holding, Holdings};
 use crate::sorted::Sorted;
+use crate::winners::Winners;
 use fm_know::knowledge::Knowledge;
 use fm_lattice::join::OutOfMemory;
 use fm_records::ids::{JobId, MachineId, TaskId};
-use fm_records::records::TaskRec;
+use fm_records::ops::Phase;
+use fm_records::records::{JobReg, MachineRec, SpecReg, TaskRec};
 use std::alloc::Global;
 
 /// What a plan needs of a live task.
@@ -48,49 +57,148 @@ pub struct Tally {
 }
 
 impl Tally {
-    /// The tally of what is known. Two walks over the tasks, one of them with look-ups for each, and one over the machines:
-    /// O(n log n).
+    /// The tally of what is known. One walk each over the jobs, the tasks with the proposals, and the machines. For each task that is
+    /// not done its job, and the machine that won it, are searched in small tables: O(n log n).
     pub fn of(alloc: Global, knowledge: &Knowledge) -> Result<Tally, OutOfMemory>
         ensures { IfOk result (TallyIsFor knowledge.now) }
     {
-        let tasks = tasks_of(alloc, knowledge)?;
-        let holdings = Holdings::of(alloc, knowledge, &tasks)?;
+        let jobs = jobs_of(alloc, knowledge)?;
+        let mut holdings = Holdings::none(alloc, knowledge)?;
+        let tasks = tasks_of(alloc, knowledge, &jobs, &mut holdings)?;
         let machines = machines_of(alloc, knowledge, &holdings)?;
         Ok(Tally { tasks, machines })
     }
 }
 
-// The live tasks.
-fn tasks_of(alloc: Global, knowledge: &Knowledge) -> Result<Sorted<TaskId, LiveTask>, OutOfMemory>
-    ensures { IfOk result (λ tasks. tasks ≡ all_tasks knowledge.now) }
+// The jobs that are known, also those that are withdrawn.
+fn jobs_of(alloc: Global, knowledge: &Knowledge) -> Result<Sorted<JobId, JobReg>, OutOfMemory>
+    ensures { IfOk result (λ jobs. jobs ≡ knowledge.now.jobs) }
 {
     let mut found = Vec::new(alloc);
+    for (job, register) in knowledge.jobs().iter() {
+        found.push((*job, register.0))?;
+    }
+    Ok(Sorted::of(found))
+}
+
+// The live tasks. What machines hold is counted on the way.
+fn tasks_of(
+    alloc: Global,
+    knowledge: &Knowledge,
+    jobs: &Sorted<JobId, JobReg>,
+    holdings: &mut Holdings,
+) -> Result<Sorted<TaskId, LiveTask>, OutOfMemory>
+    requires jobs { jobs.now ≡ knowledge.now.jobs }
+    requires nothing { (m : ℕ) → lookup nat_cmp m holdings.old.by_machine ≡ option_map nothing_on (lookup nat_cmp m knowledge.now.machines) }
+    ensures tasks { IfOk result (λ tasks. tasks ≡ all_tasks knowledge.now) }
+    ensures holdings { OnOk result (AreHoldings knowledge.now holdings.new) }
+{
+    let mut found = Vec::new(alloc);
+    let mut winners = Winners::of(knowledge);
     for (task, known) in knowledge.tasks().iter() {
-        if let Some(live) = live_task(knowledge, *task, known) {
+        if let Some(live) = live_task(*task, known, jobs, &mut winners, holdings) {
             found.push((*task, live))?;
         }
     }
     Ok(Sorted::of(found))
 }
 
-// What a plan needs of the task, of which the record is known, if it is live.
-fn live_task(knowledge: &Knowledge, task: TaskId, known: &TaskRec) -> Option<LiveTask>
-    requires { lookup nat_cmp task knowledge.now.tasks ≡ Some known.now }
-    ensures { result ≡ task_at knowledge.now task }
+// What a plan needs of the task with the record, if it is live. It counts for the machine that holds it.
+fn live_task(
+    task: TaskId,
+    known: &TaskRec,
+    jobs: &Sorted<JobId, JobReg>,
+    winners: &mut Winners<'_>,
+    holdings: &mut Holdings,
+) -> Option<LiveTask>
+    requires requests_fit { (m : ℕ) → requests_in holdings.old m + 2 ^ 32 < 2 ^ 128 }
+    requires tasks_fit { (m : ℕ) → tasks_in holdings.old m + 1 < 2 ^ 64 }
+    ensures live { result ≡ task_by jobs.now (and_then (placed_by holdings.old) (spot_in winners.old (task, known.now.1.attempt))) known.now }
+    ensures requests { (m : ℕ) → requests_in holdings.new m ≡ requests_in holdings.old m + requests_by result m }
+    ensures tasks { (m : ℕ) → tasks_in holdings.new m ≡ tasks_in holdings.old m + tasks_by result m }
+    ensures small { (m : ℕ) → requests_by result m < 2 ^ 32 }
+    ensures there { (s : At) → is_there holdings.new s ≡ is_there holdings.old s }
+    ensures ahead { (t a : ℕ) → attempt_cmp (task, known.now.1.attempt) (t, a) ≡ Less → lookup attempt_cmp (t, a) winners.new ≡ lookup attempt_cmp (t, a) winners.old }
 {
-    let (spec, holder) = knowledge.live_task(task, known)?;
-    let job = knowledge.job(spec.job)?;
+    let spec = unfinished(known)?;
+    let job = standing(jobs, spec.job)?;
+    let holder = hold(task, attempt_in(known), spec.request, winners, holdings);
+    Some(held_task(spec, job, holder))
+}
+
+// The machine that the winner of the attempt names, if that is open and at its present incarnation. A task with the request counts
+// for it.
+fn hold(
+    task: TaskId,
+    attempt: u32,
+    request: u32,
+    winners: &mut Winners<'_>,
+    holdings: &mut Holdings,
+) -> Option<MachineId>
+    requires requests_fit { (m : ℕ) → requests_in holdings.old m + 2 ^ 32 < 2 ^ 128 }
+    requires tasks_fit { (m : ℕ) → tasks_in holdings.old m + 1 < 2 ^ 64 }
+    ensures placed { result ≡ and_then (placed_by holdings.old) (spot_in winners.old (task, attempt)) }
+    ensures requests { (m : ℕ) → requests_in holdings.new m ≡ requests_in holdings.old m + share_by result m request }
+    ensures tasks { (m : ℕ) → tasks_in holdings.new m ≡ tasks_in holdings.old m + share_by result m 1 }
+    ensures small { (m : ℕ) → share_by result m request < 2 ^ 32 }
+    ensures there { (s : At) → is_there holdings.new s ≡ is_there holdings.old s }
+    ensures ahead { (t a : ℕ) → attempt_cmp (task, attempt) (t, a) ≡ Less → lookup attempt_cmp (t, a) winners.new ≡ lookup attempt_cmp (t, a) winners.old }
+{
+    let spot = winners.spot(task, attempt)?;
+    holdings.hold(spot, request)
+}
+
+// What a plan needs of a live task of the job, which the machine holds.
+fn held_task(spec: &SpecReg, job: JobReg, holder: Option<MachineId>) -> LiveTask
+    ensures { result ≡ entry_of spec.now job holder }
+{
     let price = match holder {
         Some(_) => job.preempt,
         None => job.wait,
     };
-    Some(LiveTask {
+    LiveTask {
         job: spec.job,
         request: spec.request,
         price,
         holder,
         prefers: !spec.prefer.entries().is_empty(),
-    })
+    }
+}
+
+// The spec of the record, if it is known and not withdrawn, and the task is not done.
+fn unfinished(known: &TaskRec) -> Option<&SpecReg>
+    ensures { option_copied result ≡ unfinished known.now }
+{
+    match &known.0.0 {
+        Some(spec) if !spec.0.withdrawn && !is_done(known.1.0.phase) => Some(&spec.0),
+        _ => None,
+    }
+}
+
+fn attempt_in(known: &TaskRec) -> u32
+    ensures { result ≡ known.now.1.attempt }
+{
+    known.1.0.attempt
+}
+
+fn is_done(phase: Phase) -> bool
+    ensures { result ≡ is_done phase }
+{
+    match phase {
+        Phase::Pending | Phase::Running => false,
+        Phase::Done => true,
+    }
+}
+
+// The job, if it is known and not withdrawn.
+fn standing(jobs: &Sorted<JobId, JobReg>, job: JobId) -> Option<JobReg>
+    ensures { result ≡ only_if (λ r. not r.withdrawn) (lookup nat_cmp job jobs.now) }
+{
+    let register = jobs.get(&job)?;
+    if register.withdrawn {
+        return None;
+    }
+    Some(register)
 }
 
 // The open machines.
@@ -103,26 +211,30 @@ fn machines_of(
     ensures { IfOk result (λ machines. machines ≡ all_machines knowledge.now) }
 {
     let mut found = Vec::new(alloc);
-    for (machine, _) in knowledge.machines().iter() {
-        if let Some(open) = open_machine(knowledge, holdings, *machine) {
+    let mut near = 0usize;
+    for (machine, known) in knowledge.machines().iter() {
+        let holding = holdings.of_machine(near, *machine);
+        near = near.saturating_add(1);
+        if let Some(open) = open_machine(known, holding) {
             found.push((*machine, open))?;
         }
     }
     Ok(Sorted::of(found))
 }
 
-// What a plan needs of the machine, if it is open.
-fn open_machine(
-    knowledge: &Knowledge,
-    holdings: &Holdings,
-    machine: MachineId,
-) -> Option<OpenMachine>
-    requires { AreHoldings knowledge.now holdings.now }
-    ensures { result ≡ machine_at knowledge.now machine }
+// What a plan needs of the machine with the record, which holds so much, if it is open.
+fn open_machine(known: &MachineRec, holding: Holding) -> Option<OpenMachine>
+    ensures { result ≡ open_by known.now holding.requests holding.tasks }
 {
-    let state = knowledge.open_state(machine)?;
-    let holding = holdings.of_machine(machine);
-    let load = u128::from(knowledge.used(machine)).max(holding.requests);
+    let state = match &known.1.0.0 {
+        Some(state) if state.0.up => state.0,
+        _ => return None,
+    };
+    let used = match &known.1.1.0 {
+        Some(report) => report.0.used,
+        None => 0,
+    };
+    let load = u128::from(used).max(holding.requests);
     Some(OpenMachine {
         slots: state.slots,
         load,

@@ -9,15 +9,12 @@ use Rattle.fm_tally.proofs.Held.{rows_are}
 use Rattle.fm_tally.proofs.Rows.{lookup_rows}
 use Rattle.fm_tally.proofs.tally.Tally.of.Goals as goal
 
-pub of-requires : goal.of-requires
-of-requires c t = ap (lookup nat_cmp t) c.in_ok-tasks.ensures ∙ rows_are c.args.knowledge.now t
-
 pub returns : goal.returns
 returns c =
     let k = c.args.knowledge.now in
     record {
       tasks = λ t.
-          ap (lookup nat_cmp t) c.in_ok-tasks.ensures
+          ap (lookup nat_cmp t) c.in_ok-tasks.ensures.tasks
           ∙ rows_are k t;
       machines = λ m.
           ap (lookup nat_cmp m) c.in_ok-machines.ensures
