@@ -229,7 +229,10 @@ continues ms n [] [] h only = record { rest = []; is = sym (only (λ at. at)) �
 continues ms n [] (k ∷ ns) h only = absurd h
 continues ms n (s ∷ ss) [] h only = absurd h
 continues ms n (s ∷ ss) (k ∷ ns) h only = by (s.number == n) (eqb-true s.number n) (eq-eqb s.number n) (λ e. only e) (continues ms n ss ns h.1) where
-  by : (b : Bool) → (b ≡ true → s.number ≡ n) → (s.number ≡ n → b ≡ true) → ((IsMember n (map number_in (s ∷ ss)) → ⊥) → entries_at n ms ≡ []) → (((IsMember n (map number_in ss) → ⊥) → entries_at n ms ≡ []) → Continues (history_at ss n) (entries_at n ms)) → Continues (history_in (cond b (Some s) (state_with ss n))) (entries_at n ms)
+  by : (b : Bool) → (b ≡ true → s.number ≡ n) → (s.number ≡ n → b ≡ true) →
+      ((IsMember n (map number_in (s ∷ ss)) → ⊥) → entries_at n ms ≡ []) →
+      (((IsMember n (map number_in ss) → ⊥) → entries_at n ms ≡ []) → Continues (history_at ss n) (entries_at n ms)) → Continues
+      (history_in (cond b (Some s) (state_with ss n))) (entries_at n ms)
   by true is back only rest = record { rest = drop k s.history; is = sym (take-append-drop k s.history) ∙ ap (λ es. es ++ drop k s.history) (sym h.0.0 ∙ ap (λ m. entries_at m ms) (is refl)) }
   by false is back only rest = rest (λ far. only (λ at. either at (λ e. let f = back e in let no : ⊥ = cc in no) far))
 
@@ -242,7 +245,10 @@ stops packets ms n [] [] h f only = record { rest = []; is = sym (only (λ at. a
 stops packets ms n [] (k ∷ ns) h f only = absurd h
 stops packets ms n (s ∷ ss) [] h f only = absurd h
 stops packets ms n (s ∷ ss) (k ∷ ns) h f only = by (s.number == n) (eqb-true s.number n) (eq-eqb s.number n) (λ e. only e) (stops packets ms n ss ns h.1 (λ i lt. f (suc i) (omega arith))) where
-  by : (b : Bool) → (b ≡ true → s.number ≡ n) → (s.number ≡ n → b ≡ true) → ((IsMember n (map number_in (s ∷ ss)) → ⊥) → entries_at n ms ≡ []) → (((IsMember n (map number_in ss) → ⊥) → entries_at n ms ≡ []) → StopsAfter packets (history_at ss n) (entries_at n ms)) → StopsAfter packets (history_in (cond b (Some s) (state_with ss n))) (entries_at n ms)
+  by : (b : Bool) → (b ≡ true → s.number ≡ n) → (s.number ≡ n → b ≡ true) →
+      ((IsMember n (map number_in (s ∷ ss)) → ⊥) → entries_at n ms ≡ []) →
+      (((IsMember n (map number_in ss) → ⊥) → entries_at n ms ≡ []) → StopsAfter packets (history_at ss n) (entries_at n ms)) →
+      StopsAfter packets (history_in (cond b (Some s) (state_with ss n))) (entries_at n ms)
   by true is back only rest = record { rest = drop k s.history; is = sym (take-append-drop k s.history) ∙ ap (λ es. es ++ drop k s.history) (sym h.0.0 ∙ ap (λ m. entries_at m ms) (is refl)); stop = f zero (omega arith) }
   by false is back only rest = rest (λ far. only (λ at. either at (λ e. let f = back e in let no : ⊥ = cc in no) far))
 

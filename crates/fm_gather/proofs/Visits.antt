@@ -202,7 +202,9 @@ module _ {N : Type 0} (cs : List (WithKeeper N)) (i : ℕ) (places : List ℕ) (
     within_history = place_within (map state_of cs) places h.made i c.state (get_or places i 0) h.taken inside (state_at cs i c lt is) (place_there places i place_inside)
 
     -- the coordinator was visited
-    pub visit_of : (new : List Step) (gave : List Packet) (k number : ℕ) (entries : List Entry) → number ≡ c.state.number → entries ≡ drop (get_or places i 0) c.state.history → AreDistinct (map number_of cs) → k ≤ length entries → AreFirstTaken number entries k steps new packets gave → CannotGo gave (drop k entries)
+    pub visit_of : (new : List Step) (gave : List Packet) (k number : ℕ) (entries : List Entry) → number ≡ c.state.number →
+        entries ≡ drop (get_or places i 0) c.state.history → AreDistinct (map number_of cs) → k ≤ length entries → AreFirstTaken
+        number entries k steps new packets gave → CannotGo gave (drop k entries)
         → IsSwept (map state_of cs) (slice_set places i (get_or places i 0 + k)) new gave × IsVisit (map state_of cs) i (nat_lt 0 k) places (slice_set places i (get_or places i 0 + k)) packets gave
     visit_of new gave k number entries same part distinct le t stop =
         let p = get_or places i 0 in

@@ -40,7 +40,8 @@ pub fn gather<N: NetKeeper>(
     ensures memory_left { IfErr result (λ fault. fault.refusal ≡ Refusal.OutOfMemory → fault.left.items ≡ []) }
     ensures memory_steps { IfErr result (λ fault. fault.refusal ≡ Refusal.OutOfMemory → fault.steps.items ≡ []) }
     ensures some_left { IfErr result (λ fault. fault.refusal ≡ Refusal.Stuck → fault.left.items ≡ [] → ⊥) }
-    ensures stuck { IfErr result (λ fault. fault.refusal ≡ Refusal.Stuck → Halts (map state_of coordinators.now) fault.left.items fault.steps.items) }
+    ensures stuck { IfErr result (λ fault. fault.refusal ≡ Refusal.Stuck
+        → Halts (map state_of coordinators.now) fault.left.items fault.steps.items) }
 {
     see_known(coordinators);
     let Ok((steps, left)) = swept(alloc, coordinators) else {

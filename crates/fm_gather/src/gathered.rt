@@ -31,7 +31,9 @@ impl Gathered {
 
     // Takes the entry of the coordinator with the number as one more step, if it can be taken.
     fn take(&mut self, at: u8, entry: &Entry) -> Result<bool, OutOfMemory>
-        ensures { IfOk result (λ taken. IsOneTaken (record { at = at; entry = entry.now }) taken self.old.steps.items self.new.steps.items self.old.packets self.new.packets) }
+        ensures { IfOk result
+            (λ taken. IsOneTaken (record { at = at; entry = entry.now }) taken self.old.steps.items self.new.steps.items
+            self.old.packets self.new.packets) }
     {
         let Some(act) = act_of(&entry.call, &self.packets)? else {
             return Ok(false);
@@ -51,7 +53,9 @@ impl Gathered {
     /// Takes as many of the entries of the coordinator with the number as it can: answers how many these are.
     pub(crate) fn take_first(&mut self, at: u8, entries: &[Entry]) -> Result<usize, OutOfMemory>
         ensures within { IfOk result (λ k. k ≤ length entries.now) }
-        ensures taken { IfOk result (λ k. AreFirstTaken at entries.now k self.old.steps.items self.new.steps.items self.old.packets self.new.packets) }
+        ensures taken { IfOk result
+            (λ k. AreFirstTaken at entries.now k self.old.steps.items self.new.steps.items self.old.packets
+            self.new.packets) }
         ensures end { IfOk result (λ k. CannotGo self.new.packets (drop k entries.now)) }
     {
         for (taken, entry) in entries.iter().enumerate() {

@@ -38,7 +38,8 @@ fn sweep_all<N: NetKeeper>(
 ) -> Result<(), OutOfMemory>
     requires distinct { AreDistinct (map number_of coordinators.now) }
     requires swept { IsSwept (map state_of coordinators.now) places.old gathered.old.steps.items gathered.old.packets }
-    ensures swept { OnOk result (IsSwept (map state_of coordinators.now) places.new gathered.new.steps.items gathered.new.packets) }
+    ensures swept { OnOk result
+        (IsSwept (map state_of coordinators.now) places.new gathered.new.steps.items gathered.new.packets) }
     ensures stopped { OnOk result (AreStopped gathered.new.packets (map state_of coordinators.now) places.new) }
 {
     loop {
@@ -56,8 +57,11 @@ fn sweep<N: NetKeeper>(
 ) -> Result<bool, OutOfMemory>
     requires distinct { AreDistinct (map number_of coordinators.now) }
     requires swept { IsSwept (map state_of coordinators.now) places.old gathered.old.steps.items gathered.old.packets }
-    ensures swept { OnOk result (IsSwept (map state_of coordinators.now) places.new gathered.new.steps.items gathered.new.packets) }
-    ensures sweep { IfOk result (λ moved. IsSweep (map state_of coordinators.now) (length coordinators.now) moved places.old places.new gathered.old.packets gathered.new.packets) }
+    ensures swept { OnOk result
+        (IsSwept (map state_of coordinators.now) places.new gathered.new.steps.items gathered.new.packets) }
+    ensures sweep { IfOk result
+        (λ moved. IsSweep (map state_of coordinators.now)
+        (length coordinators.now) moved places.old places.new gathered.old.packets gathered.new.packets) }
 {
     let mut moved = false;
     for i in 0..coordinators.len() {
@@ -78,8 +82,11 @@ fn visit<N: NetKeeper>(
     requires within { i < length coordinators.now }
     requires distinct { AreDistinct (map number_of coordinators.now) }
     requires swept { IsSwept (map state_of coordinators.now) places.old gathered.old.steps.items gathered.old.packets }
-    ensures swept { OnOk result (IsSwept (map state_of coordinators.now) places.new gathered.new.steps.items gathered.new.packets) }
-    ensures visit { IfOk result (λ moved. IsVisit (map state_of coordinators.now) i moved places.old places.new gathered.old.packets gathered.new.packets) }
+    ensures swept { OnOk result
+        (IsSwept (map state_of coordinators.now) places.new gathered.new.steps.items gathered.new.packets) }
+    ensures visit { IfOk result
+        (λ moved. IsVisit (map state_of coordinators.now) i moved places.old places.new gathered.old.packets
+        gathered.new.packets) }
 {
     let coordinator = &coordinators[i];
     let place = places[i];

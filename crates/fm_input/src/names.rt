@@ -52,7 +52,8 @@ impl Names {
     /// If memory runs out, nothing has changed.
     pub fn add(&mut self, name: &str) -> Result<bool, OutOfMemory>
         ensures new { IfOk result (λ new. new ≡ not (is_named self.old name.now)) }
-        ensures added { OnOk result (self.new ≡ (if is_named self.old name.now then self.old else self.old ++ name.now ∷ [])) }
+        ensures added { OnOk result (self.new ≡ (if is_named self.old name.now then self.old else self.old
+            ++ name.now ∷ [])) }
         ensures err { OnErr result (self.new ≡ self.old) }
     {
         let key = String::from_str(self.alloc, name)?;

@@ -28,7 +28,8 @@ use std::mem;
 /// counted from 1. Further members of the script, of an operation and of a cut are ignored, and of equal members the
 /// last counts.
 pub fn read_script(alloc: Global, text: &[u8]) -> Result<Script, Refusal>
-    ensures ok { IfOk result (λ s. (d : Data) × (read_text text.now ≡ Some d) × IsScriptOf d s.coordinators.items s.names s.steps.items) }
+    ensures ok { IfOk result (λ s. (d : Data) × (read_text text.now ≡ Some d)
+        × IsScriptOf d s.coordinators.items s.names s.steps.items) }
     ensures err { IfErr result (λ e. (e ≡ Refusal.OutOfMemory)
         ⊎ (((IsUtf8 text.now → read_text text.now ≡ None) × (e ≡ Refusal.BadScript 0))
         ⊎ ((d : Data) × (read_text text.now ≡ Some d) × (option_map Refusal.BadScript (script_fault d) ≡ Some e)))) }
@@ -44,7 +45,8 @@ pub fn read_script(alloc: Global, text: &[u8]) -> Result<Script, Refusal>
 // The script that a value spells, whose steps are dropped one by one as they are read.
 fn script_in(alloc: Global, value: &mut Value) -> Result<Script, Refusal>
     ensures ok { IfOk result (λ s. IsScriptOf (view value.old) s.coordinators.items s.names s.steps.items) }
-    ensures err { IfErr result (λ e. (e ≡ Refusal.OutOfMemory) ⊎ (option_map Refusal.BadScript (script_fault (view value.old)) ≡ Some e)) }
+    ensures err { IfErr result (λ e. (e ≡ Refusal.OutOfMemory)
+        ⊎ (option_map Refusal.BadScript (script_fault (view value.old)) ≡ Some e)) }
     ensures distinct { IfOk result (λ s. AreDistinct s.coordinators.items) }
 {
     let Some(listed) = items_in(value, "coordinators") else {
@@ -101,7 +103,8 @@ fn steps_in(alloc: Global, items: Vec<Value>, names: &mut Names) -> Result<Vec<S
     requires { names.old ≡ [] }
     ensures ok { IfOk result (λ v. steps_of [] (map view items.items) ≡ map Some v.items) }
     ensures names { OnOk result (names.new ≡ flat_map names_in (map view items.items)) }
-    ensures err { IfErr result (λ e. (e ≡ Refusal.OutOfMemory) ⊎ (option_map Refusal.BadScript (first_strange [] 1 (map view items.items)) ≡ Some e)) }
+    ensures err { IfErr result (λ e. (e ≡ Refusal.OutOfMemory)
+        ⊎ (option_map Refusal.BadScript (first_strange [] 1 (map view items.items)) ≡ Some e)) }
 {
     let mut steps = Vec::with_capacity(alloc, items.len())?;
     for item in items {

@@ -32,7 +32,8 @@ pub fn read_tells(alloc: Global, text: &[u8]) -> Result<Tells, Refusal>
 // The script of tells that a value spells.
 fn tells_in(alloc: Global, value: &mut Value) -> Result<Tells, Refusal>
     ensures ok { IfOk result (λ s. AreTellsOf (view value.old) s.coordinators.items s.tells.items) }
-    ensures err { IfErr result (λ e. (e ≡ Refusal.OutOfMemory) ⊎ (option_map Refusal.BadScript (tells_fault (view value.old)) ≡ Some e)) }
+    ensures err { IfErr result (λ e. (e ≡ Refusal.OutOfMemory)
+        ⊎ (option_map Refusal.BadScript (tells_fault (view value.old)) ≡ Some e)) }
     ensures distinct { IfOk result (λ s. AreDistinct s.coordinators.items) }
 {
     let Some(listed) = items_in(value, "coordinators") else {
@@ -54,7 +55,8 @@ fn tells_in(alloc: Global, value: &mut Value) -> Result<Tells, Refusal>
 // What the items tell, each one.
 fn all_in(alloc: Global, items: Vec<Value>) -> Result<Vec<Tell>, Refusal>
     ensures ok { IfOk result (λ v. map tell_of (map view items.items) ≡ map Some v.items) }
-    ensures err { IfErr result (λ e. (e ≡ Refusal.OutOfMemory) ⊎ (option_map Refusal.BadScript (first_untold 1 (map view items.items)) ≡ Some e)) }
+    ensures err { IfErr result (λ e. (e ≡ Refusal.OutOfMemory)
+        ⊎ (option_map Refusal.BadScript (first_untold 1 (map view items.items)) ≡ Some e)) }
 {
     let names = Names::new(alloc);
     let mut tells = Vec::with_capacity(alloc, items.len())?;

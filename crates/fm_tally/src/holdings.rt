@@ -32,7 +32,8 @@ pub(crate) struct Holdings {
 impl Holdings {
     /// The known machines, of which none holds anything. O(n).
     pub(crate) fn none(alloc: Global, knowledge: &Knowledge) -> Result<Holdings, OutOfMemory>
-        ensures { IfOk result (λ holdings. (m : ℕ) → lookup nat_cmp m holdings.by_machine ≡ option_map nothing_on (lookup nat_cmp m knowledge.now.machines)) }
+        ensures { IfOk result (λ holdings. (m : ℕ)
+            → lookup nat_cmp m holdings.by_machine ≡ option_map nothing_on (lookup nat_cmp m knowledge.now.machines)) }
     {
         let mut found = Vec::new(alloc);
         for (machine, record) in knowledge.machines().iter() {

@@ -89,7 +89,8 @@ fn tasks_of(
     holdings: &mut Holdings,
 ) -> Result<Sorted<TaskId, LiveTask>, OutOfMemory>
     requires jobs { jobs.now ≡ knowledge.now.jobs }
-    requires nothing { (m : ℕ) → lookup nat_cmp m holdings.old.by_machine ≡ option_map nothing_on (lookup nat_cmp m knowledge.now.machines) }
+    requires nothing { (m : ℕ) → lookup nat_cmp m holdings.old.by_machine
+        ≡ option_map nothing_on (lookup nat_cmp m knowledge.now.machines) }
     ensures tasks { IfOk result (λ tasks. tasks ≡ all_tasks knowledge.now) }
     ensures holdings { OnOk result (AreHoldings knowledge.now holdings.new) }
 {
@@ -113,12 +114,15 @@ fn live_task(
 ) -> Option<LiveTask>
     requires requests_fit { (m : ℕ) → requests_in holdings.old m + 2 ^ 32 < 2 ^ 128 }
     requires tasks_fit { (m : ℕ) → tasks_in holdings.old m + 1 < 2 ^ 64 }
-    ensures live { result ≡ task_by jobs.now (and_then (placed_by holdings.old) (spot_in winners.old (task, known.now.1.attempt))) known.now }
+    ensures live { result
+        ≡ task_by jobs.now (and_then (placed_by holdings.old)
+        (spot_in winners.old (task, known.now.1.attempt))) known.now }
     ensures requests { (m : ℕ) → requests_in holdings.new m ≡ requests_in holdings.old m + requests_by result m }
     ensures tasks { (m : ℕ) → tasks_in holdings.new m ≡ tasks_in holdings.old m + tasks_by result m }
     ensures small { (m : ℕ) → requests_by result m < 2 ^ 32 }
     ensures there { (s : At) → is_there holdings.new s ≡ is_there holdings.old s }
-    ensures ahead { (t a : ℕ) → attempt_cmp (task, known.now.1.attempt) (t, a) ≡ Less → lookup attempt_cmp (t, a) winners.new ≡ lookup attempt_cmp (t, a) winners.old }
+    ensures ahead { (t a : ℕ) → attempt_cmp (task, known.now.1.attempt) (t, a) ≡ Less
+        → lookup attempt_cmp (t, a) winners.new ≡ lookup attempt_cmp (t, a) winners.old }
 {
     let spec = unfinished(known)?;
     let job = standing(jobs, spec.job)?;
@@ -142,7 +146,8 @@ fn hold(
     ensures tasks { (m : ℕ) → tasks_in holdings.new m ≡ tasks_in holdings.old m + share_by result m 1 }
     ensures small { (m : ℕ) → share_by result m request < 2 ^ 32 }
     ensures there { (s : At) → is_there holdings.new s ≡ is_there holdings.old s }
-    ensures ahead { (t a : ℕ) → attempt_cmp (task, attempt) (t, a) ≡ Less → lookup attempt_cmp (t, a) winners.new ≡ lookup attempt_cmp (t, a) winners.old }
+    ensures ahead { (t a : ℕ) → attempt_cmp (task, attempt) (t, a) ≡ Less
+        → lookup attempt_cmp (t, a) winners.new ≡ lookup attempt_cmp (t, a) winners.old }
 {
     let spot = winners.spot(task, attempt)?;
     holdings.hold(spot, request)

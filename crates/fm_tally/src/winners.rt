@@ -51,7 +51,8 @@ impl<'a> Winners<'a> {
     /// one after the other. O(1) for each entry that is left behind.
     pub fn spot(&mut self, task: TaskId, attempt: u32) -> Option<Spot>
         ensures spot { result ≡ spot_in self.old (task, attempt) }
-        ensures later { (t a : ℕ) → attempt_cmp (task, attempt) (t, a) ≡ Less → lookup attempt_cmp (t, a) self.new ≡ lookup attempt_cmp (t, a) self.old }
+        ensures later { (t a : ℕ) → attempt_cmp (task, attempt) (t, a) ≡ Less
+            → lookup attempt_cmp (t, a) self.new ≡ lookup attempt_cmp (t, a) self.old }
     {
         'entries: while let Some((at, entries)) = self.first {
             match at.cmp(&(task, attempt)) {

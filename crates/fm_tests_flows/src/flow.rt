@@ -80,7 +80,10 @@ fn total(numbered: &Numbered, units: &[u64]) -> u128 {
 
 // Whether all tasks can be unscheduled.
 fn can_wait(alloc: Global, numbered: &Numbered) -> Result<bool, OutOfMemory>
-    ensures { IfOk result (λ can. IsTrue can → IsFlowOf numbered.now.places numbered.now.arcs.items (all_unscheduled numbered.now.places numbered.now.arcs.items)) }
+    ensures { IfOk result
+        (λ can. IsTrue can
+        → IsFlowOf numbered.now.places numbered.now.arcs.items
+        (all_unscheduled numbered.now.places numbered.now.arcs.items)) }
 {
     let units = unscheduled(alloc, numbered)?;
     let can = is_feasible(alloc, numbered, &units)?;

@@ -36,7 +36,9 @@ none_of : {A : Type 0} (o : Option A) → is_none o ≡ true → o ≡ None
 none_of None h = refl
 none_of (Some a) h = absurd (let no : ⊥ = cc in no)
 
-pub distinct_on : {N : Type 0} (cs : List (WithKeeper N)) (c : WithKeeper N) (rest : List (WithKeeper N)) → cs ≡ c ∷ rest → (o : Option ℕ) → o ≡ position (λ d. number_of d == number_of c) rest → is_none o ≡ true → (b : Bool) → (IsTrue b ↔ AreDistinct (map number_of rest)) → IsTrue b ↔ AreDistinct (map number_of cs)
+pub distinct_on : {N : Type 0} (cs : List (WithKeeper N)) (c : WithKeeper N) (rest : List (WithKeeper N)) → cs ≡ c ∷ rest →
+    (o : Option ℕ) → o ≡ position (λ d. number_of d == number_of c) rest → is_none o ≡ true → (b : Bool) →
+    (IsTrue b ↔ AreDistinct (map number_of rest)) → IsTrue b ↔ AreDistinct (map number_of cs)
 distinct_on {N = N} cs c rest e o at none b h =
     subst (λ (ds : List (WithKeeper N)). IsTrue b ↔ AreDistinct (map number_of ds)) (sym e)
     (λ t. (not_there rest (number_of c) (sym at ∙ none_of o none), h.0 t), λ d. h.1 d.1)

@@ -52,7 +52,11 @@ module _ (n : ℕ) where
       subst (λ m. cond (m == n) (Some r) (with_number rs n) ≡ None) h.0.number
       (absent_by (x.number == n) x r (state_with ss n) (with_number rs n) e (absent ss rs h.1))
 
-  pub put_back : {N : Type 0} (cs : List (WithKeeper N)) (rs : List Replica) (i : ℕ) (d new : WithKeeper N) (change : Replica → Replica) → AllStand (map state_of cs) rs → i < length cs → (number_of (get_or cs i d) == n) ≡ true → ((k : ℕ) → k < i → (number_of (get_or cs k d) == n) ≡ false) → ((r : Replica) → with_number rs n ≡ Some r → StandsFor new.state (change r)) → AllStand (map state_of (slice_set cs i new)) (changed_at n change rs)
+  pub put_back : {N : Type 0} (cs : List (WithKeeper N)) (rs : List Replica) (i : ℕ) (d new : WithKeeper N)
+      (change : Replica → Replica) → AllStand (map state_of cs) rs → i < length cs → (number_of (get_or cs i d) == n) ≡ true →
+      ((k : ℕ) → k < i → (number_of (get_or cs k d) == n) ≡ false) →
+      ((r : Replica) → with_number rs n ≡ Some r → StandsFor new.state (change r)) → AllStand
+      (map state_of (slice_set cs i new)) (changed_at n change rs)
   put_back [] rs i d new change h lt is before st = absurd (omega arith)
   put_back (c ∷ cs) [] i d new change h lt is before st = absurd h
   put_back (c ∷ cs) (r ∷ rs) zero d new change h lt is before st =

@@ -28,9 +28,13 @@ pub(crate) fn act_at<N: NetKeeper>(
     by: u32,
     act: &Act,
 ) -> Result<Option<View>, Refusal>
-    ensures acted { (r : Replica) (sent : List Sent) → StandsFor coordinator.old.state r → packets.old.items ≡ map seen sent → OnOk result (IsActed coordinator.new.state packets.new.items r sent by act.now) }
+    ensures acted { (r : Replica) (sent : List Sent) → StandsFor coordinator.old.state r
+        → packets.old.items ≡ map seen sent
+        → OnOk result (IsActed coordinator.new.state packets.new.items r sent by act.now) }
     ensures view { IfOk result (λ view. view ≡ shown (Some coordinator.old.state) act.now) }
-    ensures err { (r : Replica) (sent : List Sent) → StandsFor coordinator.old.state r → packets.old.items ≡ map seen sent → IfErr result (λ refusal. refusal ≡ or_else Refusal.OutOfMemory (cause_here r (event_asked sent act.now))) }
+    ensures err { (r : Replica) (sent : List Sent) → StandsFor coordinator.old.state r
+        → packets.old.items ≡ map seen sent → IfErr result
+        (λ refusal. refusal ≡ or_else Refusal.OutOfMemory (cause_here r (event_asked sent act.now))) }
     ensures same_state { OnErr result (coordinator.new.state ≡ coordinator.old.state) }
     ensures same_packets { OnErr result (packets.new.items ≡ packets.old.items) }
 {
@@ -56,7 +60,8 @@ fn call_for<N: NetKeeper>(
 ) -> Result<Call, Refusal>
     ensures ok { IfOk result (λ call. call_asked packets.old.items act.now ≡ Some call) }
     ensures room { IfOk result (λ call. HasRoomFor call (vec_len packets.new) (vec_capacity packets.new)) }
-    ensures err { IfErr result (λ refusal. refusal ≡ refusal_asked (bounds coordinator.now.state) (call_asked packets.old.items act.now)) }
+    ensures err { IfErr result (λ refusal. refusal
+        ≡ refusal_asked (bounds coordinator.now.state) (call_asked packets.old.items act.now)) }
     ensures spelled { IsSpelled act.now }
     ensures same { packets.new.items ≡ packets.old.items }
 {
@@ -93,7 +98,8 @@ fn call_for<N: NetKeeper>(
 // The merge of the packet, whose records are shared if they were.
 fn merge_of<N: NetKeeper>(coordinator: &Coordinator<N>, packet: &Packet) -> Result<Call, Refusal>
     ensures ok { IfOk result (λ call. call ≡ Call.Merge packet.now) }
-    ensures err { IfErr result (λ refusal. refusal ≡ refusal_for (bounds coordinator.now.state) (Call.Merge packet.now)) }
+    ensures err { IfErr result (λ refusal. refusal
+        ≡ refusal_for (bounds coordinator.now.state) (Call.Merge packet.now)) }
 {
     match packet.copy() {
         Ok(copy) => Ok(Call::Merge(copy)),

@@ -120,10 +120,12 @@ impl<N: NetKeeper> World<N> {
     /// coordinator's call: BadOp, BadInterval, Trimmed, HistoryFull, OutOfMemory. Then nothing has changed, except
     /// possibly whether a network is fresh.
     pub fn step(&mut self, step: &Step) -> Result<Option<View>, Refusal>
-        ensures stands { (w : WorldOfSets) → WorldStandsFor self.old w → OnOk result (WorldStandsFor self.new (step_of w step.now)) }
+        ensures stands { (w : WorldOfSets) → WorldStandsFor self.old w
+            → OnOk result (WorldStandsFor self.new (step_of w step.now)) }
         ensures accepted { (w : WorldOfSets) → WorldStandsFor self.old w → OnOk result (cause_of w step.now ≡ None) }
         ensures view { IfOk result (λ view. view ≡ shown (state_with self.old.coordinators step.now.at) step.now.act) }
-        ensures err { (w : WorldOfSets) → WorldStandsFor self.old w → IfErr result (λ refusal. refusal ≡ refusal_of w step.now) }
+        ensures err { (w : WorldOfSets) → WorldStandsFor self.old w
+            → IfErr result (λ refusal. refusal ≡ refusal_of w step.now) }
         ensures unchanged { OnErr result (self.new ≡ self.old) }
     {
         match place_of(self.coordinators.as_slice(), step.at) {
@@ -186,11 +188,15 @@ impl<N: NetKeeper> World<N> {
     /// from 0, and why. The steps before it are done. Two coordinators that received the same operations, in whatever
     /// order, number of times and packets, then have equal knowledge, name the same winners, and have one network.
     pub fn run(&mut self, steps: &[Step]) -> Result<(), RunStop>
-        ensures stands { (w : WorldOfSets) → WorldStandsFor self.old w → WorldStandsFor self.new (run_of w (taken_by result steps.now)) }
+        ensures stands { (w : WorldOfSets) → WorldStandsFor self.old w
+            → WorldStandsFor self.new (run_of w (taken_by result steps.now)) }
         ensures accepted { (w : WorldOfSets) → WorldStandsFor self.old w → AreAccepted w (taken_by result steps.now) }
-        ensures stopped { (w : WorldOfSets) → WorldStandsFor self.old w → IfErr result (λ stop. StopsAt w steps.now stop) }
-        ensures each_knows { (w : WorldOfSets) → WorldStandsFor self.old w → EachKnows self.new (run_of w (taken_by result steps.now)) }
-        ensures same_agree { (w : WorldOfSets) → WorldStandsFor self.old w → SameAgree self.new (run_of w (taken_by result steps.now)) }
+        ensures stopped { (w : WorldOfSets) → WorldStandsFor self.old w
+            → IfErr result (λ stop. StopsAt w steps.now stop) }
+        ensures each_knows { (w : WorldOfSets) → WorldStandsFor self.old w
+            → EachKnows self.new (run_of w (taken_by result steps.now)) }
+        ensures same_agree { (w : WorldOfSets) → WorldStandsFor self.old w
+            → SameAgree self.new (run_of w (taken_by result steps.now)) }
     {
         for (place, step) in steps.iter().enumerate() {
             if let Err(refusal) = self.step(step) {
@@ -204,10 +210,13 @@ impl<N: NetKeeper> World<N> {
     /// unchanged, also if the dump is refused: then a prefix was written. NoCoordinator, before anything is written;
     /// WriteFault, OutOfMemory.
     pub fn dump<W: Out>(&mut self, number: CoordId, out: &mut W) -> Result<(), Refusal>
-        ensures ok { (w : WorldOfSets) → WorldStandsFor self.old w → OnOk result (IsDumpOf (with_number w.replicas number) (W.written out.old) (W.written out.new)) }
+        ensures ok { (w : WorldOfSets) → WorldStandsFor self.old w
+            → OnOk result (IsDumpOf (with_number w.replicas number) (W.written out.old) (W.written out.new)) }
         ensures ok_fails_not { OnOk result (W.has_failed out.new ≡ W.has_failed out.old) }
-        ensures err { OnErr result (MatchOption (state_with self.old.coordinators number) (out.new ≡ out.old) (λ s. AppendsPrefix (W.written out.old) (W.written out.new) (dump_text (net_of s.knowledge)))) }
-        ensures cause { IfErr result (λ refusal. MatchOption (state_with self.old.coordinators number) (refusal ≡ Refusal.NoCoordinator) (λ s. StopsBy refusal (W.has_failed out.old) (W.has_failed out.new))) }
+        ensures err { OnErr result (MatchOption (state_with self.old.coordinators number) (out.new ≡ out.old)
+            (λ s. AppendsPrefix (W.written out.old) (W.written out.new) (dump_text (net_of s.knowledge)))) }
+        ensures cause { IfErr result (λ refusal. MatchOption (state_with self.old.coordinators number) (refusal
+            ≡ Refusal.NoCoordinator) (λ s. StopsBy refusal (W.has_failed out.old) (W.has_failed out.new))) }
         ensures same { self.new ≡ self.old }
     {
         match place_of(self.coordinators.as_slice(), number.value()) {

@@ -20,19 +20,31 @@ returns-in-None-clause-cause g c =
 pub returns-in-Some-clause-ok : goal.returns-in-Some-clause-ok
 returns-in-Some-clause-ok g c = λ w h.
     let old = c.index_mut.result.now in
-    let there : state_with c.args.self.now.coordinators c.args.number ≡ Some old.state = ap (λ (l : Kept). state_with l.coordinators c.args.number) (sym c.self.view_is) ∙ found_at c.self.inside.coordinators.items c.args.number c.in-Some.place old (c.in-Some.ensures ∙ (λ i. position (λ d. number_of d == c.value.ensures.number i) (c.as_slice.ensures.value i))) c.index_mut.ensures.value in
+    let there : state_with c.args.self.now.coordinators c.args.number ≡ Some old.state = ap
+    (λ (l : Kept). state_with l.coordinators c.args.number) (sym c.self.view_is) ∙ found_at c.self.inside.coordinators.items
+    c.args.number c.in-Some.place old
+    (c.in-Some.ensures ∙ (λ i. position (λ d. number_of d == c.value.ensures.number i) (c.as_slice.ensures.value i)))
+    c.index_mut.ensures.value in
     dumped c.args.self.now w h c.args.number old.state there _ _ c.dump.result c.dump.ensures.ok
 
 pub returns-in-Some-clause-err : goal.returns-in-Some-clause-err
 returns-in-Some-clause-err g c =
     let old = c.index_mut.result.now in
-    let there : state_with c.args.self.now.coordinators c.args.number ≡ Some old.state = ap (λ (l : Kept). state_with l.coordinators c.args.number) (sym c.self.view_is) ∙ found_at c.self.inside.coordinators.items c.args.number c.in-Some.place old (c.in-Some.ensures ∙ (λ i. position (λ d. number_of d == c.value.ensures.number i) (c.as_slice.ensures.value i))) c.index_mut.ensures.value in
+    let there : state_with c.args.self.now.coordinators c.args.number ≡ Some old.state = ap
+    (λ (l : Kept). state_with l.coordinators c.args.number) (sym c.self.view_is) ∙ found_at c.self.inside.coordinators.items
+    c.args.number c.in-Some.place old
+    (c.in-Some.ensures ∙ (λ i. position (λ d. number_of d == c.value.ensures.number i) (c.as_slice.ensures.value i)))
+    c.index_mut.ensures.value in
     on_err c.dump.result (at_some _ _ (state_with c.args.self.now.coordinators c.args.number) old.state there) c.dump.ensures.err
 
 pub returns-in-Some-clause-cause : goal.returns-in-Some-clause-cause
 returns-in-Some-clause-cause g c =
     let old = c.index_mut.result.now in
-    let there : state_with c.args.self.now.coordinators c.args.number ≡ Some old.state = ap (λ (l : Kept). state_with l.coordinators c.args.number) (sym c.self.view_is) ∙ found_at c.self.inside.coordinators.items c.args.number c.in-Some.place old (c.in-Some.ensures ∙ (λ i. position (λ d. number_of d == c.value.ensures.number i) (c.as_slice.ensures.value i))) c.index_mut.ensures.value in
+    let there : state_with c.args.self.now.coordinators c.args.number ≡ Some old.state = ap
+    (λ (l : Kept). state_with l.coordinators c.args.number) (sym c.self.view_is) ∙ found_at c.self.inside.coordinators.items
+    c.args.number c.in-Some.place old
+    (c.in-Some.ensures ∙ (λ i. position (λ d. number_of d == c.value.ensures.number i) (c.as_slice.ensures.value i)))
+    c.index_mut.ensures.value in
     if_err c.dump.result (λ e stop. at_some _ _ (state_with c.args.self.now.coordinators c.args.number) old.state there stop) c.dump.ensures.cause
 
 pub returns-in-Some-clause-same : goal.returns-in-Some-clause-same
