@@ -1,6 +1,6 @@
 -- What machines hold, counted in a walk over the tasks.
 use Rattle.std.proofs.Common.{◌≡◌, ℕ, ◌+◌, ◌*◌, ◌<◌, ◌≤◌, ◌^◌, Bool, true, false, cond, IsTrue, List, [], ◌∷◌, Option, Some, None, refl, sym, ◌∙◌, ap, subst, arith, length, zero-add}
-use Rattle.std.specs.Prelude.{◌==◌, filter, is_some, option_map, sum_by, unwrap_or}
+use Rattle.std.specs.Prelude.{◌==◌, filter, is_some, sum_by, unwrap_or}
 use Rattle.std.specs.BTreeMap.{is_at}
 use Rattle.std.specs.Ordering.{nat_cmp, is_eq}
 use Rattle.std.specs.Cmp.{Equal-is, nat_cmp_total}
@@ -8,46 +8,15 @@ use Rattle.std.proofs.lemmas.Bool.{eqb-true}
 use Rattle.std.proofs.lemmas.Cmp.{tied_itself}
 use Rattle.std.proofs.lemmas.List.Sums.{sum_by-cons}
 use Rattle.fm_lattice.specs.Chains.{nat_same}
-use Rattle.fm_lattice.specs.Maps.{lookup, IsBelow, IsRising}
-use Rattle.fm_lattice.specs.MapLaws.{lookup_below}
-use Rattle.fm_records.specs.Options.{only_if, or_else, passes}
-use Rattle.fm_records.specs.Know.{none_begun}
+use Rattle.fm_records.specs.Options.{only_if, passes}
 use Rattle.fm_records.specs.Table.{Table, TaskValue}
-use Rattle.fm_records.specs.Facts.{attempt_of, request_of, holder_of, holds, held_tasks}
+use Rattle.fm_records.specs.Facts.{request_of, holder_of, holds, held_tasks}
 use Rattle.fm_round.specs.declared.holdings.Holding.{Holding}
 use Rattle.fm_round.specs.declared.holdings.Holdings.{Holdings}
 use Rattle.fm_round.specs.Holdings.{is_counted, holding_of, nothing_held, requests_of, share, AreHoldings}
 
--- the rest of a walk over rising rows: it rises, and its rows are those of all
-pub record IsRest {V : Type 0} (all rest : List (ℕ × V)) : Type 0 where
-  pub rising : IsRising nat_cmp rest
-  pub rows : (q : ℕ) (v : V) → lookup nat_cmp q rest ≡ Some v → lookup nat_cmp q all ≡ Some v
-
 itself : (t : ℕ) → is_eq (nat_cmp t t) ≡ true
 itself t = ap is_eq (tied_itself nat_cmp_total t)
-
-module _ {V : Type 0} where
-  -- the row that comes next
-  pub next_row : (all : List (ℕ × V)) (t : ℕ) (v : V) (rest : List (ℕ × V)) → IsRest all ((t, v) ∷ rest) → lookup nat_cmp t all ≡ Some v
-  next_row all t v rest is = is.rows t v (ap (λ b. cond b (Some v) (lookup nat_cmp t rest)) (itself t))
-
-  later_row : (t q : ℕ) (v w : V) (rest : List (ℕ × V)) → IsBelow nat_cmp t rest → lookup nat_cmp q rest ≡ Some w → lookup nat_cmp q ((t, v) ∷ rest) ≡ Some w
-  later_row t q v w rest below found =
-      elim (is_eq (nat_cmp q t)) as (λ b. is_eq (nat_cmp q t) ≡ b → cond b (Some v) (lookup nat_cmp q rest) ≡ Some w) [
-        | true ↦ λ yes.
-            let same : q ≡ t = nat_same q t ((Equal-is (nat_cmp q t)).0 yes) in
-            let none : lookup nat_cmp t rest ≡ None = lookup_below nat_cmp nat_cmp_total nat_same t rest below in
-            let there : lookup nat_cmp t rest ≡ Some w = subst (λ z. lookup nat_cmp z rest ≡ Some w) same found in
-            absurd (let no : ⊥ = cc in no)
-        | false ↦ λ _. found
-      ] refl
-
-  pub walk_on : (all : List (ℕ × V)) (t : ℕ) (v : V) (rest : List (ℕ × V)) → IsRest all ((t, v) ∷ rest) → IsRest all rest
-  walk_on all t v rest is = record { rising = is.rising.1; rows = λ q w found. is.rows q w (later_row t q v w rest is.rising.0 found) }
-
--- the attempt of a task with the record
-pub attempt_found : (k : Table) (t : ℕ) (v : TaskValue) → lookup nat_cmp t k.tasks ≡ Some v → attempt_of k t ≡ v.1.attempt
-attempt_found k t v found = ap (λ o. (or_else none_begun (option_map (λ (w : TaskValue). w.1) o)).attempt) found
 
 -- a machine that is counted does not hold what no machine that is counted holds
 pub not_held : (test : ℕ → Bool) (o : Option ℕ) (m : ℕ) → only_if test o ≡ None → IsTrue (test m) → passes (λ h. h == m) o ≡ false
@@ -94,16 +63,14 @@ pub record IsCounting (k : Table) (rest : List (ℕ × TaskValue)) (holdings : H
   pub tasks : (m : ℕ) → IsTrue (is_counted holdings m) → (holding_of holdings m).tasks + length (filter (λ e. holds k m e.0) rest) ≡ length (held_tasks k m)
   pub requests_fit : (m : ℕ) → (holding_of holdings m).requests + 2 ^ 32 * length rest ≤ 2 ^ 32 * length k.tasks
   pub tasks_fit : (m : ℕ) → (holding_of holdings m).tasks + length rest ≤ length k.tasks
-  pub walk : IsRest k.tasks rest
 
 module _ (k : Table) where
-  pub counting_begins : (holdings : Holdings) → IsRising nat_cmp k.tasks → ((m : ℕ) → holding_of holdings m ≡ nothing_held) → IsCounting k k.tasks holdings
-  counting_begins holdings rising nothing = record {
+  pub counting_begins : (holdings : Holdings) → ((m : ℕ) → holding_of holdings m ≡ nothing_held) → IsCounting k k.tasks holdings
+  counting_begins holdings nothing = record {
     requests = λ m _. ap (λ (h : Holding). h.requests + requests_of k m) (nothing m) ∙ zero-add (requests_of k m);
     tasks = λ m _. ap (λ (h : Holding). h.tasks + length (held_tasks k m)) (nothing m) ∙ zero-add (length (held_tasks k m));
     requests_fit = λ m. let none : (holding_of holdings m).requests ≡ 0 = ap (λ (h : Holding). h.requests) (nothing m) in omega arith;
     tasks_fit = λ m. let none : (holding_of holdings m).tasks ≡ 0 = ap (λ (h : Holding). h.tasks) (nothing m) in omega arith;
-    walk = record { rising = rising; rows = λ q v found. found };
   }
 
   -- the sums over the tasks to come, with the next one apart
@@ -124,7 +91,6 @@ module _ (k : Table) where
         tasks = λ m is. let a = counting.tasks m is in let b = next_task m t v rest false (apart m is) in omega (arith, a, b);
         requests_fit = λ m. let a = counting.requests_fit m in omega (arith, a);
         tasks_fit = λ m. let a = counting.tasks_fit m in omega (arith, a);
-        walk = walk_on k.tasks t v rest counting.walk;
       }
 
   -- a task that a machine holds which is counted
@@ -138,7 +104,6 @@ module _ (k : Table) where
         tasks = λ m is. let a = counting.tasks m (was m is) in let b = next_task m t v rest (n == m) (now m) in let c = tasks m in omega (arith, a, b, c);
         requests_fit = λ m. let a = counting.requests_fit m in let c = requests m in let d = at_most (n == m) r in omega (arith, a, c, d, fits);
         tasks_fit = λ m. let a = counting.tasks_fit m in let c = tasks m in let d = at_most (n == m) 1 in omega (arith, a, c, d);
-        walk = walk_on k.tasks t v rest counting.walk;
       }
 
   pub counting_ends : (holdings : Holdings) → IsCounting k [] holdings → AreHoldings k holdings

@@ -24,8 +24,8 @@ use std::alloc::Global;
 /// What is admitted of the coordinator's plan: the places are decided in their order, and then the preempts, each on
 /// what is known with the operations of the earlier accepted entries, by the first rule that applies. A machine that
 /// got a place has a load of at most its nic after all that is added. O(log n) for each entry, with the moves within
-/// a block of a map; and if the plan has places, one scan of the known tasks, of which those that another machine won
-/// cost a look-up. It is refused only if memory runs out.
+/// a block of a map; and if the plan has places, one scan of the known tasks with the proposals, and look-ups for the
+/// tasks that a machine of the places won. It is refused only if memory runs out.
 pub fn admit(
     alloc: Global,
     knowledge: &Knowledge,

@@ -4,7 +4,9 @@ ghost use Rattle.std.specs.Prelude.{◌≡◌, ◌<◌, ◌+◌, ◌^◌, ℕ, S
 ghost use Rattle.std.specs.Ordering.{nat_cmp};
 ghost use Rattle.fm_lattice.specs.Maps.{lookup};
 ghost use Rattle.fm_records.specs.Sets.{IsMember};
+ghost use Rattle.std.specs.declared.cmp.Ordering.TheVariants.{Less};
 ghost use Rattle.fm_records.specs.Facts.{only_if, holder_of};
+ghost use Rattle.fm_records.specs.Orders.{attempt_cmp};
 ghost use Rattle.fm_round.specs.declared.parts.Place.{Place as Entry};
 ghost use Rattle.fm_round.specs.Holdings.{is_counted, holding_of, share, nothing_held, AreHoldings};
 
@@ -14,6 +16,7 @@ use fm_know::knowledge::Knowledge;
 use fm_lattice::join::OutOfMemory;
 use fm_records::ids::{MachineId, TaskId};
 use fm_records::records::TaskRec;
+use fm_tally::winners::Winners;
 use std::alloc::Global;
 use std::collections::BTreeMap;
 
@@ -37,8 +40,8 @@ pub(crate) struct Holdings {
 }
 
 impl Holdings {
-    /// What each machine of the places holds. Nothing is walked if there is no place; else O(n log n) in the tasks, of
-    /// which one that no such machine won costs a look-up.
+    /// What each machine of the places holds. Nothing is walked if there is no place; else one walk over the tasks with the proposals,
+    /// and look-ups for the tasks that such a machine won.
     pub(crate) fn of(
         alloc: Global,
         knowledge: &Knowledge,
@@ -75,8 +78,9 @@ impl Holdings {
         if self.by_machine.is_empty() {
             return Ok(());
         }
+        let mut winners = Winners::of(knowledge);
         for (task, record) in knowledge.tasks().iter() {
-            if let Some(machine) = self.holder(knowledge, *task, record) {
+            if let Some(machine) = self.holder(knowledge, &mut winners, *task, record) {
                 self.add(machine, request_in(record))?;
             }
         }
@@ -85,12 +89,22 @@ impl Holdings {
 
     // The machine that holds the task with the record, if it is counted. Whether the one that won it is, is asked
     // first.
-    fn holder(&self, knowledge: &Knowledge, task: TaskId, found: &TaskRec) -> Option<MachineId>
-        requires { lookup nat_cmp task knowledge.now.tasks ≡ Some found.now }
-        ensures { result ≡ only_if (is_counted self.now) (holder_of knowledge.now task) }
+    fn holder(
+        &self,
+        knowledge: &Knowledge,
+        winners: &mut Winners<'_>,
+        task: TaskId,
+        found: &TaskRec,
+    ) -> Option<MachineId>
+        requires found { lookup nat_cmp task knowledge.now.tasks ≡ Some found.now }
+        requires entries { lookup attempt_cmp (task, found.now.1.attempt) winners.old
+            ≡ lookup attempt_cmp (task, found.now.1.attempt) knowledge.now.proposals }
+        ensures holder { result ≡ only_if (is_counted self.now) (holder_of knowledge.now task) }
+        ensures ahead { (t a : ℕ) → attempt_cmp (task, found.now.1.attempt) (t, a) ≡ Less
+            → lookup attempt_cmp (t, a) winners.new ≡ lookup attempt_cmp (t, a) winners.old }
     {
-        let winner = knowledge.winner(task, found.1.0.attempt)?;
-        if !self.by_machine.contains_key(&winner.machine) {
+        let spot = winners.spot(task, attempt_in(found))?;
+        if !self.by_machine.contains_key(&spot.machine) {
             return None;
         }
         knowledge.holder(task)
@@ -120,4 +134,10 @@ impl Holdings {
         self.by_machine.insert(machine, holding)?;
         Ok(())
     }
+}
+
+fn attempt_in(task: &TaskRec) -> u32
+    ensures { result ≡ task.now.1.attempt }
+{
+    task.1.0.attempt
 }
