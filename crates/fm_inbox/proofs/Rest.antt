@@ -3,10 +3,11 @@ use Rattle.std.proofs.Common.{◌≡◌, ℕ, ◌+◌, ◌≤◌, List, [], ◌�
 use Rattle.std.proofs.Math.Seq.{get_or-append_seam}
 use Rattle.std.proofs.lemmas.List.{get_or_append_left}
 use Rattle.fm_inbox.proofs.Keeps.{weigh-append}
+use Rattle.atomic_table.specs.Seated.{TableId}
 use Rattle.fm_delta.specs.declared.packet.Packet.{Packet}
 use Rattle.fm_inbox.specs.declared.rule.Account.{Account}
 use Rattle.fm_inbox.specs.Rule.{weigh}
-use Rattle.fm_inbox.specs.Ports.{PortSeen, all_put, all_taken, put_by, taken_by}
+use Rattle.fm_inbox.specs.Ports.{PortSeen, seen_port, AloneHas, all_put, all_taken, put_by, taken_by}
 
 pub weigh-ones : (xs : List Packet) → weigh (λ _. 1) xs ≡ length xs
 weigh-ones [] = refl
@@ -39,3 +40,8 @@ weigh-all_put h (p ∷ ps) = let e = weigh-all_put h ps in omega (arith, e, weig
 pub weigh-all_taken : (h : Packet → ℕ) (ps : List PortSeen) → weigh h (all_taken ps) ≡ weigh (taken_by h) ps
 weigh-all_taken h [] = refl
 weigh-all_taken h (p ∷ ps) = let e = weigh-all_taken h ps in omega (arith, e, weigh-append h p.taken (all_taken ps))
+
+-- a pass of the only port knows how many packets there are
+pub alone : (p : PortSeen) (id : TableId) (v : Account) (n size : ℕ) (items : List Packet) → seen_port id v ≡ p → n ≡ size → length items ≡ n → v.parts ≡ 1 → ((h : Packet → ℕ) → v.whole ≤ v.parts → weigh h v.put ≡ weigh h v.taken + weigh h items) → AloneHas size p
+alone p id v n size items seen is many one fact =
+    subst (AloneHas size) seen (λ only. let e = counted v items fact (omega (arith, one, only)) in omega (arith, e, many, is))

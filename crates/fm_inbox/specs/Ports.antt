@@ -1,5 +1,5 @@
 -- What contracts see of an inbox and of its ports (this project's profile).
-use Rattle.std.specs.Prelude.{◌≡◌, ℕ, List, [], ◌∷◌, ◌++◌}
+use Rattle.std.specs.Prelude.{◌≡◌, ℕ, ◌+◌, ◌-◌, List, [], ◌∷◌, ◌++◌, length}
 use Rattle.crossbeam_queue.specs.Passes.{Pass, view}
 use Rattle.atomic_table.specs.Seated.{TableId}
 use Rattle.fm_delta.specs.declared.packet.Packet.{Packet}
@@ -19,8 +19,17 @@ pub record PortSeen : Type 0 where
   pub put : List Packet
   pub taken : List Packet
 
+-- an inbox with its doors: how many of them are out
+pub record DoorsSeen : Type 0 where
+  pub inbox : InboxSeen
+  pub out : ℕ
+
 abbrev pub seen_inbox : TableId → ℕ → ℕ → InboxSeen
 seen_inbox id ports size = record { id = id; ports = ports; size = size }
+
+-- all doors are out but for so many
+abbrev pub seen_doors : InboxSeen → ℕ → DoorsSeen
+seen_doors b closed = record { inbox = b; out = b.ports - closed }
 
 abbrev pub seen_port : TableId → Account → PortSeen
 seen_port id v = record { inbox = id; ports = v.whole; put = v.put; taken = v.taken }
@@ -36,6 +45,10 @@ IsPortOf b p = (p.inbox ≡ b.id) × (p.ports ≡ b.ports)
 -- and nothing was put or taken through it
 abbrev pub IsNewPortOf : InboxSeen → PortSeen → Type 0
 IsNewPortOf b p = (p.inbox ≡ b.id) × (p.ports ≡ b.ports) × (p.put ≡ []) × (p.taken ≡ [])
+
+-- if it is the only port, its inbox has so many packets: those that were put and not taken
+abbrev pub AloneHas : ℕ → PortSeen → Type 0
+AloneHas n p = p.ports ≡ 1 → length p.put ≡ length p.taken + n
 
 -- the port once a packet was put, or taken, through it
 abbrev pub after_put : PortSeen → Packet → PortSeen

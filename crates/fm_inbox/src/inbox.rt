@@ -3,7 +3,7 @@ ghost use Rattle.std.specs.Prelude.{◌≡◌, ◌<◌, ◌≤◌, ◌+◌, ◌+
 ghost use Rattle.crossbeam_queue.specs.Passes.{IsPassOf, ruled_capacity};
 ghost use Rattle.fm_delta.specs.declared.packet.Packet.{Packet};
 ghost use Rattle.fm_inbox.specs.Rule.{account, weigh, put_of, taken_of, SamePackets};
-ghost use Rattle.fm_inbox.specs.Ports.{IsPortOf, IsNewPortOf, after_put, after_take, all_put, all_taken, put_by, taken_by, known, seen_inbox};
+ghost use Rattle.fm_inbox.specs.Ports.{IsPortOf, IsNewPortOf, AloneHas, after_put, after_take, all_put, all_taken, put_by, taken_by, known, seen_inbox};
 
 use crate::rule::{OneMore, OnePart, Puts, Queue, QueuePass, Takes};
 use fm_delta::packet::Packet;
@@ -73,6 +73,7 @@ impl Inbox {
         requires { (0 < ports) × (0 < size) }
         ensures inbox { IfOk result (λ r. (r.0.ports ≡ ports) × (r.0.size ≡ size)) }
         ensures ports { IfOk result (λ r. (vec_len r.1 ≡ ports) × All (IsNewPortOf r.0) r.1.items) }
+        ensures room { IfOk result (λ r. ports ≤ vec_capacity r.1) }
         ensures err { IsOkUnless result Refusal.OutOfMemory }
     {
         let mut room = Vec::new(alloc);
@@ -91,13 +92,14 @@ impl Inbox {
         Ok((Inbox { queue, ports, room }, made))
     }
 
-    /// Puts a packet after those that are there. The caller must pass a port of this inbox.
-    /// InboxFull, with the packet; then nothing has changed.
+    /// Puts a packet after those that are there. The caller must pass a port of this inbox. InboxFull, with the packet;
+    /// then nothing has changed. If there is no other port, the inbox then has as many packets as it takes.
     pub fn put<R: Wait>(&self, rt: &R, port: &mut Port, packet: Packet) -> Result<(), PutFault>
         requires { IsPortOf self.now port.old }
         ensures ok { OnOk result (port.new ≡ after_put port.old packet) }
         ensures err { IfErr result (λ fault. (fault.refusal ≡ Refusal.InboxFull) × (fault.packet ≡ packet)) }
         ensures unchanged { OnErr result (port.new ≡ port.old) }
+        ensures full { OnErr result (AloneHas self.now.size port.old) }
         ensures port { IsPortOf self.now port.new }
     {
         match self.queue.push_as::<Puts, R>(rt, &mut port.pass, packet) {
@@ -109,13 +111,14 @@ impl Inbox {
         }
     }
 
-    /// Takes the packet that came first. The caller must pass a port of this inbox.
-    /// InboxEmpty; then nothing has changed.
+    /// Takes the packet that came first. The caller must pass a port of this inbox. InboxEmpty; then nothing has changed.
+    /// If there is no other port, all packets that were put have then been taken.
     pub fn take<R: Wait>(&self, rt: &R, port: &mut Port) -> Result<Packet, Refusal>
         requires { IsPortOf self.now port.old }
         ensures ok { IfOk result (λ packet. port.new ≡ after_take port.old packet) }
         ensures err { IfErr result (λ refusal. refusal ≡ Refusal.InboxEmpty) }
         ensures unchanged { OnErr result (port.new ≡ port.old) }
+        ensures empty { OnErr result (AloneHas 0 port.old) }
         ensures port { IsPortOf self.now port.new }
     {
         match self.queue.pop_as::<Takes, R>(rt, &mut port.pass) {
@@ -146,9 +149,42 @@ impl Inbox {
             ports: whole,
             room,
         } = self;
-        let pass = joined(&queue, ports, whole);
-        Ok(left(rt, &queue, pass, room))
+        Ok(emptied(rt, &queue, ports, whole, room))
     }
+
+    /// Takes all packets out, if all ports are there. Nobody can put or take a packet afterwards. It allocates nothing.
+    pub(crate) fn empty<R: Wait>(&self, rt: &R, ports: Vec<Port>, room: Vec<Packet>) -> Vec<Packet>
+        requires whole { self.now.ports ≤ vec_len ports }
+        requires ports { All (IsPortOf self.now) ports.items }
+        requires room { (vec_len room ≡ 0) × (room.items ≡ []) × (self.now.size ≤ vec_capacity room) }
+        ensures { SamePackets (all_put ports.items) (all_taken ports.items ++ result.items) }
+    {
+        emptied(rt, &self.queue, ports, self.ports, room)
+    }
+
+    /// How many ports there are.
+    pub(crate) fn ports(&self) -> u32
+        ensures { result ≡ self.now.ports }
+    {
+        self.ports
+    }
+}
+
+// What a queue still has, by all its ports.
+fn emptied<R: Wait>(
+    rt: &R,
+    queue: &Queue,
+    ports: Vec<Port>,
+    whole: u32,
+    room: Vec<Packet>,
+) -> Vec<Packet>
+    requires some { (0 < whole) × (whole ≤ vec_len ports) }
+    requires ports { All (IsPortOf (seen_inbox queue.now.table.shared.table_id whole (ruled_capacity queue.now))) ports.items }
+    requires room { (vec_len room ≡ 0) × (room.items ≡ []) × (ruled_capacity queue.now ≤ vec_capacity room) }
+    ensures { SamePackets (all_put ports.items) (all_taken ports.items ++ result.items) }
+{
+    let pass = joined(queue, ports, whole);
+    left(rt, queue, pass, room)
 }
 
 // The pass of a port.

@@ -67,7 +67,7 @@ impl Join<Account> for OnePart {
     ghost spent = { account 0 0 [] [] };
 }
 
-/// A packet is added at the back.
+/// A packet is added at the back. A pass with every part also determines what is there.
 pub struct Puts;
 
 impl Outcome<Packet, Account> for Puts {
@@ -75,7 +75,7 @@ impl Outcome<Packet, Account> for Puts {
 }
 
 impl Lesson<Packet, Account> for Puts {
-    ghost fact = { λ v items. (h : _) → weigh h v.put ≡ weigh h v.put };
+    ghost fact = { λ v items. (h : _) → v.whole ≤ v.parts → weigh h v.put ≡ weigh h v.taken + weigh h items };
 }
 
 /// A packet is removed at the front. A pass with every part also determines what is still there.
