@@ -92,7 +92,10 @@ impl Doors {
 
     /// One of the doors that are not out, or none if all are. OutOfMemory; then nothing has changed.
     pub fn open(&mut self) -> Result<Option<Door>, Refusal>
-        ensures door { IfOk result (λ door. MatchOption door ((self.old.out ≡ self.old.inbox.ports) × (self.new ≡ self.old)) (λ d. IsNewPortOf self.old.inbox d.port × (arc_value d.inbox ≡ self.old.inbox) × (self.new.out ≡ self.old.out + 1))) }
+        ensures door { IfOk result (λ door. MatchOption door
+            ((self.old.out ≡ self.old.inbox.ports) × (self.new ≡ self.old))
+            (λ d. IsNewPortOf self.old.inbox d.port × (arc_value d.inbox ≡ self.old.inbox)
+            × (self.new.out ≡ self.old.out + 1))) }
         ensures inbox { self.new.inbox ≡ self.old.inbox }
         ensures unchanged { OnErr result (self.new ≡ self.old) }
         ensures err { IsOkUnless result Refusal.OutOfMemory }
@@ -109,9 +112,11 @@ impl Doors {
     /// is not that of the inbox's ports, with all that was passed.
     pub fn close<R: Wait>(self, rt: &R, out: Vec<Door>) -> Result<Vec<Packet>, DoorsKept>
         requires { All (λ d. IsPortOf self.inbox d.port) out.items }
-        ensures ok { IfOk result (λ left. SamePackets (all_put (map (λ d. d.port) out.items)) (all_taken (map (λ d. d.port) out.items) ++ left.items)) }
+        ensures ok { IfOk result (λ left. SamePackets (all_put (map (λ d. d.port) out.items))
+            (all_taken (map (λ d. d.port) out.items) ++ left.items)) }
         ensures whole { OnOk result (vec_len out ≡ self.inbox.ports) }
-        ensures err { IfErr result (λ kept. (kept.refusal ≡ Refusal.NotMine 0) × (vec_len out ≢ self.inbox.ports)) }
+        ensures err { IfErr result (λ kept. (kept.refusal ≡ Refusal.NotMine 0)
+            × (vec_len out ≢ self.inbox.ports)) }
         ensures back { IfErr result (λ kept. (kept.doors ≡ self) × (kept.out ≡ out)) }
     {
         if out.len() as u64 != self.inbox.ports() as u64 {

@@ -179,7 +179,8 @@ fn emptied<R: Wait>(
     room: Vec<Packet>,
 ) -> Vec<Packet>
     requires some { (0 < whole) × (whole ≤ vec_len ports) }
-    requires ports { All (IsPortOf (seen_inbox queue.now.table.shared.table_id whole (ruled_capacity queue.now))) ports.items }
+    requires ports { All (IsPortOf (seen_inbox queue.now.table.shared.table_id whole (ruled_capacity queue.now)))
+        ports.items }
     requires room { (vec_len room ≡ 0) × (room.items ≡ []) × (ruled_capacity queue.now ≤ vec_capacity room) }
     ensures { SamePackets (all_put ports.items) (all_taken ports.items ++ result.items) }
 {
