@@ -34,7 +34,8 @@ pub fn admit(
 ) -> Result<Admitted, OutOfMemory>
     ensures admitted { IfOk result (λ a. a ≡ admitted knowledge.now coordinator plan.now) }
     ensures in_range { IfOk result (λ a. IsTrue (all_in_range a.ops)) }
-    ensures within_nic { IfOk result (λ a. (m : ℕ) → IsTrue (got_place plan.now.places a.answers m) → IsTrue (is_within_nic (told knowledge.now a.ops) m)) }
+    ensures within_nic { IfOk result (λ a. (m : ℕ) → IsTrue (got_place plan.now.places a.answers m)
+        → IsTrue (is_within_nic (told knowledge.now a.ops) m)) }
 {
     knowledge.known();
     let mut desk = Desk::of(alloc, knowledge)?;
@@ -131,11 +132,14 @@ impl Desk {
     // Tells the operations of an accepted place.
     fn tell_place(&mut self, coordinator: CoordId, place: &Place) -> Result<(), OutOfMemory>
         requires table { IsTable self.old.now }
-        requires unspent { (has_proposal self.old.now place.now.task (attempt_of self.old.now place.now.task) && attempt_of self.old.now place.now.task == last_attempt) ≡ false }
+        requires unspent { (has_proposal self.old.now place.now.task (attempt_of self.old.now place.now.task)
+            && attempt_of self.old.now place.now.task == last_attempt) ≡ false }
         ensures now { OnOk result (self.new.now ≡ told self.old.now (place_ops coordinator self.old.now place.now)) }
-        ensures ops { OnOk result (self.new.ops.items ≡ self.old.ops.items ++ place_ops coordinator self.old.now place.now) }
+        ensures ops { OnOk result (self.new.ops.items
+            ≡ self.old.ops.items ++ place_ops coordinator self.old.now place.now) }
         ensures answers { self.new.answers.items ≡ self.old.answers.items }
-        ensures in_range { OnOk result (IsTrue (all_in_range self.old.ops.items) → IsTrue (all_in_range self.new.ops.items)) }
+        ensures in_range { OnOk result (IsTrue (all_in_range self.old.ops.items)
+            → IsTrue (all_in_range self.new.ops.items)) }
     {
         let attempt = self.now.attempt(place.task).attempt;
         if has_proposal(&self.now, place.task, attempt) {
@@ -158,7 +162,8 @@ impl Desk {
         requires counted { IsTrue (is_counted holdings.old place.now.machine) }
         requires accepted { is_accepted (place_answer coordinator self.old.now place.now) ≡ true }
         ensures now { OnOk result (self.new.now ≡ told self.old.now (place_ops coordinator self.old.now place.now)) }
-        ensures ops { OnOk result (self.new.ops.items ≡ self.old.ops.items ++ place_ops coordinator self.old.now place.now) }
+        ensures ops { OnOk result (self.new.ops.items
+            ≡ self.old.ops.items ++ place_ops coordinator self.old.now place.now) }
         ensures answers { self.new.answers.items ≡ self.old.answers.items }
         ensures ready { OnOk result (IsReady self.new) }
         ensures holdings { OnOk result (AreHoldings self.new.now holdings.new) }
@@ -192,7 +197,8 @@ impl Desk {
         requires ready { IsReady self.old }
         requires holdings { AreHoldings self.old.now holdings.old }
         requires counted { IsTrue (is_counted holdings.old place.now.machine) }
-        ensures took { OnOk result (Took (one_entry (place_answer coordinator self.old.now place.now) (place_ops coordinator self.old.now place.now)) self.old self.new) }
+        ensures took { OnOk result (Took (one_entry (place_answer coordinator self.old.now place.now)
+            (place_ops coordinator self.old.now place.now)) self.old self.new) }
         ensures ready { OnOk result (IsReady self.new) }
         ensures holdings { OnOk result (AreHoldings self.new.now holdings.new) }
         ensures same { OnOk result ((m : ℕ) → is_counted holdings.new m ≡ is_counted holdings.old m) }
@@ -208,7 +214,8 @@ impl Desk {
     // Judges the preempt, and adds its operation if it is accepted.
     fn take_preempt(&mut self, preempt: &Preempt) -> Result<(), OutOfMemory>
         requires { IsReady self.old }
-        ensures took { OnOk result (Took (one_entry (preempt_answer self.old.now preempt.now) (preempt_ops self.old.now preempt.now)) self.old self.new) }
+        ensures took { OnOk result (Took (one_entry (preempt_answer self.old.now preempt.now)
+            (preempt_ops self.old.now preempt.now)) self.old self.new) }
         ensures ready { OnOk result (IsReady self.new) }
     {
         let answer = preempt_answer(&self.now, preempt);

@@ -48,7 +48,8 @@ impl Holdings {
         places: &[Place],
     ) -> Result<Holdings, OutOfMemory>
         ensures holdings { IfOk result (AreHoldings knowledge.now) }
-        ensures counted { IfOk result (λ holdings. (p : Entry) → IsMember p places.now → IsTrue (is_counted holdings p.machine)) }
+        ensures counted { IfOk result (λ holdings. (p : Entry) → IsMember p places.now
+            → IsTrue (is_counted holdings p.machine)) }
     {
         let mut holdings = Holdings::none(alloc, places)?;
         holdings.count(knowledge)?;
@@ -58,7 +59,8 @@ impl Holdings {
     // The machines of the places, none of which holds anything so far.
     fn none(alloc: Global, places: &[Place]) -> Result<Holdings, OutOfMemory>
         ensures nothing { IfOk result (λ holdings. (m : ℕ) → holding_of holdings m ≡ nothing_held) }
-        ensures counted { IfOk result (λ holdings. (p : Entry) → IsMember p places.now → IsTrue (is_counted holdings p.machine)) }
+        ensures counted { IfOk result (λ holdings. (p : Entry) → IsMember p places.now
+            → IsTrue (is_counted holdings p.machine)) }
     {
         let mut holdings = Holdings {
             by_machine: BTreeMap::new(alloc),
@@ -122,8 +124,10 @@ impl Holdings {
         requires counted { IsTrue (is_counted self.old machine) }
         requires requests_fit { (holding_of self.old machine).requests + request < 2 ^ 128 }
         requires tasks_fit { (holding_of self.old machine).tasks + 1 < 2 ^ 64 }
-        ensures requests { OnOk result ((m : ℕ) → (holding_of self.new m).requests ≡ (holding_of self.old m).requests + share machine m request) }
-        ensures tasks { OnOk result ((m : ℕ) → (holding_of self.new m).tasks ≡ (holding_of self.old m).tasks + share machine m 1) }
+        ensures requests { OnOk result ((m : ℕ) → (holding_of self.new m).requests
+            ≡ (holding_of self.old m).requests + share machine m request) }
+        ensures tasks { OnOk result ((m : ℕ) → (holding_of self.new m).tasks
+            ≡ (holding_of self.old m).tasks + share machine m 1) }
         ensures counted { OnOk result ((m : ℕ) → is_counted self.new m ≡ is_counted self.old m) }
     {
         let Holding { requests, tasks } = self.of_machine(machine);

@@ -22,13 +22,16 @@ pub fn law_told()
 
 /// Admission and stops depend on what is known alone: sets with the same table have the same admission and stops.
 pub fn law_sets()
-    ensures admitted { (S T : List Op) (c : ℕ) (plan : Plan) → know S ≡ know T → admitted (know S) c plan ≡ admitted (know T) c plan }
+    ensures admitted { (S T : List Op) (c : ℕ) (plan : Plan) → know S ≡ know T
+        → admitted (know S) c plan ≡ admitted (know T) c plan }
     ensures stops { (S T : List Op) (c : ℕ) → know S ≡ know T → stops_of (know S) c ≡ stops_of (know T) c }
 {}
 
 /// Of a flow in order, the plan's tasks of a request are those with a unit to it, and each machine is listed for a
 /// request as often as there are units between them.
 pub fn law_flows()
-    ensures tasks { (f : Units) (r t : ℕ) → IsRising ends_cmp f → (IsMember t (tasks_of r (waits f)) ↔ (0 < units f (Node.Task t) (Node.Request r))) }
-    ensures machines { (f : Units) (r m : ℕ) → IsRising ends_cmp f → count_by (λ x. x == m) (machines_of r (seats f)) ≡ units f (Node.Request r) (Node.Machine m) }
+    ensures tasks { (f : Units) (r t : ℕ) → IsRising ends_cmp f
+        → (IsMember t (tasks_of r (waits f)) ↔ (0 < units f (Node.Task t) (Node.Request r))) }
+    ensures machines { (f : Units) (r m : ℕ) → IsRising ends_cmp f
+        → count_by (λ x. x == m) (machines_of r (seats f)) ≡ units f (Node.Request r) (Node.Machine m) }
 {}

@@ -43,7 +43,8 @@ fn asked(
     network: &Network,
     flow: &Flow,
 ) -> Result<Vec<((Node, Node), u64)>, OutOfMemory>
-    ensures { IfOk result (λ units. units.items ≡ filter (is_asked network.now) (units_over network.now (units_in flow.now))) }
+    ensures { IfOk result
+        (λ units. units.items ≡ filter (is_asked network.now) (units_over network.now (units_in flow.now))) }
 {
     network.known();
     let mut units = Vec::new(alloc);
@@ -65,7 +66,8 @@ fn add_asked(
     ends: (Node, Node),
     sent: u64,
 ) -> Result<(), OutOfMemory>
-    ensures { OnOk result (units.new.items ≡ units.old.items ++ cond (is_asked_after waiting.now.last (ends, sent)) ((ends, sent) ∷ []) []) }
+    ensures { OnOk result (units.new.items ≡ units.old.items
+        ++ cond (is_asked_after waiting.now.last (ends, sent)) ((ends, sent) ∷ []) []) }
 {
     if waiting.asks(ends.0, ends.1, sent) {
         units.push((ends, sent))?;

@@ -115,7 +115,8 @@ impl Queues {
 
     // Adds the machine of a seat after those of its request.
     fn add(&mut self, alloc: Global, seat: &Seat) -> Result<(), OutOfMemory>
-        ensures { OnOk result ((r : ℕ) → queue_of self.new r ≡ queue_of self.old r ++ option_to_list (when (seat.now.request == r) seat.now.machine)) }
+        ensures { OnOk result ((r : ℕ) → queue_of self.new r
+            ≡ queue_of self.old r ++ option_to_list (when (seat.now.request == r) seat.now.machine)) }
     {
         let queue = self
             .by_request
@@ -137,7 +138,8 @@ impl Queues {
     // unit to.
     fn placed(&mut self, knowledge: &Knowledge, from: Node, to: Node, units: u64) -> Option<Place>
         ensures place { result ≡ placed_next (queue_of self.old) knowledge.now ((from, to), units) }
-        ensures rest { (r : ℕ) → queue_of self.new r ≡ drop (length (tasks_of r (option_to_list (wait_in ((from, to), units))))) (queue_of self.old r) }
+        ensures rest { (r : ℕ) → queue_of self.new r
+            ≡ drop (length (tasks_of r (option_to_list (wait_in ((from, to), units))))) (queue_of self.old r) }
     {
         let Node::Task(task) = from else {
             return None;
@@ -175,7 +177,8 @@ fn places_of(
     knowledge: &Knowledge,
 ) -> Result<Vec<Place>, OutOfMemory>
     requires { AreApart (waits flow.now) }
-    ensures { IfOk result (λ found. found.items ≡ filter_map (placed_in (waits flow.now) seats.now knowledge.now) flow.now) }
+    ensures { IfOk result
+        (λ found. found.items ≡ filter_map (placed_in (waits flow.now) seats.now knowledge.now) flow.now) }
 {
     let mut queues = Queues::of(alloc, seats)?;
     let mut found = Vec::new(alloc);
@@ -226,7 +229,8 @@ fn preempts_of(
     flow: &[((Node, Node), u64)],
     knowledge: &Knowledge,
 ) -> Result<Vec<Preempt>, OutOfMemory>
-    ensures { IfOk result (λ found. found.items ≡ filter_map (preempt_of knowledge.now) (filter_map unscheduled_in flow.now)) }
+    ensures { IfOk result
+        (λ found. found.items ≡ filter_map (preempt_of knowledge.now) (filter_map unscheduled_in flow.now)) }
 {
     let mut found = Vec::new(alloc);
     for arc in flow {

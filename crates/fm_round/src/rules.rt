@@ -93,7 +93,8 @@ pub(crate) fn has_proposal(known: &Knowledge, task: TaskId, attempt: u32) -> boo
 
 // Whether the task's present attempt has a proposal and is the last.
 fn is_spent(known: &Knowledge, task: TaskId) -> bool
-    ensures { result ≡ (has_proposal known.now task (attempt_of known.now task) && attempt_of known.now task == last_attempt) }
+    ensures { result ≡ (has_proposal known.now task (attempt_of known.now task)
+        && attempt_of known.now task == last_attempt) }
 {
     let attempt = known.attempt(task).attempt;
     has_proposal(known, task, attempt) && attempt == u32::MAX
@@ -139,8 +140,10 @@ fn has_room(known: &Knowledge, holdings: &Holdings, machine: MachineId, request:
 
 // The attempt that a place is for: the present one if that has no proposal, else the next, if there is one.
 fn attempt_for(known: &Knowledge, task: TaskId) -> u32
-    requires { (has_proposal known.now task (attempt_of known.now task) && attempt_of known.now task == last_attempt) ≡ false }
-    ensures { result ≡ cond (has_proposal known.now task (attempt_of known.now task)) (attempt_of known.now task + 1) (attempt_of known.now task) }
+    requires { (has_proposal known.now task (attempt_of known.now task) && attempt_of known.now task == last_attempt)
+        ≡ false }
+    ensures { result ≡ cond (has_proposal known.now task (attempt_of known.now task)) (attempt_of known.now task + 1)
+        (attempt_of known.now task) }
 {
     let attempt = known.attempt(task).attempt;
     if has_proposal(known, task, attempt) {
@@ -154,8 +157,10 @@ fn attempt_for(known: &Knowledge, task: TaskId) -> u32
 fn would_hold(known: &Knowledge, coordinator: CoordId, place: &Place) -> bool
     requires live { is_live known.now place.now.task ≡ true }
     requires there { is_open_at known.now place.now.machine place.now.incarnation ≡ true }
-    requires unspent { (has_proposal known.now place.now.task (attempt_of known.now place.now.task) && attempt_of known.now place.now.task == last_attempt) ≡ false }
-    ensures { result ≡ holds (told known.now (place_ops coordinator known.now place.now)) place.now.machine place.now.task }
+    requires unspent { (has_proposal known.now place.now.task (attempt_of known.now place.now.task)
+        && attempt_of known.now place.now.task == last_attempt) ≡ false }
+    ensures { result ≡ holds (told known.now (place_ops coordinator known.now place.now)) place.now.machine
+        place.now.task }
 {
     known.known();
     let winner = known.winner(place.task, attempt_for(known, place.task));
@@ -200,7 +205,9 @@ fn spot_with(winner: Option<Winner>, coordinator: CoordId, proposed: Spot) -> Sp
 
 // Whether the task is live and held, in the attempt that the preempt names.
 fn is_preemptable(known: &Knowledge, preempt: &Preempt) -> bool
-    ensures { not result ≡ (not (is_live known.now preempt.now.task) || not (is_held known.now preempt.now.task) || not (attempt_of known.now preempt.now.task == preempt.now.attempt)) }
+    ensures { not result
+        ≡ (not (is_live known.now preempt.now.task) || not (is_held known.now preempt.now.task) || not
+        (attempt_of known.now preempt.now.task == preempt.now.attempt)) }
 {
     known.is_live(preempt.task)
         && is_held(known, preempt.task)

@@ -13,7 +13,8 @@ use fm_records::refusal::Refusal;
 /// All deltas that were kept from place `from` on, as one delta: that of all their operations. Refused for
 /// BadInterval if `from` is beyond the end, for Trimmed if it was trimmed, or if memory runs out.
 pub fn since(buffer: &Buffer, from: u64) -> Result<Knowledge, Refusal>
-    ensures { (Ss : List (List Op)) → between buffer.now.deltas from (end_of buffer.now.deltas) ≡ map know Ss → IfOk result (λ k. k ≡ know (union Ss)) }
+    ensures { (Ss : List (List Op)) → between buffer.now.deltas from (end_of buffer.now.deltas) ≡ map know Ss
+        → IfOk result (λ k. k ≡ know (union Ss)) }
 {
     buffer.cut(from, buffer.end())
 }

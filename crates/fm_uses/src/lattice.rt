@@ -26,8 +26,10 @@ pub fn take_both(
     first: &Readings,
     second: &Readings,
 ) -> Result<(), OutOfMemory>
-    ensures merged { OnOk result (readings.new ≡ map_join nat_cmp (max_join nat_cmp) readings.old (map_join nat_cmp (max_join nat_cmp) first.now second.now)) }
-    ensures swapped { OnOk result (readings.new ≡ map_join nat_cmp (max_join nat_cmp) (map_join nat_cmp (max_join nat_cmp) readings.old second.now) first.now) }
+    ensures merged { OnOk result (readings.new
+        ≡ map_join nat_cmp (max_join nat_cmp) readings.old (map_join nat_cmp (max_join nat_cmp) first.now second.now)) }
+    ensures swapped { OnOk result (readings.new
+        ≡ map_join nat_cmp (max_join nat_cmp) (map_join nat_cmp (max_join nat_cmp) readings.old second.now) first.now) }
 {
     law_assoc(readings, first, second);
     law_assoc(readings, second, first);

@@ -23,7 +23,8 @@ pub fn decide(
     knowledge: &Knowledge,
     coordinator: CoordId,
 ) -> Result<Admitted, Refusal>
-    ensures admitted { IfOk result (λ a. (plan : Planned) × IsPlanOf knowledge.now plan × (a ≡ admitted knowledge.now coordinator plan)) }
+    ensures admitted { IfOk result (λ a. (plan : Planned) × IsPlanOf knowledge.now plan
+        × (a ≡ admitted knowledge.now coordinator plan)) }
 {
     law_can_be(knowledge);
     let network = build(alloc, knowledge)?;

@@ -17,7 +17,8 @@ use std::alloc::Global;
 /// What a least flow of the network costs. Refused only if memory runs out.
 pub fn least_cost(alloc: Global, network: &Network) -> Result<u128, Refusal>
     requires { IsBuilt network.now }
-    ensures least { IfOk result (λ least. (units : NodeName → NodeName → ℕ) × IsLeast network.now units × (least ≡ cost_of network.now units)) }
+    ensures least { IfOk result (λ least. (units : NodeName → NodeName → ℕ) × IsLeast network.now units
+        × (least ≡ cost_of network.now units)) }
     ensures err { IfErr result (λ refusal. refusal ≡ Refusal.OutOfMemory) }
 {
     let (flow, _) = solve(alloc, network)?;

@@ -15,7 +15,8 @@ use std::alloc::Global;
 /// memory runs out.
 pub fn relayed(alloc: Global, bytes: &[u8]) -> Result<Vec<u8>, Refusal>
     ensures same { IfOk result (λ out. (p : Packet) × Spells bytes.now p × (out.items ≡ spelling p)) }
-    ensures err { IfErr result (λ refusal. refusal ≡ or_else Refusal.OutOfMemory (option_map Refusal.BadPacket (fault bytes.now))) }
+    ensures err { IfErr result (λ refusal. refusal
+        ≡ or_else Refusal.OutOfMemory (option_map Refusal.BadPacket (fault bytes.now))) }
 {
     let packet = decode(alloc, bytes)?;
     match encode(alloc, &packet) {

@@ -20,7 +20,9 @@ pub fn run_and_dump<N: NetKeeper, W: Out>(
     number: CoordId,
     out: &mut W,
 ) -> Result<(), Refusal>
-    ensures { (w : WorldOfSets) → WorldStandsFor world.old w → OnOk result (IsDumpOf (with_number (run_of w steps.now).replicas number) (W.written out.old) (W.written out.new)) }
+    ensures { (w : WorldOfSets) → WorldStandsFor world.old w
+        → OnOk result (IsDumpOf (with_number (run_of w steps.now).replicas number) (W.written out.old)
+        (W.written out.new)) }
 {
     if let Err(stop) = world.run(steps) {
         return Err(stop.refusal);
