@@ -61,7 +61,8 @@ module _ (k : Table) where
   shift f true s = refl
   shift f false s = refl
 
-  core : (w d : Bool) (jo : Option JobReg) (h : Option ℕ) (s : SpecReg) → and_then (λ (z : SpecReg). option_map (entry h z) (only_if stands jo)) (when (not w && not d) s) ≡ and_then (λ (z : SpecReg). option_map (entry (held_of h (when (not w && passes stands jo && not d) s)) z) jo) (when (not w && passes stands jo && not d) s)
+  core : (w d : Bool) (jo : Option JobReg) (h : Option ℕ) (s : SpecReg)
+      → and_then (λ (z : SpecReg). option_map (entry h z) (only_if stands jo)) (when (not w && not d) s) ≡ and_then (λ (z : SpecReg). option_map (entry (held_of h (when (not w && passes stands jo && not d) s)) z) jo) (when (not w && passes stands jo && not d) s)
   core true d jo h s = refl
   core false true None h s = refl
   core false true (Some r) h s = elim (r.withdrawn) as (λ b. None ≡ and_then (λ (z : SpecReg). option_map (entry (held_of h (when (not b && false) s)) z) (Some r)) (when (not b && false) s)) [ true ↦ refl | false ↦ refl ]
@@ -80,7 +81,9 @@ module _ (k : Table) where
   won_by t p = option_map (λ s. s.machine) (only_if (is_present k) (option_map (λ w. w.1) (winner_of k t p.attempt)))
 
   -- a task with the record that is known
-  pub task_is : (hs : Holdings) (ps : List ((ℕ × ℕ) × List (ℕ × Spot))) (t : ℕ) (v : TaskValue) → ((s : Spot) → is_there hs s ≡ is_present k s) → lookup nat_cmp t k.tasks ≡ Some v → lookup attempt_cmp (t, v.1.attempt) ps ≡ lookup attempt_cmp (t, v.1.attempt) k.proposals → task_by k.jobs (and_then (placed_by hs) (spot_in ps (t, v.1.attempt))) v ≡ task_at k t
+  pub task_is : (hs : Holdings) (ps : List ((ℕ × ℕ) × List (ℕ × Spot))) (t : ℕ) (v : TaskValue) → ((s : Spot) → is_there hs s ≡ is_present k s)
+      → lookup nat_cmp t k.tasks ≡ Some v → lookup attempt_cmp (t, v.1.attempt) ps ≡ lookup attempt_cmp (t, v.1.attempt) k.proposals
+      → task_by k.jobs (and_then (placed_by hs) (spot_in ps (t, v.1.attempt))) v ≡ task_at k t
   task_is hs ps t v there found entries =
       ap (λ h. task_by k.jobs h v) (placed_is hs k there (spot_in ps (t, v.1.attempt)) ∙ ap (λ o. option_map (λ (s : Spot). s.machine) (only_if (is_present k) (option_map (λ (w : ℕ × Spot). w.1) (first_of (or_else [] o))))) entries)
       ∙ same_task (won_by t v.1) v.0 v.1
