@@ -1,0 +1,41 @@
+use Rattle.std.proofs.Common.{◌≡◌, ◌∙◌, refl, sym, subst, ap, ℕ, map, length, List}
+use Rattle.std.specs.List.{All}
+use Rattle.std.specs.List.Sorted.{IsPermutation}
+use Rattle.fm_net.specs.declared.node.Node.TheVariants.{Unscheduled, Task}
+use Rattle.fm_net.specs.Net.{Net}
+use Rattle.fm_net.specs.Network.{net_of}
+use Rattle.fm_certificate.specs.Flows.{units_in, cost_of, IsLeast}
+use Rattle.fm_why.specs.declared.reasons.Choice.{Choice}
+use Rattle.fm_why.specs.Running.{IsDearerOver}
+use Rattle.fm_why.specs.Ways.{IsOnlyRequest, ways_of}
+use Rattle.fm_why.specs.Reasons.{IsChoice}
+use Rattle.fm_why.proofs.Roomy.{only_request, ways_are_roomy}
+use Rattle.fm_why.proofs.why.choices.Goals as goal
+
+pub choices_of-requires-clause-only : goal.choices_of-requires-clause-only
+choices_of-requires-clause-only c =
+    subst (λ (n : Net). IsOnlyRequest n c.args.task c.args.spec.request) (sym c.in_ok-network.ensures) (only_request c.args.knowledge.now c.args.task c.args.spec c.requires.live c.requires.free)
+
+pub returns : goal.returns
+returns c =
+    let k = c.args.knowledge.now in
+    let is : c.in_ok-network.network ≡ net_of k = c.in_ok-network.ensures in
+    let schedule = c.in_ok-schedule.schedule in
+    let spec = c.args.spec in
+    record {
+      request = refl;
+      wait = rw c.requires.job refl;
+      found = record {
+        units = units_in schedule.flow;
+        least = subst (λ (n : Net). IsLeast n (units_in schedule.flow)) is c.in_ok-schedule.ensures.least;
+        cost = subst (λ (n : Net). schedule.least ≡ cost_of n (units_in schedule.flow)) is c.in_ok-schedule.ensures.cost;
+        waits = c.sends.ensures;
+      };
+      waiting = subst (λ (n : Net). IsDearerOver n schedule.least (Task c.args.task) (Unscheduled spec.job) c.more_over.result) is c.more_over.ensures.dearer;
+      each = subst (λ (n : Net). All (IsChoice n schedule.least c.args.task spec.request) c.in_ok-machines.machines.items) is c.in_ok-machines.ensures.each;
+      all =
+          let ways = subst (λ (n : Net). IsPermutation (ways_of k n c.args.task spec.request) (map (λ (e : Choice). e.machine) c.in_ok-machines.machines.items)) is c.in_ok-machines.ensures.all in
+          subst (λ (ms : List ℕ). IsPermutation ms (map (λ (e : Choice). e.machine) c.in_ok-machines.machines.items)) (ways_are_roomy k c.args.task spec c.requires.live c.requires.free) ways;
+      cheapest_first = c.in_ok-machines.ensures.cheapest_first;
+      known = c.len.ensures ∙ ap length c.machines.ensures;
+    }

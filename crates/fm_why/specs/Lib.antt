@@ -1,0 +1,4 @@
+pub mod Running
+pub mod Ways
+pub mod Schedule
+pub mod Reasons

@@ -1,0 +1,50 @@
+-- Why a task waits or runs, in numbers that hold of every schedule.
+use Rattle.std.specs.Prelude.{◌≡◌, ◌↔◌, ℕ, ◌<◌, Some, None, option_map, map, length, IsTrue}
+use Rattle.std.specs.List.{All}
+use Rattle.std.specs.List.Sorted.{IsPermutation, IsNonDecreasingBy}
+use Rattle.std.specs.Option.{IsSomeAnd}
+use Rattle.fm_records.specs.declared.records.SpecReg.{SpecReg}
+use Rattle.fm_records.specs.Table.{Table}
+use Rattle.fm_records.specs.Facts.{job_of, spec_of, live_spec, holder_of}
+use Rattle.fm_net.specs.declared.node.Node.TheVariants.{Unscheduled, Task}
+use Rattle.fm_net.specs.Net.{Net}
+use Rattle.fm_net.specs.Network.{net_of}
+use Rattle.fm_certificate.specs.Flows.{Units, cost_of, IsLeast}
+use Rattle.fm_why.specs.Running.{IsDearer, IsDearerOver}
+use Rattle.fm_why.specs.Ways.{way_cost, roomy}
+use Rattle.fm_why.specs.declared.reasons.Choice.{Choice}
+use Rattle.fm_why.specs.declared.reasons.Choices.{Choices}
+use Rattle.fm_why.specs.declared.reasons.Reasons.{Reasons}
+use Rattle.fm_why.specs.declared.reasons.Reasons.TheVariants.{Unknown, NotLive, Held, Free}
+
+-- a machine to which the task has a way: what the cheaper one costs, and how much dearer each schedule is that runs the task
+-- there
+pub record IsChoice (net : Net) (least t r : ℕ) (choice : Choice) : Type 0 where
+  pub way : Some choice.cost ≡ way_cost net t r choice.machine
+  pub dearer : IsDearer net least t choice.machine choice.dearer
+
+-- the schedule that was found: what it costs, which is least, and whether it leaves the task to its job
+pub record IsFound (net : Net) (t j : ℕ) (choices : Choices) : Type 0 where
+  pub units : Units
+  pub least : IsLeast net units
+  pub cost : choices.least ≡ cost_of net units
+  pub waits : IsTrue choices.waits ↔ (0 < units (Task t) (Unscheduled j))
+
+-- a live task that no machine holds: its request and its price of waiting; the schedule; and each machine to which it has a way,
+-- the cheapest first
+pub record AreChoices (k : Table) (t : ℕ) (spec : SpecReg) (choices : Choices) : Type 0 where
+  pub request : choices.request ≡ spec.request
+  pub wait : Some choices.wait ≡ option_map (λ job. job.wait) (job_of k spec.job)
+  pub found : IsFound (net_of k) t spec.job choices
+  pub waiting : IsDearerOver (net_of k) choices.least (Task t) (Unscheduled spec.job) choices.waiting
+  pub each : All (IsChoice (net_of k) choices.least t spec.request) choices.machines.items
+  pub all : IsPermutation (roomy k spec.request) (map (λ e. e.machine) choices.machines.items)
+  pub cheapest_first : IsNonDecreasingBy (λ e. e.dearer) choices.machines.items
+  pub known : choices.known ≡ length k.machines
+
+-- the reasons are those of the task: it is not known; or not live; or held, and by whom; or free
+abbrev pub AreReasons : Table → ℕ → Reasons → Type 0
+AreReasons k t Unknown = spec_of k t ≡ None
+AreReasons k t NotLive = (live_spec k t ≡ None) × (spec : SpecReg) × (spec_of k t ≡ Some spec)
+AreReasons k t (Held m) = holder_of k t ≡ Some m
+AreReasons k t (Free choices) = (holder_of k t ≡ None) × IsSomeAnd (live_spec k t) (λ spec. AreChoices k t spec choices)

@@ -1,0 +1,17 @@
+//! Where no schedule runs a task, and by which rule: the contract of a function that does nothing.
+
+ghost use Rattle.std.specs.Prelude.{◌≡◌, ℕ, Some, None, false};
+ghost use Rattle.fm_records.specs.declared.records.SpecReg.{SpecReg};
+ghost use Rattle.fm_records.specs.Table.{Table};
+ghost use Rattle.fm_records.specs.Facts.{live_spec, holder_of, is_open, has_room};
+ghost use Rattle.fm_net.specs.Network.{net_of};
+ghost use Rattle.fm_certificate.specs.Flows.{Units};
+ghost use Rattle.fm_why.specs.Running.{RunsOn};
+
+/// No schedule runs a task on a machine that is not open, on one without room for its request if no machine holds it, or on
+/// another machine than the one that holds it. For the network has no arc for it there.
+pub fn law_no_arc()
+    ensures closed { (k : Table) (units : Units) (t m : ℕ) → is_open k m ≡ false → ¬ RunsOn (net_of k) units t m }
+    ensures full { (k : Table) (units : Units) (t m : ℕ) (spec : SpecReg) → live_spec k t ≡ Some spec → holder_of k t ≡ None → has_room k m spec.request ≡ false → ¬ RunsOn (net_of k) units t m }
+    ensures elsewhere { (k : Table) (units : Units) (t m h : ℕ) → holder_of k t ≡ Some h → ¬ (h ≡ m) → ¬ RunsOn (net_of k) units t m }
+{}

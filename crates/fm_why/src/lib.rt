@@ -1,0 +1,8 @@
+//! Why a task waits or runs: how much dearer each schedule is that does otherwise, at least.
+#![tactic(auto)]
+
+mod bounds;
+mod choosing;
+pub mod laws;
+pub mod reasons;
+pub mod why;

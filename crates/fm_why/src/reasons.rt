@@ -1,0 +1,45 @@
+//! Where a task is, and what it would take to run it.
+
+use fm_records::ids::MachineId;
+
+/// A machine to which a task has a way.
+#[derive(Debug, Clone, Copy, PartialEq, Eq, Drop)]
+pub struct Choice {
+    pub machine: MachineId,
+    /// What the cheaper way of the task to it costs: over its request, or over an arc of its own.
+    pub cost: u32,
+    /// How much more than a least schedule each schedule costs that runs the task there, at least.
+    pub dearer: u128,
+}
+
+/// What there is to choose for a live task that no machine holds.
+#[derive(Debug, Drop)]
+pub struct Choices {
+    /// The bandwidth that it requests.
+    pub request: u32,
+    /// What it costs to leave it waiting.
+    pub wait: u32,
+    /// What each least schedule costs.
+    pub least: u128,
+    /// Whether the least schedule that was found leaves it waiting.
+    pub waits: bool,
+    /// How much more than a least schedule each schedule costs that leaves it waiting, at least.
+    pub waiting: u128,
+    /// The machines to which it has a way, the cheapest first.
+    pub machines: Vec<Choice>,
+    /// How many machines are known, open or not.
+    pub known: usize,
+}
+
+/// Where a task is.
+#[derive(Debug, Drop)]
+pub enum Reasons {
+    /// No spec of it is known.
+    Unknown,
+    /// It is withdrawn, or its job is or is not known, or it is done.
+    NotLive,
+    /// The machine holds it.
+    Held(MachineId),
+    /// It is live, and no machine holds it.
+    Free(Choices),
+}

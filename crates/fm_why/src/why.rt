@@ -1,0 +1,109 @@
+//! Why a task waits or runs.
+
+ghost use Rattle.std.specs.Prelude.{◌≡◌, ◌↔◌, ◌<◌, Some, None, IfOk, IfSome, IsTrue, option_map};
+ghost use Rattle.fm_records.specs.Facts.{job_of, live_spec, holder_of};
+ghost use Rattle.fm_net.specs.declared.node.Node.{Node as NodeName};
+ghost use Rattle.fm_net.specs.Network.{net_of};
+ghost use Rattle.fm_certificate.specs.Flows.{units_in};
+ghost use Rattle.fm_why.specs.Schedule.{IsSchedule};
+ghost use Rattle.fm_why.specs.Reasons.{AreChoices, AreReasons};
+
+use crate::bounds::{Schedule, more_over};
+use crate::choosing::choices_of;
+use crate::reasons::{Choices, Reasons};
+use fm_certificate::cost::cost;
+use fm_flow::solve::solve;
+use fm_know::knowledge::Knowledge;
+use fm_know::laws::law_can_be;
+use fm_lattice::join::OutOfMemory;
+use fm_net::network::Network;
+use fm_net::node::Node;
+use fm_policy::build::build;
+use fm_records::ids::TaskId;
+use fm_records::records::{JobReg, SpecReg};
+use std::alloc::Global;
+
+/// Where the task is by what is known; for a live task that no machine holds, what its schedule costs, and how much dearer
+/// each schedule is that runs it on a machine, or leaves it waiting, at least. Refused only if memory runs out. The cost is
+/// that of building the network and of solving it, if the task is live and not held.
+pub fn why(alloc: Global, knowledge: &Knowledge, task: TaskId) -> Result<Reasons, OutOfMemory>
+    ensures { IfOk result (AreReasons knowledge.now task) }
+{
+    if knowledge.spec(task).is_none() {
+        return Ok(Reasons::Unknown);
+    }
+    let Some((spec, job)) = live(knowledge, task) else {
+        return Ok(Reasons::NotLive);
+    };
+    if let Some(machine) = knowledge.holder(task) {
+        return Ok(Reasons::Held(machine));
+    }
+    let choices = choices(alloc, knowledge, task, spec, job)?;
+    Ok(Reasons::Free(choices))
+}
+
+// The spec and the job of the task, if it is live.
+fn live(knowledge: &Knowledge, task: TaskId) -> Option<(SpecReg, JobReg)>
+    ensures spec { option_map (λ e. e.0) result ≡ live_spec knowledge.now task }
+    ensures job { IfSome result (λ e. job_of knowledge.now e.0.job ≡ Some e.1) }
+{
+    let spec = knowledge.live_spec(task)?;
+    let job = knowledge.job(spec.job)?;
+    Some((spec, job))
+}
+
+// What there is to choose for the task.
+fn choices(
+    alloc: Global,
+    knowledge: &Knowledge,
+    task: TaskId,
+    spec: SpecReg,
+    job: JobReg,
+) -> Result<Choices, OutOfMemory>
+    requires live { live_spec knowledge.now task ≡ Some spec }
+    requires job { job_of knowledge.now spec.job ≡ Some job }
+    requires free { holder_of knowledge.now task ≡ None }
+    ensures { IfOk result (AreChoices knowledge.now task spec) }
+{
+    let network = build(alloc, knowledge)?;
+    let schedule = schedule_of(alloc, knowledge, &network)?;
+    let machines = choices_of(alloc, knowledge, &network, &schedule, task, spec.request)?;
+    let (from, to) = (Node::Task(task), Node::Unscheduled(spec.job));
+    Ok(Choices {
+        request: spec.request,
+        wait: job.wait,
+        least: schedule.least,
+        waits: sends(&schedule, &from, &to),
+        waiting: more_over(&network, &schedule, &from, &to),
+        machines,
+        known: knowledge.machines().len(),
+    })
+}
+
+// A least flow of the network, potentials that certify it, and what it costs.
+fn schedule_of(
+    alloc: Global,
+    knowledge: &Knowledge,
+    network: &Network,
+) -> Result<Schedule, OutOfMemory>
+    requires { network.now ≡ net_of knowledge.now }
+    ensures { IfOk result (IsSchedule network.now) }
+{
+    law_can_be(knowledge);
+    let Ok((flow, potentials)) = solve(alloc, network) else {
+        return Err(OutOfMemory);
+    };
+    let least = cost(network, &flow);
+    Ok(Schedule {
+        flow,
+        potentials,
+        least,
+    })
+}
+
+// Whether the flow has units on the arc.
+fn sends(schedule: &Schedule, from: &Node, to: &Node) -> bool
+    ensures { IsTrue result ↔ (0 < units_in schedule.now.flow from.now to.now) }
+{
+    schedule.flow.units(*from, *to).unwrap_or(0) != 0
+}
