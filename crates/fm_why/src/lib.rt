@@ -5,4 +5,5 @@ mod bounds;
 mod choosing;
 pub mod laws;
 pub mod reasons;
+mod tuning;
 pub mod why;

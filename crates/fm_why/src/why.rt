@@ -5,13 +5,18 @@ ghost use Rattle.fm_records.specs.Facts.{job_of, live_spec, holder_of};
 ghost use Rattle.fm_net.specs.declared.node.Node.{Node as NodeName};
 ghost use Rattle.fm_net.specs.Network.{net_of};
 ghost use Rattle.fm_certificate.specs.Flows.{units_in};
+ghost use Rattle.fm_certificate.specs.Certificates.{IsCertified};
 ghost use Rattle.fm_why.specs.Schedule.{IsSchedule};
 ghost use Rattle.fm_why.specs.Reasons.{AreChoices, AreReasons};
 
 use crate::bounds::{Schedule, more_over};
 use crate::choosing::choices_of;
 use crate::reasons::{Choices, Reasons};
+use crate::tuning::tuned;
+use fm_certificate::check::check;
 use fm_certificate::cost::cost;
+use fm_certificate::flow::Flow;
+use fm_certificate::potentials::Potentials;
 use fm_flow::solve::solve;
 use fm_know::knowledge::Knowledge;
 use fm_know::laws::law_can_be;
@@ -66,14 +71,14 @@ fn choices(
     ensures { IfOk result (AreChoices knowledge.now task spec) }
 {
     let network = build(alloc, knowledge)?;
-    let schedule = schedule_of(alloc, knowledge, &network)?;
+    let schedule = schedule_of(alloc, knowledge, &network, task, &spec)?;
     let machines = choices_of(alloc, knowledge, &network, &schedule, task, spec.request)?;
     let (from, to) = (Node::Task(task), Node::Unscheduled(spec.job));
     Ok(Choices {
         request: spec.request,
         wait: job.wait,
         least: schedule.least,
-        waits: sends(&schedule, &from, &to),
+        waits: has_units(&schedule.flow, &from, &to),
         waiting: more_over(&network, &schedule, &from, &to),
         machines,
         known: knowledge.machines().len(),
@@ -85,6 +90,8 @@ fn schedule_of(
     alloc: Global,
     knowledge: &Knowledge,
     network: &Network,
+    task: TaskId,
+    spec: &SpecReg,
 ) -> Result<Schedule, OutOfMemory>
     requires { network.now ≡ net_of knowledge.now }
     ensures { IfOk result (IsSchedule network.now) }
@@ -94,6 +101,8 @@ fn schedule_of(
         return Err(OutOfMemory);
     };
     let least = cost(network, &flow);
+    let goal = goal_of(&flow, task, spec);
+    let potentials = sharpened(alloc, network, &flow, potentials, &goal)?;
     Ok(Schedule {
         flow,
         potentials,
@@ -101,9 +110,43 @@ fn schedule_of(
     })
 }
 
-// Whether the flow has units on the arc.
-fn sends(schedule: &Schedule, from: &Node, to: &Node) -> bool
-    ensures { IsTrue result ↔ (0 < units_in schedule.now.flow from.now to.now) }
+// Where the task's unit goes: to its job if it waits, else to its request, or to a machine that it prefers.
+fn goal_of(flow: &Flow, task: TaskId, spec: &SpecReg) -> Node {
+    let from = Node::Task(task);
+    for (machine, _) in spec.prefer.entries() {
+        if has_units(flow, &from, &Node::Machine(*machine)) {
+            return Node::Machine(*machine);
+        }
+    }
+    let request = Node::Request(spec.request);
+    if has_units(flow, &from, &request) {
+        return request;
+    }
+    Node::Unscheduled(spec.job)
+}
+
+// Potentials by which bounds are as great as can be, if they certify the flow; else the given ones.
+fn sharpened(
+    alloc: Global,
+    network: &Network,
+    flow: &Flow,
+    potentials: Potentials,
+    goal: &Node,
+) -> Result<Potentials, OutOfMemory>
+    requires { IsCertified network.now flow.now potentials }
+    ensures { IfOk result (IsCertified network.now flow.now) }
 {
-    schedule.flow.units(*from, *to).unwrap_or(0) != 0
+    let tried = tuned(alloc, network, flow, &potentials, goal)?;
+    if check(network, flow, &tried) {
+        Ok(tried)
+    } else {
+        Ok(potentials)
+    }
+}
+
+// Whether the flow has units on the arc.
+fn has_units(flow: &Flow, from: &Node, to: &Node) -> bool
+    ensures { IsTrue result ↔ (0 < units_in flow.now from.now to.now) }
+{
+    flow.units(*from, *to).unwrap_or(0) != 0
 }

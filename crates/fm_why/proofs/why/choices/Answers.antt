@@ -29,7 +29,7 @@ returns c =
         units = units_in schedule.flow;
         least = subst (λ (n : Net). IsLeast n (units_in schedule.flow)) is c.in_ok-schedule.ensures.least;
         cost = subst (λ (n : Net). schedule.least ≡ cost_of n (units_in schedule.flow)) is c.in_ok-schedule.ensures.cost;
-        waits = c.sends.ensures;
+        waits = c.has_units.ensures;
       };
       waiting = subst (λ (n : Net). IsDearerOver n schedule.least (Task c.args.task) (Unscheduled spec.job) c.more_over.result) is c.more_over.ensures.dearer;
       each = subst (λ (n : Net). All (IsChoice n schedule.least c.args.task spec.request) c.in_ok-machines.machines.items) is c.in_ok-machines.ensures.each;
