@@ -37,7 +37,8 @@ pub(crate) fn toll_of(
 ) -> Option<Toll>
     requires { IsSchedule network.now schedule.now }
     ensures cost { option_map (λ e. e.cost) result ≡ arc_cost network.now from.now to.now }
-    ensures gap { IfSome result (λ e. IsGap (units_in schedule.now.flow) (potential_in schedule.now.potentials) from.now to.now e.cost e.more) }
+    ensures gap { IfSome result (λ e.
+        IsGap (units_in schedule.now.flow) (potential_in schedule.now.potentials) from.now to.now e.cost e.more) }
     ensures fits { IfSome result (λ e. e.more < 2 ^ 110) }
     ensures dearer { IfSome result (λ e. IsDearerOver network.now schedule.now.least from.now to.now e.more) }
 {
@@ -50,7 +51,8 @@ pub(crate) fn toll_of(
 /// How much dearer flows are that send units over the arc, at least.
 pub(crate) fn more_over(network: &Network, schedule: &Schedule, from: &Node, to: &Node) -> u128
     requires { IsSchedule network.now schedule.now }
-    ensures gap { (arc : ℕ × ℕ) → arc_at network.now from.now to.now ≡ Some arc → IsGap (units_in schedule.now.flow) (potential_in schedule.now.potentials) from.now to.now arc.1 result }
+    ensures gap { (arc : ℕ × ℕ) → arc_at network.now from.now to.now ≡ Some arc
+        → IsGap (units_in schedule.now.flow) (potential_in schedule.now.potentials) from.now to.now arc.1 result }
     ensures fits { result < 2 ^ 110 }
     ensures dearer { IsDearerOver network.now schedule.now.least from.now to.now result }
 {
@@ -85,7 +87,8 @@ fn above_zero(number: i128) -> u128
 // What a further unit over the arc costs, with the potentials of its ends.
 fn reduced(potentials: &Potentials, from: &Node, to: &Node, cost: u32) -> i128
     requires small { AreSmall potentials.now }
-    ensures is { result ≡ reduced_cost cost (potential_in potentials.now from.now) (potential_in potentials.now to.now) }
+    ensures is { result
+        ≡ reduced_cost cost (potential_in potentials.now from.now) (potential_in potentials.now to.now) }
     ensures fits { result <ℤ pos (2 ^ 110) }
 {
     i128::from(cost) + potential(potentials, from) - potential(potentials, to)

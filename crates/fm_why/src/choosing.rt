@@ -18,8 +18,8 @@ use fm_net::node::Node;
 use fm_records::ids::{MachineId, TaskId};
 use std::alloc::Global;
 
-/// The machines to which the task has a way, the cheapest first, and by id if it costs the same. The caller must pass the
-/// request of the task. O(machines log n).
+/// The machines to which the task has a way, the cheapest first, and by id if it costs the same. The caller must pass
+/// the request of the task. O(machines log n).
 pub(crate) fn choices_of(
     alloc: Global,
     knowledge: &Knowledge,
@@ -31,7 +31,8 @@ pub(crate) fn choices_of(
     requires schedule { IsSchedule network.now schedule.now }
     requires only { IsOnlyRequest network.now task request }
     ensures each { IfOk result (λ all. All (IsChoice network.now schedule.now.least task request) all.items) }
-    ensures all { IfOk result (λ all. IsPermutation (ways_of knowledge.now network.now task request) (map (λ e. e.machine) all.items)) }
+    ensures all { IfOk result (λ all.
+        IsPermutation (ways_of knowledge.now network.now task request) (map (λ e. e.machine) all.items)) }
     ensures cheapest_first { IfOk result (λ all. IsNonDecreasingBy (λ e. e.dearer) all.items) }
 {
     let mut found = listed(alloc, knowledge, network, schedule, task, request)?;
@@ -100,8 +101,10 @@ fn over_request(
     machine: MachineId,
 ) -> Option<Toll>
     requires { IsSchedule network.now schedule.now }
-    ensures cost { option_map (λ e. e.cost) result ≡ arc_cost network.now (NodeName.Request request) (NodeName.Machine machine) }
-    ensures dearer { IfSome result (λ e. IsDearerIf network.now schedule.now.least (GoesOver network.now task request machine) e.more) }
+    ensures cost { option_map (λ e. e.cost) result
+        ≡ arc_cost network.now (NodeName.Request request) (NodeName.Machine machine) }
+    ensures dearer { IfSome result (λ e.
+        IsDearerIf network.now schedule.now.least (GoesOver network.now task request machine) e.more) }
 {
     network.known();
     let via = Node::Request(request);
@@ -115,7 +118,8 @@ fn over_request(
 
 // The lesser cost of two ways, and the lesser of what they make dearer; that of one, if there is no other.
 fn cheaper(over: Option<Toll>, own: Option<Toll>) -> Option<Toll>
-    ensures cost { option_map (λ e. e.cost) result ≡ lesser (option_map (λ e. e.cost) over) (option_map (λ e. e.cost) own) }
+    ensures cost { option_map (λ e. e.cost) result
+        ≡ lesser (option_map (λ e. e.cost) over) (option_map (λ e. e.cost) own) }
     ensures over { IfSome result (λ e. IfSome over (λ a. e.more ≤ a.more)) }
     ensures own { IfSome result (λ e. IfSome own (λ b. e.more ≤ b.more)) }
 {

@@ -8,10 +8,12 @@ ghost use Rattle.fm_net.specs.Network.{net_of};
 ghost use Rattle.fm_certificate.specs.Flows.{Units};
 ghost use Rattle.fm_why.specs.Running.{RunsOn};
 
-/// No schedule runs a task on a machine that is not open, on one without room for its request if no machine holds it, or on
-/// another machine than the one that holds it. For the network has no arc for it there.
+/// No schedule runs a task on a machine that is not open, on one without room for its request if no machine holds it, or
+/// on another machine than the one that holds it. For the network has no arc for it there.
 pub fn law_no_arc()
     ensures closed { (k : Table) (units : Units) (t m : ℕ) → is_open k m ≡ false → ¬ RunsOn (net_of k) units t m }
-    ensures full { (k : Table) (units : Units) (t m : ℕ) (spec : SpecReg) → live_spec k t ≡ Some spec → holder_of k t ≡ None → has_room k m spec.request ≡ false → ¬ RunsOn (net_of k) units t m }
-    ensures elsewhere { (k : Table) (units : Units) (t m h : ℕ) → holder_of k t ≡ Some h → ¬ (h ≡ m) → ¬ RunsOn (net_of k) units t m }
+    ensures full { (k : Table) (units : Units) (t m : ℕ) (spec : SpecReg) → live_spec k t ≡ Some spec
+        → holder_of k t ≡ None → has_room k m spec.request ≡ false → ¬ RunsOn (net_of k) units t m }
+    ensures elsewhere { (k : Table) (units : Units) (t m h : ℕ) → holder_of k t ≡ Some h
+        → ¬ (h ≡ m) → ¬ RunsOn (net_of k) units t m }
 {}

@@ -1,5 +1,5 @@
-//! Potentials that tell what it costs to send a unit on from each node to where a task's unit goes now. They are tried: a
-//! check decides whether they certify the flow.
+//! Potentials that tell what it costs to send a unit on from each node to where a task's unit goes now. They are tried:
+//! a check decides whether they certify the flow.
 
 use fm_certificate::flow::Flow;
 use fm_certificate::potentials::Potentials;
@@ -24,8 +24,8 @@ struct Certificate {
     values: Vec<i128>,
 }
 
-/// The potentials, each less what a further unit costs from its node to the goal. With them a bound is exact where a unit
-/// can be sent on so. O(arcs) for each turn until no cost falls.
+/// The potentials, each less what a further unit costs from its node to the goal. With them a bound is exact where a
+/// unit can be sent on so. O(arcs) for each turn until no cost falls.
 pub(crate) fn tuned(
     alloc: Global,
     network: &Network,

@@ -28,9 +28,9 @@ use fm_records::ids::TaskId;
 use fm_records::records::{JobReg, SpecReg};
 use std::alloc::Global;
 
-/// Where the task is by what is known; for a live task that no machine holds, what its schedule costs, and how much dearer
-/// each schedule is that runs it on a machine, or leaves it waiting, at least. Refused only if memory runs out. The cost is
-/// that of building the network and of solving it, if the task is live and not held.
+/// Where the task is by what is known; for a live task that no machine holds, what its schedule costs, and how much
+/// dearer each schedule is that runs it on a machine, or leaves it waiting, at least. Refused only if memory runs out.
+/// The cost is that of building the network and of solving it, if the task is live and not held.
 pub fn why(alloc: Global, knowledge: &Knowledge, task: TaskId) -> Result<Reasons, OutOfMemory>
     ensures { IfOk result (AreReasons knowledge.now task) }
 {
