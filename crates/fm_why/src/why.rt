@@ -2,7 +2,6 @@
 
 ghost use Rattle.std.specs.Prelude.{◌≡◌, ◌↔◌, ◌<◌, Some, None, IfOk, IfSome, IsTrue, option_map};
 ghost use Rattle.fm_records.specs.Facts.{job_of, live_spec, holder_of};
-ghost use Rattle.fm_net.specs.declared.node.Node.{Node as NodeName};
 ghost use Rattle.fm_net.specs.Network.{net_of};
 ghost use Rattle.fm_certificate.specs.Flows.{units_in};
 ghost use Rattle.fm_certificate.specs.Certificates.{IsCertified};
