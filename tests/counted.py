@@ -1,6 +1,9 @@
 """Tests of what calls ask the allocator for: `fm_watch steps` takes the first steps of a script, with and without the last one, and
-tests/refusing.c counts. A record is a pair of a key and a value in a block of 64 pairs at most, which maps share."""
+tests/refusing.c counts. And of what a process keeps: its resident memory. A record is a pair of a key and a value in a block of 64
+pairs at most, which maps share."""
 import json
+import resource
+import subprocess
 
 import drawn
 
@@ -44,6 +47,24 @@ def around(count):
     for at, after in zip(range(1, count + 1), [*range(2, count + 1), 1]):
         steps += [{"at": at, "cut": {"name": "p%d" % at}}, {"at": after, "deliver": "p%d" % at}]
     return steps
+
+
+def stays(program):
+    """What the process keeps of a Full packet that goes round 8 coordinators of a stream, in bytes of resident memory."""
+    stream = subprocess.Popen([program, "follow"], stdin=subprocess.PIPE, stdout=subprocess.PIPE)
+    held, count = [], 20000
+    with stream, open("/proc/%d/statm" % stream.pid) as memory:
+        for lines in ([{"coordinators": [*range(1, 9)]}, {"at": 1, "tell": job()}, *told(1, 0, count)], around(8)):
+            for line in lines:
+                stream.stdin.write(json.dumps(line).encode() + b"\n")
+                stream.stdin.flush()
+                # the digits of an answer come before its end
+                while (answer := stream.stdout.readline()) != b"ok\n":
+                    assert answer and not answer.startswith(b"refusal"), answer
+            memory.seek(0)
+            held.append(int(memory.read().split()[1]) * resource.getpagesize())
+    stayed = held[1] - held[0]
+    yield "a Full packet of 20,000 tasks round 8 coordinators leaves %d bytes, less than two copies" % stayed, stayed < 2 * PAIR * count
 
 
 def all_tests(allocator, program):
