@@ -312,6 +312,10 @@ def followers(program):
 
 # what others publish, and a broker's limits
 
+# a packet of so many bytes has more digits than a line of a stream may have
+TOO_LARGE = 34_000_000
+
+
 def packet_of(told, version=b"FDG2", sender=9, number=7):
     """The bytes of a packet with the operations."""
     operations = {reference.operation(kind, fields) for op in told for kind, fields in op.items()}
@@ -334,8 +338,8 @@ def strangers(program):
                 client.publish("fetohamu/test/" + topic, b'{"token":1,"turn":[]}')
             for topic in ("state/1", "state/2", "deltas/1"):
                 client.publish("fetohamu/test/" + topic, b"", retain=True)
-            client.publish("fetohamu/test/deltas/9", b"FDG2" + bytes(10_000_000))
-            client.publish("fetohamu/test/state/9", b"FDG2" + bytes(10_000_000), retain=True)
+            client.publish("fetohamu/test/deltas/9", b"FDG2" + bytes(TOO_LARGE))
+            client.publish("fetohamu/test/state/9", b"FDG2" + bytes(TOO_LARGE), retain=True)
             client.publish("fetohamu/test/deltas/9", packet_of(older, b"FDG1"))
         yield "told after that", told_to(bridges, told[20:])
         yield "one graph", agree(bridges, told + older)
