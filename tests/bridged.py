@@ -81,6 +81,7 @@ def guarded(program, folder):
 
 
 # what comes on standard input, with the answer's end
+UNKNOWN = b"00000000-0000-0000-0000-000000000077"
 REFUSED = [
     b"x", b"", b"{", b"[1]", b"\xff", b"[" * 100000, b"\0" * (follower.MOST_LINE + 1), b'{"at":1,"tell":{}}', b'{"at":1,"tell":{"job":{"id":1%s}}}' % (b"0" * 5000),
     b'{"coordinators":[1]}', b'{"renew":true}', b'{"at":1,"news":true}', b'{"at":1,"trim":0}', b'{"at":1,"deliver":"p"}',
@@ -88,7 +89,9 @@ REFUSED = [
 LINES = [
     *((line, b"refusal 16\n") for line in REFUSED), (b'{"at":1,"take":"46"}', b"refusal 6\n"), (b'{"at":2,"ask":"graph"}', b"refusal 8\n"),
     (b'{"at":1,"cut":{}}', b"0\nok\n"), (b'{"at":1,"ask":"winners"}', b"ok\n"), (b'{"ask":"agree"}', b"same\nok\n"),
-    (b'{"at":1,"round":true}', b"ok\n"), (b'{"at":1,"ask":"stops"}', b"ok\n")]
+    (b'{"at":1,"round":true}', b"ok\n"), (b'{"at":1,"ask":"stops"}', b"ok\n"),
+    (b'{"at":1,"ask":"why","task":"%s"}' % UNKNOWN, b"task %s is not known\nok\n" % UNKNOWN),
+    (b'{"at":1,"ask":"why","task":"7"}', b"refusal 16\n")]
 
 
 def lines(program):

@@ -1,5 +1,5 @@
 """Tests of what calls ask the allocator for: `fm_watch steps` takes the first steps of a script, with and without the last one, and
-tests/refusing.c counts. And of what a process keeps: its resident memory. A record is a pair of a key and a value in a block of 64
+tests/refusing.c counts. With `fm_watch tallies` a round makes the tally alone. And of what a process keeps: its resident memory. A record is a pair of a key and a value in a block of 64
 pairs at most, which maps share."""
 import json
 import resource
@@ -27,17 +27,17 @@ def told(at, first, count):
     return [{"at": at, "tell": spec(number)} for number in range(first, first + count)]
 
 
-def counted(allocator, program, coordinators, steps, count):
+def counted(allocator, program, coordinators, steps, count, word="steps"):
     """What was counted while the first steps of a script were taken."""
     text = json.dumps({"coordinators": list(coordinators), "steps": steps}).encode()
-    (status, _, err), numbers = allocator.run(program, ["steps", str(count)], text)
+    (status, _, err), numbers = allocator.run(program, [word, str(count)], text)
     assert status == 0, err
     return numbers
 
 
-def more(allocator, program, coordinators, steps, field, last=1):
+def more(allocator, program, coordinators, steps, field, last=1, word="steps"):
     """By how much the last steps of the script raise a count."""
-    before, after = (counted(allocator, program, coordinators, steps, len(steps) - less)[field] for less in (last, 0))
+    before, after = (counted(allocator, program, coordinators, steps, len(steps) - less, word)[field] for less in (last, 0))
     return after - before
 
 
@@ -81,6 +81,11 @@ def all_tests(allocator, program):
     yield "a view after a view of 10,000 tasks asks for %d bytes, at most one share" % asked, 0 < asked < share + 1024
     asked = more(allocator, program, [1], known + [look, cut], "asked")
     yield "a Full packet after a view of 10,000 tasks asks for %d bytes, at most three shares" % asked, 0 < asked < 3 * share + 1024
+    first = more(allocator, program, [1], known + [look], "asked", word="tallies")
+    asked = more(allocator, program, [1], known + [look, look], "asked", word="tallies")
+    yield "a tally of 10,000 tasks asks for %d bytes, and again, with nothing told since, for %d" % (first, asked), first > 0 and asked == 0
+    asked = more(allocator, program, [1], known + [look, *told(1, 10000, 1), look], "asked", word="tallies")
+    yield "a tally after one more task asks for %d bytes, less than two thirds of the first" % asked, 0 < 3 * asked < 2 * first
     ring, count = around(8), 20000
     asked = more(allocator, program, range(1, 9), [{"at": 1, "tell": job()}, *told(1, 0, count), *ring], "asked", len(ring))
     yield "a Full packet of 20,000 tasks round 8 coordinators asks for %d bytes, less than four copies" % asked, 0 < asked < 4 * PAIR * count

@@ -13,6 +13,7 @@ import argparse
 import re
 import sys
 
+import reasons
 import reference
 import rounds
 import strict
@@ -69,9 +70,16 @@ def request_in(line, names):
     if type(value) is dict and len(value) == 2 and strict.fits(value.get("at"), strict.U8):
         (kind, asked), = ((key, given) for key, given in value.items() if key != "at")
         request = at_one(value["at"], kind, asked, names)
+    if type(value) is dict and len(value) == 3 and value.get("ask") == "why" and strict.fits(value.get("at"), strict.U8):
+        request = whose(value["at"], value.get("task"))
     if request is None:
         raise Refused(STRANGE)
     return request
+
+
+def whose(at, task):
+    """What a line with the number of a coordinator and a task asks for, or None."""
+    return ("why", at, reference.number(strict.canonical(task, "id"))) if strict.fits(task, "id") else None
 
 
 def alone(kind, asked):
@@ -253,10 +261,9 @@ class Stream:
         if kind == "take":
             # the digits are read before anybody is looked for
             asked[1] = packet_of(asked[1])
-        if kind in ("news", "take", "ask") and asked[0] not in self.world.coordinators:
+        if kind in ("news", "take", "ask", "why") and asked[0] not in self.world.coordinators:
             raise Refused(NOBODY)
-        return (self.ask(*asked, seen) if kind == "ask" else self.act(*asked, seen) if kind == "act"
-                else getattr(self, kind)(*asked)) or ""
+        return getattr(self, kind)(*asked, *[seen] * (kind in ("ask", "why", "act"))) or ""
 
     def open(self, numbers):
         self.world = reference.World({"coordinators": numbers, "steps": []})
@@ -316,6 +323,11 @@ class Stream:
         if topic == "stops":
             return "".join(stops(known, at))
         return "".join({"graph": reference.graph, "winners": reference.winners}[topic](known))
+
+    def why(self, at, task, seen):
+        """Why the task waits or runs: the text that was seen, if it may be said."""
+        found = reasons.texts_by_flows(reference.Known(self.world.coordinators[at].taken), task)
+        return seen if seen in found else found[0]
 
     def agree(self):
         return reference.agree(self.world)[1]

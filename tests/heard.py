@@ -9,14 +9,16 @@ QUESTIONS = ("graph", "solve", "plan", "winners")
 NUMBERED = {"fleet": ("rounds", 0, 1000), "follow": ("renew-after", 1, 1000000), **dict.fromkeys(QUESTIONS, ("at", 0, 255))}
 LEFT_OUT = {"fleet": 0, "follow": 100000, **dict.fromkeys(QUESTIONS)}
 OPTIONS = tuple(dict.fromkeys("--" + option for option, _, _ in NUMBERED.values()))
-TOPICS = (*BARE, *NUMBERED, "pack", "help")
+NAMED = ("pack", "why")
+TOPICS = (*BARE, *NUMBERED, *NAMED, "help")
+TASK = "00000000-0000-0000-0000-000000000011"
 HELP, PAGE, WRONG = ("help",), ("refusals",), ("wrong",)
 # words of which there are all command lines of up to two
 WORDS = (*TOPICS, "refusals", "grapf", "--", "-", "", "--help", "--help=x", "-h", "-hx", "-x", "-é", "--at", "--at=7", "--rounds",
          "--rounds=3", "--renew-after=3", "--name", "7", "-7", "a", "a=b", "é")
 # and what may stand behind a command, and behind that
 NUMBERS = ("0", "1", "7", "007", "+7", "-0", "-7", "-+7", "255", "256", "1000", "1001", "1000000", "1000001", "1.0", "x", "", "-")
-GIVEN = ([], ["a"], ["-"], [""], ["-x"], ["--", "a"], ["--", "-x"], ["--", "--"])
+GIVEN = ([], ["a"], [TASK], ["-"], [""], ["-x"], ["--", "a"], ["--", "-x"], ["--", "--"])
 BEHIND = ([], ["--"], ["--", "a"], ["a"], ["-h"], ["--help", "a"], ["--at", "7"], ["--rounds=3"], ["--renew-after=3"])
 
 
@@ -43,13 +45,18 @@ def last(asked, rest):
     return asked if len(rest) < 2 else WRONG
 
 
-def packet(rest):
-    """What `pack` asks for by the words behind it."""
+def of_name(command, name):
+    """What a command asks for by its name: `why` takes ids alone, of which the command lines have one form."""
+    return WRONG if command == "why" and name != TASK else (command, name)
+
+
+def named(command, rest):
+    """What a command with a name asks for by the words behind it."""
     if rest[:1] == ["--"]:
-        return ("pack", rest[1]) if len(rest) == 2 else WRONG
+        return of_name(command, rest[1]) if len(rest) == 2 else WRONG
     if not rest:
         return WRONG
-    return flag(rest[0]) if is_flag(rest[0]) else last(("pack", rest[0]), rest[1:])
+    return flag(rest[0]) if is_flag(rest[0]) else last(of_name(command, rest[0]), rest[1:])
 
 
 def counted(command, rest):
@@ -78,8 +85,8 @@ def told(words):
         return HELP if not rest or (len(rest) == 1 and rest[0] in TOPICS) else WRONG
     if first in BARE:
         return last((first,), rest)
-    if first == "pack":
-        return packet(rest)
+    if first in NAMED:
+        return named(first, rest)
     return counted(first, rest) if first in NUMBERED else flag(first)
 
 
@@ -88,8 +95,8 @@ def shortest(asked):
     command, *given = asked
     if command == "refusals":
         return ["help", "refusals"]
-    if command == "pack":
-        return ["pack", "--", *given]
+    if command in NAMED:
+        return [command, "--", *given]
     if given and given[0] != LEFT_OUT[command]:
         return [command, "--" + NUMBERED[command][0], str(given[0])]
     return [command]
@@ -106,7 +113,7 @@ def command_lines():
     """Command lines that ask for much and for little."""
     for count in range(3):
         yield from map(list, itertools.product(WORDS, repeat=count))
-    for command in ("agree", "pack", *NUMBERED):
+    for command in ("agree", *NAMED, *NUMBERED):
         own = "--" + NUMBERED[command][0] if command in NUMBERED else None
         for given, behind in itertools.product((*GIVEN, *options(own)), BEHIND):
             yield [command, *given, *behind]

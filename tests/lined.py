@@ -34,6 +34,11 @@ def asks(numbers, topics=followed.TOPICS):
     return [{"at": at, "ask": topic} for at in numbers for topic in topics] + [{"ask": "agree"}]
 
 
+def explains(numbers, tasks=(TASK, drawn.unique(21), drawn.unique(24))):
+    """Why tasks wait or run."""
+    return [{"at": at, "ask": "why", "task": task} for at in numbers for task in tasks]
+
+
 def seen(program, text, *words, **how):
     """The status of a run on a text, and what it wrote."""
     how = how if "stdin" in how else {"input": text, **how}
@@ -87,8 +92,9 @@ def every_kind():
         OPEN, *told, {"at": 1, "news": True}, {"at": 1, "cut": {"name": "some", "from": 1, "to": 4}}, {"at": 1, "ask": "plan"},
         {"at": 1, "round": True}, {"at": 2, "deliver": "some"}, {"at": 1, "cut": {}}, tell("report", at=2, incarnation=1, used=40),
         {"at": 2, "take": reference.packed(packet)[1].strip()}, b"{", tell("progress", attempt=1), {"at": 1, "news": True},
-        {"at": 1, "trim": 4}, {"at": 2, "round": True}, tell("propose", at=2, attempt=1), *asks([2]), {"renew": True},
-        {"at": 1, "round": True}, {"at": 2, "news": True}, {"at": 2, "deliver": "some"}, *asks([1]))
+        {"at": 1, "trim": 4}, {"at": 2, "round": True}, tell("propose", at=2, attempt=1), *asks([2]), *explains([2]), {"renew": True},
+        {"at": 1, "round": True}, {"at": 2, "news": True}, {"at": 2, "deliver": "some"}, *asks([1]),
+        *explains([1], [TASK, TASK[:-1] + "2", TASK[:-1] + "3", JOB]))
 
 
 class Weaver:
@@ -107,10 +113,11 @@ class Weaver:
 
     def between(self, at):
         """Such a line at the coordinator."""
-        kind = self.chance.choices(("news", "cut", "agree", "renew", "round", "take", "ask"), (6, 3, 3, 1, 1, 6, 12))[0]
+        kind = self.chance.choices(("news", "cut", "agree", "renew", "round", "take", "ask", "why"), (6, 3, 3, 1, 1, 6, 12, 6))[0]
         return {"agree": {"ask": "agree"}, "renew": {"renew": True}, "cut": {"at": at, "cut": {}},
                 "take": {"at": at, "take": self.chance.choice(self.packets)},
-                "ask": {"at": at, "ask": self.chance.choice(followed.TOPICS)}}.get(kind, {"at": at, kind: True})
+                "ask": {"at": at, "ask": self.chance.choice(followed.TOPICS)},
+                "why": self.chance.choice(explains([at]))}.get(kind, {"at": at, kind: True})
 
 
     def strange(self, at):

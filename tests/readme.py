@@ -1,9 +1,11 @@
-"""Tests that the README's commands print what it shows: each line that begins with `$ ` in a block of code, with the lines behind
-it. A command for which the page shows no output is not run."""
+"""Tests that the commands of pages print what they show: each line that begins with `$ ` in a block of code, with the lines behind it.
+A command for which a page shows no output is not run."""
 import pathlib
 import subprocess
 
 ROOT = pathlib.Path(__file__).resolve().parent.parent
+# pages, each with how many commands it shows at least
+PAGES = {"README.md": 4, "docs/why.md": 2}
 
 
 def shown(text):
@@ -26,8 +28,10 @@ def shown(text):
 
 def all_tests():
     """Each test with whether it holds."""
-    found = [(command, output) for command, output in shown((ROOT / "README.md").read_text()) if output.strip()]
-    yield "the README shows what commands print", len(found) >= 4
-    for command, output in found:
-        done = subprocess.run(["bash", "-o", "pipefail", "-c", command], cwd=ROOT, stdout=subprocess.PIPE, stderr=subprocess.DEVNULL, timeout=300)
-        yield "README: " + command, done.stdout.decode() == output
+    for page, least in PAGES.items():
+        found = [(command, output) for command, output in shown((ROOT / page).read_text()) if output.strip()]
+        yield "%s shows what commands print" % page, len(found) >= least
+        for command, output in found:
+            done = subprocess.run(["bash", "-o", "pipefail", "-c", command], cwd=ROOT, stdout=subprocess.PIPE, stderr=subprocess.DEVNULL,
+                                  timeout=300)
+            yield "%s: %s" % (page, command), done.stdout.decode() == output

@@ -168,6 +168,25 @@ a 5 2 0 1 500
 a 5 3 0 1 0
 """
 PLACED = "s 100\nf 3 4 1\nf 4 1 1\nf 5 3 1\n"
+THEORY = "by potentials that certify the schedule: what is sent over an empty arc costs at least its reduced cost more\n"
+RUNS_AT_A = """\
+task ..011 runs in this schedule: leaving it to wait would cost at least 400 more
+this schedule costs 100, and none costs less
+on machine ..00a it costs 100, and each schedule that runs it there costs at least 0 more
+room for its request of 100 on 1 of 1 machines that are known
+""" + THEORY
+WAITS = """\
+task ..011 waits, which costs 100: running it on the cheapest machine with room would cost at least 500 more
+this schedule costs 100, and none costs less
+on machine ..00a it costs 600, and each schedule that runs it there costs at least 500 more
+room for its request of 600 on 1 of 1 machines that are known
+""" + THEORY
+NO_ROOM = """\
+task ..011 waits: no machine has room for its request of 100
+this schedule costs 500, and none costs less
+room for its request of 100 on 0 of 1 machines that are known
+""" + THEORY
+NOT_LIVE = "task ..011 is not live: it is withdrawn or done, or its job is withdrawn or not known\n"
 # runs at coordinator 1: the words, the steps by name, the status, what is written, and the text for standard error
 RUNS = [
     ("graph", "", 0, NOTHING, ""),
@@ -197,6 +216,16 @@ RUNS = [
     ("winners", "J A B T OnB", 0, "..011 0 2 ..00b 1 held\n", ""),
     ("winners", "J A B T OnB OnA", 0, "..011 0 1 ..00a 1 held\n", ""),
     ("winners", "J A B T OnA OnB", 0, "..011 0 1 ..00a 1 held\n", ""),
+    ("why ..011", "J A T", 0, RUNS_AT_A, ""),
+    ("why ..011", "JWait100 A T600", 0, WAITS, ""),
+    ("why ..011", "J A T Used950", 0, NO_ROOM, ""),
+    ("why ..011", "J A T OnA Lost", 0, NO_ROOM, ""),
+    ("why ..011", "J A T OnA", 0, "task ..011 is held by machine ..00a\n", ""),
+    ("why ..011", "J A T TDone", 0, NOT_LIVE, ""),
+    ("why ..011", "A T", 0, NOT_LIVE, ""),
+    ("why ..012", "J A T", 0, "task ..012 is not known\n", ""),
+    ("why ..011", "J NoSlots A", 3, "", "firmament: refusal 2 at step 2\n"),
+    ("why 11", "J A T", 2, "", "error: a task is named by its id, a UUID\n"),
     ("graph", "J NoSlots A", 3, "", "firmament: refusal 2 at step 2\n"),
     ("graph", "MostWait", 0, NOTHING, ""),
     ("winners", "J A T MoreWait", 3, "", "firmament: refusal 2 at step 4\n"),
@@ -267,6 +296,8 @@ WORLDS = [
     ("graph --at 2", "1,2", "2:J 2:A 2:T", 0, WAITING, ""),
     ("graph --at 2", "1,2", "J A CutA 2:T 2:GetA", 0, WAITING, ""),
     ("graph", "2,1", "J A CutA 2:T 2:GetA", 0, WAITING, ""),
+    ("why ..011", "2,1", "J A CutA 2:T 2:GetA", 0, RUNS_AT_A, ""),
+    ("why ..011", "1,2", "J A CutA 2:T 2:GetA", 0, "task ..011 is not known\n", ""),
     ("solve --at 2", "1,2", "J A CutA 2:T 2:GetA", 0, PLACED, ""),
     ("winners --at 1", "1,2", "J A B T OnA CutA 2:OnB 2:CutB 2:GetA GetB", 0, "..011 0 1 ..00a 1 held\n", ""),
     ("winners --at 2", "1,2", "J A B T OnA CutA 2:OnB 2:CutB GetB 2:GetA", 0, "..011 0 1 ..00a 1 held\n", ""),
@@ -381,9 +412,9 @@ def answer(status, out, err):
 
 def runs(seen):
     for words, steps, *wanted in RUNS:
-        yield "%s: %s" % (words, steps), seen(words, script(steps)) == answer(*wanted)
+        yield "%s: %s" % (words, steps), seen(expanded(words), script(steps)) == answer(*wanted)
     for words, numbers, steps, *wanted in WORLDS:
-        yield "%s at %s: %s" % (words, numbers, steps), seen(words, script(steps, numbers)) == answer(*wanted)
+        yield "%s at %s: %s" % (words, numbers, steps), seen(expanded(words), script(steps, numbers)) == answer(*wanted)
     for packet, *wanted in PACKETS:
         yield "unpack " + packet, seen("unpack", packet) == answer(*wanted)
     for words in "--help", "help", "graph -h", "solve --help", "winners --help", "agree --help", "pack --help":

@@ -26,8 +26,8 @@ import reference
 import refusing
 import scripts
 import strict
-from lined import EMPTY_GRAPH, GRAPH, MACHINE, NO_MEMORY, OPEN
-from lined import answers, asks, digits_of, end_of, every_kind, judged, line, lines, seen, short, tell, woven
+from lined import EMPTY_GRAPH, GRAPH, MACHINE, NO_MEMORY, OPEN, TASK
+from lined import answers, asks, digits_of, end_of, every_kind, explains, judged, line, lines, seen, short, tell, woven
 
 LINES, SECONDS = 10000, 60
 LACKING = b"refusal 1\n"
@@ -81,7 +81,7 @@ def scripted(program, count=12):
             given = json.loads(text)
             stream = [{"coordinators": given["coordinators"]}, *given["steps"]]
             end = asks(given["coordinators"])
-            yield judged("%s %d" % (name, seed), program, lines(*stream, *end))
+            yield judged("%s %d" % (name, seed), program, lines(*stream, *end, *explains(given["coordinators"])))
             if name in ("gossip", "tells", "corners"):
                 yield "ends of %s %d" % (name, seed), ends_alike(program, text.encode(), stream + end)
 
@@ -139,6 +139,7 @@ def day(program):
 
 # lines by hand
 
+WHOSE = b'"%s"' % TASK.encode()
 STRANGE = [
     b"", b" ", b"null", b"[]", b"{}", b"7", b"x", b'"ok"', b"ok", b'{"coordinators":[1]}', b'{"coordinators":[1,2]}',
     b'{"renew":false}', b'{"renew":1}', b'{"renew":"true"}', b'{"renew":true,"at":1}', b'{"renew":true,"more":1}',
@@ -150,12 +151,15 @@ STRANGE = [
     b'{"at":1,"cut":{"name":null}}', b'{"at":1,"cut":{"from":-1,"to":0}}', b'{"at":1,"round":false}', b'{"at":1,"round":1}',
     b'{"at":1,"trim":-1}', b'{"at":1,"trim":0.0}', b'{"at":1,"deliver":7}', b'{"at":1,"tell":{}}', b'{"at":1,"tell":{"job":{}}}',
     b'{"at":1,"sell":true}', b'{"at":256,"ask":"graph"}', b'{"at":-1,"ask":"graph"}', b'{"at":1.0,"ask":"graph"}',
+    b'{"at":1,"ask":"why"}', b'{"at":1,"ask":"why","task":17}', b'{"at":1,"ask":"why","task":"17"}', b'{"at":1,"ask":"graph","task":%s}' % WHOSE,
+    b'{"at":1,"ask":"why","task":" %s}' % WHOSE[1:], b'{"at":1,"ask":"why","task":%s,"more":1}' % WHOSE, b'{"ask":"why","task":%s}' % WHOSE,
+    b'{"at":256,"ask":"why","task":%s}' % WHOSE, b'{"at":1,"why":%s}' % WHOSE, b'{"at":1,"task":%s}' % WHOSE,
     b'{"at":"1","ask":"graph"}', b'{"at":null,"ask":"graph"}', b'{"At":1,"ask":"graph"}', b"\xff", b'{"at":1,"deliver":"\xff"}',
     b'{"at":1,"deliver":"\xed\xa0\x80"}', b'{"at":1,"deliver":"\\ud800"}', b"\xef\xbb\xbf" + GRAPH, GRAPH + b"x", GRAPH + GRAPH,
     GRAPH[:-1], b"\0" + GRAPH, b"[" * 200, b'{"a":' * 200, b'{"at":1,"ask":"graph"' + b"\0" + b"}", b'{"coordinators":{1,2}}']
 # what a number without a coordinator is refused for, before all else that is wrong
-AT_NOBODY = ('"ask":"graph"', '"ask":"stops"', '"news":true', '"round":true', '"trim":9', '"deliver":"none"', '"cut":{}',
-             '"cut":{"from":2,"to":1}')
+AT_NOBODY = ('"ask":"graph"', '"ask":"stops"', '"ask":"why","task":"%s"' % TASK, '"news":true', '"round":true', '"trim":9',
+             '"deliver":"none"', '"cut":{}', '"cut":{"from":2,"to":1}')
 NO_PACKETS = b"", b"46", b"46444732", hostile.PACKET[:-1].hex().encode(), hostile.PACKET.hex().encode() + b"00"
 NO_INTERVALS = '"trim":1', '"cut":{"from":1,"to":0}', '"cut":{"from":0,"to":1}', '"cut":{"name":"p","from":0,"to":18446744073709551615}'
 ACCEPTED = [(given, EMPTY_GRAPH) for given in (
@@ -163,7 +167,9 @@ ACCEPTED = [(given, EMPTY_GRAPH) for given in (
     b'{"\\u0061t":1,"ask":"gr\\u0061ph"}')] + [
     (b'{"at":2,"ask":"winners"}', b"ok\n"), (b'{"at":2,"ask":"stops"}', b"ok\n"), (b'{"at":2,"ask":"plan"}', b"ok\n"),
     (b'{"at":2,"ask":"solve"}', b"s 0\nok\n"), (b'{"ask":"agree"}', b"same\nok\n"), (b'{"at":1,"round":true}', b"ok\n"),
-    (b'{"renew":true}', b"ok\n")]
+    (b'{"renew":true}', b"ok\n")] + [
+    (b'{"at":1,"ask":"why","task":"%s"}' % form.encode(), b"task %s is not known\nok\n" % TASK.encode()) for form in (
+        TASK, TASK.upper(), "{%s}" % TASK, TASK.replace("-", ""))]
 # lists of coordinators that none are
 NO_LISTS = (b"[]", b"[0]", b"[65]", b"[1,1]", b"[-1]", b'["1"]', b"[1.0]", b"1", b"{}", b"[1,[2]]", line([*range(1, 66)]), b'[1],"more":1')
 
@@ -365,7 +371,7 @@ def hostile_value(draw, names, packets):
     if chosen < 0.89:
         return {"at": at, "news": True}
     return draw.one_of(({"ask": "agree"}, {"at": at, "cut": {}}, {"at": at, "cut": {"from": 0, "to": draw.whole(64)}}, {"renew": True},
-                        {"coordinators": [at]}, {"at": at, "round": True}))
+                        {"coordinators": [at]}, {"at": at, "round": True}, {"at": at, "ask": "why", "task": draw.id(3)}))
 
 
 def hostile_streams(program, count=LINES, each=100):

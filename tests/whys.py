@@ -131,7 +131,7 @@ def all_tests(program, run):
     script = (ROOT / "examples/waiting.json").read_bytes()
     status, text, _ = why(program, script, ["15"])
     shown = "".join("    " + line if line.strip() else line for line in text.splitlines(keepends=True))
-    yield "why of the README's example", status == 0 and shown in (ROOT / "README.md").read_text()
+    yield "why of the example of docs/why.md", status == 0 and shown in (ROOT / "docs/why.md").read_text()
     status, text, _ = why(program, script, ["\u202615"])
     yield "why by an end of an id", status == 0 and "50 more than waiting" in text and "-000000000015 waits" in text
     for name, tasks, wanted in (("a task that is unknown", ["77"], "no task"), ("a text that fits many", ["0000"], "5 tasks")):

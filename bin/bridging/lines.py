@@ -35,7 +35,9 @@ def kind_of(line: bytes) -> Kind:
         value = DECODER.decode(line.decode())
     except (ValueError, RecursionError):
         return Kind.STRANGE
-    others = value.keys() - {"at"} if isinstance(value, dict) else ()
+    others = value.keys() - {"at"} if isinstance(value, dict) else set()
+    if others == {"ask", "task"}:
+        return Kind.QUESTION
     if len(others) != 1:
         return Kind.STRANGE
     (asked,) = others

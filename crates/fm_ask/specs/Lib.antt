@@ -4,4 +4,5 @@ pub mod Lines
 pub mod Plans
 pub mod Rounds
 pub mod Texts
+pub mod Reasons
 pub mod Queries

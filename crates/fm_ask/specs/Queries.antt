@@ -6,8 +6,9 @@ use Rattle.fm_records.specs.Know.{know}
 use Rattle.fm_world.specs.Stands.{Kept, WorldStandsFor}
 use Rattle.fm_world.specs.Worlds.{WorldOfSets, with_number}
 use Rattle.fm_ask.specs.declared.query.Query.{Query}
-use Rattle.fm_ask.specs.declared.query.Query.TheVariants.{Graph, Solve, Plan, Winners, Stops, Agree, Packet}
+use Rattle.fm_ask.specs.declared.query.Query.TheVariants.{Graph, Solve, Plan, Winners, Stops, Why, Agree, Packet}
 use Rattle.fm_ask.specs.Plans.{IsPlanText, stops_text}
+use Rattle.fm_ask.specs.Reasons.{IsReasonsText}
 use Rattle.fm_ask.specs.Texts.{network_of, graph_of, winners_of, difference, agreement_text, packet_line, IsSolution}
 
 -- this holds of each world of sets that the coordinators stand for
@@ -21,6 +22,7 @@ IsText (Solve n) w text = IsSomeAnd (with_number w.replicas n) (λ r. IsSolution
 IsText (Plan n) w text = IsSomeAnd (with_number w.replicas n) (λ r. IsPlanText (know r.taken) text)
 IsText (Winners n) w text = IsSomeAnd (with_number w.replicas n) (λ r. text ≡ winners_of r)
 IsText (Stops n) w text = IsSomeAnd (with_number w.replicas n) (λ r. text ≡ stops_text (know r.taken) n)
+IsText (Why n task) w text = IsSomeAnd (with_number w.replicas n) (λ r. IsReasonsText (know r.taken) task text)
 IsText Agree w text = text ≡ agreement_text (difference w.replicas)
 IsText (Packet i) w text = IsSomeAnd (slice_get w.packets i) (λ p. text ≡ packet_line p)
 
@@ -36,6 +38,7 @@ Lacks (Solve n) w refusal = (with_number w.replicas n ≡ None) × (refusal ≡ 
 Lacks (Plan n) w refusal = (with_number w.replicas n ≡ None) × (refusal ≡ NoCoordinator)
 Lacks (Winners n) w refusal = (with_number w.replicas n ≡ None) × (refusal ≡ NoCoordinator)
 Lacks (Stops n) w refusal = (with_number w.replicas n ≡ None) × (refusal ≡ NoCoordinator)
+Lacks (Why n task) w refusal = (with_number w.replicas n ≡ None) × (refusal ≡ NoCoordinator)
 Lacks Agree w refusal = ⊥
 Lacks (Packet i) w refusal = (slice_get w.packets i ≡ None) × (refusal ≡ NoPacket)
 

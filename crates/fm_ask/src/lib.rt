@@ -6,6 +6,7 @@ mod lines;
 pub mod packets;
 pub mod plans;
 pub mod query;
+pub mod reasons;
 pub mod rounds;
 pub mod solution;
 pub mod stops;

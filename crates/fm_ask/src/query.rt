@@ -5,12 +5,13 @@ ghost use Rattle.fm_ask.specs.Queries.{ForEachWorld, IsText, differs_in, IsUnans
 
 use crate::agree::{agreement_text, difference};
 use crate::packets::packet_line;
+use crate::reasons::why_text;
 use crate::solution::{least_plan_text, solution_text};
 use crate::stops::stops_text;
 use crate::winners::winners_text;
 use fm_dimacs::out::Over;
 use fm_policy::keeper::NetKeeper;
-use fm_records::ids::CoordId;
+use fm_records::ids::{CoordId, TaskId};
 use fm_records::refusal::Refusal;
 use fm_world::world::World;
 use std::alloc::Global;
@@ -28,6 +29,8 @@ pub enum Query {
     Winners(CoordId),
     /// The entries that the coordinator has to stop, a line each.
     Stops(CoordId),
+    /// Why the task waits or runs, by what the coordinator knows.
+    Why(CoordId, TaskId),
     /// Whether all coordinators know the same: `same`, or `differ A B` of the first and the first that knows something
     /// else.
     Agree,
@@ -64,6 +67,7 @@ pub fn ask<N: NetKeeper>(
         Query::Plan(at) => plan(alloc, world, at)?,
         Query::Winners(at) => winners(alloc, world, at)?,
         Query::Stops(at) => stops(alloc, world, at)?,
+        Query::Why(at, task) => reasons(alloc, world, at, task)?,
         Query::Packet(number) => packet(alloc, world, number)?,
         Query::Agree => return agreement(alloc, world),
     };
@@ -117,6 +121,22 @@ fn stops<N: NetKeeper>(alloc: Global, world: &World<N>, at: CoordId) -> Result<V
     match world.coordinator(at) {
         None => Err(Refusal::NoCoordinator),
         Some(coordinator) => Ok(stops_text(alloc, coordinator.knowledge(), at)?.into_bytes()),
+    }
+}
+
+// Why the task waits or runs, by what the coordinator knows.
+fn reasons<N: NetKeeper>(
+    alloc: Global,
+    world: &World<N>,
+    at: CoordId,
+    task: TaskId,
+) -> Result<Vec<u8>, Refusal>
+    ensures ok { ForEachWorld world.now (λ w. IfOk result (λ text. IsText (Query.Why at task) w text.items)) }
+    ensures err { ForEachWorld world.now (λ w. IfErr result (IsUnanswered (Query.Why at task) w)) }
+{
+    match world.coordinator(at) {
+        None => Err(Refusal::NoCoordinator),
+        Some(coordinator) => Ok(why_text(alloc, coordinator.knowledge(), task)?.into_bytes()),
     }
 }
 

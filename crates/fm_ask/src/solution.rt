@@ -14,7 +14,7 @@ use fm_flow::solve::solve;
 use fm_know::knowledge::Knowledge;
 use fm_know::laws::law_can_be;
 use fm_net::network::Network;
-use fm_planner::planned::plan_of;
+use fm_planner::planned::{plan_for, plan_of};
 use fm_policy::build::build;
 use fm_policy::keeper::NetKeeper;
 use fm_records::refusal::Refusal;
@@ -55,7 +55,8 @@ fn solved(alloc: Global, knowledge: &Knowledge, network: &Network) -> Result<Vec
 }
 
 /// The plan of a least flow of the network of what the coordinator knows. Refused only if memory runs out. It costs what
-/// `plan_of` does, which builds the network only if a plan without it fails its check.
+/// `plan_for` does if the coordinator has a tally, else what `plan_of` does. Both build the network only if a plan
+/// without it fails its check.
 pub fn least_plan_of<N: NetKeeper>(
     alloc: Global,
     coordinator: &Coordinator<N>,
@@ -63,7 +64,14 @@ pub fn least_plan_of<N: NetKeeper>(
     ensures ok { IfOk result (λ plan. IsPlanOf coordinator.now.state.knowledge plan) }
     ensures err { IsOkUnless result Refusal.OutOfMemory }
 {
-    Ok(plan_of(alloc, coordinator.knowledge())?)
+    let knowledge = coordinator.knowledge();
+    match coordinator.tally() {
+        Some(tally) => {
+            let planned = plan_for(alloc, tally, knowledge)?;
+            Ok(planned.plan)
+        }
+        None => Ok(plan_of(alloc, knowledge)?),
+    }
 }
 
 /// That plan as text, a line for each place and each preempt. Refused only if memory runs out. It costs what

@@ -3,7 +3,7 @@ use Rattle.std.proofs.Common.{◌≡◌, ◌⊎◌, ℕ, List, Bool, true, false
 use Rattle.fm_world.specs.Worlds.{WorldOfSets}
 use Rattle.fm_ask.specs.declared.query.Query.{Query}
 use Rattle.fm_ask.specs.Queries.{differs_in}
-use Rattle.fm_words.specs.Telling.{Asked, ask, agree, pack, unpack, run}
+use Rattle.fm_words.specs.Telling.{Asked, ask, agree, pack, unpack, run, why}
 use Rattle.fm_cli.specs.declared.fault.Fault.{Fault}
 use Rattle.fm_cli.specs.declared.ending.Ending.{Ending}
 use Rattle.fm_cli.specs.declared.ending.Ending.TheVariants.{Done, Differ, Wrong, Stopped}
@@ -27,6 +27,7 @@ wants_well (ask q at) text ending output h = answers_well h.query h.world ending
 wants_well agree text ending output h = answers_well h.query h.world ending output h.answered
 wants_well (pack name) text ending output h = answers_well h.query h.world ending output h.answered
 wants_well unpack text ending output h = inl h.0
+wants_well (why task) text ending output h = answers_well h.query h.world ending output h.answered
 
 stopped_not : (fault : Fault) → EndsWell (Stopped fault) → ⊥
 stopped_not fault (inl e) = cc

@@ -12,7 +12,7 @@ use Rattle.fm_ask.specs.Queries.{IsText, differs_in, Lacks}
 use Rattle.fm_ask.specs.Unpacked.{IsUnpacked, IsNotUnpacked}
 use Rattle.fm_words.specs.declared.words.Question.{Question}
 use Rattle.fm_words.specs.declared.words.Question.TheVariants as question
-use Rattle.fm_words.specs.Telling.{Asked, ask, agree, pack, unpack}
+use Rattle.fm_words.specs.Telling.{Asked, ask, agree, pack, unpack, why}
 use Rattle.fm_cli.specs.declared.fault.Fault.{Fault}
 use Rattle.fm_cli.specs.declared.ending.Ending.{Ending}
 use Rattle.fm_cli.specs.declared.ending.Ending.TheVariants.{Done, Differ}
@@ -38,6 +38,11 @@ abbrev pub query_about : Question → Result ℕ Fault → Result (Option Query)
 query_about q (Ok n) = Ok (Some (query_at q n))
 query_about q (Err fault) = Err fault
 
+-- why the task waits or runs, by what a coordinator knows
+abbrev pub why_about : ℕ → Result ℕ Fault → Result (Option Query) Fault
+why_about task (Ok n) = Ok (Some (query.Why n task))
+why_about task (Err fault) = Err fault
+
 -- the query of a command, for a script of these coordinators and names of packets: none if no packet has the name,
 -- and a fault if the coordinator that is asked is not listed
 abbrev pub query_of : Asked → List ℕ → List (List ℕ) → Result (Option Query) Fault
@@ -45,6 +50,7 @@ query_of (ask q at) listed names = query_about q (coordinator_asked listed at)
 query_of agree listed names = Ok (Some query.Agree)
 query_of (pack name) listed names = Ok (option_map query.Packet (position (is_text name) names))
 query_of unpack listed names = Ok None
+query_of (why task) listed names = why_about task (coordinator_asked listed None)
 
 -- the output is the world's text for the query, and the ending says whether coordinators know different things
 abbrev pub AnswersIn : Option Query → WorldOfSets → Ending → List ℕ → Type 0

@@ -22,7 +22,7 @@ use fm_ask::unpack::unpack;
 use fm_edit::keepers::Keeper;
 use fm_input::reading::read_script;
 use fm_input::script::Script;
-use fm_records::ids::CoordId;
+use fm_records::ids::{CoordId, TaskId};
 use fm_records::refusal::Refusal;
 use fm_words::words::{Command, Question};
 use fm_world::world::World;
@@ -41,7 +41,7 @@ pub fn answer(
 {
     match command {
         Command::Unpack => unpacked(alloc, text),
-        Command::Ask { .. } | Command::Agree | Command::Pack { .. } => {
+        Command::Ask { .. } | Command::Agree | Command::Pack { .. } | Command::Why { .. } => {
             answer_script(alloc, progress, command, text)
         }
     }
@@ -132,6 +132,10 @@ fn query_of(command: Command, script: &Script) -> Result<Option<Query>, Fault>
             None => Ok(None),
         },
         Command::Unpack => Ok(None),
+        Command::Why { task } => match asked(&script.coordinators, None) {
+            Ok(number) => Ok(Some(Query::Why(number, TaskId::new(task)))),
+            Err(fault) => Err(fault),
+        },
     }
 }
 

@@ -2,3 +2,4 @@ pub mod Keeps
 pub mod Happens
 pub mod Said
 mod Examples
+pub mod Tallying

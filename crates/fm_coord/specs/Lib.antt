@@ -3,6 +3,7 @@ pub mod Events
 pub mod Causes
 pub mod Replays
 pub mod States
+pub mod Tallied
 pub mod Answers
 pub mod StepLaws
 pub mod SameLaws

@@ -1,7 +1,7 @@
 //! One coordinator with its history: a replica of a delta-state CRDT, by basic anti-entropy in the transitive mode
 //! (Almeida, Shoker and Baquero, 2018).
 
-ghost use Rattle.std.specs.Prelude.{◌≡◌, ◌≤◌, ◌<◌, ◌+◌, ◌^◌, ◌↔◌, ◌∷◌, ◌++◌, [], length, is_none, IsTrue, Some, None, IsOk, IsOkUnless, IfOk, IfErr, OnOk, OnErr};
+ghost use Rattle.std.specs.Prelude.{◌≡◌, ◌≤◌, ◌<◌, ◌+◌, ◌^◌, ◌↔◌, ◌∷◌, ◌++◌, [], length, is_none, IsTrue, Some, None, IsOk, IsOkUnless, IfOk, IfSome, IfErr, OnOk, OnErr};
 ghost use Rattle.std.specs.List.{list_all};
 ghost use Rattle.fm_records.specs.Ops.{op_fault};
 ghost use Rattle.fm_records.specs.Know.{know};
@@ -13,6 +13,7 @@ ghost use Rattle.std.specs.Io.KnownBytes.{Appends};
 ghost use Rattle.fm_dimacs.specs.Sending.{AppendsPrefix, StopsBy, IsSent};
 ghost use Rattle.fm_dimacs.specs.Text.{dump_text};
 ghost use Rattle.fm_round.specs.Admission.{admitted};
+ghost use Rattle.fm_tally.specs.Tallies.{TallyIsFor};
 ghost use Rattle.fm_coord.specs.Events.{Sent, Replica, packet_of};
 ghost use Rattle.fm_coord.specs.Events as event;
 ghost use Rattle.fm_coord.specs.Causes.{cause, refusal_for, room_fault, range_fault, floor_fault};
@@ -20,6 +21,7 @@ ghost use Rattle.fm_coord.specs.Replays.{seen};
 ghost use Rattle.fm_coord.specs.States.{new_state, bounds, entry, took, gave, let_go, noted, cut_packet, range_value, StandsFor, IsEventAt, IsCoordinator};
 
 use crate::entry::{Call, Entry, Range, Reply};
+use crate::tallied::Tallied;
 use crate::view::{Sight, View};
 use fm_delta::buffer::Buffer;
 use fm_delta::packet::Packet;
@@ -34,8 +36,9 @@ use fm_policy::keeper::NetKeeper;
 use fm_records::ids::CoordId;
 use fm_records::ops::Op;
 use fm_records::refusal::Refusal;
-use fm_round::admission::admit;
+use fm_round::admission::{admit, admit_by};
 use fm_round::parts::{Admitted, Plan};
+use fm_tally::tally::Tally;
 use std::alloc::Global;
 use std::marker::Model;
 
@@ -53,6 +56,7 @@ pub struct Coordinator<N: NetKeeper> {
     keeper: N,
     // Whether the keeper follows what is known: it was fresh once, and was given all keys since.
     follows: bool,
+    tallied: Tallied,
 }
 
 impl<N: NetKeeper> Model for Coordinator<N> {
@@ -62,7 +66,7 @@ impl<N: NetKeeper> Model for Coordinator<N> {
 
     ghost view = { λ a. record { state = record { number = a.number; limit = a.limit; knowledge = a.knowledge; deltas = a.buffer.deltas; cuts = a.cuts; history = a.history.items }; keeper = a.keeper } };
 
-    ghost invariant = { λ a. IsKept (record { number = a.number; limit = a.limit; knowledge = a.knowledge; deltas = a.buffer.deltas; cuts = a.cuts; history = a.history.items }) (N.fresh a.keeper) (N.is_for a.keeper) a.follows (N.follows a.keeper) };
+    ghost invariant = { λ a. IsKept (record { number = a.number; limit = a.limit; knowledge = a.knowledge; deltas = a.buffer.deltas; cuts = a.cuts; history = a.history.items }) (N.fresh a.keeper) (N.is_for a.keeper) a.follows (N.follows a.keeper) a.tallied };
 }
 
 impl<N: NetKeeper> Coordinator<N> {
@@ -84,6 +88,7 @@ impl<N: NetKeeper> Coordinator<N> {
             history: Vec::new(alloc),
             keeper,
             follows,
+            tallied: Tallied::new(alloc),
         }
     }
 
@@ -204,6 +209,7 @@ impl<N: NetKeeper> Coordinator<N> {
         )?;
         // A network that cannot follow is stale, and the call is accepted.
         let _ = self.keeper.absorb(self.alloc, &self.knowledge, &changed);
+        self.tallied.absorb(self.alloc, &changed);
         Ok(())
     }
 
@@ -483,8 +489,26 @@ impl<N: NetKeeper> Coordinator<N> {
         Ok(())
     }
 
+    /// Makes the tally of what is known, which `tally` then shows until something is told. The tasks that changed since the last one are
+    /// looked up; many, or all if there was none, are walked over: O(n log n). What is known is shared, so that an admission copies a
+    /// pointer for each block of records. Nothing that contracts speak of changes. OutOfMemory; then there may be no tally.
+    pub fn refresh_tally(&mut self) -> Result<(), OutOfMemory>
+        ensures { self.new ≡ self.old }
+    {
+        self.share_known()?;
+        self.tallied.refresh(self.alloc, &self.knowledge)
+    }
+
+    /// The tally of what is known, if there is one: `refresh_tally` makes it, and what is told drops it.
+    pub fn tally(&self) -> Option<&Tally>
+        ensures { IfSome result (λ tally. TallyIsFor self.now.state.knowledge tally.now) }
+    {
+        self.tallied.tally()
+    }
+
     /// Admits a plan, merges the operations of the accepted entries, and returns these with the answers. If nothing
-    /// is admitted, the delta is empty. HistoryFull, OutOfMemory; then nothing has changed.
+    /// is admitted, the delta is empty. It costs what `admission` does. HistoryFull, OutOfMemory; then nothing has
+    /// changed.
     pub fn commit(&mut self, by: u32, plan: Plan) -> Result<Shared<Admitted>, Refusal>
         ensures ok { IfOk result (λ admitted. self.new.state
             ≡ took self.old.state (know admitted.ops) (entry by (Call.Commit plan) (Reply.Admitted admitted))) }
@@ -499,7 +523,8 @@ impl<N: NetKeeper> Coordinator<N> {
     {
         self.known();
         self.check_room()?;
-        let admitted = self.admitted_by(&plan)?;
+        let decided = self.admission(&plan)?;
+        let admitted = Shared::new(self.alloc, decided)?;
         let delta = Knowledge::told(self.alloc, admitted.get().ops.as_slice())?;
         let committed = Entry {
             by,
@@ -510,13 +535,16 @@ impl<N: NetKeeper> Coordinator<N> {
         Ok(admitted)
     }
 
-    // What is admitted of a plan here.
-    fn admitted_by(&self, plan: &Plan) -> Result<Shared<Admitted>, OutOfMemory>
+    /// What `commit` of the plan would admit now. Nothing changes. Refused only if memory runs out. With a tally it costs O(log n) for
+    /// each entry of the plan, with the moves within a block of a map; without one also a scan of the known tasks.
+    pub fn admission(&self, plan: &Plan) -> Result<Admitted, OutOfMemory>
         ensures admitted { IfOk result (λ a. a ≡ admitted self.now.state.knowledge self.now.state.number plan.now) }
         ensures in_range { IfOk result (λ a. IsTrue (list_all (λ op. is_none (op_fault op)) a.ops)) }
     {
-        let admitted = admit(self.alloc, &self.knowledge, self.number, plan)?;
-        Ok(Shared::new(self.alloc, admitted)?)
+        match self.tallied.tally() {
+            Some(tally) => admit_by(self.alloc, tally, &self.knowledge, self.number, plan),
+            None => admit(self.alloc, &self.knowledge, self.number, plan),
+        }
     }
 
     /// Writes the text of its network, which is built first if it is stale. It adds no entry, and knowledge, deltas

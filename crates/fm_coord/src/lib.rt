@@ -7,6 +7,7 @@ pub mod coordinator;
 pub mod entry;
 pub mod equal;
 pub mod laws;
+mod tallied;
 pub mod view;
 
 // The values with several owners that calls return.

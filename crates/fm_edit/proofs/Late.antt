@@ -5,11 +5,11 @@ use Rattle.fm_records.specs.Table.{Table}
 use Rattle.fm_records.specs.Ranges.{CanBe}
 use Rattle.fm_records.specs.LookupLaws.{both_true}
 use Rattle.fm_records.specs.Joined.{table_join}
-use Rattle.fm_records.specs.JoinedLaws.{table_laws}
 use Rattle.fm_net.specs.Net.{Net}
 use Rattle.fm_net.specs.Network.{net_of}
 use Rattle.fm_policy.specs.Changes.{Keys, changed_keys, joined_keys, has_no_keys}
 use Rattle.fm_policy.specs.Keeping.{TookIn}
+use Rattle.fm_policy.specs.KeepingLaws.{took_on}
 use Rattle.fm_edit.specs.declared.editor.Editor.{Editor}
 use Rattle.fm_edit.specs.Editing.{is_fresh_editor, IsFor}
 use Rattle.fm_edit.specs.Deferring.{was_fresh, HasNetworkOf, CanFollow}
@@ -38,18 +38,7 @@ module _ (joins : (k l : Table) → CanBe k → CanBe l → changed_keys (table_
   pub follows_on : (o : Option Editor) → TookIn true (CanFollow o built net old) now keys → CanFollow o built net new now
   follows_on (Some e) t =
       let held = t.for_before refl in
-      let u = held.1 in (
-        held.0,
-        record {
-          before = u.before;
-          delta = table_join u.delta t.delta;
-          before_can_be = u.before_can_be;
-          delta_can_be = table_laws.closed u.delta t.delta u.delta_can_be t.delta_can_be;
-          for_before = u.for_before;
-          joined = t.joined ∙ ap (λ k. table_join k t.delta) u.joined ∙ table_laws.assoc u.before u.delta t.delta u.before_can_be u.delta_can_be t.delta_can_be;
-          keys = is ∙ (λ i. joined_keys (u.keys i) (t.keys i)) ∙ sym (joins u.delta t.delta u.delta_can_be t.delta_can_be);
-        },
-      )
+      (held.0, took_on joins (IsFor e) old keys new now is (record { before = t.before; delta = t.delta; before_can_be = t.before_can_be; delta_can_be = t.delta_can_be; for_before = λ _. held.1; joined = t.joined; keys = t.keys }))
   follows_on None t = λ fresh.
       let now_none = both_true built (has_no_keys new) fresh in
       let none = parts now_none.1 in

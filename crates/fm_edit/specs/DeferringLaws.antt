@@ -3,12 +3,10 @@ use Rattle.std.proofs.Common.{◌≡◌, ℕ, Bool, true, List, [], ◌∷◌, O
 use Rattle.std.specs.Prelude.{◌&&◌, IsTrue}
 use Rattle.fm_records.specs.Table.{Table}
 use Rattle.fm_records.specs.Ranges.{CanBe}
-use Rattle.fm_records.specs.Know.{know}
-use Rattle.fm_records.specs.RangeLaws.{know_can_be}
 use Rattle.fm_records.specs.LookupLaws.{both_true}
 use Rattle.fm_net.specs.Net.{Net}
 use Rattle.fm_policy.specs.Changes.{Keys, no_keys, is_nil, has_no_keys}
-use Rattle.fm_policy.specs.Keeping.{TookIn}
+use Rattle.fm_policy.specs.KeepingLaws.{took_none}
 use Rattle.fm_edit.specs.declared.deferred.Deferred.{Deferred}
 use Rattle.fm_edit.specs.declared.editor.Editor.{Editor}
 use Rattle.fm_edit.specs.Editing.{is_fresh_editor, IsFor}
@@ -24,22 +22,10 @@ are_none c h =
     let first = both_true (is_nil c.jobs) (is_nil c.tasks) parts.0 in
     λ i. record { jobs = is_none c.jobs first.0 i; tasks = is_none c.tasks first.1 i; machines = is_none c.machines parts.1 i }
 
--- nothing is pending: the table was followed
-pub up_to_date : (is_for : Table → Type 0) (k : Table) (pending : Keys) → CanBe k → has_no_keys pending ≡ true → is_for k → TookIn true is_for k pending
-up_to_date is_for k pending can none here = record {
-  before = k;
-  delta = know [];
-  before_can_be = can;
-  delta_can_be = know_can_be [] refl;
-  for_before = λ _. here;
-  joined = refl;
-  keys = are_none pending none;
-}
-
 follows_by : (o : Option Editor) (built : Bool) (net : Net) (pending : Keys) (k : Table) → CanBe k → IsTrue (was_fresh o built && has_no_keys pending) → HasNetworkOf o net k → CanFollow o built net pending k
 follows_by (Some e) built net pending k can fresh here =
     let parts = both_true (is_fresh_editor e) (has_no_keys pending) fresh in
-    (parts.0, up_to_date (IsFor e) k pending can parts.1 here)
+    (parts.0, took_none (IsFor e) k pending can (are_none pending parts.1) here)
 follows_by None built net pending k can fresh here = λ _. here
 
 pub fresh_deferred_follows : (d : Deferred) (k : Table) → CanBe k → IsTrue (is_fresh_deferred d) → DeferredIsFor d k → DeferredFollows d k

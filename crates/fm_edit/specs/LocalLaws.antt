@@ -7,7 +7,6 @@ use Rattle.std.proofs.Common.{sym, ap, ◌∙◌, inl, inr, arith}
 use Rattle.std.proofs.lemmas.Bool.{eqb-true}
 use Rattle.std.proofs.lemmas.List.Sums.{sum_by-cons}
 use Rattle.fm_lattice.specs.Chains.{nat_same}
-use Rattle.fm_lattice.specs.Joins.{option_join}
 use Rattle.fm_lattice.specs.Maps.{lookup}
 use Rattle.fm_lattice.specs.MapLaws.{same_map, rising_join, lookup_join}
 use Rattle.fm_records.specs.declared.records.JobReg.{JobReg}
@@ -15,10 +14,7 @@ use Rattle.fm_records.specs.declared.records.SpecReg.{SpecReg}
 use Rattle.fm_records.specs.declared.records.Progress.{Progress}
 use Rattle.fm_records.specs.declared.records.Spot.{Spot}
 use Rattle.fm_records.specs.Options.{when, and_then, only_if, passes, or_else}
-use Rattle.fm_records.specs.Orders.{attempt_cmp}
-use Rattle.fm_records.specs.OrderLaws.{total_attempt, same_attempt}
 use Rattle.fm_records.specs.Sets.{IsMember}
-use Rattle.fm_records.specs.TableLaws.{member_rising}
 use Rattle.fm_records.specs.Table.{Table, TaskValue}
 use Rattle.fm_records.specs.Know.{none_begun}
 use Rattle.fm_records.specs.Spelled.{IsTable}
@@ -26,9 +22,10 @@ use Rattle.fm_records.specs.Joined.{table_join}
 use Rattle.fm_records.specs.Facts.{first_of, job_of, spec_of, progress_of, attempt_of, used_of, winner_of, is_done, job_stands, live_spec, is_live, open_state, is_present, won_spot, holder_of, holds, held_tasks, request_of, load_of, spare_of}
 use Rattle.fm_net.specs.declared.node.Node.{Node}
 use Rattle.fm_net.specs.declared.node.Node.TheVariants.{Sink, Unscheduled, Request, Machine, Task}
-use Rattle.fm_net.specs.ListLaws.{entry_member, member_before, member_behind, member_mapped, has_member}
+use Rattle.fm_net.specs.ListLaws.{entry_member, member_mapped, has_member}
 use Rattle.fm_net.specs.Network.{is_held, is_live_of, waits_for, some_task, live_tasks, is_node, places, room_arc, preferred_arc, arc_of}
 use Rattle.fm_policy.specs.Changes.{Keys, changed_tasks, changed_keys}
+use Rattle.fm_policy.specs.ChangeLaws.{join_nothing, task_same, proposal_same}
 use Rattle.fm_net.specs.KeptLists.{lookup_kept, rising_kept}
 use Rattle.fm_edit.specs.Dirty.{SameBeyond, has_id, job_of_task, request_of_task, won_machine, prefers, dirty_task, IsDirtyJob, IsDirtyMachine, IsDirtyRequest, MayTurn, MayDiffer}
 
@@ -38,10 +35,6 @@ not_both : {P : Type 0} (b : Bool) → b ≡ true → b ≡ false → P
 not_both true e f = absurd (let no : ⊥ = cc in no)
 not_both false e f = absurd (let no : ⊥ = cc in no)
 
-join_nothing : {V : Type 0} (join : V → V → V) (o p : Option V) → p ≡ None → option_join join o p ≡ o
-join_nothing join None p e = e
-join_nothing join (Some v) p e = rw e refl
-
 unnamed : {V : Type 0} (keys : List ℕ) (q : ℕ) (o : Option V) → ((v : V) → o ≡ Some v → has_id keys q ≡ true) → has_id keys q ≡ false → o ≡ None
 unnamed keys q None named e = refl
 unnamed keys q (Some v) named e = not_both (has_id keys q) (named v refl) e
@@ -50,20 +43,6 @@ has_named : (keys : List ℕ) (q : ℕ) → IsMember q keys → has_id keys q �
 has_named keys q h = has_member nat_cmp nat_cmp_total nat_same q keys h
 
 module _ (k d : Table) (p : IsTable k) (q : IsTable d) where
-  task_named : (t : ℕ) (v : TaskValue) → lookup nat_cmp t d.tasks ≡ Some v → has_id (changed_tasks d) t ≡ true
-  task_named t v e =
-      has_named (changed_tasks d) t
-      (member_rising nat_cmp nat_cmp_total nat_same t _
-      (member_before t (map (λ x. x.0) d.tasks) (map (λ x. x.0.0) d.proposals)
-      (member_mapped (λ (x : ℕ × TaskValue). x.0) (t, v) d.tasks (entry_member nat_cmp nat_same t v d.tasks e))))
-
-  proposal_named : (t a : ℕ) (v : List (ℕ × Spot)) → lookup attempt_cmp (t, a) d.proposals ≡ Some v → has_id (changed_tasks d) t ≡ true
-  proposal_named t a v e =
-      has_named (changed_tasks d) t
-      (member_rising nat_cmp nat_cmp_total nat_same t _
-      (member_behind t (map (λ x. x.0) d.tasks) (map (λ x. x.0.0) d.proposals)
-      (member_mapped (λ (x : (ℕ × ℕ) × List (ℕ × Spot)). x.0.0) ((t, a), v) d.proposals (entry_member attempt_cmp same_attempt (t, a) v d.proposals e))))
-
   machine_same : (m : ℕ) → has_id (map (λ x. x.0) d.machines) m ≡ false → lookup nat_cmp m (table_join k d).machines ≡ lookup nat_cmp m k.machines
   machine_same m e =
       lookup_join nat_cmp nat_cmp_total nat_same _ m k.machines d.machines p.machines.rising q.machines.rising
@@ -75,14 +54,10 @@ module _ (k d : Table) (p : IsTable k) (q : IsTable d) where
     jobs = λ j e.
         lookup_join nat_cmp nat_cmp_total nat_same _ j k.jobs d.jobs p.jobs.rising q.jobs.rising
         ∙ join_nothing _ _ _ (unnamed (map (λ x. x.0) d.jobs) j _ (λ v f. has_named _ j (member_mapped (λ x. x.0) (j, v) d.jobs (entry_member nat_cmp nat_same j v d.jobs f))) e);
-    tasks = λ t e.
-        lookup_join nat_cmp nat_cmp_total nat_same _ t k.tasks d.tasks p.tasks.rising q.tasks.rising
-        ∙ join_nothing _ _ _ (unnamed (changed_tasks d) t _ (task_named t) e);
+    tasks = λ t e. task_same d k p q t (λ h. not_both (has_id (changed_tasks d) t) (has_named _ t h) e);
     machines = machine_same;
     present = λ s e. ap (λ o. passes (λ r. true) (only_if (λ r. r.up) (and_then (λ v. v.1.0) o)) && passes (λ i. i == s.incarnation) (option_map (λ v. v.0) o)) (machine_same s.machine e);
-    proposals = λ t a e.
-        lookup_join attempt_cmp total_attempt same_attempt _ (t, a) k.proposals d.proposals p.proposals.rising q.proposals.rising
-        ∙ join_nothing _ _ _ (unnamed (changed_tasks d) t _ (proposal_named t a) e);
+    proposals = λ t a e. proposal_same d k p q t (λ h. not_both (has_id (changed_tasks d) t) (has_named _ t h) e) a;
     tasks_rise = p.tasks.rising;
     after_rise = rising_join nat_cmp nat_cmp_total nat_same _ k.tasks d.tasks p.tasks.rising;
   }

@@ -72,6 +72,7 @@ too_early (request.Cut at range name) never = refl
 too_early (request.News at) never = refl
 too_early (request.Take at digits) never = refl
 too_early (request.Ask at topic) never = refl
+too_early (request.Why at task) never = refl
 too_early request.Agree never = refl
 too_early request.Renew never = refl
 

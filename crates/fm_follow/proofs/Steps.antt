@@ -28,6 +28,7 @@ use Rattle.fm_world.proofs.Places.{Stood, stood, absent}
 use Rattle.fm_input.specs.declared.request.Topic.{Topic}
 use Rattle.fm_input.specs.declared.request.Topic.TheVariants as topic
 use Rattle.fm_ask.specs.Texts.{line_of}
+use Rattle.fm_ask.specs.declared.query.Query.TheVariants as query
 use Rattle.fm_ask.specs.Queries.{IsUnanswered}
 use Rattle.fm_ask.specs.Rounds.{round_text}
 use Rattle.fm_follow.specs.Following.{query_at, news_since, news_of}
@@ -72,6 +73,9 @@ module _ (k : Kept) (w : WorldOfSets) (at : ℕ) (h : WorldStandsFor k w) where
 
   pub nobody_asked : None ≡ state_with k.coordinators at → (t : Topic) → IsUnanswered (query_at t at) w NoCoordinator
   nobody_asked none t = unanswered t at w (absent at k.coordinators w.replicas h.coordinators (sym none))
+
+  pub nobody_explains : None ≡ state_with k.coordinators at → (task : ℕ) → IsUnanswered (query.Why at task) w NoCoordinator
+  nobody_explains none task = inr (absent at k.coordinators w.replicas h.coordinators (sym none), refl)
 
   module _ (s : State) (there : Some s ≡ state_with k.coordinators at) where
     pub here : Stood (with_number w.replicas at) s

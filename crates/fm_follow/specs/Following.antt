@@ -20,7 +20,7 @@ use Rattle.fm_input.specs.declared.script.Act.TheVariants as act
 use Rattle.fm_input.specs.declared.request.Topic.{Topic}
 use Rattle.fm_input.specs.declared.request.Topic.TheVariants as topic
 use Rattle.fm_input.specs.Script.{is_named}
-use Rattle.fm_input.specs.Requests.{Asked, Opens, Does, Cuts, News, Takes, Asks, Agrees, Renews, Requests, RequestsNothing}
+use Rattle.fm_input.specs.Requests.{Asked, Opens, Does, Cuts, News, Takes, Asks, Explains, Agrees, Renews, Requests, RequestsNothing}
 use Rattle.fm_ask.specs.declared.query.Query.{Query}
 use Rattle.fm_ask.specs.declared.query.Query.TheVariants as query
 use Rattle.fm_ask.specs.Queries.{IsText, IsUnanswered}
@@ -136,6 +136,7 @@ DoesAt behind k (Cuts at range name) text j = (v : WorldOfSets) × acting.Cuts k
 DoesAt behind k (News at) text j = Tells k at text j
 DoesAt behind k (Takes at digits) text j = (text ≡ []) × TakesIn behind k at digits j
 DoesAt behind k (Asks at topic) text j = IsText (query_at topic at) k.world text × (j ≡ k)
+DoesAt behind k (Explains at task) text j = IsText (query.Why at task) k.world text × (j ≡ k)
 DoesAt behind k Agrees text j = IsText query.Agree k.world text × (j ≡ k)
 DoesAt behind k Renews text j = (text ≡ []) × (j ≡ fresh (renewed k.world))
 
@@ -159,6 +160,7 @@ RefusesAt k (Cuts at range (Some name)) e = (e ≡ refusal_of k.world (step_at a
 RefusesAt k (News at) e = e ≡ refusal_of k.world (step_at at (world.Cut (news_of (mark_at k at) (with_number k.world.replicas at))))
 RefusesAt k (Takes at digits) e = IsNoPacketIn digits e ⊎ ((packet : Packet) × IsPacketIn digits packet × (e ≡ refusal_of k.world (step_at at (world.Take packet))))
 RefusesAt k (Asks at topic) e = IsUnanswered (query_at topic at) k.world e
+RefusesAt k (Explains at task) e = IsUnanswered (query.Why at task) k.world e
 RefusesAt k Agrees e = IsUnanswered query.Agree k.world e
 RefusesAt k Renews e = e ≡ OutOfMemory
 

@@ -13,7 +13,6 @@ use fm_ask::solution::least_plan_of;
 use fm_coord::entry::Range;
 use fm_edit::keepers::Keeper;
 use fm_records::refusal::Refusal;
-use fm_round::admission::admit;
 use fm_world::step::{Act, Step};
 use fm_world::world::World;
 use std::alloc::Global;
@@ -53,8 +52,20 @@ pub(crate) fn cut_line(
 
 /// A round at the coordinator: the plan of a least flow of its network is committed. The text has admission's answer
 /// to each entry of the plan. The history gets one entry, since there is no view. NoCoordinator, HistoryFull,
-/// OutOfMemory; then nothing has changed. The cost is that of `least_plan_of`, and of admitting the plan twice.
+/// OutOfMemory; then nothing has changed. The cost is that of `World::refresh_tally` and of `least_plan_of`, and of
+/// admitting the plan twice by the tally.
 pub(crate) fn round(alloc: Global, world: &mut World<Keeper>, at: u8) -> Result<Vec<u8>, Refusal>
+    ensures ok { (w : WorldOfSets) → WorldStandsFor world.old w
+        → IfOk result (λ text. (v : WorldOfSets) × Rounds w at text.items v × WorldStandsFor world.new v) }
+    ensures err { Fails result world.old (λ w refusal. refusal ≡ refusal_of w (step_at at act.View)) }
+    ensures unchanged { OnErr result (world.new ≡ world.old) }
+{
+    world.refresh_tally(at);
+    planned_round(alloc, world, at)
+}
+
+// The round, with the tally or without.
+fn planned_round(alloc: Global, world: &mut World<Keeper>, at: u8) -> Result<Vec<u8>, Refusal>
     ensures ok { (w : WorldOfSets) → WorldStandsFor world.old w
         → IfOk result (λ text. (v : WorldOfSets) × Rounds w at text.items v × WorldStandsFor world.new v) }
     ensures err { Fails result world.old (λ w refusal. refusal ≡ refusal_of w (step_at at act.View)) }
@@ -65,7 +76,7 @@ pub(crate) fn round(alloc: Global, world: &mut World<Keeper>, at: u8) -> Result<
     };
     coordinator.check_room()?;
     let plan = least_plan_of(alloc, coordinator)?;
-    let admitted = admit(alloc, coordinator.knowledge(), coordinator.number(), &plan)?;
+    let admitted = coordinator.admission(&plan)?;
     let text = round_text(alloc, &plan, &admitted)?.into_bytes();
     take_step(world, at, Act::Commit(plan))?;
     Ok(text)

@@ -26,7 +26,7 @@ use fm_input::request::{Request, Topic};
 use fm_input::requesting::read_request;
 use fm_input::script::{Act, Step};
 use fm_know::laws::law_can_be;
-use fm_records::ids::CoordId;
+use fm_records::ids::{CoordId, TaskId};
 use fm_records::refusal::Refusal;
 use fm_world::step::Act as WorldAct;
 use fm_world::world::World;
@@ -84,6 +84,7 @@ impl Desk {
             Request::News { at } => self.news(at),
             Request::Take { at, digits } => self.take_in(at, &digits),
             Request::Ask { at, topic } => self.ask(at, topic),
+            Request::Why { at, task } => self.why(at, task),
             Request::Agree => self.agree(),
             Request::Renew => self.renew(),
         }
@@ -205,6 +206,20 @@ impl Desk {
             return Err(Refusal::NoCoordinator);
         };
         let query = query_at(topic, coordinator.number());
+        let Answer { text, differs: _ } = ask(self.alloc, &mut self.world, query)?;
+        Ok(text)
+    }
+
+    // Answers why a task waits or runs, by what a coordinator knows.
+    fn why(&mut self, at: u8, task: TaskId) -> Result<Vec<u8>, Refusal>
+        ensures ok { Goes result self.old self.new (asked.Explains at task) }
+        ensures err { Stops result self.old (asked.Explains at task) }
+        ensures unchanged { OnErr result (self.new ≡ self.old) }
+    {
+        let Some(coordinator) = self.world.numbered(at) else {
+            return Err(Refusal::NoCoordinator);
+        };
+        let query = Query::Why(coordinator.number(), task);
         let Answer { text, differs: _ } = ask(self.alloc, &mut self.world, query)?;
         Ok(text)
     }

@@ -1,8 +1,6 @@
 -- Loops whose iterator has come to its end, and lists of which nothing is left.
-use Rattle.std.proofs.Common.{◌≡◌, List, [], ◌∷◌, ◌++◌, ◌∙◌, map, length, sym, ap, subst, arith}
+use Rattle.std.proofs.Common.{◌≡◌, List, [], ◌++◌, ◌∙◌, map, sym, ap}
 use Rattle.std.proofs.lemmas.List.{append-nil}
-use Rattle.fm_coord.specs.States.{State}
-use Rattle.fm_gossip.specs.Served.{Task, AreServed}
 
 -- what was made of each is made of all
 pub all_made : {A B : Type 0} (rest : List A) (f : A → B) (done whole : List B) → rest ≡ [] → done ++ map f rest ≡ whole → done ≡ whole
@@ -11,8 +9,3 @@ all_made rest f done whole none so_far = sym (append-nil done) ∙ ap (λ xs. do
 -- the same of what each shows
 pub all_made_of : {A B C : Type 0} (rest : List A) (s : A → B) (f : B → C) (done whole : List C) → rest ≡ [] → done ++ map f (map s rest) ≡ whole → done ≡ whole
 all_made_of rest s f done whole none so_far = sym (append-nil done) ∙ ap (λ xs. done ++ map f (map s xs)) (sym none) ∙ so_far
-
--- no tasks are served by no coordinators
-pub none_served : {C : Type 0} (cs : List C) (state : C → State) (ts : List Task) → length ts ≡ 0 → cs ≡ [] → AreServed ts (map state cs)
-none_served cs state [] is none = subst (λ xs. AreServed [] (map state xs)) (sym none) tt
-none_served cs state (t ∷ ts) is none = absurd (omega (arith, is))

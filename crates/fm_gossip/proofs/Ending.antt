@@ -5,7 +5,6 @@ use Rattle.std.specs.List.Sorted.{IsPermutation}
 use Rattle.std.proofs.lemmas.Bool.{cases_lt}
 use Rattle.std.proofs.lemmas.List.Sorted.{Contains-permutation}
 use Rattle.std.proofs.lemmas.Option.{slice_get_within, get_or_from_slice_get}
-use Rattle.fm_coord.specs.declared.entry.Entry.{Entry}
 use Rattle.fm_coord.specs.States.{State}
 use Rattle.fm_fleet.specs.declared.seat.SeatLog.{SeatLog}
 use Rattle.fm_fleet.specs.Seats.{SeatSeen, seen_seat, seat_of, AreNumbered}

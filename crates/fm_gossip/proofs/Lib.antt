@@ -1,4 +1,8 @@
+mod Causes
+mod Columns
 mod Drained
 mod Ending
-mod Members
+mod Merging
+mod Passing
 mod Seated
+mod Working

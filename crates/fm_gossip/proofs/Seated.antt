@@ -1,51 +1,62 @@
 -- A coordinator that two seats used.
-use Rattle.std.proofs.Common.{◌≡◌, ℕ, zero, suc, ◌<◌, List, [], ◌∷◌, ◌++◌, length, subst, sym, refl, ap, ◌∙◌, arith}
-use Rattle.std.specs.Prelude.{slice_get, Some, Result, Ok, Err, IfOk}
+use Rattle.std.proofs.Common.{◌≡◌, ℕ, zero, suc, List, [], ◌∷◌, ◌++◌, map, subst, sym, refl, ap, ◌∙◌}
 use Rattle.fm_records.specs.declared.ops.Op.{Op}
+use Rattle.fm_delta.specs.declared.packet.Packet.{Packet}
+use Rattle.fm_inbox.specs.Ports.{InboxSeen, PortSeen}
 use Rattle.fm_coord.specs.States.{State}
+use Rattle.fm_coord.specs.declared.entry.Range.TheVariants.{Full}
 use Rattle.fm_coord.specs.declared.entry.Call.TheVariants as call
 use Rattle.fm_coord.specs.declared.entry.Reply.TheVariants as reply
 use Rattle.fm_fleet.specs.Seats.{SeatSeen, called}
-use Rattle.fm_gossip.specs.Served.{Task, task, all_told, AreMerged, AreRounds, IsIntake, IsEnded, IsServed, new_seat, seat_in}
+use Rattle.fm_gossip.specs.Served.{Task, task, all_told, all_merged, AreRounds, IsIntake, IsEnded, IsServed, new_seat, seat_in}
+use Rattle.fm_gossip.specs.Passing.{passed_in}
+use Rattle.fm_gossip.specs.Used.{new_port, used_ports}
+use Rattle.fm_gossip.specs.Works.{WorkSeen, work, done, IsDone}
 
 told_number : (s : SeatSeen) (ops : List Op) → (all_told s ops).number ≡ s.number
 told_number s [] = refl
 told_number s (op ∷ ops) = told_number (called s (call.Tell op) reply.Nothing) ops
 
-merged_number : (n : ℕ) (s t : SeatSeen) → AreMerged n s t → t.number ≡ s.number
-merged_number zero s t h = ap (λ (z : SeatSeen). z.number) h
-merged_number (suc n) s t (m, packet, before, is) = ap (λ (z : SeatSeen). z.number) is ∙ merged_number n s m before
+merged_number : (s : SeatSeen) (ps : List Packet) → (all_merged s ps).number ≡ s.number
+merged_number s [] = refl
+merged_number s (p ∷ ps) = merged_number (called s (call.Merge p) reply.Nothing) ps
 
 rounds_number : (base n : ℕ) (s t : SeatSeen) → AreRounds base n s t → t.number ≡ s.number
 rounds_number base zero s t h = ap (λ (z : SeatSeen). z.number) h
 rounds_number base (suc n) s t (m, admitted, before, round) = ap (λ (z : SeatSeen). z.number) round.listed ∙ rounds_number base n s m before
 
-intake_number : (tells : List Op) (others : ℕ) (s t : SeatSeen) → IsIntake tells others s t → t.number ≡ s.number
-intake_number tells others s t h = merged_number others _ t h.merges ∙ told_number s tells
+intake_number : (tells : List Op) (others : List ℕ) (s t : SeatSeen) → IsIntake tells others s t → t.number ≡ s.number
+intake_number tells others s t h = ap (λ (z : SeatSeen). z.number) h.merges.merges ∙ merged_number (called (all_told s tells) (call.Cut Full) (reply.Packet h.packet)) h.merges.packets ∙ told_number s tells
 
--- what two seats did, and what the closed coordinator has of them
-did : (t : Task) (s : State) (one two : SeatSeen) (base : ℕ) → base ≡ 0 → IsEnded t.number (one ∷ two ∷ []) s → IsIntake t.tells t.others (new_seat 1) one → AreRounds base t.rounds (new_seat 2) two → IsServed t s
-did t s one two base from_start ended intake rounds =
-    let first : one ≡ seat_in s.history 1 = ended.seats_match 0 one refl ∙ ap (seat_in s.history) (intake_number t.tells t.others (new_seat 1) one intake) in
-    let second : two ≡ seat_in s.history 2 = ended.seats_match 1 two refl ∙ ap (seat_in s.history) (rounds_number base t.rounds (new_seat 2) two rounds) in
-    record {
-      number = ended.number;
-      legal = ended.legal;
-      intake = subst (IsIntake t.tells t.others (new_seat 1)) first intake;
-      rounds = subst (λ b. AreRounds b t.rounds (new_seat 2) (seat_in s.history 2)) from_start (subst (AreRounds base t.rounds (new_seat 2)) second rounds);
-      no_other = ended.no_other;
-    }
+module _ (t : Task) (s : State) (one two : SeatSeen) (base : ℕ) (from_start : base ≡ 0) (ended : IsEnded t.number (one ∷ two ∷ []) s) (intake : IsIntake t.tells t.others (new_seat 1) one) (rounds : AreRounds base t.rounds (new_seat 2) two) where
+  first : one ≡ seat_in s.history 1
+  first = ended.seats_match 0 one refl ∙ ap (seat_in s.history) (intake_number t.tells t.others (new_seat 1) one intake)
 
-pub served : (t : Task) (s : State) (seats some room new : List SeatSeen) (tells : List Op) (number its others rounds base : ℕ) (none one nothing two : SeatSeen) → task its tells others rounds ≡ t → number ≡ its → 0 ≡ base
+  second : two ≡ seat_in s.history 2
+  second = ended.seats_match 1 two refl ∙ ap (seat_in s.history) (rounds_number base t.rounds (new_seat 2) two rounds)
+
+  -- what two seats did, and what the closed coordinator has of them
+  did : IsServed t s
+  did =
+      record {
+        number = ended.number;
+        legal = ended.legal;
+        intake = subst (IsIntake t.tells t.others (new_seat 1)) first intake;
+        rounds = subst (λ b. AreRounds b t.rounds (new_seat 2) (seat_in s.history 2)) from_start (subst (AreRounds base t.rounds (new_seat 2)) second rounds);
+        no_other = ended.no_other;
+      }
+
+pub served : (w : WorkSeen) (s : State) (seats some room new : List SeatSeen) (tells : List Op) (number its : ℕ) (others : List ℕ) (rounds base place : ℕ) (ports after : List PortSeen) (none one nothing two : SeatSeen) → work (task its tells others rounds) place ports ≡ w → number ≡ its → 0 ≡ base
     → seats ≡ some ++ two ∷ [] → some ≡ room ++ one ∷ [] → room ≡ new → new ≡ [] → none ≡ new_seat 1 → nothing ≡ new_seat 2
-    → IsIntake tells others none one → AreRounds base rounds nothing two → IsEnded number seats s → IsServed t s
-served t s seats some room new tells number its others rounds base none one nothing two is named from_start second first reserved empty new_one new_two intake ran ended =
-    let these : seats ≡ one ∷ two ∷ [] = second ∙ ap (λ xs. xs ++ two ∷ []) (first ∙ ap (λ xs. xs ++ one ∷ []) (reserved ∙ empty)) in
+    → IsIntake tells others none one → AreRounds base rounds nothing two → ((bs : List InboxSeen) → none.log ≡ [] → ports ≡ map new_port bs → after ≡ used_ports place 0 (passed_in one) bs) → IsEnded number seats s → IsDone w (done s after)
+served w s seats some room new tells number its others rounds base place ports after none one nothing two is named from_start second_pushed first_pushed reserved empty new_one new_two intake ran used ended =
+    let these : seats ≡ one ∷ two ∷ [] = second_pushed ∙ ap (λ xs. xs ++ two ∷ []) (first_pushed ∙ ap (λ xs. xs ++ one ∷ []) (reserved ∙ empty)) in
     let over : IsEnded its (one ∷ two ∷ []) s = subst (λ l. IsEnded its l s) these (subst (λ n. IsEnded n seats s) named ended) in
-    subst (λ u. IsServed u s) is
-    (did (task its tells others rounds) s one two base (sym from_start) over (subst (λ z. IsIntake tells others z one) new_one intake) (subst (λ z. AreRounds base rounds z two) new_two ran))
-
--- what holds of the value of an Ok comes to something else
-pub each_ok : {T E : Type 0} {P Q : T → Type 0} (r : Result T E) → ((x : T) → P x → Q x) → IfOk r P → IfOk r Q
-each_ok (Ok x) f h = f x h
-each_ok (Err e) f h = h
+    let t = task its tells others rounds in
+    let its_intake : IsIntake tells others (new_seat 1) one = subst (λ z. IsIntake tells others z one) new_one intake in
+    let its_rounds : AreRounds base rounds (new_seat 2) two = subst (λ z. AreRounds base rounds z two) new_two ran in
+    subst (λ u. IsDone u (done s after)) is
+    record {
+      served = did t s one two base (sym from_start) over its_intake its_rounds;
+      used = λ bs new_ports. used bs (ap (λ (z : SeatSeen). z.log) new_one) new_ports ∙ ap (λ z. used_ports place 0 (passed_in z) bs) (first t s one two base (sym from_start) over its_intake its_rounds);
+    }

@@ -1,5 +1,7 @@
 -- Coordinators that exchange all that they know, once their threads have ended (this project's profile).
-use Rattle.std.specs.Prelude.{ℕ, ◌==◌, not, List, [], ◌∷◌, map, filter}
+use Rattle.std.specs.Prelude.{◌≡◌, ◌⊎◌, ℕ, ◌==◌, not, List, [], ◌∷◌, map, filter}
+use Rattle.fm_records.specs.declared.refusal.Refusal.{Refusal}
+use Rattle.fm_records.specs.declared.refusal.Refusal.TheVariants.{OutOfMemory, HistoryFull}
 use Rattle.fm_delta.specs.declared.packet.Packet.{Packet}
 use Rattle.fm_coord.specs.declared.entry.Range.TheVariants.{Full}
 use Rattle.fm_coord.specs.declared.entry.Call.TheVariants as call
@@ -29,3 +31,7 @@ told_by_others ps s = merged_in s (of_others s.number ps)
 -- each cut all that it knows, and then merged the packet of each of the others
 abbrev pub exchanged : List State → List State
 exchanged ss = map (told_by_others (map whole_packet ss)) (map cut_off ss)
+
+-- why an exchange is refused: memory ran out, or a history is full
+abbrev pub StopsExchange : Refusal → Type 0
+StopsExchange r = (r ≡ OutOfMemory) ⊎ (r ≡ HistoryFull)

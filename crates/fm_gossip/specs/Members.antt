@@ -1,5 +1,5 @@
 -- What contracts see of the members of a fleet (this project's profile).
-use Rattle.std.specs.Prelude.{ℕ, ◌-◌, List, length, map}
+use Rattle.std.specs.Prelude.{ℕ, ◌==◌, not, List, map, filter}
 use Rattle.fm_records.specs.declared.ops.Op.{Op}
 use Rattle.fm_gossip.specs.Served.{Task, task}
 
@@ -11,10 +11,17 @@ pub record MemberSeen : Type 0 where
 abbrev pub member : ℕ → List Op → MemberSeen
 member number tells = record { number = number; tells = tells }
 
--- what a member is to do, with so many others and rounds
-abbrev pub task_of : ℕ → ℕ → MemberSeen → Task
-task_of others rounds m = task m.number m.tells others rounds
+abbrev pub number_of : MemberSeen → ℕ
+number_of m = m.number
 
--- what each member is to do: a packet comes from each of the others
+-- the numbers but for this one, in order
+abbrev pub but_for : ℕ → List ℕ → List ℕ
+but_for n ns = filter (λ k. not (k == n)) ns
+
+-- what a member is to do among members with these numbers: a packet comes from each of the others
+abbrev pub task_of : List ℕ → ℕ → MemberSeen → Task
+task_of numbers rounds m = task m.number m.tells (but_for m.number numbers) rounds
+
+-- what each member is to do
 abbrev pub tasks_of : ℕ → List MemberSeen → List Task
-tasks_of rounds ms = map (task_of (length ms - 1) rounds) ms
+tasks_of rounds ms = map (task_of (map number_of ms) rounds) ms

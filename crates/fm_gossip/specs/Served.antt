@@ -1,5 +1,6 @@
 -- What a coordinator that ran in a fleet did (this project's profile).
-use Rattle.std.specs.Prelude.{◌≡◌, ◌⊎◌, ℕ, zero, suc, List, [], ◌∷◌, length, slice_get, Some}
+use Rattle.std.specs.Prelude.{◌≡◌, ◌⊎◌, ℕ, zero, suc, List, [], ◌∷◌, map, slice_get, Some, All}
+use Rattle.std.specs.List.Sorted.{IsPermutation}
 use Rattle.fm_records.specs.declared.ops.Op.{Op}
 use Rattle.fm_delta.specs.declared.packet.Packet.{Packet}
 use Rattle.fm_round.specs.declared.parts.Admitted.{Admitted}
@@ -14,15 +15,15 @@ use Rattle.fm_fleet.specs.Seats.{SeatSeen, seen_seat, called}
 use Rattle.fm_fleet.specs.Rounds.{IsRound}
 use Rattle.fm_fleet.specs.Audits.{of_seat}
 
--- what a coordinator is to do: its number, the operations that it is told, from how many others a packet comes, and how many
--- rounds it runs
+-- what a coordinator is to do: its number, the operations that it is told, the numbers of the others, from each of which a
+-- packet comes, and how many rounds it runs
 pub record Task : Type 0 where
   pub number : ℕ
   pub tells : List Op
-  pub others : ℕ
+  pub others : List ℕ
   pub rounds : ℕ
 
-abbrev pub task : ℕ → List Op → ℕ → ℕ → Task
+abbrev pub task : ℕ → List Op → List ℕ → ℕ → Task
 task number tells others rounds = record { number = number; tells = tells; others = others; rounds = rounds }
 
 -- the seat once it told these operations, in order
@@ -30,13 +31,27 @@ abbrev pub all_told : SeatSeen → List Op → SeatSeen
 all_told s [] = s
 all_told s (op ∷ ops) = all_told (called s (call.Tell op) reply.Nothing) ops
 
--- the seat merged so many packets, one after another
-abbrev pub AreMerged : ℕ → SeatSeen → SeatSeen → Type 0
-AreMerged zero s t = t ≡ s
-AreMerged (suc n) s t = (m : SeatSeen) × (packet : Packet) × AreMerged n s m × (t ≡ called m (call.Merge packet) reply.Nothing)
+-- the seat merged these packets, in order
+abbrev pub all_merged : SeatSeen → List Packet → SeatSeen
+all_merged s [] = s
+all_merged s (p ∷ ps) = all_merged (called s (call.Merge p) reply.Nothing) ps
 
--- the seat told these operations, cut all that was known, and then merged so many packets
-pub record IsIntake (tells : List Op) (others : ℕ) (s t : SeatSeen) : Type 0 where
+abbrev pub sender_of : Packet → ℕ
+sender_of p = p.sender
+
+-- the first packet that its sender cut
+abbrev pub IsFirst : Packet → Type 0
+IsFirst p = p.number ≡ 1
+
+-- the seat merged a packet of each of the others, in some order: the first that it cut
+pub record AreMerged (others : List ℕ) (s t : SeatSeen) : Type 0 where
+  pub packets : List Packet
+  pub senders : IsPermutation others (map sender_of packets)
+  pub first : All IsFirst packets
+  pub merges : t ≡ all_merged s packets
+
+-- the seat told these operations, cut all that was known, and then merged a packet of each of the others
+pub record IsIntake (tells : List Op) (others : List ℕ) (s t : SeatSeen) : Type 0 where
   pub packet : Packet
   pub merges : AreMerged others (called (all_told s tells) (call.Cut Full) (reply.Packet packet)) t
 

@@ -1,6 +1,6 @@
 //! Coordinators that exchange all that they know: anti-entropy, one round with complete states.
-ghost use Rattle.std.specs.Prelude.{◌≡◌, map, IfOk, OnOk};
-ghost use Rattle.fm_gossip.specs.Exchanges.{whole_packet, cut_off, merged_in, of_others, told_by_others, exchanged};
+ghost use Rattle.std.specs.Prelude.{◌≡◌, map, IfOk, IfErr, OnOk};
+ghost use Rattle.fm_gossip.specs.Exchanges.{whole_packet, cut_off, merged_in, of_others, told_by_others, exchanged, StopsExchange};
 
 use fm_coord::coordinator::Coordinator;
 use fm_coord::entry::Range;
@@ -16,19 +16,22 @@ pub fn exchange<N: NetKeeper + Drop>(
     alloc: Global,
     coordinators: Vec<Coordinator<N>>,
 ) -> Result<Vec<Coordinator<N>>, Refusal>
-    ensures { IfOk result (λ all. map (λ c. c.state) all.items ≡ exchanged (map (λ c. c.state) coordinators.items)) }
+    ensures ok { IfOk result (λ all. map (λ c. c.state) all.items ≡ exchanged (map (λ c. c.state) coordinators.items)) }
+    ensures err { IfErr result StopsExchange }
 {
     let (coordinators, packets) = cut_all(alloc, coordinators)?;
     tell_all(alloc, coordinators, packets.as_slice())
 }
 
 // Each cuts all that it knows.
+#[tactic(auto, using(crate::proofs::Causes::cut_stops))]
 fn cut_all<N: NetKeeper + Drop>(
     alloc: Global,
     coordinators: Vec<Coordinator<N>>,
 ) -> Result<(Vec<Coordinator<N>>, Vec<Shared<Packet>>), Refusal>
     ensures cut { IfOk result (λ r. map (λ c. c.state) r.0.items ≡ map cut_off (map (λ c. c.state) coordinators.items)) }
     ensures packets { IfOk result (λ r. r.1.items ≡ map whole_packet (map (λ c. c.state) coordinators.items)) }
+    ensures err { IfErr result StopsExchange }
 {
     let mut cut = Vec::new(alloc);
     let mut packets = Vec::new(alloc);
@@ -46,7 +49,8 @@ fn tell_all<N: NetKeeper + Drop>(
     coordinators: Vec<Coordinator<N>>,
     packets: &[Shared<Packet>],
 ) -> Result<Vec<Coordinator<N>>, Refusal>
-    ensures { IfOk result (λ all. map (λ c. c.state) all.items ≡ map (told_by_others packets.now) (map (λ c. c.state) coordinators.items)) }
+    ensures told { IfOk result (λ all. map (λ c. c.state) all.items ≡ map (told_by_others packets.now) (map (λ c. c.state) coordinators.items)) }
+    ensures err { IfErr result StopsExchange }
 {
     let mut told = Vec::new(alloc);
     for coordinator in coordinators {
@@ -58,11 +62,13 @@ fn tell_all<N: NetKeeper + Drop>(
 }
 
 // Merges the packets that others sent, in order.
+#[tactic(auto, using(crate::proofs::Causes::merge_stops))]
 fn merge_others<N: NetKeeper>(
     coordinator: &mut Coordinator<N>,
     packets: &[Shared<Packet>],
 ) -> Result<(), Refusal>
-    ensures { OnOk result (coordinator.new.state ≡ told_by_others packets.now coordinator.old.state) }
+    ensures merged { OnOk result (coordinator.new.state ≡ told_by_others packets.now coordinator.old.state) }
+    ensures err { IfErr result StopsExchange }
 {
     let own = coordinator.number().value();
     let mut rest = packets;

@@ -64,6 +64,14 @@ agreement : asked_by (codes "{\"ask\":\"agree\"}") ≡ Some Agrees
 unfolding serde_json_on_literals
 agreement = refl
 
+reason_of_nothing : asked_by (codes "{\"at\":1,\"ask\":\"why\"}") ≡ None
+unfolding serde_json_on_literals
+reason_of_nothing = refl
+
+reason_of_no_text : asked_by (codes "{\"at\":1,\"ask\":\"why\",\"task\":17}") ≡ None
+unfolding serde_json_on_literals
+reason_of_no_text = refl
+
 no_question : asked_by (codes "{\"ask\":\"graph\"}") ≡ None
 unfolding serde_json_on_literals
 no_question = refl

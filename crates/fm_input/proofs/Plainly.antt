@@ -8,9 +8,9 @@ use Rattle.fm_coord.specs.declared.entry.Range.{Range}
 use Rattle.fm_input.specs.declared.script.Act.{Act}
 use Rattle.fm_input.specs.declared.script.Act.TheVariants as act
 use Rattle.fm_input.specs.declared.script.Step.{Step}
-use Rattle.fm_input.specs.Json.{given, whole_of, number_8_at, has_size, items_at}
+use Rattle.fm_input.specs.Json.{given, whole_of, number_8_at, text_at, id_at, has_size, items_at}
 use Rattle.fm_input.specs.Script.{is_text, either, op_of, range_of, is_named, delivery_of, round_of, act_of, step_of, listed_of, coordinators_of}
-use Rattle.fm_input.specs.Requests.{Asked, Opens, Does, Cuts, News, Takes, Asks, Agrees, Renews, topic_named, cut_under, cut_asked, when_true, agree_asked, alone_of, asked_at, request_of, CutsNothing, IsPlain}
+use Rattle.fm_input.specs.Requests.{Asked, Opens, Does, Cuts, News, Takes, Asks, Explains, Agrees, Renews, topic_named, cut_under, cut_asked, when_true, agree_asked, alone_of, asked_at, why_asked, request_of, CutsNothing, IsPlain}
 use Rattle.fm_input.proofs.Spelling.{AreDistinct-listed}
 
 -- what is there, if anything is, has the property
@@ -142,12 +142,28 @@ asked_at-plain names at d =
 abbrev numbered_asked : List (List ℕ) → Data → Option Asked
 numbered_asked names d = given (number_8_at (codes "at") d) (λ at. asked_at names at d)
 
+-- why a task waits or runs
+why-plain : (d : Data) → IfSome (why_asked d) IsPlain
+why-plain d =
+    IfSome-given IsPlain (number_8_at (codes "at") d) _ (λ at.
+    IfSome-given IsPlain (text_at (codes "ask") d) _ (λ word.
+    IfSome-given_when IsPlain (is_text word (codes "why")) d _ (
+    IfSome-map IsPlain (id_at (codes "task") d) (Explains at) (λ task. tt))))
+
+-- of two members
+abbrev paired : List (List ℕ) → Data → Option Asked
+paired names d = given (when (has_size 2 d) d) (numbered_asked names)
+
+paired-plain : (names : List (List ℕ)) (d : Data) → IfSome (paired names d) IsPlain
+paired-plain names d =
+    IfSome-given_when IsPlain (has_size 2 d) d (numbered_asked names) (
+    IfSome-given IsPlain (number_8_at (codes "at") d) (λ at. asked_at names at d) (λ at. asked_at-plain names at d))
+
 request-plain : (names : List (List ℕ)) (d : Data) → IfSome (request_of names d) IsPlain
 request-plain names d =
-    elim (has_size 1 d) as (λ b. IfSome (cond b (alone_of d) (given (when (has_size 2 d) d) (numbered_asked names))) IsPlain) [
+    elim (has_size 1 d) as (λ b. IfSome (cond b (alone_of d) (cond (has_size 3 d) (why_asked d) (paired names d))) IsPlain) [
       | true ↦ alone-plain d
-      | false ↦ IfSome-given_when IsPlain (has_size 2 d) d (numbered_asked names) (
-          IfSome-given IsPlain (number_8_at (codes "at") d) (λ at. asked_at names at d) (λ at. asked_at-plain names at d))
+      | false ↦ elim (has_size 3 d) as (λ b. IfSome (cond b (why_asked d) (paired names d)) IsPlain) [ true ↦ why-plain d | false ↦ paired-plain names d ]
     ]
 
 -- what a value asks for is plain

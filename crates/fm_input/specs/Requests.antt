@@ -15,7 +15,7 @@ use Rattle.fm_input.specs.declared.request.Topic.{Topic}
 use Rattle.fm_input.specs.declared.request.Topic.TheVariants as topic
 use Rattle.fm_input.specs.declared.request.Request.{Request}
 use Rattle.fm_input.specs.declared.request.Request.TheVariants as request
-use Rattle.fm_input.specs.Json.{given, number_8_at, has_size}
+use Rattle.fm_input.specs.Json.{given, number_8_at, text_at, id_at, has_size}
 use Rattle.fm_input.specs.Script.{is_text, either, range_of, is_named, step_of, coordinators_of}
 
 -- what a line asks for, with texts as the bytes that they are
@@ -26,6 +26,7 @@ pub data Asked : Type 0 where
   News : (at : ℕ) → Asked
   Takes : (at : ℕ) (digits : List ℕ) → Asked
   Asks : (at : ℕ) (topic : Topic) → Asked
+  Explains : (at task : ℕ) → Asked
   Agrees : Asked
   Renews : Asked
 
@@ -36,6 +37,7 @@ asked_of (request.Cut at range name) = Cuts at range (option_map string_bytes na
 asked_of (request.News at) = News at
 asked_of (request.Take at digits) = Takes at (string_bytes digits)
 asked_of (request.Ask at topic) = Asks at topic
+asked_of (request.Why at task) = Explains at task
 asked_of request.Agree = Agrees
 asked_of request.Renew = Renews
 
@@ -86,13 +88,22 @@ asked_at names at d =
     either (get (codes "ask") d) (λ v. option_map (Asks at) (given (as_str v) topic_named)) (
     option_map Does (step_of names d)))))
 
+-- an object of three members: the number of a coordinator that is asked why the task of the id waits or runs
+abbrev pub why_asked : Data → Option Asked
+why_asked d =
+    given (number_8_at (codes "at") d) (λ at.
+    given (text_at (codes "ask") d) (λ word.
+    given (when (is_text word (codes "why")) d) (λ d.
+    option_map (Explains at) (id_at (codes "task") d))))
+
 -- what a value asks for, given that packets of the names were cut before
 abbrev pub request_of : List (List ℕ) → Data → Option Asked
 request_of names d =
     cond (has_size 1 d) (alone_of d) (
+    cond (has_size 3 d) (why_asked d) (
     given (when (has_size 2 d) d) (λ d.
     given (number_8_at (codes "at") d) (λ at.
-    asked_at names at d)))
+    asked_at names at d))))
 
 -- the line is JSON, and its value asks for that, given that packets of the names were cut before
 pub record Requests (names : List (List ℕ)) (line : List ℕ) (asked : Asked) : Type 0 where

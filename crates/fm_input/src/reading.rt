@@ -384,7 +384,7 @@ fn flag_in(fields: &Value, name: &str) -> Option<bool>
     fields.get(name)?.as_bool()
 }
 
-fn text_in<'a>(fields: &'a Value, name: &str) -> Option<&'a str>
+pub(crate) fn text_in<'a>(fields: &'a Value, name: &str) -> Option<&'a str>
     ensures { option_map (λ s. s.now) result ≡ text_at name.now (view fields.now) }
 {
     fields.get(name)?.as_str()

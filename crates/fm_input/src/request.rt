@@ -2,7 +2,7 @@
 
 use crate::script::Step;
 use fm_coord::entry::Range;
-use fm_records::ids::CoordId;
+use fm_records::ids::{CoordId, TaskId};
 
 /// What a coordinator is asked about.
 #[derive(Debug, Clone, Copy, PartialEq, Eq, Drop)]
@@ -46,6 +46,11 @@ pub enum Request {
     Ask {
         at: u8,
         topic: Topic,
+    },
+    /// A coordinator is asked why the task waits or runs.
+    Why {
+        at: u8,
+        task: TaskId,
     },
     /// Whether all coordinators know the same.
     Agree,

@@ -5,20 +5,23 @@ ghost use Rattle.serde_json.specs.Find.{as_str};
 ghost use Rattle.serde_json.specs.View.{view};
 ghost use Rattle.fm_input.specs.Json.{given};
 ghost use Rattle.fm_input.specs.Script.{coordinators_of, step_of};
-ghost use Rattle.fm_input.specs.Requests.{Asks, Does, News, Opens, Renews, Takes, asked_of, topic_named, cut_under, cut_asked, when_true, agree_asked, alone_of, asked_at, request_of, Requests, RequestsNothing, IsPlain};
+ghost use Rattle.fm_input.specs.Requests.{Asks, Does, News, Opens, Renews, Takes, asked_of, topic_named, cut_under, cut_asked, when_true, agree_asked, alone_of, asked_at, why_asked, request_of, Requests, RequestsNothing, IsPlain};
 
 use crate::names::Names;
-use crate::reading::{coordinators_in, is_object_of, items_in, number_8_in, range_in, step_in};
+use crate::reading::{
+    coordinators_in, is_object_of, items_in, number_8_in, range_in, step_in, text_in,
+};
 use crate::request::{Request, Topic};
 use fm_coord::entry::Range;
 use fm_lattice::join::OutOfMemory;
+use fm_records::ids::TaskId;
 use fm_records::refusal::Refusal;
 use serde_json::Value;
 use std::alloc::Global;
 
 /// What a line of a stream asks for, given that packets of the names were cut before. The line is an object of one
 /// member (`coordinators`, `renew`, `ask`), or of an `at` and one of `cut`, `news`, `take`, `ask`, `tell`, `deliver`,
-/// `trim` and `round`. Further members of an operation and of a cut are ignored, and of equal members the last counts.
+/// `trim` and `round`, or of an `at`, an `ask` and a `task`. Further members of an operation and of a cut are ignored, and of equal members the last counts.
 /// `BadScript(0)` if the line is no JSON or asks for nothing known, as a cut under one of the names; `OutOfMemory` if
 /// memory runs out. It costs the reading of the line as JSON, and a look-up of a name.
 pub fn read_request(alloc: Global, line: &[u8], names: &Names) -> Result<Request, Refusal>
@@ -42,6 +45,9 @@ fn request_in(alloc: Global, value: &Value, names: &Names) -> Result<Option<Requ
 {
     if is_object_of(value, 1) {
         return alone_in(alloc, value);
+    }
+    if is_object_of(value, 3) {
+        return Ok(why_in(value));
     }
     if !is_object_of(value, 2) {
         return Ok(None);
@@ -197,6 +203,19 @@ fn question_in(asked: &Value, at: u8) -> Option<Request>
 {
     let topic = topic_in(asked.as_str()?)?;
     Some(Request::Ask { at, topic })
+}
+
+// Why a task waits or runs, asked of a coordinator by an object of three members.
+fn why_in(value: &Value) -> Option<Request>
+    ensures { option_map asked_of result ≡ why_asked (view value.now) }
+{
+    let at = number_8_in(value, "at")?;
+    if text_in(value, "ask")? == "why" {
+        let task = TaskId::read(text_in(value, "task")?)?;
+        Some(Request::Why { at, task })
+    } else {
+        None
+    }
 }
 
 // What is asked about, by its name.

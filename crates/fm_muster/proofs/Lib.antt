@@ -1,3 +1,4 @@
 pub mod Listing
 pub mod Same
 pub mod Numbers
+pub mod Senders

@@ -16,19 +16,19 @@ pub numbers_of : {N : Type 0} (cs : List (WithKeeper N)) → map number_of cs �
 numbers_of [] = refl
 numbers_of (c ∷ cs) = ap (λ ns. c.state.number ∷ ns) (numbers_of cs)
 
-served_numbers : (others rounds : ℕ) (ms : List MemberSeen) (ss : List State) → AreServed (map (task_of others rounds) ms) ss → map number_in ss ≡ map (λ m. m.number) ms
-served_numbers others rounds [] [] h = refl
-served_numbers others rounds [] (s ∷ ss) h = absurd h
-served_numbers others rounds (m ∷ ms) [] h = absurd h
-served_numbers others rounds (m ∷ ms) (s ∷ ss) h = λ i. h.0.number i ∷ served_numbers others rounds ms ss h.1 i
+served_numbers : (numbers : List ℕ) (rounds : ℕ) (ms : List MemberSeen) (ss : List State) → AreServed (map (task_of numbers rounds) ms) ss → map number_in ss ≡ map (λ m. m.number) ms
+served_numbers numbers rounds [] [] h = refl
+served_numbers numbers rounds [] (s ∷ ss) h = absurd h
+served_numbers numbers rounds (m ∷ ms) [] h = absurd h
+served_numbers numbers rounds (m ∷ ms) (s ∷ ss) h = λ i. h.0.number i ∷ served_numbers numbers rounds ms ss h.1 i
 
 listed_numbers : (listed : List ℕ) (tells : List Tell) → map (λ m. m.number) (members_of listed tells) ≡ listed
 listed_numbers [] tells = refl
 listed_numbers (n ∷ ns) tells = ap (λ all. n ∷ all) (listed_numbers ns tells)
 
 -- those that did what a member for each number was to do have these numbers
-pub closed_numbers : (others rounds : ℕ) (listed : List ℕ) (tells : List Tell) (ss : List State) → AreServed (map (task_of others rounds) (members_of listed tells)) ss → map number_in ss ≡ listed
-closed_numbers others rounds listed tells ss h = served_numbers others rounds (members_of listed tells) ss h ∙ listed_numbers listed tells
+pub closed_numbers : (numbers : List ℕ) (rounds : ℕ) (listed : List ℕ) (tells : List Tell) (ss : List State) → AreServed (map (task_of numbers rounds) (members_of listed tells)) ss → map number_in ss ≡ listed
+closed_numbers numbers rounds listed tells ss h = served_numbers numbers rounds (members_of listed tells) ss h ∙ listed_numbers listed tells
 
 merged_number : (ps : List Packet) (s : State) → (merged_in s ps).number ≡ s.number
 merged_number [] s = refl

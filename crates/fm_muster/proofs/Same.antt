@@ -20,21 +20,21 @@ use Rattle.fm_muster.specs.Musters.{KnowSame}
 -- members of lists
 
 module _ {R : Type 0} where
-  left : (x : R) (xs ys : List R) → IsMember x xs → IsMember x (xs ++ ys)
+  pub left : (x : R) (xs ys : List R) → IsMember x xs → IsMember x (xs ++ ys)
   left x [] ys m = absurd m
   left x (y ∷ xs) ys (inl e) = inl e
   left x (y ∷ xs) ys (inr m) = inr (left x xs ys m)
 
-  right : (x : R) (xs ys : List R) → IsMember x ys → IsMember x (xs ++ ys)
+  pub right : (x : R) (xs ys : List R) → IsMember x ys → IsMember x (xs ++ ys)
   right x [] ys m = m
   right x (y ∷ xs) ys m = inr (right x xs ys m)
 
-  either : (x : R) (xs ys : List R) → IsMember x (xs ++ ys) → IsMember x xs ⊎ IsMember x ys
+  pub either : (x : R) (xs ys : List R) → IsMember x (xs ++ ys) → IsMember x xs ⊎ IsMember x ys
   either x [] ys m = inr m
   either x (y ∷ xs) ys (inl e) = inl (inl e)
   either x (y ∷ xs) ys (inr m) = elim (either x xs ys m) [ inl a ↦ inl (inr a) | inr b ↦ inr b ]
 
-mapped : {A B : Type 0} (f : A → B) (xs : List A) (x : A) → IsMember x xs → IsMember (f x) (map f xs)
+pub mapped : {A B : Type 0} (f : A → B) (xs : List A) (x : A) → IsMember x xs → IsMember (f x) (map f xs)
 mapped f [] x m = absurd m
 mapped f (y ∷ xs) x (inl e) = inl (ap f e)
 mapped f (y ∷ xs) x (inr m) = inr (mapped f xs x m)
@@ -46,7 +46,7 @@ came_from f (x ∷ xs) y (inr m) = let r = came_from f xs y m in (r.0, inr r.1, 
 
 -- coordinators one by one
 
-of_member : (ss : List State) (s : State) → AreCoordinators ss → IsMember s ss → IsCoordinator s
+pub of_member : (ss : List State) (s : State) → AreCoordinators ss → IsMember s ss → IsCoordinator s
 of_member [] s c m = absurd m
 of_member (x ∷ xs) s c (inl e) = subst IsCoordinator e c.0
 of_member (x ∷ xs) s c (inr m) = of_member xs s c.1 m

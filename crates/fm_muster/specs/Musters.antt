@@ -6,11 +6,16 @@ use Rattle.fm_records.specs.declared.refusal.Refusal.{Refusal}
 use Rattle.fm_records.specs.declared.refusal.Refusal.TheVariants.{BadOp, NoCoordinator}
 use Rattle.fm_records.specs.Ops.{op_fault}
 use Rattle.fm_records.specs.Sets.{IsMember}
+use Rattle.fm_delta.specs.declared.packet.Packet.{Packet}
+use Rattle.fm_coord.specs.declared.entry.Entry.{Entry}
+use Rattle.fm_coord.specs.declared.entry.Call.TheVariants as call
+use Rattle.fm_coord.specs.declared.entry.Reply.TheVariants as reply
 use Rattle.fm_coord.specs.States.{State}
 use Rattle.fm_world.specs.declared.step.Step.{Step}
 use Rattle.fm_gather.specs.Listings.{IsWholeRun}
 use Rattle.fm_gossip.specs.Served.{AreServed}
 use Rattle.fm_gossip.specs.Members.{MemberSeen, member, tasks_of}
+use Rattle.fm_gossip.specs.Passing.{passed_at, ArePassedOn}
 use Rattle.fm_gossip.specs.Exchanges.{exchanged}
 use Rattle.fm_input.specs.declared.script.Tell.{Tell}
 use Rattle.fm_input.specs.Script.{is_listed}
@@ -49,16 +54,37 @@ calls_of s = record { coordinator = s.number; count = length s.history }
 abbrev pub KnowSame : List State → Type 0
 KnowSame ss = (s t : State) → IsMember s ss → IsMember t ss → s.knowledge ≡ t.knowledge
 
+-- the coordinator merged this packet; it cut this packet
+abbrev pub HasMerged : State → Packet → Type 0
+HasMerged s p = (e : Entry) × IsMember e s.history × (e.call ≡ call.Merge p)
+
+abbrev pub HasCut : State → Packet → Type 0
+HasCut s p = (e : Entry) × IsMember e s.history × (e.reply ≡ reply.Packet p)
+
+-- the coordinator is the packet's sender, and cut it, and no other of its number
+pub record IsCutOf (s : State) (p : Packet) : Type 0 where
+  pub sender : s.number ≡ p.sender
+  pub cut : HasCut s p
+  pub only : (q : Packet) → HasCut s q → q.number ≡ p.number → q ≡ p
+
+-- each packet that one of the coordinators merged was cut by the one that it names
+abbrev pub AreCutBySenders : List State → Type 0
+AreCutBySenders ss = (s : State) (p : Packet) → IsMember s ss → HasMerged s p → (r : State) × IsMember r ss × IsCutOf r p
+
 -- a fleet of the members ran, and this was counted of it
 pub record IsMustered (listed : List ℕ) (tells : List Tell) (rounds : ℕ) (c : Counts) : Type 0 where
   -- the coordinators when they were closed: each did what it was to do
   pub closed : List State
   pub served : AreServed (tasks_of rounds (members_of listed tells)) closed
+  -- each of the others merged once what an intake cut, and nothing else
+  pub passed_on : ArePassedOn (map passed_at closed)
   pub calls : c.calls.items ≡ map calls_of closed
   -- once they exchanged all that they know, their histories are one list of steps, and they know the same
   pub steps : List Step
   pub gathered : IsWholeRun (exchanged closed) steps
   pub counted : c.steps ≡ length steps
+  -- each packet that was merged is what its sender cut
+  pub cut_by_senders : AreCutBySenders (exchanged closed)
   pub know_same : KnowSame (exchanged closed)
 
 -- why nothing was counted: the first tell that is refused; or none is, and no step is named

@@ -1,12 +1,12 @@
-//! What coordinators know after they exchanged all that they knew.
+//! What coordinators know after they exchanged all that they knew, and whose packets they merged.
 
-ghost use Rattle.std.specs.Prelude.{◌≡◌, map};
+ghost use Rattle.std.specs.Prelude.{◌≡◌, List, map};
 ghost use Rattle.fm_coord.specs.Numbers.{AreDistinct};
 ghost use Rattle.fm_coord.specs.States.{State};
 ghost use Rattle.fm_world.specs.Stands.{state_of, number_of};
-ghost use Rattle.fm_gather.specs.Listings.{AreCoordinators};
+ghost use Rattle.fm_gather.specs.Listings.{AreCoordinators, Made, IsWhole};
 ghost use Rattle.fm_gossip.specs.Exchanges.{exchanged};
-ghost use Rattle.fm_muster.specs.Musters.{KnowSame};
+ghost use Rattle.fm_muster.specs.Musters.{KnowSame, AreCutBySenders};
 
 use fm_coord::coordinator::Coordinator;
 use fm_policy::keeper::NetKeeper;
@@ -15,6 +15,16 @@ use fm_policy::keeper::NetKeeper;
 pub(crate) fn law_exchanged<N: NetKeeper>(coordinators: &[Coordinator<N>])
     requires { AreDistinct (map number_of coordinators.now) }
     ensures { KnowSame (exchanged (map state_of coordinators.now)) }
+{
+    see_known(coordinators);
+}
+
+/// If the histories of coordinators of distinct numbers are one list of steps, each packet that one of them merged was
+/// cut by the one that it names as its sender.
+pub(crate) fn law_senders<N: NetKeeper>(coordinators: &[Coordinator<N>])
+    requires { AreDistinct (map number_of coordinators.now) }
+    ensures { (made : List Made) → IsWhole (map state_of coordinators.now) made
+        → AreCutBySenders (map state_of coordinators.now) }
 {
     see_known(coordinators);
 }

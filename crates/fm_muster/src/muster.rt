@@ -5,7 +5,7 @@ ghost use Rattle.fm_coord.specs.Numbers.{AreDistinct};
 ghost use Rattle.fm_world.specs.Stands.{state_of};
 ghost use Rattle.fm_muster.specs.Musters.{calls_of, IsMustered, IsStopped};
 
-use crate::agreeing::law_exchanged;
+use crate::agreeing::{law_exchanged, law_senders};
 use crate::counts::{Calls, Counts};
 use crate::members::{first_refused, members};
 use fm_coord::coordinator::Coordinator;
@@ -74,6 +74,7 @@ fn run<R: Threads + Wait + Sync>(
     let calls = calls_of(alloc, &closed)?;
     law_exchanged(&closed);
     let exchanged = exchange(alloc, closed)?;
+    law_senders(&exchanged);
     match gather(alloc, &exchanged) {
         Ok(steps) => Ok(Counts {
             calls,

@@ -1,13 +1,13 @@
 -- What the entries of a tally say of the table.
 use Rattle.std.proofs.Common.{◌≡◌, ◌∙◌, ap, ℕ, ◌+◌, ◌-◌, ◌≤◌, true, cond, Some, option_map, count_by}
-use Rattle.std.specs.Prelude.{nat_le}
+use Rattle.std.specs.Prelude.{nat_le, sum_by}
 use Rattle.std.proofs.lemmas.Bool.{le-leb}
 use Rattle.fm_records.specs.declared.records.SpecReg.{SpecReg}
 use Rattle.fm_records.specs.declared.records.JobReg.{JobReg}
 use Rattle.fm_records.specs.declared.records.MachineReg.{MachineReg}
 use Rattle.fm_records.specs.Options.{when, and_then, passes}
 use Rattle.fm_records.specs.Table.{Table}
-use Rattle.fm_records.specs.Facts.{job_of, live_spec, is_live, open_state, holder_of, holds, load_of, spare_of}
+use Rattle.fm_records.specs.Facts.{job_of, live_spec, is_live, open_state, holder_of, holds, load_of, spare_of, request_of, held_tasks}
 use Rattle.fm_net.specs.Network.{is_held, room_arc, place_arc}
 use Rattle.fm_net.specs.NetworkLaws.{came_from, mapped_from}
 use Rattle.fm_tally.specs.declared.tally.LiveTask.{LiveTask}
@@ -41,7 +41,7 @@ module _ (k : Table) where
 
   -- an open machine of the tally
   abbrev pub open_of : ℕ → MachineReg → OpenMachine
-  open_of m state = record { slots = state.slots; load = load_of k m; spare = spare_of k m; held = count_by (λ e. holds k m e.0) k.tasks }
+  open_of m state = record { slots = state.slots; load = load_of k m; spare = spare_of k m; held = count_by (λ e. holds k m e.0) k.tasks; requests = sum_by (λ e. request_of e.1.0) (held_tasks k m) }
 
   pub machine_found : (m : ℕ) (y : OpenMachine) → machine_at k m ≡ Some y → (state : MachineReg) × (open_state k m ≡ Some state) × (open_of m state ≡ y)
   machine_found m y e = mapped_from (open_of m) (open_state k m) y e

@@ -1,7 +1,9 @@
 pub mod Building
 pub mod Tallying
 pub mod Keeping
+pub mod KeepingLaws
 pub mod Changes
+pub mod ChangeLaws
 pub mod LiveTasks
 pub mod Rooms
 pub mod Surveys

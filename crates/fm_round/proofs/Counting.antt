@@ -1,6 +1,6 @@
 -- What machines hold, counted in a walk over the tasks.
-use Rattle.std.proofs.Common.{◌≡◌, ℕ, ◌+◌, ◌*◌, ◌<◌, ◌≤◌, ◌^◌, Bool, true, false, cond, IsTrue, List, [], ◌∷◌, Option, Some, None, refl, sym, ◌∙◌, ap, subst, arith, length, zero-add}
-use Rattle.std.specs.Prelude.{◌==◌, filter, is_some, sum_by, unwrap_or}
+use Rattle.std.proofs.Common.{◌≡◌, ℕ, ◌+◌, ◌*◌, ◌<◌, ◌≤◌, ◌^◌, Bool, true, false, cond, IsTrue, List, [], ◌∷◌, Option, Some, None, refl, sym, ◌∙◌, ap, subst, arith, length, zero-add, inl, inr}
+use Rattle.std.specs.Prelude.{◌⊎◌, ◌==◌, filter, is_some, sum_by, unwrap_or}
 use Rattle.std.specs.BTreeMap.{is_at}
 use Rattle.std.specs.Ordering.{nat_cmp, is_eq}
 use Rattle.std.specs.Cmp.{Equal-is, nat_cmp_total}
@@ -9,7 +9,9 @@ use Rattle.std.proofs.lemmas.Cmp.{tied_itself}
 use Rattle.std.proofs.lemmas.List.Sums.{sum_by-cons}
 use Rattle.fm_lattice.specs.Chains.{nat_same}
 use Rattle.fm_records.specs.Options.{only_if, passes}
+use Rattle.fm_records.specs.Sets.{IsMember}
 use Rattle.fm_records.specs.Table.{Table, TaskValue}
+use Rattle.fm_round.specs.declared.parts.Place.{Place}
 use Rattle.fm_records.specs.Facts.{request_of, holder_of, holds, held_tasks}
 use Rattle.fm_round.specs.declared.holdings.Holding.{Holding}
 use Rattle.fm_round.specs.declared.holdings.Holdings.{Holdings}
@@ -52,6 +54,27 @@ module _ (key : ℕ) (v : Holding) (old new : ℕ → Option Holding) (puts : (q
 
   pub put_nothing : v ≡ nothing_held → (m : ℕ) → unwrap_or (old m) nothing_held ≡ nothing_held → unwrap_or (new m) nothing_held ≡ nothing_held
   put_nothing nothing m was = ap (λ o. unwrap_or o nothing_held) (puts m) ∙ elim (is_at (nat_cmp key) m) as (λ b. unwrap_or (cond b (Some v) (old m)) nothing_held ≡ nothing_held) [ true ↦ nothing | false ↦ was ]
+
+  -- in a walk over places: those to come, and those whose machines are counted
+  pub counted_on : (item : Place) → item.machine ≡ key → (left later : List Place) → left ≡ item ∷ later → (p : Place)
+      → IsMember p left ⊎ IsTrue (is_some (old p.machine)) → IsMember p later ⊎ IsTrue (is_some (new p.machine))
+  counted_on item at left later split p was = elim was [
+    | inl here ↦ elim (subst (IsMember p) split here) [
+      | inl same ↦ inr (subst (λ m. IsTrue (is_some (new m))) (sym at ∙ ap (λ (z : Place). z.machine) same) put_counted)
+      | inr further ↦ inl further
+    ]
+    | inr counted ↦ inr (stays_counted p.machine counted)
+  ]
+
+  -- what holds of each holding that is counted
+  pub put_right : (Right : ℕ → Holding → Type 0) → Right key v → ((m : ℕ) → is_some (old m) ≡ true → Right m (unwrap_or (old m) nothing_held))
+      → (m : ℕ) → is_some (new m) ≡ true → Right m (unwrap_or (new m) nothing_held)
+  put_right Right here others m counted =
+      subst (λ o. Right m (unwrap_or o nothing_held)) (sym (puts m))
+      (elim (is_at (nat_cmp key) m) as (λ b. is_at (nat_cmp key) m ≡ b → is_some (cond b (Some v) (old m)) ≡ true → Right m (unwrap_or (cond b (Some v) (old m)) nothing_held)) [
+        | true ↦ λ yes _. subst (λ z. Right z v) (nat_same key m ((Equal-is (nat_cmp key m)).0 yes)) here
+        | false ↦ λ _ was. others m was
+      ] refl (ap is_some (sym (puts m)) ∙ counted))
 
 at_most : (b : Bool) (r : ℕ) → cond b r 0 ≤ r
 at_most true r = omega arith

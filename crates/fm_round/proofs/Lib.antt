@@ -14,3 +14,4 @@ pub mod Pairing
 pub mod Over
 pub mod Asked
 pub mod Flows
+pub mod Shut

@@ -1,6 +1,6 @@
 -- The plan of a flow: after Quincy, a unit from a task through a machine means "run there", and one from a
 -- running task to its unscheduled aggregator means "preempt".
-use Rattle.std.specs.Prelude.{ℕ, Bool, nat_lt, cond, not, ◌&&◌, ◌==◌, List, [], Option, None, option_map, flat_map, map, replicate, zip}
+use Rattle.std.specs.Prelude.{ℕ, nat_lt, cond, not, ◌&&◌, ◌==◌, List, [], Option, None, option_map, flat_map, map, replicate, zip}
 use Rattle.std.specs.List.{filter_map}
 use Rattle.std.specs.Ordering.{nat_cmp}
 use Rattle.fm_lattice.specs.Maps.{lookup}

@@ -9,7 +9,10 @@ ghost use Rattle.fm_records.specs.Facts.{attempt_of, open_state};
 ghost use Rattle.fm_know.specs.Limits.{StateWithin};
 ghost use Rattle.fm_round.specs.Admission.{told, is_accepted, last_attempt, has_proposal, place_ops, place_answer, preempt_ops, preempt_answer, one_entry, placed, preempted, admitted, got_place, is_within_nic};
 ghost use Rattle.fm_round.specs.Desks.{Took, IsReady};
+ghost use Rattle.fm_records.specs.Sets.{IsMember};
+ghost use Rattle.fm_round.specs.declared.parts.Place.{Place as Entry};
 ghost use Rattle.fm_round.specs.Holdings.{is_counted, AreHoldings};
+ghost use Rattle.fm_tally.specs.Tallies.{TallyIsFor};
 
 use crate::holdings::Holdings;
 use crate::listed::Listed;
@@ -19,6 +22,7 @@ use fm_know::knowledge::Knowledge;
 use fm_lattice::join::{Join, OutOfMemory};
 use fm_records::ids::{CoordId, MachineId, TaskId};
 use fm_records::ops::{Op, Phase};
+use fm_tally::tally::Tally;
 use std::alloc::Global;
 
 /// What is admitted of the coordinator's plan: the places are decided in their order, and then the preempts, each on
@@ -37,9 +41,46 @@ pub fn admit(
     ensures within_nic { IfOk result (λ a. (m : ℕ) → IsTrue (got_place plan.now.places a.answers m)
         → IsTrue (is_within_nic (told knowledge.now a.ops) m)) }
 {
+    let holdings = Holdings::of(alloc, knowledge, plan.places.as_slice())?;
+    admit_with(alloc, knowledge, holdings, coordinator, plan)
+}
+
+/// As `admit`, by the tally of what is known, which the caller must pass: no task is scanned.
+pub fn admit_by(
+    alloc: Global,
+    tally: &Tally,
+    knowledge: &Knowledge,
+    coordinator: CoordId,
+    plan: &Plan,
+) -> Result<Admitted, OutOfMemory>
+    requires { TallyIsFor knowledge.now tally.now }
+    ensures admitted { IfOk result (λ a. a ≡ admitted knowledge.now coordinator plan.now) }
+    ensures in_range { IfOk result (λ a. IsTrue (all_in_range a.ops)) }
+    ensures within_nic { IfOk result (λ a. (m : ℕ) → IsTrue (got_place plan.now.places a.answers m)
+        → IsTrue (is_within_nic (told knowledge.now a.ops) m)) }
+{
+    let holdings = Holdings::by(alloc, tally, plan.places.as_slice())?;
+    admit_with(alloc, knowledge, holdings, coordinator, plan)
+}
+
+// What is admitted, if the machines of the places hold so much.
+fn admit_with(
+    alloc: Global,
+    knowledge: &Knowledge,
+    holdings: Holdings,
+    coordinator: CoordId,
+    plan: &Plan,
+) -> Result<Admitted, OutOfMemory>
+    requires holdings { AreHoldings knowledge.now holdings }
+    requires counted { (p : Entry) → IsMember p plan.now.places → IsTrue (is_counted holdings p.machine) }
+    ensures admitted { IfOk result (λ a. a ≡ admitted knowledge.now coordinator plan.now) }
+    ensures in_range { IfOk result (λ a. IsTrue (all_in_range a.ops)) }
+    ensures within_nic { IfOk result (λ a. (m : ℕ) → IsTrue (got_place plan.now.places a.answers m)
+        → IsTrue (is_within_nic (told knowledge.now a.ops) m)) }
+{
     knowledge.known();
     let mut desk = Desk::of(alloc, knowledge)?;
-    desk.take_places(coordinator, plan.places.as_slice())?;
+    desk.take_places(holdings, coordinator, plan.places.as_slice())?;
     desk.take_preempts(plan.preempts.as_slice())?;
     Ok(desk.into_admitted())
 }
@@ -81,13 +122,20 @@ impl Desk {
         }
     }
 
-    // Takes the places in their order.
-    fn take_places(&mut self, coordinator: CoordId, places: &[Place]) -> Result<(), OutOfMemory>
-        requires { IsReady self.old }
+    // Takes the places in their order, if their machines hold so much.
+    fn take_places(
+        &mut self,
+        holdings: Holdings,
+        coordinator: CoordId,
+        places: &[Place],
+    ) -> Result<(), OutOfMemory>
+        requires ready { IsReady self.old }
+        requires holdings { AreHoldings self.old.now holdings }
+        requires counted { (p : Entry) → IsMember p places.now → IsTrue (is_counted holdings p.machine) }
         ensures took { OnOk result (Took (placed coordinator self.old.now places.now) self.old self.new) }
         ensures ready { OnOk result (IsReady self.new) }
     {
-        let mut holdings = Holdings::of(self.alloc, &self.now, places)?;
+        let mut holdings = holdings;
         for place in places {
             self.take_place(&mut holdings, coordinator, place)?;
         }

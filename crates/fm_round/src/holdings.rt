@@ -1,14 +1,16 @@
 //! What the machines of places hold: counted in one walk, and kept as tasks come.
 
-ghost use Rattle.std.specs.Prelude.{◌≡◌, ◌<◌, ◌+◌, ◌^◌, ℕ, Some, IfOk, OnOk, IsTrue};
+ghost use Rattle.std.specs.Prelude.{◌≡◌, ◌<◌, ◌+◌, ◌^◌, ℕ, length, Some, IfOk, OnOk, IsTrue};
 ghost use Rattle.std.specs.Ordering.{nat_cmp};
 ghost use Rattle.fm_lattice.specs.Maps.{lookup};
 ghost use Rattle.fm_records.specs.Sets.{IsMember};
 ghost use Rattle.std.specs.declared.cmp.Ordering.TheVariants.{Less};
-ghost use Rattle.fm_records.specs.Facts.{only_if, holder_of};
+ghost use Rattle.fm_records.specs.Facts.{only_if, holder_of, held_tasks};
 ghost use Rattle.fm_records.specs.Orders.{attempt_cmp};
 ghost use Rattle.fm_round.specs.declared.parts.Place.{Place as Entry};
-ghost use Rattle.fm_round.specs.Holdings.{is_counted, holding_of, share, nothing_held, AreHoldings};
+ghost use Rattle.fm_records.specs.Table.{Table as Known};
+ghost use Rattle.fm_round.specs.Holdings.{is_counted, holding_of, requests_of, share, nothing_held, AreHoldings};
+ghost use Rattle.fm_tally.specs.Tallies.{TallyIsFor};
 
 use crate::parts::Place;
 use fm_know::facts::request_in;
@@ -16,6 +18,7 @@ use fm_know::knowledge::Knowledge;
 use fm_lattice::join::OutOfMemory;
 use fm_records::ids::{MachineId, TaskId};
 use fm_records::records::TaskRec;
+use fm_tally::tally::Tally;
 use fm_tally::winners::Winners;
 use std::alloc::Global;
 use std::collections::BTreeMap;
@@ -53,6 +56,26 @@ impl Holdings {
     {
         let mut holdings = Holdings::none(alloc, places)?;
         holdings.count(knowledge)?;
+        Ok(holdings)
+    }
+
+    /// What each machine of the places holds, by the tally of what is known. O(log n) for each place.
+    pub(crate) fn by(
+        alloc: Global,
+        tally: &Tally,
+        places: &[Place],
+    ) -> Result<Holdings, OutOfMemory>
+        ensures holdings { (k : Known) → TallyIsFor k tally.now → IfOk result (AreHoldings k) }
+        ensures counted { IfOk result (λ holdings. (p : Entry) → IsMember p places.now
+            → IsTrue (is_counted holdings p.machine)) }
+    {
+        let mut holdings = Holdings {
+            by_machine: BTreeMap::new(alloc),
+        };
+        for place in places {
+            let held = held_by(tally, place.machine);
+            holdings.by_machine.insert(place.machine, held)?;
+        }
         Ok(holdings)
     }
 
@@ -137,6 +160,20 @@ impl Holdings {
         };
         self.by_machine.insert(machine, holding)?;
         Ok(())
+    }
+}
+
+// What the machine holds: nothing, if it is not open.
+fn held_by(tally: &Tally, machine: MachineId) -> Holding
+    ensures requests { (k : Known) → TallyIsFor k tally.now → result.requests ≡ requests_of k machine }
+    ensures tasks { (k : Known) → TallyIsFor k tally.now → result.tasks ≡ length (held_tasks k machine) }
+{
+    match tally.machines.get(&machine) {
+        Some(open) => Holding {
+            requests: open.requests,
+            tasks: open.held,
+        },
+        None => NOTHING,
     }
 }
 

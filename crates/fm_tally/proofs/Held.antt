@@ -1,7 +1,5 @@
 -- The holders of the tasks of a tally.
 use Rattle.std.proofs.Common.{◌≡◌, ap, sym, refl, ℕ, true, cond, not, Some, None, option_map}
-use Rattle.std.specs.Ordering.{nat_cmp}
-use Rattle.fm_lattice.specs.Maps.{lookup}
 use Rattle.fm_records.specs.declared.records.SpecReg.{SpecReg}
 use Rattle.fm_records.specs.declared.records.JobReg.{JobReg}
 use Rattle.fm_records.specs.LookupLaws.{both_true}
@@ -9,10 +7,9 @@ use Rattle.fm_records.specs.Options.{and_then, only_if, passes}
 use Rattle.fm_records.specs.Table.{Table}
 use Rattle.fm_records.specs.Facts.{job_of, spec_of, live_spec, is_present, won_spot, holder_of}
 use Rattle.fm_net.specs.Network.{is_held}
-use Rattle.fm_net.specs.NetworkLaws.{passed, kept, live_entry, came_from}
+use Rattle.fm_net.specs.NetworkLaws.{passed, kept}
 use Rattle.fm_tally.specs.declared.tally.LiveTask.{LiveTask}
-use Rattle.fm_tally.specs.Tallies.{has_any, task_at, all_tasks}
-use Rattle.fm_tally.proofs.Rows.{lookup_rows}
+use Rattle.fm_tally.specs.Tallies.{has_any, task_at}
 
 module _ (k : Table) where
   live_job : (t : ℕ) (s : SpecReg) → live_spec k t ≡ Some s → (r : JobReg) × (job_of k s.job ≡ Some r)
@@ -21,9 +18,6 @@ module _ (k : Table) where
       let stand = (both_true _ _ (both_true _ _ h).0).1 in
       let r = passed (λ r. not r.withdrawn) (job_of k s.job) stand in
       (r.0, r.1)
-
-  pub rows_are : (t : ℕ) → lookup nat_cmp t (all_tasks k) ≡ task_at k t
-  rows_are t = lookup_rows (task_at k) k.tasks t (λ (w : LiveTask) e. let s = came_from _ (live_spec k t) w e in let v = live_entry k t s.0 s.1 in (v.0, v.1))
 
   abbrev entry_of : ℕ → SpecReg → JobReg → LiveTask
   entry_of t s job = record { job = s.job; request = s.request; price = cond (is_held k t) job.preempt job.wait; holder = holder_of k t; prefers = has_any s.prefer }

@@ -3,6 +3,8 @@ pub mod Counting
 pub mod Held
 pub mod Ahead
 pub mod Each
+pub mod Sides
+pub mod Following
 pub mod Walk
 pub mod Live
 pub mod Step

@@ -1,5 +1,5 @@
 -- Tasks and machines whose records are at hand are what the table tells of them.
-use Rattle.std.proofs.Common.{◌≡◌, ◌∙◌, sym, ap, refl, ℕ, Bool, true, false, cond, not, List, [], Option, Some, None, option_map}
+use Rattle.std.proofs.Common.{◌≡◌, ◌∙◌, sym, ap, refl, ℕ, Bool, true, false, cond, not, List, Option, Some, None, option_map}
 use Rattle.std.specs.Prelude.{◌==◌, ◌&&◌, ◌-◌, nat_le, max, sum_by, count_by}
 use Rattle.std.specs.Ordering.{nat_cmp}
 use Rattle.fm_lattice.specs.Maps.{lookup}
@@ -10,18 +10,18 @@ use Rattle.fm_records.specs.declared.records.Progress.{Progress}
 use Rattle.fm_records.specs.declared.records.Report.{Report}
 use Rattle.fm_records.specs.declared.records.Spot.{Spot}
 use Rattle.fm_records.specs.Options.{and_then, only_if, passes, or_else, when}
-use Rattle.fm_records.specs.Orders.{attempt_cmp}
 use Rattle.fm_records.specs.Know.{none_begun}
 use Rattle.fm_records.specs.Table.{Table, TaskValue, MachineValue}
-use Rattle.fm_records.specs.Facts.{first_of, is_done, job_of, job_stands, live_spec, is_present, winner_of, holder_of, holds, request_of, held_tasks, open_state, load_of, used_of}
+use Rattle.fm_records.specs.Facts.{is_done, job_of, job_stands, progress_of, is_present, winner_of, won_spot, holder_of, holds, request_of, held_tasks, open_state, load_of, used_of}
 use Rattle.fm_know.specs.Records.{state_in}
-use Rattle.fm_net.specs.NetworkLaws.{came_from, mapped_from, live_entry}
+use Rattle.fm_net.specs.NetworkLaws.{came_from, mapped_from}
 use Rattle.fm_tally.specs.declared.holdings.Holdings.{Holdings}
 use Rattle.fm_tally.specs.declared.tally.LiveTask.{LiveTask}
 use Rattle.fm_tally.specs.declared.tally.OpenMachine.{OpenMachine}
 use Rattle.fm_tally.specs.Holdings.{is_there, placed_by, nothing_on, requests_in, tasks_in, AreHoldings}
-use Rattle.fm_tally.specs.Tallies.{has_any, task_at, task_by, requests_by, tasks_by, machine_at, left_of, open_by}
-use Rattle.fm_tally.specs.Winners.{spot_in}
+use Rattle.fm_tally.specs.Tallies.{has_any, unfinished, task_at, entry_of, task_by, requests_by, tasks_by, machine_at, left_of, open_by}
+use Rattle.fm_tally.specs.Unfinished.{unfinished_at}
+use Rattle.fm_tally.specs.declared.unfinished.UnfinishedTask.{UnfinishedTask}
 use Rattle.fm_tally.proofs.Held.{held_is}
 
 inside : {A : Type 0} (a b : A) → Some a ≡ Some b → a ≡ b
@@ -33,12 +33,12 @@ placed_is hs k there None = refl
 placed_is hs k there (Some s) = ap (λ b. when b s.machine) (there s) ∙ elim (is_present k s) as (λ b. when b s.machine ≡ option_map (λ (s : Spot). s.machine) (when b s)) [ true ↦ refl | false ↦ refl ]
 
 -- an open machine with the state
-abbrev open_at : ℕ → ℕ → Option MachineReg → Option OpenMachine
-open_at load held o = option_map (λ (state : MachineReg). record { slots = state.slots; load = load; spare = and_then (λ (r : MachineReg). when (nat_le load r.nic) (r.nic - load)) o; held = held }) o
+abbrev open_at : ℕ → ℕ → ℕ → Option MachineReg → Option OpenMachine
+open_at load held sum o = option_map (λ (state : MachineReg). record { slots = state.slots; load = load; spare = and_then (λ (r : MachineReg). when (nat_le load r.nic) (r.nic - load)) o; held = held; requests = sum }) o
 
-opened : (a b h g : ℕ) (o : Option MachineReg) → a ≡ b → h ≡ g → option_map (λ (state : MachineReg). record { slots = state.slots; load = a; spare = left_of state.nic a; held = h }) o ≡ open_at b g o
-opened a b h g None load held = refl
-opened a b h g (Some state) load held = λ i. Some record { slots = state.slots; load = load i; spare = when (nat_le (load i) state.nic) (state.nic - load i); held = held i }
+opened : (a b h g r s : ℕ) (o : Option MachineReg) → a ≡ b → h ≡ g → r ≡ s → option_map (λ (state : MachineReg). record { slots = state.slots; load = a; spare = left_of state.nic a; held = h; requests = r }) o ≡ open_at b g s o
+opened a b h g r s None load held sum = refl
+opened a b h g r s (Some state) load held sum = λ i. Some record { slots = state.slots; load = load i; spare = when (nat_le (load i) state.nic) (state.nic - load i); held = held i; requests = sum i }
 
 module _ (k : Table) where
   abbrev entry : Option ℕ → SpecReg → JobReg → LiveTask
@@ -69,7 +69,10 @@ module _ (k : Table) where
   core false false None h s = refl
   core false false (Some r) h s = elim (r.withdrawn) as (λ b. option_map (entry h s) (when (not b) r) ≡ and_then (λ (z : SpecReg). option_map (entry (held_of h (when (not b && true) s)) z) (Some r)) (when (not b && true) s)) [ true ↦ refl | false ↦ refl ]
 
-  same_task : (h : Option ℕ) (o : Option SpecReg) (p : Progress) → task_by k.jobs h (o, p) ≡ told h o p
+  abbrev by_spec : Option ℕ → SpecReg → Option LiveTask
+  by_spec h s = option_map (entry h s) (only_if stands (job_of k s.job))
+
+  same_task : (h : Option ℕ) (o : Option SpecReg) (p : Progress) → and_then (by_spec h) (unfinished (o, p)) ≡ told h o p
   same_task h None p = refl
   same_task h (Some s) p =
       let live = live_of (Some s) p in
@@ -80,34 +83,37 @@ module _ (k : Table) where
   abbrev won_by : ℕ → Progress → Option ℕ
   won_by t p = option_map (λ s. s.machine) (only_if (is_present k) (option_map (λ w. w.1) (winner_of k t p.attempt)))
 
-  -- a task with the record that is known
-  pub task_is : (hs : Holdings) (ps : List ((ℕ × ℕ) × List (ℕ × Spot))) (t : ℕ) (v : TaskValue) → ((s : Spot) → is_there hs s ≡ is_present k s)
-      → lookup nat_cmp t k.tasks ≡ Some v → lookup attempt_cmp (t, v.1.attempt) ps ≡ lookup attempt_cmp (t, v.1.attempt) k.proposals
-      → task_by k.jobs (and_then (placed_by hs) (spot_in ps (t, v.1.attempt))) v ≡ task_at k t
-  task_is hs ps t v there found entries =
-      ap (λ h. task_by k.jobs h v) (placed_is hs k there (spot_in ps (t, v.1.attempt)) ∙ ap (λ o. option_map (λ (s : Spot). s.machine) (only_if (is_present k) (option_map (λ (w : ℕ × Spot). w.1) (first_of (or_else [] o))))) entries)
-      ∙ same_task (won_by t v.1) v.0 v.1
-      ∙ sym (ap (λ o. let p = or_else none_begun (option_map (λ (w : TaskValue). w.1) o) in told (won_by t p) (and_then (λ (w : TaskValue). w.0) o) p) found)
+  -- an unfinished task
+  pub task_is : (hs : Holdings) (t : ℕ) (u : UnfinishedTask) → ((s : Spot) → is_there hs s ≡ is_present k s) → unfinished_at k t ≡ Some u
+      → task_by k.jobs (and_then (placed_by hs) u.spot) u ≡ task_at k t
+  task_is hs t u there known =
+      let spot = won_spot k t in
+      let spec = mapped_from _ (and_then unfinished (lookup nat_cmp t k.tasks)) u known in
+      let row = came_from _ (lookup nat_cmp t k.tasks) spec.0 spec.1 in
+      let won = won_by t (progress_of k t) in
+      sym (ap (λ (w : UnfinishedTask). task_by k.jobs (and_then (placed_by hs) w.spot) w) spec.2)
+      ∙ ap (λ h. by_spec h spec.0) (placed_is hs k there spot)
+      ∙ sym (ap (and_then (by_spec won)) row.2)
+      ∙ same_task won row.0.0 row.0.1
+      ∙ sym (ap (λ o. told won (and_then (λ (w : TaskValue). w.0) o) (or_else none_begun (option_map (λ (w : TaskValue). w.1) o))) row.1)
 
-  -- what a task with the record counts for a machine
-  counted : (t : ℕ) (v : TaskValue) (o : Option LiveTask) → lookup nat_cmp t k.tasks ≡ Some v → o ≡ task_at k t → (m : ℕ) → (requests_by o m ≡ cond (holds k m t) (request_of v.0) 0) × (tasks_by o m ≡ cond (holds k m t) 1 0)
-  counted t v None found is m =
-      let none : None ≡ holder_of k t = ap (and_then (λ (l : LiveTask). l.holder)) is ∙ held_is k t in
-      (ap (λ h. cond (passes (λ n. n == m) h) (request_of v.0) 0) none, ap (λ h. cond (passes (λ n. n == m) h) 1 0) none)
-  counted t v (Some l) found is m =
-      let holder : l.holder ≡ holder_of k t = ap (and_then (λ (l : LiveTask). l.holder)) is ∙ held_is k t in
-      let spec = came_from _ (live_spec k t) l (sym is) in
-      let job = mapped_from _ (job_of k spec.0.job) l spec.2 in
-      let known = live_entry k t spec.0 spec.1 in
-      let same : known.0 ≡ v = inside known.0 v (sym known.1 ∙ found) in
-      let request : l.request ≡ request_of v.0 = ap (λ (l : LiveTask). l.request) (sym job.2) ∙ ap request_of (sym known.2) ∙ ap (λ (w : TaskValue). request_of w.0) same in
-      (ap (λ h. cond (passes (λ n. n == m) h) l.request 0) holder ∙ ap (λ r. cond (holds k m t) r 0) request, ap (λ h. cond (passes (λ n. n == m) h) 1 0) holder)
+  -- what an unfinished task counts for a machine
+  module _ (t : ℕ) (u : UnfinishedTask) (js : List (ℕ × JobReg)) (h : Option ℕ) where
+    counted : (o : Option LiveTask) → o ≡ task_by js h u → o ≡ task_at k t → (m : ℕ) → (requests_by o m ≡ cond (holds k m t) u.request 0) × (tasks_by o m ≡ cond (holds k m t) 1 0)
+    counted None made is m =
+        let none : None ≡ holder_of k t = ap (and_then (λ (l : LiveTask). l.holder)) is ∙ held_is k t in
+        (ap (λ h. cond (passes (λ n. n == m) h) u.request 0) none, ap (λ h. cond (passes (λ n. n == m) h) 1 0) none)
+    counted (Some l) made is m =
+        let holder : l.holder ≡ holder_of k t = ap (and_then (λ (l : LiveTask). l.holder)) is ∙ held_is k t in
+        let from = mapped_from (λ (job : JobReg). entry_of u job h) (only_if stands (lookup nat_cmp u.job js)) l (sym made) in
+        let request : l.request ≡ u.request = ap (λ (l : LiveTask). l.request) (sym from.2) in
+        (ap (λ h. cond (passes (λ n. n == m) h) l.request 0) holder ∙ ap (λ r. cond (holds k m t) r 0) request, ap (λ h. cond (passes (λ n. n == m) h) 1 0) holder)
 
-  pub requests_are : (t : ℕ) (v : TaskValue) (o : Option LiveTask) → lookup nat_cmp t k.tasks ≡ Some v → o ≡ task_at k t → (m : ℕ) → requests_by o m ≡ cond (holds k m t) (request_of v.0) 0
-  requests_are t v o found is m = (counted t v o found is m).0
+    pub requests_are : (o : Option LiveTask) → o ≡ task_by js h u → o ≡ task_at k t → (m : ℕ) → requests_by o m ≡ cond (holds k m t) u.request 0
+    requests_are o made is m = (counted o made is m).0
 
-  pub tasks_are : (t : ℕ) (v : TaskValue) (o : Option LiveTask) → lookup nat_cmp t k.tasks ≡ Some v → o ≡ task_at k t → (m : ℕ) → tasks_by o m ≡ cond (holds k m t) 1 0
-  tasks_are t v o found is m = (counted t v o found is m).1
+    pub tasks_are : (o : Option LiveTask) → o ≡ task_by js h u → o ≡ task_at k t → (m : ℕ) → tasks_by o m ≡ cond (holds k m t) 1 0
+    tasks_are o made is m = (counted o made is m).1
 
   -- Before any task is counted.
 
@@ -141,5 +147,6 @@ module _ (k : Table) where
       let load : max (or_else 0 (option_map (λ (r : Report). r.used) v.1.1)) requests ≡ load_of k m = λ i. max (used i) (all i) in
       let held : tasks ≡ count_by (λ e. holds k m e.0) k.tasks = n ∙ are.tasks m in
       let state : open_state k m ≡ state_in v = ap (λ o. only_if (λ (r : MachineReg). r.up) (and_then (λ (w : MachineValue). w.1.0) o)) found in
-      let here : open_by v requests tasks ≡ open_at (load_of k m) (count_by (λ e. holds k m e.0) k.tasks) (state_in v) = opened _ _ _ _ (state_in v) load held in
-      here ∙ ap (open_at (load_of k m) (count_by (λ e. holds k m e.0) k.tasks)) (sym state)
+      let sums = sum_by (λ e. request_of e.1.0) (held_tasks k m) in
+      let here : open_by v requests tasks ≡ open_at (load_of k m) (count_by (λ e. holds k m e.0) k.tasks) sums (state_in v) = opened _ _ _ _ _ _ (state_in v) load held all in
+      here ∙ ap (open_at (load_of k m) (count_by (λ e. holds k m e.0) k.tasks) sums) (sym state)

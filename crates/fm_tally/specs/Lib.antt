@@ -1,3 +1,5 @@
 pub mod Holdings
 pub mod Tallies
+pub mod Sides
+pub mod Unfinished
 pub mod Winners

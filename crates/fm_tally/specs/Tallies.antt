@@ -1,5 +1,5 @@
 -- The tally of a table: what plans need of each live task and of each open machine (this project's profile).
-use Rattle.std.specs.Prelude.{◌≡◌, ℕ, ◌-◌, Bool, true, false, cond, not, ◌&&◌, nat_le, List, [], ◌∷◌, Option, Some, None, option_map, count_by, max}
+use Rattle.std.specs.Prelude.{◌≡◌, ℕ, ◌-◌, Bool, true, false, cond, not, ◌&&◌, nat_le, List, [], ◌∷◌, Option, Some, None, option_map, count_by, sum_by, max}
 use Rattle.std.specs.List.{filter_map}
 use Rattle.std.specs.Ordering.{nat_cmp}
 use Rattle.fm_lattice.specs.Maps.{lookup}
@@ -8,13 +8,14 @@ use Rattle.fm_records.specs.declared.records.SpecReg.{SpecReg}
 use Rattle.fm_records.specs.Options.{when, and_then, only_if, or_else, passes}
 use Rattle.fm_records.specs.Sets.{with_value}
 use Rattle.fm_records.specs.Table.{Table, TaskValue, MachineValue}
-use Rattle.fm_records.specs.Facts.{job_of, live_spec, open_state, holder_of, holds, load_of, spare_of, is_done}
+use Rattle.fm_records.specs.Facts.{job_of, live_spec, open_state, holder_of, holds, held_tasks, request_of, load_of, spare_of, is_done}
 use Rattle.fm_know.specs.Records.{state_in}
 use Rattle.fm_net.specs.Network.{is_held}
 use Rattle.fm_tally.specs.Holdings.{share_by}
 use Rattle.fm_tally.specs.declared.tally.LiveTask.{LiveTask}
 use Rattle.fm_tally.specs.declared.tally.OpenMachine.{OpenMachine}
 use Rattle.fm_tally.specs.declared.tally.Tally.{Tally}
+use Rattle.fm_tally.specs.declared.unfinished.UnfinishedTask.{UnfinishedTask}
 
 -- there are preferences
 abbrev pub has_any : List (ℕ × ℕ) → Bool
@@ -25,9 +26,9 @@ has_any (e ∷ es) = true
 abbrev pub task_at : Table → ℕ → Option LiveTask
 task_at k t = and_then (λ s. option_map (λ job. record { job = s.job; request = s.request; price = cond (is_held k t) job.preempt job.wait; holder = holder_of k t; prefers = has_any s.prefer }) (job_of k s.job)) (live_spec k t)
 
--- an open machine: its slots, load and spare, and how many tasks it holds
+-- an open machine: its slots, load and spare, how many tasks it holds, and the sum of their requests
 abbrev pub machine_at : Table → ℕ → Option OpenMachine
-machine_at k m = option_map (λ state. record { slots = state.slots; load = load_of k m; spare = spare_of k m; held = count_by (λ e. holds k m e.0) k.tasks }) (open_state k m)
+machine_at k m = option_map (λ state. record { slots = state.slots; load = load_of k m; spare = spare_of k m; held = count_by (λ e. holds k m e.0) k.tasks; requests = sum_by (λ e. request_of e.1.0) (held_tasks k m) }) (open_state k m)
 
 -- what a load leaves of a bandwidth, none where the load is greater
 abbrev pub left_of : ℕ → ℕ → Option ℕ
@@ -38,10 +39,7 @@ pub record TallyIsFor (k : Table) (tally : Tally) : Type 0 where
   pub tasks : (t : ℕ) → lookup nat_cmp t tally.tasks ≡ task_at k t
   pub machines : (m : ℕ) → lookup nat_cmp m tally.machines ≡ machine_at k m
 
--- the same as lists, by id
-abbrev pub all_tasks : Table → List (ℕ × LiveTask)
-all_tasks k = filter_map (λ e. with_value (task_at k) e.0) k.tasks
-
+-- the open machines, by id
 abbrev pub all_machines : Table → List (ℕ × OpenMachine)
 all_machines k = filter_map (λ e. with_value (machine_at k) e.0) k.machines
 
@@ -51,14 +49,13 @@ all_machines k = filter_map (λ e. with_value (machine_at k) e.0) k.machines
 abbrev pub unfinished : TaskValue → Option SpecReg
 unfinished v = only_if (λ s. not s.withdrawn && not (is_done v.1.phase)) v.0
 
--- a live task of the job, which the machine holds
-abbrev pub entry_of : SpecReg → JobReg → Option ℕ → LiveTask
-entry_of s job holder = record { job = s.job; request = s.request; price = cond (passes (λ m. true) holder) job.preempt job.wait; holder = holder; prefers = has_any s.prefer }
+-- an unfinished task of the job, which the machine holds
+abbrev pub entry_of : UnfinishedTask → JobReg → Option ℕ → LiveTask
+entry_of u job holder = record { job = u.job; request = u.request; price = cond (passes (λ m. true) holder) job.preempt job.wait; holder = holder; prefers = u.prefers }
 
--- a task with the record, which the machine holds if it is live
-abbrev pub task_by : List (ℕ × JobReg) → Option ℕ → TaskValue → Option LiveTask
-task_by jobs holder v =
-    and_then (λ s. option_map (λ job. entry_of s job holder) (only_if (λ r. not r.withdrawn) (lookup nat_cmp s.job jobs))) (unfinished v)
+-- the same, if its job is known and not withdrawn
+abbrev pub task_by : List (ℕ × JobReg) → Option ℕ → UnfinishedTask → Option LiveTask
+task_by jobs holder u = option_map (λ job. entry_of u job holder) (only_if (λ r. not r.withdrawn) (lookup nat_cmp u.job jobs))
 
 -- what a task adds for a machine
 abbrev pub requests_by : Option LiveTask → ℕ → ℕ
@@ -73,4 +70,4 @@ tasks_by (Some l) m = share_by l.holder m 1
 abbrev pub open_by : MachineValue → ℕ → ℕ → Option OpenMachine
 open_by v requests tasks =
     let load = max (or_else 0 (option_map (λ r. r.used) v.1.1)) requests in
-    option_map (λ state. record { slots = state.slots; load = load; spare = left_of state.nic load; held = tasks }) (state_in v)
+    option_map (λ state. record { slots = state.slots; load = load; spare = left_of state.nic load; held = tasks; requests = requests }) (state_in v)

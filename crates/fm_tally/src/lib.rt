@@ -4,4 +4,5 @@
 mod holdings;
 pub mod sorted;
 pub mod tally;
+pub mod unfinished;
 pub mod winners;

@@ -1,26 +1,23 @@
 //! Live tasks and open machines, with what plans need of each.
 
-ghost use Rattle.std.specs.Prelude.{◌≡◌, ◌<◌, ◌+◌, ◌^◌, ℕ, not, option_copied, option_map, IfOk, OnOk};
+ghost use Rattle.std.specs.Prelude.{◌≡◌, ◌<◌, ◌+◌, ◌^◌, ℕ, not, option_map, IfOk, OnOk};
 ghost use Rattle.std.specs.Ordering.{nat_cmp};
-ghost use Rattle.std.specs.declared.cmp.Ordering.TheVariants.{Less};
 ghost use Rattle.fm_lattice.specs.Maps.{lookup};
 ghost use Rattle.fm_records.specs.declared.records.Spot.{Spot as At};
-ghost use Rattle.fm_records.specs.Facts.{is_done, is_present};
+ghost use Rattle.fm_records.specs.Facts.{is_present};
 ghost use Rattle.fm_records.specs.Options.{and_then, or_else, only_if};
-ghost use Rattle.fm_records.specs.Orders.{attempt_cmp};
 ghost use Rattle.fm_know.specs.Records.{state_in};
 ghost use Rattle.fm_tally.specs.Holdings.{requests_in, tasks_in, share_by, placed_by, is_there, holding_nothing, nothing_on, AreHoldings};
-ghost use Rattle.fm_tally.specs.Tallies.{all_tasks, all_machines, left_of, unfinished, entry_of, task_by, requests_by, tasks_by, open_by, TallyIsFor};
-ghost use Rattle.fm_tally.specs.Winners.{spot_in};
+ghost use Rattle.fm_tally.specs.Tallies.{task_at, all_machines, left_of, entry_of, task_by, requests_by, tasks_by, open_by, TallyIsFor};
+ghost use Rattle.fm_tally.specs.Unfinished.{AreUnfinished};
 
 use crate::holdings::{Holding, Holdings};
 use crate::sorted::Sorted;
-use crate::winners::Winners;
+use crate::unfinished::{UnfinishedTask, unfinished_of};
 use fm_know::knowledge::Knowledge;
-use fm_lattice::join::OutOfMemory;
+use fm_lattice::join::{Join, OutOfMemory};
 use fm_records::ids::{JobId, MachineId, TaskId};
-use fm_records::ops::Phase;
-use fm_records::records::{JobReg, MachineRec, SpecReg, TaskRec};
+use fm_records::records::{JobReg, MachineRec, Spot};
 use std::alloc::Global;
 
 /// What a plan needs of a live task.
@@ -47,6 +44,8 @@ pub struct OpenMachine {
     pub spare: Option<u32>,
     /// How many tasks it holds.
     pub held: u64,
+    /// The sum of their requests.
+    pub requests: u128,
 }
 
 /// The live tasks and the open machines, by id.
@@ -62,9 +61,21 @@ impl Tally {
     pub fn of(alloc: Global, knowledge: &Knowledge) -> Result<Tally, OutOfMemory>
         ensures { IfOk result (TallyIsFor knowledge.now) }
     {
-        let jobs = jobs_of(alloc, knowledge)?;
+        let unfinished = unfinished_of(alloc, knowledge)?;
+        Tally::with(alloc, knowledge, &unfinished)
+    }
+
+    /// As `of`, with the unfinished tasks of what is known, which the caller must pass: the tasks are not walked over.
+    pub fn with(
+        alloc: Global,
+        knowledge: &Knowledge,
+        unfinished: &Sorted<TaskId, UnfinishedTask>,
+    ) -> Result<Tally, OutOfMemory>
+        requires { AreUnfinished knowledge.now unfinished.now }
+        ensures { IfOk result (TallyIsFor knowledge.now) }
+    {
         let mut holdings = Holdings::none(alloc, knowledge)?;
-        let tasks = tasks_of(alloc, knowledge, &jobs, &mut holdings)?;
+        let tasks = tasks_of(alloc, knowledge, unfinished, &mut holdings)?;
         let machines = machines_of(alloc, knowledge, &holdings)?;
         Ok(Tally { tasks, machines })
     }
@@ -85,113 +96,73 @@ fn jobs_of(alloc: Global, knowledge: &Knowledge) -> Result<Sorted<JobId, JobReg>
 fn tasks_of(
     alloc: Global,
     knowledge: &Knowledge,
-    jobs: &Sorted<JobId, JobReg>,
+    unfinished: &Sorted<TaskId, UnfinishedTask>,
     holdings: &mut Holdings,
 ) -> Result<Sorted<TaskId, LiveTask>, OutOfMemory>
-    requires jobs { jobs.now ≡ knowledge.now.jobs }
+    requires unfinished { AreUnfinished knowledge.now unfinished.now }
     requires nothing { (m : ℕ) → lookup nat_cmp m holdings.old.by_machine
         ≡ option_map nothing_on (lookup nat_cmp m knowledge.now.machines) }
-    ensures tasks { IfOk result (λ tasks. tasks ≡ all_tasks knowledge.now) }
+    ensures tasks { IfOk result (λ tasks. (t : ℕ) → lookup nat_cmp t tasks ≡ task_at knowledge.now t) }
     ensures holdings { OnOk result (AreHoldings knowledge.now holdings.new) }
 {
-    let mut found = Vec::new(alloc);
-    let mut winners = Winners::of(knowledge);
-    for (task, known) in knowledge.tasks().iter() {
-        if let Some(live) = live_task(*task, known, jobs, &mut winners, holdings) {
+    knowledge.known();
+    let jobs = jobs_of(alloc, knowledge)?;
+    let pairs = unfinished.pairs();
+    let mut found = Vec::with_capacity(alloc, pairs.len())?;
+    for (task, known) in pairs {
+        if let Some(live) = live_task(known, &jobs, holdings) {
             found.push((*task, live))?;
         }
     }
     Ok(Sorted::of(found))
 }
 
-// What a plan needs of the task with the record, if it is live. It counts for the machine that holds it.
+// What a plan needs of the task, if its job stands. It counts for the machine that holds it.
 fn live_task(
-    task: TaskId,
-    known: &TaskRec,
+    task: &UnfinishedTask,
     jobs: &Sorted<JobId, JobReg>,
-    winners: &mut Winners<'_>,
     holdings: &mut Holdings,
 ) -> Option<LiveTask>
     requires requests_fit { (m : ℕ) → requests_in holdings.old m + 2 ^ 32 < 2 ^ 128 }
     requires tasks_fit { (m : ℕ) → tasks_in holdings.old m + 1 < 2 ^ 64 }
-    ensures live { result
-        ≡ task_by jobs.now (and_then (placed_by holdings.old)
-        (spot_in winners.old (task, known.now.1.attempt))) known.now }
+    ensures live { result ≡ task_by jobs.now (and_then (placed_by holdings.old) task.now.spot) task.now }
     ensures requests { (m : ℕ) → requests_in holdings.new m ≡ requests_in holdings.old m + requests_by result m }
     ensures tasks { (m : ℕ) → tasks_in holdings.new m ≡ tasks_in holdings.old m + tasks_by result m }
     ensures small { (m : ℕ) → requests_by result m < 2 ^ 32 }
     ensures there { (s : At) → is_there holdings.new s ≡ is_there holdings.old s }
-    ensures ahead { (t a : ℕ) → attempt_cmp (task, known.now.1.attempt) (t, a) ≡ Less
-        → lookup attempt_cmp (t, a) winners.new ≡ lookup attempt_cmp (t, a) winners.old }
 {
-    let spec = unfinished(known)?;
-    let job = standing(jobs, spec.job)?;
-    let holder = hold(task, attempt_in(known), spec.request, winners, holdings);
-    Some(held_task(spec, job, holder))
+    let job = standing(jobs, task.job)?;
+    let holder = hold(task.spot, task.request, holdings);
+    Some(held_task(task, job, holder))
 }
 
-// The machine that the winner of the attempt names, if that is open and at its present incarnation. A task with the request counts
-// for it.
-fn hold(
-    task: TaskId,
-    attempt: u32,
-    request: u32,
-    winners: &mut Winners<'_>,
-    holdings: &mut Holdings,
-) -> Option<MachineId>
+// The machine of the spot, if that is open and at its present incarnation. A task with the request counts for it.
+fn hold(spot: Option<Spot>, request: u32, holdings: &mut Holdings) -> Option<MachineId>
     requires requests_fit { (m : ℕ) → requests_in holdings.old m + 2 ^ 32 < 2 ^ 128 }
     requires tasks_fit { (m : ℕ) → tasks_in holdings.old m + 1 < 2 ^ 64 }
-    ensures placed { result ≡ and_then (placed_by holdings.old) (spot_in winners.old (task, attempt)) }
+    ensures placed { result ≡ and_then (placed_by holdings.old) spot }
     ensures requests { (m : ℕ) → requests_in holdings.new m ≡ requests_in holdings.old m + share_by result m request }
     ensures tasks { (m : ℕ) → tasks_in holdings.new m ≡ tasks_in holdings.old m + share_by result m 1 }
     ensures small { (m : ℕ) → share_by result m request < 2 ^ 32 }
     ensures there { (s : At) → is_there holdings.new s ≡ is_there holdings.old s }
-    ensures ahead { (t a : ℕ) → attempt_cmp (task, attempt) (t, a) ≡ Less
-        → lookup attempt_cmp (t, a) winners.new ≡ lookup attempt_cmp (t, a) winners.old }
 {
-    let spot = winners.spot(task, attempt)?;
-    holdings.hold(spot, request)
+    holdings.hold(spot?, request)
 }
 
 // What a plan needs of a live task of the job, which the machine holds.
-fn held_task(spec: &SpecReg, job: JobReg, holder: Option<MachineId>) -> LiveTask
-    ensures { result ≡ entry_of spec.now job holder }
+fn held_task(task: &UnfinishedTask, job: JobReg, holder: Option<MachineId>) -> LiveTask
+    ensures { result ≡ entry_of task.now job holder }
 {
     let price = match holder {
         Some(_) => job.preempt,
         None => job.wait,
     };
     LiveTask {
-        job: spec.job,
-        request: spec.request,
+        job: task.job,
+        request: task.request,
         price,
         holder,
-        prefers: !spec.prefer.entries().is_empty(),
-    }
-}
-
-// The spec of the record, if it is known and not withdrawn, and the task is not done.
-fn unfinished(known: &TaskRec) -> Option<&SpecReg>
-    ensures { option_copied result ≡ unfinished known.now }
-{
-    match &known.0.0 {
-        Some(spec) if !spec.0.withdrawn && !is_done(known.1.0.phase) => Some(&spec.0),
-        _ => None,
-    }
-}
-
-fn attempt_in(known: &TaskRec) -> u32
-    ensures { result ≡ known.now.1.attempt }
-{
-    known.1.0.attempt
-}
-
-fn is_done(phase: Phase) -> bool
-    ensures { result ≡ is_done phase }
-{
-    match phase {
-        Phase::Pending | Phase::Running => false,
-        Phase::Done => true,
+        prefers: task.prefers,
     }
 }
 
@@ -245,6 +216,7 @@ fn open_machine(known: &MachineRec, holding: Holding) -> Option<OpenMachine>
         load,
         spare: left_of(state.nic, load),
         held: holding.tasks,
+        requests: holding.requests,
     })
 }
 

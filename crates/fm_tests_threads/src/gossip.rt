@@ -1,4 +1,6 @@
+use crate::held::Held;
 use fm_coord::coordinator::Coordinator;
+use fm_coord::entry::{Call, Entry};
 use fm_fleet::round::{Gate, NoGate};
 use fm_gossip::fleet::run_fleet;
 use fm_gossip::member::Member;
@@ -7,11 +9,13 @@ use fm_records::ids::{CoordId, JobId, MachineId, TaskId};
 use fm_records::ops::Op;
 use fm_records::prefer::Prefer;
 use std::alloc::Global;
+use std::rt::Clock;
 use std::sync::Wait;
 use std::sync::atomic::{AtomicBool, Ordering};
 use std::test::Fail;
 use std::thread;
 use std::thread::Threads;
+use std::time::{CpuClock, Duration};
 
 fn told(alloc: Global) -> Result<Vec<Op>, Fail> {
     let job = Op::Job {
@@ -82,6 +86,43 @@ fn two_members_are_served(rt: HostRuntime) -> Result<(), Fail> {
     Ok(())
 }
 
+// The senders of the packets that were merged, as often as they were.
+fn senders(alloc: Global, history: &[Entry]) -> Result<Vec<u8>, Fail> {
+    let mut senders = Vec::new(alloc);
+    for entry in history {
+        if let Call::Merge(packet) = &entry.call {
+            senders.push(packet.sender.value())?;
+        }
+    }
+    senders.sort()?;
+    Ok(senders)
+}
+
+fn three_members(alloc: Global) -> Result<Vec<Member<Rebuilder, NoGate>>, Fail> {
+    let mut members = two_members(alloc, NoGate, NoGate)?;
+    members.push(member(alloc, 3, Vec::new(alloc), NoGate)?)?;
+    Ok(members)
+}
+
+// Whether each of three coordinators merged a packet of each of the others.
+fn merged_the_others(alloc: Global, served: &[Coordinator<Rebuilder>]) -> Result<bool, Fail> {
+    let [one, two, three] = served else {
+        return Ok(false);
+    };
+    let one = senders(alloc, one.history())?;
+    let two = senders(alloc, two.history())?;
+    let three = senders(alloc, three.history())?;
+    Ok(&*one == [2, 3].as_slice() && &*two == [1, 3].as_slice() && &*three == [1, 2].as_slice())
+}
+
+#[test]
+fn each_of_three_members_merges_the_packets_of_the_others(rt: HostRuntime) -> Result<(), Fail> {
+    let members = three_members(rt.alloc())?;
+    let served = run_fleet(&rt, rt.alloc(), members, 0)?;
+    assert!(rt; merged_the_others(rt.alloc(), &served)?);
+    Ok(())
+}
+
 // A gate that says that it was reached, waits until the other is, and says whether it saw that.
 #[derive(Drop)]
 struct Meeting<'a> {
@@ -103,6 +144,11 @@ impl<'a> Gate for Meeting<'a> {
     }
 }
 
+// A gate that is one of two.
+fn meet<'a>(own: &'a AtomicBool, other: &'a AtomicBool, saw: &'a AtomicBool) -> Meeting<'a> {
+    Meeting { own, other, saw }
+}
+
 // How many of two members are served, whose rounds wait for each other.
 fn served<'a, R: Threads + Wait + Sync>(
     rt: &R,
@@ -112,16 +158,8 @@ fn served<'a, R: Threads + Wait + Sync>(
     first_saw: &'a AtomicBool,
     second_saw: &'a AtomicBool,
 ) -> Result<usize, Fail> {
-    let one = Meeting {
-        own: first,
-        other: second,
-        saw: first_saw,
-    };
-    let two = Meeting {
-        own: second,
-        other: first,
-        saw: second_saw,
-    };
+    let one = meet(first, second, first_saw);
+    let two = meet(second, first, second_saw);
     let members = two_members(alloc, one, two)?;
     let served = run_fleet(rt, alloc, members, 1)?;
     Ok(served.len())
@@ -137,5 +175,102 @@ fn rounds_of_two_members_are_held_at_the_same_time(rt: HostRuntime) -> Result<()
     assert_eq!(rt; served, 2);
     assert!(rt; first_saw.load(Ordering::SeqCst));
     assert!(rt; second_saw.load(Ordering::SeqCst));
+    Ok(())
+}
+
+// A member whose coordinator calls the gate, if there is one, when it takes the first operation in.
+fn held_member<H: Gate + Drop, G: Drop>(
+    alloc: Global,
+    number: u8,
+    tells: Vec<Op>,
+    held: Option<H>,
+    gate: G,
+) -> Result<Member<Held<H>, G>, Fail> {
+    let number = CoordId::new(number).ok_or("no such number")?;
+    let keeper = Held {
+        rebuilder: Rebuilder::new(alloc)?,
+        gate: held,
+    };
+    let coordinator = Coordinator::new(alloc, number, 1_000_000, keeper);
+    Ok(Member::new(coordinator, tells, gate))
+}
+
+// A gate that sleeps for two seconds.
+#[derive(Drop)]
+struct Sleep<'a, R> {
+    rt: &'a R,
+}
+
+impl<R: Clock> Gate for Sleep<'_, R> {
+    fn hold(&mut self) {
+        thread::sleep(self.rt, Duration::from_secs(2));
+    }
+}
+
+// Sixteen members. The last alone is told something, and is two seconds late with it.
+fn crowd<'a, R: Clock>(
+    rt: &'a R,
+    alloc: Global,
+) -> Result<Vec<Member<Held<Sleep<'a, R>>, NoGate>>, Fail> {
+    let mut members = Vec::new(alloc);
+    for number in 1..16u8 {
+        members.push(held_member(alloc, number, Vec::new(alloc), None, NoGate)?)?;
+    }
+    members.push(held_member(alloc, 16, told(alloc)?, Some(Sleep { rt }), NoGate)?)?;
+    Ok(members)
+}
+
+// Threads that try again and again would take all the processor time that there is.
+#[test]
+fn intakes_sleep_while_they_wait_for_packets(rt: HostRuntime) -> Result<(), Fail> {
+    let members = crowd(&rt, rt.alloc())?;
+    let before = rt.process_cpu_time()?;
+    let served = run_fleet(&rt, rt.alloc(), members, 0)?;
+    let after = rt.process_cpu_time()?;
+    let used = after.checked_sub(before).ok_or("a clock that went back")?;
+    assert_eq!(rt; served.len(), 16);
+    assert!(rt; used < Duration::from_secs(1));
+    Ok(())
+}
+
+// Two members, each held up at its first operation or in its round.
+fn held_members<'a>(
+    alloc: Global,
+    first: Meeting<'a>,
+    second: Meeting<'a>,
+    tell: Meeting<'a>,
+) -> Result<Vec<Member<Held<Meeting<'a>>, Meeting<'a>>>, Fail> {
+    let one = held_member(alloc, 1, told(alloc)?, None, first)?;
+    let two = held_member(alloc, 2, told(alloc)?, Some(tell), second)?;
+    both(alloc, one, two)
+}
+
+// The first member's round and the second's first tell wait for each other, so the round is held while the first member's
+// intake waits for a packet. The second member's round waits for that tell too, so a round before the first tell would
+// wait in vain.
+fn saw_each_other<R: Threads + Wait + Sync>(rt: &R, alloc: Global) -> Result<bool, Fail> {
+    let first = AtomicBool::new(false);
+    let second = AtomicBool::new(false);
+    let told = AtomicBool::new(false);
+    let first_saw = AtomicBool::new(false);
+    let second_saw = AtomicBool::new(false);
+    let tell_saw = AtomicBool::new(false);
+    let members = held_members(
+        alloc,
+        meet(&first, &told, &first_saw),
+        meet(&second, &told, &second_saw),
+        meet(&told, &first, &tell_saw),
+    )?;
+    let _served = run_fleet(rt, alloc, members, 1)?;
+    Ok(
+        first_saw.load(Ordering::SeqCst)
+            && second_saw.load(Ordering::SeqCst)
+            && tell_saw.load(Ordering::SeqCst),
+    )
+}
+
+#[test]
+fn a_round_is_held_while_an_intake_waits(rt: HostRuntime) -> Result<(), Fail> {
+    assert!(rt; saw_each_other(&rt, rt.alloc())?);
     Ok(())
 }

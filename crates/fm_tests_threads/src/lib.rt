@@ -6,4 +6,6 @@ mod fleet;
 #[cfg(test)]
 mod gossip;
 #[cfg(test)]
+mod held;
+#[cfg(test)]
 mod inbox;

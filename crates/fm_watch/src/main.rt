@@ -4,8 +4,8 @@
 //! that edits or builds its network and one that builds it, and are looked at at each cut: it prints whether both
 //! networks are equal, how many looks at the first were edits and how many builds, and the network. With the word
 //! `steps` and a number it takes so many steps of the script, of a round the view alone, and prints nothing: on an
-//! allocator that counts, this shows what a step asks for. With any other word it prints how long an edit took, and
-//! how long building takes.
+//! allocator that counts, this shows what a step asks for. The word `tallies` does the same, of a round the tally alone.
+//! With any other word it prints how long an edit took, and how long building takes.
 #![tactic(auto)]
 
 mod followed;
@@ -33,7 +33,8 @@ fn main(rt: HostRuntime) -> Result<(), anyhow::Error> {
     let script = script(&rt)?;
     match env::args(&rt)?.nth(1).as_deref() {
         Some("looks") => looks(&rt, script),
-        Some("steps") => steps(&rt, &script),
+        Some("steps") => steps(&rt, &script, false),
+        Some("tallies") => steps(&rt, &script, true),
         word => edits(&rt, script, word.is_some()),
     }
 }
@@ -51,13 +52,13 @@ fn edits(rt: &HostRuntime, script: Script, is_timed: bool) -> Result<(), anyhow:
 }
 
 // Takes as many steps as the second word says.
-fn steps(rt: &HostRuntime, script: &Script) -> Result<(), anyhow::Error>
+fn steps(rt: &HostRuntime, script: &Script, tallies: bool) -> Result<(), anyhow::Error>
     requires { AreDistinct script.now.coordinators.items }
 {
     let Some(word) = env::args(rt)?.nth(2) else {
         anyhow::bail!("how many steps?");
     };
-    take_first(rt.alloc(), script, word.parse()?)?;
+    take_first(rt.alloc(), script, word.parse()?, tallies)?;
     Ok(())
 }
 

@@ -10,19 +10,30 @@ use fm_world::step::{Act as WorldAct, Step as WorldStep};
 use fm_world::world::World;
 use std::alloc::Global;
 
-/// Takes the given number of steps of the script on a world of its coordinators; of a round it takes only the view.
-/// Refused as the first step that is refused.
-pub(crate) fn take_first(alloc: Global, script: &Script, count: usize) -> Result<(), Refusal>
+/// Takes the given number of steps of the script on a world of its coordinators; of a round it takes only the view, or
+/// only makes the tally. Refused as the first step that is refused.
+pub(crate) fn take_first(
+    alloc: Global,
+    script: &Script,
+    count: usize,
+    tallies: bool,
+) -> Result<(), Refusal>
     requires { AreDistinct script.now.coordinators.items }
 {
     let mut world = open(alloc, &script.coordinators)?;
     for step in script.steps.iter().take(count) {
-        take(&mut world, step)?;
+        take(&mut world, step, tallies)?;
     }
     Ok(())
 }
 
-fn take(world: &mut World<Keeper>, step: &Step) -> Result<(), Refusal> {
+fn take(world: &mut World<Keeper>, step: &Step, tallies: bool) -> Result<(), Refusal> {
+    if let Act::Round = step.act {
+        if tallies {
+            world.refresh_tally(step.at);
+            return Ok(());
+        }
+    }
     world.step(&WorldStep {
         at: step.at,
         by: 0,

@@ -2,11 +2,13 @@
 use Rattle.std.proofs.Common.{◌≡◌, ◌∙◌, refl, List, [], ◌∷◌, codes, arith}
 use Rattle.std.specs.Prelude.{⊤, unwrap_or}
 use Rattle.clap.proofs.OnLiterals.{clap_on_literals}
+use Rattle.std.specs.Option.{option_map_or}
+use Rattle.fm_records.specs.Ids.{read_id}
 use Rattle.clap.specs.Words.{Row}
 use Rattle.fm_words.specs.declared.words.Question.{Question}
 use Rattle.fm_words.specs.declared.words.Question.TheVariants as question
-use Rattle.fm_words.specs.Telling.{Text, agree, ask, fleet, follow, pack, run, unpack}
-use Rattle.fm_words.specs.Heard.{Form, asks, commands, default_renew_after, fleets, follows, given, most_renew_after, nothing, packs}
+use Rattle.fm_words.specs.Telling.{Text, agree, ask, fleet, follow, pack, run, unpack, why, wrong}
+use Rattle.fm_words.specs.Heard.{Form, asks, commands, default_renew_after, fleets, follows, given, most_renew_after, nothing, packs, whys}
 use Rattle.fm_words.specs.Parser.{tellings, told_as, told_with}
 use Rattle.fm_words.proofs.Leaf.{built_with, helper}
 use Rattle.fm_words.proofs.Entering.{enter}
@@ -92,6 +94,14 @@ of_pack = record {
   tells = λ rows. refl;
 }
 
+abbrev of_why : Named
+of_why = record {
+  called = codes "why";
+  tell = told_as (codes "why");
+  give = λ name. option_map_or (λ task. run (why task)) (read_id name) wrong;
+  tells = λ rows. refl;
+}
+
 agree_told : IsTold (record { name = codes "agree"; takes = nothing (run agree) })
 unfolding clap_on_literals
 agree_told program rest = enter program (codes "agree") rest (built_with (codes "agree") (helper ∷ [])) refl refl refl ∙ bare (codes "agree") (told_as (codes "agree")) (run agree) refl rest
@@ -124,9 +134,13 @@ unpack_told : IsTold (record { name = codes "unpack"; takes = nothing (run unpac
 unfolding clap_on_literals
 unpack_told program rest = enter program (codes "unpack") rest (built_with (codes "unpack") (helper ∷ [])) refl refl refl ∙ bare (codes "unpack") (told_as (codes "unpack")) (run unpack) refl rest
 
+why_told : IsTold (record { name = codes "why"; takes = whys })
+unfolding clap_on_literals
+why_told program rest = enter program (codes "why") rest (built_with (codes "why") named.rules) refl refl refl ∙ takes_name of_why rest
+
 winners_told : IsTold (record { name = codes "winners"; takes = asks question.Winners })
 unfolding clap_on_literals
 winners_told program rest = enter program (codes "winners") rest (shape of_winners) refl refl refl ∙ takes_number of_winners rest
 
 pub each_told : Each IsTold commands
-each_told = (agree_told, (fleet_told, (follow_told, (graph_told, (pack_told, (solve_told, (plan_told, (unpack_told, (winners_told, tt)))))))))
+each_told = (agree_told, (fleet_told, (follow_told, (graph_told, (pack_told, (solve_told, (plan_told, (unpack_told, (why_told, (winners_told, tt))))))))))

@@ -6,9 +6,10 @@ use Rattle.std.specs.Str.{chars}
 use Rattle.std.specs.Str.Parse.{digits_value, starts_with_minus, without_leading_sign}
 use Rattle.clap.specs.Lexer.{long_of, short_of}
 use Rattle.clap.specs.ValueTests.{is_numeral}
+use Rattle.fm_records.specs.Ids.{read_id}
 use Rattle.fm_words.specs.declared.words.Question.{Question}
 use Rattle.fm_words.specs.declared.words.Question.TheVariants as question
-use Rattle.fm_words.specs.Telling.{Telling, Text, agree, ask, fleet, follow, help, pack, page, run, unpack, wrong}
+use Rattle.fm_words.specs.Telling.{Telling, Text, agree, ask, fleet, follow, help, pack, page, run, unpack, why, wrong}
 
 -- ---- one word
 
@@ -129,6 +130,10 @@ follows = one_number (codes "renew-after") 1 most_renew_after (λ n. follow (unw
 abbrev pub packs : Takes
 packs = one_name (λ name. run (pack name))
 
+-- `TASK`: why the task of the id waits or runs
+abbrev pub whys : Takes
+whys = one_name (λ name. option_map_or (λ task. run (why task)) (read_id name) wrong)
+
 pub record Form : Type 0 where
   pub name : Text
   pub takes : Takes
@@ -143,6 +148,7 @@ commands = record { name = codes "agree"; takes = nothing (run agree) }
     ∷ record { name = codes "solve"; takes = asks question.Solve }
     ∷ record { name = codes "plan"; takes = asks question.Plan }
     ∷ record { name = codes "unpack"; takes = nothing (run unpack) }
+    ∷ record { name = codes "why"; takes = whys }
     ∷ record { name = codes "winners"; takes = asks question.Winners }
     ∷ []
 

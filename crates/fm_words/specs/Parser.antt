@@ -43,8 +43,11 @@ no_commands = record {
 abbrev pub add_command : App → Form → App
 add_command app c = with_subcommand app (command_app c.name c.takes).top
 
+abbrev pub with_commands : List Form → App
+with_commands = fold add_command no_commands
+
 abbrev pub firmament : App
-firmament = fold add_command no_commands commands
+firmament = with_commands commands
 
 -- ---- what is made of its matches
 

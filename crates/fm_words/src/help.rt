@@ -49,6 +49,7 @@ fn is_topic(word: &str) -> bool
             | "solve"
             | "plan"
             | "unpack"
+            | "why"
             | "winners"
             | "help"
     )

@@ -2,7 +2,8 @@
 
 ghost use Rattle.std.specs.Prelude.{◌≡◌, ◌≤◌, ◌<◌, ◌^◌, ◌∷◌, [], ℕ, List, None, Some, codes, decimal};
 ghost use Rattle.fm_words.specs.Heard.{heard, number_in};
-ghost use Rattle.fm_words.specs.Telling.{Text, ask, fleet, follow, help, pack, page, run, wrong};
+ghost use Rattle.fm_records.specs.Ids.{id_text};
+ghost use Rattle.fm_words.specs.Telling.{Text, ask, fleet, follow, help, pack, page, run, why, wrong};
 ghost use Rattle.fm_words.specs.declared.words.Question.TheVariants.{Graph, Plan, Solve, Winners};
 
 /// A number in range that is written in decimal digits, as the program itself writes numbers, is read as that number.
@@ -23,6 +24,9 @@ pub fn law_examples()
     ensures renewal { (p : Text) → heard (p ∷ codes "follow" ∷ codes "--renew-after=1" ∷ []) ≡ follow 1 }
     ensures below { (p : Text) → heard (p ∷ codes "follow" ∷ codes "--renew-after=0" ∷ []) ≡ wrong }
     ensures any_name { (p name : Text) → heard (p ∷ codes "pack" ∷ codes "--" ∷ name ∷ []) ≡ run (pack name) }
+    ensures any_task { (p : Text) (task : ℕ) → task < 2 ^ 128
+        → heard (p ∷ codes "why" ∷ codes "--" ∷ id_text task ∷ []) ≡ run (why task) }
+    ensures no_task { (p : Text) → heard (p ∷ codes "why" ∷ []) ≡ wrong }
     ensures flag { (p : Text) → heard (p ∷ codes "graph" ∷ codes "--at" ∷ codes "1" ∷ codes "-h" ∷ []) ≡ help }
     ensures topic { (p : Text) → heard (p ∷ codes "help" ∷ codes "solve" ∷ []) ≡ help }
     ensures refusals { (p : Text) → heard (p ∷ codes "help" ∷ codes "refusals" ∷ []) ≡ page }

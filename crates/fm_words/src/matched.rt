@@ -2,16 +2,22 @@
 
 ghost use Rattle.std.specs.Prelude.{◌≡◌, ◌≢◌, IfOk, codes, map, option_map, string_bytes};
 ghost use Rattle.clap.specs.Words.{first_of, found_of, kind_of, rows_of, subcommand_rows_of};
-ghost use Rattle.fm_words.specs.Heard.{asks, fleets, follows, packs};
+ghost use Rattle.fm_words.specs.Heard.{asks, fleets, follows, packs, whys};
+ghost use Rattle.fm_records.specs.Ids.{read_id};
+ghost use Rattle.std.specs.Option.{option_map_or};
 ghost use Rattle.fm_words.specs.Parser.{number_read, told_as, told_at_error, told_by, told_with};
-ghost use Rattle.fm_words.specs.Telling.{told_of};
+ghost use Rattle.fm_words.specs.Telling.{run, told_of, why, wrong};
 
 use super::help::{ask_for_help, begin_with_help};
 use super::words::{Command, DEFAULT_RENEW_AFTER, Question, Words};
 use clap::error::ErrorKind;
 use clap::{ArgMatches, Error};
 use fm_lattice::join::OutOfMemory;
+use fm_records::ids::TaskId;
 use std::alloc::Global;
+
+// What is said of a word that is no id.
+const NO_ID: &str = "error: a task is named by its id, a UUID\n";
 
 /// The meaning of the matches of a command.
 pub fn named<'a>(alloc: Global, matches: &ArgMatches<'a>) -> Words<'a>
@@ -36,6 +42,7 @@ fn named_as<'a>(alloc: Global, name: &str, inner: &ArgMatches<'a>) -> Words<'a>
         "solve" => asks(Question::Solve, inner),
         "plan" => asks(Question::Plan, inner),
         "unpack" => Words::Run(Command::Unpack),
+        "why" => whys(alloc, inner),
         "winners" => asks(Question::Winners, inner),
         // The parser knows no other.
         _ => Words::Wrong(String::new(alloc)),
@@ -91,6 +98,29 @@ fn packs<'a>(alloc: Global, matches: &ArgMatches<'a>) -> Words<'a>
     match name_in(matches) {
         Some(name) => Words::Run(Command::Pack { name }),
         None => Words::Wrong(String::new(alloc)),
+    }
+}
+
+// Why the task of the id waits or runs.
+fn whys<'a>(alloc: Global, matches: &ArgMatches<'a>) -> Words<'a>
+    ensures { told_of result ≡ told_with whys (rows_of (found_of matches.now)) }
+{
+    match name_in(matches) {
+        Some(name) => why_of(alloc, name),
+        None => Words::Wrong(String::new(alloc)),
+    }
+}
+
+// Why the task of the id waits or runs; if the word is no id, that it is none.
+fn why_of<'a>(alloc: Global, name: &str) -> Words<'a>
+    ensures { told_of result ≡ option_map_or (λ task. run (why task)) (read_id name.now) wrong }
+{
+    match TaskId::read(name) {
+        Some(id) => Words::Run(Command::Why { task: id.value() }),
+        None => match String::from_str(alloc, NO_ID) {
+            Ok(text) => Words::Wrong(text),
+            Err(_) => Words::Wrong(String::new(alloc)),
+        },
     }
 }
 

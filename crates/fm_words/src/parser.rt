@@ -1,10 +1,10 @@
 //! The commands that the parser knows, with their texts of help.
 
-ghost use Rattle.std.specs.Prelude.{◌≡◌, IfOk, codes, false};
+ghost use Rattle.std.specs.Prelude.{◌≡◌, IfOk, codes, false, take};
 ghost use Rattle.clap.specs.Words.{app_of, new_app, rule_of, with_rule};
 ghost use Rattle.clap.specs.declared.builder.command.Command.TheViews.{out-Command};
-ghost use Rattle.fm_words.specs.Heard.{asks, fleets, follows, most_renew_after, nothing, packs};
-ghost use Rattle.fm_words.specs.Parser.{command_app, firmament, name_rule, no_commands, number_rule};
+ghost use Rattle.fm_words.specs.Heard.{asks, commands, fleets, follows, most_renew_after, nothing, packs, whys};
+ghost use Rattle.fm_words.specs.Parser.{command_app, firmament, name_rule, no_commands, number_rule, with_commands};
 ghost use Rattle.fm_words.specs.Telling.{agree, run, unpack};
 ghost use Rattle.fm_words.specs.declared.words.Question.TheVariants as question;
 
@@ -17,25 +17,35 @@ use std::alloc::Global;
 pub fn parser<'a>(alloc: Global) -> Result<Command<'a>, OutOfMemory>
     ensures { IfOk result (λ c. app_of c ≡ firmament) }
 {
+    let solve = solve(alloc)?;
+    let plan = plan(alloc)?;
+    let unpack = unpack(alloc);
+    let why = why(alloc)?;
+    let winners = winners(alloc)?;
+    let with_pack = up_to_pack(alloc)?;
+    let with_solve = with_pack.subcommand(solve)?;
+    let with_plan = with_solve.subcommand(plan)?;
+    let with_unpack = with_plan.subcommand(unpack)?;
+    let with_why = with_unpack.subcommand(why)?;
+    let with_winners = with_why.subcommand(winners)?;
+    Ok(with_winners)
+}
+
+// The program with the first five of its commands.
+fn up_to_pack<'a>(alloc: Global) -> Result<Command<'a>, OutOfMemory>
+    ensures { IfOk result (λ c. app_of c ≡ with_commands (take 5 commands)) }
+{
     let agree = agree(alloc);
     let fleet = fleet(alloc)?;
     let follow = follow(alloc)?;
     let graph = graph(alloc)?;
     let pack = pack(alloc)?;
-    let solve = solve(alloc)?;
-    let plan = plan(alloc)?;
-    let unpack = unpack(alloc);
-    let winners = winners(alloc)?;
     let with_agree = program(alloc)?.subcommand(agree)?;
     let with_fleet = with_agree.subcommand(fleet)?;
     let with_follow = with_fleet.subcommand(follow)?;
     let with_graph = with_follow.subcommand(graph)?;
     let with_pack = with_graph.subcommand(pack)?;
-    let with_solve = with_pack.subcommand(solve)?;
-    let with_plan = with_solve.subcommand(plan)?;
-    let with_unpack = with_plan.subcommand(unpack)?;
-    let with_winners = with_unpack.subcommand(winners)?;
-    Ok(with_winners)
+    Ok(with_pack)
 }
 
 fn program<'a>(alloc: Global) -> Result<Command<'a>, OutOfMemory>
@@ -152,6 +162,20 @@ fn unpack<'a>(alloc: Global) -> Command<'a>
         .after_help("Example: firmament unpack < examples/packet.hex")
 }
 
+fn why<'a>(alloc: Global) -> Result<Command<'a>, OutOfMemory>
+    ensures app { IfOk result (λ c. app_of c ≡ command_app (codes "why") whys) }
+    ensures local { IfOk result (λ c. (out-Command c).has_globals ≡ false) }
+{
+    let command = Command::new(alloc, "why")
+        .about(
+            "Says why a task waits or runs, by what the first coordinator knows: what the schedule costs, and how much dearer each schedule is that runs the task on one of the cheapest machines",
+        )
+        .after_help(
+            "Example: firmament why 00000000-0000-0000-0000-000000000015 < examples/waiting.json",
+        );
+    Ok(command.arg(task(alloc))?)
+}
+
 fn winners<'a>(alloc: Global) -> Result<Command<'a>, OutOfMemory>
     ensures app { IfOk result (λ c. app_of c ≡ command_app (codes "winners") (asks question.Winners)) }
     ensures local { IfOk result (λ c. (out-Command c).has_globals ≡ false) }
@@ -183,9 +207,29 @@ fn name<'a>(alloc: Global) -> Arg<'a>
     ensures rule { rule_of result ≡ name_rule }
     ensures local { result.global ≡ false }
 {
+    word(
+        alloc,
+        "NAME",
+        "The name under which the script cuts the packet",
+    )
+}
+
+// The id of a task.
+fn task<'a>(alloc: Global) -> Arg<'a>
+    ensures rule { rule_of result ≡ name_rule }
+    ensures local { result.global ≡ false }
+{
+    word(alloc, "TASK", "The id of the task, as a UUID")
+}
+
+// A word that a command must have, under the name in its usage.
+fn word<'a>(alloc: Global, usage: &'a str, about: &'a str) -> Arg<'a>
+    ensures rule { rule_of result ≡ name_rule }
+    ensures local { result.global ≡ false }
+{
     Arg::new(alloc, "name")
-        .value_name("NAME")
-        .help("The name under which the script cuts the packet")
+        .value_name(usage)
+        .help(about)
         .required(true)
 }
 

@@ -34,6 +34,8 @@ pub enum Command<'a> {
     Pack { name: &'a str },
     /// Print the records of a packet.
     Unpack,
+    /// Say why the task of the id, as a number, waits or runs, by what the first coordinator of the script knows.
+    Why { task: u128 },
 }
 
 /// What is asked of a coordinator once a script's steps have run.

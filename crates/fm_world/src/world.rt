@@ -158,6 +158,17 @@ impl<N: NetKeeper> World<N> {
         }
     }
 
+    /// Makes the tally of what the coordinator with this number knows, if there is one, and memory for it: then a round that follows
+    /// takes it, and neither plans nor admits by a walk over all tasks. Nothing that contracts speak of changes. It costs what
+    /// `Coordinator::refresh_tally` does.
+    pub fn refresh_tally(&mut self, at: u8)
+        ensures { self.new ≡ self.old }
+    {
+        if let Some(place) = place_of(self.coordinators.as_slice(), at) {
+            let _ = self.coordinators[place].refresh_tally();
+        }
+    }
+
     /// Merges a packet of another world or process. Whatever operations the packet stands for, the coordinators then
     /// stand for the world in which these were merged: for example all that its sender had received. NoCoordinator,
     /// HistoryFull, OutOfMemory. Then nothing has changed, except possibly whether a network is fresh.

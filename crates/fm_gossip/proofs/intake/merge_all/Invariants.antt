@@ -1,5 +1,9 @@
-use Rattle.fm_gossip.specs.Served.{AreMerged}
+use Rattle.std.proofs.Common.{length}
+use Rattle.fm_gossip.proofs.Merging.{AreSoFar}
 use Rattle.fm_gossip.proofs.intake.merge_all.Given as goal
 
-abbrev pub invariant-loop-i : goal.invariant-loop-i
-invariant-loop-i g l = AreMerged l._i l.fn.seat l.seat
+abbrev pub invariant-loop-own : goal.invariant-loop-own
+invariant-loop-own g l = AreSoFar l.fn.awaited.items l.awaited.items l.fn.seat l.seat l.fn.own.port l.own.port
+
+abbrev pub decreases-loop-own : goal.decreases-loop-own
+decreases-loop-own g l = length l.awaited.items

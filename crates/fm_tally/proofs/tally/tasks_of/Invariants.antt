@@ -1,17 +1,15 @@
-use Rattle.std.proofs.Common.{◌≡◌, ◌++◌}
+use Rattle.std.proofs.Common.{◌≡◌, ◌++◌, drop, length}
 use Rattle.fm_records.specs.declared.records.Spot.{Spot}
 use Rattle.fm_records.specs.Facts.{is_present}
 use Rattle.fm_tally.specs.Holdings.{is_there}
-use Rattle.fm_tally.specs.Tallies.{task_at, all_tasks}
+use Rattle.fm_tally.specs.Tallies.{task_at}
 use Rattle.fm_tally.proofs.Counting.{IsCounting}
 use Rattle.fm_tally.proofs.Rows.{rows}
-use Rattle.fm_tally.proofs.Walk.{IsWalk}
 use Rattle.fm_tally.proofs.tally.tasks_of.Given as goal
 
 abbrev pub invariant-loop-task : goal.invariant-loop-task
 invariant-loop-task l = record {
-  found : l.found.items ++ rows (task_at l.knowledge) l.task-iterator ≡ all_tasks l.knowledge;
-  counting : IsCounting l.knowledge l.task-iterator l.holdings;
+  found : l.found.items ++ rows (task_at l.knowledge) (drop l.task-index l.pairs) ≡ rows (task_at l.knowledge) l.pairs;
+  counting : IsCounting l.knowledge (length l.pairs) (drop l.task-index l.pairs) l.holdings;
   there : (s : Spot) → is_there l.holdings s ≡ is_present l.knowledge s;
-  walk : IsWalk l.knowledge l.task-iterator l.winners;
 }

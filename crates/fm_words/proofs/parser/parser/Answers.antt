@@ -8,21 +8,13 @@ top a = a.top
 pub returns : goal.returns
 returns c =
     c.in_ok-with_winners.ensures.shape c.in_ok-winners.ensures.local ∙ ap₂ with_subcommand
+    (c.in_ok-with_why.ensures.shape c.in_ok-why.ensures.local ∙ ap₂ with_subcommand
     (c.in_ok-with_unpack.ensures.shape c.unpack-unpack.ensures.local ∙ ap₂ with_subcommand
     (c.in_ok-with_plan.ensures.shape c.in_ok-plan.ensures.local ∙ ap₂ with_subcommand
     (c.in_ok-with_solve.ensures.shape c.in_ok-solve.ensures.local ∙ ap₂ with_subcommand
-    (c.in_ok-with_pack.ensures.shape c.in_ok-pack.ensures.local ∙ ap₂ with_subcommand
-    (c.in_ok-with_graph.ensures.shape c.in_ok-graph.ensures.local ∙ ap₂ with_subcommand
-    (c.in_ok-with_follow.ensures.shape c.in_ok-follow.ensures.local ∙ ap₂ with_subcommand
-    (c.in_ok-with_fleet.ensures.shape c.in_ok-fleet.ensures.local ∙ ap₂ with_subcommand
-    (c.in_ok-with_agree.ensures.shape c.agree-agree.ensures.local ∙ ap₂ with_subcommand
-    c.in_ok-program.ensures.app
-    (ap top c.agree-agree.ensures.app))
-    (ap top c.in_ok-fleet.ensures.app))
-    (ap top c.in_ok-follow.ensures.app))
-    (ap top c.in_ok-graph.ensures.app))
-    (ap top c.in_ok-pack.ensures.app))
+    c.in_ok-with_pack.ensures
     (ap top c.in_ok-solve.ensures.app))
     (ap top c.in_ok-plan.ensures.app))
     (ap top c.unpack-unpack.ensures.app))
+    (ap top c.in_ok-why.ensures.app))
     (ap top c.in_ok-winners.ensures.app)

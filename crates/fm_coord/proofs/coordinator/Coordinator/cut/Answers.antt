@@ -25,6 +25,7 @@ invariant_of-self-2 g c =
           (keeps_cut s c.self.invariant.coordinator c.args.by c.args.range none));
       keeper = c.self.invariant.keeper;
       kept_up = c.self.invariant.kept_up;
+      tallied = c.self.invariant.tallied;
     }
 
 pub returns-clause-event : goal.returns-clause-event

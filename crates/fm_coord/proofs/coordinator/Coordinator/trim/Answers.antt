@@ -26,6 +26,7 @@ invariant_of-self-2 g c =
           (keeps_trim s c.self.invariant.coordinator c.args.by c.args.n (no_cause (bounds s) (call.Trim c.args.n) fault room));
       keeper = c.self.invariant.keeper;
       kept_up = c.self.invariant.kept_up;
+      tallied = c.self.invariant.tallied;
     }
 
 pub returns-clause-event : goal.returns-clause-event

@@ -1,0 +1,64 @@
+-- The text that says why a task waits or runs (this project's profile).
+use Rattle.std.specs.Prelude.{◌≡◌, ℕ, ◌-◌, List, [], ◌++◌, if◌then◌else◌, codes, decimal, length, take, Option, Some, None, slice_get}
+use Rattle.fm_records.specs.Ids.{id_text}
+use Rattle.fm_records.specs.Table.{Table}
+use Rattle.fm_why.specs.declared.reasons.Choice.{Choice}
+use Rattle.fm_why.specs.declared.reasons.Choices.{Choices}
+use Rattle.fm_why.specs.declared.reasons.Reasons.{Reasons}
+use Rattle.fm_why.specs.declared.reasons.Reasons.TheVariants.{Unknown, NotLive, Held, Free}
+use Rattle.fm_why.specs.Reasons.{AreReasons}
+use Rattle.fm_ask.specs.Lines.{lines_of}
+
+-- what it would take to run a task that waits: what the cheapest machine with room costs, if there is one
+abbrev pub waiting_text : Choices → Option Choice → List ℕ
+waiting_text c None = codes " waits: no machine has room for its request of " ++ (decimal c.request ++ codes "\n")
+waiting_text c (Some e) =
+    codes " waits, which costs " ++ (decimal c.wait ++ (codes ": running it on the cheapest machine with room would cost at least " ++ (decimal e.dearer ++ codes " more\n")))
+
+-- a task that runs in the schedule that was found
+abbrev pub running_text : Choices → List ℕ
+running_text c = codes " runs in this schedule: leaving it to wait would cost at least " ++ (decimal c.waiting ++ codes " more\n")
+
+abbrev pub answer_line : ℕ → Choices → List ℕ
+answer_line task c = codes "task " ++ (id_text task ++ (if c.waits then waiting_text c (slice_get c.machines.items 0) else running_text c))
+
+-- what the schedule costs
+abbrev pub cost_line : Choices → List ℕ
+cost_line c = codes "this schedule costs " ++ (decimal c.least ++ codes ", and none costs less\n")
+
+-- a machine with room: what the way there costs, and how much dearer schedules are that use it
+abbrev pub choice_text : Choice → List ℕ
+choice_text e = codes "on machine " ++ (id_text e.machine ++ (codes " it costs " ++ (decimal e.cost ++ (codes ", and each schedule that runs it there costs at least " ++ (decimal e.dearer ++ codes " more")))))
+
+-- the machines behind the five that are listed, from the first of them on
+abbrev pub others_text : ℕ → Option Choice → List ℕ
+others_text more None = []
+others_text more (Some e) = codes "on each of " ++ (decimal more ++ (codes " other machines with room at least " ++ (decimal e.dearer ++ codes " more\n")))
+
+abbrev pub room_line : Choices → List ℕ
+room_line c = codes "room for its request of " ++ (decimal c.request ++ (codes " on " ++ (decimal (length c.machines.items) ++ (codes " of " ++ (decimal c.known ++ codes " machines that are known\n")))))
+
+-- the theory
+abbrev pub theory_line : List ℕ
+theory_line = codes "by potentials that certify the schedule: what is sent over an empty arc costs at least its reduced cost more\n"
+
+-- the answer, the cost, the five cheapest machines, how many more there are, and the theory
+abbrev pub choices_text : ℕ → Choices → List ℕ
+choices_text task c =
+    answer_line task c ++ (cost_line c ++ (lines_of choice_text (take 5 c.machines.items)
+    ++ (others_text (length c.machines.items - 5) (slice_get c.machines.items 5) ++ (room_line c ++ theory_line))))
+
+abbrev pub held_text : ℕ → ℕ → List ℕ
+held_text task machine = codes "task " ++ (id_text task ++ (codes " is held by machine " ++ (id_text machine ++ codes "\n")))
+
+abbrev pub reasons_text : ℕ → Reasons → List ℕ
+reasons_text task Unknown = codes "task " ++ (id_text task ++ codes " is not known\n")
+reasons_text task NotLive = codes "task " ++ (id_text task ++ codes " is not live: it is withdrawn or done, or its job is withdrawn or not known\n")
+reasons_text task (Held machine) = held_text task machine
+reasons_text task (Free c) = choices_text task c
+
+-- the text is that of true reasons of the task, by what is known
+pub record IsReasonsText (k : Table) (task : ℕ) (text : List ℕ) : Type 0 where
+  pub reasons : Reasons
+  pub are : AreReasons k task reasons
+  pub is : text ≡ reasons_text task reasons

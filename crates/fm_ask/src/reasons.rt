@@ -1,0 +1,201 @@
+//! Why a task waits or runs, as text.
+
+ghost use Rattle.std.specs.Prelude.{◌≡◌, ◌++◌, ◌-◌, length, take, slice_get, IfOk, OnOk, IsOkUnless, string_bytes};
+ghost use Rattle.fm_ask.specs.Reasons.{answer_line, choice_text, choices_text, cost_line, held_text, others_text, reasons_text, room_line, running_text, theory_line, waiting_text, IsReasonsText};
+
+use crate::lines::{LineText, write_lines};
+use fm_know::knowledge::Knowledge;
+use fm_records::ids::{MachineId, TaskId};
+use fm_records::refusal::Refusal;
+use fm_why::reasons::{Choice, Choices, Reasons};
+use fm_why::why::why;
+use std::alloc::Global;
+
+// How many machines are listed: so the text has fewer than 20 lines for a cluster of any size.
+const SHOWN: usize = 5;
+
+/// Where the task is, by what is known, and for a live task that no machine holds, how much dearer each schedule is that
+/// runs it on one of the five cheapest machines, at least. Refused only if memory runs out. It costs what `why` does.
+pub fn why_text(alloc: Global, knowledge: &Knowledge, task: TaskId) -> Result<String, Refusal>
+    ensures ok { IfOk result (λ text. IsReasonsText knowledge.now task (string_bytes text)) }
+    ensures err { IsOkUnless result Refusal.OutOfMemory }
+{
+    let reasons = why(alloc, knowledge, task)?;
+    reasons_text(alloc, task, &reasons)
+}
+
+// The reasons as text.
+fn reasons_text(alloc: Global, task: TaskId, reasons: &Reasons) -> Result<String, Refusal>
+    ensures ok { IfOk result (λ text. string_bytes text ≡ reasons_text task reasons.now) }
+    ensures err { IsOkUnless result Refusal.OutOfMemory }
+{
+    let name = task.text(alloc)?;
+    match reasons {
+        Reasons::Unknown => Ok(format!(in alloc; "task {name} is not known\n")?),
+        Reasons::NotLive => Ok(format!(in alloc;
+            "task {name} is not live: it is withdrawn or done, or its job is withdrawn or not known\n"
+        )?),
+        Reasons::Held(machine) => held_text(alloc, task, *machine),
+        Reasons::Free(choices) => choices_text(alloc, task, choices),
+    }
+}
+
+// The text of a task that a machine holds.
+fn held_text(alloc: Global, task: TaskId, machine: MachineId) -> Result<String, Refusal>
+    ensures ok { IfOk result (λ text. string_bytes text ≡ held_text task machine) }
+    ensures err { IsOkUnless result Refusal.OutOfMemory }
+{
+    let name = task.text(alloc)?;
+    let holder = machine.text(alloc)?;
+    Ok(format!(in alloc; "task {name} is held by machine {holder}\n")?)
+}
+
+// What there is to choose for a task, as text.
+fn choices_text(alloc: Global, task: TaskId, choices: &Choices) -> Result<String, Refusal>
+    ensures ok { IfOk result (λ text. string_bytes text ≡ choices_text task choices.now) }
+    ensures err { IsOkUnless result Refusal.OutOfMemory }
+{
+    let mut lines = String::new(alloc);
+    write_answer(alloc, task, choices, &mut lines)?;
+    write_cost(choices, &mut lines)?;
+    write_lines(alloc, shown(&choices.machines), &mut lines)?;
+    write_others(&choices.machines, &mut lines)?;
+    write_room(choices, &mut lines)?;
+    write_theory(&mut lines)?;
+    Ok(lines)
+}
+
+// The first machines of the list.
+fn shown(machines: &[Choice]) -> &[Choice]
+    ensures { result.now ≡ take 5 machines.now }
+{
+    if machines.len() > SHOWN {
+        &machines[..SHOWN]
+    } else {
+        machines
+    }
+}
+
+// Appends the answer.
+fn write_answer(
+    alloc: Global,
+    task: TaskId,
+    choices: &Choices,
+    lines: &mut String,
+) -> Result<(), Refusal>
+    ensures ok { OnOk result (string_bytes lines.new ≡ string_bytes lines.old ++ answer_line task choices.now) }
+    ensures err { IsOkUnless result Refusal.OutOfMemory }
+{
+    let name = task.text(alloc)?;
+    write!(lines, "task {name}")?;
+    if choices.waits {
+        write_waiting(choices, lines)
+    } else {
+        write_running(choices, lines)
+    }
+}
+
+// Appends what it would cost if a task that runs waited.
+fn write_running(choices: &Choices, lines: &mut String) -> Result<(), Refusal>
+    ensures ok { OnOk result (string_bytes lines.new ≡ string_bytes lines.old ++ running_text choices.now) }
+    ensures err { IsOkUnless result Refusal.OutOfMemory }
+{
+    let waiting = choices.waiting;
+    write!(
+        lines,
+        " runs in this schedule: leaving it to wait would cost at least {waiting} more\n"
+    )?;
+    Ok(())
+}
+
+// Appends what it would take to run a task that waits.
+fn write_waiting(choices: &Choices, lines: &mut String) -> Result<(), Refusal>
+    ensures ok { OnOk result (string_bytes lines.new
+        ≡ string_bytes lines.old ++ waiting_text choices.now (slice_get choices.now.machines.items 0)) }
+    ensures err { IsOkUnless result Refusal.OutOfMemory }
+{
+    match choices.machines.first() {
+        Some(first) => {
+            let (wait, dearer) = (choices.wait, first.dearer);
+            write!(
+                lines,
+                " waits, which costs {wait}: running it on the cheapest machine with room would cost at least {dearer} more\n"
+            )?;
+        }
+        None => {
+            let request = choices.request;
+            write!(
+                lines,
+                " waits: no machine has room for its request of {request}\n"
+            )?;
+        }
+    }
+    Ok(())
+}
+
+// Appends what the schedule costs.
+fn write_cost(choices: &Choices, lines: &mut String) -> Result<(), Refusal>
+    ensures ok { OnOk result (string_bytes lines.new ≡ string_bytes lines.old ++ cost_line choices.now) }
+    ensures err { IsOkUnless result Refusal.OutOfMemory }
+{
+    let least = choices.least;
+    write!(lines, "this schedule costs {least}, and none costs less\n")?;
+    Ok(())
+}
+
+// Appends how many machines are not listed, if there are any, and how much dearer the cheapest of them is.
+fn write_others(machines: &[Choice], lines: &mut String) -> Result<(), Refusal>
+    ensures ok { OnOk result (string_bytes lines.new
+        ≡ string_bytes lines.old ++ others_text (length machines.now - 5) (slice_get machines.now 5)) }
+    ensures err { IsOkUnless result Refusal.OutOfMemory }
+{
+    if let Some(next) = machines.get(SHOWN) {
+        let (more, dearer) = (machines.len() - SHOWN, next.dearer);
+        write!(
+            lines,
+            "on each of {more} other machines with room at least {dearer} more\n"
+        )?;
+    }
+    Ok(())
+}
+
+// Appends how many machines have room.
+fn write_room(choices: &Choices, lines: &mut String) -> Result<(), Refusal>
+    ensures ok { OnOk result (string_bytes lines.new ≡ string_bytes lines.old ++ room_line choices.now) }
+    ensures err { IsOkUnless result Refusal.OutOfMemory }
+{
+    let (request, known) = (choices.request, choices.known);
+    let room = choices.machines.as_slice().len();
+    write!(
+        lines,
+        "room for its request of {request} on {room} of {known} machines that are known\n"
+    )?;
+    Ok(())
+}
+
+// Appends the theory.
+fn write_theory(lines: &mut String) -> Result<(), Refusal>
+    ensures ok { OnOk result (string_bytes lines.new ≡ string_bytes lines.old ++ theory_line) }
+    ensures err { IsOkUnless result Refusal.OutOfMemory }
+{
+    lines.push_str(
+        "by potentials that certify the schedule: what is sent over an empty arc costs at least its reduced cost more\n",
+    )?;
+    Ok(())
+}
+
+impl LineText for Choice {
+    ghost use Rattle.fm_ask.specs.Reasons.{choice_text};
+
+    ghost line_text = { choice_text };
+
+    fn write_text(&self, alloc: Global, lines: &mut String) -> Result<(), Refusal> {
+        let machine = self.machine.text(alloc)?;
+        let (cost, dearer) = (self.cost, self.dearer);
+        write!(
+            lines,
+            "on machine {machine} it costs {cost}, and each schedule that runs it there costs at least {dearer} more"
+        )?;
+        Ok(())
+    }
+}

@@ -1,0 +1,12 @@
+use Rattle.std.proofs.Common.{◌≡◌, map, length}
+use Rattle.fm_gossip.specs.Passing.{passed_at}
+use Rattle.fm_gossip.proofs.Columns.{AreClosed}
+use Rattle.fm_gossip.proofs.closing.close_all.Given as goal
+
+abbrev pub invariant-loop-inbox : goal.invariant-loop-inbox
+invariant-loop-inbox g l =
+    (map (λ d. d.coordinator.state) l.dones.items ≡ map (λ d. d.coordinator.state) l.fn.dones.items)
+    × AreClosed (map (λ b. b.inbox) l.inboxes.items) (map passed_at (map (λ d. d.coordinator.state) l.fn.dones.items)) (map (λ d. map (λ e. e.port) d.doors.items) l.dones.items)
+
+abbrev pub decreases-loop-inbox : goal.decreases-loop-inbox
+decreases-loop-inbox g l = length l.inboxes.items

@@ -1,0 +1,85 @@
+//! Closing the inboxes of a fleet.
+ghost use Rattle.std.specs.Prelude.{◌≡◌, ◌+◌, ◌++◌, ◌∷◌, [], List, ℕ, length, map, vec_len, All, IfOk, OnOk};
+ghost use Rattle.fm_inbox.specs.Ports.{InboxSeen, PortSeen, IsPortOf, all_put, all_taken};
+ghost use Rattle.fm_inbox.specs.Rule.{SamePackets};
+ghost use Rattle.fm_gossip.specs.Passing.{ArePassedOn, passed_at};
+ghost use Rattle.fm_gossip.specs.Used.{AreUsed, column};
+
+use fm_coord::coordinator::Coordinator;
+use fm_fleet::door::{Door, Doors};
+use fm_policy::keeper::NetKeeper;
+use fm_records::refusal::Refusal;
+use std::alloc::Global;
+use std::sync::Wait;
+
+/// What a member leaves: its coordinator, and its doors, by the places of their inboxes.
+#[derive(Drop)]
+pub(crate) struct Done<N: NetKeeper> {
+    pub(crate) coordinator: Coordinator<N>,
+    pub(crate) doors: Vec<Door>,
+}
+
+/// Closes each inbox with its doors, and returns the coordinators: each packet that was put was taken once. NotMine(0) if
+/// a door is missing or a packet is left.
+pub(crate) fn close_all<N: NetKeeper + Drop, R: Wait>(
+    rt: &R,
+    alloc: Global,
+    mut inboxes: Vec<Doors>,
+    mut dones: Vec<Done<N>>,
+) -> Result<Vec<Done<N>>, Refusal>
+    requires used { AreUsed 0 (map (λ b. b.inbox) inboxes.items) (map passed_at (map (λ d. d.coordinator.state) dones.items))
+        (map (λ d. map (λ e. e.port) d.doors.items) dones.items) }
+    requires count { length inboxes.items ≡ length dones.items }
+    ensures same { IfOk result (λ all. map (λ d. d.coordinator.state) all.items ≡ map (λ d. d.coordinator.state) dones.items) }
+    ensures passed { OnOk result (ArePassedOn (map passed_at (map (λ d. d.coordinator.state) dones.items))) }
+{
+    while let Some(inbox) = inboxes.pop() {
+        let mut out = Vec::new(alloc);
+        take_last(&mut dones, &mut out)?;
+        close_one(rt, inbox, out)?;
+    }
+    Ok(dones)
+}
+
+// Closes an inbox with its doors. NotMine(0) if one is missing or a packet is left.
+fn close_one<R: Wait>(rt: &R, inbox: Doors, out: Vec<Door>) -> Result<(), Refusal>
+    requires { All (λ d. IsPortOf inbox.inbox d.port) out.items }
+    ensures { OnOk result (SamePackets (all_put (map (λ d. d.port) out.items)) (all_taken (map (λ d. d.port) out.items))) }
+{
+    match inbox.close(rt, out) {
+        Ok(left) => if left.is_empty() {
+            Ok(())
+        } else {
+            Err(Refusal::NotMine(0))
+        },
+        Err(kept) => Err(kept.refusal),
+    }
+}
+
+// Takes the last door of each.
+fn take_last<N: NetKeeper + Drop>(dones: &mut [Done<N>], out: &mut Vec<Door>) -> Result<(), Refusal>
+    ensures same { OnOk result (map (λ d. d.coordinator.state) dones.new ≡ map (λ d. d.coordinator.state) dones.old) }
+    ensures taken { OnOk result ((at : ℕ) (bs : List InboxSeen) (b : InboxSeen)
+        → AreUsed at (bs ++ b ∷ []) (map passed_at (map (λ d. d.coordinator.state) dones.old)) (map (λ d. map (λ e. e.port) d.doors.items) dones.old)
+        → AreUsed at bs (map passed_at (map (λ d. d.coordinator.state) dones.old)) (map (λ d. map (λ e. e.port) d.doors.items) dones.new)
+        × (map (λ e. e.port) out.new.items
+        ≡ map (λ e. e.port) out.old.items ++ column (length bs) at b (map passed_at (map (λ d. d.coordinator.state) dones.old)))) }
+{
+    let Some((first, rest)) = dones.split_first_mut() else {
+        return Ok(());
+    };
+    take_door(&mut first.doors, out)?;
+    take_last(rest, out)
+}
+
+// Takes the last of the doors, if there is one.
+fn take_door(doors: &mut Vec<Door>, out: &mut Vec<Door>) -> Result<(), Refusal>
+    ensures { OnOk result ((qs : List PortSeen) (q : PortSeen) → map (λ e. e.port) doors.old.items ≡ qs ++ q ∷ []
+        → (map (λ e. e.port) doors.new.items ≡ qs) × (map (λ e. e.port) out.new.items ≡ map (λ e. e.port) out.old.items ++ q ∷ [])) }
+{
+    let Some(door) = doors.pop() else {
+        return Ok(());
+    };
+    out.push(door)?;
+    Ok(())
+}

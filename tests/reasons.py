@@ -1,0 +1,129 @@
+"""Tests of `firmament why`: each text is worked out again. That the bounds are never above what the cheapest schedule with the task
+there costs more is proved; that they are equal to it is tested alone. That cost comes from the solver of tests/witness.py, which
+is made to send the task there, and for clusters of few tasks from all schedules, one by one (tests/schedules.py)."""
+import collections
+import pathlib
+import re
+import sys
+
+ROOT = pathlib.Path(__file__).resolve().parent.parent
+sys.path += [str(ROOT / name) for name in ("bench", "bin", "tests")]
+import drawn
+import networks
+import reference
+import schedules
+import whys
+import witness
+
+KNOWN = re.compile(r"room .* of (\d+) machines that are known")
+MOST_LINES, SHOWN, UNKNOWN = 20, 5, 7
+THEORY = "by potentials that certify the schedule: what is sent over an empty arc costs at least its reduced cost more"
+
+# Of a task that no machine holds: its id, its request, what waiting costs, and what the cheapest schedule costs. For each machine to which
+# it has a way, by id, and None for waiting: what the cheaper way costs, and how much dearer the cheapest schedule is with the task there.
+Facts = collections.namedtuple("Facts", "name request wait least places")
+
+
+def lines_of(facts, waits, known):
+    """The text that such a task has to get, if the schedule that was found has it wait or not."""
+    places = sorted((more, name, cost) for name, (cost, more) in facts.places.items() if name)
+    head = "task %s " % facts.name
+    if not waits:
+        yield head + "runs in this schedule: leaving it to wait would cost at least %d more" % facts.places[None][1]
+    elif places:
+        yield head + "waits, which costs %d: running it on the cheapest machine with room would cost at least %d more" % (
+            facts.wait, places[0][0])
+    else:
+        yield head + "waits: no machine has room for its request of %d" % facts.request
+    yield "this schedule costs %d, and none costs less" % facts.least
+    for more, name, cost in places[:SHOWN]:
+        yield "on machine %s it costs %d, and each schedule that runs it there costs at least %d more" % (name, cost, more)
+    if places[SHOWN:]:
+        yield "on each of %d other machines with room at least %d more" % (len(places) - SHOWN, places[SHOWN][0])
+    yield "room for its request of %d on %d of %s machines that are known" % (facts.request, len(places), known)
+    yield THEORY
+
+
+def texts_of_facts(facts, known):
+    """The texts that such a task may get. Which of several least schedules is found is not said, and so not whether the task waits
+    if both may be."""
+    waits = {name is None for name, (_, more) in facts.places.items() if more == 0}
+    return {is_so: "".join(line + "\n" for line in lines_of(facts, is_so, known)) for is_so in sorted(waits)}
+
+
+def texts(known, task, facts_of):
+    """The texts that may be said of a task by what is known; of one that is live and not held, by its facts."""
+    name = reference.name(task)
+    if task not in known.specs:
+        return ["task %s is not known\n" % name]
+    if not known.is_live(task):
+        return ["task %s is not live: it is withdrawn or done, or its job is withdrawn or not known\n" % name]
+    if known.holder(task) is not None:
+        return ["task %s is held by machine %s\n" % (name, reference.name(known.holder(task)))]
+    return list(texts_of_facts(facts_of(task), len(known.incarnations)).values())
+
+
+def wrong_of(text, wanted):
+    """What is wrong with the text, or None."""
+    return None if text in wanted and text.count("\n") <= MOST_LINES else "%s is none of %s" % (text, wanted)
+
+
+def facts_by_flows(network, least, task):
+    """The facts on a task of a network, by the solver of tests/witness.py: it is forced along each of its ways."""
+    found = {}
+    for place, ways in whys.routes(network, task).items():
+        own = min(sum(network.arcs[ends].cost for ends in zip(way, way[1:])) for way in ways)
+        found[place] = own, min(whys.forced(network, way) for way in ways) - least
+    request = int(network.nodes[network.next_of(task, "R")].name)
+    return Facts(network.nodes[task].name, request, found[None][0], least, found)
+
+
+def texts_by_flows(known, task):
+    """The texts that may be said of a task, without any text of the program."""
+    def facts_of(task):
+        network = networks.read_dump("".join(reference.graph(known)))
+        node = next(node for node in network.of_kind("T") if network.nodes[node].name == reference.name(task))
+        return facts_by_flows(network, witness.least_cost(*whys.problem(network)), node)
+    return texts(known, task, facts_of)
+
+
+def explained(name, run, script, few=None):
+    """Whether all that is said of the tasks of a script holds; of a few if there are many. The flow that `solve` prints is the one
+    that was found."""
+    network = networks.read_dump(run("graph", script))
+    flow = networks.read_solution(run("solve", script), network)
+    for task in network.of_kind("T")[::few]:
+        ident = network.nodes[task].name
+        text = run("why", script, ident)
+        if network.is_held(task):
+            wanted = ["task %s is held by machine %s\n" % (ident, network.nodes[network.next_of(task, "M")].name)]
+        else:
+            known = (KNOWN.search(text) or ["", "none"])[1]
+            waits = bool(flow.units.get((task, network.next_of(task, "U"))))
+            wanted = [texts_of_facts(facts_by_flows(network, flow.cost, task), known)[waits]]
+        wrong = wrong_of(text, wanted)
+        yield "reasons of task %s of %s: %s" % (ident[-4:], name, wrong or "so"), wrong is None
+
+
+def enumerated(run, seeds):
+    """What is said of the tasks of small clusters, and of one that none of them knows, against all schedules."""
+    for seed in seeds:
+        steps, tasks = schedules.few(seed)
+        known, script = schedules.known(steps), schedules.script_of(steps)
+        found = schedules.Schedules(known)
+
+        def facts_of(task):
+            places = {place and reference.name(place): numbers for place, numbers in found.places(task).items()}
+            return Facts(reference.name(task), known.specs[task][4], known.jobs[known.specs[task][3]][3], found.least, places)
+
+        wrong = [wrong_of(run("why", script, reference.name(task)), texts(known, task, facts_of)) for task in tasks + [UNKNOWN]]
+        yield "reasons in all %d schedules of %d: %s" % (found.count, seed, list(filter(None, wrong)) or "so"), not any(wrong)
+
+
+def all_tests(run):
+    """Of a `run` that answers what the program prints for a command, with further words, on a script."""
+    for file in sorted((ROOT / "examples").glob("*.json")):
+        yield from explained(file.name, run, file.read_bytes(), 40 if file.name == "many.json" else None)
+    for seed in range(20):
+        yield from explained("contended %d" % seed, run, drawn.contended(seed).encode())
+    yield from enumerated(run, range(60))
