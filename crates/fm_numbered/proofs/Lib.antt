@@ -2,6 +2,7 @@ pub mod Placed
 pub mod KindsAt
 pub mod Searches
 pub mod Formed
+pub mod Ends
 pub mod Summed
 pub mod Naming
 pub mod Entered
