@@ -1,6 +1,6 @@
 pub mod Results
 pub mod Anew
 pub mod Steps
-pub mod Desks
+pub mod Sessions
 pub mod Followers
 pub mod Streams

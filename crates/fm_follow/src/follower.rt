@@ -3,9 +3,9 @@
 ghost use Rattle.std.specs.Prelude.{◌≡◌, None, IfErr, OnErr};
 ghost use Rattle.fm_lines.specs.Replies.{refused};
 ghost use Rattle.fm_follow.specs.Following.{IsRefused};
-ghost use Rattle.fm_follow.specs.Desks.{Begins, IsIn};
+ghost use Rattle.fm_follow.specs.Sessions.{Begins, IsIn};
 
-use crate::desk::Desk;
+use crate::session::Session;
 use fm_input::names::Names;
 use fm_input::request::Request;
 use fm_input::requesting::read_request;
@@ -19,7 +19,7 @@ use std::alloc::Global;
 pub struct Follower {
     pub(crate) alloc: Global,
     pub(crate) renew_after: usize,
-    pub(crate) desk: Option<Desk>,
+    pub(crate) session: Option<Session>,
 }
 
 impl Follower {
@@ -27,12 +27,12 @@ impl Follower {
     /// `renew_after`, if there is memory for it. It allocates nothing.
     pub fn new(alloc: Global, renew_after: usize) -> Follower
         ensures most { result.renew_after ≡ renew_after }
-        ensures start { IsIn result.desk None }
+        ensures start { IsIn result.session None }
     {
         Follower {
             alloc,
             renew_after,
-            desk: None,
+            session: None,
         }
     }
 
@@ -46,7 +46,7 @@ impl Follower {
         match read_request(self.alloc, line, &Names::new(self.alloc))? {
             Request::Open(listed) => {
                 let world = open(self.alloc, &listed)?;
-                self.desk = Some(Desk::new(self.alloc, world));
+                self.session = Some(Session::new(self.alloc, world));
                 Ok(Vec::new(self.alloc))
             }
             _ => Err(Refusal::BadScript(0)),
@@ -55,14 +55,14 @@ impl Follower {
 }
 
 impl Responder for Follower {
-    ghost use Rattle.fm_follow.specs.Desks.{AnswersSo};
+    ghost use Rattle.fm_follow.specs.Sessions.{AnswersSo};
 
     ghost answers = { λ old line text new. AnswersSo old line text new };
 
     fn answer(&mut self, line: &[u8]) -> Result<Vec<u8>, Refusal> {
         let most = self.renew_after;
-        match &mut self.desk {
-            Some(desk) => desk.answer(most, line),
+        match &mut self.session {
+            Some(session) => session.answer(most, line),
             None => self.begin(line),
         }
     }

@@ -2,9 +2,9 @@
 #![tactic(auto)]
 
 pub mod acting;
-mod desk;
 pub mod follower;
 pub mod laws;
 mod named;
 pub mod renewing;
+mod session;
 pub mod stream;

@@ -23,7 +23,7 @@ use Rattle.fm_net.specs.Network.{is_held, waits_for, preferred_arc, arc_of, net_
 use Rattle.fm_net.specs.NetworkLaws.{came_from, is_network_of}
 use Rattle.fm_net.specs.ListLaws.{any_of, some_member, entry_member}
 use Rattle.fm_net.specs.EditLaws.{member_found}
-use Rattle.fm_round.specs.declared.planning.Seat.{Seat}
+use Rattle.fm_round.specs.declared.planning.RequestUnit.{RequestUnit}
 use Rattle.fm_round.specs.Planned.{Units, Wait, units_over, wait_in, seats_in, unscheduled_in, waits, seats, place_at, place_of, placed_in, preempt_of, planned}
 use Rattle.fm_round.specs.Asked.{waits_by, has_request, is_asked, waiting_after, is_asked_after}
 
@@ -60,7 +60,7 @@ member_over net sent (a ∷ arcs) e member = elim member [
 none_sent : (u : ℕ) → nat_lt 0 u ≡ false → u ≡ 0
 none_sent u e = let no = ltb-false 0 u e in omega (arith, no)
 
-no_seats : (s : Seat) (u : ℕ) → nat_lt 0 u ≡ false → replicate u s ≡ []
+no_seats : (s : RequestUnit) (u : ℕ) → nat_lt 0 u ≡ false → replicate u s ≡ []
 no_seats s u e = ap (λ n. replicate n s) (none_sent u e)
 
 -- Which tasks have an arc to a request.
@@ -118,7 +118,7 @@ module _ (k : Table) (sent : Node → Node → ℕ) where
   none_leaves ((Task t, Unscheduled j), u) idle = ap (λ b. when b t) idle
   none_leaves _ idle = refl
 
-  nothing_placed : (ws : List Wait) (ss : List Seat) (e : (Node × Node) × ℕ) → IsMember e all → is_asked net e ≡ false → placed_in ws ss k e ≡ None
+  nothing_placed : (ws : List Wait) (ss : List RequestUnit) (e : (Node × Node) × ℕ) → IsMember e all → is_asked net e ≡ false → placed_in ws ss k e ≡ None
   nothing_placed ws ss ((Task t, Request r), u) member idle = ap (and_then (place_of ws ss k)) (nobody_waits ((Task t, Request r), u) idle)
   nothing_placed ws ss ((Task t, Machine m), u) member idle =
       let found = member_over net sent net.arcs ((Task t, Machine m), u) member in

@@ -16,7 +16,7 @@ use Rattle.fm_net.specs.Nodes.{ends_cmp}
 use Rattle.fm_net.specs.NodeOrder.{ends_total, ends_exact}
 use Rattle.fm_records.specs.Options.{when, or_else}
 use Rattle.fm_records.specs.Sets.{IsMember}
-use Rattle.fm_round.specs.declared.planning.Seat.{Seat}
+use Rattle.fm_round.specs.declared.planning.RequestUnit.{RequestUnit}
 use Rattle.fm_round.specs.Planned.{Wait, Units, units, wait_in, seats_in, waits, seats, tasks_of, machines_of}
 use Rattle.fm_round.proofs.Pairing.{wait_is}
 
@@ -86,18 +86,18 @@ module _ (r m : ℕ) where
   times_both : (xs ys : List ℕ) → times (xs ++ ys) ≡ times xs + times ys
   times_both xs ys = sum_by-append (λ x. cond (x == m) 1 0) xs ys
 
-  one_seat : (s : Seat) (b : Bool) (ss : List Seat) → (s.request == r && s.machine == m) ≡ b → times (machines_of r (s ∷ ss)) ≡ cond b 1 0 + times (machines_of r ss)
+  one_seat : (s : RequestUnit) (b : Bool) (ss : List RequestUnit) → (s.request == r && s.machine == m) ≡ b → times (machines_of r (s ∷ ss)) ≡ cond b 1 0 + times (machines_of r ss)
   one_seat s b ss e =
       elim (s.request == r) as (λ c. (c && s.machine == m) ≡ b → times (cons_option (when c s.machine) (machines_of r ss)) ≡ cond b 1 0 + times (machines_of r ss)) [
         | true ↦ λ h. sum_by-cons (λ x. cond (x == m) 1 0) s.machine (machines_of r ss) ∙ ap (λ c. cond c 1 0 + times (machines_of r ss)) h
         | false ↦ λ h. omega arith ∙ ap (λ c. cond c 1 0 + times (machines_of r ss)) h
       ] e
 
-  all_seats : (s : Seat) (u : ℕ) → (s.request == r && s.machine == m) ≡ true → times (machines_of r (replicate u s)) ≡ u
+  all_seats : (s : RequestUnit) (u : ℕ) → (s.request == r && s.machine == m) ≡ true → times (machines_of r (replicate u s)) ≡ u
   all_seats s zero e = refl
   all_seats s (suc u) e = let rest = all_seats s u e in one_seat s true (replicate u s) e ∙ omega (arith, rest)
 
-  no_seats : (s : Seat) (u : ℕ) → (s.request == r && s.machine == m) ≡ false → times (machines_of r (replicate u s)) ≡ 0
+  no_seats : (s : RequestUnit) (u : ℕ) → (s.request == r && s.machine == m) ≡ false → times (machines_of r (replicate u s)) ≡ 0
   no_seats s zero e = refl
   no_seats s (suc u) e = let rest = no_seats s u e in one_seat s false (replicate u s) e ∙ omega (arith, rest)
 

@@ -18,7 +18,7 @@ use Rattle.fm_net.specs.NodeOrder.{ends_total}
 use Rattle.fm_records.specs.Options.{when, and_then}
 use Rattle.fm_records.specs.Sets.{IsMember}
 use Rattle.fm_records.specs.Table.{Table}
-use Rattle.fm_round.specs.declared.planning.Seat.{Seat}
+use Rattle.fm_round.specs.declared.planning.RequestUnit.{RequestUnit}
 use Rattle.fm_round.specs.Planned.{Wait, Units, wait_in, waits, tasks_of, machines_of, machine_for, place_at, place_of, placed_in}
 use Rattle.fm_round.specs.Seating.{placed_next, AreApart}
 
@@ -63,7 +63,7 @@ paired w (x ∷ before) after ms apart =
       | false ↦ λ _. paired w before after ms apart.1
     ] refl
 
-module _ (left : ℕ → List ℕ) (ss : List Seat) (k : Table) (before after : Units) (apart_left : (r : ℕ) → left r ≡ drop (length (tasks_of r (waits before))) (machines_of r ss)) where
+module _ (left : ℕ → List ℕ) (ss : List RequestUnit) (k : Table) (before after : Units) (apart_left : (r : ℕ) → left r ≡ drop (length (tasks_of r (waits before))) (machines_of r ss)) where
   -- the first that is left is where the task's turn brings it
   pub placed_as : (a : (Node × Node) × ℕ) → AreApart (waits (before ++ a ∷ after)) → placed_next left k a ≡ placed_in (waits (before ++ a ∷ after)) ss k a
   placed_as ((Task t, Request r), u) apart =

@@ -22,7 +22,7 @@ use Rattle.fm_records.specs.Spelled.{IsTable}
 use Rattle.fm_records.specs.Joined.{task_join, spots_join, tasks_join, proposals_join}
 use Rattle.fm_records.specs.Facts.{spec_of, progress_of, attempt_of, winner_of, first_of}
 use Rattle.fm_round.specs.Admission.{told}
-use Rattle.fm_round.specs.Desks.{winner_with}
+use Rattle.fm_round.specs.Hearings.{winner_with}
 use Rattle.fm_round.proofs.Weights.{put_weighs}
 use Rattle.fm_round.proofs.Keeps.{Keeps}
 

@@ -6,5 +6,5 @@ pub mod Planned
 pub mod Asked
 pub mod Schedules
 pub mod Seating
-pub mod Desks
+pub mod Hearings
 pub mod Holdings

@@ -15,7 +15,7 @@ use Rattle.fm_net.specs.Network.{is_held}
 use Rattle.fm_round.specs.declared.parts.Place.{Place}
 use Rattle.fm_round.specs.declared.parts.Preempt.{Preempt}
 use Rattle.fm_round.specs.declared.parts.Plan.{Plan}
-use Rattle.fm_round.specs.declared.planning.Seat.{Seat}
+use Rattle.fm_round.specs.declared.planning.RequestUnit.{RequestUnit}
 
 -- a flow: the units of each arc, in the order of the arcs' ends, which is by node and so by id
 abbrev pub Units : Type 0
@@ -39,7 +39,7 @@ wait_in ((Task t, Request r), u) = when (nat_lt 0 u) (record { request = r; task
 wait_in _ = None
 
 -- a machine with units from a request, once for each unit
-abbrev pub seats_in : (Node × Node) × ℕ → List Seat
+abbrev pub seats_in : (Node × Node) × ℕ → List RequestUnit
 seats_in ((Request r, Machine m), u) = replicate u (record { request = r; machine = m })
 seats_in _ = []
 
@@ -51,7 +51,7 @@ unscheduled_in _ = None
 abbrev pub waits : Units → List Wait
 waits f = filter_map wait_in f
 
-abbrev pub seats : Units → List Seat
+abbrev pub seats : Units → List RequestUnit
 seats f = flat_map seats_in f
 
 -- by id, the tasks with a unit to the request
@@ -59,23 +59,23 @@ abbrev pub tasks_of : ℕ → List Wait → List ℕ
 tasks_of r ws = filter_map (λ w. when (w.request == r) w.task) ws
 
 -- by id, the machines, each as often as there are units to it from the request
-abbrev pub machines_of : ℕ → List Seat → List ℕ
+abbrev pub machines_of : ℕ → List RequestUnit → List ℕ
 machines_of r ss = filter_map (λ s. when (s.request == r) s.machine) ss
 
 -- the i-th of these tasks goes to the i-th of these machines
-abbrev pub machine_for : List Wait → List Seat → Wait → Option ℕ
+abbrev pub machine_for : List Wait → List RequestUnit → Wait → Option ℕ
 machine_for ws ss w = lookup nat_cmp w.task (zip (tasks_of w.request ws) (machines_of w.request ss))
 
 -- and there it goes at the machine's present incarnation
 abbrev pub place_at : Table → ℕ → ℕ → Option Place
 place_at k t m = option_map (λ i. record { task = t; machine = m; incarnation = i }) (incarnation_of k m)
 
-abbrev pub place_of : List Wait → List Seat → Table → Wait → Option Place
+abbrev pub place_of : List Wait → List RequestUnit → Table → Wait → Option Place
 place_of ws ss k w = and_then (place_at k w.task) (machine_for ws ss w)
 
 -- a task with a unit to its request goes where its turn brings it; one with a unit straight to a machine, which does
 -- not hold it yet, goes there, and takes no seat of its request
-abbrev pub placed_in : List Wait → List Seat → Table → (Node × Node) × ℕ → Option Place
+abbrev pub placed_in : List Wait → List RequestUnit → Table → (Node × Node) × ℕ → Option Place
 placed_in ws ss k ((Task t, Request r), u) = and_then (place_of ws ss k) (wait_in ((Task t, Request r), u))
 placed_in ws ss k ((Task t, Machine m), u) = cond (nat_lt 0 u && not (is_held k t)) (place_at k t m) None
 placed_in ws ss k _ = None

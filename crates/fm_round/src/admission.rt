@@ -8,7 +8,7 @@ ghost use Rattle.fm_records.specs.Spelled.{IsTable};
 ghost use Rattle.fm_records.specs.Facts.{attempt_of, open_state};
 ghost use Rattle.fm_know.specs.Limits.{StateWithin};
 ghost use Rattle.fm_round.specs.Admission.{told, is_accepted, last_attempt, has_proposal, place_ops, place_answer, preempt_ops, preempt_answer, one_entry, placed, preempted, admitted, got_place, is_within_nic};
-ghost use Rattle.fm_round.specs.Desks.{Took, IsReady};
+ghost use Rattle.fm_round.specs.Hearings.{Took, IsReady};
 ghost use Rattle.fm_records.specs.Sets.{IsMember};
 ghost use Rattle.fm_round.specs.declared.parts.Place.{Place as Entry};
 ghost use Rattle.fm_round.specs.Holdings.{is_counted, AreHoldings};
@@ -79,32 +79,32 @@ fn admit_with(
         → IsTrue (is_within_nic (told knowledge.now a.ops) m)) }
 {
     knowledge.known();
-    let mut desk = Desk::of(alloc, knowledge)?;
-    desk.take_places(holdings, coordinator, plan.places.as_slice())?;
-    desk.take_preempts(plan.preempts.as_slice())?;
-    Ok(desk.into_admitted())
+    let mut hearing = Hearing::of(alloc, knowledge)?;
+    hearing.take_places(holdings, coordinator, plan.places.as_slice())?;
+    hearing.take_preempts(plan.preempts.as_slice())?;
+    Ok(hearing.into_admitted())
 }
 
 /// What is known with the operations of the entries that were accepted so far, these operations, and the answers so
 /// far.
 #[derive(Drop)]
-pub(crate) struct Desk {
+pub(crate) struct Hearing {
     pub(crate) alloc: Global,
     pub(crate) now: Knowledge,
     pub(crate) ops: Vec<Op>,
     pub(crate) answers: Vec<Answer>,
 }
 
-impl Desk {
-    // The desk before the first entry.
-    fn of(alloc: Global, knowledge: &Knowledge) -> Result<Desk, OutOfMemory>
-        ensures now { IfOk result (λ desk. desk.now ≡ knowledge.now) }
-        ensures ops { IfOk result (λ desk. desk.ops.items ≡ []) }
-        ensures answers { IfOk result (λ desk. desk.answers.items ≡ []) }
+impl Hearing {
+    // The hearing before the first entry.
+    fn of(alloc: Global, knowledge: &Knowledge) -> Result<Hearing, OutOfMemory>
+        ensures now { IfOk result (λ hearing. hearing.now ≡ knowledge.now) }
+        ensures ops { IfOk result (λ hearing. hearing.ops.items ≡ []) }
+        ensures answers { IfOk result (λ hearing. hearing.answers.items ≡ []) }
         ensures ready { IfOk result IsReady }
     {
         knowledge.known();
-        Ok(Desk {
+        Ok(Hearing {
             alloc,
             now: knowledge.copy()?,
             ops: Vec::new(alloc),

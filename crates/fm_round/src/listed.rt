@@ -34,13 +34,6 @@ impl<T> Listed<T> {
     {
         self.items.as_slice()
     }
-
-    /// The items, given back. It allocates nothing.
-    pub fn into_vec(self) -> Vec<T>
-        ensures { result.items ≡ self }
-    {
-        self.items
-    }
 }
 
 impl<T: Copy + Drop> Listed<T> {

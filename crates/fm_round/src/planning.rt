@@ -42,7 +42,7 @@ pub fn plan_of(
 
 /// A unit that a flow sends from an aggregator of a request to a machine.
 #[derive(Clone, Copy, Drop)]
-pub(crate) struct Seat {
+pub(crate) struct RequestUnit {
     pub(crate) request: u32,
     pub(crate) machine: MachineId,
 }
@@ -61,7 +61,7 @@ fn unscheduled_in(from: Node, to: Node, units: u64) -> Option<TaskId>
 }
 
 // The machines with units from requests, once for each unit.
-fn seats_of(alloc: Global, flow: &[((Node, Node), u64)]) -> Result<Vec<Seat>, OutOfMemory>
+fn seats_of(alloc: Global, flow: &[((Node, Node), u64)]) -> Result<Vec<RequestUnit>, OutOfMemory>
     ensures { IfOk result (λ found. found.items ≡ seats flow.now) }
 {
     let mut found = Vec::new(alloc);
@@ -72,19 +72,28 @@ fn seats_of(alloc: Global, flow: &[((Node, Node), u64)]) -> Result<Vec<Seat>, Ou
 }
 
 // Adds the seats of one arc.
-fn add_seats(seats: &mut Vec<Seat>, from: Node, to: Node, units: u64) -> Result<(), OutOfMemory>
+fn add_seats(
+    seats: &mut Vec<RequestUnit>,
+    from: Node,
+    to: Node,
+    units: u64,
+) -> Result<(), OutOfMemory>
     ensures { OnOk result (seats.new.items ≡ seats.old.items ++ seats_in ((from, to), units)) }
 {
     match (from, to) {
         (Node::Request(request), Node::Machine(machine)) => {
-            push_times(seats, &Seat { request, machine }, units)
+            push_times(seats, &RequestUnit { request, machine }, units)
         }
         _ => Ok(()),
     }
 }
 
 // Pushes the seat so many times.
-fn push_times(seats: &mut Vec<Seat>, seat: &Seat, times: u64) -> Result<(), OutOfMemory>
+fn push_times(
+    seats: &mut Vec<RequestUnit>,
+    seat: &RequestUnit,
+    times: u64,
+) -> Result<(), OutOfMemory>
     ensures { OnOk result (seats.new.items ≡ seats.old.items ++ replicate times seat.now) }
 {
     for i in 0..times {
@@ -101,7 +110,7 @@ pub(crate) struct Queues {
 
 impl Queues {
     // The machines of all seats.
-    fn of(alloc: Global, seats: &[Seat]) -> Result<Queues, OutOfMemory>
+    fn of(alloc: Global, seats: &[RequestUnit]) -> Result<Queues, OutOfMemory>
         ensures { IfOk result (λ queues. (r : ℕ) → queue_of queues r ≡ machines_of r seats.now) }
     {
         let mut queues = Queues {
@@ -114,7 +123,7 @@ impl Queues {
     }
 
     // Adds the machine of a seat after those of its request.
-    fn add(&mut self, alloc: Global, seat: &Seat) -> Result<(), OutOfMemory>
+    fn add(&mut self, alloc: Global, seat: &RequestUnit) -> Result<(), OutOfMemory>
         ensures { OnOk result ((r : ℕ) → queue_of self.new r
             ≡ queue_of self.old r ++ option_to_list (when (seat.now.request == r) seat.now.machine)) }
     {
@@ -173,7 +182,7 @@ fn place_straight(knowledge: &Knowledge, task: TaskId, machine: MachineId) -> Op
 fn places_of(
     alloc: Global,
     flow: &[((Node, Node), u64)],
-    seats: &[Seat],
+    seats: &[RequestUnit],
     knowledge: &Knowledge,
 ) -> Result<Vec<Place>, OutOfMemory>
     requires { AreApart (waits flow.now) }

@@ -8,7 +8,7 @@ use Rattle.fm_lines.specs.Replies.{refused}
 use Rattle.fm_opening.specs.Openings.{opened}
 use Rattle.fm_follow.specs.Following.{fresh, IsRefused}
 use Rattle.fm_follow.proofs.Results.{returned}
-use Rattle.fm_follow.proofs.Desks.{too_early}
+use Rattle.fm_follow.proofs.Sessions.{too_early}
 use Rattle.fm_follow.proofs.follower.Follower.begin.Goals as goal
 
 pub returns-in_err-listed-clause-err : goal.returns-in_err-listed-clause-err
