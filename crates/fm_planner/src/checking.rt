@@ -1,4 +1,4 @@
-//! Whether a claim holds: a walk over the tasks, one over the moves, and one over the machines, with the requests at
+//! Whether a claim holds, by complementary slackness: a walk over the tasks, one over the moves, and one over the machines, with the requests at
 //! each.
 
 ghost use Rattle.std.specs.Prelude.{◌≡◌, ◌≤◌, ◌<◌, ◌+◌, ◌↔◌, ℕ, None, IsTrue, IfOk, IfSome, OnOk};
@@ -311,7 +311,7 @@ fn asks(
     let Some(spare) = state.spare else {
         return false;
     };
-    let Some(price) = price_of(claim, machine, &state) else {
+    let Some(price) = price_of(claim.rise(machine), &state) else {
         return false;
     };
     let offer = claim.offer(request);
@@ -322,11 +322,10 @@ fn asks(
         && offer <= u64::from(live.price - request)
 }
 
-// The price of the machine, if it is not beyond all bounds.
-fn price_of(claim: &Claim, machine: MachineId, state: &OpenMachine) -> Option<u64>
-    ensures { IfSome result (λ price. price ≡ state.now.load + rise_of claim.now machine) }
+// The price of the machine with the rise, if it is not beyond all bounds.
+fn price_of(rise: u64, state: &OpenMachine) -> Option<u64>
+    ensures { IfSome result (λ price. price ≡ state.now.load + rise) }
 {
-    let rise = claim.rise(machine);
     if state.load > u128::from(MOST) || rise > MOST {
         return None;
     }
@@ -349,8 +348,11 @@ fn are_fair_machines(tally: &Tally, claim: &Claim, counts: &Counts, tops: &[(u64
     requires { AllOf (IsTop claim.now.offers) tops.now }
     ensures { IsTrue result → AllOf (IsFairMachine claim.now counts.now) tally.now.machines }
 {
+    let mut near = 0usize;
     for (machine, state) in tally.machines.pairs() {
-        if !is_fair_machine(claim, counts, tops, *machine, state) {
+        let rise = claim.rise_near(near, *machine);
+        near = near.saturating_add(1);
+        if !is_fair_machine(claim, counts, tops, *machine, state, rise) {
             return false;
         }
     }
@@ -363,25 +365,34 @@ fn is_fair_machine(
     tops: &[(u64, u64)],
     machine: MachineId,
     state: &OpenMachine,
+    rise: u64,
 ) -> bool
-    requires { AllOf (IsTop claim.now.offers) tops.now }
+    requires rise { rise ≡ rise_of claim.now machine }
+    requires tops { AllOf (IsTop claim.now.offers) tops.now }
     ensures { IsTrue result → IsFairMachine claim.now counts.now (machine, state.now) }
 {
-    let Some(price) = price_of(claim, machine, state) else {
+    let Some(price) = price_of(rise, state) else {
         return false;
     };
-    has_fair_slots(claim, counts, machine, state)
+    has_fair_slots(claim, counts, machine, state, rise)
         && (are_low_offers(claim, counts, tops, machine, state, price)
             || are_fair_offers(claim, counts, machine, state, price))
 }
 
 // Whether the slots suffice, and the price is the load if one is free.
-fn has_fair_slots(claim: &Claim, counts: &Counts, machine: MachineId, state: &OpenMachine) -> bool
+fn has_fair_slots(
+    claim: &Claim,
+    counts: &Counts,
+    machine: MachineId,
+    state: &OpenMachine,
+    rise: u64,
+) -> bool
+    requires { rise ≡ rise_of claim.now machine }
     ensures { IsTrue result → HasFairSlots claim.now counts.now machine state.now }
 {
     let taken = u128::from(state.held) + u128::from(counts.arriving(machine));
     let there = u128::from(state.slots) + u128::from(counts.leaving(machine));
-    taken <= there && (taken == there || claim.rise(machine) == 0)
+    taken <= there && (taken == there || rise == 0)
 }
 
 // For each request that offers, the greatest offer of lesser ones; and at last the greatest of all.

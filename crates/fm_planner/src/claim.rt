@@ -30,12 +30,19 @@ impl Claim {
         self.rises.get(&machine).unwrap_or(0)
     }
 
+    /// The same: O(1) if it stands at the place near.
+    pub(crate) fn rise_near(&self, near: usize, machine: MachineId) -> u64
+        ensures { result ≡ rise_of self.now machine }
+    {
+        value_near(self.rises.pairs(), near, &machine).unwrap_or(0)
+    }
+
     /// The same for the machine that holds the task of the number: O(1) if its rise stands where it may.
     pub(crate) fn rise_at(&self, task: usize, machine: MachineId) -> u64
         ensures { result ≡ rise_of self.now machine }
     {
         let near = self.holders.get(task).copied().unwrap_or(0);
-        value_near(self.rises.pairs(), near, &machine).unwrap_or(0)
+        self.rise_near(near, machine)
     }
 
     /// What the units of the request pay for a machine.

@@ -1,4 +1,4 @@
-//! The cheapest path of a task to a slot: over its request or straight to a machine, and from a full machine on to another one, for
+//! The cheapest path of a task to a slot, by label correcting along a queue (Moore, 1959): over its request or straight to a machine, and from a full machine on to another one, for
 //! a task that makes room there. Any other machine is found by a query. So only requests, full machines with tasks that were
 //! placed there, and tasks with wishes are walked over.
 

@@ -1,4 +1,5 @@
-//! The prices of what was placed: what one more task would cost at each machine and request.
+//! The prices of what was placed: what one more task would cost at each machine and request. By relaxing (Bellman and
+//! Ford).
 
 use crate::board::{Board, FAR};
 use crate::waiting::{Spot, Waiting, Wisher};

@@ -1,5 +1,5 @@
 //! The search for a plan: waiting tasks are placed by falling worth, each over the cheapest path. After successive shortest
-//! paths, where nearly all costs sit at the two ends of a path. Nothing is claimed of its result: a claim is checked.
+//! paths (Jewell, 1958), where nearly all costs sit at the two ends of a path. Nothing is claimed of its result: a claim is checked.
 
 use crate::board::Board;
 use crate::claim::Claim;

@@ -1,4 +1,4 @@
-//! Numbers in a row with queries on them: the first that is great enough, and the greatest of the first so many.
+//! A segment tree: numbers in a row with two queries, the first that is great enough and the greatest of the first so many.
 
 use fm_lattice::join::OutOfMemory;
 use std::alloc::Global;

@@ -57,8 +57,8 @@ impl Holdings {
     }
 
     /// Counts a task with the request at the machine of the spot, and answers the machine, if it is open and at that incarnation.
-    /// O(log n).
-    pub(crate) fn hold(&mut self, spot: Spot, request: u32) -> Option<MachineId>
+    /// O(1) if the machine is at the place near, else O(log n).
+    pub(crate) fn hold(&mut self, near: usize, spot: Spot, request: u32) -> Option<MachineId>
         requires requests_fit { (m : ℕ) → requests_in self.old m + request < 2 ^ 128 }
         requires tasks_fit { (m : ℕ) → tasks_in self.old m + 1 < 2 ^ 64 }
         ensures placed { result ≡ placed_by self.old spot }
@@ -66,7 +66,7 @@ impl Holdings {
         ensures tasks { (m : ℕ) → tasks_in self.new m ≡ tasks_in self.old m + share_by result m 1 }
         ensures same { (s : At) → is_there self.new s ≡ is_there self.old s }
     {
-        let at = self.by_machine.place(&spot.machine)?;
+        let at = self.by_machine.place_near(near, &spot.machine)?;
         let holding = self.by_machine.value(at, &spot.machine);
         if !holding.is_open || holding.incarnation != spot.incarnation {
             return None;

@@ -1,6 +1,7 @@
 //! The tally of a knowledge: what a plan needs of it, without a network.
 #![tactic(auto)]
 
+pub mod guide;
 mod holdings;
 pub mod sorted;
 pub mod tally;

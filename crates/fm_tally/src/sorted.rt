@@ -71,6 +71,21 @@ impl<K: Chain, V: Copy> Sorted<K, V> {
         }
     }
 
+    /// As `place`, and looks at the place near before it searches: if the key is there, in one comparison.
+    pub(crate) fn place_near(&self, near: usize, key: &K) -> Option<usize>
+        ensures found { IfSome result (IsAt K.cmp self.now key.now) }
+        ensures absent { IsNone result → lookup K.cmp key.now self.now ≡ None }
+        ensures rising { IsRising K.cmp self.now }
+    {
+        if near < self.pairs.len() {
+            let pair = self.pairs[near];
+            if pair.0.cmp(key).is_eq() {
+                return Some(near);
+            }
+        }
+        self.place(key)
+    }
+
     /// The value at the key, of which the caller passes the place.
     pub(crate) fn value(&self, at: usize, key: &K) -> V
         requires { IsAt K.cmp self.now key.now at }

@@ -11,6 +11,7 @@ ghost use Rattle.fm_tally.specs.Holdings.{requests_in, tasks_in, share_by, place
 ghost use Rattle.fm_tally.specs.Tallies.{task_at, all_machines, left_of, entry_of, task_by, requests_by, tasks_by, open_by, TallyIsFor};
 ghost use Rattle.fm_tally.specs.Unfinished.{AreUnfinished};
 
+use crate::guide::{Guide, upper};
 use crate::holdings::{Holding, Holdings};
 use crate::sorted::Sorted;
 use crate::unfinished::{UnfinishedTask, unfinished_of};
@@ -57,7 +58,7 @@ pub struct Tally {
 
 impl Tally {
     /// The tally of what is known. One walk each over the jobs, the tasks with the proposals, and the machines. For each task that is
-    /// not done its job, and the machine that won it, are searched in small tables: O(n log n).
+    /// not done its job, and the machine that won it, are found in small tables: O(n) if ids are spread evenly, else O(n log n).
     pub fn of(alloc: Global, knowledge: &Knowledge) -> Result<Tally, OutOfMemory>
         ensures { IfOk result (TallyIsFor knowledge.now) }
     {
@@ -107,19 +108,69 @@ fn tasks_of(
 {
     knowledge.known();
     let jobs = jobs_of(alloc, knowledge)?;
+    let guides = Guides::of(alloc, &jobs, holdings)?;
     let pairs = unfinished.pairs();
     let mut found = Vec::with_capacity(alloc, pairs.len())?;
     for (task, known) in pairs {
-        if let Some(live) = live_task(known, &jobs, holdings) {
+        if let Some(live) = live_task(known, guides.near(known), &jobs, holdings) {
             found.push((*task, live))?;
         }
     }
     Ok(Sorted::of(found))
 }
 
+// Where the job of a task, and the machine that won it, may stand among the others.
+#[derive(Clone, Copy, Drop)]
+struct Near {
+    job: usize,
+    machine: usize,
+}
+
+// What guesses that.
+#[derive(Drop)]
+struct Guides {
+    jobs: Guide,
+    machines: Guide,
+}
+
+impl Guides {
+    // For these jobs, and the machines that are counted for.
+    fn of(
+        alloc: Global,
+        jobs: &Sorted<JobId, JobReg>,
+        holdings: &Holdings,
+    ) -> Result<Guides, OutOfMemory> {
+        let mut of_jobs = Vec::with_capacity(alloc, jobs.pairs().len())?;
+        for (job, _) in jobs.pairs() {
+            of_jobs.push(upper(job.value()))?;
+        }
+        let machines = holdings.by_machine.pairs();
+        let mut of_machines = Vec::with_capacity(alloc, machines.len())?;
+        for (machine, _) in machines {
+            of_machines.push(upper(machine.value()))?;
+        }
+        Ok(Guides {
+            jobs: Guide::of(alloc, of_jobs)?,
+            machines: Guide::of(alloc, of_machines)?,
+        })
+    }
+
+    fn near(&self, task: &UnfinishedTask) -> Near {
+        let machine = match &task.spot {
+            Some(spot) => self.machines.guess(upper(spot.machine.value())),
+            None => 0,
+        };
+        Near {
+            job: self.jobs.guess(upper(task.job.value())),
+            machine,
+        }
+    }
+}
+
 // What a plan needs of the task, if its job stands. It counts for the machine that holds it.
 fn live_task(
     task: &UnfinishedTask,
+    near: Near,
     jobs: &Sorted<JobId, JobReg>,
     holdings: &mut Holdings,
 ) -> Option<LiveTask>
@@ -131,13 +182,13 @@ fn live_task(
     ensures small { (m : ℕ) → requests_by result m < 2 ^ 32 }
     ensures there { (s : At) → is_there holdings.new s ≡ is_there holdings.old s }
 {
-    let job = standing(jobs, task.job)?;
-    let holder = hold(task.spot, task.request, holdings);
+    let job = standing(jobs, near.job, task.job)?;
+    let holder = hold(near.machine, task.spot, task.request, holdings);
     Some(held_task(task, job, holder))
 }
 
 // The machine of the spot, if that is open and at its present incarnation. A task with the request counts for it.
-fn hold(spot: Option<Spot>, request: u32, holdings: &mut Holdings) -> Option<MachineId>
+fn hold(near: usize, spot: Option<Spot>, request: u32, holdings: &mut Holdings) -> Option<MachineId>
     requires requests_fit { (m : ℕ) → requests_in holdings.old m + 2 ^ 32 < 2 ^ 128 }
     requires tasks_fit { (m : ℕ) → tasks_in holdings.old m + 1 < 2 ^ 64 }
     ensures placed { result ≡ and_then (placed_by holdings.old) spot }
@@ -146,7 +197,7 @@ fn hold(spot: Option<Spot>, request: u32, holdings: &mut Holdings) -> Option<Mac
     ensures small { (m : ℕ) → share_by result m request < 2 ^ 32 }
     ensures there { (s : At) → is_there holdings.new s ≡ is_there holdings.old s }
 {
-    holdings.hold(spot?, request)
+    holdings.hold(near, spot?, request)
 }
 
 // What a plan needs of a live task of the job, which the machine holds.
@@ -167,10 +218,10 @@ fn held_task(task: &UnfinishedTask, job: JobReg, holder: Option<MachineId>) -> L
 }
 
 // The job, if it is known and not withdrawn.
-fn standing(jobs: &Sorted<JobId, JobReg>, job: JobId) -> Option<JobReg>
+fn standing(jobs: &Sorted<JobId, JobReg>, near: usize, job: JobId) -> Option<JobReg>
     ensures { result ≡ only_if (λ r. not r.withdrawn) (lookup nat_cmp job jobs.now) }
 {
-    let register = jobs.get(&job)?;
+    let register = jobs.get_near(near, &job)?;
     if register.withdrawn {
         return None;
     }

@@ -1,4 +1,5 @@
 //! Tasks that are neither withdrawn nor done, with what is known of them whatever is known of jobs and machines.
+//! They are brought up to date by what changed: incremental view maintenance.
 
 ghost use Rattle.std.specs.Prelude.{◌≡◌, ◌++◌, ℕ, filter, option_copied, option_map, IfOk, OnOk};
 ghost use Rattle.std.specs.Ordering.{nat_cmp};

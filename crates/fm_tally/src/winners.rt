@@ -1,4 +1,4 @@
-//! The winners of attempts, met in one walk.
+//! The winners of attempts, met in one walk: a merge join of the tasks and the proposals.
 
 ghost use Rattle.std.specs.Prelude.{◌≡◌, ℕ, option_map};
 ghost use Rattle.std.specs.declared.cmp.Ordering.TheVariants.{Less};

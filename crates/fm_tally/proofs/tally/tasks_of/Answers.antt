@@ -87,8 +87,8 @@ loop-task-preserved c =
       there = λ s. told.there s ∙ c.loop-task.invariant.there s;
     }
 
-pub of-requires : goal.of-requires
-of-requires c =
+pub of-requires-2 : goal.of-requires-2
+of-requires-2 c =
     let k = c.args.knowledge.now in
     let all = c.pairs-pairs.result.now in
     let done : drop c.loop-task.task-index all ≡ [] = drop_all c.loop-task.task-index all c.loop-task-test.false in
@@ -101,8 +101,8 @@ returns-clause-tasks c t =
     let k = c.args.knowledge.now in
     let all = c.pairs-pairs.result.now in
     let done : drop c.loop-task.task-index all ≡ [] = drop_all c.loop-task.task-index all c.loop-task-test.false in
-    let found : c.of.result ≡ rows (task_at k) all =
-    c.of.ensures ∙ sym (append-nil c.loop-task.found.items) ∙ ap (λ xs. c.loop-task.found.items ++ rows (task_at k) xs) (sym done) ∙ c.loop-task.invariant.found in
+    let found : c.of-2.result ≡ rows (task_at k) all =
+    c.of-2.ensures ∙ sym (append-nil c.loop-task.found.items) ∙ ap (λ xs. c.loop-task.found.items ++ rows (task_at k) xs) (sym done) ∙ c.loop-task.invariant.found in
     ap (lookup nat_cmp t) found ∙ lookup_rows (task_at k) all t (λ (l : LiveTask) e.
     let s = came_from _ (live_spec k t) l e in
     let u = live_unfinished k t s.0 s.1 in
