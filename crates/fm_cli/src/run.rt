@@ -15,7 +15,7 @@ use fm_edit::keepers::Keeper;
 use fm_follow::acting::take_step;
 use fm_input::script::{Act, Script, Step};
 use fm_opening::world::open;
-use fm_planner::planned::plan_of;
+use fm_planner::planned::plan_for;
 use fm_records::refusal::Refusal;
 use fm_world::step::Act as WorldAct;
 use fm_world::world::World;
@@ -71,12 +71,12 @@ fn take(alloc: Global, world: &mut World<Keeper>, at: u8, act: Act) -> Result<()
     }
 }
 
-// A round: a view, its plan, and the commit of the plan.
+// A round: a look at what is known with the tally, the plan by that, and the commit of the plan.
 fn round(alloc: Global, world: &mut World<Keeper>, at: u8) -> Result<(), Refusal>
     ensures ok { Makes result world.old world.new (λ w v. Acts w at script_act.Round v) }
     ensures err { Fails result world.old (λ w refusal. Refuses w at script_act.Round refusal) }
 {
     let sight = world.see(at, 0)?;
-    let plan = plan_of(alloc, sight.knowledge.get())?;
-    take_step(world, at, WorldAct::Commit(plan))
+    let planned = plan_for(alloc, sight.tally.get(), sight.knowledge.get())?;
+    take_step(world, at, WorldAct::Commit(planned.plan))
 }

@@ -22,7 +22,7 @@ ghost use Rattle.fm_coord.specs.States.{new_state, bounds, entry, took, gave, le
 
 use crate::entry::{Call, Entry, Range, Reply};
 use crate::tallied::Tallied;
-use crate::view::{Sight, View};
+use crate::view::{Look, Sight, View};
 use fm_delta::buffer::Buffer;
 use fm_delta::packet::Packet;
 use fm_dimacs::dump::dump;
@@ -370,7 +370,8 @@ impl<N: NetKeeper> Coordinator<N> {
     }
 
     /// What is known now, with the number of entries before this one's, and the network, which is built first if it
-    /// is stale. The knowledge is shared and not copied: it costs what `see` costs. The network is shared by one
+    /// is stale. The knowledge is shared and not copied: that costs the first key of each block of records and a
+    /// pointer to it, and memory for each block that was written since the last view. The network is shared by one
     /// pointer; a keeper that edits copies it, O(arcs), at its first edit while the view still exists. HistoryFull,
     /// OutOfMemory; then nothing has changed, except that a stale network may have been built.
     pub fn view(&mut self, by: u32) -> Result<View, Refusal>
@@ -390,22 +391,23 @@ impl<N: NetKeeper> Coordinator<N> {
         self.check_room()?;
         self.refresh()?;
         let network = self.network()?;
-        let sight = self.see(by)?;
+        let look = self.look(by)?;
         Ok(View {
-            at: sight.at,
-            knowledge: sight.knowledge,
+            at: look.at,
+            knowledge: look.knowledge,
             network,
         })
     }
 
-    /// As `view`, but without the network: a stale one stays stale. The history has the same entry. It costs a share
-    /// of the knowledge, the first key of each block of records and a pointer to it, and memory for each block that
-    /// was written since the last view. HistoryFull, OutOfMemory; then nothing has changed.
+    /// As `view`, with the tally in place of the network: a stale network stays stale. The history has the same entry.
+    /// It costs what `refresh_tally` does, and sharing what is known, as a view does. The tally is shared by a pointer.
+    /// HistoryFull, OutOfMemory; then nothing has changed.
     pub fn see(&mut self, by: u32) -> Result<Sight, Refusal>
         ensures ok { IfOk result (λ sight. self.new.state
             ≡ noted self.old.state (entry by Call.View (Reply.Seen sight.at sight.knowledge))) }
         ensures at { IfOk result (λ sight. sight.at ≡ length self.old.state.history) }
         ensures knowledge { IfOk result (λ sight. sight.knowledge ≡ self.old.state.knowledge) }
+        ensures tally { IfOk result (λ sight. TallyIsFor sight.knowledge sight.tally) }
         ensures keeper { self.new.keeper ≡ self.old.keeper }
         ensures within { IsOk result → cause (bounds self.old.state) Call.View ≡ None }
         ensures event { (r : Replica) → StandsFor self.old.state r
@@ -413,28 +415,51 @@ impl<N: NetKeeper> Coordinator<N> {
         ensures err { IfErr result (λ refusal. refusal ≡ refusal_for (bounds self.old.state) Call.View) }
         ensures unchanged { OnErr result (self.new.state ≡ self.old.state) }
     {
+        self.check_room()?;
+        let tally = self.fresh_tally()?;
+        let look = self.look(by)?;
+        Ok(Sight {
+            at: look.at,
+            knowledge: look.knowledge,
+            tally,
+        })
+    }
+
+    // What is known now, which the history notes as seen.
+    fn look(&mut self, by: u32) -> Result<Look, Refusal>
+        ensures ok { IfOk result (λ look. self.new.state
+            ≡ noted self.old.state (entry by Call.View (Reply.Seen look.at look.knowledge))) }
+        ensures at { IfOk result (λ look. look.at ≡ length self.old.state.history) }
+        ensures knowledge { IfOk result (λ look. look.knowledge ≡ self.old.state.knowledge) }
+        ensures keeper { self.new.keeper ≡ self.old.keeper }
+        ensures within { IsOk result → cause (bounds self.old.state) Call.View ≡ None }
+        ensures event { (r : Replica) → StandsFor self.old.state r
+            → IfOk result (λ look. IsEventAt r by event.View (Reply.Seen look.at look.knowledge) self.new.state) }
+        ensures err { IfErr result (λ refusal. refusal ≡ refusal_for (bounds self.old.state) Call.View) }
+        ensures unchanged { OnErr result (self.new.state ≡ self.old.state) }
+    {
         self.known();
         self.check_room()?;
-        let sight = self.sight()?;
+        let look = self.known_now()?;
         let seen = Entry {
             by,
             call: Call::View,
-            reply: Reply::Seen(sight.at, sight.knowledge.share()?),
+            reply: Reply::Seen(look.at, look.knowledge.share()?),
         };
         self.note(seen)?;
-        Ok(sight)
+        Ok(look)
     }
 
-    // What there is to see. The coordinator and the sight share what is known from then on.
-    fn sight(&mut self) -> Result<Sight, OutOfMemory>
-        ensures at { IfOk result (λ sight. sight.at ≡ length self.old.state.history) }
-        ensures knowledge { IfOk result (λ sight. sight.knowledge ≡ self.old.state.knowledge) }
+    // What is known now. The coordinator and the look share it from then on.
+    fn known_now(&mut self) -> Result<Look, OutOfMemory>
+        ensures at { IfOk result (λ look. look.at ≡ length self.old.state.history) }
+        ensures knowledge { IfOk result (λ look. look.knowledge ≡ self.old.state.knowledge) }
         ensures state { self.new.state ≡ self.old.state }
         ensures keeper { self.new.keeper ≡ self.old.keeper }
         ensures same { self.new ≡ self.old }
     {
         let knowledge = self.knowledge.share()?;
-        Ok(Sight {
+        Ok(Look {
             at: self.history.len(),
             knowledge: Shared::new(self.alloc, knowledge)?,
         })
@@ -496,6 +521,15 @@ impl<N: NetKeeper> Coordinator<N> {
         ensures { self.new ≡ self.old }
     {
         self.share_known()?;
+        let _tally = self.fresh_tally()?;
+        Ok(())
+    }
+
+    // The tally of what is known, for one more owner.
+    fn fresh_tally(&mut self) -> Result<Shared<Tally>, OutOfMemory>
+        ensures tally { IfOk result (TallyIsFor self.old.state.knowledge) }
+        ensures same { self.new ≡ self.old }
+    {
         self.tallied.refresh(self.alloc, &self.knowledge)
     }
 

@@ -10,6 +10,7 @@ ghost use Rattle.fm_coord.specs.Tallied.{IsTalliedFor};
 use fm_know::knowledge::Knowledge;
 use fm_know::laws::law_can_be;
 use fm_lattice::join::OutOfMemory;
+use fm_lattice::shared::Shared;
 use fm_policy::changed::Changed;
 use fm_policy::laws::law_joined_keys;
 use fm_policy::pending::Pending;
@@ -28,7 +29,7 @@ const TASKS_PER_CHANGE: usize = 4;
 pub(crate) struct Tallied {
     pub(crate) tasks: Option<Sorted<TaskId, UnfinishedTask>>,
     pub(crate) pending: Pending,
-    pub(crate) tally: Option<Tally>,
+    pub(crate) tally: Option<Shared<Tally>>,
 }
 
 impl Tallied {
@@ -47,7 +48,10 @@ impl Tallied {
     pub(crate) fn tally(&self) -> Option<&Tally>
         ensures { (k : Known) → IsTalliedFor k self.now → IfSome result (λ tally. TallyIsFor k tally.now) }
     {
-        self.tally.as_ref()
+        match &self.tally {
+            Some(tally) => Some(tally.get()),
+            None => None,
+        }
     }
 
     /// Takes in the keys of a delta. The tasks are dropped if so many changed that a walk over all of them costs less, or if memory runs
@@ -67,27 +71,29 @@ impl Tallied {
         }
     }
 
-    /// Makes the tally that of what is known, which is unchanged if there is one. If memory runs out, there is none.
+    /// The tally of what is known, for one more owner: made if there is none, and kept. If memory runs out, nothing changes.
     pub(crate) fn refresh(
         &mut self,
         alloc: Global,
         knowledge: &Knowledge,
-    ) -> Result<(), OutOfMemory>
+    ) -> Result<Shared<Tally>, OutOfMemory>
         requires { IsTalliedFor knowledge.now self.old }
-        ensures { IsTalliedFor knowledge.now self.new }
+        ensures tally { IfOk result (TallyIsFor knowledge.now) }
+        ensures kept { IsTalliedFor knowledge.now self.new }
     {
-        if self.tally.is_some() {
-            return Ok(());
+        if let Some(tally) = &self.tally {
+            return tally.share();
         }
         let tasks = self.next_tasks(alloc, knowledge)?;
-        let tally = Tally::with(alloc, knowledge, &tasks)?;
+        let made = Tally::with(alloc, knowledge, &tasks)?;
+        let tally = Shared::new(alloc, made)?;
         law_can_be(knowledge);
         *self = Tallied {
             tasks: Some(tasks),
             pending: Pending::new(alloc),
-            tally: Some(tally),
+            tally: Some(tally.share()?),
         };
-        Ok(())
+        Ok(tally)
     }
 
     // The unfinished tasks of what is known, from those that are kept or by a walk.

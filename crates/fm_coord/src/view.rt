@@ -3,6 +3,7 @@
 use fm_know::knowledge::Knowledge;
 use fm_lattice::shared::Shared;
 use fm_net::network::Network;
+use fm_tally::tally::Tally;
 
 /// What was known at a point of a history: the count of entries before it, the knowledge, and its network.
 #[derive(Drop)]
@@ -12,9 +13,17 @@ pub struct View {
     pub network: Shared<Network>,
 }
 
-/// The same with no network.
+/// The same with the tally in place of the network.
 #[derive(Drop)]
 pub struct Sight {
     pub at: usize,
     pub knowledge: Shared<Knowledge>,
+    pub tally: Shared<Tally>,
+}
+
+// The same with neither.
+#[derive(Drop)]
+pub(crate) struct Look {
+    pub(crate) at: usize,
+    pub(crate) knowledge: Shared<Knowledge>,
 }

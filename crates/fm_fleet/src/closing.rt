@@ -29,7 +29,7 @@ pub struct NotClosed<N: NetKeeper, L: NodeName> {
 }
 
 /// Closes a node with all its seats, and returns their lists, by the numbers of the seats. The history has grown by
-/// exactly the entries of the lists. It allocates nothing. O(n^2) in the seats. NotMine with the least seat that is
+/// as many entries as are in the lists. It allocates nothing. O(n^2) in the seats. NotMine with the least seat that is
 /// missing, with the node and the seats.
 pub fn close<N: NetKeeper, L: NodeName>(
     node: Node<N, L>,

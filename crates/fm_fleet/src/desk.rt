@@ -3,6 +3,7 @@ ghost use Rattle.std.specs.Prelude.{◌≡◌, ◌<◌, ◌≤◌, ◌+◌, leng
 ghost use Rattle.fm_coord.specs.Causes.{refusal_for};
 ghost use Rattle.fm_coord.specs.States.{bounds, entry, noted, after};
 ghost use Rattle.fm_coord.specs.Answers.{said, answered};
+ghost use Rattle.fm_tally.specs.Tallies.{TallyIsFor};
 ghost use Rattle.fm_coord.specs.declared.entry.Reply.TheVariants as reply;
 
 use crate::seat::NodeName;
@@ -56,6 +57,7 @@ impl<N: NetKeeper, L: NodeName> Desk<N, L> {
         ensures ok { IfOk result (λ sight. self.new.coordinator.state
             ≡ noted self.old.coordinator.state (entry by Call.View (reply.Seen sight.at sight.knowledge))) }
         ensures knowledge { IfOk result (λ sight. sight.knowledge ≡ self.old.coordinator.state.knowledge) }
+        ensures tally { IfOk result (λ sight. TallyIsFor sight.knowledge sight.tally) }
         ensures later { IfOk result (λ sight. L.base + share.old.amount ≤ sight.at) }
         ensures counted { OnOk result (share.new.amount ≡ share.old.amount + 1) }
         ensures parts { share.new.parts ≡ share.old.parts }

@@ -2,6 +2,7 @@
 ghost use Rattle.std.specs.Prelude.{◌≡◌, ◌<◌, ◌≤◌, ◌+◌, [], length, vec_len, vec_capacity, IfOk, IfErr, OnOk, OnErr};
 ghost use Rattle.fm_net.specs.Network.{net_of};
 ghost use Rattle.fm_coord.specs.Answers.{said};
+ghost use Rattle.fm_tally.specs.Tallies.{TallyIsFor};
 ghost use Rattle.fm_fleet.specs.Seats.{called, MayRefuse, IsAnswered, IsDone, AreNew};
 
 use crate::desk::Desk;
@@ -213,10 +214,11 @@ impl<N: NetKeeper, L: NodeName> Node<N, L> {
         }
     }
 
-    /// As `view`, but without the network, as the coordinator's `see`. Refused as that, and with OutOfMemory; then the
-    /// seat is unchanged.
+    /// As `view`, with the tally in place of the network, as the coordinator's `see`. Refused as that, and with
+    /// OutOfMemory; then the seat is unchanged.
     pub fn see<R: Wait>(&self, rt: &R, seat: &mut Seat<L>) -> Result<Sight, Refusal>
         ensures ok { IfOk result (λ sight. seat.new ≡ called seat.old Call.View (Reply.Seen sight.at sight.knowledge)) }
+        ensures tally { IfOk result (λ sight. TallyIsFor sight.knowledge sight.tally) }
         ensures later { IfOk result (λ sight. L.base + length seat.old.log ≤ sight.at) }
         ensures cause { IfErr result (λ refusal. MayRefuse Call.View refusal) }
         ensures err { OnErr result (seat.new ≡ seat.old) }

@@ -9,7 +9,7 @@ use crate::seat::{NodeName, Seat};
 use fm_coord::shared::Shared;
 use fm_coord::view::View;
 use fm_plan::least::least_plan;
-use fm_planner::planned::plan_of;
+use fm_planner::planned;
 use fm_policy::keeper::NetKeeper;
 use fm_records::refusal::Refusal;
 use fm_round::parts::{Admitted, Plan};
@@ -30,7 +30,7 @@ impl Gate for NoGate {
 }
 
 /// A look at what is known, the gate, and the commit of the plan of a least flow of the network of what was seen. The
-/// result is the commit's. The network is built only if a plan without it fails its check. OutOfMemory, HistoryFull; then
+/// result is the commit's. The network is built only if the search for a plan without it gives up, or the plan fails its check. OutOfMemory, HistoryFull; then
 /// the seat is unchanged, or has only the view.
 pub fn run_round<N: NetKeeper, L: NodeName, G: Gate, R: Wait>(
     rt: &R,
@@ -47,10 +47,10 @@ pub fn run_round<N: NetKeeper, L: NodeName, G: Gate, R: Wait>(
         Err(refusal) => return Err(refusal),
     };
     gate.hold();
-    let Ok(plan) = plan_of(alloc, sight.knowledge.get()) else {
+    let Ok(made) = planned::plan_for(alloc, sight.tally.get(), sight.knowledge.get()) else {
         return Err(Refusal::OutOfMemory);
     };
-    node.commit(rt, seat, plan)
+    node.commit(rt, seat, made.plan)
 }
 
 /// The plan of a least flow of the network that was seen. The caller must ensure that the network is that of the

@@ -8,6 +8,7 @@ ghost use Rattle.fm_coord.specs.Numbers.{AreDistinct};
 ghost use Rattle.fm_records.specs.Know.{know};
 ghost use Rattle.fm_coord.specs.Events.{Sent};
 ghost use Rattle.fm_coord.specs.Replays.{seen};
+ghost use Rattle.fm_tally.specs.Tallies.{TallyIsFor};
 ghost use Rattle.fm_world.specs.declared.step.Act.TheVariants as act;
 ghost use Rattle.fm_world.specs.Worlds.{WorldOfSets, opening_world, with_number, cause_of, refusal_of, step_of, run_of, AreAccepted, taken_by, taken_in, StopsAt};
 ghost use Rattle.fm_world.specs.Agreement.{EachKnows, SameAgree, IsDumpOf};
@@ -139,8 +140,9 @@ impl<N: NetKeeper> World<N> {
         }
     }
 
-    /// What the coordinator with this number knows, as a View shows it, but with no network: a stale one stays stale.
-    /// The history has the same entry. NoCoordinator, HistoryFull, OutOfMemory. After a refusal nothing has changed.
+    /// What the coordinator with this number knows, as a View shows it, with the tally in place of the network: a stale
+    /// network stays stale. The history has the same entry. It costs what `Coordinator::see` does. NoCoordinator,
+    /// HistoryFull, OutOfMemory. After a refusal nothing has changed.
     pub fn see(&mut self, at: u8, by: u32) -> Result<Sight, Refusal>
         ensures stands { (w : WorldOfSets) → WorldStandsFor self.old w
             → OnOk result (WorldStandsFor self.new (step_of w (record { at = at; by = by; act = act.View }))) }
@@ -148,6 +150,7 @@ impl<N: NetKeeper> World<N> {
             → OnOk result (cause_of w (record { at = at; by = by; act = act.View }) ≡ None) }
         ensures sight { IfOk result (λ sight. shown (state_with self.old.coordinators at) act.View
             ≡ Some (record { at = sight.at; knowledge = sight.knowledge; network = net_of sight.knowledge })) }
+        ensures tally { IfOk result (λ sight. TallyIsFor sight.knowledge sight.tally) }
         ensures err { (w : WorldOfSets) → WorldStandsFor self.old w
             → IfErr result (λ refusal. refusal ≡ refusal_of w (record { at = at; by = by; act = act.View })) }
         ensures unchanged { OnErr result (self.new ≡ self.old) }

@@ -1,29 +1,15 @@
-use Rattle.std.proofs.Common.{◌≡◌, ◌∙◌, ℕ, length, None, sym, subst, rules}
+use Rattle.std.proofs.Common.{◌≡◌, ◌∙◌, ap, sym, subst}
 use Rattle.fm_records.specs.Table.{Table}
-use Rattle.fm_coord.specs.declared.entry.Call.TheVariants as call
-use Rattle.fm_coord.specs.declared.entry.Reply.TheVariants as reply
-use Rattle.fm_coord.specs.Causes.{room_fault}
-use Rattle.fm_coord.specs.States.{State, bounds, entry, noted, IsCoordinator}
-use Rattle.fm_coord.proofs.Keeps.{keeps_view}
-use Rattle.fm_coord.proofs.Happens.{viewed}
+use Rattle.fm_tally.specs.Tallies.{TallyIsFor}
+use Rattle.fm_coord.specs.States.{State, StandsFor}
 use Rattle.fm_coord.proofs.coordinator.Coordinator.see.Goals as goal
 
-pub note-requires : goal.note-requires
-note-requires g c =
-    let s : State = c.args.self.now.state in
-    let room : room_fault (bounds s) ≡ None = search rules in
-    let same : c.sight.new.self.state ≡ s = c.in_ok-sight.ensures.state in
-    let at : c.in_ok-sight.sight.at ≡ length s.history = c.in_ok-sight.ensures.at in
-    let seen : c.in_ok-share.field-0 ≡ s.knowledge = c.in_ok-share.ensures ∙ c.in_ok-sight.ensures.knowledge in
-    subst (λ (p : State × ℕ × Table). IsCoordinator (noted p.0 (entry c.args.by call.View (reply.Seen p.1 p.2)))) (λ i. (sym same i, sym at i, sym seen i))
-    (keeps_view s c.known.ensures.coordinator c.args.by room)
+pub returns-clause-tally : goal.returns-clause-tally
+returns-clause-tally g c =
+    let known : c.in_ok-look.look.knowledge ≡ c.args.self.now.state.knowledge = c.in_ok-look.ensures.knowledge ∙ ap (λ s. s.state.knowledge) c.in_ok-tally.ensures.same in
+    subst (λ (k : Table). TallyIsFor k c.in_ok-tally.tally) (sym known) c.in_ok-tally.ensures.tally
 
 pub returns-clause-event : goal.returns-clause-event
 returns-clause-event g c =
-    let s : State = c.args.self.now.state in
-    let room : room_fault (bounds s) ≡ None = search rules in
-    let same : c.sight.new.self.state ≡ s = c.in_ok-sight.ensures.state in
-    let at : c.in_ok-sight.sight.at ≡ length s.history = c.in_ok-sight.ensures.at in
-    let known : c.in_ok-sight.sight.knowledge ≡ s.knowledge = c.in_ok-sight.ensures.knowledge in
-    let made : c.note.new.self.state ≡ noted s (entry c.args.by call.View (reply.Seen c.in_ok-sight.sight.at c.in_ok-sight.sight.knowledge)) = search rules in
-    λ r st. viewed s r st c.args.by c.note.new.self.state c.in_ok-sight.sight.at c.in_ok-sight.sight.knowledge at known room made
+    let same : c.fresh_tally.new.self.state ≡ c.args.self.now.state = ap (λ s. s.state) c.in_ok-tally.ensures.same in
+    λ r st. c.in_ok-look.ensures.event r (subst (λ (s : State). StandsFor s r) (sym same) st)
