@@ -55,8 +55,8 @@ fn solved(alloc: Global, knowledge: &Knowledge, network: &Network) -> Result<Vec
 }
 
 /// The plan of a least flow of the network of what the coordinator knows. Refused only if memory runs out. It costs what
-/// `plan_for` does if the coordinator has a tally, else what `plan_of` does. Both build the network only if a plan
-/// without it fails its check.
+/// `plan_for` does if the coordinator has a tally, else what `plan_of` does. Both build the network only if the
+/// search for a plan without it gives up, or its plan fails the check.
 pub fn least_plan_of<N: NetKeeper>(
     alloc: Global,
     coordinator: &Coordinator<N>,

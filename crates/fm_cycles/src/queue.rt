@@ -1,4 +1,4 @@
-//! Relaxing along a queue, as Moore does: the arcs at the nodes whose costs fell, longest waiting first.
+//! Relaxing along a queue (Moore, 1959): the arcs at the nodes whose costs fell, longest waiting first.
 //!
 //! Any order keeps the labels labels, so nothing proved rests on the queue: its order decides only how soon a search
 //! ends.

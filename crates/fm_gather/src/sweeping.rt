@@ -1,4 +1,4 @@
-//! Sweeps over coordinators.
+//! Sweeps over coordinators: a topological order of their entries, if there is one.
 
 ghost use Rattle.std.specs.Prelude.{◌≡◌, ◌<◌, ◌++◌, length, map, IfOk, OnOk};
 ghost use Rattle.fm_coord.specs.Numbers.{AreDistinct};

@@ -1,5 +1,5 @@
-//! The least cost of a unit from each node to the sink, over arcs with room and backwards over arcs with units. For a
-//! least flow the negated costs are potentials, which a search only confirms.
+//! The least cost of a unit from each node to the sink, over arcs with room and backwards over arcs with units, by
+//! relaxing arcs (Bellman and Ford). For a least flow the negated costs are potentials, which a search only confirms.
 
 ghost use Rattle.std.specs.Prelude.{◌≡◌, ◌^◌, ◌≤ℤ◌, length, IfOk, neg_ℤ, pos};
 ghost use Rattle.fm_cycles.specs.Walks.{AreBounded};

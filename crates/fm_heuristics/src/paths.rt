@@ -1,4 +1,5 @@
-//! The search for the cheapest free slot that a request reaches, where units of others may move aside.
+//! The search for the cheapest free slot that a request reaches, where units of others may move aside: a shortest
+//! augmenting path.
 
 use crate::bits::{Bits, bit_of, lowest, word_of};
 use crate::lanes::Lanes;

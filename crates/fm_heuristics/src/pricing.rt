@@ -1,4 +1,4 @@
-//! Pricing: which link enters the tree next. A link *pays* if its reduced cost is negative.
+//! Pricing in blocks, as in LEMON (Kovács, 2015): which link enters the tree next. A link *pays* if its reduced cost is negative.
 
 ghost use Rattle.std.specs.Prelude.{◌<◌, vec_len};
 

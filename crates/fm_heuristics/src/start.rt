@@ -338,7 +338,7 @@ fn places_most(numbered: &Numbered, given: &[u64]) -> bool {
     placed >= tasks - tasks / 4
 }
 
-/// Tasks placed by falling worth, by successive shortest paths; all unscheduled if that is no flow. If each arc into
+/// Tasks placed by falling worth, by successive shortest paths (Jewell, 1958); all unscheduled if that is no flow. If each arc into
 /// a machine costs the request and the machine's load, and no waiting task has an arc to a machine, this is a least
 /// flow: no clause says so, but the search for cycles then finds none. A task that prefers machines is sent to one of
 /// them if that saves more than its request, and the search finds what that did not. The caller must pass a network

@@ -48,7 +48,7 @@ pub enum Refusal {
     /// The logs fit into no order in which each packet is cut before it is merged.
     #[error("the logs cannot be gathered into one order")]
     Stuck,
-    /// A seat that is missing, or whose log is not in the history.
+    /// A seat that is missing, or whose log is not in the history; or the sender of a packet that is not awaited.
     #[error("seat {0} does not match")]
     NotMine(u32),
     /// The known version is the greatest that there is.

@@ -1,4 +1,4 @@
-//! The ways of tasks.
+//! The ways of tasks, into which a flow decomposes (Ford and Fulkerson, 1962).
 
 use fm_records::ids::{JobId, MachineId};
 

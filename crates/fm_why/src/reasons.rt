@@ -36,7 +36,7 @@ pub struct Choices {
 pub enum Reasons {
     /// No spec of it is known.
     Unknown,
-    /// It is withdrawn, or its job is or is not known, or it is done.
+    /// It is withdrawn or done, or its job is withdrawn or not known.
     NotLive,
     /// The machine holds it.
     Held(MachineId),

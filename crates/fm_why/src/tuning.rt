@@ -1,5 +1,5 @@
-//! Potentials that tell what it costs to send a unit on from each node to where a task's unit goes now. They are tried:
-//! a check decides whether they certify the flow.
+//! Potentials that tell what it costs to send a unit on from each node to where a task's unit goes now, by relaxing
+//! arcs (Bellman and Ford). They are tried: a check decides whether they certify the flow.
 
 use fm_certificate::flow::Flow;
 use fm_certificate::potentials::Potentials;
