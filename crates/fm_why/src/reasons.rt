@@ -29,6 +29,9 @@ pub struct Choices {
     pub machines: Vec<Choice>,
     /// How many machines are known, open or not.
     pub known: usize,
+    /// Up to which price of waiting, for this task alone, the schedule that was found stays least; up to any if there is
+    /// none.
+    pub price: Option<u128>,
 }
 
 /// Where a task is.
@@ -36,7 +39,7 @@ pub struct Choices {
 pub enum Reasons {
     /// No spec of it is known.
     Unknown,
-    /// It is withdrawn, or its job is or is not known, or it is done.
+    /// It is withdrawn, or its job is withdrawn or not known, or it is done.
     NotLive,
     /// The machine holds it.
     Held(MachineId),
