@@ -11,7 +11,9 @@ LEFT_OUT = {"fleet": 0, "follow": 100000, **dict.fromkeys(QUESTIONS)}
 OPTIONS = tuple(dict.fromkeys("--" + option for option, _, _ in NUMBERED.values()))
 NAMED = ("pack", "why")
 TOPICS = (*BARE, *NUMBERED, *NAMED, "help")
-TASK = "00000000-0000-0000-0000-000000000011"
+# the task of coordinator 3, of which 7 does not know (`tells`)
+TASK = "00000000-0000-0000-0000-%012x" % 3003
+AT = "at", 0, 255
 HELP, PAGE, WRONG = ("help",), ("refusals",), ("wrong",)
 # words of which there are all command lines of up to two
 WORDS = (*TOPICS, "refusals", "grapf", "--", "-", "", "--help", "--help=x", "-h", "-hx", "-x", "-é", "--at", "--at=7", "--rounds",
@@ -45,33 +47,44 @@ def last(asked, rest):
     return asked if len(rest) < 2 else WRONG
 
 
-def of_name(command, name):
-    """What a command asks for by its name: `why` takes ids alone, of which the command lines have one form."""
-    return WRONG if command == "why" and name != TASK else (command, name)
-
-
-def named(command, rest):
-    """What a command with a name asks for by the words behind it."""
+def named(asked, rest):
+    """What a command with a name asks for by the words behind it, if it asks so for a name."""
     if rest[:1] == ["--"]:
-        return of_name(command, rest[1]) if len(rest) == 2 else WRONG
+        return asked(rest[1]) if len(rest) == 2 else WRONG
     if not rest:
         return WRONG
-    return flag(rest[0]) if is_flag(rest[0]) else last(of_name(command, rest[0]), rest[1:])
+    return flag(rest[0]) if is_flag(rest[0]) else last(asked(rest[0]), rest[1:])
 
 
-def counted(command, rest):
-    """What a command with a number asks for by the words behind it."""
-    option, least, most = NUMBERED[command]
+def numbered(option, least, most, rest):
+    """Whether the first word is the option; then the number that it is given, or None, and the words behind it."""
     if not rest or rest[0].partition("=")[0] != "--" + option:
-        return last((command, LEFT_OUT[command]), rest)
+        return False, None, rest
     _, equals, spelled = rest[0].partition("=")
     rest = rest[1:]
     if not equals:
         if not rest or is_flag(rest[0]):
-            return WRONG
+            return True, None, rest
         spelled, *rest = rest
-    value = number(spelled, least, most)
+    return True, number(spelled, least, most), rest
+
+
+def counted(command, rest):
+    """What a command with a number asks for by the words behind it."""
+    is_given, value, rest = numbered(*NUMBERED[command], rest)
+    if not is_given:
+        return last((command, LEFT_OUT[command]), rest)
     return WRONG if value is None else last((command, value), rest)
+
+
+def reasons(rest):
+    """What `why` asks for, with its option before or behind the id of a task, of which the command lines have one form."""
+    is_before, at, rest = numbered(*AT, rest)
+    if is_before or not rest or rest[0] == "--" or is_flag(rest[0]):
+        return WRONG if is_before and at is None else named(lambda name: ("why", name, at) if name == TASK else WRONG, rest)
+    name, *rest = rest
+    is_behind, at, rest = numbered(*AT, rest)
+    return WRONG if is_behind and at is None else last(("why", name, at) if name == TASK else WRONG, rest)
 
 
 def told(words):
@@ -85,8 +98,10 @@ def told(words):
         return HELP if not rest or (len(rest) == 1 and rest[0] in TOPICS) else WRONG
     if first in BARE:
         return last((first,), rest)
-    if first in NAMED:
-        return named(first, rest)
+    if first == "pack":
+        return named(lambda name: ("pack", name), rest)
+    if first == "why":
+        return reasons(rest)
     return counted(first, rest) if first in NUMBERED else flag(first)
 
 
@@ -96,7 +111,8 @@ def shortest(asked):
     if command == "refusals":
         return ["help", "refusals"]
     if command in NAMED:
-        return [command, "--", *given]
+        name, *at = given
+        return [command, *("--at=%d" % number for number in at if number is not None), "--", name]
     if given and given[0] != LEFT_OUT[command]:
         return [command, "--" + NUMBERED[command][0], str(given[0])]
     return [command]
@@ -114,9 +130,11 @@ def command_lines():
     for count in range(3):
         yield from map(list, itertools.product(WORDS, repeat=count))
     for command in ("agree", *NAMED, *NUMBERED):
-        own = "--" + NUMBERED[command][0] if command in NUMBERED else None
+        own = "--" + NUMBERED[command][0] if command in NUMBERED else "--at" if command == "why" else None
         for given, behind in itertools.product((*GIVEN, *options(own)), BEHIND):
             yield [command, *given, *behind]
+    for given, behind in itertools.product(options("--at"), BEHIND):
+        yield from (["why", *given, TASK, *behind], ["why", TASK, *given, *behind], ["why", *given, "--", TASK, *behind])
 
 
 def tells(number):

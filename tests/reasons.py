@@ -36,6 +36,8 @@ def lines_of(facts, waits, known):
     else:
         yield head + "waits: no machine has room for its request of %d" % facts.request
     yield "this schedule costs %d, and none costs less" % facts.least
+    if waits and places:
+        yield "it stays least while the price of waiting is %d or less for this task, and as it is for all others" % (facts.wait + places[0][0])
     for more, name, cost in places[:SHOWN]:
         yield "on machine %s it costs %d, and each schedule that runs it there costs at least %d more" % (name, cost, more)
     if places[SHOWN:]:

@@ -26,6 +26,18 @@ answer_line task c = codes "task " ++ (id_text task ++ (if c.waits then waiting_
 abbrev pub cost_line : Choices → List ℕ
 cost_line c = codes "this schedule costs " ++ (decimal c.least ++ codes ", and none costs less\n")
 
+-- up to which price of waiting the schedule stays least, if it leaves the task waiting and a machine has room
+abbrev pub price_text : Option ℕ → List ℕ
+price_text None = []
+price_text (Some price) = codes "it stays least while the price of waiting is " ++ (decimal price ++ codes " or less for this task, and as it is for all others\n")
+
+abbrev pub price_line : Choices → List ℕ
+price_line c = if c.waits then price_text c.price else []
+
+-- what the schedule costs, and until when that is least
+abbrev pub schedule_text : Choices → List ℕ
+schedule_text c = cost_line c ++ price_line c
+
 -- a machine with room: what the way there costs, and how much dearer schedules are that use it
 abbrev pub choice_text : Choice → List ℕ
 choice_text e = codes "on machine " ++ (id_text e.machine ++ (codes " it costs " ++ (decimal e.cost ++ (codes ", and each schedule that runs it there costs at least " ++ (decimal e.dearer ++ codes " more")))))
@@ -42,10 +54,10 @@ room_line c = codes "room for its request of " ++ (decimal c.request ++ (codes "
 abbrev pub theory_line : List ℕ
 theory_line = codes "by potentials that certify the schedule: what is sent over an empty arc costs at least its reduced cost more\n"
 
--- the answer, the cost, the five cheapest machines, how many more there are, and the theory
+-- the answer, the schedule, the five cheapest machines, how many more there are, and the theory
 abbrev pub choices_text : ℕ → Choices → List ℕ
 choices_text task c =
-    answer_line task c ++ (cost_line c ++ (lines_of choice_text (take 5 c.machines.items)
+    answer_line task c ++ (schedule_text c ++ (lines_of choice_text (take 5 c.machines.items)
     ++ (others_text (length c.machines.items - 5) (slice_get c.machines.items 5) ++ (room_line c ++ theory_line))))
 
 abbrev pub held_text : ℕ → ℕ → List ℕ

@@ -1,7 +1,7 @@
 //! Why a task waits or runs, as text.
 
 ghost use Rattle.std.specs.Prelude.{◌≡◌, ◌++◌, ◌-◌, length, take, slice_get, IfOk, OnOk, IsOkUnless, string_bytes};
-ghost use Rattle.fm_ask.specs.Reasons.{answer_line, choice_text, choices_text, cost_line, held_text, others_text, reasons_text, room_line, running_text, theory_line, waiting_text, IsReasonsText};
+ghost use Rattle.fm_ask.specs.Reasons.{answer_line, choice_text, choices_text, cost_line, held_text, others_text, price_line, price_text, reasons_text, room_line, schedule_text, running_text, theory_line, waiting_text, IsReasonsText};
 
 use crate::lines::{LineText, write_lines};
 use fm_know::knowledge::Knowledge;
@@ -57,7 +57,7 @@ fn choices_text(alloc: Global, task: TaskId, choices: &Choices) -> Result<String
 {
     let mut lines = String::new(alloc);
     write_answer(alloc, task, choices, &mut lines)?;
-    write_cost(choices, &mut lines)?;
+    write_schedule(choices, &mut lines)?;
     write_lines(alloc, shown(&choices.machines), &mut lines)?;
     write_others(&choices.machines, &mut lines)?;
     write_room(choices, &mut lines)?;
@@ -133,6 +133,15 @@ fn write_waiting(choices: &Choices, lines: &mut String) -> Result<(), Refusal>
     Ok(())
 }
 
+// Appends what the schedule costs, and until when that is least.
+fn write_schedule(choices: &Choices, lines: &mut String) -> Result<(), Refusal>
+    ensures ok { OnOk result (string_bytes lines.new ≡ string_bytes lines.old ++ schedule_text choices.now) }
+    ensures err { IsOkUnless result Refusal.OutOfMemory }
+{
+    write_cost(choices, lines)?;
+    write_price(choices, lines)
+}
+
 // Appends what the schedule costs.
 fn write_cost(choices: &Choices, lines: &mut String) -> Result<(), Refusal>
     ensures ok { OnOk result (string_bytes lines.new ≡ string_bytes lines.old ++ cost_line choices.now) }
@@ -140,6 +149,32 @@ fn write_cost(choices: &Choices, lines: &mut String) -> Result<(), Refusal>
 {
     let least = choices.least;
     write!(lines, "this schedule costs {least}, and none costs less\n")?;
+    Ok(())
+}
+
+// Appends up to which price of waiting the schedule stays least, if it leaves the task waiting.
+fn write_price(choices: &Choices, lines: &mut String) -> Result<(), Refusal>
+    ensures ok { OnOk result (string_bytes lines.new ≡ string_bytes lines.old ++ price_line choices.now) }
+    ensures err { IsOkUnless result Refusal.OutOfMemory }
+{
+    if choices.waits {
+        write_price_of(choices.price, lines)
+    } else {
+        Ok(())
+    }
+}
+
+// Appends the price, if there is one.
+fn write_price_of(price: Option<u128>, lines: &mut String) -> Result<(), Refusal>
+    ensures ok { OnOk result (string_bytes lines.new ≡ string_bytes lines.old ++ price_text price) }
+    ensures err { IsOkUnless result Refusal.OutOfMemory }
+{
+    if let Some(price) = price {
+        write!(
+            lines,
+            "it stays least while the price of waiting is {price} or less for this task, and as it is for all others\n"
+        )?;
+    }
     Ok(())
 }
 

@@ -50,7 +50,7 @@ query_of (ask q at) listed names = query_about q (coordinator_asked listed at)
 query_of agree listed names = Ok (Some query.Agree)
 query_of (pack name) listed names = Ok (option_map query.Packet (position (is_text name) names))
 query_of unpack listed names = Ok None
-query_of (why task) listed names = why_about task (coordinator_asked listed None)
+query_of (why task at) listed names = why_about task (coordinator_asked listed at)
 
 -- the output is the world's text for the query, and the ending says whether coordinators know different things
 abbrev pub AnswersIn : Option Query → WorldOfSets → Ending → List ℕ → Type 0

@@ -132,7 +132,7 @@ fn query_of(command: Command, script: &Script) -> Result<Option<Query>, Fault>
             None => Ok(None),
         },
         Command::Unpack => Ok(None),
-        Command::Why { task } => match asked(&script.coordinators, None) {
+        Command::Why { task, at } => match asked(&script.coordinators, at) {
             Ok(number) => Ok(Some(Query::Why(number, TaskId::new(task)))),
             Err(fault) => Err(fault),
         },

@@ -19,7 +19,7 @@ use Rattle.fm_certificate.specs.Flows.{Units}
 use Rattle.fm_why.specs.Running.{RunsOn}
 use Rattle.fm_why.specs.Ways.{lesser, has_way, ways_of, roomy, IsOnlyRequest}
 
-there : {A : Type 0} (o : Option A) → IsSome o → (a : A) × (o ≡ Some a)
+pub there : {A : Type 0} (o : Option A) → IsSome o → (a : A) × (o ≡ Some a)
 there None h = absurd (let no : ⊥ = cc in no)
 there (Some a) h = (a, refl)
 
@@ -28,7 +28,7 @@ differ b t f = absurd (let no : ⊥ = cc in no)
 
 module _ (k : Table) where
   -- an arc of the network, by the table
-  arc_is : (from to : Node) → IsSome (arc_at (net_of k) from to) → (a : ℕ × ℕ) × (arc_of k from to ≡ Some a)
+  pub arc_is : (from to : Node) → IsSome (arc_at (net_of k) from to) → (a : ℕ × ℕ) × (arc_of k from to ≡ Some a)
   arc_is from to h =
       let a = there (arc_at (net_of k) from to) h in
       (a.0, sym ((is_network_of k).each_arc from to) ∙ a.1)
@@ -66,7 +66,7 @@ module _ (k : Table) where
     free_is = ap (passes (λ m. true)) free
 
     -- asks for its request alone
-    request_is : (r : ℕ) → IsSome (arc_at (net_of k) (Task t) (Request r)) → r ≡ spec.request
+    pub request_is : (r : ℕ) → IsSome (arc_at (net_of k) (Task t) (Request r)) → r ≡ spec.request
     request_is r h =
         let a = arc_is (Task t) (Request r) h in
         let asks : passes (λ (s : SpecReg). s.request == r) (live_spec k t) ≡ true = (both_true _ _ (when_true (waits_for k r t) (1, 0) a.0 a.1)).0 in
@@ -83,7 +83,7 @@ module _ (k : Table) where
         let outer : nat_le r (room.state.nic - load_of k m) ≡ true = grind (arith, room.room) in
         rw room.opened (rw inner outer)
 
-    own_room : (m : ℕ) → IsSome (arc_at (net_of k) (Task t) (Machine m)) → has_room k m spec.request ≡ true
+    pub own_room : (m : ℕ) → IsSome (arc_at (net_of k) (Task t) (Machine m)) → has_room k m spec.request ≡ true
     own_room m h =
         let a = arc_is (Task t) (Machine m) h in
         let cased : and_then (λ s. preferred_arc k s m) (live_spec k t) ≡ Some a.0 = subst (λ b. cond b (when (holds k m t) (1, 0)) (and_then (λ s. preferred_arc k s m) (live_spec k t)) ≡ Some a.0) free_is a.1 in
@@ -91,7 +91,7 @@ module _ (k : Table) where
         let same : prefers.0 ≡ spec = inside prefers.0 spec (sym prefers.1.live ∙ live) in
         subst (λ (s : SpecReg). has_room k m s.request ≡ true) same (room_is prefers.0.request m prefers.1.place prefers.1.room)
 
-    over_room : (m : ℕ) → IsSome (arc_at (net_of k) (Request spec.request) (Machine m)) → has_room k m spec.request ≡ true
+    pub over_room : (m : ℕ) → IsSome (arc_at (net_of k) (Request spec.request) (Machine m)) → has_room k m spec.request ≡ true
     over_room m h =
         let a = arc_is (Request spec.request) (Machine m) h in
         let room = (where_true (is_node k (Request spec.request)) _ a.0 a.1).1 in

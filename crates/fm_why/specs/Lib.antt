@@ -1,4 +1,5 @@
 pub mod Running
 pub mod Ways
+pub mod Pricing
 pub mod Schedule
 pub mod Reasons

@@ -1,5 +1,5 @@
 -- Why a task waits or runs, in numbers that hold of every schedule.
-use Rattle.std.specs.Prelude.{◌≡◌, ◌↔◌, ℕ, ◌<◌, Some, None, option_map, map, length, IsTrue}
+use Rattle.std.specs.Prelude.{◌≡◌, ◌↔◌, ℕ, ◌+◌, ◌≤◌, ◌<◌, ◌^◌, Some, None, option_map, map, length, slice_get, IsTrue, IfSome}
 use Rattle.std.specs.List.{All}
 use Rattle.std.specs.List.Sorted.{IsPermutation, IsNonDecreasingBy}
 use Rattle.std.specs.Option.{IsSomeAnd}
@@ -12,6 +12,7 @@ use Rattle.fm_net.specs.Network.{net_of}
 use Rattle.fm_certificate.specs.Flows.{Units, cost_of, IsLeast}
 use Rattle.fm_why.specs.Running.{IsDearer, IsDearerOver}
 use Rattle.fm_why.specs.Ways.{way_cost, roomy}
+use Rattle.fm_why.specs.Pricing.{StaysLeast}
 use Rattle.fm_why.specs.declared.reasons.Choice.{Choice}
 use Rattle.fm_why.specs.declared.reasons.Choices.{Choices}
 use Rattle.fm_why.specs.declared.reasons.Reasons.{Reasons}
@@ -22,6 +23,7 @@ use Rattle.fm_why.specs.declared.reasons.Reasons.TheVariants.{Unknown, NotLive, 
 pub record IsChoice (net : Net) (least t r : ℕ) (choice : Choice) : Type 0 where
   pub way : Some choice.cost ≡ way_cost net t r choice.machine
   pub dearer : IsDearer net least t choice.machine choice.dearer
+  pub fits : choice.dearer < 2 ^ 111
 
 -- the schedule that was found: what it costs, which is least, and whether it leaves the task to its job
 pub record IsFound (net : Net) (t j : ℕ) (choices : Choices) : Type 0 where
@@ -30,8 +32,8 @@ pub record IsFound (net : Net) (t j : ℕ) (choices : Choices) : Type 0 where
   pub cost : choices.least ≡ cost_of net units
   pub waits : IsTrue choices.waits ↔ (0 < units (Task t) (Unscheduled j))
 
--- a live task that no machine holds: its request and its price of waiting; the schedule; and each machine to which it has a way,
--- the cheapest first
+-- a live task that no machine holds: its request and its price of waiting; the schedule; each machine to which it has a way, the
+-- cheapest first; and the price of waiting, for this task alone, up to which that schedule stays least: at each if there is none
 pub record AreChoices (k : Table) (t : ℕ) (spec : SpecReg) (choices : Choices) : Type 0 where
   pub request : choices.request ≡ spec.request
   pub wait : Some choices.wait ≡ option_map (λ job. job.wait) (job_of k spec.job)
@@ -41,6 +43,9 @@ pub record AreChoices (k : Table) (t : ℕ) (spec : SpecReg) (choices : Choices)
   pub all : IsPermutation (roomy k spec.request) (map (λ e. e.machine) choices.machines.items)
   pub cheapest_first : IsNonDecreasingBy (λ e. e.dearer) choices.machines.items
   pub known : choices.known ≡ length k.machines
+  pub price : choices.price ≡ option_map (λ e. choices.wait + e.dearer) (slice_get choices.machines.items 0)
+  pub stays : (more : ℕ) → IfSome choices.price (λ price. choices.wait + more ≤ price)
+      → StaysLeast (net_of k) (Task t) (Unscheduled spec.job) more found.units
 
 -- the reasons are those of the task: it is not known; or not live; or held, and by whom; or free
 abbrev pub AreReasons : Table → ℕ → Reasons → Type 0

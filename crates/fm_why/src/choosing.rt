@@ -1,6 +1,6 @@
 //! The machines to which a task has a way, and how much dearer it is there.
 
-ghost use Rattle.std.specs.Prelude.{◌≡◌, ◌≤◌, IfSome, IfOk, map, option_map};
+ghost use Rattle.std.specs.Prelude.{◌≡◌, ◌≤◌, ◌<◌, ◌^◌, IfSome, IfOk, map, option_map};
 ghost use Rattle.std.specs.List.{All};
 ghost use Rattle.std.specs.List.Sorted.{IsPermutation, IsNonDecreasingBy};
 ghost use Rattle.fm_net.specs.declared.node.Node.{Node as NodeName};
@@ -76,6 +76,7 @@ fn choice_of(
     ensures way { option_map (λ e. e.cost) result ≡ way_cost network.now task request machine }
     ensures machine { IfSome result (λ e. e.machine ≡ machine) }
     ensures dearer { IfSome result (λ e. IsDearer network.now schedule.now.least task machine e.dearer) }
+    ensures fits { IfSome result (λ e. e.dearer < 2 ^ 111) }
 {
     let over = over_request(network, schedule, task, request, machine);
     let own = toll_of(
@@ -105,6 +106,7 @@ fn over_request(
         ≡ arc_cost network.now (NodeName.Request request) (NodeName.Machine machine) }
     ensures dearer { IfSome result (λ e.
         IsDearerIf network.now schedule.now.least (GoesOver network.now task request machine) e.more) }
+    ensures fits { IfSome result (λ e. e.more < 2 ^ 111) }
 {
     network.known();
     let via = Node::Request(request);

@@ -29,6 +29,9 @@ pub struct Choices {
     pub machines: Vec<Choice>,
     /// How many machines are known, open or not.
     pub known: usize,
+    /// Up to which price of waiting, for this task alone, the schedule that was found stays least; up to any if there is
+    /// none.
+    pub price: Option<u128>,
 }
 
 /// Where a task is.

@@ -1,6 +1,7 @@
 //! Why a task waits or runs.
 
-ghost use Rattle.std.specs.Prelude.{◌≡◌, ◌↔◌, ◌<◌, Some, None, IfOk, IfSome, IsTrue, option_map};
+ghost use Rattle.std.specs.Prelude.{◌≡◌, ◌↔◌, ◌+◌, ◌<◌, ◌^◌, Some, None, IfOk, IfSome, IsTrue, option_map, slice_get};
+ghost use Rattle.std.specs.List.{All};
 ghost use Rattle.fm_records.specs.Facts.{job_of, live_spec, holder_of};
 ghost use Rattle.fm_net.specs.Network.{net_of};
 ghost use Rattle.fm_certificate.specs.Flows.{units_in};
@@ -10,7 +11,7 @@ ghost use Rattle.fm_why.specs.Reasons.{AreChoices, AreReasons};
 
 use crate::bounds::{Schedule, more_over};
 use crate::choosing::choices_of;
-use crate::reasons::{Choices, Reasons};
+use crate::reasons::{Choice, Choices, Reasons};
 use crate::tuning::tuned;
 use fm_certificate::check::check;
 use fm_certificate::cost::cost;
@@ -27,9 +28,10 @@ use fm_records::ids::TaskId;
 use fm_records::records::{JobReg, SpecReg};
 use std::alloc::Global;
 
-/// Where the task is by what is known; for a live task that no machine holds, what its schedule costs, and how much
-/// dearer each schedule is that runs it on a machine, or leaves it waiting, at least. Refused only if memory runs out.
-/// The cost is that of building the network and of solving it, if the task is live and not held.
+/// Where the task is by what is known; for a live task that no machine holds, what its schedule costs, how much dearer
+/// each schedule is that runs it on a machine, or leaves it waiting, at least, and up to which price of waiting its
+/// schedule stays least. Refused only if memory runs out. The cost is that of building the network and of solving it, if
+/// the task is live and not held.
 pub fn why(alloc: Global, knowledge: &Knowledge, task: TaskId) -> Result<Reasons, OutOfMemory>
     ensures { IfOk result (AreReasons knowledge.now task) }
 {
@@ -70,9 +72,11 @@ fn choices(
     ensures { IfOk result (AreChoices knowledge.now task spec) }
 {
     let network = build(alloc, knowledge)?;
+    network.known();
     let schedule = schedule_of(alloc, knowledge, &network, task, &spec)?;
     let machines = choices_of(alloc, knowledge, &network, &schedule, task, spec.request)?;
     let (from, to) = (Node::Task(task), Node::Unscheduled(spec.job));
+    let price = price_of(job.wait, &machines);
     Ok(Choices {
         request: spec.request,
         wait: job.wait,
@@ -81,7 +85,17 @@ fn choices(
         waiting: more_over(&network, &schedule, &from, &to),
         machines,
         known: knowledge.machines().len(),
+        price,
     })
+}
+
+// Up to which price of waiting the schedule stays least: that of waiting now, and what the cheapest machine costs more.
+fn price_of(wait: u32, machines: &[Choice]) -> Option<u128>
+    requires { All (λ e. e.dearer < 2 ^ 111) machines.now }
+    ensures { result ≡ option_map (λ e. wait + e.dearer) (slice_get machines.now 0) }
+{
+    let first = machines.first()?;
+    Some(u128::from(wait) + first.dearer)
 }
 
 // A least flow of the network, potentials that certify it, and what it costs.

@@ -16,6 +16,8 @@ use Rattle.fm_words.proofs.Bare.{bare}
 use Rattle.fm_words.proofs.Named.{Named, takes_name}
 use Rattle.fm_words.proofs.Named as named
 use Rattle.fm_words.proofs.Numbered.{Numbered, shape, takes_number}
+use Rattle.fm_words.proofs.Both.{Both, takes_both}
+use Rattle.fm_words.proofs.Both as both
 
 abbrev pub IsTold : Form → Type 0
 IsTold c = (program : Text) (rest : List Text) → tellings (program ∷ c.name ∷ rest) ≡ given c.takes rest ∷ []
@@ -94,11 +96,11 @@ of_pack = record {
   tells = λ rows. refl;
 }
 
-abbrev of_why : Named
+abbrev of_why : Both
 of_why = record {
   called = codes "why";
   tell = told_as (codes "why");
-  give = λ name. option_map_or (λ task. run (why task)) (read_id name) wrong;
+  give = λ name at. option_map_or (λ task. run (why task at)) (read_id name) wrong;
   tells = λ rows. refl;
 }
 
@@ -136,7 +138,7 @@ unpack_told program rest = enter program (codes "unpack") rest (built_with (code
 
 why_told : IsTold (record { name = codes "why"; takes = whys })
 unfolding clap_on_literals
-why_told program rest = enter program (codes "why") rest (built_with (codes "why") named.rules) refl refl refl ∙ takes_name of_why rest
+why_told program rest = enter program (codes "why") rest (built_with (codes "why") both.rules) refl refl refl ∙ takes_both of_why rest
 
 winners_told : IsTold (record { name = codes "winners"; takes = asks question.Winners })
 unfolding clap_on_literals

@@ -1,10 +1,10 @@
 -- If the value that is held is at fault, whatever follows is wrong.
-use Rattle.std.proofs.Common.{◌≡◌, ◌==◌, refl, true, false, Bool, ℕ, List, [], ◌∷◌, Option, Some, None}
-use Rattle.std.specs.Prelude.{slice_get}
+use Rattle.std.proofs.Common.{◌≡◌, ◌==◌, ◌&&◌, refl, true, false, Bool, ℕ, List, [], ◌∷◌, Option, Some, None}
+use Rattle.std.specs.Prelude.{slice_get, IfSome}
 use Rattle.std.specs.Str.{chars}
 use Rattle.clap.specs.Lexer.{long_of, short_of}
 use Rattle.clap.specs.Words.{Row, Rule}
-use Rattle.clap.specs.Walk.{Waiting, arg_by_index, arg_by_long, idle, takes_values}
+use Rattle.clap.specs.Walk.{Waiting, arg_by_index, arg_by_long, idle, is_pending, takes_several, takes_values}
 use Rattle.clap.specs.Faults.{settle_fault}
 use Rattle.clap.specs.declared.error.ErrorKind.{ErrorKind}
 use Rattle.clap.proofs.OnLiterals.{clap_on_literals}
@@ -24,10 +24,14 @@ pub record Faulty : Type 0 where
   pub fault : settle_fault rules false (held_at rows pending) ≡ kind ∷ []
   pub is_wrong : told_at kind ≡ wrong
   pub letters : HasLetterOfHelp rules
-  pub no_positional : arg_by_index rules 1 ≡ None
+  -- the argument that takes a word which is no flag, if there is one
+  pub position : ℕ
+  pub positional : Option Rule
+  pub taker : arg_by_index rules position ≡ positional
+  pub settles : IfSome positional (λ a. (is_pending a pending && takes_several a) ≡ false)
 
 abbrev pub comes : Faulty → Waiting → List Text → List Telling
-comes f waiting rest = leaf_from (built_with f.name f.rules) f.tell (at f.rows f.pending waiting 1) rest
+comes f waiting rest = leaf_from (built_with f.name f.rules) f.tell (at f.rows f.pending waiting f.position) rest
 
 pub at_last : (f : Faulty) (waiting : Waiting) → comes f waiting [] ≡ wrong ∷ []
 unfolding clap_on_literals
@@ -36,7 +40,11 @@ at_last f waiting = rw (f.fault, f.is_wrong) refl
 pub at_dashes : (f : Faulty) (waiting : Waiting) (w : Text) (rest : List Text) → is_end w ≡ true → comes f waiting (w ∷ rest) ≡ wrong ∷ []
 unfolding clap_on_literals
 at_dashes f waiting w [] e = rw (no_command waiting w, e, f.fault, f.is_wrong) refl
-at_dashes f waiting w (v ∷ rest) e = rw (no_command waiting w, e, f.no_positional) refl
+at_dashes f waiting w (v ∷ rest) e = go f.positional f.taker f.settles
+  where
+    go : (o : Option Rule) → arg_by_index f.rules f.position ≡ o → IfSome o (λ a. (is_pending a f.pending && takes_several a) ≡ false) → comes f waiting (w ∷ v ∷ rest) ≡ wrong ∷ []
+    go None n k = rw (no_command waiting w, e, n) refl
+    go (Some a) n k = rw (no_command waiting w, e, n, k, f.fault, f.is_wrong) refl
 
 pub at_long : (f : Faulty) (waiting : Waiting) (w : Text) (rest : List Text) (n : Text) (v : Option Text) → is_end w ≡ false → long_of w ≡ Some (n, v) → comes f waiting (w ∷ rest) ≡ wrong ∷ []
 unfolding clap_on_literals
@@ -64,9 +72,15 @@ at_short f waiting w rest x xs c e l s o = go (104 == c) refl
 at_plain : (f : Faulty) (w : Text) (rest : List Text) (flags : Option Text) → is_end w ≡ false → long_of w ≡ None → short_of w ≡ flags → letter_in flags ≡ None
     → comes f idle (w ∷ rest) ≡ wrong ∷ []
 unfolding clap_on_literals
-at_plain f w rest None e l s o = rw (e, l, s, f.no_positional) refl
-at_plain f w rest (Some []) e l s o = rw (e, l, s, f.no_positional) refl
-at_plain f w rest (Some (x ∷ xs)) e l s o = rw (e, l, s, o, f.no_positional) refl
+at_plain f w rest flags e l s o = go flags s o f.positional f.taker f.settles
+  where
+    go : (q : Option Text) → short_of w ≡ q → letter_in q ≡ None → (p : Option Rule) → arg_by_index f.rules f.position ≡ p → IfSome p (λ a. (is_pending a f.pending && takes_several a) ≡ false) → comes f idle (w ∷ rest) ≡ wrong ∷ []
+    go None s o None n k = rw (e, l, s, n) refl
+    go (Some []) s o None n k = rw (e, l, s, n) refl
+    go (Some (x ∷ xs)) s o None n k = rw (e, l, s, o, n) refl
+    go None s o (Some a) n k = rw (e, l, s, n, k, f.fault, f.is_wrong) refl
+    go (Some []) s o (Some a) n k = rw (e, l, s, n, k, f.fault, f.is_wrong) refl
+    go (Some (x ∷ xs)) s o (Some a) n k = rw (e, l, s, o, n, k, f.fault, f.is_wrong) refl
 
 -- if nothing waits for a value
 pub faulty : (f : Faulty) (rest : List Text) → comes f idle rest ≡ wrong ∷ []

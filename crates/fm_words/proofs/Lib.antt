@@ -7,6 +7,7 @@ pub mod Fine
 pub mod Bare
 pub mod Named
 pub mod Numbered
+pub mod Both
 pub mod Matching
 pub mod Entering
 pub mod Commands

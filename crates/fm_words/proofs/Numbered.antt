@@ -48,6 +48,10 @@ shape c = built_with c.called (rules c)
 abbrev pub comes : Numbered → Walk → List Text → List Telling
 comes c walk rest = leaf_from (shape c) c.tell walk rest
 
+-- what is made of the number and of the words behind it
+abbrev behind : Numbered → ℕ → List Text → Telling
+behind c n = ends (c.give (Some n))
+
 abbrev fits : Numbered → Text → Bool
 fits c z = is_signed_in (pos c.least) (pos c.most) z
 
@@ -80,7 +84,10 @@ is_waiting c rows = record {
   fault = waiting_fault c rows;
   is_wrong = refl;
   letters = letter_of_help;
-  no_positional = refl;
+  position = 1;
+  positional = None;
+  taker = refl;
+  settles = tt;
 }
 
 unfit_fault : (c : Numbered) (z : Text) → fits c z ≡ false → settle_fault (rules c) false (held_at [] (Some (c.option_name, z ∷ []))) ≡ kind.ValueValidation ∷ []
@@ -97,7 +104,10 @@ is_unfit c z bad_value = record {
   fault = unfit_fault c z bad_value;
   is_wrong = refl;
   letters = letter_of_help;
-  no_positional = refl;
+  position = 1;
+  positional = None;
+  taker = refl;
+  settles = tt;
 }
 
 twice_fault : (c : Numbered) (z y : Text) → settle_fault (rules c) false (held_at (row c z ∷ []) (Some (c.option_name, y ∷ []))) ≡ kind.ArgumentConflict ∷ []
@@ -114,7 +124,10 @@ is_twice c z y = record {
   fault = twice_fault c z y;
   is_wrong = refl;
   letters = letter_of_help;
-  no_positional = refl;
+  position = 1;
+  positional = None;
+  taker = refl;
+  settles = tt;
 }
 
 -- ---- the option waits for its number
@@ -233,19 +246,19 @@ own_ends c z n is (w ∷ rest) =
 does_fit : (c : Numbered) (z : Text) (o : Option ℕ) → number_in c.least c.most z ≡ o → fits c z ≡ is_some o
 does_fit c z o is = taken c.least c.most z c.is_small ∙ ap is_some is
 
-in_next_word : (c : Numbered) (z : Text) (rest : List Text) → comes c (next c [] z) rest ≡ counts c.give (number_in c.least c.most z) rest ∷ []
+in_next_word : (c : Numbered) (z : Text) (rest : List Text) → comes c (next c [] z) rest ≡ counts (behind c) (number_in c.least c.most z) rest ∷ []
 in_next_word c z rest = go (number_in c.least c.most z) refl
   where
-    go : (o : Option ℕ) → number_in c.least c.most z ≡ o → comes c (next c [] z) rest ≡ counts c.give o rest ∷ []
+    go : (o : Option ℕ) → number_in c.least c.most z ≡ o → comes c (next c [] z) rest ≡ counts (behind c) o rest ∷ []
     go (Some n) is = next_ends c z (does_fit c z (Some n) is) n (is_read c.least c.most c.bits z n c.has_room is) rest
     go None is = faulty (is_unfit c z (does_fit c z None is)) rest
 
 in_own_word : (c : Numbered) (w : Text) (rest : List Text) (n z : Text) → is_end w ≡ false → long_of w ≡ Some (n, Some z) → bytes_eq c.option_name n ≡ true
-    → comes c start (w ∷ rest) ≡ counts c.give (number_in c.least c.most z) rest ∷ []
+    → comes c start (w ∷ rest) ≡ counts (behind c) (number_in c.least c.most z) rest ∷ []
 unfolding clap_on_literals
 in_own_word c w rest n z e l m = go (number_in c.least c.most z) refl
   where
-    go : (o : Option ℕ) → number_in c.least c.most z ≡ o → comes c start (w ∷ rest) ≡ counts c.give o rest ∷ []
+    go : (o : Option ℕ) → number_in c.least c.most z ≡ o → comes c start (w ∷ rest) ≡ counts (behind c) o rest ∷ []
     go (Some k) is =
         let good = does_fit c z (Some k) is in
         passes (shape c) c.tell start (own c z) w rest (rw (e, l, m, good) refl) (rw (e, l, m) refl) ∙ own_ends c z k (is_read c.least c.most c.bits z k c.has_room is) rest
@@ -253,12 +266,12 @@ in_own_word c w rest n z e l m = go (number_in c.least c.most z) refl
         let bad_value = does_fit c z None is in
         fails (shape c) c.tell start w rest kind.ValueValidation (rw (e, l, m, bad_value) refl)
 
-waits_number : (c : Numbered) (rest : List Text) → comes c (waits c []) rest ≡ number c.least c.most c.give None rest ∷ []
+waits_number : (c : Numbered) (rest : List Text) → comes c (waits c []) rest ≡ number c.least c.most (behind c) None rest ∷ []
 waits_number c [] = bad.at_last (is_waiting c []) (waiting.option c.option_name)
 waits_number c (w ∷ rest) =
     let f = is_waiting c [] in
     let o = waiting.option c.option_name in
-    by_look w (λ look. comes c (waits c []) (w ∷ rest) ≡ number_at c.least c.most c.give look w rest ∷ [])
+    by_look w (λ look. comes c (waits c []) (w ∷ rest) ≡ number_at c.least c.most (behind c) look w rest ∷ [])
     (bad.at_dashes f o w rest) (bad.at_long f o w rest) (bad.at_short f o w rest)
     (λ flags e l s p. waits_plain c [] w rest flags e l s p ∙ in_next_word c w rest)
 
@@ -281,7 +294,7 @@ unfolding clap_on_literals
 begun_is_last c = record { no_positional = refl; is_told = rw c.tells refl }
 
 named : (c : Numbered) (w : Text) (rest : List Text) (n : Text) (v : Option Text) → is_end w ≡ false → long_of w ≡ Some (n, v) → bytes_eq c.option_name n ≡ true
-    → comes c start (w ∷ rest) ≡ number c.least c.most c.give v rest ∷ []
+    → comes c start (w ∷ rest) ≡ number c.least c.most (behind c) v rest ∷ []
 unfolding clap_on_literals
 named c w rest n None e l m = passes (shape c) c.tell start (waits c []) w rest (rw (e, l, m) refl) (rw (e, l, m) refl) ∙ waits_number c rest
 named c w rest n (Some z) e l m = in_own_word c w rest n z e l m

@@ -70,41 +70,54 @@ abbrev pub with_name : (Text → Telling) → List Text → Telling
 with_name give [] = wrong
 with_name give (w ∷ rest) = name_at give (look_of w) w rest
 
--- the number that an option was given, and what follows it
-abbrev pub counts : (Option ℕ → Telling) → Option ℕ → List Text → Telling
-counts give None rest = wrong
-counts give (Some n) rest = ends (give (Some n)) rest
+-- the number that an option was given, and what it makes of the words that follow
+abbrev pub counts : (ℕ → List Text → Telling) → Option ℕ → List Text → Telling
+counts next None rest = wrong
+counts next (Some n) rest = next n rest
 
 -- a number in a word of its own, which is no flag
-abbrev pub number_at : ℕ → ℕ → (Option ℕ → Telling) → Look → Text → List Text → Telling
-number_at least most give plain v rest = counts give (number_in least most v) rest
-number_at least most give look v rest = wrong
+abbrev pub number_at : ℕ → ℕ → (ℕ → List Text → Telling) → Look → Text → List Text → Telling
+number_at least most next plain v rest = counts next (number_in least most v) rest
+number_at least most next look v rest = wrong
 
 -- a number behind the `=` of its option, or else in the next word
-abbrev pub number : ℕ → ℕ → (Option ℕ → Telling) → Option Text → List Text → Telling
-number least most give (Some v) rest = counts give (number_in least most v) rest
-number least most give None [] = wrong
-number least most give None (v ∷ rest) = number_at least most give (look_of v) v rest
+abbrev pub number : ℕ → ℕ → (ℕ → List Text → Telling) → Option Text → List Text → Telling
+number least most next (Some v) rest = counts next (number_in least most v) rest
+number least most next None [] = wrong
+number least most next None (v ∷ rest) = number_at least most next (look_of v) v rest
 
 -- an option with its number, once; or no argument
 abbrev pub option_at : Text → ℕ → ℕ → (Option ℕ → Telling) → Look → List Text → Telling
 option_at option least most give (long n v) rest =
-    if bytes_eq option n then number least most give v rest else shown (long n v)
+    if bytes_eq option n then number least most (λ k. ends (give (Some k))) v rest else shown (long n v)
 option_at option least most give look rest = ends_at look (give None) rest
 
 abbrev pub with_option : Text → ℕ → ℕ → (Option ℕ → Telling) → List Text → Telling
 with_option option least most give [] = give None
 with_option option least most give (w ∷ rest) = option_at option least most give (look_of w) rest
 
+-- a name, and an option with its number before or behind it, once; or the name alone
+abbrev pub name_or_option_at : Text → ℕ → ℕ → (Text → Option ℕ → Telling) → Look → Text → List Text → Telling
+name_or_option_at option least most give (long n v) w rest =
+    if bytes_eq option n then number least most (λ k. with_name (λ name. give name (Some k))) v rest else shown (long n v)
+name_or_option_at option least most give plain w rest = with_option option least most (give w) rest
+name_or_option_at option least most give look w rest = name_at (λ name. give name None) look w rest
+
+abbrev pub with_name_and_option : Text → ℕ → ℕ → (Text → Option ℕ → Telling) → List Text → Telling
+with_name_and_option option least most give [] = wrong
+with_name_and_option option least most give (w ∷ rest) = name_or_option_at option least most give (look_of w) w rest
+
 -- ---- the commands
 
 -- what a command takes, and what it then asks for: nothing
 -- or one name
 -- or an option `--NAME N`, where N is no less than the least and no greater than the most; or no option
+-- or one name, and such an option or none
 pub data Takes : Type 0 where
   nothing : Telling → Takes
   one_name : (Text → Telling) → Takes
   one_number : Text → (least most : ℕ) → (Option ℕ → Telling) → Takes
+  name_and_number : Text → (least most : ℕ) → (Text → Option ℕ → Telling) → Takes
 
 -- `--at N`: the question about the coordinator N, or about the first of the script
 abbrev pub asks : Question → Takes
@@ -130,9 +143,9 @@ follows = one_number (codes "renew-after") 1 most_renew_after (λ n. follow (unw
 abbrev pub packs : Takes
 packs = one_name (λ name. run (pack name))
 
--- `TASK`: why the task of the id waits or runs
+-- `TASK` and `--at N`: why the task of the id waits or runs, asked of the coordinator N, or of the first of the script
 abbrev pub whys : Takes
-whys = one_name (λ name. option_map_or (λ task. run (why task)) (read_id name) wrong)
+whys = name_and_number (codes "at") 0 255 (λ name at. option_map_or (λ task. run (why task at)) (read_id name) wrong)
 
 pub record Form : Type 0 where
   pub name : Text
@@ -159,6 +172,7 @@ abbrev pub given : Takes → List Text → Telling
 given (nothing t) = ends t
 given (one_name give) = with_name give
 given (one_number option least most give) = with_option option least most give
+given (name_and_number option least most give) = with_name_and_option option least most give
 
 abbrev pub command_named : Text → Option Form
 command_named w = find (λ c. bytes_eq c.name w) commands

@@ -14,7 +14,7 @@ use Rattle.clap.specs.declared.error.ErrorKind.{ErrorKind}
 use Rattle.clap.specs.declared.error.ErrorKind.TheVariants as kind
 use Rattle.fm_words.specs.declared.words.Words.{Words}
 use Rattle.fm_words.specs.Telling.{Telling, Text, help, told_of, wrong}
-use Rattle.fm_words.specs.Heard.{Form, Takes, nothing, one_name, one_number, commands, heard, is_topic}
+use Rattle.fm_words.specs.Heard.{Form, Takes, nothing, one_name, one_number, name_and_number, commands, heard, is_topic}
 
 -- ---- the commands
 
@@ -33,6 +33,7 @@ abbrev pub command_app : Text → Takes → App
 command_app name (nothing t) = new_app name
 command_app name (one_name give) = with_rule (new_app name) name_rule
 command_app name (one_number option least most give) = with_rule (new_app name) (number_rule option least most)
+command_app name (name_and_number option least most give) = with_rule (with_rule (new_app name) name_rule) (number_rule option least most)
 
 abbrev pub no_commands : App
 no_commands = record {
@@ -68,6 +69,8 @@ abbrev pub told_with : Takes → List Row → Telling
 told_with (nothing t) rows = t
 told_with (one_name give) rows = option_map_or give (first_of (codes "name") rows) wrong
 told_with (one_number option least most give) rows = give (number_read (bits_for most) option rows)
+told_with (name_and_number option least most give) rows =
+    let at = number_read (bits_for most) option rows in option_map_or (λ name. give name at) (first_of (codes "name") rows) wrong
 
 abbrev pub told_as : Text → List Row → Telling
 told_as name rows = option_map_or (λ c. told_with c.takes rows) (find (λ c. bytes_eq name c.name) commands) wrong

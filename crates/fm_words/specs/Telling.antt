@@ -14,13 +14,13 @@ Text = List ℕ
 -- or whether all coordinators know the same
 -- or the packet of the name
 -- or the records of a packet
--- or why the task of the number waits or runs
+-- or why the task of the number waits or runs, by what that coordinator knows
 pub data Asked : Type 0 where
   ask : Question → Option ℕ → Asked
   agree : Asked
   pack : Text → Asked
   unpack : Asked
-  why : ℕ → Asked
+  why : ℕ → Option ℕ → Asked
 
 -- what is asked for: the command's answer
 -- or a fleet that is run for so many rounds
@@ -41,7 +41,7 @@ asked_of (command.Ask question at) = ask question at
 asked_of command.Agree = agree
 asked_of (command.Pack name) = pack name.now
 asked_of command.Unpack = unpack
-asked_of (command.Why task) = why task
+asked_of (command.Why task at) = why task at
 
 -- what was made of the words, without its text
 abbrev pub told_of : Words → Telling

@@ -1,7 +1,7 @@
 //! Laws of what words ask for.
 
 ghost use Rattle.std.specs.Prelude.{◌≡◌, ◌≤◌, ◌<◌, ◌^◌, ◌∷◌, [], ℕ, List, None, Some, codes, decimal};
-ghost use Rattle.fm_words.specs.Heard.{heard, number_in};
+ghost use Rattle.fm_words.specs.Heard.{heard, look_of, number_in, plain};
 ghost use Rattle.fm_records.specs.Ids.{id_text};
 ghost use Rattle.fm_words.specs.Telling.{Text, ask, fleet, follow, help, pack, page, run, why, wrong};
 ghost use Rattle.fm_words.specs.declared.words.Question.TheVariants.{Graph, Plan, Solve, Winners};
@@ -25,7 +25,12 @@ pub fn law_examples()
     ensures below { (p : Text) → heard (p ∷ codes "follow" ∷ codes "--renew-after=0" ∷ []) ≡ wrong }
     ensures any_name { (p name : Text) → heard (p ∷ codes "pack" ∷ codes "--" ∷ name ∷ []) ≡ run (pack name) }
     ensures any_task { (p : Text) (task : ℕ) → task < 2 ^ 128
-        → heard (p ∷ codes "why" ∷ codes "--" ∷ id_text task ∷ []) ≡ run (why task) }
+        → heard (p ∷ codes "why" ∷ codes "--" ∷ id_text task ∷ []) ≡ run (why task None) }
+    ensures at_task { (p : Text) (task : ℕ) → task < 2 ^ 128
+        → heard (p ∷ codes "why" ∷ codes "--at=7" ∷ codes "--" ∷ id_text task ∷ []) ≡ run (why task (Some 7)) }
+    ensures task_at { (p task : Text) → look_of task ≡ plain → heard (p ∷ codes "why" ∷ task ∷ codes "--at" ∷ codes "7" ∷ [])
+        ≡ heard (p ∷ codes "why" ∷ codes "--at=7" ∷ codes "--" ∷ task ∷ []) }
+    ensures at_twice { (p : Text) → heard (p ∷ codes "why" ∷ codes "--at=1" ∷ codes "--at=1" ∷ codes "17" ∷ []) ≡ wrong }
     ensures no_task { (p : Text) → heard (p ∷ codes "why" ∷ []) ≡ wrong }
     ensures flag { (p : Text) → heard (p ∷ codes "graph" ∷ codes "--at" ∷ codes "1" ∷ codes "-h" ∷ []) ≡ help }
     ensures topic { (p : Text) → heard (p ∷ codes "help" ∷ codes "solve" ∷ []) ≡ help }

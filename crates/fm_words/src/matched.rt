@@ -101,22 +101,25 @@ fn packs<'a>(alloc: Global, matches: &ArgMatches<'a>) -> Words<'a>
     }
 }
 
-// Why the task of the id waits or runs.
+// Why the task of the id waits or runs, asked of the coordinator that is named.
 fn whys<'a>(alloc: Global, matches: &ArgMatches<'a>) -> Words<'a>
     ensures { told_of result ≡ told_with whys (rows_of (found_of matches.now)) }
 {
     match name_in(matches) {
-        Some(name) => why_of(alloc, name),
+        Some(name) => why_of(alloc, name, at_in(matches)),
         None => Words::Wrong(String::new(alloc)),
     }
 }
 
 // Why the task of the id waits or runs; if the word is no id, that it is none.
-fn why_of<'a>(alloc: Global, name: &str) -> Words<'a>
-    ensures { told_of result ≡ option_map_or (λ task. run (why task)) (read_id name.now) wrong }
+fn why_of<'a>(alloc: Global, name: &str, at: Option<u8>) -> Words<'a>
+    ensures { told_of result ≡ option_map_or (λ task. run (why task at)) (read_id name.now) wrong }
 {
     match TaskId::read(name) {
-        Some(id) => Words::Run(Command::Why { task: id.value() }),
+        Some(id) => Words::Run(Command::Why {
+            task: id.value(),
+            at,
+        }),
         None => match String::from_str(alloc, NO_ID) {
             Ok(text) => Words::Wrong(text),
             Err(_) => Words::Wrong(String::new(alloc)),

@@ -168,12 +168,13 @@ fn why<'a>(alloc: Global) -> Result<Command<'a>, OutOfMemory>
 {
     let command = Command::new(alloc, "why")
         .about(
-            "Says why a task waits or runs, by what the first coordinator knows: what the schedule costs, and how much dearer each schedule is that runs the task on one of the cheapest machines",
+            "Says why a task waits or runs, by what a coordinator knows: what the schedule costs, and how much dearer each schedule is that runs the task on one of the cheapest machines",
         )
         .after_help(
-            "Example: firmament why 00000000-0000-0000-0000-000000000015 < examples/waiting.json",
+            "Example: firmament why 00000000-0000-0000-0000-000000000015 --at 1 < examples/waiting.json",
         );
-    Ok(command.arg(task(alloc))?)
+    let named = command.arg(task(alloc))?;
+    Ok(named.arg(at(alloc))?)
 }
 
 fn winners<'a>(alloc: Global) -> Result<Command<'a>, OutOfMemory>

@@ -34,8 +34,9 @@ pub enum Command<'a> {
     Pack { name: &'a str },
     /// Print the records of a packet.
     Unpack,
-    /// Say why the task of the id, as a number, waits or runs, by what the first coordinator of the script knows.
-    Why { task: u128 },
+    /// Say why the task of the id, as a number, waits or runs, by what that coordinator knows, the first that the script
+    /// lists if none is named.
+    Why { task: u128, at: Option<u8> },
 }
 
 /// What is asked of a coordinator once a script's steps have run.

@@ -1,8 +1,9 @@
-use Rattle.std.proofs.Common.{◌≡◌, ◌∙◌, refl, sym, subst, ap, ℕ, map, length, List}
+use Rattle.std.proofs.Common.{◌≡◌, ◌∙◌, refl, sym, subst, ap, ℕ, ◌+◌, ◌≤◌, ◌<◌, ◌^◌, map, length, List}
+use Rattle.std.specs.Prelude.{IfSome, option_map, slice_get}
 use Rattle.std.specs.List.{All}
 use Rattle.std.specs.List.Sorted.{IsPermutation}
 use Rattle.fm_net.specs.declared.node.Node.TheVariants.{Unscheduled, Task}
-use Rattle.fm_net.specs.Net.{Net}
+use Rattle.fm_net.specs.Net.{Net, CanBeNet}
 use Rattle.fm_net.specs.Network.{net_of}
 use Rattle.fm_certificate.specs.Flows.{units_in, cost_of, IsLeast}
 use Rattle.fm_why.specs.declared.reasons.Choice.{Choice}
@@ -10,6 +11,7 @@ use Rattle.fm_why.specs.Running.{IsDearerOver}
 use Rattle.fm_why.specs.Ways.{IsOnlyRequest, ways_of}
 use Rattle.fm_why.specs.Reasons.{IsChoice}
 use Rattle.fm_why.proofs.Roomy.{only_request, ways_are_roomy}
+use Rattle.fm_why.proofs.Pricing.{each_roomy, first_within, fits_all, stays_least}
 use Rattle.fm_why.proofs.why.choices.Goals as goal
 
 pub choices_of-requires-clause-only : goal.choices_of-requires-clause-only
@@ -22,6 +24,8 @@ returns c =
     let is : c.in_ok-network.network ≡ net_of k = c.in_ok-network.ensures in
     let schedule = c.in_ok-schedule.schedule in
     let spec = c.args.spec in
+    let price : c.price_of-price.result ≡ option_map (λ (e : Choice). c.args.job.wait + e.dearer) (slice_get c.in_ok-machines.machines.items 0) =
+    c.price_of-price.ensures ∙ ap (λ (es : List Choice). option_map (λ (e : Choice). c.args.job.wait + e.dearer) (slice_get es 0)) c.deref.ensures.value in
     record {
       request = refl;
       wait = rw c.requires.job refl;
@@ -38,4 +42,19 @@ returns c =
           subst (λ (ms : List ℕ). IsPermutation ms (map (λ (e : Choice). e.machine) c.in_ok-machines.machines.items)) (ways_are_roomy k c.args.task spec c.requires.live c.requires.free) ways;
       cheapest_first = c.in_ok-machines.ensures.cheapest_first;
       known = c.len.ensures ∙ ap length c.machines.ensures;
+      price = price;
+      stays = λ more within.
+          let items = c.in_ok-machines.machines.items in
+          let first = first_within c.args.job.wait more (slice_get items 0) (subst (λ o. IfSome o (λ price. c.args.job.wait + more ≤ price)) price within) in
+          let can = subst CanBeNet is c.known.ensures in
+          let each = subst (λ (n : Net). All (IsChoice n schedule.least c.args.task spec.request) items) is c.in_ok-machines.ensures.each in
+          let ways = subst (λ (n : Net). IsPermutation (ways_of k n c.args.task spec.request) (map (λ (e : Choice). e.machine) items)) is c.in_ok-machines.ensures.all in
+          let all = subst (λ (ms : List ℕ). IsPermutation ms (map (λ (e : Choice). e.machine) items)) (ways_are_roomy k c.args.task spec c.requires.live c.requires.free) ways in
+          stays_least k can c.args.task spec c.args.job c.requires.live c.requires.job c.requires.free (units_in schedule.flow) schedule.least more
+          (subst (λ (n : Net). IsLeast n (units_in schedule.flow)) is c.in_ok-schedule.ensures.least)
+          (subst (λ (n : Net). schedule.least ≡ cost_of n (units_in schedule.flow)) is c.in_ok-schedule.ensures.cost)
+          (each_roomy k (net_of k) schedule.least c.args.task spec.request more items each all c.in_ok-machines.ensures.cheapest_first first);
     }
+
+pub price_of-price-requires : goal.price_of-price-requires
+price_of-price-requires c = subst (All (λ (e : Choice). e.dearer < 2 ^ 111)) (sym c.deref.ensures.value) (fits_all c.in_ok-network.network c.in_ok-schedule.schedule.least c.args.task c.args.spec.request c.in_ok-machines.machines.items c.in_ok-machines.ensures.each)
