@@ -1,6 +1,6 @@
 """Tests of what calls ask the allocator for: `fm_watch steps` takes the first steps of a script, with and without the last one, and
-tests/refusing.c counts. With `fm_watch tallies` a round makes the tally alone. And of what a process keeps: its resident memory. A record is a pair of a key and a value in a block of 64
-pairs at most, which maps share."""
+tests/refusing.c counts. With `fm_watch sights` a round is a look with the tally, and with `fm_watch tallies` the tally alone. And of what
+a process keeps: its resident memory. A record is a pair of a key and a value in a block of 64 pairs at most, which maps share."""
 import json
 import resource
 import subprocess
@@ -86,6 +86,11 @@ def all_tests(allocator, program):
     yield "a tally of 10,000 tasks asks for %d bytes, and again, with nothing told since, for %d" % (first, asked), first > 0 and asked == 0
     asked = more(allocator, program, [1], known + [look, *told(1, 10000, 1), look], "asked", word="tallies")
     yield "a tally after one more task asks for %d bytes, less than two thirds of the first" % asked, 0 < 3 * asked < 2 * first
+    first = more(allocator, program, [1], known + [look], "asked", word="sights")
+    asked = more(allocator, program, [1], known + [look, look], "asked", word="sights")
+    yield "a look with the tally after a look of 10,000 tasks asks for %d bytes, at most one share" % asked, 0 < asked < share + 1024
+    asked = more(allocator, program, [1], known + [look, *told(1, 10000, 1), look], "asked", word="sights")
+    yield "a look with the tally after one more task asks for %d bytes, less than two thirds of the first" % asked, 0 < 3 * asked < 2 * first
     ring, count = around(8), 20000
     asked = more(allocator, program, range(1, 9), [{"at": 1, "tell": job()}, *told(1, 0, count), *ring], "asked", len(ring))
     yield "a Full packet of 20,000 tasks round 8 coordinators asks for %d bytes, less than four copies" % asked, 0 < asked < 4 * PAIR * count

@@ -520,6 +520,9 @@ impl<N: NetKeeper> Coordinator<N> {
     pub fn refresh_tally(&mut self) -> Result<(), OutOfMemory>
         ensures { self.new ≡ self.old }
     {
+        if self.tally().is_some() {
+            return Ok(());
+        }
         self.share_known()?;
         let _tally = self.fresh_tally()?;
         Ok(())

@@ -30,7 +30,8 @@ pub(crate) fn close_all<N: NetKeeper + Drop, R: Wait>(
     requires used { AreUsed 0 (map (λ b. b.inbox) inboxes.items) (map passed_at (map (λ d. d.coordinator.state) dones.items))
         (map (λ d. map (λ e. e.port) d.doors.items) dones.items) }
     requires count { length inboxes.items ≡ length dones.items }
-    ensures same { IfOk result (λ all. map (λ d. d.coordinator.state) all.items ≡ map (λ d. d.coordinator.state) dones.items) }
+    ensures same { IfOk result (λ all. map (λ d. d.coordinator.state) all.items
+        ≡ map (λ d. d.coordinator.state) dones.items) }
     ensures passed { OnOk result (ArePassedOn (map passed_at (map (λ d. d.coordinator.state) dones.items))) }
 {
     while let Some(inbox) = inboxes.pop() {
@@ -63,7 +64,8 @@ fn take_last<N: NetKeeper + Drop>(dones: &mut [Done<N>], out: &mut Vec<Door>) ->
         → AreUsed at (bs ++ b ∷ []) (map passed_at (map (λ d. d.coordinator.state) dones.old)) (map (λ d. map (λ e. e.port) d.doors.items) dones.old)
         → AreUsed at bs (map passed_at (map (λ d. d.coordinator.state) dones.old)) (map (λ d. map (λ e. e.port) d.doors.items) dones.new)
         × (map (λ e. e.port) out.new.items
-        ≡ map (λ e. e.port) out.old.items ++ column (length bs) at b (map passed_at (map (λ d. d.coordinator.state) dones.old)))) }
+        ≡ map (λ e. e.port) out.old.items
+        ++ column (length bs) at b (map passed_at (map (λ d. d.coordinator.state) dones.old)))) }
 {
     let Some((first, rest)) = dones.split_first_mut() else {
         return Ok(());
@@ -75,7 +77,8 @@ fn take_last<N: NetKeeper + Drop>(dones: &mut [Done<N>], out: &mut Vec<Door>) ->
 // Takes the last of the doors, if there is one.
 fn take_door(doors: &mut Vec<Door>, out: &mut Vec<Door>) -> Result<(), Refusal>
     ensures { OnOk result ((qs : List PortSeen) (q : PortSeen) → map (λ e. e.port) doors.old.items ≡ qs ++ q ∷ []
-        → (map (λ e. e.port) doors.new.items ≡ qs) × (map (λ e. e.port) out.new.items ≡ map (λ e. e.port) out.old.items ++ q ∷ [])) }
+        → (map (λ e. e.port) doors.new.items ≡ qs) × (map (λ e. e.port) out.new.items
+        ≡ map (λ e. e.port) out.old.items ++ q ∷ [])) }
 {
     let Some(door) = doors.pop() else {
         return Ok(());

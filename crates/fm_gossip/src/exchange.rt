@@ -29,7 +29,8 @@ fn cut_all<N: NetKeeper + Drop>(
     alloc: Global,
     coordinators: Vec<Coordinator<N>>,
 ) -> Result<(Vec<Coordinator<N>>, Vec<Shared<Packet>>), Refusal>
-    ensures cut { IfOk result (λ r. map (λ c. c.state) r.0.items ≡ map cut_off (map (λ c. c.state) coordinators.items)) }
+    ensures cut { IfOk result (λ r. map (λ c. c.state) r.0.items
+        ≡ map cut_off (map (λ c. c.state) coordinators.items)) }
     ensures packets { IfOk result (λ r. r.1.items ≡ map whole_packet (map (λ c. c.state) coordinators.items)) }
     ensures err { IfErr result StopsExchange }
 {
@@ -49,7 +50,8 @@ fn tell_all<N: NetKeeper + Drop>(
     coordinators: Vec<Coordinator<N>>,
     packets: &[Shared<Packet>],
 ) -> Result<Vec<Coordinator<N>>, Refusal>
-    ensures told { IfOk result (λ all. map (λ c. c.state) all.items ≡ map (told_by_others packets.now) (map (λ c. c.state) coordinators.items)) }
+    ensures told { IfOk result (λ all. map (λ c. c.state) all.items
+        ≡ map (told_by_others packets.now) (map (λ c. c.state) coordinators.items)) }
     ensures err { IfErr result StopsExchange }
 {
     let mut told = Vec::new(alloc);

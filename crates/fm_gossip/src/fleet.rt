@@ -51,7 +51,8 @@ fn coordinators<N: NetKeeper + Drop>(
     alloc: Global,
     dones: Vec<Done<N>>,
 ) -> Result<Vec<Coordinator<N>>, Refusal>
-    ensures { IfOk result (λ coordinators. map (λ c. c.state) coordinators.items ≡ map (λ d. d.coordinator.state) dones.items) }
+    ensures { IfOk result (λ coordinators. map (λ c. c.state) coordinators.items
+        ≡ map (λ d. d.coordinator.state) dones.items) }
 {
     let mut coordinators = Vec::new(alloc);
     for done in dones {

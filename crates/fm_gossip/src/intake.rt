@@ -38,7 +38,8 @@ pub(crate) fn take_in<N: NetKeeper, L: NodeName, R: Wait>(
 ) -> Result<(Seat<L>, Vec<Door>), Refusal>
     requires { intake.place < vec_len intake.doors }
     ensures intake { IfOk result (λ r. IsIntake intake.tells.items intake.senders.items seat r.0) }
-    ensures doors { IfOk result (λ r. (bs : List InboxSeen) → seat.log ≡ [] → map (λ d. d.port) intake.doors.items ≡ map new_port bs
+    ensures doors { IfOk result (λ r. (bs : List InboxSeen) → seat.log ≡ [] → map (λ d. d.port) intake.doors.items
+        ≡ map new_port bs
         → map (λ d. d.port) r.1.items ≡ used_ports intake.place 0 (passed_in r.0) bs) }
 {
     let Intake {

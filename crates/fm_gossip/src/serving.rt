@@ -130,7 +130,8 @@ fn by_two<
 ) -> Result<((Seat<L>, Vec<Door>), Seat<L>), Refusal>
     requires { intake.place < vec_len intake.doors }
     ensures intake { IfOk result (λ r. IsIntake intake.tells.items intake.senders.items one r.0.0) }
-    ensures doors { IfOk result (λ r. (bs : List InboxSeen) → one.log ≡ [] → map (λ d. d.port) intake.doors.items ≡ map new_port bs
+    ensures doors { IfOk result (λ r. (bs : List InboxSeen) → one.log ≡ [] → map (λ d. d.port) intake.doors.items
+        ≡ map new_port bs
         → map (λ d. d.port) r.0.1.items ≡ used_ports intake.place 0 (passed_in r.0.0) bs) }
     ensures rounds { IfOk result (λ r. AreRounds L.base rounds two r.1) }
 {
@@ -140,7 +141,8 @@ fn by_two<
         move |scope| -> Result<((Seat<L>, Vec<Door>), Seat<L>), Refusal>
             requires { intake.place < vec_len intake.doors }
             ensures intake { IfOk result (λ r. IsIntake intake.tells.items intake.senders.items one r.0.0) }
-            ensures doors { IfOk result (λ r. (bs : List InboxSeen) → one.log ≡ [] → map (λ d. d.port) intake.doors.items ≡ map new_port bs
+            ensures doors { IfOk result (λ r. (bs : List InboxSeen) → one.log ≡ []
+                → map (λ d. d.port) intake.doors.items ≡ map new_port bs
                 → map (λ d. d.port) r.0.1.items ≡ used_ports intake.place 0 (passed_in r.0.0) bs) }
             ensures rounds { IfOk result (λ r. AreRounds L.base rounds two r.1) }
         {

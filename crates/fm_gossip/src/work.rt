@@ -85,7 +85,8 @@ fn work_at<N: NetKeeper + Drop, G: Drop>(
     rounds: u32,
 ) -> Result<Work<N, G>, Refusal>
     requires { place < length inboxes.old }
-    ensures work { IfOk result (λ work. work ≡ work_of numbers.now rounds (map (λ b. b.inbox) inboxes.old) place member) }
+    ensures work { IfOk result (λ work. work
+        ≡ work_of numbers.now rounds (map (λ b. b.inbox) inboxes.old) place member) }
     ensures inboxes { OnOk result (map (λ b. b.inbox) inboxes.new ≡ map (λ b. b.inbox) inboxes.old) }
 {
     let Member {

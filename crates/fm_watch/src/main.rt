@@ -4,7 +4,8 @@
 //! that edits or builds its network and one that builds it, and are looked at at each cut: it prints whether both
 //! networks are equal, how many looks at the first were edits and how many builds, and the network. With the word
 //! `steps` and a number it takes so many steps of the script, of a round the view alone, and prints nothing: on an
-//! allocator that counts, this shows what a step asks for. The word `tallies` does the same, of a round the tally alone.
+//! allocator that counts, this shows what a step asks for. The words `sights` and `tallies` do the same, of a round what
+//! is known with the tally, or the tally alone.
 //! With any other word it prints how long an edit took, and how long building takes.
 #![tactic(auto)]
 
@@ -27,14 +28,15 @@ use looked::Looked;
 use std::alloc::Global;
 use std::env;
 use std::time::Instant;
-use stepped::take_first;
+use stepped::{Look, take_first};
 
 fn main(rt: HostRuntime) -> Result<(), anyhow::Error> {
     let script = script(&rt)?;
     match env::args(&rt)?.nth(1).as_deref() {
         Some("looks") => looks(&rt, script),
-        Some("steps") => steps(&rt, &script, false),
-        Some("tallies") => steps(&rt, &script, true),
+        Some("steps") => steps(&rt, &script, Look::View),
+        Some("sights") => steps(&rt, &script, Look::Sight),
+        Some("tallies") => steps(&rt, &script, Look::Tally),
         word => edits(&rt, script, word.is_some()),
     }
 }
@@ -52,13 +54,13 @@ fn edits(rt: &HostRuntime, script: Script, is_timed: bool) -> Result<(), anyhow:
 }
 
 // Takes as many steps as the second word says.
-fn steps(rt: &HostRuntime, script: &Script, tallies: bool) -> Result<(), anyhow::Error>
+fn steps(rt: &HostRuntime, script: &Script, look: Look) -> Result<(), anyhow::Error>
     requires { AreDistinct script.now.coordinators.items }
 {
     let Some(word) = env::args(rt)?.nth(2) else {
         anyhow::bail!("how many steps?");
     };
-    take_first(rt.alloc(), script, word.parse()?, tallies)?;
+    take_first(rt.alloc(), script, word.parse()?, look)?;
     Ok(())
 }
 

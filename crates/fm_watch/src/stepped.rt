@@ -10,27 +10,36 @@ use fm_world::step::{Act as WorldAct, Step as WorldStep};
 use fm_world::world::World;
 use std::alloc::Global;
 
-/// Takes the given number of steps of the script on a world of its coordinators; of a round it takes only the view, or
-/// only makes the tally. Refused as the first step that is refused.
+/// What is taken of a round.
+#[derive(Clone, Copy, Drop)]
+pub(crate) enum Look {
+    View,
+    /// What is known with the tally, in place of the network.
+    Sight,
+    /// The tally that is kept, alone.
+    Tally,
+}
+
+/// Takes the given number of steps of the script on a world of its coordinators, and of a round what the last word says.
+/// Refused as the first step that is refused.
 pub(crate) fn take_first(
     alloc: Global,
     script: &Script,
     count: usize,
-    tallies: bool,
+    look: Look,
 ) -> Result<(), Refusal>
     requires { AreDistinct script.now.coordinators.items }
 {
     let mut world = open(alloc, &script.coordinators)?;
     for step in script.steps.iter().take(count) {
-        take(&mut world, step, tallies)?;
+        take(&mut world, step, look)?;
     }
     Ok(())
 }
 
-fn take(world: &mut World<Keeper>, step: &Step, tallies: bool) -> Result<(), Refusal> {
+fn take(world: &mut World<Keeper>, step: &Step, look: Look) -> Result<(), Refusal> {
     if let Act::Round = step.act {
-        if tallies {
-            world.refresh_tally(step.at);
+        if is_taken(world, step.at, look)? {
             return Ok(());
         }
     }
@@ -40,6 +49,18 @@ fn take(world: &mut World<Keeper>, step: &Step, tallies: bool) -> Result<(), Ref
         act: act_of(step.act),
     })?;
     Ok(())
+}
+
+// Takes the look, if that is no step of a world.
+fn is_taken(world: &mut World<Keeper>, at: u8, look: Look) -> Result<bool, Refusal> {
+    match look {
+        Look::View => return Ok(false),
+        Look::Sight => {
+            let _sight = world.see(at, 0)?;
+        }
+        Look::Tally => world.refresh_tally(at),
+    }
+    Ok(true)
 }
 
 // The act of a world for a script's act, of a round the view.
