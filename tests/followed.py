@@ -327,7 +327,7 @@ class Stream:
     def why(self, at, task, seen):
         """Why the task waits or runs: the text that was seen, if it may be said."""
         found = reasons.texts_by_flows(reference.Known(self.world.coordinators[at].taken), task)
-        return seen if seen in found else found[0]
+        return seen if any(reasons.is_said(seen, said) for said in found) else found[0].text
 
     def agree(self):
         return reference.agree(self.world)[1]

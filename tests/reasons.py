@@ -1,6 +1,7 @@
 """Tests of `firmament why`: each text is worked out again. That the bounds are never above what the cheapest schedule with the task
-there costs more is proved; that they are equal to it is tested alone. That cost comes from the solver of tests/witness.py, which
-is made to send the task there, and for clusters of few tasks from all schedules, one by one (tests/schedules.py)."""
+there costs more is proved; that they are equal to it is proved where the text says "exactly", and else tested alone. That cost comes
+from the solver of tests/witness.py, which is made to send the task there, and for clusters of few tasks from all schedules, one by one
+(tests/schedules.py)."""
 import collections
 import pathlib
 import re
@@ -16,12 +17,18 @@ import whys
 import witness
 
 KNOWN = re.compile(r"room .* of (\d+) machines that are known")
+EXAMPLE = re.compile(r"(?<= for all others\n)a schedule that runs it on machine (\S+) costs (\d+); tasks that go elsewhere in it: (\d+)\n"
+                     r"((?:in it task .*\n)*)")
+MOVE = re.compile(r"in it task (\S+) (?:(waits)|(goes over its request of \d+)|runs on machine (\S+))\n")
 MOST_LINES, SHOWN, UNKNOWN = 20, 5, 7
 THEORY = "by potentials that certify the schedule: what is sent over an empty arc costs at least its reduced cost more"
 
 # Of a task that no machine holds: its id, its request, what waiting costs, and what the cheapest schedule costs. For each machine to which
 # it has a way, by id, and None for waiting: what the cheaper way costs, and how much dearer the cheapest schedule is with the task there.
 Facts = collections.namedtuple("Facts", "name request wait least places")
+
+# A text without its example, and of the example the machine and the cost, or None. The schedule that it shows may be any of that cost.
+Said = collections.namedtuple("Said", "text machine cost", defaults=(None, None))
 
 
 def lines_of(facts, waits, known):
@@ -31,7 +38,7 @@ def lines_of(facts, waits, known):
     if not waits:
         yield head + "runs in this schedule: leaving it to wait would cost at least %d more" % facts.places[None][1]
     elif places:
-        yield head + "waits, which costs %d: running it on the cheapest machine with room would cost at least %d more" % (
+        yield head + "waits, which costs %d: running it on the cheapest machine with room would cost exactly %d more" % (
             facts.wait, places[0][0])
     else:
         yield head + "waits: no machine has room for its request of %d" % facts.request
@@ -50,24 +57,55 @@ def texts_of_facts(facts, known):
     """The texts that such a task may get. Which of several least schedules is found is not said, and so not whether the task waits
     if both may be."""
     waits = {name is None for name, (_, more) in facts.places.items() if more == 0}
-    return {is_so: "".join(line + "\n" for line in lines_of(facts, is_so, known)) for is_so in sorted(waits)}
+    first = min(((more, name) for name, (_, more) in facts.places.items() if name), default=None)
+    example = (first[1], facts.least + first[0]) if first else (None, None)
+    return {is_so: Said("".join(line + "\n" for line in lines_of(facts, is_so, known)), *example if is_so else (None, None))
+            for is_so in sorted(waits)}
 
 
 def texts(known, task, facts_of):
     """The texts that may be said of a task by what is known; of one that is live and not held, by its facts."""
     name = reference.name(task)
     if task not in known.specs:
-        return ["task %s is not known\n" % name]
+        return [Said("task %s is not known\n" % name)]
     if not known.is_live(task):
-        return ["task %s is not live: it is withdrawn or done, or its job is withdrawn or not known\n" % name]
+        return [Said("task %s is not live: it is withdrawn or done, or its job is withdrawn or not known\n" % name)]
     if known.holder(task) is not None:
-        return ["task %s is held by machine %s\n" % (name, reference.name(known.holder(task)))]
+        return [Said("task %s is held by machine %s\n" % (name, reference.name(known.holder(task))))]
     return list(texts_of_facts(facts_of(task), len(known.incarnations)).values())
+
+
+def is_said(text, said):
+    """Whether the text is this one, with an example just if there has to be one."""
+    found = EXAMPLE.search(text)
+    if found is None or said.machine is None:
+        return found is None and said.machine is None and text == said.text
+    count = int(found[3])
+    return (text[:found.start()] + text[found.end():] == said.text and (found[1], int(found[2])) == (said.machine, said.cost)
+            and count > 0 and found[4].count("\n") == min(count, SHOWN))
 
 
 def wrong_of(text, wanted):
     """What is wrong with the text, or None."""
-    return None if text in wanted and text.count("\n") <= MOST_LINES else "%s is none of %s" % (text, wanted)
+    is_fine = any(is_said(text, said) for said in wanted) and text.count("\n") <= MOST_LINES
+    return None if is_fine else "%s is none of %s" % (text, wanted)
+
+
+def wrong_moves(network, flow, text):
+    """What is wrong with the example of the text, or None: if the tasks that it names go there, and all others where they go by
+    the flow, a schedule has just that cost. If more tasks go elsewhere than are named, nothing can be said."""
+    found = EXAMPLE.search(text)
+    if found is None or int(found[3]) > SHOWN:
+        return None
+    goes = {ends[0]: ends[1] for ends, units in flow.units.items() if units and network.nodes[ends[0]].kind == "T"}
+    named = {network.nodes[node].name: node for node in network.of_kind("T")}
+    for name, waits, request, machine in MOVE.findall(found[4]):
+        kind = "U" if waits else "R" if request else "M"
+        goes[named[name]] = next(node for node in network.out[named[name]] if network.nodes[node].kind == kind
+                                 and (not machine or network.nodes[node].name == machine))
+    balance, arcs = whys.problem(network)
+    cost = witness.least_cost(balance, [arc for arc in arcs if goes.get(arc[0], arc[1]) == arc[1]])
+    return None if cost == int(found[2]) else "with these moves a schedule costs %d, not %s" % (cost, found[2])
 
 
 def facts_by_flows(network, least, task):
@@ -98,12 +136,12 @@ def explained(name, run, script, few=None):
         ident = network.nodes[task].name
         text = run("why", script, ident)
         if network.is_held(task):
-            wanted = ["task %s is held by machine %s\n" % (ident, network.nodes[network.next_of(task, "M")].name)]
+            wanted = [Said("task %s is held by machine %s\n" % (ident, network.nodes[network.next_of(task, "M")].name))]
         else:
             known = (KNOWN.search(text) or ["", "none"])[1]
             waits = bool(flow.units.get((task, network.next_of(task, "U"))))
             wanted = [texts_of_facts(facts_by_flows(network, flow.cost, task), known)[waits]]
-        wrong = wrong_of(text, wanted)
+        wrong = wrong_of(text, wanted) or wrong_moves(network, flow, text)
         yield "reasons of task %s of %s: %s" % (ident[-4:], name, wrong or "so"), wrong is None
 
 

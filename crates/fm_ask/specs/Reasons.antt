@@ -1,19 +1,31 @@
 -- The text that says why a task waits or runs (this project's profile).
-use Rattle.std.specs.Prelude.{◌≡◌, ℕ, ◌-◌, List, [], ◌++◌, if◌then◌else◌, codes, decimal, length, take, Option, Some, None, slice_get}
+use Rattle.std.specs.Prelude.{◌≡◌, ℕ, Bool, ◌+◌, ◌-◌, ◌==◌, List, [], ◌++◌, if◌then◌else◌, codes, decimal, length, take, Option, Some, None, slice_get}
 use Rattle.fm_records.specs.Ids.{id_text}
+use Rattle.fm_records.specs.Options.{passes}
 use Rattle.fm_records.specs.Table.{Table}
+use Rattle.fm_net.specs.declared.node.Node.{Node}
+use Rattle.fm_net.specs.declared.node.Node.TheVariants.{Sink, Unscheduled, Request, Machine, Task}
 use Rattle.fm_why.specs.declared.reasons.Choice.{Choice}
 use Rattle.fm_why.specs.declared.reasons.Choices.{Choices}
+use Rattle.fm_why.specs.declared.reasons.Example.{Example}
+use Rattle.fm_why.specs.declared.reasons.Move.{Move}
 use Rattle.fm_why.specs.declared.reasons.Reasons.{Reasons}
 use Rattle.fm_why.specs.declared.reasons.Reasons.TheVariants.{Unknown, NotLive, Held, Free}
 use Rattle.fm_why.specs.Reasons.{AreReasons}
 use Rattle.fm_ask.specs.Lines.{lines_of}
 
+-- a schedule was found that runs the task on the machine, and costs no more than each must
+abbrev pub is_exact : Choices → Choice → Bool
+is_exact c e = passes (λ example. example.cost == c.least + e.dearer) c.example
+
+abbrev pub bound_text : Choices → Choice → List ℕ
+bound_text c e = if is_exact c e then codes "exactly " ++ (decimal e.dearer ++ codes " more\n") else codes "at least " ++ (decimal e.dearer ++ codes " more\n")
+
 -- what it would take to run a task that waits: what the cheapest machine with room costs, if there is one
 abbrev pub waiting_text : Choices → Option Choice → List ℕ
 waiting_text c None = codes " waits: no machine has room for its request of " ++ (decimal c.request ++ codes "\n")
 waiting_text c (Some e) =
-    codes " waits, which costs " ++ (decimal c.wait ++ (codes ": running it on the cheapest machine with room would cost at least " ++ (decimal e.dearer ++ codes " more\n")))
+    codes " waits, which costs " ++ (decimal c.wait ++ (codes ": running it on the cheapest machine with room would cost " ++ bound_text c e))
 
 -- a task that runs in the schedule that was found
 abbrev pub running_text : Choices → List ℕ
@@ -38,9 +50,34 @@ price_line c = if c.waits then price_text c.price else []
 abbrev pub schedule_text : Choices → List ℕ
 schedule_text c = cost_line c ++ price_line c
 
+-- where a task goes in a schedule
+abbrev pub goal_text : Node → List ℕ
+goal_text Sink = []
+goal_text (Unscheduled j) = codes " waits"
+goal_text (Request r) = codes " goes over its request of " ++ decimal r
+goal_text (Machine m) = codes " runs on machine " ++ id_text m
+goal_text (Task t) = []
+
+abbrev pub move_text : Move → List ℕ
+move_text move = codes "in it task " ++ (id_text move.task ++ goal_text move.to)
+
+-- a schedule that runs the task on the machine: what it costs, and the first five of the tasks that go elsewhere in it
+abbrev pub example_head : Choice → Example → List ℕ
+example_head e example =
+    codes "a schedule that runs it on machine " ++ (id_text e.machine ++ (codes " costs " ++ (decimal example.cost
+    ++ (codes "; tasks that go elsewhere in it: " ++ (decimal (length example.moves.items) ++ codes "\n")))))
+
+abbrev pub example_text : Option Choice → Option Example → List ℕ
+example_text (Some e) (Some example) = example_head e example ++ lines_of move_text (take 5 example.moves.items)
+example_text _ _ = []
+
 -- a machine with room: what the way there costs, and how much dearer schedules are that use it
 abbrev pub choice_text : Choice → List ℕ
 choice_text e = codes "on machine " ++ (id_text e.machine ++ (codes " it costs " ++ (decimal e.cost ++ (codes ", and each schedule that runs it there costs at least " ++ (decimal e.dearer ++ codes " more")))))
+
+-- an example, and the five cheapest machines
+abbrev pub machines_text : Choices → List ℕ
+machines_text c = example_text (slice_get c.machines.items 0) c.example ++ lines_of choice_text (take 5 c.machines.items)
 
 -- the machines behind the five that are listed, from the first of them on
 abbrev pub others_text : ℕ → Option Choice → List ℕ
@@ -54,11 +91,10 @@ room_line c = codes "room for its request of " ++ (decimal c.request ++ (codes "
 abbrev pub theory_line : List ℕ
 theory_line = codes "by potentials that certify the schedule: what is sent over an empty arc costs at least its reduced cost more\n"
 
--- the answer, the schedule, the five cheapest machines, how many more there are, and the theory
+-- the answer, the schedule, an example and the five cheapest machines, how many more there are, and the theory
 abbrev pub choices_text : ℕ → Choices → List ℕ
 choices_text task c =
-    answer_line task c ++ (schedule_text c ++ (lines_of choice_text (take 5 c.machines.items)
-    ++ (others_text (length c.machines.items - 5) (slice_get c.machines.items 5) ++ (room_line c ++ theory_line))))
+    answer_line task c ++ (schedule_text c ++ (machines_text c ++ (others_text (length c.machines.items - 5) (slice_get c.machines.items 5) ++ (room_line c ++ theory_line))))
 
 abbrev pub held_text : ℕ → ℕ → List ℕ
 held_text task machine = codes "task " ++ (id_text task ++ (codes " is held by machine " ++ (id_text machine ++ codes "\n")))

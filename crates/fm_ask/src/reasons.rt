@@ -1,13 +1,14 @@
 //! Why a task waits or runs, as text.
 
 ghost use Rattle.std.specs.Prelude.{◌≡◌, ◌++◌, ◌-◌, length, take, slice_get, IfOk, OnOk, IsOkUnless, string_bytes};
-ghost use Rattle.fm_ask.specs.Reasons.{answer_line, choice_text, choices_text, cost_line, held_text, others_text, price_line, price_text, reasons_text, room_line, schedule_text, running_text, theory_line, waiting_text, IsReasonsText};
+ghost use Rattle.fm_ask.specs.Reasons.{answer_line, bound_text, choice_text, choices_text, cost_line, example_head, example_text, goal_text, is_exact, held_text, machines_text, others_text, price_line, price_text, reasons_text, room_line, schedule_text, running_text, theory_line, waiting_text, IsReasonsText};
 
 use crate::lines::{LineText, write_lines};
 use fm_know::knowledge::Knowledge;
+use fm_net::node::Node;
 use fm_records::ids::{MachineId, TaskId};
 use fm_records::refusal::Refusal;
-use fm_why::reasons::{Choice, Choices, Reasons};
+use fm_why::reasons::{Choice, Choices, Example, Move, Reasons};
 use fm_why::why::why;
 use std::alloc::Global;
 
@@ -58,11 +59,20 @@ fn choices_text(alloc: Global, task: TaskId, choices: &Choices) -> Result<String
     let mut lines = String::new(alloc);
     write_answer(alloc, task, choices, &mut lines)?;
     write_schedule(choices, &mut lines)?;
-    write_lines(alloc, shown(&choices.machines), &mut lines)?;
+    write_machines(alloc, choices, &mut lines)?;
     write_others(&choices.machines, &mut lines)?;
     write_room(choices, &mut lines)?;
     write_theory(&mut lines)?;
     Ok(lines)
+}
+
+// Appends the schedule that runs the task on the first machine, if one was found, and the first machines.
+fn write_machines(alloc: Global, choices: &Choices, lines: &mut String) -> Result<(), Refusal>
+    ensures ok { OnOk result (string_bytes lines.new ≡ string_bytes lines.old ++ machines_text choices.now) }
+    ensures err { IsOkUnless result Refusal.OutOfMemory }
+{
+    write_example(alloc, choices, lines)?;
+    write_lines(alloc, shown(&choices.machines), lines)
 }
 
 // The first machines of the list.
@@ -116,11 +126,12 @@ fn write_waiting(choices: &Choices, lines: &mut String) -> Result<(), Refusal>
 {
     match choices.machines.first() {
         Some(first) => {
-            let (wait, dearer) = (choices.wait, first.dearer);
+            let wait = choices.wait;
             write!(
                 lines,
-                " waits, which costs {wait}: running it on the cheapest machine with room would cost at least {dearer} more\n"
+                " waits, which costs {wait}: running it on the cheapest machine with room would cost "
             )?;
+            write_bound(choices, first, lines)?;
         }
         None => {
             let request = choices.request;
@@ -140,6 +151,33 @@ fn write_schedule(choices: &Choices, lines: &mut String) -> Result<(), Refusal>
 {
     write_cost(choices, lines)?;
     write_price(choices, lines)
+}
+
+// Whether a schedule was found that runs the task on the machine and costs no more than each must.
+fn is_exact(choices: &Choices, choice: &Choice) -> bool
+    ensures { result ≡ is_exact choices.now choice.now }
+{
+    match &choices.example {
+        Some(example) => {
+            let (cost, least) = (example.cost, choices.least);
+            cost >= least && cost - least == choice.dearer
+        }
+        None => false,
+    }
+}
+
+// Appends how much dearer it is on the machine.
+fn write_bound(choices: &Choices, choice: &Choice, lines: &mut String) -> Result<(), Refusal>
+    ensures ok { OnOk result (string_bytes lines.new ≡ string_bytes lines.old ++ bound_text choices.now choice.now) }
+    ensures err { IsOkUnless result Refusal.OutOfMemory }
+{
+    let dearer = choice.dearer;
+    if is_exact(choices, choice) {
+        write!(lines, "exactly {dearer} more\n")?;
+    } else {
+        write!(lines, "at least {dearer} more\n")?;
+    }
+    Ok(())
 }
 
 // Appends what the schedule costs.
@@ -176,6 +214,52 @@ fn write_price_of(price: Option<u128>, lines: &mut String) -> Result<(), Refusal
         )?;
     }
     Ok(())
+}
+
+// Appends the schedule that runs the task on the first machine, if one was found.
+fn write_example(alloc: Global, choices: &Choices, lines: &mut String) -> Result<(), Refusal>
+    ensures ok { OnOk result (string_bytes lines.new
+        ≡ string_bytes lines.old ++ example_text (slice_get choices.now.machines.items 0) choices.now.example) }
+    ensures err { IsOkUnless result Refusal.OutOfMemory }
+{
+    match (choices.machines.first(), &choices.example) {
+        (Some(first), Some(example)) => {
+            write_example_head(alloc, first, example, lines)?;
+            write_lines(alloc, first_moves(&example.moves), lines)
+        }
+        _ => Ok(()),
+    }
+}
+
+// Appends what the schedule costs, and how many tasks go elsewhere in it.
+fn write_example_head(
+    alloc: Global,
+    first: &Choice,
+    example: &Example,
+    lines: &mut String,
+) -> Result<(), Refusal>
+    ensures ok { OnOk result (string_bytes lines.new ≡ string_bytes lines.old ++ example_head first.now example.now) }
+    ensures err { IsOkUnless result Refusal.OutOfMemory }
+{
+    let machine = first.machine.text(alloc)?;
+    let moves = example.moves.as_slice().len();
+    let cost = example.cost;
+    write!(
+        lines,
+        "a schedule that runs it on machine {machine} costs {cost}; tasks that go elsewhere in it: {moves}\n"
+    )?;
+    Ok(())
+}
+
+// The first moves of the list.
+fn first_moves(moves: &[Move]) -> &[Move]
+    ensures { result.now ≡ take 5 moves.now }
+{
+    if moves.len() > SHOWN {
+        &moves[..SHOWN]
+    } else {
+        moves
+    }
 }
 
 // Appends how many machines are not listed, if there are any, and how much dearer the cheapest of them is.
@@ -216,6 +300,35 @@ fn write_theory(lines: &mut String) -> Result<(), Refusal>
     lines.push_str(
         "by potentials that certify the schedule: what is sent over an empty arc costs at least its reduced cost more\n",
     )?;
+    Ok(())
+}
+
+impl LineText for Move {
+    ghost use Rattle.fm_ask.specs.Reasons.{move_text};
+
+    ghost line_text = { move_text };
+
+    fn write_text(&self, alloc: Global, lines: &mut String) -> Result<(), Refusal> {
+        let task = self.task.text(alloc)?;
+        write!(lines, "in it task {task}")?;
+        write_goal(alloc, self.to, lines)
+    }
+}
+
+// Appends where a task goes.
+fn write_goal(alloc: Global, to: Node, lines: &mut String) -> Result<(), Refusal>
+    ensures ok { OnOk result (string_bytes lines.new ≡ string_bytes lines.old ++ goal_text to) }
+    ensures err { IsOkUnless result Refusal.OutOfMemory }
+{
+    match to {
+        Node::Unscheduled(_) => lines.push_str(" waits")?,
+        Node::Request(request) => write!(lines, " goes over its request of {request}")?,
+        Node::Machine(machine) => {
+            let name = machine.text(alloc)?;
+            write!(lines, " runs on machine {name}")?;
+        }
+        Node::Sink | Node::Task(_) => {}
+    }
     Ok(())
 }
 

@@ -1,3 +1,4 @@
 pub mod Gaps
 pub mod Roomy
 pub mod Pricing
+pub mod Suffices

@@ -1,5 +1,6 @@
 pub mod Running
 pub mod Ways
 pub mod Pricing
+pub mod Examples
 pub mod Schedule
 pub mod Reasons

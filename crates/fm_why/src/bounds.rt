@@ -8,17 +8,21 @@ ghost use Rattle.fm_why.specs.Running.{IsDearerOver};
 ghost use Rattle.fm_why.specs.Ways.{arc_cost, IsGap};
 ghost use Rattle.fm_why.specs.Schedule.{IsSchedule};
 
+use crate::tuning::Paths;
 use fm_certificate::flow::Flow;
 use fm_certificate::potentials::Potentials;
 use fm_net::network::Network;
 use fm_net::node::Node;
 
-/// A least flow, potentials that certify it, and what it costs.
-#[derive(Debug, Drop)]
+/// A least flow, potentials that certify it, and what it costs; and where the unit of a task goes, with the cheapest ways
+/// there, of which nothing is known.
+#[derive(Drop)]
 pub(crate) struct Schedule {
     pub(crate) flow: Flow,
     pub(crate) potentials: Potentials,
     pub(crate) least: u128,
+    pub(crate) goal: Node,
+    pub(crate) paths: Paths,
 }
 
 /// What an arc costs, and how much dearer flows are that send units over it.

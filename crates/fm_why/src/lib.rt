@@ -3,6 +3,8 @@
 
 mod bounds;
 mod choosing;
+mod example;
+mod feasible;
 pub mod laws;
 pub mod reasons;
 mod tuning;

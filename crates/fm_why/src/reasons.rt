@@ -1,6 +1,7 @@
 //! Where a task is, and what it would take to run it.
 
-use fm_records::ids::MachineId;
+use fm_net::node::Node;
+use fm_records::ids::{MachineId, TaskId};
 
 /// A machine to which a task has a way.
 #[derive(Debug, Clone, Copy, PartialEq, Eq, Drop)]
@@ -10,6 +11,22 @@ pub struct Choice {
     pub cost: u32,
     /// How much more than a least schedule each schedule costs that runs the task there, at least.
     pub dearer: u128,
+}
+
+/// A task whose unit goes elsewhere than now: to its job, where it waits, to its request, or to a machine that it prefers.
+#[derive(Debug, Clone, Copy, PartialEq, Eq, Drop)]
+pub struct Move {
+    pub task: TaskId,
+    pub to: Node,
+}
+
+/// A schedule that runs a task on a machine.
+#[derive(Debug, Drop)]
+pub struct Example {
+    /// What it costs.
+    pub cost: u128,
+    /// The tasks that go elsewhere in it than in the schedule that was found, by id.
+    pub moves: Vec<Move>,
 }
 
 /// What there is to choose for a live task that no machine holds.
@@ -32,6 +49,8 @@ pub struct Choices {
     /// Up to which price of waiting, for this task alone, the schedule that was found stays least; up to any if there is
     /// none.
     pub price: Option<u128>,
+    /// A schedule that runs it on the first of the machines, if the one that was found leaves it waiting, and one was found.
+    pub example: Option<Example>,
 }
 
 /// Where a task is.

@@ -1,9 +1,10 @@
-//! Potentials that tell what it costs to send a unit on from each node to where a task's unit goes now, by relaxing
-//! arcs (Bellman and Ford). They are tried: a check decides whether they certify the flow.
+//! The cheapest ways to send a unit on from each node to where a task's unit goes now, by relaxing arcs (Bellman and
+//! Ford), and what they claim: potentials, and flows in which the unit goes elsewhere. They are tried: checks decide
+//! whether they are what they claim to be.
 
 use fm_certificate::flow::Flow;
 use fm_certificate::potentials::Potentials;
-use fm_cycles::arcs::Arc;
+use fm_cycles::arcs::{Arc, Step};
 use fm_cycles::lookup::value_or;
 use fm_lattice::join::OutOfMemory;
 use fm_net::network::Network;
@@ -24,20 +25,108 @@ struct Certificate {
     values: Vec<i128>,
 }
 
-/// The potentials, each less what a further unit costs from its node to the goal. With them a bound is exact where a
-/// unit can be sent on so. O(arcs) for each turn until no cost falls.
-pub(crate) fn tuned(
-    alloc: Global,
-    network: &Network,
-    flow: &Flow,
-    potentials: &Potentials,
-    goal: &Node,
-) -> Result<Potentials, OutOfMemory> {
-    let numbered = Numbered::of(alloc, network)?;
-    let certificate = certificate_of(alloc, network, flow, potentials)?;
-    let place = place_of(network, goal);
-    let costs = costs_to(alloc, &numbered, &certificate, place)?;
-    lowered(alloc, network, &certificate.values, &costs)
+/// What a further unit costs from each node to the goal, and the first step of its way.
+#[derive(Drop)]
+pub(crate) struct Paths {
+    numbered: Numbered,
+    certificate: Certificate,
+    goal: usize,
+    costs: Vec<i128>,
+    steps: Vec<Option<Step>>,
+}
+
+impl Paths {
+    /// The cheapest ways, by reduced costs. O(arcs) for each turn until no cost falls.
+    pub(crate) fn to(
+        alloc: Global,
+        network: &Network,
+        flow: &Flow,
+        potentials: &Potentials,
+        goal: &Node,
+    ) -> Result<Self, OutOfMemory> {
+        let numbered = Numbered::of(alloc, network)?;
+        let certificate = certificate_of(alloc, network, flow, potentials)?;
+        let goal = place_of(network, goal);
+        let mut costs = vec![in alloc; FAR; numbered.places.end]?;
+        let mut steps = vec![in alloc; None; numbered.places.end]?;
+        lower(&mut costs, goal, 0);
+        for _ in 0..TURNS {
+            if !settle(&numbered.arcs, &certificate, &mut costs, &mut steps) {
+                break;
+            }
+        }
+        take(&numbered, &certificate, &mut costs);
+        Ok(Paths {
+            numbered,
+            certificate,
+            goal,
+            costs,
+            steps,
+        })
+    }
+
+    /// The potentials, each less what a further unit costs from its node. With them a bound is exact where a unit can
+    /// be sent on so. O(arcs).
+    pub(crate) fn tuned(
+        &self,
+        alloc: Global,
+        network: &Network,
+    ) -> Result<Potentials, OutOfMemory> {
+        let mut found = Potentials::new(alloc);
+        let mut place = 0usize;
+        for node in network.nodes() {
+            let value = value_or(&self.certificate.values, place, 0);
+            let cost = value_or(&self.costs, place, FAR);
+            found.put(node, value.saturating_sub(cost))?;
+            place = place.saturating_add(1);
+        }
+        Ok(found)
+    }
+
+    /// The flow with the task's unit on the way to the last node, over the other one if there is one, in place of the
+    /// arc to the goal, and with a unit sent on from the last node to the goal, if there is a way. O(arcs log arcs).
+    pub(crate) fn moved(
+        &self,
+        alloc: Global,
+        network: &Network,
+        task: &Node,
+        goal: &Node,
+        via: Option<Node>,
+        last: &Node,
+    ) -> Result<Option<Flow>, OutOfMemory> {
+        let mut changes = vec![in alloc; 0i64; self.numbered.arcs.len()]?;
+        change(&mut changes, place_of_arc(network, task, goal), -1);
+        match via {
+            Some(via) => {
+                change(&mut changes, place_of_arc(network, task, &via), 1);
+                change(&mut changes, place_of_arc(network, &via, last), 1);
+            }
+            None => change(&mut changes, place_of_arc(network, task, last), 1),
+        }
+        if !self.send_on(&mut changes, place_of(network, last)) {
+            return Ok(None);
+        }
+        changed(alloc, network, &self.certificate.units, &changes)
+    }
+
+    // Notes a unit more over each step of the way from the node to the goal, and returns whether there is one.
+    fn send_on(&self, changes: &mut [i64], from: usize) -> bool {
+        let mut node = from;
+        for _ in 0..self.steps.len() {
+            if node == self.goal {
+                return true;
+            }
+            let Some(step) = value_or(&self.steps, node, None) else {
+                return false;
+            };
+            let Some(arc) = self.numbered.arcs.get(step.arc) else {
+                return false;
+            };
+            change(changes, step.arc, if step.forward { 1 } else { -1 });
+            node = if step.forward { arc.to } else { arc.from };
+        }
+        false
+    }
 }
 
 // The units and the values, in order.
@@ -70,36 +159,55 @@ fn place_of(network: &Network, goal: &Node) -> usize {
     place
 }
 
-// What a further unit costs from each node to that of the place, by reduced costs.
-fn costs_to(
-    alloc: Global,
-    numbered: &Numbered,
-    certificate: &Certificate,
-    place: usize,
-) -> Result<Vec<i128>, OutOfMemory> {
-    let mut costs = vec![in alloc; FAR; numbered.places.end]?;
-    lower(&mut costs, place, 0);
-    for _ in 0..TURNS {
-        if !settle(&numbered.arcs, certificate, &mut costs) {
-            break;
+// The place of the arc among all; beyond the end if it is not there.
+fn place_of_arc(network: &Network, from: &Node, to: &Node) -> usize {
+    let mut place = 0usize;
+    for (source, target, _, _) in network.arcs() {
+        if source == *from && target == *to {
+            return place;
         }
+        place = place.saturating_add(1);
     }
-    take(numbered, certificate, &mut costs);
-    Ok(costs)
+    place
 }
 
 // Lowers the costs at the ends of arcs with room, and backwards of arcs with units, and returns whether one fell.
-fn settle(arcs: &[Arc], certificate: &Certificate, costs: &mut [i128]) -> bool {
+fn settle(
+    arcs: &[Arc],
+    certificate: &Certificate,
+    costs: &mut [i128],
+    steps: &mut [Option<Step>],
+) -> bool {
     let mut falls = false;
+    let mut place = 0usize;
     for (arc, sent) in arcs.iter().zip(&certificate.units) {
-        let step = reduced(arc, &certificate.values);
+        let cost = reduced(arc, &certificate.values);
         if *sent < arc.capacity {
-            let ahead = value_or(costs, arc.to, FAR).saturating_add(step);
-            falls = lower(costs, arc.from, ahead) || falls;
+            let ahead = value_or(costs, arc.to, FAR).saturating_add(cost);
+            falls = goes_by(costs, steps, arc.from, ahead, place, true) || falls;
         }
         if *sent > 0 {
-            let back = value_or(costs, arc.from, FAR).saturating_sub(step);
-            falls = lower(costs, arc.to, back) || falls;
+            let back = value_or(costs, arc.from, FAR).saturating_sub(cost);
+            falls = goes_by(costs, steps, arc.to, back, place, false) || falls;
+        }
+        place = place.saturating_add(1);
+    }
+    falls
+}
+
+// Lowers the cost at a node to this one, notes the step if it was higher, and returns whether it was.
+fn goes_by(
+    costs: &mut [i128],
+    steps: &mut [Option<Step>],
+    node: usize,
+    cost: i128,
+    arc: usize,
+    forward: bool,
+) -> bool {
+    let falls = lower(costs, node, cost);
+    if falls {
+        if let Some(step) = steps.get_mut(node) {
+            *step = Some(Step { arc, forward });
         }
     }
     falls
@@ -134,19 +242,29 @@ fn reduced(arc: &Arc, values: &[i128]) -> i128 {
         .saturating_sub(value_or(values, arc.to, 0))
 }
 
-// The potentials, each less the cost from its node.
-fn lowered(
+// Adds to what changes on the arc.
+fn change(changes: &mut [i64], arc: usize, by: i64) {
+    if let Some(there) = changes.get_mut(arc) {
+        *there = there.saturating_add(by);
+    }
+}
+
+// The flow of the units with their changes, if none falls below 0.
+fn changed(
     alloc: Global,
     network: &Network,
-    values: &[i128],
-    costs: &[i128],
-) -> Result<Potentials, OutOfMemory> {
-    let mut found = Potentials::new(alloc);
+    units: &[u64],
+    changes: &[i64],
+) -> Result<Option<Flow>, OutOfMemory> {
+    let mut flow = Flow::new(alloc);
     let mut place = 0usize;
-    for node in network.nodes() {
-        let value = value_or(values, place, 0).saturating_sub(value_or(costs, place, FAR));
-        found.put(node, value)?;
+    for (from, to, _, _) in network.arcs() {
+        let by = value_or(changes, place, 0);
+        let Some(sent) = value_or(units, place, 0).checked_add_signed(by) else {
+            return Ok(None);
+        };
+        flow.put(from, to, sent)?;
         place = place.saturating_add(1);
     }
-    Ok(found)
+    Ok(Some(flow))
 }

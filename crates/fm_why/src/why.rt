@@ -4,15 +4,20 @@ ghost use Rattle.std.specs.Prelude.{◌≡◌, ◌↔◌, ◌+◌, ◌<◌, ◌^
 ghost use Rattle.std.specs.List.{All};
 ghost use Rattle.fm_records.specs.Facts.{job_of, live_spec, holder_of};
 ghost use Rattle.fm_net.specs.Network.{net_of};
+ghost use Rattle.std.specs.Option.{IsSomeAnd};
+ghost use Rattle.fm_certificate.specs.Built.{IsBuilt};
 ghost use Rattle.fm_certificate.specs.Flows.{units_in};
+ghost use Rattle.fm_why.specs.Examples.{IsExample};
 ghost use Rattle.fm_certificate.specs.Certificates.{IsCertified};
 ghost use Rattle.fm_why.specs.Schedule.{IsSchedule};
 ghost use Rattle.fm_why.specs.Reasons.{AreChoices, AreReasons};
 
 use crate::bounds::{Schedule, more_over};
 use crate::choosing::choices_of;
-use crate::reasons::{Choice, Choices, Reasons};
-use crate::tuning::tuned;
+use crate::example::example_on;
+use crate::feasible::{Aim, has_units};
+use crate::reasons::{Choice, Choices, Example, Reasons};
+use crate::tuning::Paths;
 use fm_certificate::check::check;
 use fm_certificate::cost::cost;
 use fm_certificate::flow::Flow;
@@ -71,12 +76,15 @@ fn choices(
     requires free { holder_of knowledge.now task ≡ None }
     ensures { IfOk result (AreChoices knowledge.now task spec) }
 {
+    law_can_be(knowledge);
     let network = build(alloc, knowledge)?;
     network.known();
     let schedule = schedule_of(alloc, knowledge, &network, task, &spec)?;
     let machines = choices_of(alloc, knowledge, &network, &schedule, task, spec.request)?;
     let (from, to) = (Node::Task(task), Node::Unscheduled(spec.job));
-    let price = price_of(job.wait, &machines);
+    let listed = machines.as_slice();
+    let price = price_of(job.wait, listed);
+    let example = example_of(alloc, &network, &schedule, task, spec.request, listed)?;
     Ok(Choices {
         request: spec.request,
         wait: job.wait,
@@ -86,6 +94,7 @@ fn choices(
         machines,
         known: knowledge.machines().len(),
         price,
+        example,
     })
 }
 
@@ -96,6 +105,33 @@ fn price_of(wait: u32, machines: &[Choice]) -> Option<u128>
 {
     let first = machines.first()?;
     Some(u128::from(wait) + first.dearer)
+}
+
+// A schedule that runs the task on the first of the machines, if it waits now, there is one, and the schedule was found.
+fn example_of(
+    alloc: Global,
+    network: &Network,
+    schedule: &Schedule,
+    task: TaskId,
+    request: u32,
+    machines: &[Choice],
+) -> Result<Option<Example>, OutOfMemory>
+    requires { IsBuilt network.now }
+    ensures { IfOk result (λ found. IfSome found (λ example. IsSomeAnd (slice_get machines.now 0) (λ e.
+        IsExample network.now (units_in schedule.now.flow) task e.machine example))) }
+{
+    match (&schedule.goal, machines.first()) {
+        (Node::Unscheduled(_), Some(first)) => {
+            let machine = first.machine;
+            let aim = Aim {
+                task,
+                request,
+                machine,
+            };
+            example_on(alloc, network, schedule, &aim)
+        }
+        _ => Ok(None),
+    }
 }
 
 // A least flow of the network, potentials that certify it, and what it costs.
@@ -115,11 +151,14 @@ fn schedule_of(
     };
     let least = cost(network, &flow);
     let goal = goal_of(&flow, task, spec);
-    let potentials = sharpened(alloc, network, &flow, potentials, &goal)?;
+    let paths = Paths::to(alloc, network, &flow, &potentials, &goal)?;
+    let potentials = sharpened(alloc, network, &flow, potentials, &paths)?;
     Ok(Schedule {
         flow,
         potentials,
         least,
+        goal,
+        paths,
     })
 }
 
@@ -144,22 +183,15 @@ fn sharpened(
     network: &Network,
     flow: &Flow,
     potentials: Potentials,
-    goal: &Node,
+    paths: &Paths,
 ) -> Result<Potentials, OutOfMemory>
     requires { IsCertified network.now flow.now potentials }
     ensures { IfOk result (IsCertified network.now flow.now) }
 {
-    let tried = tuned(alloc, network, flow, &potentials, goal)?;
+    let tried = paths.tuned(alloc, network)?;
     if check(network, flow, &tried) {
         Ok(tried)
     } else {
         Ok(potentials)
     }
-}
-
-// Whether the flow has units on the arc.
-fn has_units(flow: &Flow, from: &Node, to: &Node) -> bool
-    ensures { IsTrue result ↔ (0 < units_in flow.now from.now to.now) }
-{
-    flow.units(*from, *to).unwrap_or(0) != 0
 }

@@ -1,4 +1,5 @@
 use Rattle.std.proofs.Common.{◌≡◌, ◌∙◌, refl, sym, subst, ap, ℕ, ◌+◌, ◌≤◌, ◌<◌, ◌^◌, map, length, List}
+use Rattle.std.specs.Option.{IsSomeAnd}
 use Rattle.std.specs.Prelude.{IfSome, option_map, slice_get}
 use Rattle.std.specs.List.{All}
 use Rattle.std.specs.List.Sorted.{IsPermutation}
@@ -10,6 +11,7 @@ use Rattle.fm_why.specs.declared.reasons.Choice.{Choice}
 use Rattle.fm_why.specs.Running.{IsDearerOver}
 use Rattle.fm_why.specs.Ways.{IsOnlyRequest, ways_of}
 use Rattle.fm_why.specs.Reasons.{IsChoice}
+use Rattle.fm_why.specs.Examples.{IsExample}
 use Rattle.fm_why.proofs.Roomy.{only_request, ways_are_roomy}
 use Rattle.fm_why.proofs.Pricing.{each_roomy, first_within, fits_all, stays_least}
 use Rattle.fm_why.proofs.why.choices.Goals as goal
@@ -25,7 +27,7 @@ returns c =
     let schedule = c.in_ok-schedule.schedule in
     let spec = c.args.spec in
     let price : c.price_of-price.result ≡ option_map (λ (e : Choice). c.args.job.wait + e.dearer) (slice_get c.in_ok-machines.machines.items 0) =
-    c.price_of-price.ensures ∙ ap (λ (es : List Choice). option_map (λ (e : Choice). c.args.job.wait + e.dearer) (slice_get es 0)) c.deref.ensures.value in
+    c.price_of-price.ensures ∙ ap (λ (es : List Choice). option_map (λ (e : Choice). c.args.job.wait + e.dearer) (slice_get es 0)) c.as_slice-listed.ensures.value in
     record {
       request = refl;
       wait = rw c.requires.job refl;
@@ -43,6 +45,9 @@ returns c =
       cheapest_first = c.in_ok-machines.ensures.cheapest_first;
       known = c.len.ensures ∙ ap length c.machines.ensures;
       price = price;
+      example =
+          let at = λ (n : Net) (es : List Choice). IfSome c.in_ok-example.example (λ example. IsSomeAnd (slice_get es 0) (λ e. IsExample n (units_in schedule.flow) c.args.task e.machine example)) in
+          subst (at (net_of k)) c.as_slice-listed.ensures.value (subst (λ (n : Net). at n c.as_slice-listed.result.now) is c.in_ok-example.ensures);
       stays = λ more within.
           let items = c.in_ok-machines.machines.items in
           let first = first_within c.args.job.wait more (slice_get items 0) (subst (λ o. IfSome o (λ price. c.args.job.wait + more ≤ price)) price within) in
@@ -57,4 +62,7 @@ returns c =
     }
 
 pub price_of-price-requires : goal.price_of-price-requires
-price_of-price-requires c = subst (All (λ (e : Choice). e.dearer < 2 ^ 111)) (sym c.deref.ensures.value) (fits_all c.in_ok-network.network c.in_ok-schedule.schedule.least c.args.task c.args.spec.request c.in_ok-machines.machines.items c.in_ok-machines.ensures.each)
+price_of-price-requires c = subst (All (λ (e : Choice). e.dearer < 2 ^ 111)) (sym c.as_slice-listed.ensures.value) (fits_all c.in_ok-network.network c.in_ok-schedule.schedule.least c.args.task c.args.spec.request c.in_ok-machines.machines.items c.in_ok-machines.ensures.each)
+
+pub example_of-requires : goal.example_of-requires
+example_of-requires c = (c.args.knowledge.now, c.law_can_be.ensures, c.in_ok-network.ensures)

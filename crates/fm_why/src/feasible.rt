@@ -1,0 +1,95 @@
+//! Whether a flow is feasible, and runs a task on a machine.
+
+ghost use Rattle.std.specs.Prelude.{◌≡◌, ◌↔◌, ◌<◌, IsTrue};
+ghost use Rattle.std.specs.List.{list_all};
+ghost use Rattle.fm_certificate.specs.Checks.{sends};
+ghost use Rattle.fm_certificate.specs.Flows.{units_in, IsFeasible};
+ghost use Rattle.fm_why.specs.Examples.{AreWithin};
+ghost use Rattle.fm_why.specs.Running.{Sends, RunsOn};
+
+use fm_certificate::flow::Flow;
+use fm_net::network::Network;
+use fm_net::node::Node;
+use fm_records::ids::{MachineId, TaskId};
+
+/// A task, its request, and a machine on which it is to run.
+#[derive(Debug, Clone, Copy, Drop)]
+pub(crate) struct Aim {
+    pub(crate) task: TaskId,
+    pub(crate) request: u32,
+    pub(crate) machine: MachineId,
+}
+
+/// Whether the flow's keys are the network's arcs, and it is feasible. O((nodes + arcs) log nodes).
+pub(crate) fn is_feasible(network: &Network, flow: &Flow) -> bool
+    ensures { IsTrue result → IsFeasible network.now (units_in flow.now) }
+{
+    flow.known();
+    if !arcs_suffice(network, flow) {
+        return false;
+    }
+    nodes_send(network, flow)
+}
+
+/// Whether the flow runs the task on the machine, over an arc of its own or over its request.
+pub(crate) fn runs_on(network: &Network, flow: &Flow, aim: &Aim) -> bool
+    ensures { IsTrue result → RunsOn network.now (units_in flow.now) aim.now.task aim.now.machine }
+{
+    let task = Node::Task(aim.task);
+    let via = Node::Request(aim.request);
+    let machine = Node::Machine(aim.machine);
+    if sends_over(network, flow, &task, &machine) {
+        return true;
+    }
+    sends_over(network, flow, &task, &via) && sends_over(network, flow, &via, &machine)
+}
+
+/// Whether the flow has units on the arc. O(log n).
+pub(crate) fn has_units(flow: &Flow, from: &Node, to: &Node) -> bool
+    ensures { IsTrue result ↔ (0 < units_in flow.now from.now to.now) }
+{
+    flow.units(*from, *to).unwrap_or(0) != 0
+}
+
+// Whether the network has the arc, and the flow sends units over it.
+fn sends_over(network: &Network, flow: &Flow, from: &Node, to: &Node) -> bool
+    ensures { IsTrue result → Sends network.now (units_in flow.now) from.now to.now }
+{
+    network.arc(*from, *to).is_some() && has_units(flow, from, to)
+}
+
+// Whether the flow's keys are exactly the arcs, and each arc's units are within its capacity.
+fn arcs_suffice(network: &Network, flow: &Flow) -> bool
+    ensures { IsTrue result ↔ AreWithin flow.now network.now.arcs }
+{
+    let mut entries = flow.iter();
+    for (from, to, capacity, _) in network.arcs() {
+        let Some((source, target, units)) = entries.next() else {
+            return false;
+        };
+        if source != from || target != to || units > capacity {
+            return false;
+        }
+    }
+    entries.next().is_none()
+}
+
+// Whether each task sends one unit, and each node between tasks and sink what enters it.
+fn nodes_send(network: &Network, flow: &Flow) -> bool
+    ensures { result ≡ list_all (sends flow.now) network.now.nodes }
+{
+    network.nodes().all(|node| sends(flow, &node))
+}
+
+// Whether the node sends what it has to.
+fn sends(flow: &Flow, node: &Node) -> bool
+    ensures { result ≡ sends flow.now node.now }
+{
+    match node {
+        Node::Sink => true,
+        Node::Task(_) => flow.leaving(node) == 1,
+        Node::Unscheduled(_) | Node::Request(_) | Node::Machine(_) => {
+            flow.entering(node) == flow.leaving(node)
+        }
+    }
+}
