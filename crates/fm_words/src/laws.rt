@@ -28,9 +28,11 @@ pub fn law_examples()
         → heard (p ∷ codes "why" ∷ codes "--" ∷ id_text task ∷ []) ≡ run (why task None) }
     ensures at_task { (p : Text) (task : ℕ) → task < 2 ^ 128
         → heard (p ∷ codes "why" ∷ codes "--at=7" ∷ codes "--" ∷ id_text task ∷ []) ≡ run (why task (Some 7)) }
-    ensures task_at { (p task : Text) → look_of task ≡ plain → heard (p ∷ codes "why" ∷ task ∷ codes "--at" ∷ codes "7" ∷ [])
+    ensures task_at { (p task : Text) → look_of task ≡ plain
+        → heard (p ∷ codes "why" ∷ task ∷ codes "--at" ∷ codes "7" ∷ [])
         ≡ heard (p ∷ codes "why" ∷ codes "--at=7" ∷ codes "--" ∷ task ∷ []) }
-    ensures at_twice { (p : Text) → heard (p ∷ codes "why" ∷ codes "--at=1" ∷ codes "--at=1" ∷ codes "17" ∷ []) ≡ wrong }
+    ensures at_twice { (p : Text)
+        → heard (p ∷ codes "why" ∷ codes "--at=1" ∷ codes "--at=1" ∷ codes "17" ∷ []) ≡ wrong }
     ensures no_task { (p : Text) → heard (p ∷ codes "why" ∷ []) ≡ wrong }
     ensures flag { (p : Text) → heard (p ∷ codes "graph" ∷ codes "--at" ∷ codes "1" ∷ codes "-h" ∷ []) ≡ help }
     ensures topic { (p : Text) → heard (p ∷ codes "help" ∷ codes "solve" ∷ []) ≡ help }
