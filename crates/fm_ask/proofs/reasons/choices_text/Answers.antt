@@ -1,4 +1,4 @@
-use Rattle.std.proofs.Common.{◌≡◌, ◌++◌, ◌∙◌, ◌-◌, List, ap, length, string_bytes}
+use Rattle.std.proofs.Common.{◌++◌, ◌∙◌, ◌-◌, List, ap, length, string_bytes}
 use Rattle.std.specs.Prelude.{slice_get}
 use Rattle.fm_why.specs.declared.reasons.Choice.{Choice}
 use Rattle.fm_ask.specs.Reasons.{answer_line, machines_text, others_text, room_line, schedule_text, theory_line}
