@@ -27,7 +27,7 @@ wants_well (ask q at) text ending output h = answers_well h.query h.world ending
 wants_well agree text ending output h = answers_well h.query h.world ending output h.answered
 wants_well (pack name) text ending output h = answers_well h.query h.world ending output h.answered
 wants_well unpack text ending output h = inl h.0
-wants_well (why task) text ending output h = answers_well h.query h.world ending output h.answered
+wants_well (why task at) text ending output h = answers_well h.query h.world ending output h.answered
 
 stopped_not : (fault : Fault) → EndsWell (Stopped fault) → ⊥
 stopped_not fault (inl e) = cc
