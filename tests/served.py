@@ -176,8 +176,11 @@ on machine ..00a it costs 100, and each schedule that runs it there costs at lea
 room for its request of 100 on 1 of 1 machines that are known
 """ + THEORY
 WAITS = """\
-task ..011 waits, which costs 100: running it on the cheapest machine with room would cost at least 500 more
+task ..011 waits, which costs 100: running it on the cheapest machine with room would cost exactly 500 more
 this schedule costs 100, and none costs less
+it stays least while the price of waiting is 600 or less for this task, and as it is for all others
+a schedule that runs it on machine ..00a costs 600; tasks that go elsewhere in it: 1
+in it task ..011 goes over its request of 600
 on machine ..00a it costs 600, and each schedule that runs it there costs at least 500 more
 room for its request of 600 on 1 of 1 machines that are known
 """ + THEORY
@@ -218,6 +221,8 @@ RUNS = [
     ("winners", "J A B T OnA OnB", 0, "..011 0 1 ..00a 1 held\n", ""),
     ("why ..011", "J A T", 0, RUNS_AT_A, ""),
     ("why ..011", "JWait100 A T600", 0, WAITS, ""),
+    ("why ..011 --at 1", "JWait100 A T600", 0, WAITS, ""),
+    ("why --at=2 ..011", "JWait100 A T600", 3, "", "firmament: refusal 8\n"),
     ("why ..011", "J A T Used950", 0, NO_ROOM, ""),
     ("why ..011", "J A T OnA Lost", 0, NO_ROOM, ""),
     ("why ..011", "J A T OnA", 0, "task ..011 is held by machine ..00a\n", ""),
