@@ -1,6 +1,5 @@
 use Rattle.std.proofs.Common.{ap, ◌∙◌, vec_items}
 use Rattle.fm_world.specs.declared.step.Act.TheVariants as act
-use Rattle.fm_round.specs.Admission.{admitted}
 use Rattle.fm_follow.proofs.Results.{returned}
 use Rattle.fm_follow.proofs.Steps.{nobody_there, full, roomy, round_told}
 use Rattle.fm_follow.proofs.acting.planned_round.Goals as goal
