@@ -211,4 +211,4 @@ first_within wait more None h = tt
 first_within wait more (Some e) h = omega arith
 
 pub fits_all : (net : Net) (least t r : ℕ) (es : List Choice) → All (IsChoice net least t r) es → All (λ e. e.dearer < 2 ^ 111) es
-fits_all net least t r es h i d lt = (h i d lt).fits
+fits_all any least t r es h i d lt = (h i d lt).fits
