@@ -34,9 +34,10 @@ use fm_records::records::{JobReg, SpecReg};
 use std::alloc::Global;
 
 /// Where the task is by what is known; for a live task that no machine holds, what its schedule costs, how much dearer
-/// each schedule is that runs it on a machine, or leaves it waiting, at least, and up to which price of waiting its
-/// schedule stays least. Refused only if memory runs out. The cost is that of building the network and of solving it, if
-/// the task is live and not held.
+/// each schedule is that runs it on a machine, or leaves it waiting, at least, up to which price of waiting its schedule
+/// stays least, and possibly a schedule that runs it on the cheapest machine. Refused only if memory runs out. If the
+/// task is live and not held, the cost is that of building the network and of solving it, of shortest paths in it, and
+/// of at most two flows that are tried, O(arcs log arcs) each; else that of look-ups.
 pub fn why(alloc: Global, knowledge: &Knowledge, task: TaskId) -> Result<Reasons, OutOfMemory>
     ensures { IfOk result (AreReasons knowledge.now task) }
 {
