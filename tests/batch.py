@@ -41,10 +41,10 @@ class Batch:
         lines = all(isinstance(word, str) and word and "\n" not in word and "{}" not in word for word in words)
         return lines and text is not None and len(text) < LARGEST
 
-    def make(self, lanes):
-        """Has unproved builds run all that was asked for."""
+    def make(self):
+        """Has an unproved build run all that was asked for."""
         asked = sorted(self.numbers, key=self.numbers.get)
-        self.answers = dict(enumerate(runs.unproved(asked, lanes)))
+        self.answers = dict(enumerate(runs.unproved(asked)))
 
 
 def foreseen(words, text):

@@ -1,8 +1,9 @@
 """Tests of `firmament why`: each text is worked out again. That the bounds are never above what the cheapest schedule with the task
 there costs more is proved; that they are equal to it is proved where the text says "exactly", and else tested alone. That cost comes
 from the solver of tests/witness.py, which is made to send the task there, and for clusters of few tasks from all schedules, one by one
-(tests/schedules.py)."""
+(tests/schedules.py). Each change by which a task is said to run is told, and the cluster that comes of it is worked out in the same way."""
 import collections
+import json
 import pathlib
 import re
 import sys
@@ -20,14 +21,18 @@ KNOWN = re.compile(r"room .* of (\d+) machines that are known")
 EXAMPLE = re.compile(r"(?<= for all others\n)a schedule that runs it on machine (\S+) costs (\d+); tasks that go elsewhere in it: (\d+)\n"
                      r"((?:in it task .*\n)*)")
 MOVE = re.compile(r"in it task (\S+) (?:(waits)|(goes over its request of \d+)|runs on machine (\S+))\n")
-MOST_LINES, SHOWN, UNKNOWN = 20, 5, 7
+REMEDY = re.compile(r"with (?:1 more slot|(\d+) more bandwidth) on machine (\S+) it would run (?:there|on machine (\S+)): "
+                    r"the schedule then costs (\d+), and none costs less\n")
+AHEAD = re.compile(r"\Atask .* waits.*\nthis schedule costs .*\n(?:it stays least .*\n)?\Z")
+MOST_LINES, SHOWN, UNKNOWN, MOST_SLOTS, MOST_NIC = 20, 5, 7, 1000, 10 ** 6
 THEORY = "by potentials that certify the schedule: what is sent over an empty arc costs at least its reduced cost more"
 
 # Of a task that no machine holds: its id, its request, what waiting costs, and what the cheapest schedule costs. For each machine to which
 # it has a way, by id, and None for waiting: what the cheaper way costs, and how much dearer the cheapest schedule is with the task there.
 Facts = collections.namedtuple("Facts", "name request wait least places")
 
-# A text without its example, and of the example the machine and the cost, or None. The schedule that it shows may be any of that cost.
+# A text without its example and its changes, and of the example the machine and the cost, or None. The schedule that it shows may be any
+# of that cost.
 Said = collections.namedtuple("Said", "text machine cost", defaults=(None, None))
 
 
@@ -45,8 +50,10 @@ def lines_of(facts, waits, known):
     yield "this schedule costs %d, and none costs less" % facts.least
     if waits and places:
         yield "it stays least while the price of waiting is %d or less for this task, and as it is for all others" % (facts.wait + places[0][0])
-    for more, name, cost in places[:SHOWN]:
-        yield "on machine %s it costs %d, and each schedule that runs it there costs at least %d more" % (name, cost, more)
+    for place, (more, name, cost) in enumerate(places[:SHOWN]):
+        is_exact = waits and place == 0
+        how = "the cheapest schedule that runs it there costs exactly" if is_exact else "each schedule that runs it there costs at least"
+        yield "on machine %s it costs %d, and %s %d more" % (name, cost, how, more)
     if places[SHOWN:]:
         yield "on each of %d other machines with room at least %d more" % (len(places) - SHOWN, places[SHOWN][0])
     yield "room for its request of %d on %d of %s machines that are known" % (facts.request, len(places), known)
@@ -76,7 +83,11 @@ def texts(known, task, facts_of):
 
 
 def is_said(text, said):
-    """Whether the text is this one, with an example just if there has to be one."""
+    """Whether the text is this one, with an example just if there has to be one, and changes only of a task that waits."""
+    told = REMEDY.search(text)
+    if told and not AHEAD.match(text[:told.start()]):
+        return False
+    text = REMEDY.sub("", text, 2)
     found = EXAMPLE.search(text)
     if found is None or said.machine is None:
         return found is None and said.machine is None and text == said.text
@@ -108,6 +119,74 @@ def wrong_moves(network, flow, text):
     return None if cost == int(found[2]) else "with these moves a schedule costs %d, not %s" % (cost, found[2])
 
 
+def lacks_of(known, request):
+    """For each open machine without room for the request: whether it holds as many tasks as it has slots, what it lacks, and its id. None
+    that would get more bandwidth than there may be."""
+    held, sums = collections.Counter(), collections.Counter()
+    for task in filter(known.is_live, known.specs):
+        held[known.holder(task)] += 1
+        sums[known.holder(task)] += known.specs[task][4]
+    for machine in filter(known.is_open, known.states):
+        _, _, _, slots, nic = known.states[machine]
+        wanted = max(known.reports.get(machine, (0, 0))[1], sums[machine]) + request
+        if nic < wanted <= MOST_NIC:
+            yield held[machine] >= slots, wanted - nic, machine
+
+
+def changes_of(known, task, first):
+    """The changes that are tried for a task that waits: a machine, how many more slots, and how much more bandwidth."""
+    if first is not None and known.states[first][3] < MOST_SLOTS:
+        yield first, 1, 0
+    for _, by, machine in sorted(lacks_of(known, known.specs[task][4]))[:1]:
+        yield machine, 0, by
+
+
+def changed(taken, machine, slots, nic):
+    """What the operations come to if the machine is told to have so many more slots and so much more bandwidth."""
+    known = reference.Known(taken)
+    version, writer, is_up, before, bandwidth = known.states[machine]
+    told = {"id": reference.name(machine), "incarnation": known.incarnations[machine], "version": version + 1, "writer": writer,
+            "up": is_up, "slots": before + slots, "nic": bandwidth + nic}
+    return reference.Known(set(taken) | {reference.operation("machine", told)})
+
+
+def wrong_changes(taken, task, text, places_in):
+    """What is wrong with the changes that the text tells of, or None. `places_in` answers by what is known what the least schedule costs,
+    and for each place of a task how much dearer the cheapest schedule is with it there."""
+    said = {(reference.number(machine), 0 if by else 1, int(by or 0)): (reference.number(place or machine), int(cost))
+            for by, machine, place, cost in REMEDY.findall(text)}
+    known = reference.Known(taken)
+    waits = " waits" in text.partition("\n")[0]
+    _, places = places_in(known, task)
+    first = min(((more, place) for place, more in places.items() if place is not None), default=(0, None))[1]
+    for change in changes_of(known, task, first) if waits else ():
+        least, places = places_in(changed(taken, *change), task)
+        machine, slots, by = change
+        if change not in said:
+            if places[None] > 0:
+                return "%s is not told of, and the task runs in each least schedule" % (change,)
+        elif said[change][1] != least or places.get(said[change][0]) != 0:
+            return "%s is told of as %s: %d, %s" % (change, said[change], least, places)
+        if by and (machine not in places or machine in places_in(changed(taken, machine, 0, by - 1), task)[1]):
+            return "%d is not what machine %s lacks" % (by, reference.name(machine))
+        said.pop(change, None)
+    return "%s is told of" % said if said else None
+
+
+def places_by_flows(known, task):
+    """What a least schedule costs, and how much dearer it is with the task at each place, by the solver of tests/witness.py."""
+    network = networks.read_dump("".join(reference.graph(known)))
+    node = next(node for node in network.of_kind("T") if network.nodes[node].name == reference.name(task))
+    least = witness.least_cost(*whys.problem(network))
+    return least, {place and reference.number(place): more for place, (_, more) in facts_by_flows(network, least, node).places.items()}
+
+
+def places_by_schedules(known, task):
+    """The same from all schedules, one by one."""
+    found = schedules.Schedules(known)
+    return found.least, {place: more for place, (_, more) in found.places(task).items()}
+
+
 def facts_by_flows(network, least, task):
     """The facts on a task of a network, by the solver of tests/witness.py: it is forced along each of its ways."""
     found = {}
@@ -127,10 +206,20 @@ def texts_by_flows(known, task):
     return texts(known, task, facts_of)
 
 
+def taken_of(script):
+    """What the first coordinator of a script took in, or None if the rules leave it open."""
+    script = json.loads(script)
+    try:
+        return frozenset(reference.World(script).coordinators[script["coordinators"][0]].taken)
+    except reference.NotSaid:
+        return None
+
+
 def explained(name, run, script, few=None):
-    """Whether all that is said of the tasks of a script holds; of a few if there are many. The flow that `solve` prints is the one
-    that was found."""
+    """Whether all that is said of the tasks of a script holds; of a few if there are many, and then not of the changes. The flow that
+    `solve` prints is the one that was found."""
     network = networks.read_dump(run("graph", script))
+    taken = None if few else taken_of(script)
     flow = networks.read_solution(run("solve", script), network)
     for task in network.of_kind("T")[::few]:
         ident = network.nodes[task].name
@@ -142,6 +231,8 @@ def explained(name, run, script, few=None):
             waits = bool(flow.units.get((task, network.next_of(task, "U"))))
             wanted = [texts_of_facts(facts_by_flows(network, flow.cost, task), known)[waits]]
         wrong = wrong_of(text, wanted) or wrong_moves(network, flow, text)
+        if taken and not network.is_held(task):
+            wrong = wrong or wrong_changes(taken, reference.number(ident), text, places_by_flows)
         yield "reasons of task %s of %s: %s" % (ident[-4:], name, wrong or "so"), wrong is None
 
 
@@ -156,7 +247,14 @@ def enumerated(run, seeds):
             places = {place and reference.name(place): numbers for place, numbers in found.places(task).items()}
             return Facts(reference.name(task), known.specs[task][4], known.jobs[known.specs[task][3]][3], found.least, places)
 
-        wrong = [wrong_of(run("why", script, reference.name(task)), texts(known, task, facts_of)) for task in tasks + [UNKNOWN]]
+        def wrong_for(task):
+            text = run("why", script, reference.name(task))
+            wrong = wrong_of(text, texts(known, task, facts_of))
+            is_free = known.is_live(task) and known.holder(task) is None
+            return wrong or (wrong_changes(taken, task, text, places_by_schedules) if is_free else None)
+
+        taken = {reference.operation(*next(iter(step.items()))) for step in steps}
+        wrong = [wrong_for(task) for task in tasks + [UNKNOWN]]
         yield "reasons in all %d schedules of %d: %s" % (found.count, seed, list(filter(None, wrong)) or "so"), not any(wrong)
 
 

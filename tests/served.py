@@ -181,8 +181,25 @@ this schedule costs 100, and none costs less
 it stays least while the price of waiting is 600 or less for this task, and as it is for all others
 a schedule that runs it on machine ..00a costs 600; tasks that go elsewhere in it: 1
 in it task ..011 goes over its request of 600
-on machine ..00a it costs 600, and each schedule that runs it there costs at least 500 more
+on machine ..00a it costs 600, and the cheapest schedule that runs it there costs exactly 500 more
 room for its request of 600 on 1 of 1 machines that are known
+""" + THEORY
+SLOT_WANTED = """\
+task ..011 waits, which costs 700: running it on the cheapest machine with room would cost exactly 100 more
+this schedule costs 1200, and none costs less
+it stays least while the price of waiting is 800 or less for this task, and as it is for all others
+with 1 more slot on machine ..00a it would run there: the schedule then costs 1100, and none costs less
+a schedule that runs it on machine ..00a costs 1300; tasks that go elsewhere in it: 2
+in it task ..011 goes over its request of 600
+in it task ..012 waits
+on machine ..00a it costs 600, and the cheapest schedule that runs it there costs exactly 100 more
+room for its request of 600 on 1 of 1 machines that are known
+""" + THEORY
+BANDWIDTH_WANTED = """\
+task ..011 waits: no machine has room for its request of 100
+this schedule costs 1000000000, and none costs less
+with 50 more bandwidth on machine ..00a it would run there: the schedule then costs 1050, and none costs less
+room for its request of 100 on 0 of 1 machines that are known
 """ + THEORY
 NO_ROOM = """\
 task ..011 waits: no machine has room for its request of 100
@@ -223,7 +240,9 @@ RUNS = [
     ("why ..011", "JWait100 A T600", 0, WAITS, ""),
     ("why ..011 --at 1", "JWait100 A T600", 0, WAITS, ""),
     ("why --at=2 ..011", "JWait100 A T600", 3, "", "firmament: refusal 8\n"),
+    ("why ..011", "J700 AOneSlot T600 U500", 0, SLOT_WANTED, ""),
     ("why ..011", "J A T Used950", 0, NO_ROOM, ""),
+    ("why ..011", "MostWait A T Used950", 0, BANDWIDTH_WANTED, ""),
     ("why ..011", "J A T OnA Lost", 0, NO_ROOM, ""),
     ("why ..011", "J A T OnA", 0, "task ..011 is held by machine ..00a\n", ""),
     ("why ..011", "J A T TDone", 0, NOT_LIVE, ""),
@@ -452,8 +471,8 @@ def orders(seen):
 def reads(narrowed):
     """Input comes a few bytes at a time, and at its end reading ends or fails."""
     for at_a_time in 1, 7, 65536:
-        whole, fails = (narrowed("graph", "J A T", reads=at_a_time, fails=fails) for fails in (0, 1))
-        yield "input by %d bytes" % at_a_time, whole == answer(0, WAITING, "")
+        yield "input by %d bytes" % at_a_time, narrowed("graph", "J A T", reads=at_a_time, fails=0) == answer(0, WAITING, "")
+        fails = narrowed("graph", "J A T", reads=at_a_time, fails=1)
         yield "input by %d bytes that fails" % at_a_time, fails == answer(3, "", "firmament: refusal 16\n")
 
 

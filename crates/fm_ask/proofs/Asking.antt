@@ -10,7 +10,7 @@ use Rattle.fm_dimacs.specs.Sending.{StopsBy}
 use Rattle.fm_round.specs.declared.parts.Plan.{Plan}
 use Rattle.fm_round.specs.Schedules.{IsPlanOf}
 use Rattle.fm_coord.specs.Events.{Sent, Replica}
-use Rattle.fm_coord.specs.Replays.{seen}
+use Rattle.fm_coord.specs.Replays.{seen_packet}
 use Rattle.fm_coord.specs.States.{State}
 use Rattle.fm_world.specs.Worlds.{WorldOfSets, with_number}
 use Rattle.fm_world.specs.Stands.{Kept, WorldStandsFor, state_with}
@@ -28,28 +28,28 @@ module _ (k : Kept) (w : WorldOfSets) (at : ℕ) (h : WorldStandsFor k w) (P : O
       let q : Stood (with_number w.replicas at) s = stood at k.coordinators w.replicas h.coordinators s (sym e) in
       subst P (sym q.at) (p q.replica q.stands.knowledge)
 
-no_packet : (o : Option Sent) → None ≡ option_map seen o → o ≡ None
+no_packet : (o : Option Sent) → None ≡ option_map seen_packet o → o ≡ None
 no_packet None e = refl
 no_packet (Some p) e = absurd (let no : ⊥ = cc in no)
 
 record IsSeen (o : Option Sent) (p : Packet) : Type 0 where
   sent : Sent
   there : o ≡ Some sent
-  is : p ≡ seen sent
+  is : p ≡ seen_packet sent
 
-is_seen : (o : Option Sent) (p : Packet) → Some p ≡ option_map seen o → IsSeen o p
+is_seen : (o : Option Sent) (p : Packet) → Some p ≡ option_map seen_packet o → IsSeen o p
 is_seen None p e = absurd (let no : ⊥ = cc in no)
 is_seen (Some s) p e = record { sent = s; there = refl; is = cc }
 
 -- the same of packets
 module _ (k : Kept) (w : WorldOfSets) (n : ℕ) (h : WorldStandsFor k w) (P : Option Sent → Type 0) where
-  packet_seen : slice_get k.packets n ≡ option_map seen (slice_get w.packets n)
-  packet_seen = ap (λ ps. slice_get ps n) h.packets ∙ slice_get-map seen w.packets n
+  packet_seen : slice_get k.packets n ≡ option_map seen_packet (slice_get w.packets n)
+  packet_seen = ap (λ ps. slice_get ps n) h.packets ∙ slice_get-map seen_packet w.packets n
 
   pub of_no_packet : None ≡ slice_get k.packets n → P None → P (slice_get w.packets n)
   of_no_packet e p = subst P (sym (no_packet _ (e ∙ packet_seen))) p
 
-  pub of_packet : (p : Packet) → Some p ≡ slice_get k.packets n → ((s : Sent) → p ≡ seen s → P (Some s)) → P (slice_get w.packets n)
+  pub of_packet : (p : Packet) → Some p ≡ slice_get k.packets n → ((s : Sent) → p ≡ seen_packet s → P (Some s)) → P (slice_get w.packets n)
   of_packet p e f =
       let s : IsSeen (slice_get w.packets n) p = is_seen _ p (e ∙ packet_seen) in
       subst P (sym s.there) (f s.sent s.is)

@@ -1,14 +1,17 @@
 -- The text that says why a task waits or runs (this project's profile).
-use Rattle.std.specs.Prelude.{◌≡◌, ℕ, Bool, ◌+◌, ◌-◌, ◌==◌, List, [], ◌++◌, if◌then◌else◌, codes, decimal, length, take, Option, Some, None, slice_get}
+use Rattle.std.specs.Prelude.{◌≡◌, ℕ, Bool, ◌+◌, ◌-◌, ◌==◌, List, [], ◌++◌, if◌then◌else◌, codes, decimal, length, take, drop, Option, Some, None, slice_get}
 use Rattle.fm_records.specs.Ids.{id_text}
 use Rattle.fm_records.specs.Options.{passes}
 use Rattle.fm_records.specs.Table.{Table}
 use Rattle.fm_net.specs.declared.node.Node.{Node}
 use Rattle.fm_net.specs.declared.node.Node.TheVariants.{Sink, Unscheduled, Request, Machine, Task}
+use Rattle.fm_why.specs.declared.reasons.Change.{Change}
+use Rattle.fm_why.specs.declared.reasons.Change.TheVariants.{Slot, Bandwidth}
 use Rattle.fm_why.specs.declared.reasons.Choice.{Choice}
 use Rattle.fm_why.specs.declared.reasons.Choices.{Choices}
 use Rattle.fm_why.specs.declared.reasons.Example.{Example}
 use Rattle.fm_why.specs.declared.reasons.Move.{Move}
+use Rattle.fm_why.specs.declared.reasons.Remedy.{Remedy}
 use Rattle.fm_why.specs.declared.reasons.Reasons.{Reasons}
 use Rattle.fm_why.specs.declared.reasons.Reasons.TheVariants.{Unknown, NotLive, Held, Free}
 use Rattle.fm_why.specs.Reasons.{AreReasons}
@@ -46,9 +49,29 @@ price_text (Some price) = codes "it stays least while the price of waiting is " 
 abbrev pub price_line : Choices → List ℕ
 price_line c = if c.waits then price_text c.price else []
 
--- what the schedule costs, and until when that is least
+-- a change of a machine
+abbrev pub change_text : Change → List ℕ
+change_text Slot = codes "with 1 more slot"
+change_text (Bandwidth by) = codes "with " ++ (decimal by ++ codes " more bandwidth")
+
+-- where the task would run then
+abbrev pub place_text : Remedy → List ℕ
+place_text e = if e.place == e.machine then codes " it would run there" else codes " it would run on machine " ++ id_text e.place
+
+-- what that costs
+abbrev pub remedy_end : Remedy → List ℕ
+remedy_end e = codes ": the schedule then costs " ++ (decimal e.cost ++ codes ", and none costs less")
+
+-- a change by which the task would run
+abbrev pub remedy_text : Remedy → List ℕ
+remedy_text e = change_text e.change ++ (codes " on machine " ++ (id_text e.machine ++ (place_text e ++ remedy_end e)))
+
+abbrev pub remedies_text : Choices → List ℕ
+remedies_text c = lines_of remedy_text c.remedies.items
+
+-- what the schedule costs, until when that is least, and the changes by which the task would run
 abbrev pub schedule_text : Choices → List ℕ
-schedule_text c = cost_line c ++ price_line c
+schedule_text c = cost_line c ++ (price_line c ++ remedies_text c)
 
 -- where a task goes in a schedule
 abbrev pub goal_text : Node → List ℕ
@@ -75,9 +98,23 @@ example_text _ _ = []
 abbrev pub choice_text : Choice → List ℕ
 choice_text e = codes "on machine " ++ (id_text e.machine ++ (codes " it costs " ++ (decimal e.cost ++ (codes ", and each schedule that runs it there costs at least " ++ (decimal e.dearer ++ codes " more")))))
 
+-- the same of a machine for which a schedule was found that costs just so much more
+abbrev pub exact_text : Choice → List ℕ
+exact_text e = codes "on machine " ++ (id_text e.machine ++ (codes " it costs " ++ (decimal e.cost ++ (codes ", and the cheapest schedule that runs it there costs exactly " ++ (decimal e.dearer ++ codes " more")))))
+
+abbrev pub first_line : Choices → Choice → List ℕ
+first_line c e = (if is_exact c e then exact_text e else choice_text e) ++ codes "\n"
+
+-- the cheapest machine, of which alone such a schedule is looked for
+abbrev pub first_text : Choices → Option Choice → List ℕ
+first_text c None = []
+first_text c (Some e) = first_line c e
+
 -- an example, and the five cheapest machines
 abbrev pub machines_text : Choices → List ℕ
-machines_text c = example_text (slice_get c.machines.items 0) c.example ++ lines_of choice_text (take 5 c.machines.items)
+machines_text c =
+    example_text (slice_get c.machines.items 0) c.example
+    ++ (first_text c (slice_get c.machines.items 0) ++ lines_of choice_text (take 4 (drop 1 c.machines.items)))
 
 -- the machines behind the five that are listed, from the first of them on
 abbrev pub others_text : ℕ → Option Choice → List ℕ

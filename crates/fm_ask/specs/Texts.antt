@@ -12,7 +12,7 @@ use Rattle.fm_flow.specs.Flows.{Units, IsLeast}
 use Rattle.fm_dimacs.specs.Solution.{solution_text}
 use Rattle.fm_dimacs.specs.Text.{dump_text}
 use Rattle.fm_coord.specs.Events.{Sent, Replica}
-use Rattle.fm_coord.specs.Replays.{seen}
+use Rattle.fm_coord.specs.Replays.{seen_packet}
 use Rattle.fm_ask.specs.declared.agree.Disagreement.{Disagreement}
 use Rattle.fm_ask.specs.Winners.{winners_text}
 
@@ -46,7 +46,7 @@ abbrev pub line_of : Packet → List ℕ
 line_of p = encode_lower (spelling p) ++ codes "\n"
 
 abbrev pub packet_line : Sent → List ℕ
-packet_line p = line_of (seen p)
+packet_line p = line_of (seen_packet p)
 
 -- the text is that of a least flow of the network
 pub record IsSolution (net : Net) (text : List ℕ) : Type 0 where

@@ -1,22 +1,26 @@
 //! Why a task waits or runs, as text.
 
-ghost use Rattle.std.specs.Prelude.{◌≡◌, ◌++◌, ◌-◌, length, take, slice_get, IfOk, OnOk, IsOkUnless, string_bytes};
-ghost use Rattle.fm_ask.specs.Reasons.{answer_line, bound_text, choice_text, choices_text, cost_line, example_head, example_text, goal_text, is_exact, held_text, machines_text, others_text, price_line, price_text, reasons_text, room_line, schedule_text, running_text, theory_line, waiting_text, IsReasonsText};
+ghost use Rattle.std.specs.Prelude.{◌≡◌, ◌++◌, ◌-◌, length, take, drop, slice_get, IfOk, OnOk, IsOkUnless, string_bytes};
+ghost use Rattle.fm_ask.specs.Reasons.{answer_line, bound_text, change_text, choices_text, cost_line, exact_text, example_head, example_text, first_line, first_text, goal_text, is_exact, held_text, machines_text, others_text, place_text, price_line, price_text, reasons_text, remedy_end, room_line, schedule_text, running_text, theory_line, waiting_text, IsReasonsText};
 
 use crate::lines::{LineText, write_lines};
 use fm_know::knowledge::Knowledge;
 use fm_net::node::Node;
 use fm_records::ids::{MachineId, TaskId};
 use fm_records::refusal::Refusal;
-use fm_why::reasons::{Choice, Choices, Example, Move, Reasons};
+use fm_why::reasons::{Change, Choice, Choices, Example, Move, Reasons, Remedy};
 use fm_why::why::why;
 use std::alloc::Global;
 
 // How many machines are listed: so the text has fewer than 20 lines for a cluster of any size.
 const SHOWN: usize = 5;
 
+// How many of them are behind the first.
+const BEHIND: usize = 4;
+
 /// Where the task is, by what is known, and for a live task that no machine holds, how much dearer each schedule is that
-/// runs it on one of the five cheapest machines, at least. Refused only if memory runs out. It costs what `why` does.
+/// runs it on one of the five cheapest machines, at least; if it waits, also up to two changes of a machine by which it would
+/// run. Refused only if memory runs out. It costs what `why` does.
 pub fn why_text(alloc: Global, knowledge: &Knowledge, task: TaskId) -> Result<String, Refusal>
     ensures ok { IfOk result (λ text. IsReasonsText knowledge.now task (string_bytes text)) }
     ensures err { IsOkUnless result Refusal.OutOfMemory }
@@ -58,7 +62,7 @@ fn choices_text(alloc: Global, task: TaskId, choices: &Choices) -> Result<String
 {
     let mut lines = String::new(alloc);
     write_answer(alloc, task, choices, &mut lines)?;
-    write_schedule(choices, &mut lines)?;
+    write_schedule(alloc, choices, &mut lines)?;
     write_machines(alloc, choices, &mut lines)?;
     write_others(&choices.machines, &mut lines)?;
     write_room(choices, &mut lines)?;
@@ -72,15 +76,72 @@ fn write_machines(alloc: Global, choices: &Choices, lines: &mut String) -> Resul
     ensures err { IsOkUnless result Refusal.OutOfMemory }
 {
     write_example(alloc, choices, lines)?;
-    write_lines(alloc, shown(&choices.machines), lines)
+    write_first(alloc, choices, lines)?;
+    write_lines(alloc, behind(choices.machines.as_slice()), lines)
 }
 
-// The first machines of the list.
-fn shown(machines: &[Choice]) -> &[Choice]
-    ensures { result.now ≡ take 5 machines.now }
+// Appends the cheapest machine, if there is one.
+fn write_first(alloc: Global, choices: &Choices, lines: &mut String) -> Result<(), Refusal>
+    ensures ok { OnOk result (string_bytes lines.new
+        ≡ string_bytes lines.old ++ first_text choices.now (slice_get choices.now.machines.items 0)) }
+    ensures err { IsOkUnless result Refusal.OutOfMemory }
 {
-    if machines.len() > SHOWN {
-        &machines[..SHOWN]
+    let Some(first) = choices.machines.first() else {
+        return Ok(());
+    };
+    write_first_line(alloc, choices, first, lines)
+}
+
+// Appends the cheapest machine.
+fn write_first_line(
+    alloc: Global,
+    choices: &Choices,
+    first: &Choice,
+    lines: &mut String,
+) -> Result<(), Refusal>
+    ensures ok { OnOk result (string_bytes lines.new ≡ string_bytes lines.old ++ first_line choices.now first.now) }
+    ensures err { IsOkUnless result Refusal.OutOfMemory }
+{
+    if is_exact(choices, first) {
+        write_exact(alloc, first, lines)?;
+    } else {
+        first.write_text(alloc, lines)?;
+    }
+    lines.push('\n')?;
+    Ok(())
+}
+
+// Appends a machine on which the cheapest schedule costs just so much more.
+fn write_exact(alloc: Global, choice: &Choice, lines: &mut String) -> Result<(), Refusal>
+    ensures ok { OnOk result (string_bytes lines.new ≡ string_bytes lines.old ++ exact_text choice.now) }
+    ensures err { IsOkUnless result Refusal.OutOfMemory }
+{
+    let machine = choice.machine.text(alloc)?;
+    let (cost, dearer) = (choice.cost, choice.dearer);
+    write!(
+        lines,
+        "on machine {machine} it costs {cost}, and the cheapest schedule that runs it there costs exactly {dearer} more"
+    )?;
+    Ok(())
+}
+
+// The first of the machines behind the cheapest.
+fn behind(machines: &[Choice]) -> &[Choice]
+    ensures { result.now ≡ take 4 (drop 1 machines.now) }
+{
+    if machines.is_empty() {
+        machines
+    } else {
+        first_four(&machines[1..])
+    }
+}
+
+// The first of the machines that are listed as all others.
+fn first_four(machines: &[Choice]) -> &[Choice]
+    ensures { result.now ≡ take 4 machines.now }
+{
+    if machines.len() > BEHIND {
+        &machines[..BEHIND]
     } else {
         machines
     }
@@ -144,13 +205,14 @@ fn write_waiting(choices: &Choices, lines: &mut String) -> Result<(), Refusal>
     Ok(())
 }
 
-// Appends what the schedule costs, and until when that is least.
-fn write_schedule(choices: &Choices, lines: &mut String) -> Result<(), Refusal>
+// Appends what the schedule costs, until when that is least, and by which changes the task would run.
+fn write_schedule(alloc: Global, choices: &Choices, lines: &mut String) -> Result<(), Refusal>
     ensures ok { OnOk result (string_bytes lines.new ≡ string_bytes lines.old ++ schedule_text choices.now) }
     ensures err { IsOkUnless result Refusal.OutOfMemory }
 {
     write_cost(choices, lines)?;
-    write_price(choices, lines)
+    write_price(choices, lines)?;
+    write_lines(alloc, choices.remedies.as_slice(), lines)
 }
 
 // Whether a schedule was found that runs the task on the machine and costs no more than each must.
@@ -346,4 +408,57 @@ impl LineText for Choice {
         )?;
         Ok(())
     }
+}
+
+impl LineText for Remedy {
+    ghost use Rattle.fm_ask.specs.Reasons.{remedy_text};
+
+    ghost line_text = { remedy_text };
+
+    fn write_text(&self, alloc: Global, lines: &mut String) -> Result<(), Refusal> {
+        write_change(self.change, lines)?;
+        let machine = self.machine.text(alloc)?;
+        write!(lines, " on machine {machine}")?;
+        write_place(alloc, self, lines)?;
+        write_remedy_end(self, lines)
+    }
+}
+
+// Appends a change of a machine.
+fn write_change(change: Change, lines: &mut String) -> Result<(), Refusal>
+    ensures ok { OnOk result (string_bytes lines.new ≡ string_bytes lines.old ++ change_text change) }
+    ensures err { IsOkUnless result Refusal.OutOfMemory }
+{
+    match change {
+        Change::Slot => lines.push_str("with 1 more slot")?,
+        Change::Bandwidth(by) => write!(lines, "with {by} more bandwidth")?,
+    }
+    Ok(())
+}
+
+// Appends where the task would run.
+fn write_place(alloc: Global, remedy: &Remedy, lines: &mut String) -> Result<(), Refusal>
+    ensures ok { OnOk result (string_bytes lines.new ≡ string_bytes lines.old ++ place_text remedy.now) }
+    ensures err { IsOkUnless result Refusal.OutOfMemory }
+{
+    if remedy.place == remedy.machine {
+        lines.push_str(" it would run there")?;
+    } else {
+        let place = remedy.place.text(alloc)?;
+        write!(lines, " it would run on machine {place}")?;
+    }
+    Ok(())
+}
+
+// Appends what the schedule costs in which the task runs.
+fn write_remedy_end(remedy: &Remedy, lines: &mut String) -> Result<(), Refusal>
+    ensures ok { OnOk result (string_bytes lines.new ≡ string_bytes lines.old ++ remedy_end remedy.now) }
+    ensures err { IsOkUnless result Refusal.OutOfMemory }
+{
+    let cost = remedy.cost;
+    write!(
+        lines,
+        ": the schedule then costs {cost}, and none costs less"
+    )?;
+    Ok(())
 }

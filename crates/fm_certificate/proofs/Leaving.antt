@@ -17,7 +17,7 @@ use Rattle.fm_net.specs.Same.{same_node}
 use Rattle.fm_certificate.specs.Totals.{Entry, source, units_at}
 use Rattle.fm_certificate.specs.Sources.{NoneBelow}
 use Rattle.fm_certificate.proofs.Alike.{same_itself, other_node}
-use Rattle.fm_net.proofs.Behind.{less_of}
+use Rattle.fm_lattice.proofs.Behind.{less_of}
 
 -- if ends rise, so do their sources, or stay
 still_below : (a b : Node × Node) (n : Node) → ends_cmp a b ≡ Less → node_cmp b.0 n ≡ Less → node_cmp a.0 n ≡ Less

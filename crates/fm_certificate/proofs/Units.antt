@@ -4,7 +4,7 @@ use Rattle.std.specs.Prelude.{Option, unwrap_or}
 use Rattle.std.specs.Ordering.{is_eq}
 use Rattle.std.proofs.lemmas.List.Sums.{sum_by-cons}
 use Rattle.fm_lattice.specs.Chains.{by_cases, by_order}
-use Rattle.fm_lattice.specs.Maps.{lookup, put, replaced, IsRising, AreValues}
+use Rattle.fm_lattice.specs.Maps.{lookup, put, keep_new, IsRising, AreValues}
 use Rattle.fm_lattice.specs.MapLaws.{lookup_below, below_trans, rising_put}
 use Rattle.fm_records.specs.Options.{or_else}
 use Rattle.fm_net.specs.declared.node.Node.{Node}
@@ -19,7 +19,7 @@ fits units = units < 2 ^ 64
 
 -- the map with the units in their place
 abbrev pub with_units : Node × Node → ℕ → List Entry → List Entry
-with_units k units es = put ends_cmp replaced k units es
+with_units k units es = put ends_cmp keep_new k units es
 
 pub fits_put : (k : Node × Node) (units : ℕ) (es : List Entry) → units < 2 ^ 64 → AreValues fits es → AreValues fits (with_units k units es)
 fits_put k units [] u f = (u, tt)
@@ -82,7 +82,7 @@ pub flow_put : (es : List Entry) (entering entering2 : List (Node × ℕ)) (k : 
     → ((n : Node) → total_in entering2 n + cond (same_node k.1 n) old 0 ≡ total_in entering n + cond (same_node k.1 n) units 0)
     → IsTotalled (with_units k units es) entering2
 flow_put es entering entering2 k units old flow u was came = record {
-  rises = rising_put ends_cmp ends_total ends_exact replaced k units es flow.rises;
+  rises = rising_put ends_cmp ends_total ends_exact keep_new k units es flow.rises;
   fits = fits_put k units es u flow.fits;
   enters = λ n. let change = rw was at came n in let before = flow.enters n in omega (arith, units_put target n k units es flow.rises);
 }

@@ -1,7 +1,7 @@
 //! Units on arcs.
 
 ghost use Rattle.std.specs.Prelude.{◌≡◌, ◌≤◌, ◌<◌, ◌^◌, List, length, IfOk, OnOk, OnErr, [], IsTrue, ◌↔◌};
-ghost use Rattle.fm_lattice.specs.Maps.{lookup, put, replaced, IsRising};
+ghost use Rattle.fm_lattice.specs.Maps.{lookup, put, keep_new, IsRising};
 ghost use Rattle.fm_net.specs.Nodes.{ends_cmp, node_cmp};
 ghost use Rattle.fm_certificate.specs.Totals.{source, target, units_at, IsTotalled};
 
@@ -9,8 +9,8 @@ use crate::entries::Entries;
 use crate::sources::sum_from;
 use crate::totals::{change, make_room, total_of, totals_of};
 use fm_lattice::join::OutOfMemory;
+use fm_lattice::rising::{set, value_at, value_near};
 use fm_net::node::Node;
-use fm_net::rising::{set, value_at, value_near};
 use std::alloc::Global;
 use std::collections::BTreeMap;
 use std::marker::Model;
@@ -65,7 +65,7 @@ impl Flow {
     /// no units on a key after the last, and O(log n) for units there or for a key that the flow has; before any other
     /// new key the keys after it move, in O(n).
     pub fn put(&mut self, from: Node, to: Node, units: u64) -> Result<(), OutOfMemory>
-        ensures ok { OnOk result (self.new ≡ put ends_cmp replaced (from, to) units self.old) }
+        ensures ok { OnOk result (self.new ≡ put ends_cmp keep_new (from, to) units self.old) }
         ensures err { OnErr result (self.new ≡ self.old) }
     {
         make_room(&mut self.entering, to, units)?;

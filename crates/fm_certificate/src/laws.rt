@@ -20,10 +20,12 @@ pub fn law_dearer()
         (others : Units) (from to : NodeName) (arc : ℕ × ℕ)
         → CanBeNet net → IsCertified net flow potentials → IsFeasible net others → arc_at net from to ≡ Some arc
         → units_in flow from to ≡ 0 → 0 < others from to
-        → (pos (cost_of net (units_in flow)) +ℤ reduced_cost arc.1 (potential_in potentials from) (potential_in potentials to)) ≤ℤ pos (cost_of net others) }
+        → (pos (cost_of net (units_in flow))
+        +ℤ reduced_cost arc.1 (potential_in potentials from) (potential_in potentials to)) ≤ℤ pos (cost_of net others) }
     ensures unused { (net : Net) (flow : List ((NodeName × NodeName) × ℕ)) (potentials : List (NodeName × ℤ))
         (others : Units) (from to : NodeName) (arc : ℕ × ℕ)
         → CanBeNet net → IsCertified net flow potentials → IsFeasible net others → arc_at net from to ≡ Some arc
         → 0 < units_in flow from to → others from to ≡ 0
-        → (pos (cost_of net (units_in flow)) -ℤ reduced_cost arc.1 (potential_in potentials from) (potential_in potentials to)) ≤ℤ pos (cost_of net others) }
+        → (pos (cost_of net (units_in flow))
+        -ℤ reduced_cost arc.1 (potential_in potentials from) (potential_in potentials to)) ≤ℤ pos (cost_of net others) }
 {}

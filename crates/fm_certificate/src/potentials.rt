@@ -1,15 +1,15 @@
 //! Potentials of nodes.
 
 ghost use Rattle.std.specs.Prelude.{◌≡◌, ◌↔◌, ◌<◌, ◌^◌, [], length, IsTrue, OnOk, OnErr};
-ghost use Rattle.fm_lattice.specs.Maps.{lookup, put, replaced, IsRising};
+ghost use Rattle.fm_lattice.specs.Maps.{lookup, put, keep_new, IsRising};
 ghost use Rattle.fm_net.specs.Nodes.{node_cmp};
 ghost use Rattle.fm_certificate.specs.Certificates.{potential_in};
 ghost use Rattle.fm_certificate.specs.Checks.{AreOf};
 
 use fm_lattice::join::OutOfMemory;
+use fm_lattice::rising::{set, value_at};
 use fm_net::network::Network;
 use fm_net::node::Node;
-use fm_net::rising::{set, value_at};
 use std::alloc::Global;
 use std::marker::Model;
 
@@ -56,7 +56,7 @@ impl Potentials {
     /// Sets the node's potential. If memory runs out, the potentials are unchanged. Amortised O(1) for a node
     /// after the last, and O(log n) for one that has a potential; for any other, those after it move, in O(n).
     pub fn put(&mut self, node: Node, potential: i128) -> Result<(), OutOfMemory>
-        ensures ok { OnOk result (self.new ≡ put node_cmp replaced node potential self.old) }
+        ensures ok { OnOk result (self.new ≡ put node_cmp keep_new node potential self.old) }
         ensures err { OnErr result (self.new ≡ self.old) }
     {
         set(&mut self.values, node, potential)?;

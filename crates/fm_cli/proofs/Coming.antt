@@ -7,7 +7,7 @@ use Rattle.fm_world.specs.Worlds.{WorldOfSets}
 use Rattle.fm_world.specs.Stands.{Kept, WorldStandsFor}
 use Rattle.fm_world.proofs.Runs.{each_knows, same_agree}
 use Rattle.fm_input.specs.declared.script.Step.{Step}
-use Rattle.fm_opening.specs.Openings.{opened}
+use Rattle.fm_opening.specs.Openings.{new_world}
 use Rattle.fm_cli.specs.Running.{Acts, Come, Refuses, StopsIn, IsRun}
 
 come_more : (w v u : WorldOfSets) (ss : List Step) (s : Step) → Come w ss v → Acts v s.at s.act u → Come w (ss ++ s ∷ []) u
@@ -26,11 +26,11 @@ pub come_all : (w v : WorldOfSets) (ss : List Step) (i : ℕ) → length ss ≤ 
 come_all w v ss i h came = subst (λ ts. Come w ts v) (take_all i ss h) came
 
 -- a world that stands for what all steps come to, with what holds of every world that stands for one
-pub is_run : (kept : Kept) (l listed : List ℕ) (ss steps : List Step) (v : WorldOfSets) → l ≡ listed → ss ≡ steps → Come (opened l) ss v → WorldStandsFor kept v → IsRun listed steps kept
+pub is_run : (kept : Kept) (l listed : List ℕ) (ss steps : List Step) (v : WorldOfSets) → l ≡ listed → ss ≡ steps → Come (new_world l) ss v → WorldStandsFor kept v → IsRun listed steps kept
 is_run kept l listed ss steps v same_l same_ss came stands =
     record {
       world = v;
-      came = subst (λ ts. Come (opened listed) ts v) same_ss (subst (λ ns. Come (opened ns) ss v) same_l came);
+      came = subst (λ ts. Come (new_world listed) ts v) same_ss (subst (λ ns. Come (new_world ns) ss v) same_l came);
       stands = stands;
       each_knows = each_knows kept v stands;
       same_agree = same_agree kept v stands;

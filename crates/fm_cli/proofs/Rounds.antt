@@ -6,7 +6,7 @@ use Rattle.fm_coord.specs.declared.view.View.{View}
 use Rattle.fm_coord.specs.States.{State}
 use Rattle.fm_world.specs.declared.step.Act.TheVariants as world
 use Rattle.fm_world.specs.Worlds.{WorldOfSets, with_number, cause_of, refusal_of, step_of}
-use Rattle.fm_world.specs.Stands.{Kept, WorldStandsFor, state_with, shown}
+use Rattle.fm_world.specs.Stands.{Kept, WorldStandsFor, state_with, view_shown}
 use Rattle.fm_world.proofs.Places.{Stood, stood}
 use Rattle.fm_world.proofs.Runs.{if_err}
 use Rattle.fm_round.specs.Schedules.{IsPlanOf}
@@ -19,7 +19,7 @@ record IsShown (o : Option State) (view : View) : Type 0 where
   there : o ≡ Some state
   knowledge : view.knowledge ≡ state.knowledge
 
-is_shown : (o : Option State) (view : View) → shown o world.View ≡ Some view → IsShown o view
+is_shown : (o : Option State) (view : View) → view_shown o world.View ≡ Some view → IsShown o view
 is_shown None view e = absurd (let no : ⊥ = cc in no)
 is_shown (Some s) view e = record { state = s; there = refl; knowledge = cc }
 
@@ -28,7 +28,7 @@ on_ok (Ok t) f h = f h
 on_ok (Err e) f h = tt
 
 module _ (k : Kept) (w : WorldOfSets) (at : ℕ) (h : WorldStandsFor k w) where
-  pub plan_at : (view : View) (plan : Plan) → shown (state_with k.coordinators at) world.View ≡ Some view → IsPlanOf view.knowledge plan → IsPlanAt w at plan
+  pub plan_at : (view : View) (plan : Plan) → view_shown (state_with k.coordinators at) world.View ≡ Some view → IsPlanOf view.knowledge plan → IsPlanAt w at plan
   plan_at view plan e p =
       let s : IsShown (state_with k.coordinators at) view = is_shown _ view e in
       let q : Stood (with_number w.replicas at) s.state = stood at k.coordinators w.replicas h.coordinators s.state s.there in

@@ -18,7 +18,7 @@ use Rattle.fm_cli.specs.declared.ending.Ending.{Ending}
 use Rattle.fm_cli.specs.declared.ending.Ending.TheVariants.{Done, Differ}
 use Rattle.fm_cli.specs.Faults.{fault_of, script_fault_of}
 use Rattle.fm_cli.specs.Endings.{coordinator_asked}
-use Rattle.fm_opening.specs.Openings.{opened}
+use Rattle.fm_opening.specs.Openings.{new_world}
 use Rattle.fm_cli.specs.Running.{Come, Stops, After}
 
 -- the text was not read as a script, and why
@@ -66,7 +66,7 @@ pub record IsOfScript (c : Asked) (text : List ℕ) (ending : Ending) (output : 
   pub query : Option Query
   pub asked : query_of c listed names ≡ Ok query
   pub world : WorldOfSets
-  pub came : Come (opened listed) steps world
+  pub came : Come (new_world listed) steps world
   pub answered : AnswersIn query world ending output
 
 -- the complete output of the command for the text, and the ending; `unpack` reads no script

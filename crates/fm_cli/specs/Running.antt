@@ -12,17 +12,17 @@ use Rattle.fm_cli.specs.declared.fault.Fault.{Fault}
 use Rattle.fm_input.specs.declared.script.Act.{Act}
 use Rattle.fm_input.specs.declared.script.Act.TheVariants as act
 use Rattle.fm_input.specs.declared.script.Step.{Step}
-use Rattle.fm_opening.specs.Openings.{opened}
+use Rattle.fm_opening.specs.Openings.{new_world}
 use Rattle.fm_follow.specs.Acting.{step_at, IsPlanAt, Takes}
 use Rattle.fm_cli.specs.Faults.{fault_of}
 
 -- what a step asks a coordinator for; a round asks it for a view first
-abbrev pub asked : Act → WorldAct
-asked (act.Tell op) = world.Tell op
-asked (act.Cut range) = world.Cut range
-asked (act.Deliver i) = world.Deliver i
-asked (act.Trim n) = world.Trim n
-asked act.Round = world.View
+abbrev pub world_act_of : Act → WorldAct
+world_act_of (act.Tell op) = world.Tell op
+world_act_of (act.Cut range) = world.Cut range
+world_act_of (act.Deliver i) = world.Deliver i
+world_act_of (act.Trim n) = world.Trim n
+world_act_of act.Round = world.View
 
 -- a round makes v of w: the view, and then the commit of a plan by what was known
 pub record Rounds (w : WorldOfSets) (at : ℕ) (v : WorldOfSets) : Type 0 where
@@ -35,7 +35,7 @@ pub record Rounds (w : WorldOfSets) (at : ℕ) (v : WorldOfSets) : Type 0 where
 -- what happens in a step of the script makes v of w
 abbrev pub Acts : WorldOfSets → ℕ → Act → WorldOfSets → Type 0
 Acts w at act.Round v = Rounds w at v
-Acts w at a v = Takes w (step_at at (asked a)) v
+Acts w at a v = Takes w (step_at at (world_act_of a)) v
 
 -- steps, one after another, make v of w
 abbrev pub Come : WorldOfSets → List Step → WorldOfSets → Type 0
@@ -44,7 +44,7 @@ Come w (s ∷ ss) v = (u : WorldOfSets) × Acts w s.at s.act u × Come u ss v
 
 -- the steps of the script led to a world of which this holds
 abbrev pub After : List ℕ → List Step → (WorldOfSets → Type 0) → Type 0
-After listed steps Holds = (w : WorldOfSets) × Come (opened listed) steps w × Holds w
+After listed steps Holds = (w : WorldOfSets) × Come (new_world listed) steps w × Holds w
 
 -- after its view a round is refused: memory ran out for a plan, or the commit is
 pub record StopsAfterView (w : WorldOfSets) (at : ℕ) (refusal : Refusal) : Type 0 where
@@ -55,7 +55,7 @@ pub record StopsAfterView (w : WorldOfSets) (at : ℕ) (refusal : Refusal) : Typ
 -- what happens in a step of the script is refused, and why
 abbrev pub Refuses : WorldOfSets → ℕ → Act → Refusal → Type 0
 Refuses w at act.Round refusal = (refusal ≡ refusal_of w (step_at at world.View)) ⊎ StopsAfterView w at refusal
-Refuses w at a refusal = refusal ≡ refusal_of w (step_at at (asked a))
+Refuses w at a refusal = refusal ≡ refusal_of w (step_at at (world_act_of a))
 
 -- a step of the script is refused, and named, counted from 1; those before it made a world of w
 pub record StopsIn (w : WorldOfSets) (steps : List Step) (fault : Fault) : Type 0 where
@@ -69,13 +69,13 @@ pub record StopsIn (w : WorldOfSets) (steps : List Step) (fault : Fault) : Type 
 
 -- memory ran out before the first step, or a step is refused
 abbrev pub Stops : List ℕ → List Step → Fault → Type 0
-Stops listed steps fault = (fault ≡ fault_of OutOfMemory) ⊎ StopsIn (opened listed) steps fault
+Stops listed steps fault = (fault ≡ fault_of OutOfMemory) ⊎ StopsIn (new_world listed) steps fault
 
 -- all steps ran: the coordinators stand for a world to which the steps lead, each knows what it took in, and those that
 -- took in the same operations agree
 pub record IsRun (listed : List ℕ) (steps : List Step) (kept : Kept) : Type 0 where
   pub world : WorldOfSets
-  pub came : Come (opened listed) steps world
+  pub came : Come (new_world listed) steps world
   pub stands : WorldStandsFor kept world
   pub each_knows : EachKnows kept world
   pub same_agree : SameAgree kept world

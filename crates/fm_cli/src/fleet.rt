@@ -7,9 +7,9 @@ ghost use Rattle.fm_cli.specs.Fleets.{IsUntold, IsCounted, IsNotCounted};
 
 use crate::fault::Fault;
 use crate::progress::Progress;
+use fm_exchange::muster::muster;
 use fm_input::script::Tells;
 use fm_input::telling::read_tells;
-use fm_muster::muster::muster;
 use std::alloc::Global;
 use std::sync::Wait;
 use std::thread::Threads;

@@ -1,7 +1,7 @@
 //! One run of the program, over its words, a source and a sink.
 
 ghost use Rattle.std.specs.Prelude.{◌≡◌, IfOk, IfErr, map, string_bytes};
-ghost use Rattle.fm_words.specs.Heard.{heard};
+ghost use Rattle.fm_words.specs.Heard.{telling_of};
 ghost use Rattle.fm_words.specs.Telling.{told_of};
 ghost use Rattle.fm_cli.specs.Served.{IsServed, IsStoppedReading, IsStreamed, TakesIn, WentOut, reads, renewal_of};
 
@@ -32,7 +32,7 @@ pub fn serve<T: Threads + Wait + Sync, S: Source, W: Sink>(
     source: &mut S,
     sink: &mut W,
 ) -> Ending
-    ensures { IsServed (heard (map string_bytes words.now)) (source.new ≡ source.old) result (record {
+    ensures { IsServed (telling_of (map string_bytes words.now)) (source.new ≡ source.old) result (record {
       given = S.remaining source.old;
       left = S.remaining source.new;
       source_failed = S.has_failed source.new;

@@ -2,7 +2,7 @@
 //! written.
 
 ghost use Rattle.std.specs.Prelude.{◌≡◌, map, string_bytes};
-ghost use Rattle.fm_words.specs.Heard.{heard};
+ghost use Rattle.fm_words.specs.Heard.{telling_of};
 ghost use Rattle.fm_cli.specs.Served.{IsServed};
 
 use crate::ending::Ending;
@@ -48,7 +48,7 @@ pub fn serve_watched<T: Threads + Wait + Clock + Eprint + Sync, S: Source + Drop
     source: S,
     sink: W,
 ) -> (Ending, S, W)
-    ensures { IsServed (heard (map string_bytes words.now)) (result.1 ≡ source) result.0 (record {
+    ensures { IsServed (telling_of (map string_bytes words.now)) (result.1 ≡ source) result.0 (record {
       given = S.remaining source;
       left = S.remaining result.1;
       source_failed = S.has_failed result.1;
@@ -65,7 +65,7 @@ pub fn serve_watched<T: Threads + Wait + Clock + Eprint + Sync, S: Source + Drop
         thread::scope_env(),
         rt,
         move |scope| -> (Ending, S, W)
-            ensures { IsServed (heard (map string_bytes words.entry.now)) (result.1 ≡ source) result.0 (record {
+            ensures { IsServed (telling_of (map string_bytes words.entry.now)) (result.1 ≡ source) result.0 (record {
               given = S.remaining source;
               left = S.remaining result.1;
               source_failed = S.has_failed result.1;
@@ -92,7 +92,7 @@ fn serve_beside<T: Threads + Wait + Eprint + Sync, S: Source, W: Sink + Drop>(
     source: &mut S,
     sink: W,
 ) -> (Ending, W)
-    ensures { IsServed (heard (map string_bytes words.now)) (source.new ≡ source.old) result.0 (record {
+    ensures { IsServed (telling_of (map string_bytes words.now)) (source.new ≡ source.old) result.0 (record {
       given = S.remaining source.old;
       left = S.remaining source.new;
       source_failed = S.has_failed source.new;

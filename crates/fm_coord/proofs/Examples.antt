@@ -16,7 +16,7 @@ use Rattle.fm_coord.specs.declared.entry.Entry.{Entry}
 use Rattle.fm_coord.specs.declared.entry.Range.TheVariants.{Interval, Full}
 use Rattle.fm_coord.specs.Events.{Replica, opening, packet_of, admitted_by}
 use Rattle.fm_coord.specs.Causes.{cause, bounds_of}
-use Rattle.fm_coord.specs.Replays.{seen, replay, IsLegal}
+use Rattle.fm_coord.specs.Replays.{seen_packet, replay, IsLegal}
 use Rattle.fm_coord.specs.States.{entry}
 
 abbrev job : Op
@@ -52,7 +52,7 @@ kept = refl
 cut_of_two : packet_of (after_three 10) (Interval 1 3) ≡ record { sender = 1; number = 1; set = machine ∷ task ∷ [] }
 cut_of_two = refl
 
-next_cut : packet_of (replay (after_three 10) (entry 0 (call.Cut Full) (reply.Packet (seen (packet_of (after_three 10) Full))) ∷ [])) (Interval 0 1) ≡ record { sender = 1; number = 2; set = job ∷ [] }
+next_cut : packet_of (replay (after_three 10) (entry 0 (call.Cut Full) (reply.Packet (seen_packet (packet_of (after_three 10) Full))) ∷ [])) (Interval 0 1) ≡ record { sender = 1; number = 2; set = job ∷ [] }
 next_cut = refl
 
 -- an empty interval at the end is cut; one that runs backwards or beyond the end is not

@@ -6,17 +6,17 @@ use Rattle.fm_records.specs.Spelled.{IsTable}
 use Rattle.fm_records.specs.SpelledLaws.{know_ops}
 use Rattle.fm_delta.specs.declared.packet.Packet.{Packet}
 use Rattle.fm_round.specs.declared.parts.Plan.{Plan}
-use Rattle.fm_round.specs.Admission.{admitted}
+use Rattle.fm_round.specs.Admission.{admission}
 use Rattle.fm_coord.specs.declared.entry.Call.{Call}
 use Rattle.fm_coord.specs.declared.entry.Call.TheVariants as call
 use Rattle.fm_coord.specs.declared.entry.Reply.TheVariants as reply
 use Rattle.fm_coord.specs.declared.entry.Entry.{Entry}
 use Rattle.fm_coord.specs.declared.entry.Range.{Range}
-use Rattle.fm_coord.specs.Events.{Event, Replica, opening, moved, admitted_by}
+use Rattle.fm_coord.specs.Events.{Event, Replica, opening, after_event, admitted_by}
 use Rattle.fm_coord.specs.Events as event
 use Rattle.fm_coord.specs.Causes.{cause, Bounds}
-use Rattle.fm_coord.specs.Replays.{call_of, event_of, reply_of, entered, replay, IsLegal}
-use Rattle.fm_coord.specs.States.{State, new_state, entry, bounds, took, gave, let_go, noted, cut_packet, after, StandsFor, replayed, IsCoordinator}
+use Rattle.fm_coord.specs.Replays.{call_of, event_of, reply_of, after_entry, replay, IsLegal}
+use Rattle.fm_coord.specs.States.{State, new_state, entry, bounds, took, gave, let_go, with_entry, cut_packet, after, StandsFor, replay_of, IsCoordinator}
 use Rattle.fm_coord.specs.StepLaws.{no_fault, has_room, test_failed, replay_more, legal_more, many, same_bounds, packet_is, stands_after}
 
 pub new_is : (number limit : ℕ) → IsCoordinator (new_state number limit)
@@ -50,7 +50,7 @@ again call.View t = refl
 again (call.Commit plan) t = refl
 
 -- an event adds a delta at most, and counts a cut at most
-one_delta : (r : Replica) (event : Event) → length (moved r event).buffer ≤ length r.buffer + 1
+one_delta : (r : Replica) (event : Event) → length (after_event r event).buffer ≤ length r.buffer + 1
 one_delta r (event.Tell op) = omega (arith, length-append r.buffer ((op ∷ []) ∷ []))
 one_delta r (event.Merge p) = omega (arith, length-append r.buffer (p.set ∷ []))
 one_delta r (event.Cut range) = omega arith
@@ -58,7 +58,7 @@ one_delta r (event.Trim n) = omega arith
 one_delta r event.View = omega arith
 one_delta r (event.Commit plan) = omega (arith, length-append r.buffer ((admitted_by r plan).ops ∷ []))
 
-one_cut : (r : Replica) (event : Event) → (moved r event).cuts ≤ r.cuts + 1
+one_cut : (r : Replica) (event : Event) → (after_event r event).cuts ≤ r.cuts + 1
 one_cut r (event.Tell op) = omega arith
 one_cut r (event.Merge p) = omega arith
 one_cut r (event.Cut range) = omega arith
@@ -95,12 +95,12 @@ module _ (s : State) (e : Entry) where
 room_left : (b : Bounds) (c : Call) → cause b c ≡ None → b.entries < b.limit
 room_left b c h = below b.limit b.entries (test_failed _ _ _ (has_room _ _ h))
 
-module _ (s : State) (is : IsCoordinator s) (e : Entry) (t : HasTable e.call) (h : cause (bounds s) e.call ≡ None) (replied : e.reply ≡ reply_of (replayed s) (event_of e.call)) where
+module _ (s : State) (is : IsCoordinator s) (e : Entry) (t : HasTable e.call) (h : cause (bounds s) e.call ≡ None) (replied : e.reply ≡ reply_of (replay_of s) (event_of e.call)) where
   abbrev start : Replica
   start = opening s.number s.limit
 
   abbrev now : Replica
-  now = replayed s
+  now = replay_of s
 
   abbrev left : State
   left = after s e e.call
@@ -108,9 +108,9 @@ module _ (s : State) (is : IsCoordinator s) (e : Entry) (t : HasTable e.call) (h
   same : e.call ≡ call_of (event_of e.call)
   same = again e.call t
 
-  stood : StandsFor left (entered now e)
+  stood : StandsFor left (after_entry now e)
   stood =
-      subst (λ c. StandsFor (after s e c) (entered now e)) (sym same)
+      subst (λ c. StandsFor (after s e c) (after_entry now e)) (sym same)
       (stands_after s now is.stands e (event_of e.call) same (subst (λ c. cause (bounds s) c ≡ None) same h))
 
   legal : IsLegal start (s.history ++ e ∷ [])
@@ -153,19 +153,19 @@ module _ (s : State) (is : IsCoordinator s) (by : ℕ) where
   keeps_merge p t h = keeps s is (entry by (call.Merge p) reply.Nothing) t h refl
 
   pub keeps_cut : (range : Range) → cause (bounds s) (call.Cut range) ≡ None → IsCoordinator (gave s (entry by (call.Cut range) (reply.Packet (cut_packet s range))))
-  keeps_cut range h = keeps s is (entry by (call.Cut range) (reply.Packet (cut_packet s range))) tt h (ap (λ (p : Packet). reply.Packet p) (packet_is s (replayed s) is.stands range (no_fault _ _ h)))
+  keeps_cut range h = keeps s is (entry by (call.Cut range) (reply.Packet (cut_packet s range))) tt h (ap (λ (p : Packet). reply.Packet p) (packet_is s (replay_of s) is.stands range (no_fault _ _ h)))
 
   pub keeps_trim : (n : ℕ) → cause (bounds s) (call.Trim n) ≡ None → IsCoordinator (let_go s n (entry by (call.Trim n) reply.Nothing))
   keeps_trim n h = keeps s is (entry by (call.Trim n) reply.Nothing) tt h refl
 
-  pub keeps_view : cause (bounds s) call.View ≡ None → IsCoordinator (noted s (entry by call.View (reply.Seen (length s.history) s.knowledge)))
+  pub keeps_view : cause (bounds s) call.View ≡ None → IsCoordinator (with_entry s (entry by call.View (reply.Seen (length s.history) s.knowledge)))
   keeps_view h =
-      let at = many s (replayed s) is.stands in
+      let at = many s (replay_of s) is.stands in
       let known = is.stands.knowledge in
       keeps s is (entry by call.View (reply.Seen (length s.history) s.knowledge)) tt h (λ i. reply.Seen (at i) (known i))
 
-  pub keeps_commit : (plan : Plan) → cause (bounds s) (call.Commit plan) ≡ None → IsCoordinator (took s (know (admitted s.knowledge s.number plan).ops) (entry by (call.Commit plan) (reply.Admitted (admitted s.knowledge s.number plan))))
+  pub keeps_commit : (plan : Plan) → cause (bounds s) (call.Commit plan) ≡ None → IsCoordinator (took s (know (admission s.knowledge s.number plan).ops) (entry by (call.Commit plan) (reply.Admitted (admission s.knowledge s.number plan))))
   keeps_commit plan h =
       let known = is.stands.knowledge in
       let number = is.stands.number in
-      keeps s is (entry by (call.Commit plan) (reply.Admitted (admitted s.knowledge s.number plan))) tt h (λ i. reply.Admitted (admitted (known i) (number i) plan))
+      keeps s is (entry by (call.Commit plan) (reply.Admitted (admission s.knowledge s.number plan))) tt h (λ i. reply.Admitted (admission (known i) (number i) plan))

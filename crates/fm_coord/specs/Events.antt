@@ -7,7 +7,7 @@ use Rattle.fm_records.specs.Sets.{union}
 use Rattle.fm_records.specs.Know.{know}
 use Rattle.fm_round.specs.declared.parts.Plan.{Plan}
 use Rattle.fm_round.specs.declared.parts.Admitted.{Admitted}
-use Rattle.fm_round.specs.Admission.{admitted}
+use Rattle.fm_round.specs.Admission.{admission}
 use Rattle.fm_coord.specs.declared.entry.Range.{Range}
 use Rattle.fm_coord.specs.declared.entry.Range.TheVariants.{Interval, Full}
 
@@ -61,24 +61,24 @@ packet_of r range = record { sender = r.number; number = r.cuts + 1; set = set_o
 
 -- what is admitted of a plan
 abbrev pub admitted_by : Replica → Plan → Admitted
-admitted_by r plan = admitted (know r.taken) r.number plan
+admitted_by r plan = admission (know r.taken) r.number plan
 
 -- a set is added to what was received, and to the end of the buffer
-abbrev pub added : Replica → List Op → Replica
-added r S = record { number = r.number; limit = r.limit; taken = r.taken ++ S; buffer = r.buffer ++ S ∷ []; floor = r.floor; cuts = r.cuts; steps = r.steps }
+abbrev pub with_set : Replica → List Op → Replica
+with_set r S = record { number = r.number; limit = r.limit; taken = r.taken ++ S; buffer = r.buffer ++ S ∷ []; floor = r.floor; cuts = r.cuts; steps = r.steps }
 
 -- what an event does
-abbrev pub moved : Replica → Event → Replica
-moved r (Tell op) = added r (op ∷ [])
-moved r (Merge packet) = added r packet.set
-moved r (Commit plan) = added r (admitted_by r plan).ops
-moved r (Cut range) = record { number = r.number; limit = r.limit; taken = r.taken; buffer = r.buffer; floor = r.floor; cuts = r.cuts + 1; steps = r.steps }
-moved r (Trim n) = record { number = r.number; limit = r.limit; taken = r.taken; buffer = r.buffer; floor = n; cuts = r.cuts; steps = r.steps }
-moved r View = r
+abbrev pub after_event : Replica → Event → Replica
+after_event r (Tell op) = with_set r (op ∷ [])
+after_event r (Merge packet) = with_set r packet.set
+after_event r (Commit plan) = with_set r (admitted_by r plan).ops
+after_event r (Cut range) = record { number = r.number; limit = r.limit; taken = r.taken; buffer = r.buffer; floor = r.floor; cuts = r.cuts + 1; steps = r.steps }
+after_event r (Trim n) = record { number = r.number; limit = r.limit; taken = r.taken; buffer = r.buffer; floor = n; cuts = r.cuts; steps = r.steps }
+after_event r View = r
 
-abbrev pub listed : Replica → ℕ → Event → Replica
-listed r by event = record { number = r.number; limit = r.limit; taken = r.taken; buffer = r.buffer; floor = r.floor; cuts = r.cuts; steps = r.steps ++ (by, event) ∷ [] }
+abbrev pub with_step : Replica → ℕ → Event → Replica
+with_step r by event = record { number = r.number; limit = r.limit; taken = r.taken; buffer = r.buffer; floor = r.floor; cuts = r.cuts; steps = r.steps ++ (by, event) ∷ [] }
 
 -- the replica after an event that someone asked for
 abbrev pub happens : Replica → ℕ → Event → Replica
-happens r by event = listed (moved r event) by event
+happens r by event = with_step (after_event r event) by event

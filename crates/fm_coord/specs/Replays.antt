@@ -13,13 +13,13 @@ use Rattle.fm_coord.specs.Events as event
 use Rattle.fm_coord.specs.Causes.{cause, bounds_of}
 
 -- a packet as coordinators see it
-abbrev pub seen : Sent → Packet
-seen p = record { sender = p.sender; number = p.number; value = know p.set }
+abbrev pub seen_packet : Sent → Packet
+seen_packet p = record { sender = p.sender; number = p.number; value = know p.set }
 
 -- the call of an event
 abbrev pub call_of : Event → Call
 call_of (event.Tell op) = call.Tell op
-call_of (event.Merge packet) = call.Merge (seen packet)
+call_of (event.Merge packet) = call.Merge (seen_packet packet)
 call_of (event.Cut range) = call.Cut range
 call_of (event.Trim n) = call.Trim n
 call_of event.View = call.View
@@ -30,7 +30,7 @@ call_of (event.Commit plan) = call.Commit plan
 abbrev pub reply_of : Replica → Event → Reply
 reply_of r (event.Tell op) = reply.Nothing
 reply_of r (event.Merge packet) = reply.Nothing
-reply_of r (event.Cut range) = reply.Packet (seen (packet_of r range))
+reply_of r (event.Cut range) = reply.Packet (seen_packet (packet_of r range))
 reply_of r (event.Trim n) = reply.Nothing
 reply_of r event.View = reply.Seen (length r.steps) (know r.taken)
 reply_of r (event.Commit plan) = reply.Admitted (admitted_by r plan)
@@ -45,12 +45,12 @@ event_of call.View = event.View
 event_of (call.Commit plan) = event.Commit plan
 
 -- the replica after an entry, and after the entries of a history
-abbrev pub entered : Replica → Entry → Replica
-entered r e = happens r e.by (event_of e.call)
+abbrev pub after_entry : Replica → Entry → Replica
+after_entry r e = happens r e.by (event_of e.call)
 
 abbrev pub replay : Replica → List Entry → Replica
 replay r [] = r
-replay r (e ∷ es) = replay (entered r e) es
+replay r (e ∷ es) = replay (after_entry r e) es
 
 -- the entry's call has no cause of refusal, and its reply is the event's
 pub record Fits (r : Replica) (e : Entry) : Type 0 where
@@ -60,4 +60,4 @@ pub record Fits (r : Replica) (e : Entry) : Type 0 where
 -- a history is legal if each entry fits the replica that those before it replay to
 abbrev pub IsLegal : Replica → List Entry → Type 0
 IsLegal r [] = Unit {0}
-IsLegal r (e ∷ es) = Fits r e × IsLegal (entered r e) es
+IsLegal r (e ∷ es) = Fits r e × IsLegal (after_entry r e) es

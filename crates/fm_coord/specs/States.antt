@@ -4,8 +4,8 @@ use Rattle.fm_records.specs.Table.{Table}
 use Rattle.fm_records.specs.Know.{know}
 use Rattle.fm_records.specs.Joined.{table_join}
 use Rattle.fm_delta.specs.declared.packet.Packet.{Packet}
-use Rattle.fm_delta.specs.Deltas.{Deltas, end_of, pushed, trimmed, between, joined_all}
-use Rattle.fm_round.specs.Admission.{admitted}
+use Rattle.fm_delta.specs.Deltas.{Deltas, end_of, with_delta, with_floor, between, joined_all}
+use Rattle.fm_round.specs.Admission.{admission}
 use Rattle.fm_coord.specs.declared.entry.Call.{Call}
 use Rattle.fm_coord.specs.declared.entry.Call.TheVariants as call
 use Rattle.fm_coord.specs.declared.entry.Reply.{Reply}
@@ -45,7 +45,7 @@ bounds s = record { limit = s.limit; entries = length s.history; floor = s.delta
 
 -- a delta is merged into what is known, and kept at the end
 abbrev pub took : State → Table → Entry → State
-took s delta e = record { number = s.number; limit = s.limit; knowledge = table_join s.knowledge delta; deltas = pushed s.deltas delta; cuts = s.cuts; history = s.history ++ e ∷ [] }
+took s delta e = record { number = s.number; limit = s.limit; knowledge = table_join s.knowledge delta; deltas = with_delta s.deltas delta; cuts = s.cuts; history = s.history ++ e ∷ [] }
 
 -- a packet is cut
 abbrev pub gave : State → Entry → State
@@ -53,11 +53,11 @@ gave s e = record { number = s.number; limit = s.limit; knowledge = s.knowledge;
 
 -- the deltas below n are dropped
 abbrev pub let_go : State → ℕ → Entry → State
-let_go s n e = record { number = s.number; limit = s.limit; knowledge = s.knowledge; deltas = trimmed s.deltas n; cuts = s.cuts; history = s.history ++ e ∷ [] }
+let_go s n e = record { number = s.number; limit = s.limit; knowledge = s.knowledge; deltas = with_floor s.deltas n; cuts = s.cuts; history = s.history ++ e ∷ [] }
 
 -- the entry alone is added
-abbrev pub noted : State → Entry → State
-noted s e = record { number = s.number; limit = s.limit; knowledge = s.knowledge; deltas = s.deltas; cuts = s.cuts; history = s.history ++ e ∷ [] }
+abbrev pub with_entry : State → Entry → State
+with_entry s e = record { number = s.number; limit = s.limit; knowledge = s.knowledge; deltas = s.deltas; cuts = s.cuts; history = s.history ++ e ∷ [] }
 
 -- the knowledge of a range: the join of an interval's deltas, or all that is known
 abbrev pub range_value : State → Range → Table
@@ -74,12 +74,12 @@ after s e (call.Tell op) = took s (know (op ∷ [])) e
 after s e (call.Merge packet) = took s packet.value e
 after s e (call.Cut range) = gave s e
 after s e (call.Trim n) = let_go s n e
-after s e call.View = noted s e
-after s e (call.Commit plan) = took s (know (admitted s.knowledge s.number plan).ops) e
+after s e call.View = with_entry s e
+after s e (call.Commit plan) = took s (know (admission s.knowledge s.number plan).ops) e
 
 -- who asked for what
-abbrev pub asked : Entry → ℕ × Call
-asked e = (e.by, e.call)
+abbrev pub caller_and_call : Entry → ℕ × Call
+caller_and_call e = (e.by, e.call)
 
 abbrev pub step_asked : ℕ × Event → ℕ × Call
 step_asked s = (s.0, call_of s.1)
@@ -96,7 +96,7 @@ pub record StandsFor (s : State) (r : Replica) : Type 0 where
   pub end : end_of s.deltas ≡ length r.buffer
   pub cuts : s.cuts ≡ r.cuts
   -- its history is what happened
-  pub history : map asked s.history ≡ map step_asked r.steps
+  pub history : map caller_and_call s.history ≡ map step_asked r.steps
 
 -- an accepted call was the event at the replica: there was no cause to refuse it, the reply is the event's, and what is
 -- kept now stands for the replica after it
@@ -106,14 +106,14 @@ pub record IsEventAt (r : Replica) (by : ℕ) (event : Event) (reply : Reply) (s
   pub stands : StandsFor s (happens r by event)
 
 -- the replica that a coordinator's history replays to
-abbrev pub replayed : State → Replica
-replayed s = replay (opening s.number s.limit) s.history
+abbrev pub replay_of : State → Replica
+replay_of s = replay (opening s.number s.limit) s.history
 
 -- what holds of every coordinator
 pub record IsCoordinator (s : State) : Type 0 where
   -- its history is legal, and it stands for the replica that the history replays to
   pub legal : IsLegal (opening s.number s.limit) s.history
-  pub stands : StandsFor s (replayed s)
+  pub stands : StandsFor s (replay_of s)
   -- the history is within its limit, and counts no less than deltas and cuts
   pub within : length s.history ≤ s.limit
   pub end_within : end_of s.deltas ≤ length s.history

@@ -9,16 +9,16 @@ use Rattle.fm_records.specs.Joined.{table_join}
 use Rattle.fm_records.specs.UnionLaws.{know_append}
 use Rattle.fm_delta.specs.Deltas.{end_of, joined_all}
 use Rattle.fm_delta.specs.DeltaLaws.{joined_union}
-use Rattle.fm_round.specs.Admission.{admitted}
+use Rattle.fm_round.specs.Admission.{admission}
 use Rattle.fm_coord.specs.declared.entry.Call.{Call}
 use Rattle.fm_coord.specs.declared.entry.Entry.{Entry}
 use Rattle.fm_coord.specs.declared.entry.Range.{Range}
 use Rattle.fm_coord.specs.declared.entry.Range.TheVariants.{Interval, Full}
-use Rattle.fm_coord.specs.Events.{Event, Replica, added, listed, happens, set_of, packet_of, admitted_by}
+use Rattle.fm_coord.specs.Events.{Event, Replica, with_set, with_step, happens, set_of, packet_of, admitted_by}
 use Rattle.fm_coord.specs.Events as event
 use Rattle.fm_coord.specs.Causes.{Bounds, cause, call_fault, range_fault, floor_fault, room_fault, first_of, bounds_of}
-use Rattle.fm_coord.specs.Replays.{seen, call_of, entered, replay, Fits, IsLegal}
-use Rattle.fm_coord.specs.States.{State, bounds, took, gave, let_go, noted, asked, step_asked, range_value, cut_packet, after, StandsFor}
+use Rattle.fm_coord.specs.Replays.{seen_packet, call_of, after_entry, replay, Fits, IsLegal}
+use Rattle.fm_coord.specs.States.{State, bounds, took, gave, let_go, with_entry, caller_and_call, step_asked, range_value, cut_packet, after, StandsFor}
 
 some_none : {A : Type 0} {P : Type 0} (a : A) → Some a ≡ None → P
 some_none a e = absurd (let no : ⊥ = cc in no)
@@ -53,20 +53,20 @@ right_false false b h = h
 pub starts_above : (b : Bounds) (from to : ℕ) → range_fault b (Interval from to) ≡ None → b.floor ≤ from
 starts_above b from to h = ltb-false from b.floor (test_failed _ _ _ (then_none _ _ _ h))
 
-pub replay_more : (r : Replica) (es : List Entry) (e : Entry) → replay r (es ++ e ∷ []) ≡ entered (replay r es) e
+pub replay_more : (r : Replica) (es : List Entry) (e : Entry) → replay r (es ++ e ∷ []) ≡ after_entry (replay r es) e
 replay_more r [] e = refl
-replay_more r (x ∷ es) e = replay_more (entered r x) es e
+replay_more r (x ∷ es) e = replay_more (after_entry r x) es e
 
 pub legal_more : (r : Replica) (es : List Entry) (e : Entry) → IsLegal r es → Fits (replay r es) e → IsLegal r (es ++ e ∷ [])
 legal_more r [] e h f = (f, tt)
-legal_more r (x ∷ es) e h f = (h.0, legal_more (entered r x) es e h.1 f)
+legal_more r (x ∷ es) e h f = (h.0, legal_more (after_entry r x) es e h.1 f)
 
 module _ (s : State) (r : Replica) (st : StandsFor s r) where
   low : r.floor ≤ length r.buffer
   low = let e = st.end in let f = st.floor in omega arith
 
   pub many : length s.history ≡ length r.steps
-  many = sym (length-map s.history asked) ∙ ap length st.history ∙ length-map r.steps step_asked
+  many = sym (length-map s.history caller_and_call) ∙ ap length st.history ∙ length-map r.steps step_asked
 
   -- what its refusals turn on is what the replica's do
   pub same_bounds : bounds s ≡ bounds_of r
@@ -90,14 +90,14 @@ module _ (s : State) (r : Replica) (st : StandsFor s r) where
       ∙ ap joined_all (take-map know (to - from) (drop from r.buffer))
       ∙ joined_union (take (to - from) (drop from r.buffer))
 
-  pub packet_is : (range : Range) → range_fault (bounds s) range ≡ None → cut_packet s range ≡ seen (packet_of r range)
+  pub packet_is : (range : Range) → range_fault (bounds s) range ≡ None → cut_packet s range ≡ seen_packet (packet_of r range)
   packet_is range h = let value = range_is range h in λ i. record { sender = st.number i; number = st.cuts i + 1; value = value i }
 
-  module _ (e : Entry) (by : ℕ) (event : Event) (same : asked e ≡ step_asked (by, event)) where
-    asked_on : map asked (s.history ++ e ∷ []) ≡ map step_asked (r.steps ++ (by, event) ∷ [])
-    asked_on = map-append asked s.history (e ∷ []) ∙ (λ i. st.history i ++ same i ∷ []) ∙ sym (map-append step_asked r.steps ((by, event) ∷ []))
+  module _ (e : Entry) (by : ℕ) (event : Event) (same : caller_and_call e ≡ step_asked (by, event)) where
+    asked_on : map caller_and_call (s.history ++ e ∷ []) ≡ map step_asked (r.steps ++ (by, event) ∷ [])
+    asked_on = map-append caller_and_call s.history (e ∷ []) ∙ (λ i. st.history i ++ same i ∷ []) ∙ sym (map-append step_asked r.steps ((by, event) ∷ []))
 
-    stands_took : (S : List Op) (d : Table) → know S ≡ d → StandsFor (took s d e) (listed (added r S) by event)
+    stands_took : (S : List Op) (d : Table) → know S ≡ d → StandsFor (took s d e) (with_step (with_set r S) by event)
     stands_took S d is =
         let back = sym is in
         record {
@@ -111,10 +111,10 @@ module _ (s : State) (r : Replica) (st : StandsFor s r) where
           history = asked_on;
         }
 
-    stands_gave : StandsFor (gave s e) (listed (record { number = r.number; limit = r.limit; taken = r.taken; buffer = r.buffer; floor = r.floor; cuts = r.cuts + 1; steps = r.steps }) by event)
+    stands_gave : StandsFor (gave s e) (with_step (record { number = r.number; limit = r.limit; taken = r.taken; buffer = r.buffer; floor = r.floor; cuts = r.cuts + 1; steps = r.steps }) by event)
     stands_gave = record { number = st.number; limit = st.limit; knowledge = st.knowledge; deltas = st.deltas; floor = st.floor; end = st.end; cuts = ap (λ n. n + 1) st.cuts; history = asked_on }
 
-    stands_let_go : (n : ℕ) → r.floor ≤ n → n ≤ length r.buffer → StandsFor (let_go s n e) (listed (record { number = r.number; limit = r.limit; taken = r.taken; buffer = r.buffer; floor = n; cuts = r.cuts; steps = r.steps }) by event)
+    stands_let_go : (n : ℕ) → r.floor ≤ n → n ≤ length r.buffer → StandsFor (let_go s n e) (with_step (record { number = r.number; limit = r.limit; taken = r.taken; buffer = r.buffer; floor = n; cuts = r.cuts; steps = r.steps }) by event)
     stands_let_go n above below =
         record {
           number = st.number;
@@ -127,7 +127,7 @@ module _ (s : State) (r : Replica) (st : StandsFor s r) where
           history = asked_on;
         }
 
-    stands_noted : StandsFor (noted s e) (listed r by event)
+    stands_noted : StandsFor (with_entry s e) (with_step r by event)
     stands_noted = record { number = st.number; limit = st.limit; knowledge = st.knowledge; deltas = st.deltas; floor = st.floor; end = st.end; cuts = st.cuts; history = asked_on }
 
   -- after an accepted call it stands for the replica after the event by which the call comes
@@ -144,8 +144,8 @@ module _ (s : State) (r : Replica) (st : StandsFor s r) where
       stands_let_go e e.by (event.Trim n) (λ i. (e.by, is i)) n (omega arith) (omega arith)
   stands_after e event.View is h = stands_noted e e.by event.View (λ i. (e.by, is i))
   stands_after e (event.Commit plan) is h =
-      stands_took e e.by (event.Commit plan) (λ i. (e.by, is i)) (admitted_by r plan).ops (know (admitted s.knowledge s.number plan).ops)
-      (sym (λ i. know (admitted (st.knowledge i) (st.number i) plan).ops))
+      stands_took e e.by (event.Commit plan) (λ i. (e.by, is i)) (admitted_by r plan).ops (know (admission s.knowledge s.number plan).ops)
+      (sym (λ i. know (admission (st.knowledge i) (st.number i) plan).ops))
 
 -- nothing is wrong with the call, and there is room
 pub no_cause : (b : Bounds) (c : Call) → call_fault b c ≡ None → room_fault b ≡ None → cause b c ≡ None

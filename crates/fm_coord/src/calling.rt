@@ -5,7 +5,7 @@ ghost use Rattle.fm_coord.specs.Events.{Event, Replica};
 ghost use Rattle.fm_coord.specs.Causes.{cause, refusal_for};
 ghost use Rattle.fm_coord.specs.Replays.{call_of, reply_of};
 ghost use Rattle.fm_coord.specs.States.{bounds, entry, after, StandsFor, IsEventAt};
-ghost use Rattle.fm_coord.specs.Answers.{said, answered};
+ghost use Rattle.fm_coord.specs.Answers.{reply_to, answer_to};
 
 use crate::answer::Answer;
 use crate::coordinator::Coordinator;
@@ -19,10 +19,11 @@ impl<N: NetKeeper> Coordinator<N> {
     /// the call, else with HistoryFull, else with OutOfMemory. Then nothing has changed, except that a view may have
     /// built a stale network.
     pub fn call(&mut self, by: u32, call: Call) -> Result<Answer, Refusal>
-        ensures ok { IfOk result (λ answer. self.new.state ≡ after self.old.state (entry by call (said answer)) call) }
-        ensures answer { IfOk result (λ answer. answer ≡ answered self.old.state call) }
+        ensures ok { IfOk result (λ answer. self.new.state
+            ≡ after self.old.state (entry by call (reply_to answer)) call) }
+        ensures answer { IfOk result (λ answer. answer ≡ answer_to self.old.state call) }
         ensures history { IfOk result (λ answer. self.new.state.history
-            ≡ self.old.state.history ++ entry by call (said answer) ∷ []) }
+            ≡ self.old.state.history ++ entry by call (reply_to answer) ∷ []) }
         ensures within { IsOk result → cause (bounds self.old.state) call ≡ None }
         ensures event { (r : Replica) (event : Event) → StandsFor self.old.state r → call ≡ call_of event
             → OnOk result (IsEventAt r by event (reply_of r event) self.new.state) }

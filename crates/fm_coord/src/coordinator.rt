@@ -6,19 +6,19 @@ ghost use Rattle.std.specs.List.{list_all};
 ghost use Rattle.fm_records.specs.Ops.{op_fault};
 ghost use Rattle.fm_records.specs.Know.{know};
 ghost use Rattle.fm_records.specs.Joined.{table_join};
-ghost use Rattle.fm_delta.specs.Deltas.{end_of, pushed};
+ghost use Rattle.fm_delta.specs.Deltas.{end_of, with_delta};
 ghost use Rattle.fm_net.specs.Network.{net_of};
 ghost use Rattle.fm_policy.specs.Changes.{changed_keys};
 ghost use Rattle.std.specs.Io.KnownBytes.{Appends};
 ghost use Rattle.fm_dimacs.specs.Sending.{AppendsPrefix, StopsBy, IsSent};
 ghost use Rattle.fm_dimacs.specs.Text.{dump_text};
-ghost use Rattle.fm_round.specs.Admission.{admitted};
+ghost use Rattle.fm_round.specs.Admission.{admission};
 ghost use Rattle.fm_tally.specs.Tallies.{TallyIsFor};
 ghost use Rattle.fm_coord.specs.Events.{Sent, Replica, packet_of};
 ghost use Rattle.fm_coord.specs.Events as event;
 ghost use Rattle.fm_coord.specs.Causes.{cause, refusal_for, room_fault, range_fault, floor_fault};
-ghost use Rattle.fm_coord.specs.Replays.{seen};
-ghost use Rattle.fm_coord.specs.States.{new_state, bounds, entry, took, gave, let_go, noted, cut_packet, range_value, StandsFor, IsEventAt, IsCoordinator};
+ghost use Rattle.fm_coord.specs.Replays.{seen_packet};
+ghost use Rattle.fm_coord.specs.States.{new_state, bounds, entry, took, gave, let_go, with_entry, cut_packet, range_value, StandsFor, IsEventAt, IsCoordinator};
 
 use crate::entry::{Call, Entry, Range, Reply};
 use crate::tallied::Tallied;
@@ -64,9 +64,27 @@ impl<N: NetKeeper> Model for Coordinator<N> {
 
     ghost Value = { WithKeeper N };
 
-    ghost view = { λ a. record { state = record { number = a.number; limit = a.limit; knowledge = a.knowledge; deltas = a.buffer.deltas; cuts = a.cuts; history = a.history.items }; keeper = a.keeper } };
+    ghost view = { λ a. record {
+      state = record {
+        number = a.number;
+        limit = a.limit;
+        knowledge = a.knowledge;
+        deltas = a.buffer.deltas;
+        cuts = a.cuts;
+        history = a.history.items;
+      };
+      keeper = a.keeper;
+    } };
 
-    ghost invariant = { λ a. IsKept (record { number = a.number; limit = a.limit; knowledge = a.knowledge; deltas = a.buffer.deltas; cuts = a.cuts; history = a.history.items }) (N.fresh a.keeper) (N.is_for a.keeper) a.follows (N.follows a.keeper) a.tallied };
+    ghost invariant = { λ a. IsKept (record {
+      number = a.number;
+      limit = a.limit;
+      knowledge = a.knowledge;
+      deltas = a.buffer.deltas;
+      cuts = a.cuts;
+      history = a.history.items;
+    }) (N.fresh a.keeper)
+        (N.is_for a.keeper) a.follows (N.follows a.keeper) a.tallied };
 }
 
 impl<N: NetKeeper> Coordinator<N> {
@@ -106,6 +124,13 @@ impl<N: NetKeeper> Coordinator<N> {
         ensures { result ≡ self.now.state.number }
     {
         self.number
+    }
+
+    /// How many entries its history may have.
+    pub fn limit(&self) -> usize
+        ensures { result ≡ self.now.state.limit }
+    {
+        self.limit
     }
 
     /// The calls that it accepted, in order.
@@ -245,7 +270,7 @@ impl<N: NetKeeper> Coordinator<N> {
             ≡ took self.old.state packet.value (entry by (Call.Merge packet) Reply.Nothing)) }
         ensures keeper { OnOk result (N.absorbs self.old.keeper (changed_keys packet.value) self.new.keeper) }
         ensures within { IsOk result → cause (bounds self.old.state) (Call.Merge packet) ≡ None }
-        ensures event { (r : Replica) (sent : Sent) → StandsFor self.old.state r → packet ≡ seen sent
+        ensures event { (r : Replica) (sent : Sent) → StandsFor self.old.state r → packet ≡ seen_packet sent
             → OnOk result (IsEventAt r by (event.Merge sent) Reply.Nothing self.new.state) }
         ensures err { IfErr result (λ refusal. refusal ≡ refusal_for (bounds self.old.state) (Call.Merge packet)) }
         ensures unchanged { OnErr result (self.new ≡ self.old) }
@@ -308,7 +333,7 @@ impl<N: NetKeeper> Coordinator<N> {
         ensures ok { IfOk result (λ packet. packet ≡ cut_packet self.now.state range) }
         ensures within { IsOk result → cause (bounds self.now.state) (Call.Cut range) ≡ None }
         ensures seen { (r : Replica) → StandsFor self.now.state r
-            → IfOk result (λ packet. packet ≡ seen (packet_of r range)) }
+            → IfOk result (λ packet. packet ≡ seen_packet (packet_of r range)) }
         ensures err { IfErr result (λ refusal. refusal ≡ refusal_for (bounds self.now.state) (Call.Cut range)) }
     {
         self.check_range(range)?;
@@ -376,7 +401,7 @@ impl<N: NetKeeper> Coordinator<N> {
     /// OutOfMemory; then nothing has changed, except that a stale network may have been built.
     pub fn view(&mut self, by: u32) -> Result<View, Refusal>
         ensures ok { IfOk result (λ view. self.new.state
-            ≡ noted self.old.state (entry by Call.View (Reply.Seen view.at view.knowledge))) }
+            ≡ with_entry self.old.state (entry by Call.View (Reply.Seen view.at view.knowledge))) }
         ensures at { IfOk result (λ view. view.at ≡ length self.old.state.history) }
         ensures knowledge { IfOk result (λ view. view.knowledge ≡ self.old.state.knowledge) }
         ensures network { IfOk result (λ view. view.network ≡ net_of self.old.state.knowledge) }
@@ -404,7 +429,7 @@ impl<N: NetKeeper> Coordinator<N> {
     /// HistoryFull, OutOfMemory; then nothing has changed.
     pub fn see(&mut self, by: u32) -> Result<Sight, Refusal>
         ensures ok { IfOk result (λ sight. self.new.state
-            ≡ noted self.old.state (entry by Call.View (Reply.Seen sight.at sight.knowledge))) }
+            ≡ with_entry self.old.state (entry by Call.View (Reply.Seen sight.at sight.knowledge))) }
         ensures at { IfOk result (λ sight. sight.at ≡ length self.old.state.history) }
         ensures knowledge { IfOk result (λ sight. sight.knowledge ≡ self.old.state.knowledge) }
         ensures tally { IfOk result (λ sight. TallyIsFor sight.knowledge sight.tally) }
@@ -428,7 +453,7 @@ impl<N: NetKeeper> Coordinator<N> {
     // What is known now, which the history notes as seen.
     fn look(&mut self, by: u32) -> Result<Look, Refusal>
         ensures ok { IfOk result (λ look. self.new.state
-            ≡ noted self.old.state (entry by Call.View (Reply.Seen look.at look.knowledge))) }
+            ≡ with_entry self.old.state (entry by Call.View (Reply.Seen look.at look.knowledge))) }
         ensures at { IfOk result (λ look. look.at ≡ length self.old.state.history) }
         ensures knowledge { IfOk result (λ look. look.knowledge ≡ self.old.state.knowledge) }
         ensures keeper { self.new.keeper ≡ self.old.keeper }
@@ -505,8 +530,8 @@ impl<N: NetKeeper> Coordinator<N> {
 
     // Adds an entry alone.
     fn note(&mut self, entry: Entry) -> Result<(), OutOfMemory>
-        requires { IsCoordinator (noted self.old.state entry) }
-        ensures ok { OnOk result (self.new.state ≡ noted self.old.state entry) }
+        requires { IsCoordinator (with_entry self.old.state entry) }
+        ensures ok { OnOk result (self.new.state ≡ with_entry self.old.state entry) }
         ensures keeper { self.new.keeper ≡ self.old.keeper }
         ensures err { OnErr result (self.new.state ≡ self.old.state) }
     {
@@ -547,14 +572,14 @@ impl<N: NetKeeper> Coordinator<N> {
     /// is admitted, the delta is empty. It costs what `admission` does. HistoryFull, OutOfMemory; then nothing has
     /// changed.
     pub fn commit(&mut self, by: u32, plan: Plan) -> Result<Shared<Admitted>, Refusal>
-        ensures ok { IfOk result (λ admitted. self.new.state
-            ≡ took self.old.state (know admitted.ops) (entry by (Call.Commit plan) (Reply.Admitted admitted))) }
+        ensures ok { IfOk result (λ made. self.new.state
+            ≡ took self.old.state (know made.ops) (entry by (Call.Commit plan) (Reply.Admitted made))) }
         ensures keeper { IfOk result
-            (λ admitted. N.absorbs self.old.keeper (changed_keys (know admitted.ops)) self.new.keeper) }
-        ensures admitted { IfOk result (λ a. a ≡ admitted self.old.state.knowledge self.old.state.number plan) }
+            (λ made. N.absorbs self.old.keeper (changed_keys (know made.ops)) self.new.keeper) }
+        ensures admitted { IfOk result (λ a. a ≡ admission self.old.state.knowledge self.old.state.number plan) }
         ensures within { IsOk result → cause (bounds self.old.state) (Call.Commit plan) ≡ None }
         ensures event { (r : Replica) → StandsFor self.old.state r
-            → IfOk result (λ admitted. IsEventAt r by (event.Commit plan) (Reply.Admitted admitted) self.new.state) }
+            → IfOk result (λ made. IsEventAt r by (event.Commit plan) (Reply.Admitted made) self.new.state) }
         ensures err { IfErr result (λ refusal. refusal ≡ refusal_for (bounds self.old.state) (Call.Commit plan)) }
         ensures unchanged { OnErr result (self.new ≡ self.old) }
     {
@@ -575,7 +600,7 @@ impl<N: NetKeeper> Coordinator<N> {
     /// What `commit` of the plan would admit now. Nothing changes. Refused only if memory runs out. With a tally it costs O(log n) for
     /// each entry of the plan, with the moves within a block of a map; without one also a scan of the known tasks.
     pub fn admission(&self, plan: &Plan) -> Result<Admitted, OutOfMemory>
-        ensures admitted { IfOk result (λ a. a ≡ admitted self.now.state.knowledge self.now.state.number plan.now) }
+        ensures admitted { IfOk result (λ a. a ≡ admission self.now.state.knowledge self.now.state.number plan.now) }
         ensures in_range { IfOk result (λ a. IsTrue (list_all (λ op. is_none (op_fault op)) a.ops)) }
     {
         match self.tallied.tally() {
@@ -621,7 +646,7 @@ fn add_delta(
 ) -> Result<(), OutOfMemory>
     requires { end_of buffer.old.deltas + 1 < 2 ^ 64 }
     ensures knowledge { OnOk result (knowledge.new ≡ table_join knowledge.old delta) }
-    ensures deltas { OnOk result (buffer.new.deltas ≡ pushed buffer.old.deltas delta) }
+    ensures deltas { OnOk result (buffer.new.deltas ≡ with_delta buffer.old.deltas delta) }
     ensures history { OnOk result (history.new.items ≡ history.old.items ++ entry ∷ []) }
     ensures same_knowledge { OnErr result (knowledge.new ≡ knowledge.old) }
     ensures same_deltas { OnErr result (buffer.new.deltas ≡ buffer.old.deltas) }

@@ -8,7 +8,7 @@ use Rattle.std.proofs.lemmas.List.Elements.{All-nil, All-cons, All-append}
 use Rattle.std.specs.declared.vec.Vec.{Vec}
 use Rattle.std.specs.declared.alloc.Global.{Global}
 use Rattle.fm_cycles.specs.Walks.{Steps, IsNegativeCycle}
-use Rattle.fm_cycles.specs.Traced.{marked, visit_of, IsVisited, AreBefore, AreRooted, IsWalkedBack, AreNegative, AreCyclesOf}
+use Rattle.fm_cycles.specs.Traced.{value_count, visit_of, IsVisited, AreBefore, AreRooted, IsWalkedBack, AreNegative, AreCyclesOf}
 use Rattle.fm_cycles.specs.declared.arcs.Step.{Step}
 use Rattle.fm_cycles.specs.declared.walk.Visit.{Visit}
 use Rattle.fm_cycles.proofs.Counts.{marked_most}
@@ -79,5 +79,5 @@ module _ (g : Steps Step) (parents : ℕ → Option Step) (nodes : ℕ) where
   pub all : (start : ℕ) (visits : List (Option Visit)) (cycles : List (Vec Step Global)) → nodes ≤ start → SoFar start visits cycles → AreCyclesOf g parents nodes cycles
   all start visits cycles end so_far = record {
     negative = so_far.negative;
-    rooted = λ none v less. more_few g parents (marked visits) nodes v (let most = marked_most visits in let e = so_far.sized in omega arith) (so_far.rooted none v (so_far.visited v (omega arith)));
+    rooted = λ none v less. more_few g parents (value_count visits) nodes v (let most = marked_most visits in let e = so_far.sized in omega arith) (so_far.rooted none v (so_far.visited v (omega arith)));
   }

@@ -5,7 +5,7 @@ use Rattle.std.specs.Prelude.{slice_get, slice_index}
 use Rattle.fm_cycles.specs.Walks.{Costs, Steps, TargetsOther, AreApart, IsNegativeCycle}
 use Rattle.fm_cycles.specs.Residual.{residual, HasRoom, start_of, AreArcs}
 use Rattle.fm_cycles.specs.Labels.{AreLabels, IsWalkBack}
-use Rattle.fm_cycles.specs.Traced.{marked, visit_of, IsVisited, AreBefore, HasRoot, AreRooted, IsClosedAt, IsWalkedBack}
+use Rattle.fm_cycles.specs.Traced.{value_count, visit_of, IsVisited, AreBefore, HasRoot, AreRooted, IsClosedAt, IsWalkedBack}
 use Rattle.fm_cycles.specs.declared.walk.Visit.{Visit}
 use Rattle.fm_cycles.specs.declared.arcs.Arc.{Arc}
 use Rattle.fm_cycles.specs.declared.arcs.Step.{Step}
@@ -104,7 +104,7 @@ module _ (arcs : List Arc) (units : List ℕ) (nodes : ℕ) (parents : ℕ → O
   pub record State (visits : List (Option Visit)) (walk : List Step) (node : ℕ) : Type 0 where
     pub within : node < nodes
     pub sized : length visits ≡ nodes
-    pub counted : marked visits ≡ marked old + length walk
+    pub counted : value_count visits ≡ value_count old + length walk
     pub back : IsWalkBack g parents start walk node
     pub visited : (v : ℕ) (x : Visit) → visit_of visits v ≡ Some x → (visit_of old v ≡ Some x) ⊎ ((x.start ≡ start) × (x.place < length walk) × IsWalkBack g parents v (drop x.place walk) node)
     pub kept : (v : ℕ) → IsVisited old v → IsVisited visits v
@@ -141,7 +141,7 @@ module _ (arcs : List Arc) (units : List ℕ) (nodes : ℕ) (parents : ℕ → O
     fits : node < length visits
     fits = let h = st.within in let e = st.sized in omega arith
 
-    counted2 : marked visits2 ≡ marked old + length walk + 1
+    counted2 : value_count visits2 ≡ value_count old + length walk + 1
     counted2 = let one = marked_set visits node (here (length walk)) fits new in let all = st.counted in omega arith
 
     kept2 : (v : ℕ) → IsVisited visits v → IsVisited visits2 v
@@ -157,7 +157,7 @@ module _ (arcs : List Arc) (units : List ℕ) (nodes : ℕ) (parents : ℕ → O
     ]
 
     -- one place less is left
-    pub short : (place : ℕ) → nodes - marked (set visits node (Some (here place))) < nodes - marked visits
+    pub short : (place : ℕ) → nodes - value_count (set visits node (Some (here place))) < nodes - value_count visits
     short place =
         let one = marked_set visits node (here place) fits new in
         let most = marked_most (set visits node (Some (here place))) in
@@ -227,7 +227,7 @@ module _ (arcs : List Arc) (units : List ℕ) (nodes : ℕ) (parents : ℕ → O
           elim (visit_cases visits v node (here (length walk)) x.0 x.1) [
             | inl newest ↦ record { root = node; steps = []; back = newest.0; none = none; few = let all = counted2 in omega arith }
             | inr older ↦ elim (st.visited v x.0 older) [
-              | inl was ↦ more_few g parents (marked old) (marked visits2) v (let all = counted2 in omega arith) (were v (λ no. no_mark (sym no ∙ was)))
+              | inl was ↦ more_few g parents (value_count old) (value_count visits2) v (let all = counted2 in omega arith) (were v (λ no. no_mark (sym no ∙ was)))
               | inr mine ↦ record { root = node; steps = drop x.0.place walk; back = mine.2; none = none; few = let all = counted2 in let e = length-drop x.0.place walk in omega arith }
             ]
           ];
@@ -262,7 +262,7 @@ module _ (arcs : List Arc) (units : List ℕ) (nodes : ℕ) (parents : ℕ → O
         let all = st.counted in
         let y = visit_there (visit_of visits v) came in
         elim (st.visited v y.0 y.1) [
-          | inl older ↦ more_few g parents (marked old) (marked visits) v (omega arith) (were v (λ no. no_mark (sym no ∙ older)))
+          | inl older ↦ more_few g parents (value_count old) (value_count visits) v (omega arith) (were v (λ no. no_mark (sym no ∙ older)))
           | inr mine ↦ record {
             root = on.root;
             steps = drop y.0.place walk ++ on.steps;

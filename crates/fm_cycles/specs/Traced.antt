@@ -11,10 +11,10 @@ use Rattle.fm_cycles.specs.declared.walk.Visit.{Visit}
 use Rattle.fm_cycles.specs.declared.search.Searched.{Searched}
 
 -- how many places of a list have a value
-abbrev pub marked : {A : Type 0} → List (Option A) → ℕ
-marked [] = 0
-marked (None ∷ xs) = marked xs
-marked (Some x ∷ xs) = marked xs + 1
+abbrev pub value_count : {A : Type 0} → List (Option A) → ℕ
+value_count [] = 0
+value_count (None ∷ xs) = value_count xs
+value_count (Some x ∷ xs) = value_count xs + 1
 
 -- the visit of a node, none beyond the end
 abbrev pub visit_of : List (Option Visit) → ℕ → Option Visit
@@ -38,7 +38,7 @@ pub record HasRoot (g : Steps Step) (bound : ℕ) (parents : ℕ → Option Step
 
 -- so does each visited node's walk, in fewer steps than there are visited nodes
 abbrev pub AreRooted : Steps Step → (ℕ → Option Step) → List (Option Visit) → Type 0
-AreRooted g parents visits = (v : ℕ) → IsVisited visits v → HasRoot g (marked visits) parents v
+AreRooted g parents visits = (v : ℕ) → IsVisited visits v → HasRoot g (value_count visits) parents v
 
 -- the steps of the walk from the place on are a cycle, if there is a place
 abbrev pub IsClosedAt : Steps Step → List Step → Option ℕ → Type 0

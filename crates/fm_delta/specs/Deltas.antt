@@ -24,12 +24,12 @@ abbrev pub end_of : Deltas → ℕ
 end_of b = b.floor + length b.kept
 
 -- with one more at the end
-abbrev pub pushed : Deltas → Table → Deltas
-pushed b delta = record { floor = b.floor; kept = b.kept ++ delta ∷ [] }
+abbrev pub with_delta : Deltas → Table → Deltas
+with_delta b delta = record { floor = b.floor; kept = b.kept ++ delta ∷ [] }
 
 -- with the floor at n
-abbrev pub trimmed : Deltas → ℕ → Deltas
-trimmed b n = record { floor = n; kept = drop (n - b.floor) b.kept }
+abbrev pub with_floor : Deltas → ℕ → Deltas
+with_floor b n = record { floor = n; kept = drop (n - b.floor) b.kept }
 
 -- the deltas from, .., to - 1
 abbrev pub between : Deltas → ℕ → ℕ → List Table

@@ -7,7 +7,7 @@ ghost use Rattle.fm_records.specs.declared.ops.Op.{Op};
 ghost use Rattle.fm_records.specs.Options.{or_else};
 ghost use Rattle.fm_records.specs.Sets.{union};
 ghost use Rattle.fm_records.specs.Know.{know};
-ghost use Rattle.fm_delta.specs.Deltas.{end_of, pushed, trimmed, between, joined_all, cut_fault, can_trim};
+ghost use Rattle.fm_delta.specs.Deltas.{end_of, with_delta, with_floor, between, joined_all, cut_fault, can_trim};
 ghost use Rattle.fm_delta.specs.DeltaLaws.{IsJoinOf};
 
 use fm_know::knowledge::Knowledge;
@@ -31,7 +31,10 @@ impl Model for Buffer {
 
     ghost Value = { WithRoom };
 
-    ghost view = { λ b. record { deltas = record { floor = b.floor; kept = b.kept.items }; room = deque_capacity b.kept - deque_len b.kept } };
+    ghost view = { λ b. record {
+      deltas = record { floor = b.floor; kept = b.kept.items };
+      room = deque_capacity b.kept - deque_len b.kept;
+    } };
 
     ghost invariant = { λ b. b.floor + length b.kept.items < 2 ^ 64 };
 }
@@ -75,7 +78,7 @@ impl Buffer {
     /// memory runs out the deltas are unchanged.
     pub fn push(&mut self, delta: Knowledge) -> Result<(), OutOfMemory>
         requires { end_of self.old.deltas + 1 < 2 ^ 64 }
-        ensures ok { OnOk result (self.new.deltas ≡ pushed self.old.deltas delta) }
+        ensures ok { OnOk result (self.new.deltas ≡ with_delta self.old.deltas delta) }
         ensures err { OnErr result (self.new.deltas ≡ self.old.deltas) }
         ensures succeeds { 1 ≤ self.old.room → IsOk result }
         ensures room { self.old.room ≤ self.new.room + 1 }
@@ -110,7 +113,7 @@ impl Buffer {
     /// it drops. BadInterval if n is below the floor or above the end, and nothing has changed.
     pub fn trim(&mut self, n: u64) -> Result<(), Refusal>
         ensures answer { result ≡ (if can_trim self.old.deltas n then Ok tt else Err Refusal.BadInterval) }
-        ensures ok { OnOk result (self.new.deltas ≡ trimmed self.old.deltas n) }
+        ensures ok { OnOk result (self.new.deltas ≡ with_floor self.old.deltas n) }
         ensures err { OnErr result (self.new.deltas ≡ self.old.deltas) }
         ensures room { self.old.room ≤ self.new.room }
     {

@@ -9,7 +9,7 @@ use Rattle.std.specs.declared.cmp.Ordering.TheVariants.{Less, Equal, Greater}
 use Rattle.std.proofs.lemmas.Cmp.{tied_itself}
 use Rattle.std.proofs.lemmas.List.{get_or_default, length-append}
 use Rattle.fm_lattice.specs.Chains.{less_greater}
-use Rattle.fm_lattice.specs.Maps.{put, replaced, IsBelow, IsRising}
+use Rattle.fm_lattice.specs.Maps.{put, keep_new, IsBelow, IsRising}
 use Rattle.fm_records.specs.Sets.{IsMember, insert_once}
 use Rattle.fm_records.specs.TableLaws.{some_none, IsBelowAll, Rises}
 use Rattle.fm_net.specs.declared.node.Node.{Node}
@@ -147,7 +147,7 @@ last_below : (x : Node × Node) (y : Arc) (more : List Arc) (a : Arc) → ends_c
 last_below x y [] a e b h = ends_total.trans x y.0 a.0 e h
 last_below x y (z ∷ more) a e b h = last_below x z more a b.0 b.1 h
 
-pub put_last : (arcs : List Arc) (from to : Node) (arc : ℕ × ℕ) → IsRising ends_cmp arcs → IsAfterLast (on (λ e. e.0) ends_cmp) arcs ((from, to), arc) → put ends_cmp replaced (from, to) arc arcs ≡ arcs ++ (((from, to), arc) ∷ [])
+pub put_last : (arcs : List Arc) (from to : Node) (arc : ℕ × ℕ) → IsRising ends_cmp arcs → IsAfterLast (on (λ e. e.0) ends_cmp) arcs ((from, to), arc) → put ends_cmp keep_new (from, to) arc arcs ≡ arcs ++ (((from, to), arc) ∷ [])
 put_last [] from to arc r h = refl
 put_last (x ∷ []) from to arc r h =
     let greater : ends_cmp (from, to) x.0 ≡ Greater = less_greater ends_cmp ends_total x.0 (from, to) h in

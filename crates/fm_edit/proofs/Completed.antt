@@ -1,5 +1,5 @@
 -- The steps by which pairs are touched, put together.
-use Rattle.std.proofs.Common.{◌≡◌, ◌∙◌, ◌<◌, ◌^◌, ℕ, Bool, true, false, cond, List, [], ◌∷◌, ◌++◌, Option, Some, None, refl, sym, ap}
+use Rattle.std.proofs.Common.{◌≡◌, ◌∙◌, ℕ, Bool, true, false, cond, List, [], ◌∷◌, ◌++◌, Option, Some, None, refl, sym, ap}
 use Rattle.std.specs.Prelude.{◌&&◌, ◌||◌, ◌==◌, not, filter, map, reverse, is_some, unwrap_or, IsTrue}
 use Rattle.std.specs.List.{list_any}
 use Rattle.std.specs.Ordering.{nat_cmp, is_eq, is_le}
@@ -11,19 +11,19 @@ use Rattle.std.proofs.lemmas.List.Sorted.{list_any-IsPermutation, IsPermutation-
 use Rattle.fm_lattice.specs.Chains.{by_cases, greater_less, nat_same}
 use Rattle.fm_lattice.specs.Maps.{lookup}
 use Rattle.fm_net.specs.declared.node.Node.{Node}
-use Rattle.fm_net.specs.declared.node.Node.TheVariants.{Sink, Request, Machine, Task}
+use Rattle.fm_net.specs.declared.node.Node.TheVariants.{Request, Machine}
 use Rattle.fm_net.specs.Nodes.{node_cmp}
 use Rattle.fm_net.specs.NodeOrder.{node_exact, node_total}
-use Rattle.fm_net.specs.Net.{Net, has_node}
+use Rattle.fm_net.specs.Net.{Net}
 use Rattle.fm_net.specs.KeptLists.{has_kept}
 use Rattle.fm_net.specs.Touched.{is_among}
 use Rattle.fm_edit.specs.declared.index.Index.{Index}
+use Rattle.fm_edit.specs.declared.memory.Memory.{Memory}
 use Rattle.fm_edit.specs.declared.touched.Touched.{Touched}
-use Rattle.fm_edit.specs.Sight.{Sight}
-use Rattle.fm_edit.specs.Index.{sum_in, lists_preferred}
-use Rattle.fm_edit.specs.Shown.{node_shown}
-use Rattle.fm_edit.specs.Touched.{has_touched, has_pair, Grows}
-use Rattle.fm_edit.specs.Completing.{Completes, is_request, is_machine, leads_to_sink, waiting_in}
+use Rattle.fm_edit.specs.Sight.{seen_in}
+use Rattle.fm_edit.specs.Index.{sum_in}
+use Rattle.fm_edit.specs.Touched.{has_touched, Grows}
+use Rattle.fm_edit.specs.Completing.{Completes, AddsSink, AddsPlaces, AddsPreferring, AddsMachines, is_request, is_machine, waiting_in}
 use Rattle.fm_edit.proofs.Ranges.{less_said, below_zero}
 
 pub grows_then : (x y z : Touched) → Grows x y → Grows y z → Grows x z
@@ -103,28 +103,41 @@ machine_among m (n ∷ ns) h =
       | false ↦ λ _ g. or_right (is_machine n) (list_any is_machine ns) (rest g)
     ] refl h
 
-module _ (s : Sight) (index : Index) (net : Net) (x0 x1 x2 x3 x4 x5 : Touched) (n1 n2 n3 n4 n5 rs ws : List Node) where
-  pub completes : n1 ≡ x0.nodes.keys → n2 ≡ x0.nodes.keys → n3 ≡ x0.nodes.keys → n4 ≡ x0.nodes.keys → n5 ≡ x0.nodes.keys → rs ≡ filter is_request x0.nodes.keys → (IsTrue (list_any is_machine x0.nodes.keys) → ws ≡ reverse (waiting_in index))
-      → Grows x0 x1 → Grows x1 x2 → Grows x2 x3 → Grows x3 x4 → Grows x4 x5
-      → x1.nodes ≡ x0.nodes → x2.nodes ≡ x1.nodes → x3.nodes ≡ x2.nodes → x4.nodes ≡ x3.nodes → x5.nodes ≡ x4.nodes
-      → ((n : Node) → is_among node_cmp n1 n ≡ true → leads_to_sink n ≡ true → has_pair x1 n Sink ≡ true)
-      → ((n : Node) → is_among node_cmp n2 n ≡ true → is_machine n ≡ true → (r : Node) → is_among node_cmp rs r ≡ true → has_pair x2 r n ≡ true)
-      → ((n : Node) → is_among node_cmp n3 n ≡ true → is_machine n ≡ true → (r : Node) → is_among node_cmp ws r ≡ true → has_pair x3 r n ≡ true)
-      → ((n : Node) → is_among node_cmp n4 n ≡ true → is_request n ≡ true → (has_node net n ≡ node_shown s (sum_in index) n → ⊥) → (m : ℕ) → is_some (s.machine m) ≡ true → has_pair x4 n (Machine m) ≡ true)
-      → ((n : Node) → is_among node_cmp n5 n ≡ true → (m t : ℕ) → n ≡ Machine m → t < 2 ^ 128 → lists_preferred index m t ≡ true → has_pair x5 (Task t) n ≡ true)
-      → Completes s index net x0 x5
-  completes e1 e2 e3 e4 e5 r_is w_is g1 g2 g3 g4 g5 s1 s2 s3 s4 s5 sinks places waits turns preferring =
-      let among : (ns : List Node) → ns ≡ x0.nodes.keys → (n : Node) → has_touched x0 n ≡ true → is_among node_cmp ns n ≡ true = λ ns e n h. ap (λ ks. is_among node_cmp ks n) e ∙ h in
+among_first : (xs ys : List Node) (n : Node) → is_among node_cmp xs n ≡ true → is_among node_cmp (xs ++ ys) n ≡ true
+among_first [] ys n h = absurd (let no : ⊥ = cc in no)
+among_first (x ∷ xs) ys n h =
+    let rest = among_first xs ys n in
+    elim (is_eq (node_cmp n x)) as (λ b. (b || is_among node_cmp xs n) ≡ true → (b || is_among node_cmp (xs ++ ys) n) ≡ true) [ true ↦ λ _. refl | false ↦ rest ] h
+
+among_last : (xs ys : List Node) (n : Node) → is_among node_cmp ys n ≡ true → is_among node_cmp (xs ++ ys) n ≡ true
+among_last [] ys n h = h
+among_last (x ∷ xs) ys n h = or_right (is_eq (node_cmp n x)) (is_among node_cmp (xs ++ ys) n) (among_last xs ys n h)
+
+module _ (memory : Memory) (net : Net) (x0 x1 : Touched) (ns rs : List Node) where
+  abbrev pub needed : List Node
+  needed = reverse (waiting_in memory.index) ++ filter is_request x0.nodes.keys
+
+  pub completes : ns ≡ x0.nodes.keys → (IsTrue (list_any is_machine x0.nodes.keys) → rs ≡ needed)
+      → Grows x0 x1 → x1.nodes ≡ x0.nodes
+      → ((n : Node) → is_among node_cmp ns n ≡ true → AddsSink n x1)
+      → ((n : Node) → is_among node_cmp ns n ≡ true → AddsPlaces rs n x1)
+      → ((n : Node) → is_among node_cmp ns n ≡ true → AddsPreferring memory.index n x1)
+      → ((n : Node) → is_among node_cmp ns n ≡ true → AddsMachines memory net n x1)
+      → Completes (seen_in memory.seen) memory.index net x0 x1
+  completes ns_are rs_are grows same sinks places preferring machines =
+      let among : (n : Node) → has_touched x0 n ≡ true → is_among node_cmp ns n ≡ true = λ n h. ap (λ ks. is_among node_cmp ks n) ns_are ∙ h in
+      let listed : (q m : ℕ) → has_touched x0 (Machine m) ≡ true → is_among node_cmp needed (Request q) ≡ true → is_among node_cmp rs (Request q) ≡ true = λ q m hm h.
+      ap (λ ks. is_among node_cmp ks (Request q)) (rs_are (machine_among m x0.nodes.keys hm)) ∙ h in
       record {
-        nodes = s5 ∙ s4 ∙ s3 ∙ s2 ∙ s1;
-        grows = grows_then x0 x1 x5 g1 (grows_then x1 x2 x5 g2 (grows_then x2 x3 x5 g3 (grows_then x3 x4 x5 g4 g5)));
-        sinks = λ n h l. g5.pairs n Sink (g4.pairs n Sink (g3.pairs n Sink (g2.pairs n Sink (sinks n (among n1 e1 n h) l))));
-        touched_places = λ q m hq hm. g5.pairs (Request q) (Machine m) (g4.pairs (Request q) (Machine m) (g3.pairs (Request q) (Machine m) (places (Machine m) (among n2 e2 (Machine m) hm) refl (Request q)
-            (ap (λ ks. is_among node_cmp ks (Request q)) r_is ∙ has_kept node_cmp node_total node_exact is_request (Request q) x0.nodes.keys ∙ hq))));
-        waiting_places = λ q m w hm. g5.pairs (Request q) (Machine m)
-            (g4.pairs (Request q) (Machine m) (waits (Machine m) (among n3 e3 (Machine m) hm) refl (Request q)
-            (ap (λ ks. is_among node_cmp ks (Request q)) (w_is (machine_among m x0.nodes.keys hm)) ∙ backwards
-            (waiting_in index) (Request q) ∙ waits_among index q w)));
-        preferring = λ m t small h hm. preferring (Machine m) (among n5 e5 (Machine m) hm) m t refl small h;
-        turned_places = λ q m hq apart there. g5.pairs (Request q) (Machine m) (turns (Request q) (among n4 e4 (Request q) hq) refl apart m there);
+        nodes = same;
+        grows = grows;
+        sinks = λ n h l. sinks n (among n h) l;
+        touched_places = λ q m hq hm. places (Machine m) (among (Machine m) hm) refl (Request q)
+            (listed q m hm (among_last (reverse (waiting_in memory.index)) (filter is_request x0.nodes.keys) (Request q)
+            (has_kept node_cmp node_total node_exact is_request (Request q) x0.nodes.keys ∙ hq)));
+        waiting_places = λ q m w hm. places (Machine m) (among (Machine m) hm) refl (Request q)
+            (listed q m hm (among_first (reverse (waiting_in memory.index)) (filter is_request x0.nodes.keys) (Request q)
+            (backwards (waiting_in memory.index) (Request q) ∙ waits_among memory.index q w)));
+        preferring = λ m t small h hm. preferring (Machine m) (among (Machine m) hm) m t refl small h;
+        turned_places = λ q m hq apart there. machines (Request q) (among (Request q) hq) refl apart m there;
       }

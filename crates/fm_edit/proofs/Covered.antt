@@ -15,7 +15,7 @@ use Rattle.fm_net.specs.declared.node.Node.{Node}
 use Rattle.fm_net.specs.declared.node.Node.TheVariants.{Sink, Unscheduled, Request, Machine, Task}
 use Rattle.fm_net.specs.Nodes.{node_cmp, ends_cmp}
 use Rattle.fm_net.specs.Network.{is_held, is_live_of, waits_for, is_node, place_arc, room_arc, preferred_arc, arc_of, net_of}
-use Rattle.fm_net.specs.NetworkLaws.{passed, kept, is_network_of}
+use Rattle.fm_net.specs.NetworkLaws.{passes_some, only_if_some, is_network_of}
 use Rattle.fm_net.specs.Touched.{Touches}
 use Rattle.fm_policy.specs.Changes.{Keys}
 use Rattle.fm_edit.specs.declared.touched.Touched.{Touched}
@@ -43,7 +43,7 @@ module _ (l : Table) (t : ℕ) (x : Touched) (touches : TouchesTask (sight_of l)
   to_holder m e = touches.holder (Machine m) (ap (option_map Machine) e)
 
   spec_live : (s : SpecReg) → live_spec l t ≡ Some s → spec_of l t ≡ Some s
-  spec_live s e = (kept _ (spec_of l t) s e).0
+  spec_live s e = (only_if_some _ (spec_of l t) s e).0
 
   when_some : {A : Type 0} (b : Bool) (v : A) → is_some (when b v) ≡ true → b ≡ true
   when_some true v h = refl
@@ -65,17 +65,17 @@ module _ (l : Table) (t : ℕ) (x : Touched) (touches : TouchesTask (sight_of l)
   pub leads : (b : Node) → is_some (arc_of l (Task t) b) ≡ true → has_pair x (Task t) b ≡ true
   leads (Request q) h =
       let waits = both_true (passes (λ s. s.request == q) (live_spec l t)) (not (is_held l t)) (when_some (waits_for l q t) (1, 0) h) in
-      let s = passed (λ s. s.request == q) (live_spec l t) waits.0 in
+      let s = passes_some (λ s. s.request == q) (live_spec l t) waits.0 in
       (to_request q (ap (option_map (λ s. s.request)) (spec_live s.0 s.1) ∙ ap Some (eqb-true s.0.request q s.2))).1
   leads (Machine m) h =
       elim (is_held l t) as (λ b. is_held l t ≡ b → has_pair x (Task t) (Machine m) ≡ true) [
         | true ↦ λ e.
-            let held = passed (λ x. x == m) (holder_of l t) (when_some (holds l m t) (1, 0) (subst (λ b. is_some (cond b (when (holds l m t) (1, 0)) (and_then (λ s. preferred_arc l s m) (live_spec l t))) ≡ true) e h)) in
+            let held = passes_some (λ x. x == m) (holder_of l t) (when_some (holds l m t) (1, 0) (subst (λ b. is_some (cond b (when (holds l m t) (1, 0)) (and_then (λ s. preferred_arc l s m) (live_spec l t))) ≡ true) e h)) in
             (to_holder m (held.1 ∙ ap Some (eqb-true held.0 m held.2))).1
         | false ↦ λ e. touches.preferred m (preferring m e (subst (λ b. is_some (cond b (when (holds l m t) (1, 0)) (and_then (λ s. preferred_arc l s m) (live_spec l t))) ≡ true) e h))
       ] refl
   leads (Unscheduled j) h =
-      let s = passed (λ s. s.job == j) (live_spec l t) (cond_some (is_live_of l j t) _ h) in
+      let s = passes_some (λ s. s.job == j) (live_spec l t) (cond_some (is_live_of l j t) _ h) in
       (to_job j (ap (option_map (λ s. s.job)) (spec_live s.0 s.1) ∙ ap Some (eqb-true s.0.job j s.2))).1
   leads Sink h = absurd (let no : ⊥ = cc in no)
   leads (Task u) h = absurd (let no : ⊥ = cc in no)

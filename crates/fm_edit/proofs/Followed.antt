@@ -28,7 +28,7 @@ use Rattle.fm_net.specs.declared.node.Node.TheVariants.{Unscheduled, Request, Ma
 use Rattle.fm_net.specs.Nodes.{node_cmp, ends_cmp}
 use Rattle.fm_net.specs.Net.{Net, has_node}
 use Rattle.fm_net.specs.Network.{is_node, net_of}
-use Rattle.fm_net.specs.NetworkLaws.{passed, kept, is_network_of}
+use Rattle.fm_net.specs.NetworkLaws.{passes_some, only_if_some, is_network_of}
 use Rattle.fm_net.specs.Touched.{Touches}
 use Rattle.fm_policy.specs.Changes.{Keys, changed_keys}
 use Rattle.fm_edit.specs.declared.index.Index.{Index}
@@ -166,8 +166,8 @@ module _ (k : Table) (can : CanBe k) where
   -- and so has a task that prefers a machine
   prefers_small : (m t : ℕ) → prefers k m t ≡ true → t < 2 ^ 128
   prefers_small m t h =
-      let live = passed (λ s. is_some (lookup nat_cmp m s.prefer)) (live_spec k t) (both_true _ _ h).0 in
-      spec_small t live.0 (kept _ (spec_of k t) live.0 live.1).0
+      let live = passes_some (λ s. is_some (lookup nat_cmp m s.prefer)) (live_spec k t) (both_true _ _ h).0 in
+      spec_small t live.0 (only_if_some _ (spec_of k t) live.0 live.1).0
 
 module _ (k d after : Table) (keys : Keys) (can_k : CanBe k) (can_d : CanBe d) (joined : after ≡ table_join k d) (is : keys ≡ changed_keys d) where
   pub after_can_be : CanBe after

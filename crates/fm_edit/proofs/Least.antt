@@ -4,7 +4,7 @@ use Rattle.std.specs.Prelude.{◌&&◌, ◌||◌, not, is_some, map}
 use Rattle.std.specs.List.{list_any}
 use Rattle.std.specs.Ordering.{is_eq}
 use Rattle.std.specs.Cmp.{Equal-is}
-use Rattle.fm_lattice.specs.Maps.{lookup, IsRising, replaced}
+use Rattle.fm_lattice.specs.Maps.{lookup, IsRising, keep_new}
 use Rattle.fm_lattice.specs.MapLaws.{rising_put}
 use Rattle.fm_records.specs.Options.{passes, when}
 use Rattle.fm_records.specs.Sets.{IsMember}
@@ -18,7 +18,7 @@ use Rattle.fm_net.specs.Net.{Net, CanBeNet, has_node}
 use Rattle.fm_net.specs.ListLaws.{has_member, passes_kept}
 use Rattle.fm_net.specs.KeptLists.{has_inserted, rises_inserted}
 use Rattle.fm_net.specs.EditLaws.{member_found, stands_removed, rises_removed, at_removed, rising_removed, at_put}
-use Rattle.fm_net.specs.Edits.{Arc, edited, after, joins, same_value, has_arc, gone_arcs, gone_nodes, new_nodes, new_arcs, drop_of, put_of, change}
+use Rattle.fm_net.specs.Edits.{Arc, after_edit, after, joins, same_value, has_arc, gone_arcs, gone_nodes, new_nodes, new_arcs, drop_of, put_of, change}
 use Rattle.fm_edit.specs.Change.{edit_of, AreApart}
 use Rattle.fm_edit.specs.LookLaws.{each_of_both, each_mapped}
 use Rattle.fm_edit.proofs.Made.{not_both, same_itself}
@@ -50,13 +50,13 @@ record Rise (net : Net) : Type 0 where
   pub nodes : Rises node_cmp net.nodes
   pub arcs : IsRising ends_cmp net.arcs
 
-still_rises : (e : Edit) (net : Net) → Rise net → Rise (edited e net)
+still_rises : (e : Edit) (net : Net) → Rise net → Rise (after_edit e net)
 still_rises (DropArc from to) net r = record { nodes = r.nodes; arcs = rising_removed (from, to) net.arcs r.arcs }
 still_rises (DropNode n) net r = record { nodes = rises_removed n net.nodes r.nodes; arcs = r.arcs }
 still_rises (PutNode n) net r = record { nodes = rises_inserted node_cmp node_total node_exact n net.nodes r.nodes; arcs = r.arcs }
-still_rises (PutArc from to capacity cost) net r = record { nodes = r.nodes; arcs = rising_put ends_cmp ends_total ends_exact replaced (from, to) (capacity, cost) net.arcs r.arcs }
+still_rises (PutArc from to capacity cost) net r = record { nodes = r.nodes; arcs = rising_put ends_cmp ends_total ends_exact keep_new (from, to) (capacity, cost) net.arcs r.arcs }
 
-untouched : (e : Edit) (net : Net) → Rise net → (a : Node) (b : Option Node) → is_of a b e ≡ false → says (edited e net) a b ≡ says net a b
+untouched : (e : Edit) (net : Net) → Rise net → (a : Node) (b : Option Node) → is_of a b e ≡ false → says (after_edit e net) a b ≡ says net a b
 untouched (DropArc from to) net r a (Some b) h = at_removed (from, to) (a, b) net.arcs r.arcs ∙ ap (λ t. cond t None (lookup ends_cmp (a, b) net.arcs)) h
 untouched (DropArc from to) net r a None h = refl
 untouched (DropNode n) net r a (Some b) h = refl
@@ -74,7 +74,7 @@ stays : (es : List Edit) (net : Net) → Rise net → (a : Node) (b : Option Nod
 stays [] net r a b h = refl
 stays (e ∷ es) net r a b h =
     let parts = either_false (is_of a b e) (list_any (is_of a b) es) h in
-    stays es (edited e net) (still_rises e net r) a b parts.1 ∙ untouched e net r a b parts.0
+    stays es (after_edit e net) (still_rises e net r) a b parts.1 ∙ untouched e net r a b parts.0
 
 -- each edit of a change is of what differs
 some_when : (b : Bool) → is_some {T = ℕ × ℕ} (when b (0, 0)) ≡ b

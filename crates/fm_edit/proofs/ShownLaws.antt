@@ -1,6 +1,6 @@
 -- What is shown of a table that is seen, with the sums over all its tasks, is the table's network.
 use Rattle.std.proofs.Common.{◌≡◌, ◌∙◌, ℕ, ◌+◌, ◌-◌, ◌<◌, ◌≤◌, ◌^◌, Bool, true, false, cond, List, [], ◌∷◌, length, None, refl, sym, ap, arith}
-use Rattle.std.specs.Prelude.{◌&&◌, ◌||◌, ◌==◌, not, filter, sum_by, min, max, nat_le, option_map}
+use Rattle.std.specs.Prelude.{◌&&◌, ◌||◌, ◌==◌, not, filter, sum_by, min, max, option_map}
 use Rattle.std.specs.List.{list_any}
 use Rattle.std.proofs.lemmas.Bool.{eqb-true}
 use Rattle.std.proofs.lemmas.List.Sums.{sum_by-cons, count_by-le-length}
@@ -8,15 +8,17 @@ use Rattle.std.specs.Ordering.{nat_cmp}
 use Rattle.fm_lattice.specs.Maps.{lookup}
 use Rattle.fm_records.specs.Options.{when, and_then}
 use Rattle.fm_records.specs.Table.{Table, TaskValue}
-use Rattle.fm_records.specs.Facts.{used_of, load_of, spare_of, open_state, live_spec, holds}
+use Rattle.fm_records.specs.Facts.{used_of, load_of, open_state, live_spec, holds}
 use Rattle.fm_net.specs.declared.node.Node.{Node}
 use Rattle.fm_net.specs.declared.node.Node.TheVariants.{Sink, Unscheduled, Request, Machine, Task}
-use Rattle.fm_net.specs.Network.{is_held, is_live_of, waits_for, live_tasks, is_node, places, room_arc, arc_of}
+use Rattle.fm_net.specs.Network.{is_held, is_live_of, waits_for, live_tasks, is_node, room_arc, arc_of}
+use Rattle.fm_policy.specs.Rooms.{room_of, fit_in}
+use Rattle.fm_policy.specs.RoomLaws.{room_fits}
 use Rattle.fm_edit.specs.LocalLaws.{counted}
 use Rattle.fm_edit.specs.Sight.{sight_of}
 use Rattle.fm_edit.specs.Index.{counts_at, weight_at}
 use Rattle.fm_edit.specs.Memory.{sum_over, none_out}
-use Rattle.fm_edit.specs.Shown.{node_shown, load_shown, spare_shown, room_shown, arc_shown}
+use Rattle.fm_edit.specs.Shown.{node_shown, load_shown, fit_shown, arc_shown}
 
 and_yes : (b : Bool) → (b && true) ≡ b
 and_yes true = refl
@@ -55,11 +57,8 @@ module _ (k : Table) where
   load_is : (m : ℕ) → load_shown (sight_of k) sums m ≡ load_of k m
   load_is m = ap (λ x. max (used_of k m) x) (sum_is (Machine m))
 
-  spare_is : (m : ℕ) → spare_shown (sight_of k) sums m ≡ spare_of k m
-  spare_is m = λ i. and_then (λ r. when (nat_le (load_is m i) r.nic) (r.nic - load_is m i)) (open_state k m)
-
-  room_is : (q m : ℕ) → room_shown (sight_of k) sums q m ≡ room_arc k q m
-  room_is q m = λ i. and_then (λ state. and_then (λ spare. when (nat_le q spare) (places state spare q, q + load_is m i)) (spare_is m i)) (open_state k m)
+  fit_is : (q m : ℕ) → fit_shown (sight_of k) sums q m ≡ room_arc k q m
+  fit_is q m = (λ i. and_then (λ room. fit_in room q) (and_then (λ state. room_of m state (load_is m i)) (open_state k m))) ∙ sym (room_fits k q m)
 
   pub node_is : (n : Node) → node_shown (sight_of k) sums n ≡ is_node k n
   node_is Sink = refl
@@ -75,8 +74,8 @@ module _ (k : Table) where
 
   pub arc_is : length k.tasks < 2 ^ 63 → (a b : Node) → arc_shown (sight_of k) sums a b ≡ arc_of k a b
   arc_is small (Task t) (Request q) = refl
-  arc_is small (Request q) (Machine m) = λ i. cond (node_is (Request q) i) (room_is q m i) None
-  arc_is small (Task t) (Machine m) = λ i. cond (is_held k t) (when (holds k m t) (1, 0)) (and_then (λ s. and_then (λ credit. option_map (λ a. (1, a.1 - credit)) (room_is s.request m i)) (lookup nat_cmp m s.prefer)) (live_spec k t))
+  arc_is small (Request q) (Machine m) = λ i. cond (node_is (Request q) i) (fit_is q m i) None
+  arc_is small (Task t) (Machine m) = λ i. cond (is_held k t) (when (holds k m t) (1, 0)) (and_then (λ s. and_then (λ credit. option_map (λ a. (1, a.1 - credit)) (fit_is s.request m i)) (lookup nat_cmp m s.prefer)) (live_spec k t))
   arc_is small (Task t) (Unscheduled j) = refl
   arc_is small (Machine m) Sink = refl
   arc_is small (Unscheduled j) Sink = λ i. when (node_is (Unscheduled j) i) (count_is j small i, 0)

@@ -6,10 +6,13 @@ use Rattle.fm_net.specs.declared.node.Node.{Node}
 use Rattle.fm_net.specs.declared.node.Node.TheVariants.{Sink, Unscheduled, Request, Machine, Task}
 use Rattle.fm_net.specs.Nodes.{node_cmp}
 use Rattle.fm_net.specs.Net.{Net, has_node}
+use Rattle.fm_net.specs.Touched.{is_among}
 use Rattle.fm_edit.specs.declared.index.Index.{Index}
+use Rattle.fm_edit.specs.declared.memory.Memory.{Memory}
 use Rattle.fm_edit.specs.declared.touched.Touched.{Touched}
-use Rattle.fm_edit.specs.Sight.{Sight}
+use Rattle.fm_edit.specs.Sight.{Sight, seen_in}
 use Rattle.fm_edit.specs.Index.{sum_in, lists_preferred}
+use Rattle.fm_edit.specs.Memory.{node_by}
 use Rattle.fm_edit.specs.Shown.{node_shown}
 use Rattle.fm_edit.specs.Touched.{has_touched, has_pair, Grows}
 
@@ -42,3 +45,17 @@ pub record Completes (s : Sight) (index : Index) (net : Net) (old new : Touched)
   pub waiting_places : (q m : ℕ) → node_shown s (sum_in index) (Request q) ≡ true → has_touched old (Machine m) ≡ true → has_pair new (Request q) (Machine m) ≡ true
   pub preferring : (m t : ℕ) → t < 2 ^ 128 → lists_preferred index m t ≡ true → has_touched old (Machine m) ≡ true → has_pair new (Task t) (Machine m) ≡ true
   pub turned_places : (q m : ℕ) → has_touched old (Request q) ≡ true → (has_node net (Request q) ≡ node_shown s (sum_in index) (Request q) → ⊥) → IsSome (s.machine m) → has_pair new (Request q) (Machine m) ≡ true
+
+-- the pairs that one touched node adds: a job or machine with the sink, a machine with each of the requests and with each task
+-- that is listed as preferring it, and a request that came or went with each machine that is known
+abbrev pub AddsSink : Node → Touched → Type 0
+AddsSink n new = leads_to_sink n ≡ true → has_pair new n Sink ≡ true
+
+abbrev pub AddsPlaces : List Node → Node → Touched → Type 0
+AddsPlaces requests n new = is_machine n ≡ true → (r : Node) → is_among node_cmp requests r ≡ true → has_pair new r n ≡ true
+
+abbrev pub AddsPreferring : Index → Node → Touched → Type 0
+AddsPreferring index n new = (m t : ℕ) → n ≡ Machine m → t < 2 ^ 128 → lists_preferred index m t ≡ true → has_pair new (Task t) n ≡ true
+
+abbrev pub AddsMachines : Memory → Net → Node → Touched → Type 0
+AddsMachines memory net n new = is_request n ≡ true → (has_node net n ≡ node_by memory n → ⊥) → (m : ℕ) → IsSome ((seen_in memory.seen).machine m) → has_pair new n (Machine m) ≡ true

@@ -1,22 +1,20 @@
 //! The pairs of ends that touched nodes add.
 
-ghost use Rattle.std.specs.Prelude.{◌≡◌, ◌<◌, ◌^◌, ℕ, true, false, filter, is_some, reverse, IsTrue, IfOk, OnOk};
+ghost use Rattle.std.specs.Prelude.{◌≡◌, ◌<◌, ◌^◌, ◌++◌, ℕ, true, filter, is_some, reverse, IsTrue, IfOk, OnOk};
 ghost use Rattle.std.specs.List.{list_any};
 ghost use Rattle.std.specs.Ordering.{nat_cmp};
 ghost use Rattle.std.specs.BTreeMap.{get};
 ghost use Rattle.fm_net.specs.declared.node.Node.{Node as NodeName};
 ghost use Rattle.fm_net.specs.Nodes.{node_cmp};
-ghost use Rattle.fm_net.specs.Net.{has_node};
 ghost use Rattle.fm_net.specs.Touched.{is_among};
 ghost use Rattle.fm_edit.specs.Sight.{seen_in};
-ghost use Rattle.fm_edit.specs.Index.{sum_in, lists_preferred};
-ghost use Rattle.fm_edit.specs.Shown.{node_shown};
+ghost use Rattle.fm_edit.specs.Index.{lists_preferred};
 ghost use Rattle.fm_edit.specs.Touched.{has_pair, Grows};
-ghost use Rattle.fm_edit.specs.Completing.{Completes, is_request, is_machine, leads_to_sink, waiting_in};
+ghost use Rattle.fm_edit.specs.Completing.{Completes, AddsSink, AddsPlaces, AddsPreferring, AddsMachines, is_request, is_machine, waiting_in};
 
 use crate::index::Index;
+use crate::memory::Memory;
 use crate::seen::Seen;
-use crate::shown::stands;
 use crate::touched::Touched;
 use fm_lattice::join::OutOfMemory;
 use fm_net::network::Network;
@@ -30,20 +28,21 @@ use std::alloc::Global;
 pub(crate) fn touch_pairs(
     alloc: Global,
     touched: &mut Touched,
-    seen: &Seen,
-    index: &Index,
+    memory: &Memory,
     network: &Network,
 ) -> Result<(), OutOfMemory>
-    ensures { OnOk result (Completes (seen_in seen.now) index.now network.now touched.old touched.new) }
+    ensures { OnOk result
+        (Completes (seen_in memory.now.seen) memory.now.index network.now touched.old touched.new) }
 {
     let nodes = nodes_of(alloc, touched)?;
-    let requests = requests_of(alloc, nodes.as_slice())?;
-    let waiting = waiting(alloc, index, nodes.as_slice())?;
-    touch_sinks(touched, nodes.as_slice())?;
-    touch_machines(touched, nodes.as_slice(), requests.as_slice())?;
-    touch_machines(touched, nodes.as_slice(), waiting.as_slice())?;
-    touch_requests(touched, nodes.as_slice(), seen, index, network)?;
-    touch_preferring(touched, nodes.as_slice(), index)?;
+    let requests = requests_for(alloc, &memory.index, nodes.as_slice())?;
+    touch_nodes(
+        touched,
+        nodes.as_slice(),
+        requests.as_slice(),
+        memory,
+        network,
+    )?;
     Ok(())
 }
 
@@ -52,6 +51,22 @@ fn nodes_of(alloc: Global, touched: &Touched) -> Result<Vec<Node>, OutOfMemory>
     ensures { IfOk result (λ ns. ns.items ≡ touched.now.nodes.keys) }
 {
     Ok(touched.nodes.iter().copied().collect(alloc)?)
+}
+
+// The requests at which tasks wait, and those among the nodes, if a machine is among these: they are needed for
+// machines alone. Greater ones first: inserting before all other elements is the cheapest in an ordered set.
+fn requests_for(alloc: Global, index: &Index, nodes: &[Node]) -> Result<Vec<Node>, OutOfMemory>
+    ensures { IfOk result (λ ns. IsTrue (list_any is_machine nodes.now)
+        → ns.items ≡ reverse (waiting_in index.now) ++ filter is_request nodes.now) }
+{
+    if !has_machine(nodes) {
+        return Ok(Vec::new(alloc));
+    }
+    let mut requests = all_waiting(alloc, index)?;
+    requests.reverse();
+    let mut touched = requests_of(alloc, nodes)?;
+    requests.append(&mut touched)?;
+    Ok(requests)
 }
 
 // The requests among the nodes.
@@ -71,20 +86,6 @@ fn is_request(node: &Node) -> bool
     ensures { result ≡ is_request node.now }
 {
     matches!(node, Node::Request(_))
-}
-
-// The requests at which tasks wait, if a machine is among the nodes: they are needed for machines alone. Greater ones
-// first: inserting before all other elements is the cheapest in an ordered set.
-fn waiting(alloc: Global, index: &Index, nodes: &[Node]) -> Result<Vec<Node>, OutOfMemory>
-    ensures { IfOk result (λ ns. IsTrue (list_any is_machine nodes.now) → ns.items ≡ reverse (waiting_in index.now)) }
-{
-    if has_machine(nodes) {
-        let mut requests = all_waiting(alloc, index)?;
-        requests.reverse();
-        Ok(requests)
-    } else {
-        Ok(Vec::new(alloc))
-    }
 }
 
 // Whether a machine is among the nodes.
@@ -115,58 +116,90 @@ fn all_waiting(alloc: Global, index: &Index) -> Result<Vec<Node>, OutOfMemory>
     )
 }
 
-// Touches the pairs of jobs and machines among the nodes with the sink.
-fn touch_sinks(touched: &mut Touched, nodes: &[Node]) -> Result<(), OutOfMemory>
+// Touches the pairs that the nodes add.
+fn touch_nodes(
+    touched: &mut Touched,
+    nodes: &[Node],
+    requests: &[Node],
+    memory: &Memory,
+    network: &Network,
+) -> Result<(), OutOfMemory>
     ensures grows { OnOk result (Grows touched.old touched.new) }
     ensures same { OnOk result (touched.new.nodes ≡ touched.old.nodes) }
-    ensures has { OnOk result ((n : NodeName) → is_among node_cmp nodes.now n ≡ true → leads_to_sink n ≡ true
-        → has_pair touched.new n NodeName.Sink ≡ true) }
+    ensures sinks { OnOk result ((n : NodeName) → is_among node_cmp nodes.now n ≡ true → AddsSink n touched.new) }
+    ensures places { OnOk result ((n : NodeName) → is_among node_cmp nodes.now n ≡ true
+        → AddsPlaces requests.now n touched.new) }
+    ensures preferring { OnOk result ((n : NodeName) → is_among node_cmp nodes.now n ≡ true
+        → AddsPreferring memory.now.index n touched.new) }
+    ensures machines { OnOk result ((n : NodeName) → is_among node_cmp nodes.now n ≡ true
+        → AddsMachines memory.now network.now n touched.new) }
 {
     for node in nodes {
-        touch_sink(touched, node)?;
+        touch_node(touched, node, requests, memory, network)?;
     }
     Ok(())
 }
 
-fn touch_sink(touched: &mut Touched, node: &Node) -> Result<(), OutOfMemory>
+// Touches the pairs that the node adds.
+fn touch_node(
+    touched: &mut Touched,
+    node: &Node,
+    requests: &[Node],
+    memory: &Memory,
+    network: &Network,
+) -> Result<(), OutOfMemory>
     ensures grows { OnOk result (Grows touched.old touched.new) }
     ensures same { OnOk result (touched.new.nodes ≡ touched.old.nodes) }
-    ensures has { OnOk result (leads_to_sink node.now ≡ true → has_pair touched.new node.now NodeName.Sink ≡ true) }
+    ensures sink { OnOk result (AddsSink node.now touched.new) }
+    ensures places { OnOk result (AddsPlaces requests.now node.now touched.new) }
+    ensures preferring { OnOk result (AddsPreferring memory.now.index node.now touched.new) }
+    ensures machines { OnOk result (AddsMachines memory.now network.now node.now touched.new) }
 {
     match node {
-        Node::Unscheduled(_) | Node::Machine(_) => touched.pair(node, &Node::Sink),
+        Node::Unscheduled(_) => touched.pair(node, &Node::Sink),
+        Node::Machine(machine) => touch_machine(touched, *machine, requests, &memory.index),
+        Node::Request(_) if network.has(node) != memory.stands(node) => touch_machines(
+            touched,
+            node,
+            &memory.seen,
+        ),
         Node::Sink | Node::Request(_) | Node::Task(_) => Ok(()),
     }
 }
 
-// Touches the pairs of the machines among the nodes and the tasks that wait and prefer them.
-fn touch_preferring(touched: &mut Touched, nodes: &[Node], index: &Index) -> Result<(), OutOfMemory>
+// Touches the pairs of the machine with the sink, the requests, and the tasks that wait and prefer it.
+fn touch_machine(
+    touched: &mut Touched,
+    machine: MachineId,
+    requests: &[Node],
+    index: &Index,
+) -> Result<(), OutOfMemory>
     ensures grows { OnOk result (Grows touched.old touched.new) }
     ensures same { OnOk result (touched.new.nodes ≡ touched.old.nodes) }
-    ensures has { OnOk result ((n : NodeName) → is_among node_cmp nodes.now n ≡ true → (m t : ℕ)
-        → n ≡ NodeName.Machine m → t < 2 ^ 128 → lists_preferred index.now m t ≡ true
-        → has_pair touched.new (NodeName.Task t) n ≡ true) }
+    ensures sink { OnOk result (AddsSink (NodeName.Machine machine) touched.new) }
+    ensures places { OnOk result (AddsPlaces requests.now (NodeName.Machine machine) touched.new) }
+    ensures preferring { OnOk result (AddsPreferring index.now (NodeName.Machine machine) touched.new) }
 {
-    for node in nodes {
-        touch_preferring_at(touched, node, index)?;
+    touched.pair(&Node::Machine(machine), &Node::Sink)?;
+    touch_places(touched, requests, &Node::Machine(machine))?;
+    touch_preferring(touched, machine, index)
+}
+
+// Touches the pairs of the requests and the machine.
+fn touch_places(touched: &mut Touched, requests: &[Node], machine: &Node) -> Result<(), OutOfMemory>
+    ensures grows { OnOk result (Grows touched.old touched.new) }
+    ensures same { OnOk result (touched.new.nodes ≡ touched.old.nodes) }
+    ensures has { OnOk result ((r : NodeName) → is_among node_cmp requests.now r ≡ true
+        → has_pair touched.new r machine.now ≡ true) }
+{
+    for request in requests {
+        touched.pair(request, machine)?;
     }
     Ok(())
 }
 
-fn touch_preferring_at(touched: &mut Touched, node: &Node, index: &Index) -> Result<(), OutOfMemory>
-    ensures grows { OnOk result (Grows touched.old touched.new) }
-    ensures same { OnOk result (touched.new.nodes ≡ touched.old.nodes) }
-    ensures has { OnOk result ((m t : ℕ) → node.now ≡ NodeName.Machine m → t < 2 ^ 128
-        → lists_preferred index.now m t ≡ true → has_pair touched.new (NodeName.Task t) node.now ≡ true) }
-{
-    match node {
-        Node::Machine(machine) => touch_preferring_of(touched, *machine, index),
-        Node::Sink | Node::Unscheduled(_) | Node::Request(_) | Node::Task(_) => Ok(()),
-    }
-}
-
 // Touches the pairs of the machine and the tasks that wait and prefer it. O(log n) for each.
-fn touch_preferring_of(
+fn touch_preferring(
     touched: &mut Touched,
     machine: MachineId,
     index: &Index,
@@ -184,90 +217,8 @@ fn touch_preferring_of(
     Ok(())
 }
 
-// Touches the pairs of the requests and each machine among the nodes.
-fn touch_machines(
-    touched: &mut Touched,
-    nodes: &[Node],
-    requests: &[Node],
-) -> Result<(), OutOfMemory>
-    ensures grows { OnOk result (Grows touched.old touched.new) }
-    ensures same { OnOk result (touched.new.nodes ≡ touched.old.nodes) }
-    ensures has { OnOk result ((n : NodeName) → is_among node_cmp nodes.now n ≡ true → is_machine n ≡ true
-        → (r : NodeName) → is_among node_cmp requests.now r ≡ true → has_pair touched.new r n ≡ true) }
-{
-    for node in nodes {
-        touch_machine(touched, node, requests)?;
-    }
-    Ok(())
-}
-
-fn touch_machine(touched: &mut Touched, node: &Node, requests: &[Node]) -> Result<(), OutOfMemory>
-    ensures grows { OnOk result (Grows touched.old touched.new) }
-    ensures same { OnOk result (touched.new.nodes ≡ touched.old.nodes) }
-    ensures has { OnOk result (is_machine node.now ≡ true → (r : NodeName) → is_among node_cmp requests.now r ≡ true
-        → has_pair touched.new r node.now ≡ true) }
-{
-    match node {
-        Node::Machine(_) => touch_places(touched, requests, node),
-        Node::Sink | Node::Unscheduled(_) | Node::Request(_) | Node::Task(_) => Ok(()),
-    }
-}
-
-// Touches the pairs of the requests and the machine.
-fn touch_places(touched: &mut Touched, requests: &[Node], machine: &Node) -> Result<(), OutOfMemory>
-    ensures grows { OnOk result (Grows touched.old touched.new) }
-    ensures same { OnOk result (touched.new.nodes ≡ touched.old.nodes) }
-    ensures has { OnOk result ((r : NodeName) → is_among node_cmp requests.now r ≡ true
-        → has_pair touched.new r machine.now ≡ true) }
-{
-    for request in requests {
-        touched.pair(request, machine)?;
-    }
-    Ok(())
-}
-
-// Touches the pairs of each request among the nodes that came or went as a node with each machine that is known.
-fn touch_requests(
-    touched: &mut Touched,
-    nodes: &[Node],
-    seen: &Seen,
-    index: &Index,
-    network: &Network,
-) -> Result<(), OutOfMemory>
-    ensures grows { OnOk result (Grows touched.old touched.new) }
-    ensures same { OnOk result (touched.new.nodes ≡ touched.old.nodes) }
-    ensures has { OnOk result ((n : NodeName) → is_among node_cmp nodes.now n ≡ true → is_request n ≡ true
-        → (has_node network.now n ≡ node_shown (seen_in seen.now) (sum_in index.now) n → ⊥) → (m : ℕ)
-        → is_some (get nat_cmp seen.now.machines m) ≡ true → has_pair touched.new n (NodeName.Machine m) ≡ true) }
-{
-    for node in nodes {
-        touch_request(touched, node, seen, index, network)?;
-    }
-    Ok(())
-}
-
-fn touch_request(
-    touched: &mut Touched,
-    node: &Node,
-    seen: &Seen,
-    index: &Index,
-    network: &Network,
-) -> Result<(), OutOfMemory>
-    ensures grows { OnOk result (Grows touched.old touched.new) }
-    ensures same { OnOk result (touched.new.nodes ≡ touched.old.nodes) }
-    ensures has { OnOk result (is_request node.now ≡ true
-        → (has_node network.now node.now ≡ node_shown (seen_in seen.now) (sum_in index.now) node.now → ⊥) → (m : ℕ)
-        → is_some (get nat_cmp seen.now.machines m) ≡ true
-        → has_pair touched.new node.now (NodeName.Machine m) ≡ true) }
-{
-    if is_request(node) && network.has(node) != stands(seen, index, node) {
-        return touch_rooms(touched, node, seen);
-    }
-    Ok(())
-}
-
 // Touches the pairs of the request and each machine that is known, greater ones first.
-fn touch_rooms(touched: &mut Touched, request: &Node, seen: &Seen) -> Result<(), OutOfMemory>
+fn touch_machines(touched: &mut Touched, request: &Node, seen: &Seen) -> Result<(), OutOfMemory>
     ensures grows { OnOk result (Grows touched.old touched.new) }
     ensures same { OnOk result (touched.new.nodes ≡ touched.old.nodes) }
     ensures has { OnOk result ((m : ℕ) → is_some (get nat_cmp seen.now.machines m) ≡ true

@@ -10,7 +10,6 @@ ghost use Rattle.fm_edit.specs.Dirty.{CountsDirtyTasks};
 ghost use Rattle.fm_edit.specs.Looking.{looks_of};
 ghost use Rattle.fm_edit.specs.Editing.{is_fresh_editor, taken_out, one_more, IsFor};
 
-use crate::listing::list;
 use crate::look::{KnowLook, Look};
 use crate::memory::Memory;
 use fm_know::knowledge::Knowledge;
@@ -118,13 +117,7 @@ pub fn edit<L: Look>(
     let network = editor.network.get();
     let touched = editor.memory.follow(alloc, network, look, changed)?;
     network.known();
-    let edits = list(
-        alloc,
-        network,
-        &editor.memory.seen,
-        &editor.memory.index,
-        &touched,
-    )?;
+    let edits = editor.memory.list(alloc, network, &touched)?;
     make(&mut editor.network, edits.as_slice())?;
     editor.fresh = true;
     editor.edits = editor.edits.saturating_add(1);

@@ -5,14 +5,11 @@ ghost use Rattle.fm_records.specs.Options.{passes, when};
 ghost use Rattle.fm_net.specs.declared.edit.Edit.{Edit as EditName};
 ghost use Rattle.fm_net.specs.Edits.{joins, same_value, has_arc};
 ghost use Rattle.fm_net.specs.Touched.{put_at};
-ghost use Rattle.fm_edit.specs.Sight.{seen_in};
-ghost use Rattle.fm_edit.specs.Index.{sum_in};
-ghost use Rattle.fm_edit.specs.Shown.{node_shown, arc_shown, IsPlace};
+ghost use Rattle.fm_edit.specs.Memory.{node_by, arc_by, IsPlaceBy};
 ghost use Rattle.fm_edit.specs.Listing.{arcs_that_go, nodes_that_go, nodes_that_come, arcs_that_come, edits_of};
 
-use crate::index::Index;
-use crate::seen::Seen;
-use crate::shown::{Place, arc_after, stands};
+use crate::memory::Memory;
+use crate::shown::Place;
 use crate::touched::Touched;
 use fm_lattice::join::OutOfMemory;
 use fm_net::edit::Edit;
@@ -21,153 +18,120 @@ use fm_net::node::Node;
 use std::alloc::Global;
 use std::collections::BTreeSet;
 
-/// The edits among the touched nodes and pairs that turn the network into that of the seen records: arcs that go,
-/// nodes that go, nodes that come, arcs that come or differ. O(log n) for each that was touched.
-pub(crate) fn list(
-    alloc: Global,
-    network: &Network,
-    seen: &Seen,
-    index: &Index,
-    touched: &Touched,
-) -> Result<Vec<Edit>, OutOfMemory>
-    ensures { IfOk result
-        (λ es. es.items ≡ edits_of network.now (node_shown (seen_in seen.now) (sum_in index.now))
-        (arc_shown (seen_in seen.now) (sum_in index.now)) touched.now.nodes.keys touched.now.pairs.keys) }
-{
-    let mut edits = Vec::new(alloc);
-    let mut coming = Vec::new(alloc);
-    add_arcs(
-        &mut edits,
-        &mut coming,
-        network,
-        seen,
-        index,
-        &touched.pairs,
-    )?;
-    let mut entering = Vec::new(alloc);
-    add_nodes(
-        &mut edits,
-        &mut entering,
-        network,
-        seen,
-        index,
-        &touched.nodes,
-    )?;
-    edits.append(&mut entering)?;
-    edits.append(&mut coming)?;
-    Ok(edits)
-}
-
-// Adds the edits of the pairs' arcs, to one list if they go, and to the other if they come or differ: one scan, since
-// computing the arc between two nodes is expensive; and a machine is looked up once for its consecutive pairs.
-fn add_arcs(
-    going: &mut Vec<Edit>,
-    coming: &mut Vec<Edit>,
-    network: &Network,
-    seen: &Seen,
-    index: &Index,
-    pairs: &BTreeSet<(Node, Node)>,
-) -> Result<(), OutOfMemory>
-    ensures going { OnOk result (going.new.items
-        ≡ going.old.items
-        ++ arcs_that_go network.now (node_shown (seen_in seen.now) (sum_in index.now))
-        (arc_shown (seen_in seen.now) (sum_in index.now)) pairs.now.keys) }
-    ensures coming { OnOk result (coming.new.items
-        ≡ coming.old.items
-        ++ arcs_that_come network.now (node_shown (seen_in seen.now) (sum_in index.now))
-        (arc_shown (seen_in seen.now) (sum_in index.now)) pairs.now.keys) }
-{
-    let mut last = None;
-    for pair in pairs.iter() {
-        add_arc(going, coming, network, seen, index, &mut last, pair)?;
+impl Memory {
+    /// The edits among the touched nodes and pairs that turn the network into that of the remembered records: arcs that
+    /// go, nodes that go, nodes that come, arcs that come or differ. O(log n) for each that was touched.
+    pub(crate) fn list(
+        &self,
+        alloc: Global,
+        network: &Network,
+        touched: &Touched,
+    ) -> Result<Vec<Edit>, OutOfMemory>
+        ensures { IfOk result (λ es. es.items
+            ≡ edits_of network.now (node_by self.now) (arc_by self.now) touched.now.nodes.keys touched.now.pairs.keys) }
+    {
+        let mut edits = Vec::new(alloc);
+        let mut coming = Vec::new(alloc);
+        self.add_arcs(&mut edits, &mut coming, network, &touched.pairs)?;
+        let mut entering = Vec::new(alloc);
+        self.add_nodes(&mut edits, &mut entering, network, &touched.nodes)?;
+        edits.append(&mut entering)?;
+        edits.append(&mut coming)?;
+        Ok(edits)
     }
-    Ok(())
-}
 
-// Adds the edit of the pair's arc, if it has one.
-fn add_arc(
-    going: &mut Vec<Edit>,
-    coming: &mut Vec<Edit>,
-    network: &Network,
-    seen: &Seen,
-    index: &Index,
-    last: &mut Option<Place>,
-    pair: &(Node, Node),
-) -> Result<(), OutOfMemory>
-    requires { IfSome last.old (IsPlace (seen_in seen.now) (sum_in index.now)) }
-    ensures last { IfSome last.new (IsPlace (seen_in seen.now) (sum_in index.now)) }
-    ensures going { OnOk result (going.new.items
-        ≡ going.old.items
-        ++ arcs_that_go network.now (node_shown (seen_in seen.now) (sum_in index.now))
-        (arc_shown (seen_in seen.now) (sum_in index.now)) (pair.now ∷ [])) }
-    ensures coming { OnOk result (coming.new.items
-        ≡ coming.old.items
-        ++ arcs_that_come network.now (node_shown (seen_in seen.now) (sum_in index.now))
-        (arc_shown (seen_in seen.now) (sum_in index.now)) (pair.now ∷ [])) }
-{
-    match arc_after(seen, index, last, &pair.0, &pair.1) {
-        None => {
-            if let Some(edit) = drop_arc(network, pair) {
-                going.push(edit)?;
+    // Adds the edits of the pairs' arcs, to one list if they go, and to the other if they come or differ: one scan,
+    // since computing the arc between two nodes is expensive; and a machine is looked up once for its consecutive
+    // pairs.
+    fn add_arcs(
+        &self,
+        going: &mut Vec<Edit>,
+        coming: &mut Vec<Edit>,
+        network: &Network,
+        pairs: &BTreeSet<(Node, Node)>,
+    ) -> Result<(), OutOfMemory>
+        ensures going { OnOk result (going.new.items
+            ≡ going.old.items ++ arcs_that_go network.now (node_by self.now) (arc_by self.now) pairs.now.keys) }
+        ensures coming { OnOk result (coming.new.items
+            ≡ coming.old.items ++ arcs_that_come network.now (node_by self.now) (arc_by self.now) pairs.now.keys) }
+    {
+        let mut last = None;
+        for pair in pairs.iter() {
+            self.add_arc(going, coming, network, &mut last, pair)?;
+        }
+        Ok(())
+    }
+
+    // Adds the edit of the pair's arc, if it has one.
+    fn add_arc(
+        &self,
+        going: &mut Vec<Edit>,
+        coming: &mut Vec<Edit>,
+        network: &Network,
+        last: &mut Option<Place>,
+        pair: &(Node, Node),
+    ) -> Result<(), OutOfMemory>
+        requires { IfSome last.old (IsPlaceBy self.now) }
+        ensures last { IfSome last.new (IsPlaceBy self.now) }
+        ensures going { OnOk result (going.new.items
+            ≡ going.old.items ++ arcs_that_go network.now (node_by self.now) (arc_by self.now) (pair.now ∷ [])) }
+        ensures coming { OnOk result (coming.new.items
+            ≡ coming.old.items ++ arcs_that_come network.now (node_by self.now) (arc_by self.now) (pair.now ∷ [])) }
+    {
+        match self.arc_after(last, &pair.0, &pair.1) {
+            None => {
+                if let Some(edit) = drop_arc(network, pair) {
+                    going.push(edit)?;
+                }
+            }
+            Some(wanted) => {
+                if let Some(edit) = put_arc(network, pair, wanted) {
+                    coming.push(edit)?;
+                }
             }
         }
-        Some(wanted) => {
-            if let Some(edit) = put_arc(network, pair, wanted) {
-                coming.push(edit)?;
-            }
+        Ok(())
+    }
+
+    // Adds the edits of the nodes, to one list if they go, and to the other if they come: one scan, as for the arcs.
+    fn add_nodes(
+        &self,
+        going: &mut Vec<Edit>,
+        coming: &mut Vec<Edit>,
+        network: &Network,
+        nodes: &BTreeSet<Node>,
+    ) -> Result<(), OutOfMemory>
+        ensures going { OnOk result (going.new.items
+            ≡ going.old.items ++ nodes_that_go network.now (node_by self.now) (arc_by self.now) nodes.now.keys) }
+        ensures coming { OnOk result (coming.new.items
+            ≡ coming.old.items ++ nodes_that_come network.now (node_by self.now) (arc_by self.now) nodes.now.keys) }
+    {
+        for node in nodes.iter() {
+            self.add_node(going, coming, network, node)?;
         }
+        Ok(())
     }
-    Ok(())
-}
 
-// Adds the edits of the nodes, to one list if they go, and to the other if they come: one scan, as for the arcs.
-fn add_nodes(
-    going: &mut Vec<Edit>,
-    coming: &mut Vec<Edit>,
-    network: &Network,
-    seen: &Seen,
-    index: &Index,
-    nodes: &BTreeSet<Node>,
-) -> Result<(), OutOfMemory>
-    ensures going { OnOk result (going.new.items
-        ≡ going.old.items
-        ++ nodes_that_go network.now (node_shown (seen_in seen.now) (sum_in index.now))
-        (arc_shown (seen_in seen.now) (sum_in index.now)) nodes.now.keys) }
-    ensures coming { OnOk result (coming.new.items
-        ≡ coming.old.items
-        ++ nodes_that_come network.now (node_shown (seen_in seen.now) (sum_in index.now))
-        (arc_shown (seen_in seen.now) (sum_in index.now)) nodes.now.keys) }
-{
-    for node in nodes.iter() {
-        add_node(going, coming, network, seen, index, node)?;
+    // Adds the edit of the node, if it has one.
+    fn add_node(
+        &self,
+        going: &mut Vec<Edit>,
+        coming: &mut Vec<Edit>,
+        network: &Network,
+        node: &Node,
+    ) -> Result<(), OutOfMemory>
+        ensures going { OnOk result (going.new.items
+            ≡ going.old.items ++ nodes_that_go network.now (node_by self.now) (arc_by self.now) (node.now ∷ [])) }
+        ensures coming { OnOk result (coming.new.items
+            ≡ coming.old.items ++ nodes_that_come network.now (node_by self.now) (arc_by self.now) (node.now ∷ [])) }
+    {
+        match (network.has(node), self.stands(node)) {
+            (true, false) => going.push(Edit::DropNode(*node))?,
+            (false, true) => coming.push(Edit::PutNode(*node))?,
+            _ => {}
+        }
+        Ok(())
     }
-    Ok(())
-}
-
-// Adds the edit of the node, if it has one.
-fn add_node(
-    going: &mut Vec<Edit>,
-    coming: &mut Vec<Edit>,
-    network: &Network,
-    seen: &Seen,
-    index: &Index,
-    node: &Node,
-) -> Result<(), OutOfMemory>
-    ensures going { OnOk result (going.new.items
-        ≡ going.old.items
-        ++ nodes_that_go network.now (node_shown (seen_in seen.now) (sum_in index.now))
-        (arc_shown (seen_in seen.now) (sum_in index.now)) (node.now ∷ [])) }
-    ensures coming { OnOk result (coming.new.items
-        ≡ coming.old.items
-        ++ nodes_that_come network.now (node_shown (seen_in seen.now) (sum_in index.now))
-        (arc_shown (seen_in seen.now) (sum_in index.now)) (node.now ∷ [])) }
-{
-    match (network.has(node), stands(seen, index, node)) {
-        (true, false) => going.push(Edit::DropNode(*node))?,
-        (false, true) => coming.push(Edit::PutNode(*node))?,
-        _ => {}
-    }
-    Ok(())
 }
 
 // The edit that drops the pair's arc, if it exists.

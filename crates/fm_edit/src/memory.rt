@@ -96,7 +96,7 @@ impl Memory {
         self.seen.known();
         self.index.put_back_all(&self.seen, dirty.as_slice())?;
         touched.tasks(&self.seen, dirty.as_slice())?;
-        touch_pairs(alloc, &mut touched, &self.seen, &self.index, network)?;
+        touch_pairs(alloc, &mut touched, self, network)?;
         touched.known();
         Ok(touched)
     }

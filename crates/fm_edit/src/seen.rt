@@ -6,13 +6,12 @@ ghost use Rattle.std.specs.Ordering.{nat_cmp};
 ghost use Rattle.fm_lattice.specs.Maps.{lookup, IsRising};
 ghost use Rattle.fm_records.specs.Table.{Table};
 ghost use Rattle.fm_records.specs.Options.{passes};
-ghost use Rattle.fm_records.specs.Facts.{is_done};
 ghost use Rattle.fm_net.specs.declared.node.Node.{Node as NodeName};
 ghost use Rattle.fm_edit.specs.Sight.{IsSeenTask, sight_of, seen_in, live_of, live_in, held_at, open_in, present_in, holder_in, used_in};
 
+use fm_know::facts::is_done;
 use fm_net::node::Node;
 use fm_records::ids::{JobId, MachineId, TaskId};
-use fm_records::ops::Phase;
 use fm_records::prefer::Prefer;
 use fm_records::records::{JobReg, MachineRec, MachineReg, SpecReg, Spot, TaskRec};
 use std::alloc::Global;
@@ -38,16 +37,6 @@ pub(crate) struct SeenTask {
     pub(crate) live: Option<SpecReg>,
     /// The machine that holds it.
     pub(crate) holder: Option<MachineId>,
-}
-
-// Whether the phase is the last.
-fn is_done(phase: Phase) -> bool
-    ensures { result ≡ is_done phase }
-{
-    match phase {
-        Phase::Pending | Phase::Running => false,
-        Phase::Done => true,
-    }
 }
 
 // The node of the job that the spec of the task's record names.
@@ -200,13 +189,8 @@ impl Seen {
     pub(crate) fn is_live(&self, task: TaskId) -> bool
         ensures { result ≡ is_some (live_in (seen_in self.now) task) }
     {
-        let Some(record) = self.tasks.get(&task) else {
-            return false;
-        };
-        match &record.0.0 {
-            Some(spec) => !spec.0.withdrawn
-                && !is_done(record.1.0.phase)
-                && self.job_stands(spec.0.job),
+        match self.tasks.get(&task) {
+            Some(known) => self.live_of(known).is_some(),
             None => false,
         }
     }

@@ -8,11 +8,11 @@ use Rattle.fm_round.specs.declared.parts.Admitted.{Admitted}
 use Rattle.fm_round.specs.Schedules.{IsPlanOf}
 use Rattle.fm_coord.specs.declared.entry.Call.TheVariants as call
 use Rattle.fm_coord.specs.declared.entry.Reply.TheVariants as reply
-use Rattle.fm_fleet.specs.Seats.{SeatSeen, called, MayRefuse}
+use Rattle.fm_fleet.specs.Seats.{SeatSeen, after_call, MayRefuse}
 
 -- the seat after a view of k with so many entries before it
-abbrev pub viewed : SeatSeen → ℕ → Table → SeatSeen
-viewed s at k = called s call.View (reply.Seen at k)
+abbrev pub after_view : SeatSeen → ℕ → Table → SeatSeen
+after_view s at k = after_call s call.View (reply.Seen at k)
 
 -- a view, not before the seat's own calls, and then the commit of a plan by what was seen, with its answer
 pub record IsRound (base : ℕ) (s : SeatSeen) (t : SeatSeen) (admitted : Admitted) : Type 0 where
@@ -21,14 +21,14 @@ pub record IsRound (base : ℕ) (s : SeatSeen) (t : SeatSeen) (admitted : Admitt
   pub plan : Plan
   pub later : base + length s.log ≤ at
   pub planned : IsPlanOf known plan
-  pub listed : t ≡ called (viewed s at known) (call.Commit plan) (reply.Admitted admitted)
+  pub listed : t ≡ after_call (after_view s at known) (call.Commit plan) (reply.Admitted admitted)
 
 -- the view alone, since memory ran out for a plan, or the commit of a plan was refused
 pub record IsHalfRound (base : ℕ) (s : SeatSeen) (t : SeatSeen) (refusal : Refusal) : Type 0 where
   pub at : ℕ
   pub known : Table
   pub later : base + length s.log ≤ at
-  pub listed : t ≡ viewed s at known
+  pub listed : t ≡ after_view s at known
   pub cause : (refusal ≡ OutOfMemory) ⊎ ((plan : Plan) × IsPlanOf known plan × MayRefuse (call.Commit plan) refusal)
 
 -- a round that is refused: before its view was answered, or after it

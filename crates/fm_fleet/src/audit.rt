@@ -18,9 +18,11 @@ use fm_records::refusal::Refusal;
 /// once, in each seat's order. It allocates nothing. O(n m) in entries and seats, times what entries hold. NotMine
 /// with the least seat whose list differs, else with the number in the first entry of no seat.
 pub fn audit<N: NetKeeper>(closed: &Closed<N>) -> Result<(), Refusal>
-    ensures exact { IsOk result ↔ IsAudited (drop closed.now.base closed.now.coordinator.state.history) closed.now.logs.items }
+    ensures exact { IsOk result ↔ IsAudited
+        (drop closed.now.base closed.now.coordinator.state.history) closed.now.logs.items }
     ensures ok { OnOk result (StandInOne closed.now.coordinator.state closed.now.base closed.now.logs.items) }
-    ensures err { IfErr result (λ refusal. (k : ℕ) × (refusal ≡ NotMine k) × IsNotAudited (drop closed.now.base closed.now.coordinator.state.history) closed.now.logs.items k) }
+    ensures err { IfErr result (λ refusal. (k : ℕ) × (refusal ≡ NotMine k)
+        × IsNotAudited (drop closed.now.base closed.now.coordinator.state.history) closed.now.logs.items k) }
 {
     closed.coordinator.known();
     judge(
@@ -76,7 +78,8 @@ fn is_log(made: &[Entry], seat: u32, log: &[Entry]) -> bool
 
 // What is left of a log after an entry. If the entry is the seat's, the log must go on with it.
 fn rest_after<'a>(seat: u32, entry: &Entry, log: &'a [Entry]) -> Option<&'a [Entry]>
-    ensures { MatchOption result ((es : List Listed) → ¬ (of_seat seat (entry.now ∷ es) ≡ log.now)) (λ left. (es : List Listed) → (of_seat seat (entry.now ∷ es) ≡ log.now) ↔ (of_seat seat es ≡ left.now)) }
+    ensures { MatchOption result ((es : List Listed) → ¬ (of_seat seat (entry.now ∷ es) ≡ log.now))
+        (λ left. (es : List Listed) → (of_seat seat (entry.now ∷ es) ≡ log.now) ↔ (of_seat seat es ≡ left.now)) }
 {
     if entry.by != seat {
         return Some(log);
@@ -95,7 +98,8 @@ fn rest_after<'a>(seat: u32, entry: &Entry, log: &'a [Entry]) -> Option<&'a [Ent
 
 // The least seat whose log is not what the entries have of it.
 fn least_differing(made: &[Entry], logs: &[SeatLog]) -> Option<u32>
-    ensures { MatchOption result ((i : ℕ) (l : Log) → slice_get logs.now i ≡ Some l → Matches made.now l) (λ k. IsLeastDiffering made.now logs.now k) }
+    ensures { MatchOption result ((i : ℕ) (l : Log) → slice_get logs.now i ≡ Some l → Matches made.now l)
+        (λ k. IsLeastDiffering made.now logs.now k) }
 {
     let mut least = None;
     for log in logs {
@@ -130,7 +134,10 @@ fn is_listed(logs: &[SeatLog], seat: u32) -> bool
 
 // The first entry that is of no seat.
 fn first_strange(made: &[Entry], logs: &[SeatLog]) -> Option<u32>
-    ensures { MatchOption result ((i : ℕ) (e : Listed) → slice_get made.now i ≡ Some e → IsListed logs.now e.by) (λ by. (place : ℕ) × (e : Listed) × (slice_get made.now place ≡ Some e) × (e.by ≡ by) × (¬ (IsListed logs.now by)) × ((i : ℕ) (f : Listed) → i < place → slice_get made.now i ≡ Some f → IsListed logs.now f.by)) }
+    ensures { MatchOption result ((i : ℕ) (e : Listed) → slice_get made.now i ≡ Some e → IsListed logs.now e.by)
+        (λ by. (place : ℕ) × (e : Listed) × (slice_get made.now place ≡ Some e) × (e.by ≡ by)
+        × (¬ (IsListed logs.now by)) × ((i : ℕ) (f : Listed) → i < place → slice_get made.now i ≡ Some f
+        → IsListed logs.now f.by)) }
 {
     for entry in made {
         if !is_listed(logs, entry.by) {

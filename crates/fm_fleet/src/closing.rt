@@ -28,6 +28,16 @@ pub struct NotClosed<N: NetKeeper, L: NodeName> {
     pub seats: Vec<Seat<L>>,
 }
 
+impl<N: NetKeeper, L: NodeName> NotClosed<N, L> {
+    /// The coordinator of the node that was not closed, with what its seats did. The seats are dropped. It allocates nothing.
+    pub fn into_coordinator(self) -> Coordinator<N> {
+        let NotClosed { node, .. } = self;
+        let Node { desk, .. } = node;
+        let Desk { coordinator, .. } = desk.into_inner();
+        coordinator
+    }
+}
+
 /// Closes a node with all its seats, and returns their lists, by the numbers of the seats. The history has grown by
 /// as many entries as are in the lists. It allocates nothing. O(n^2) in the seats. NotMine with the least seat that is
 /// missing, with the node and the seats.
@@ -36,7 +46,8 @@ pub fn close<N: NetKeeper, L: NodeName>(
     seats: Vec<Seat<L>>,
 ) -> Result<Closed<N>, NotClosed<N, L>>
     ensures base { IfOk result (λ closed. closed.base ≡ L.base) }
-    ensures counted { IfOk result (λ closed. length closed.coordinator.state.history ≡ closed.base + sum_by length_of closed.logs.items) }
+    ensures counted { IfOk result (λ closed. length closed.coordinator.state.history
+        ≡ closed.base + sum_by length_of closed.logs.items) }
     ensures logs { IfOk result (λ closed. IsPermutation seats.items (map seat_of closed.logs.items)) }
     ensures numbered { IfOk result (λ closed. AreNumbered closed.logs.items × (vec_len closed.logs ≡ node)) }
     ensures err { IfErr result (λ kept. (k : ℕ) × (kept.refusal ≡ NotMine k) × IsMissing node seats.items k) }
@@ -71,7 +82,8 @@ pub fn close<N: NetKeeper, L: NodeName>(
 
 // Where the seat of this number stands.
 fn find<L: NodeName>(seats: &[Seat<L>], number: u32) -> Option<usize>
-    ensures { MatchOption result (¬ (HasSeat number seats.now)) (λ i. (s : SeatSeen) × (slice_get seats.now i ≡ Some s) × (s.number ≡ number)) }
+    ensures { MatchOption result (¬ (HasSeat number seats.now))
+        (λ i. (s : SeatSeen) × (slice_get seats.now i ≡ Some s) × (s.number ≡ number)) }
 {
     for i in 0..seats.len() {
         if seats[i].number() == number {

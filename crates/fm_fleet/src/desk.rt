@@ -1,8 +1,8 @@
 //! What is under a node's lock: the coordinator, with the book of the calls that seats made.
 ghost use Rattle.std.specs.Prelude.{◌≡◌, ◌<◌, ◌≤◌, ◌+◌, length, IfOk, IfErr, OnOk, OnErr};
 ghost use Rattle.fm_coord.specs.Causes.{refusal_for};
-ghost use Rattle.fm_coord.specs.States.{bounds, entry, noted, after};
-ghost use Rattle.fm_coord.specs.Answers.{said, answered};
+ghost use Rattle.fm_coord.specs.States.{bounds, entry, with_entry, after};
+ghost use Rattle.fm_coord.specs.Answers.{reply_to, answer_to};
 ghost use Rattle.fm_tally.specs.Tallies.{TallyIsFor};
 ghost use Rattle.fm_coord.specs.declared.entry.Reply.TheVariants as reply;
 
@@ -32,13 +32,15 @@ impl<N: NetKeeper, L: NodeName> Desk<N, L> {
     /// seat's share, a refused one moves nothing. The history has the calls that are counted in the share before it.
     pub fn call(&mut self, by: u32, call: Call, share: &mut Share<L>) -> Result<Answer, Refusal>
         requires { 0 < share.old.parts }
-        ensures ok { IfOk result (λ answer. self.new.coordinator.state ≡ after self.old.coordinator.state (entry by call (said answer)) call) }
-        ensures answer { IfOk result (λ answer. answer ≡ answered self.old.coordinator.state call) }
+        ensures ok { IfOk result (λ answer. self.new.coordinator.state
+            ≡ after self.old.coordinator.state (entry by call (reply_to answer)) call) }
+        ensures answer { IfOk result (λ answer. answer ≡ answer_to self.old.coordinator.state call) }
         ensures later { OnOk result (L.base + share.old.amount ≤ length self.old.coordinator.state.history) }
         ensures counted { OnOk result (share.new.amount ≡ share.old.amount + 1) }
         ensures parts { share.new.parts ≡ share.old.parts }
         ensures cause { IfErr result (λ refusal. refusal ≡ refusal_for (bounds self.old.coordinator.state) call) }
-        ensures err { OnErr result ((share.new.amount ≡ share.old.amount) × (self.new.coordinator.state ≡ self.old.coordinator.state)) }
+        ensures err { OnErr result ((share.new.amount ≡ share.old.amount)
+            × (self.new.coordinator.state ≡ self.old.coordinator.state)) }
     {
         let Desk {
             coordinator,
@@ -55,14 +57,15 @@ impl<N: NetKeeper, L: NodeName> Desk<N, L> {
     pub fn see(&mut self, by: u32, share: &mut Share<L>) -> Result<Sight, Refusal>
         requires { 0 < share.old.parts }
         ensures ok { IfOk result (λ sight. self.new.coordinator.state
-            ≡ noted self.old.coordinator.state (entry by Call.View (reply.Seen sight.at sight.knowledge))) }
+            ≡ with_entry self.old.coordinator.state (entry by Call.View (reply.Seen sight.at sight.knowledge))) }
         ensures knowledge { IfOk result (λ sight. sight.knowledge ≡ self.old.coordinator.state.knowledge) }
         ensures tally { IfOk result (λ sight. TallyIsFor sight.knowledge sight.tally) }
         ensures later { IfOk result (λ sight. L.base + share.old.amount ≤ sight.at) }
         ensures counted { OnOk result (share.new.amount ≡ share.old.amount + 1) }
         ensures parts { share.new.parts ≡ share.old.parts }
         ensures cause { IfErr result (λ refusal. refusal ≡ refusal_for (bounds self.old.coordinator.state) Call.View) }
-        ensures err { OnErr result ((share.new.amount ≡ share.old.amount) × (self.new.coordinator.state ≡ self.old.coordinator.state)) }
+        ensures err { OnErr result ((share.new.amount ≡ share.old.amount)
+            × (self.new.coordinator.state ≡ self.old.coordinator.state)) }
     {
         let Desk {
             coordinator,

@@ -1,9 +1,9 @@
 //! Nodes: coordinators that threads share, each by a seat of its own.
 ghost use Rattle.std.specs.Prelude.{◌≡◌, ◌<◌, ◌≤◌, ◌+◌, [], length, vec_len, vec_capacity, IfOk, IfErr, OnOk, OnErr};
 ghost use Rattle.fm_net.specs.Network.{net_of};
-ghost use Rattle.fm_coord.specs.Answers.{said};
+ghost use Rattle.fm_coord.specs.Answers.{reply_to};
 ghost use Rattle.fm_tally.specs.Tallies.{TallyIsFor};
-ghost use Rattle.fm_fleet.specs.Seats.{called, MayRefuse, IsAnswered, IsDone, AreNew};
+ghost use Rattle.fm_fleet.specs.Seats.{after_call, MayRefuse, IsAnswered, IsDone, AreNew};
 
 use crate::desk::Desk;
 use crate::owners::{another, listed};
@@ -39,7 +39,8 @@ impl<N: NetKeeper, L: NodeName> Model for Node<N, L> {
 
     ghost view = { λ n. n.count };
 
-    ghost invariant = { λ n. (n.base ≡ L.base) × (n.count ≡ L.parts) × (n.count ≤ vec_capacity n.room) × (vec_len n.room ≡ 0) };
+    ghost invariant = { λ n. (n.base ≡ L.base) × (n.count ≡ L.parts) × (n.count ≤ vec_capacity n.room)
+        × (vec_len n.room ≡ 0) };
 }
 
 /// Why a node was not made, with what was passed.
@@ -66,7 +67,8 @@ impl<N: NetKeeper, L: NodeName> Node<N, L> {
         requires base { length coordinator.state.history ≡ L.base }
         ensures ok { IfOk result (λ r. (r.0 ≡ count) × AreNew count r.1.items) }
         ensures err { IfErr result (λ fault. fault.refusal ≡ Refusal.OutOfMemory) }
-        ensures back { IfErr result (λ fault. (fault.coordinator ≡ coordinator) × (fault.blank.name ≡ blank.name) × (fault.blank.parts ≡ blank.parts)) }
+        ensures back { IfErr result (λ fault. (fault.coordinator ≡ coordinator) × (fault.blank.name ≡ blank.name)
+            × (fault.blank.parts ≡ blank.parts)) }
     {
         let mut room = Vec::new(alloc);
         let mut seats = Vec::new(alloc);
@@ -125,7 +127,7 @@ impl<N: NetKeeper, L: NodeName> Node<N, L> {
         seat: &mut Seat<L>,
         mut call: Call,
     ) -> Result<Answer, Refusal>
-        ensures ok { IfOk result (λ answer. seat.new ≡ called seat.old call (said answer)) }
+        ensures ok { IfOk result (λ answer. seat.new ≡ after_call seat.old call (reply_to answer)) }
         ensures answer { IfOk result (λ answer. IsAnswered (L.base + length seat.old.log) call answer) }
         ensures cause { IfErr result (λ refusal. MayRefuse call refusal) }
         ensures err { OnErr result (seat.new ≡ seat.old) }
@@ -152,7 +154,7 @@ impl<N: NetKeeper, L: NodeName> Node<N, L> {
     /// Tells an operation, as the coordinator's `tell`. Refused as that, and with OutOfMemory; then the seat is
     /// unchanged.
     pub fn tell<R: Wait>(&self, rt: &R, seat: &mut Seat<L>, op: Op) -> Result<(), Refusal>
-        ensures ok { OnOk result (seat.new ≡ called seat.old (Call.Tell op) Reply.Nothing) }
+        ensures ok { OnOk result (seat.new ≡ after_call seat.old (Call.Tell op) Reply.Nothing) }
         ensures cause { IfErr result (λ refusal. MayRefuse (Call.Tell op) refusal) }
         ensures err { OnErr result (seat.new ≡ seat.old) }
     {
@@ -162,7 +164,7 @@ impl<N: NetKeeper, L: NodeName> Node<N, L> {
     /// Merges a packet's value, as the coordinator's `merge`. Refused as that, and with OutOfMemory; then the seat is
     /// unchanged.
     pub fn merge<R: Wait>(&self, rt: &R, seat: &mut Seat<L>, packet: Packet) -> Result<(), Refusal>
-        ensures ok { OnOk result (seat.new ≡ called seat.old (Call.Merge packet) Reply.Nothing) }
+        ensures ok { OnOk result (seat.new ≡ after_call seat.old (Call.Merge packet) Reply.Nothing) }
         ensures cause { IfErr result (λ refusal. MayRefuse (Call.Merge packet) refusal) }
         ensures err { OnErr result (seat.new ≡ seat.old) }
     {
@@ -176,7 +178,7 @@ impl<N: NetKeeper, L: NodeName> Node<N, L> {
         seat: &mut Seat<L>,
         range: Range,
     ) -> Result<Shared<Packet>, Refusal>
-        ensures ok { IfOk result (λ packet. seat.new ≡ called seat.old (Call.Cut range) (Reply.Packet packet)) }
+        ensures ok { IfOk result (λ packet. seat.new ≡ after_call seat.old (Call.Cut range) (Reply.Packet packet)) }
         ensures cause { IfErr result (λ refusal. MayRefuse (Call.Cut range) refusal) }
         ensures err { OnErr result (seat.new ≡ seat.old) }
     {
@@ -190,7 +192,7 @@ impl<N: NetKeeper, L: NodeName> Node<N, L> {
     /// Drops the deltas below n, as the coordinator's `trim`. Refused as that, and with OutOfMemory; then the seat is
     /// unchanged.
     pub fn trim<R: Wait>(&self, rt: &R, seat: &mut Seat<L>, n: u64) -> Result<(), Refusal>
-        ensures ok { OnOk result (seat.new ≡ called seat.old (Call.Trim n) Reply.Nothing) }
+        ensures ok { OnOk result (seat.new ≡ after_call seat.old (Call.Trim n) Reply.Nothing) }
         ensures cause { IfErr result (λ refusal. MayRefuse (Call.Trim n) refusal) }
         ensures err { OnErr result (seat.new ≡ seat.old) }
     {
@@ -201,7 +203,8 @@ impl<N: NetKeeper, L: NodeName> Node<N, L> {
     /// node's start and are in the seat's list, and the network is that of the knowledge. Refused as that, and with
     /// OutOfMemory; then the seat is unchanged.
     pub fn view<R: Wait>(&self, rt: &R, seat: &mut Seat<L>) -> Result<View, Refusal>
-        ensures ok { IfOk result (λ view. seat.new ≡ called seat.old Call.View (Reply.Seen view.at view.knowledge)) }
+        ensures ok { IfOk result (λ view. seat.new
+            ≡ after_call seat.old Call.View (Reply.Seen view.at view.knowledge)) }
         ensures later { IfOk result (λ view. L.base + length seat.old.log ≤ view.at) }
         ensures network { IfOk result (λ view. view.network ≡ net_of view.knowledge) }
         ensures cause { IfErr result (λ refusal. MayRefuse Call.View refusal) }
@@ -217,7 +220,8 @@ impl<N: NetKeeper, L: NodeName> Node<N, L> {
     /// As `view`, with the tally in place of the network, as the coordinator's `see`. Refused as that, and with
     /// OutOfMemory; then the seat is unchanged.
     pub fn see<R: Wait>(&self, rt: &R, seat: &mut Seat<L>) -> Result<Sight, Refusal>
-        ensures ok { IfOk result (λ sight. seat.new ≡ called seat.old Call.View (Reply.Seen sight.at sight.knowledge)) }
+        ensures ok { IfOk result (λ sight. seat.new
+            ≡ after_call seat.old Call.View (Reply.Seen sight.at sight.knowledge)) }
         ensures tally { IfOk result (λ sight. TallyIsFor sight.knowledge sight.tally) }
         ensures later { IfOk result (λ sight. L.base + length seat.old.log ≤ sight.at) }
         ensures cause { IfErr result (λ refusal. MayRefuse Call.View refusal) }
@@ -248,7 +252,8 @@ impl<N: NetKeeper, L: NodeName> Node<N, L> {
         seat: &mut Seat<L>,
         plan: Plan,
     ) -> Result<Shared<Admitted>, Refusal>
-        ensures ok { IfOk result (λ admitted. seat.new ≡ called seat.old (Call.Commit plan) (Reply.Admitted admitted)) }
+        ensures ok { IfOk result (λ admitted. seat.new
+            ≡ after_call seat.old (Call.Commit plan) (Reply.Admitted admitted)) }
         ensures cause { IfErr result (λ refusal. MayRefuse (Call.Commit plan) refusal) }
         ensures err { OnErr result (seat.new ≡ seat.old) }
     {
@@ -262,7 +267,7 @@ impl<N: NetKeeper, L: NodeName> Node<N, L> {
     // A call that returns nothing.
     fn done<R: Wait>(&self, rt: &R, seat: &mut Seat<L>, call: Call) -> Result<(), Refusal>
         requires { IsDone call }
-        ensures ok { OnOk result (seat.new ≡ called seat.old call Reply.Nothing) }
+        ensures ok { OnOk result (seat.new ≡ after_call seat.old call Reply.Nothing) }
         ensures cause { IfErr result (λ refusal. MayRefuse call refusal) }
         ensures err { OnErr result (seat.new ≡ seat.old) }
     {

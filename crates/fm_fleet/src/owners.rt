@@ -1,6 +1,6 @@
 //! One more owner of an answer.
 ghost use Rattle.std.specs.Prelude.{◌≡◌};
-ghost use Rattle.fm_coord.specs.Answers.{said};
+ghost use Rattle.fm_coord.specs.Answers.{reply_to};
 
 use fm_coord::answer::Answer;
 use fm_coord::entry::Reply;
@@ -24,7 +24,7 @@ pub(crate) fn another<T: Drop, R: Wait>(rt: &R, value: &Shared<T>) -> Shared<T>
 
 /// The answer as a list keeps it, with one more owner of what it holds. It waits as `another` does.
 pub fn listed<R: Wait>(rt: &R, answer: &Answer) -> Reply
-    ensures { result ≡ said answer.now }
+    ensures { result ≡ reply_to answer.now }
 {
     match answer {
         Answer::Done => Reply::Nothing,

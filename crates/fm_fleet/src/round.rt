@@ -30,8 +30,8 @@ impl Gate for NoGate {
 }
 
 /// A look at what is known, the gate, and the commit of the plan of a least flow of the network of what was seen. The
-/// result is the commit's. The network is built only if the search for a plan without it gives up, or the plan fails its check. OutOfMemory, HistoryFull; then
-/// the seat is unchanged, or has only the view.
+/// result is the commit's. The network is built only if the search for a plan without it gives up, or the plan fails
+/// its check. OutOfMemory, HistoryFull; then the seat is unchanged, or has only the view.
 pub fn run_round<N: NetKeeper, L: NodeName, G: Gate, R: Wait>(
     rt: &R,
     alloc: Global,

@@ -10,14 +10,14 @@ use Rattle.fm_delta.specs.declared.packet.Packet.{Packet}
 use Rattle.fm_coord.specs.Events.{Sent, Event, Replica, opening, happens}
 use Rattle.fm_coord.specs.Events as event
 use Rattle.fm_coord.specs.Numbers.{AreDistinct}
-use Rattle.fm_coord.specs.Replays.{seen}
+use Rattle.fm_coord.specs.Replays.{seen_packet}
 use Rattle.fm_coord.specs.States.{State, WithKeeper, StandsFor}
 use Rattle.fm_world.specs.declared.step.Act.TheVariants as act
 use Rattle.fm_world.specs.declared.step.Step.{Step}
-use Rattle.fm_world.specs.Worlds.{WorldOfSets, opening_world, with_number, changed_at, event_asked, acted, cause_at, refusal_of, step_of, run_of, taken_in, spelled_out}
+use Rattle.fm_world.specs.Worlds.{WorldOfSets, opening_world, with_number, changed_at, event_asked, after_maybe, cause_at, refusal_of, step_of, run_of, taken_in, spelled_out}
 use Rattle.fm_world.specs.Stands.{Kept, state_of, number_of, AllStand, WorldStandsFor, IsReached}
-use Rattle.fm_opening.specs.Openings.{history_limit, opened}
-use Rattle.fm_follow.specs.Renewing.{whole_of, renewed_replica, renewed, reopened}
+use Rattle.fm_opening.specs.Openings.{history_limit, new_world}
+use Rattle.fm_follow.specs.Renewing.{whole_of, renewed_replica, renewed_world, reopened_world}
 
 abbrev pub number : Replica → ℕ
 number r = r.number
@@ -31,7 +31,7 @@ same_number by (event.Trim n) r = refl
 same_number by event.View r = refl
 same_number by (event.Commit plan) r = refl
 
-same_acted : (by : ℕ) (o : Option Event) (r : Replica) → number (acted by o r) ≡ number r
+same_acted : (by : ℕ) (o : Option Event) (r : Replica) → number (after_maybe by o r) ≡ number r
 same_acted by None r = refl
 same_acted by (Some e) r = same_number by e r
 
@@ -47,7 +47,7 @@ same_run : (w : WorldOfSets) (ss : List Step) → map number (run_of w ss).repli
 same_run w [] = refl
 same_run w (s ∷ ss) =
     same_run (step_of w s) ss
-    ∙ same_changed s.at (acted s.by (event_asked w.packets s.act)) (same_acted s.by (event_asked w.packets s.act)) w.replicas
+    ∙ same_changed s.at (after_maybe s.by (event_asked w.packets s.act)) (same_acted s.by (event_asked w.packets s.act)) w.replicas
 
 at_first : (openings : List (ℕ × ℕ)) → map number (opening_world openings).replicas ≡ map (λ o. o.0) openings
 at_first [] = refl
@@ -62,7 +62,7 @@ same_numbers (c ∷ cs) (r ∷ rs) h = λ i. h.0.number i ∷ same_numbers cs rs
 
 -- the first i replicas renewed, the others with nothing that happened to them
 abbrev pub halfway : ℕ → List Replica → List Replica
-halfway zero rs = (opened (map number rs)).replicas
+halfway zero rs = (new_world (map number rs)).replicas
 halfway (suc i) [] = []
 halfway (suc i) (r ∷ rs) = renewed_replica r ∷ halfway i rs
 
@@ -139,7 +139,7 @@ module _ {N : Type 0} (cs : List (WithKeeper N)) (old : Kept) (those : map state
   as_many rs h = sym (length-map rs number) ∙ ap length (sym (same_numbers cs rs h)) ∙ length-map cs number_of
 
   -- once all of them are
-  pub all_done : (n : ℕ) → length cs ≤ n → (anew : Kept) (w : WorldOfSets) → WorldStandsFor old w → WorldStandsFor anew (halfway_world n w) → WorldStandsFor anew (renewed w)
+  pub all_done : (n : ℕ) → length cs ≤ n → (anew : Kept) (w : WorldOfSets) → WorldStandsFor old w → WorldStandsFor anew (halfway_world n w) → WorldStandsFor anew (renewed_world w)
   all_done n le anew w h =
       let many = as_many w.replicas (all_stand w h) in
       subst (λ (rs : List Replica). WorldStandsFor anew (record { replicas = rs; packets = [] })) (all_renewed n w.replicas (omega (arith, many)))
@@ -152,8 +152,8 @@ module _ {N : Type 0} (cs : List (WithKeeper N)) (old : Kept) (those : map state
     pub listed_distinct : IsReached old → AreDistinct numbers
     listed_distinct reached = subst AreDistinct (sym all_listed) (are_distinct reached)
 
-    pub same_opening : (w : WorldOfSets) → WorldStandsFor old w → opened numbers ≡ reopened w
-    same_opening w h = ap opened (all_listed ∙ same_numbers cs w.replicas (all_stand w h))
+    pub same_opening : (w : WorldOfSets) → WorldStandsFor old w → new_world numbers ≡ reopened_world w
+    same_opening w h = ap new_world (all_listed ∙ same_numbers cs w.replicas (all_stand w h))
 
   -- of which the next takes in, as a packet, all that it knows
   module _ (reached : IsReached old) (i : ℕ) (c : WithKeeper N) (lt : i < length cs) (is : c ≡ get_or cs i c) (at : ℕ) (its : at ≡ c.state.number) (packet : Packet) (anew : Kept) where
@@ -166,9 +166,9 @@ module _ {N : Type 0} (cs : List (WithKeeper N)) (old : Kept) (those : map state
           ap (λ m. changed_at m (λ r. happens r 0 (event.Merge (whole_of its_turn.replica))) (halfway i w.replicas)) e
           ∙ its_turn.taken ∙ ap (λ k. halfway k w.replicas) (sym (add-one i))
 
-      pub one_more : ((r : Replica) → StandsFor c.state r → packet ≡ seen (whole_of r)) → (after : Kept)
+      pub one_more : ((r : Replica) → StandsFor c.state r → packet ≡ seen_packet (whole_of r)) → (after : Kept)
           → WorldStandsFor anew (halfway_world i w)
-          → ((v : WorldOfSets) (sent : Sent) → WorldStandsFor anew v → packet ≡ seen sent → WorldStandsFor after (taken_in v at 0 sent))
+          → ((v : WorldOfSets) (sent : Sent) → WorldStandsFor anew v → packet ≡ seen_packet sent → WorldStandsFor after (taken_in v at 0 sent))
           → WorldStandsFor after (halfway_world (i + 1) w)
       one_more whole after before take =
           subst (λ (rs : List Replica). WorldStandsFor after (record { replicas = rs; packets = [] })) (merged at its)

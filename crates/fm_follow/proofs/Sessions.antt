@@ -8,7 +8,7 @@ use Rattle.fm_records.specs.Ranges.{CanBe}
 use Rattle.fm_records.specs.Spelled.{ops}
 use Rattle.fm_records.specs.SpelledLaws.{know_ops}
 use Rattle.fm_delta.specs.declared.packet.Packet.{Packet}
-use Rattle.fm_coord.specs.Replays.{seen}
+use Rattle.fm_coord.specs.Replays.{seen_packet}
 use Rattle.fm_world.specs.declared.step.Act.{Act as WorldAct}
 use Rattle.fm_world.specs.declared.step.Act.TheVariants as world
 use Rattle.fm_world.specs.Worlds.{WorldOfSets, refusal_of}
@@ -17,16 +17,16 @@ use Rattle.fm_input.specs.declared.script.Act.TheVariants as act
 use Rattle.fm_input.specs.declared.request.Request.{Request}
 use Rattle.fm_input.specs.declared.request.Request.TheVariants as request
 use Rattle.fm_input.specs.Requests.{Asked, Does, Renews, Requests, asked_of}
-use Rattle.fm_lines.specs.Replies.{accepted}
+use Rattle.fm_lines.specs.Replies.{accepted_reply}
 use Rattle.fm_follow.specs.declared.session.Session.{Session}
 use Rattle.fm_follow.specs.Acting.{step_at, Takes}
-use Rattle.fm_follow.specs.Following.{Following, StandBehind, arrived, number_at, at_world, DoesAt, fresh, is_due, IsAccepted, IsAt, RefusesIn}
-use Rattle.fm_follow.specs.Renewing.{renewed}
+use Rattle.fm_follow.specs.Following.{Following, StandBehind, packet_by_ops, number_at, at_world, DoesAt, fresh, is_due, IsAccepted, IsAt, RefusesIn}
+use Rattle.fm_follow.specs.Renewing.{renewed_world}
 use Rattle.fm_follow.specs.Sessions.{SessionAt, Goes, Stops}
 use Rattle.fm_follow.proofs.Results.{if_ok}
 
 -- a packet from elsewhere is seen as it came
-pub seen_so : (behind : Packet → List Op) → StandBehind behind → (p : Packet) → CanBe p.value → p ≡ seen (arrived behind p)
+pub seen_so : (behind : Packet → List Op) → StandBehind behind → (p : Packet) → CanBe p.value → p ≡ seen_packet (packet_by_ops behind p)
 seen_so behind stand p can = λ i. record { sender = p.sender; number = p.number; value = (sym (stand p can)) i }
 
 -- a world that is the same stands for the same
@@ -54,15 +54,15 @@ module _ (old new : Session) (r : Result (Vec ℕ) Refusal) (at : ℕ) where
 
 -- between two lines
 abbrev pub Settled : ℕ → Session → Session → Following → Type 0
-Settled most mid new j = (new ≡ mid) ⊎ (is_due most j.world × SessionAt new (fresh (renewed j.world)))
+Settled most mid new j = (new ≡ mid) ⊎ (is_due most j.world × SessionAt new (fresh (renewed_world j.world)))
 
 pub accepts : (most : ℕ) (behind : Packet → List Op) (mid new : Session) (k j : Following) (line text : List ℕ) (asked : Asked)
     → Requests k.named.names line asked → DoesAt behind k asked text j → SessionAt mid j → Settled most mid new j
-    → (i : Following) × IsAccepted most behind (Some k) line (accepted text) (Some i) × SessionAt new i
+    → (i : Following) × IsAccepted most behind (Some k) line (accepted_reply text) (Some i) × SessionAt new i
 accepts most behind mid new k j line text asked requests does at (inl same) =
     (j, record { asked = asked; requests = requests; text = text; made = Some j; does = (j, does, refl); settles = inl refl; is = refl }, subst (λ (d : Session). SessionAt d j) (sym same) at)
 accepts most behind mid new k j line text asked requests does at (inr (due, anew)) =
-    (fresh (renewed j.world), record { asked = asked; requests = requests; text = text; made = Some j; does = (j, does, refl); settles = inr (j, refl, due, refl); is = refl }, anew)
+    (fresh (renewed_world j.world), record { asked = asked; requests = requests; text = text; made = Some j; does = (j, does, refl); settles = inr (j, refl, due, refl); is = refl }, anew)
 
 -- before coordinators are listed every other request is refused
 pub too_early : (q : Request) → ((listed : Vec ℕ) → q ≡ request.Open listed → ⊥) → RefusesIn None (asked_of q) (BadScript 0)

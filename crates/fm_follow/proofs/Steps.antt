@@ -8,7 +8,7 @@ use Rattle.fm_records.specs.Options.{or_else}
 use Rattle.fm_delta.specs.declared.packet.Packet.{Packet}
 use Rattle.fm_round.specs.declared.parts.Plan.{Plan}
 use Rattle.fm_round.specs.declared.parts.Admitted.{Admitted}
-use Rattle.fm_round.specs.Admission.{admitted}
+use Rattle.fm_round.specs.Admission.{admission}
 use Rattle.fm_round.specs.Schedules.{IsPlanOf}
 use Rattle.fm_coord.specs.declared.entry.Call.TheVariants as call
 use Rattle.fm_coord.specs.declared.entry.Range.{Range}
@@ -17,7 +17,7 @@ use Rattle.fm_delta.specs.Deltas.{end_of}
 use Rattle.fm_coord.specs.Causes.{cause, refusal_for, room_fault}
 use Rattle.fm_coord.specs.Events.{Replica, packet_of}
 use Rattle.fm_coord.specs.Events as event
-use Rattle.fm_coord.specs.Replays.{seen}
+use Rattle.fm_coord.specs.Replays.{seen_packet}
 use Rattle.fm_coord.specs.States.{State, bounds, StandsFor}
 use Rattle.fm_coord.specs.StepLaws.{same_bounds}
 use Rattle.fm_world.specs.declared.step.Act.{Act}
@@ -57,7 +57,7 @@ no_memory w at a none = sym (ap (or_else OutOfMemory) none)
 
 -- as many packets as were cut
 pub counted : (k : Kept) (w : WorldOfSets) → WorldStandsFor k w → length k.packets ≡ length w.packets
-counted k w h = ap length h.packets ∙ length-map w.packets seen
+counted k w h = ap length h.packets ∙ length-map w.packets seen_packet
 
 -- a commit is refused as a view would be
 same_cause : (o : Option Replica) (plan : Plan) → cause_at o (Some (event.Commit plan)) ≡ cause_at o (Some event.View)
@@ -107,11 +107,11 @@ module _ (k : Kept) (w : WorldOfSets) (at : ℕ) (h : WorldStandsFor k w) where
     cut_refused range refusal is = is ∙ ap (or_else OutOfMemory) (cut_cause range)
 
     -- the line of the packet that would be cut
-    pub cut_told : (range : Range) (packet : Packet) (text : List ℕ) → ((r : Replica) → StandsFor s r → packet ≡ seen (packet_of r range)) → text ≡ line_of packet → IsCutLine w at range text
+    pub cut_told : (range : Range) (packet : Packet) (text : List ℕ) → ((r : Replica) → StandsFor s r → packet ≡ seen_packet (packet_of r range)) → text ≡ line_of packet → IsCutLine w at range text
     cut_told range packet text seen_so told = record { replica = here.replica; there = here.at; is = told ∙ ap line_of (seen_so here.replica here.stands) }
 
     -- a round
-    pub round_told : (plan : Plan) (answered : Admitted) (text : List ℕ) (v : WorldOfSets) → IsPlanOf s.knowledge plan → answered ≡ admitted s.knowledge s.number plan
+    pub round_told : (plan : Plan) (answered : Admitted) (text : List ℕ) (v : WorldOfSets) → IsPlanOf s.knowledge plan → answered ≡ admission s.knowledge s.number plan
         → text ≡ round_text plan answered → Takes w (step_at at (act.Commit plan)) v → Rounds w at text v
     round_told plan answered text v plan_of is told commit =
         let known = here.stands.knowledge in
@@ -122,5 +122,5 @@ module _ (k : Kept) (w : WorldOfSets) (at : ℕ) (h : WorldStandsFor k w) where
           plan = plan;
           plan_of = subst (λ t. IsPlanOf t plan) known plan_of;
           commit = commit;
-          told = told ∙ ap (round_text plan) (is ∙ (λ i. admitted (known i) (number i) plan));
+          told = told ∙ ap (round_text plan) (is ∙ (λ i. admission (known i) (number i) plan));
         }

@@ -25,11 +25,11 @@ use Rattle.fm_ask.specs.declared.query.Query.{Query}
 use Rattle.fm_ask.specs.declared.query.Query.TheVariants as query
 use Rattle.fm_ask.specs.Queries.{IsText, IsUnanswered}
 use Rattle.fm_ask.specs.Unpacked.{IsPacketIn, IsNoPacketIn}
-use Rattle.fm_lines.specs.Replies.{accepted, refused}
-use Rattle.fm_opening.specs.Openings.{opened}
+use Rattle.fm_lines.specs.Replies.{accepted_reply, refusal_reply}
+use Rattle.fm_opening.specs.Openings.{new_world}
 use Rattle.fm_follow.specs.Acting.{step_at, Rounds}
 use Rattle.fm_follow.specs.Acting as acting
-use Rattle.fm_follow.specs.Renewing.{renewed}
+use Rattle.fm_follow.specs.Renewing.{renewed_world}
 
 -- the packets that were cut under a name, in the order of their cuts: their names, and their numbers among all packets
 pub record Named : Type 0 where
@@ -68,8 +68,8 @@ abbrev pub StandBehind : (Packet → List Op) → Type 0
 StandBehind behind = (p : Packet) → CanBe p.value → know (behind p) ≡ p.value
 
 -- the packet by the operations behind it
-abbrev pub arrived : (Packet → List Op) → Packet → Sent
-arrived behind p = record { sender = p.sender; number = p.number; set = behind p }
+abbrev pub packet_by_ops : (Packet → List Op) → Packet → Sent
+packet_by_ops behind p = record { sender = p.sender; number = p.number; set = behind p }
 
 -- other operations behind one of the packets
 abbrev pub but_behind : Packet → List Op → (Packet → List Op) → Packet → List Op
@@ -118,7 +118,7 @@ pub record TakesIn (behind : Packet → List Op) (k : Following) (at : ℕ) (dig
   pub packet : Packet
   pub spelled : IsPacketIn digits packet
   pub accepted : cause_of k.world (step_at at (world.Take packet)) ≡ None
-  pub is : j ≡ at_world k (taken_in k.world at 0 (arrived behind packet))
+  pub is : j ≡ at_world k (taken_in k.world at 0 (packet_by_ops behind packet))
 
 -- the query of a topic about the coordinator with the number
 abbrev pub query_at : Topic → ℕ → Query
@@ -138,11 +138,11 @@ DoesAt behind k (Takes at digits) text j = (text ≡ []) × TakesIn behind k at 
 DoesAt behind k (Asks at topic) text j = IsText (query_at topic at) k.world text × (j ≡ k)
 DoesAt behind k (Explains at task) text j = IsText (query.Why at task) k.world text × (j ≡ k)
 DoesAt behind k Agrees text j = IsText query.Agree k.world text × (j ≡ k)
-DoesAt behind k Renews text j = (text ≡ []) × (j ≡ fresh (renewed k.world))
+DoesAt behind k Renews text j = (text ≡ []) × (j ≡ fresh (renewed_world k.world))
 
 -- the same of any stream: the first request lists the coordinators
 abbrev pub DoesIn : (Packet → List Op) → Option Following → Asked → List ℕ → Option Following → Type 0
-DoesIn behind None (Opens listed) text new = (text ≡ []) × (new ≡ Some (fresh (opened listed)))
+DoesIn behind None (Opens listed) text new = (text ≡ []) × (new ≡ Some (fresh (new_world listed)))
 DoesIn behind None asked text new = ⊥
 DoesIn behind (Some k) asked text new = (j : Following) × DoesAt behind k asked text j × (new ≡ Some j)
 
@@ -176,7 +176,7 @@ is_due most w = IsTrue (list_any (λ r. nat_le most (length r.steps)) w.replicas
 
 -- between two lines: coordinators may be renewed once a history has as many entries as that
 abbrev pub Settles : ℕ → Option Following → Option Following → Type 0
-Settles most made new = (new ≡ made) ⊎ ((k : Following) × (made ≡ Some k) × is_due most k.world × (new ≡ Some (fresh (renewed k.world))))
+Settles most made new = (new ≡ made) ⊎ ((k : Following) × (made ≡ Some k) × is_due most k.world × (new ≡ Some (fresh (renewed_world k.world))))
 
 -- a line is accepted: what it asks for is done, and its text told
 pub record IsAccepted (most : ℕ) (behind : Packet → List Op) (old : Option Following) (line answer : List ℕ) (new : Option Following) : Type 0 where
@@ -186,13 +186,13 @@ pub record IsAccepted (most : ℕ) (behind : Packet → List Op) (old : Option F
   pub made : Option Following
   pub does : DoesIn behind old asked text made
   pub settles : Settles most made new
-  pub is : answer ≡ accepted text
+  pub is : answer ≡ accepted_reply text
 
 -- a line is refused: it asks for nothing, or for what is refused; nothing changes
 pub record IsRefused (old : Option Following) (line answer : List ℕ) (new : Option Following) : Type 0 where
   pub refusal : Refusal
   pub cause : RequestsNothing (names_in old) line refusal ⊎ ((asked : Asked) × Requests (names_in old) line asked × RefusesIn old asked refusal)
-  pub is : answer ≡ refused refusal
+  pub is : answer ≡ refusal_reply refusal
   pub same : new ≡ old
 
 -- a line is answered so, and makes new of old

@@ -4,7 +4,7 @@ use Rattle.std.specs.Prelude.{[], map}
 use Rattle.fm_coord.specs.Events.{Sent, Replica, opening, happens}
 use Rattle.fm_coord.specs.Events as event
 use Rattle.fm_world.specs.Worlds.{WorldOfSets}
-use Rattle.fm_opening.specs.Openings.{history_limit, opened}
+use Rattle.fm_opening.specs.Openings.{history_limit, new_world}
 
 -- all that a replica took in, as a packet of its own
 abbrev pub whole_of : Replica → Sent
@@ -15,9 +15,9 @@ abbrev pub renewed_replica : Replica → Replica
 renewed_replica r = happens (opening r.number history_limit) 0 (event.Merge (whole_of r))
 
 -- the world of such replicas; no packet was cut
-abbrev pub renewed : WorldOfSets → WorldOfSets
-renewed w = record { replicas = map renewed_replica w.replicas; packets = [] }
+abbrev pub renewed_world : WorldOfSets → WorldOfSets
+renewed_world w = record { replicas = map renewed_replica w.replicas; packets = [] }
 
 -- replicas of the same numbers, to which nothing happened
-abbrev pub reopened : WorldOfSets → WorldOfSets
-reopened w = opened (map (λ r. r.number) w.replicas)
+abbrev pub reopened_world : WorldOfSets → WorldOfSets
+reopened_world w = new_world (map (λ r. r.number) w.replicas)

@@ -5,7 +5,7 @@ use Rattle.fm_records.specs.declared.ops.Op.{Op}
 use Rattle.fm_records.specs.declared.refusal.Refusal.{Refusal}
 use Rattle.fm_delta.specs.declared.packet.Packet.{Packet}
 use Rattle.fm_input.specs.Requests.{Asked}
-use Rattle.fm_lines.specs.Replies.{accepted, refused}
+use Rattle.fm_lines.specs.Replies.{accepted_reply, refusal_reply}
 use Rattle.fm_follow.specs.declared.session.Session.{Session}
 use Rattle.fm_follow.specs.declared.follower.Follower.{Follower}
 use Rattle.fm_follow.specs.Following.{Following, StandBehind, DoesAt, RefusesAt, IsAccepted, IsRefused, Answers, IsAt}
@@ -27,11 +27,11 @@ Stops result old asked = (k : Following) → SessionAt old k → IfErr result (R
 abbrev pub Accepts : ℕ → Result (Vec ℕ) Refusal → Session → Session → List ℕ → Type 0
 Accepts most result old new line =
     (behind : Packet → List Op) → StandBehind behind → (k : Following) → SessionAt old k
-    → IfOk result (λ text. (j : Following) × IsAccepted most behind (Some k) line (accepted text.items) (Some j) × SessionAt new j)
+    → IfOk result (λ text. (j : Following) × IsAccepted most behind (Some k) line (accepted_reply text.items) (Some j) × SessionAt new j)
 
 -- of a call that refuses a line
 abbrev pub Rejects : {T : Type 0} → Result T Refusal → Session → List ℕ → Type 0
-Rejects result old line = (k : Following) → SessionAt old k → IfErr result (λ e. IsRefused (Some k) line (refused e) (Some k))
+Rejects result old line = (k : Following) → SessionAt old k → IfErr result (λ e. IsRefused (Some k) line (refusal_reply e) (Some k))
 
 -- where the stream is before its first line, and where coordinators are
 abbrev pub IsIn : Option Session → Option Following → Type 0
@@ -43,7 +43,7 @@ IsIn (Some d) None = ⊥
 -- of a call that answers a line before which there are no coordinators
 abbrev pub Begins : ℕ → Result (Vec ℕ) Refusal → Follower → List ℕ → Type 0
 Begins most result new line =
-    (behind : Packet → List Op) → IfOk result (λ text. (j : Following) × IsAccepted most behind None line (accepted text.items) (Some j) × IsIn new.session (Some j))
+    (behind : Packet → List Op) → IfOk result (λ text. (j : Following) × IsAccepted most behind None line (accepted_reply text.items) (Some j) × IsIn new.session (Some j))
 
 -- the answer to a line, and what it leaves: whatever stands behind packets from elsewhere, and wherever the stream is by that
 pub record AnswersSo (old : Follower) (line answer : List ℕ) (new : Follower) : Type 0 where

@@ -1,7 +1,7 @@
 //! The responder to the lines of a stream: it has no coordinators before the line that lists the coordinators.
 
 ghost use Rattle.std.specs.Prelude.{◌≡◌, None, IfErr, OnErr};
-ghost use Rattle.fm_lines.specs.Replies.{refused};
+ghost use Rattle.fm_lines.specs.Replies.{refusal_reply};
 ghost use Rattle.fm_follow.specs.Following.{IsRefused};
 ghost use Rattle.fm_follow.specs.Sessions.{Begins, IsIn};
 
@@ -40,7 +40,7 @@ impl Follower {
     fn begin(&mut self, line: &[u8]) -> Result<Vec<u8>, Refusal>
         ensures most { self.new.renew_after ≡ self.old.renew_after }
         ensures ok { Begins self.old.renew_after result self.new line.now }
-        ensures err { IfErr result (λ e. IsRefused None line.now (refused e) None) }
+        ensures err { IfErr result (λ e. IsRefused None line.now (refusal_reply e) None) }
         ensures unchanged { OnErr result (self.new ≡ self.old) }
     {
         match read_request(self.alloc, line, &Names::new(self.alloc))? {

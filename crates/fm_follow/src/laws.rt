@@ -7,7 +7,7 @@ ghost use Rattle.fm_records.specs.Sets.{HaveSameMembers};
 ghost use Rattle.fm_records.specs.Spelled.{ops};
 ghost use Rattle.fm_delta.specs.declared.packet.Packet.{Packet};
 ghost use Rattle.fm_coord.specs.Events.{Replica, Sent};
-ghost use Rattle.fm_coord.specs.Replays.{seen};
+ghost use Rattle.fm_coord.specs.Replays.{seen_packet};
 ghost use Rattle.fm_ask.specs.Texts.{graph_of, winners_of};
 ghost use Rattle.fm_follow.specs.Following.{StandBehind, but_behind};
 ghost use Rattle.fm_follow.specs.Renewing.{renewed_replica};
@@ -25,7 +25,7 @@ pub fn law_same_answers()
 pub fn law_behind()
     ensures spelled { StandBehind (λ p. ops p.value) }
     ensures sent { (behind : Packet → List Op) (p : Sent) → StandBehind behind
-        → StandBehind (but_behind (seen p) p.set behind) }
+        → StandBehind (but_behind (seen_packet p) p.set behind) }
 {}
 
 /// A renewed replica has received the same operations, so all that it tells of what it knows stays the same.

@@ -2,11 +2,11 @@
 
 ghost use Rattle.std.specs.Prelude.{◌≡◌, IfOk, IsOkUnless};
 ghost use Rattle.fm_coord.specs.Events.{Replica};
-ghost use Rattle.fm_coord.specs.Replays.{seen};
+ghost use Rattle.fm_coord.specs.Replays.{seen_packet};
 ghost use Rattle.fm_coord.specs.States.{StandsFor};
 ghost use Rattle.fm_world.specs.Stands.{WorldStandsFor};
 ghost use Rattle.fm_world.specs.Worlds.{WorldOfSets};
-ghost use Rattle.fm_follow.specs.Renewing.{renewed, reopened, whole_of};
+ghost use Rattle.fm_follow.specs.Renewing.{renewed_world, reopened_world, whole_of};
 
 use fm_coord::coordinator::Coordinator;
 use fm_delta::packet::Packet;
@@ -23,7 +23,7 @@ use std::alloc::Global;
 /// passed stays as it is.
 pub fn renewed(alloc: Global, world: &World<Keeper>) -> Result<World<Keeper>, Refusal>
     ensures ok { (w : WorldOfSets) → WorldStandsFor world.now w
-        → IfOk result (λ anew. WorldStandsFor anew (renewed w)) }
+        → IfOk result (λ anew. WorldStandsFor anew (renewed_world w)) }
     ensures err { IsOkUnless result Refusal.OutOfMemory }
 {
     world.known();
@@ -38,7 +38,8 @@ pub fn renewed(alloc: Global, world: &World<Keeper>) -> Result<World<Keeper>, Re
 
 // All that the coordinator knows, as a packet of its own.
 fn whole_of(coordinator: &Coordinator<Keeper>) -> Result<Packet, OutOfMemory>
-    ensures { (r : Replica) → StandsFor coordinator.now.state r → IfOk result (λ packet. packet ≡ seen (whole_of r)) }
+    ensures { (r : Replica) → StandsFor coordinator.now.state r
+        → IfOk result (λ packet. packet ≡ seen_packet (whole_of r)) }
 {
     Ok(Packet {
         sender: coordinator.number(),
@@ -49,7 +50,8 @@ fn whole_of(coordinator: &Coordinator<Keeper>) -> Result<Packet, OutOfMemory>
 
 // A world of coordinators of the same numbers, to which nothing has happened.
 fn reopened(alloc: Global, world: &World<Keeper>) -> Result<World<Keeper>, OutOfMemory>
-    ensures { (w : WorldOfSets) → WorldStandsFor world.now w → IfOk result (λ anew. WorldStandsFor anew (reopened w)) }
+    ensures { (w : WorldOfSets) → WorldStandsFor world.now w
+        → IfOk result (λ anew. WorldStandsFor anew (reopened_world w)) }
 {
     world.known();
     let mut numbers = Vec::new(alloc);

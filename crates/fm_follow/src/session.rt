@@ -11,7 +11,7 @@ ghost use Rattle.fm_input.specs.Requests.{asked_of};
 ghost use Rattle.fm_input.specs.Requests as asked;
 ghost use Rattle.fm_follow.specs.Acting.{step_at, Takes};
 ghost use Rattle.fm_follow.specs.Following.{Following, at_world, number_at, is_due, query_at, fresh};
-ghost use Rattle.fm_follow.specs.Renewing.{renewed};
+ghost use Rattle.fm_follow.specs.Renewing.{renewed_world};
 ghost use Rattle.fm_follow.specs.Sessions.{SessionAt, Goes, Stops, Accepts, Rejects};
 
 use crate::acting::{cut_line, round, take_step};
@@ -248,7 +248,7 @@ impl Session {
     // Renews the coordinators if a history has as many entries as that, and if there is memory for it.
     fn settle(&mut self, most: usize)
         ensures { (k : Following) → SessionAt self.old k
-            → (self.new ≡ self.old) ⊎ (is_due most k.world × SessionAt self.new (fresh (renewed k.world))) }
+            → (self.new ≡ self.old) ⊎ (is_due most k.world × SessionAt self.new (fresh (renewed_world k.world))) }
     {
         if is_due(self.world.coordinators(), most) {
             let _ = self.renew();

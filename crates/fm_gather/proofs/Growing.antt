@@ -19,22 +19,22 @@ use Rattle.fm_world.specs.declared.step.Act.{Act}
 use Rattle.fm_world.specs.declared.step.Act.TheVariants as act
 use Rattle.fm_world.specs.declared.step.Step.{Step}
 use Rattle.fm_coord.specs.Numbers.{AreDistinct}
-use Rattle.fm_gather.specs.Listings.{StopsAfter, IsStuck, Made, entries_at, given, packets_of, IsGiven, Follows, act_for, step_for, steps_for, CannotGo, number_in, Continues, history_at, history_in, IsListing}
+use Rattle.fm_gather.specs.Listings.{StopsAfter, IsStuck, Made, entries_at, packet_in, packets_of, IsGiven, Follows, act_for, step_for, steps_for, CannotGo, number_in, Continues, history_at, history_in, IsListing}
 use Rattle.fm_gather.specs.Sweeps.{AreStopped, act_asked, AreTaken, IsSwept, IsOneTaken, AreFirstTaken, made_at}
 use Rattle.fm_world.specs.Stands.{state_with}
 
 steps_more : (ps : List Packet) (ms ns : List Made) → steps_for ps (ms ++ ns) ≡ steps_for ps ms ++ steps_for (ps ++ packets_of ms) ns
 steps_more ps [] ns = ap (λ qs. steps_for qs ns) (sym (append-nil ps))
 steps_more ps (x ∷ ms) ns =
-    ap (λ ss. step_for ps x ∷ ss) (steps_more (ps ++ given x.entry.reply) ms ns ∙ ap (λ qs. steps_for (ps ++ given x.entry.reply) ms ++ steps_for qs ns) (append_assoc ps (given x.entry.reply) (packets_of ms)))
+    ap (λ ss. step_for ps x ∷ ss) (steps_more (ps ++ packet_in x.entry.reply) ms ns ∙ ap (λ qs. steps_for (ps ++ packet_in x.entry.reply) ms ++ steps_for qs ns) (append_assoc ps (packet_in x.entry.reply) (packets_of ms)))
 
 packets_more : (ms ns : List Made) → packets_of (ms ++ ns) ≡ packets_of ms ++ packets_of ns
 packets_more [] ns = refl
-packets_more (x ∷ ms) ns = ap (λ ps. given x.entry.reply ++ ps) (packets_more ms ns) ∙ sym (append_assoc (given x.entry.reply) (packets_of ms) (packets_of ns))
+packets_more (x ∷ ms) ns = ap (λ ps. packet_in x.entry.reply ++ ps) (packets_more ms ns) ∙ sym (append_assoc (packet_in x.entry.reply) (packets_of ms) (packets_of ns))
 
 follows_more : (ps : List Packet) (ms ns : List Made) → Follows ps ms → Follows (ps ++ packets_of ms) ns → Follows ps (ms ++ ns)
 follows_more ps [] ns h g = subst (λ qs. Follows qs ns) (append-nil ps) g
-follows_more ps (x ∷ ms) ns h g = (h.0, follows_more (ps ++ given x.entry.reply) ms ns h.1 (subst (λ qs. Follows qs ns) (sym (append_assoc ps (given x.entry.reply) (packets_of ms))) g))
+follows_more ps (x ∷ ms) ns h g = (h.0, follows_more (ps ++ packet_in x.entry.reply) ms ns h.1 (subst (λ qs. Follows qs ns) (sym (append_assoc ps (packet_in x.entry.reply) (packets_of ms))) g))
 
 entries_more : (n : ℕ) (ms ns : List Made) → entries_at n (ms ++ ns) ≡ entries_at n ms ++ entries_at n ns
 entries_more n [] ns = refl
@@ -120,7 +120,7 @@ asked_not ps (call.Merge p) h g =
     let no : ⊥ = omega arith in no
 
 -- a reply without a packet gives none
-pub given_none : (r : Reply) → ((p : Packet) → r ≡ reply.Packet p → ⊥) → given r ≡ []
+pub given_none : (r : Reply) → ((p : Packet) → r ≡ reply.Packet p → ⊥) → packet_in r ≡ []
 given_none reply.Nothing h = refl
 given_none (reply.Packet p) h = absurd (h p refl)
 given_none (reply.Admitted a) h = refl
@@ -144,7 +144,7 @@ module _ (n : ℕ) (entries : List Entry) (steps new : List Step) (packets gave 
             ∙ append_assoc steps (steps_for packets before) (step_for (packets ++ packets_of before) m ∷ [])
             ∙ ap (λ ss. steps ++ ss) (sym (steps_more packets before (m ∷ []))) ∙ ap (λ ms. steps ++ steps_for packets ms) (sym next);
         given_too =
-            t.1 ∙ (λ i. h.given_too i ++ sym (append-nil (given e.reply)) i) ∙ append_assoc packets (packets_of before) (packets_of (m ∷ []))
+            t.1 ∙ (λ i. h.given_too i ++ sym (append-nil (packet_in e.reply)) i) ∙ append_assoc packets (packets_of before) (packets_of (m ∷ []))
             ∙ ap (λ ps. packets ++ ps) (sym (packets_more before (m ∷ []))) ∙ ap (λ ms. packets ++ packets_of ms) (sym next);
         follows =
             subst (λ ms. Follows packets ms) (sym next)

@@ -7,14 +7,14 @@ use Rattle.fm_delta.specs.declared.packet.Packet.{Packet}
 use Rattle.fm_coord.specs.declared.entry.Entry.{Entry}
 use Rattle.fm_coord.specs.Events.{Sent, Event, Replica, opening, happens}
 use Rattle.fm_coord.specs.Causes.{cause, bounds_of}
-use Rattle.fm_coord.specs.Replays.{seen, call_of, entered, replay, IsLegal}
+use Rattle.fm_coord.specs.Replays.{seen_packet, call_of, after_entry, replay, IsLegal}
 use Rattle.fm_coord.specs.Numbers.{AreDistinct}
 use Rattle.fm_coord.specs.States.{State, WithKeeper, StandsFor}
 use Rattle.fm_world.specs.declared.step.Step.{Step}
-use Rattle.fm_world.specs.Worlds.{WorldOfSets, with_number, changed_at, event_asked, acted, cut_by, cause_at, cause_of, sent_at, step_of, run_of, AreAccepted}
+use Rattle.fm_world.specs.Worlds.{WorldOfSets, with_number, changed_at, event_asked, after_maybe, cut_by, cause_at, cause_of, sent_at, step_of, run_of, AreAccepted}
 use Rattle.fm_world.specs.Stands.{state_of, number_of, AllStand, state_with}
 use Rattle.std.specs.Prelude.{◌⊎◌}
-use Rattle.fm_gather.specs.Listings.{packets_of, Made, entries_at, history_in, history_at, given, IsGiven, Follows, IsWhole, AreCoordinators, number_in, opening_in, new_world, act_for, step_for, steps_for}
+use Rattle.fm_gather.specs.Listings.{packets_of, Made, entries_at, history_in, history_at, packet_in, IsGiven, Follows, IsWhole, AreCoordinators, number_in, opening_in, new_world, act_for, step_for, steps_for}
 use Rattle.fm_gather.proofs.Alike.{Alike, alike_self, alike_stands, Taken, taken, number_stays}
 
 -- a replica of the world, and the one that the entries so far come to; these entries are left
@@ -36,10 +36,10 @@ pub record Went (m : Made) (ms : List Made) (sent : List Sent) (ss : List State)
   pub replica : Replica
   pub there : with_number rs m.at ≡ Some replica
   pub event : Event
-  pub asks : event_asked sent (act_for (map seen sent) m.entry.call) ≡ Some event
+  pub asks : event_asked sent (act_for (map seen_packet sent) m.entry.call) ≡ Some event
   pub accepted : cause (bounds_of replica) (call_of event) ≡ None
-  pub cut : map seen (cut_by replica (Some event)) ≡ given m.entry.reply
-  pub next : AllGo ss (changed_at m.at (acted m.entry.by (Some event)) rs) ms
+  pub cut : map seen_packet (cut_by replica (Some event)) ≡ packet_in m.entry.reply
+  pub next : AllGo ss (changed_at m.at (after_maybe m.entry.by (Some event)) rs) ms
 
 module _ (m : Made) (ms : List Made) where
   other_number : (n : ℕ) → (n ≡ m.at → ⊥) → entries_at n (m ∷ ms) ≡ entries_at n ms
@@ -58,12 +58,12 @@ module _ (m : Made) (ms : List Made) where
   elsewhere (s ∷ ss) [] h far = absurd h
   elsewhere (s ∷ ss) (r ∷ rs) h far = (subst (λ es. Goes s r es) (other_number s.number (λ e. far (inl e))) h.0, elsewhere ss rs h.1 (λ at. far (inr at)))
 
-  module _ (sent : List Sent) (can : IsGiven (map seen sent) m.entry.call) where
+  module _ (sent : List Sent) (can : IsGiven (map seen_packet sent) m.entry.call) where
     goes_on : (s : State) (r : Replica) (ss : List State) (rs : List Replica) → s.number ≡ m.at → Goes s r (m.entry ∷ entries_at s.number ms) → AllGo ss rs ms → Went m ms sent (s ∷ ss) (r ∷ rs)
     goes_on s r ss rs e g rest =
-        let t : Taken r g.replayed sent (map seen sent) m.entry = taken r g.replayed g.alike sent m.entry g.legal.0 can in
+        let t : Taken r g.replayed sent (map seen_packet sent) m.entry = taken r g.replayed g.alike sent m.entry g.legal.0 can in
         let here : (r.number == m.at) ≡ true = eq-eqb r.number m.at (sym g.number ∙ e) in
-        let one : Goes s (happens r m.entry.by t.event) (entries_at s.number ms) = record { replayed = entered g.replayed m.entry; alike = t.after; number = g.number ∙ number_stays r m.entry.by t.event; legal = g.legal.1; ends = g.ends } in
+        let one : Goes s (happens r m.entry.by t.event) (entries_at s.number ms) = record { replayed = after_entry g.replayed m.entry; alike = t.after; number = g.number ∙ number_stays r m.entry.by t.event; legal = g.legal.1; ends = g.ends } in
         record {
           replica = r;
           there = ap (λ b. cond b (Some r) (with_number rs m.at)) here;
@@ -71,7 +71,7 @@ module _ (m : Made) (ms : List Made) where
           asks = t.asks;
           accepted = t.accepted;
           cut = t.cut;
-          next = subst (λ b. AllGo (s ∷ ss) (cond b (happens r m.entry.by t.event ∷ rs) (r ∷ changed_at m.at (acted m.entry.by (Some t.event)) rs)) ms) (sym here) (one, rest);
+          next = subst (λ b. AllGo (s ∷ ss) (cond b (happens r m.entry.by t.event ∷ rs) (r ∷ changed_at m.at (after_maybe m.entry.by (Some t.event)) rs)) ms) (sym here) (one, rest);
         }
 
     passes : (s : State) (r : Replica) (ss : List State) (rs : List Replica) → (s.number ≡ m.at → ⊥) → Goes s r (entries_at s.number ms) → Went m ms sent ss rs → Went m ms sent (s ∷ ss) (r ∷ rs)
@@ -84,7 +84,7 @@ module _ (m : Made) (ms : List Made) where
           asks = w.asks;
           accepted = w.accepted;
           cut = w.cut;
-          next = subst (λ b. AllGo (s ∷ ss) (cond b (happens r m.entry.by w.event ∷ rs) (r ∷ changed_at m.at (acted m.entry.by (Some w.event)) rs)) ms) (sym here) (g, w.next);
+          next = subst (λ b. AllGo (s ∷ ss) (cond b (happens r m.entry.by w.event ∷ rs) (r ∷ changed_at m.at (after_maybe m.entry.by (Some w.event)) rs)) ms) (sym here) (g, w.next);
         } where
           by : (b : Bool) → (b ≡ true → r.number ≡ m.at) → b ≡ false
           by true is = absurd (far (g.number ∙ is refl))
@@ -113,22 +113,22 @@ all_stand (s ∷ ss) (r ∷ rs) h = (alike_stands r h.0.replayed h.0.alike s h.0
 pub record Ran (ss : List State) (w : WorldOfSets) (steps : List Step) (after : List Packet) : Type 0 where
   pub accepted : AreAccepted w steps
   pub stands : AllStand ss (run_of w steps).replicas
-  pub packets : after ≡ map seen (run_of w steps).packets
+  pub packets : after ≡ map seen_packet (run_of w steps).packets
 
 module _ (ss : List State) (distinct : AreDistinct (map number_in ss)) where
-  runs : (ms : List Made) (w : WorldOfSets) (ps : List Packet) → ps ≡ map seen w.packets → AllGo ss w.replicas ms → AllKnown (map number_in ss) ms → Follows ps ms → Ran ss w (steps_for ps ms) (ps ++ packets_of ms)
+  runs : (ms : List Made) (w : WorldOfSets) (ps : List Packet) → ps ≡ map seen_packet w.packets → AllGo ss w.replicas ms → AllKnown (map number_in ss) ms → Follows ps ms → Ran ss w (steps_for ps ms) (ps ++ packets_of ms)
   runs [] w ps is h known follows = record { accepted = tt; stands = all_stand ss w.replicas h; packets = append-nil ps ∙ is }
   runs (m ∷ ms) w ps is h known follows =
       let q : Went m ms w.packets ss w.replicas = went m ms w.packets (subst (λ qs. IsGiven qs m.entry.call) is follows.0) ss w.replicas h distinct known.0 in
       let step : Step = step_for ps m in
       let asks : event_asked w.packets step.act ≡ Some q.event = ap (λ qs. event_asked w.packets (act_for qs m.entry.call)) is ∙ q.asks in
       let fine : cause_of w step ≡ None = (λ i. cause_at (q.there i) (asks i)) ∙ q.accepted in
-      let packets : ps ++ given m.entry.reply ≡ map seen (step_of w step).packets =
-      (λ i. is i ++ sym q.cut i) ∙ sym (map-append seen w.packets (cut_by q.replica (Some q.event)))
-      ∙ ap (map seen) (sym (λ i. sent_at w.packets (q.there i) (asks i))) in
-      let go : AllGo ss (step_of w step).replicas ms = subst (λ o. AllGo ss (changed_at m.at (acted m.entry.by o) w.replicas) ms) (sym asks) q.next in
-      let rest : Ran ss (step_of w step) (steps_for (ps ++ given m.entry.reply) ms) ((ps ++ given m.entry.reply) ++ packets_of ms) = runs ms (step_of w step) (ps ++ given m.entry.reply) packets go known.1 follows.1 in
-      record { accepted = (fine, rest.accepted); stands = rest.stands; packets = sym (append_assoc ps (given m.entry.reply) (packets_of ms)) ∙ rest.packets }
+      let packets : ps ++ packet_in m.entry.reply ≡ map seen_packet (step_of w step).packets =
+      (λ i. is i ++ sym q.cut i) ∙ sym (map-append seen_packet w.packets (cut_by q.replica (Some q.event)))
+      ∙ ap (map seen_packet) (sym (λ i. sent_at w.packets (q.there i) (asks i))) in
+      let go : AllGo ss (step_of w step).replicas ms = subst (λ o. AllGo ss (changed_at m.at (after_maybe m.entry.by o) w.replicas) ms) (sym asks) q.next in
+      let rest : Ran ss (step_of w step) (steps_for (ps ++ packet_in m.entry.reply) ms) ((ps ++ packet_in m.entry.reply) ++ packets_of ms) = runs ms (step_of w step) (ps ++ packet_in m.entry.reply) packets go known.1 follows.1 in
+      record { accepted = (fine, rest.accepted); stands = rest.stands; packets = sym (append_assoc ps (packet_in m.entry.reply) (packets_of ms)) ∙ rest.packets }
 
 pub same_numbers : {N : Type 0} (cs : List (WithKeeper N)) → map number_of cs ≡ map number_in (map state_of cs)
 same_numbers [] = refl

@@ -36,14 +36,14 @@ abbrev pub history_at : List State → ℕ → List Entry
 history_at ss n = history_in (state_with ss n)
 
 -- the packet that a reply gives
-abbrev pub given : Reply → List Packet
-given (reply.Packet p) = p ∷ []
-given r = []
+abbrev pub packet_in : Reply → List Packet
+packet_in (reply.Packet p) = p ∷ []
+packet_in r = []
 
 -- the packets that entries gave, in order
 abbrev pub packets_of : List Made → List Packet
 packets_of [] = []
-packets_of (m ∷ ms) = given m.entry.reply ++ packets_of ms
+packets_of (m ∷ ms) = packet_in m.entry.reply ++ packets_of ms
 
 -- what a call needs of the packets that were cut before: a merge, that its own is one of them
 abbrev pub IsGiven : List Packet → Call → Type 0
@@ -53,7 +53,7 @@ IsGiven ps c = Unit {0}
 -- after these packets, each merge follows a cut of an equal packet
 abbrev pub Follows : List Packet → List Made → Type 0
 Follows ps [] = Unit {0}
-Follows ps (m ∷ ms) = IsGiven ps m.entry.call × Follows (ps ++ given m.entry.reply) ms
+Follows ps (m ∷ ms) = IsGiven ps m.entry.call × Follows (ps ++ packet_in m.entry.reply) ms
 
 -- the entries that come after the first ones
 pub record Continues (all first : List Entry) : Type 0 where
@@ -85,7 +85,7 @@ step_for ps m = record { at = m.at; by = m.entry.by; act = act_for ps m.entry.ca
 -- the entries as steps, given that these packets were cut before
 abbrev pub steps_for : List Packet → List Made → List Step
 steps_for ps [] = []
-steps_for ps (m ∷ ms) = step_for ps m ∷ steps_for (ps ++ given m.entry.reply) ms
+steps_for ps (m ∷ ms) = step_for ps m ∷ steps_for (ps ++ packet_in m.entry.reply) ms
 
 -- no next entry, or a merge of a packet that is not there
 abbrev pub CannotGo : List Packet → List Entry → Type 0

@@ -11,7 +11,7 @@ use Rattle.fm_coord.specs.States.{State}
 use Rattle.fm_world.specs.declared.step.Act.{Act}
 use Rattle.fm_world.specs.declared.step.Act.TheVariants as act
 use Rattle.fm_world.specs.declared.step.Step.{Step}
-use Rattle.fm_gather.specs.Listings.{Made, entries_at, given, packets_of, IsGiven, Follows, step_for, steps_for, CannotGo, number_in}
+use Rattle.fm_gather.specs.Listings.{Made, entries_at, packet_in, packets_of, IsGiven, Follows, step_for, steps_for, CannotGo, number_in}
 
 -- a call as an act, if it can be taken after these packets
 abbrev pub act_asked : List Packet → Call → Option Act
@@ -24,7 +24,7 @@ act_asked ps (call.Commit plan) = Some (act.Commit plan)
 
 -- an entry was taken after these packets, or it cannot be
 abbrev pub IsOneTaken : Made → Bool → List Step → List Step → List Packet → List Packet → Type 0
-IsOneTaken m true steps new packets gave = (new ≡ steps ++ step_for packets m ∷ []) × (gave ≡ packets ++ given m.entry.reply) × IsGiven packets m.entry.call
+IsOneTaken m true steps new packets gave = (new ≡ steps ++ step_for packets m ∷ []) × (gave ≡ packets ++ packet_in m.entry.reply) × IsGiven packets m.entry.call
 IsOneTaken m false steps new packets gave = (new ≡ steps) × (gave ≡ packets) × (IsGiven packets m.entry.call → ⊥)
 
 -- entries of one coordinator

@@ -35,8 +35,8 @@ abbrev pub seen_port : TableId → Account → PortSeen
 seen_port id v = record { inbox = id; ports = v.whole; put = v.put; taken = v.taken }
 
 -- what a pass stands for
-abbrev pub known : Pass Packet Account → Account
-known p = view p
+abbrev pub account_of : Pass Packet Account → Account
+account_of p = view p
 
 -- it is a port of this inbox
 abbrev pub IsPortOf : InboxSeen → PortSeen → Type 0

@@ -3,7 +3,7 @@ ghost use Rattle.std.specs.Prelude.{◌≡◌, ◌<◌, ◌≤◌, ◌+◌, ◌+
 ghost use Rattle.crossbeam_queue.specs.Passes.{IsPassOf, ruled_capacity};
 ghost use Rattle.fm_delta.specs.declared.packet.Packet.{Packet};
 ghost use Rattle.fm_inbox.specs.Rule.{account, weigh, put_of, taken_of, SamePackets};
-ghost use Rattle.fm_inbox.specs.Ports.{IsPortOf, IsNewPortOf, AloneHas, after_put, after_take, all_put, all_taken, put_by, taken_by, known, seen_inbox};
+ghost use Rattle.fm_inbox.specs.Ports.{IsPortOf, IsNewPortOf, AloneHas, after_put, after_take, all_put, all_taken, put_by, taken_by, account_of, seen_inbox};
 
 use crate::rule::{OneMore, OnePart, Puts, Queue, QueuePass, Takes};
 use fm_delta::packet::Packet;
@@ -21,13 +21,13 @@ pub struct Port {
 
 impl Model for Port {
     ghost use Rattle.std.specs.Prelude.{◌≡◌, []};
-    ghost use Rattle.fm_inbox.specs.Ports.{PortSeen, seen_port, known};
+    ghost use Rattle.fm_inbox.specs.Ports.{PortSeen, seen_port, account_of};
 
     ghost Value = { PortSeen };
 
-    ghost view = { λ p. seen_port p.pass.table_id (known p.pass) };
+    ghost view = { λ p. seen_port p.pass.table_id (account_of p.pass) };
 
-    ghost invariant = { λ p. (p.pass.me.1 ≡ []) × ((known p.pass).parts ≡ 1) };
+    ghost invariant = { λ p. (p.pass.me.1 ≡ []) × ((account_of p.pass).parts ≡ 1) };
 }
 
 /// A bounded queue of packets, which threads share, each by a port of its own. Packets leave in the order in which they
@@ -48,7 +48,8 @@ impl Model for Inbox {
 
     ghost view = { λ b. seen_inbox b.queue.table.shared.table_id b.ports (ruled_capacity b.queue) };
 
-    ghost invariant = { λ b. (ruled_capacity b.queue ≤ vec_capacity b.room) × (vec_len b.room ≡ 0) × (b.room.items ≡ []) × (0 < b.ports) };
+    ghost invariant = { λ b. (ruled_capacity b.queue ≤ vec_capacity b.room) × (vec_len b.room ≡ 0)
+        × (b.room.items ≡ []) × (0 < b.ports) };
 }
 
 /// Why a packet was not put, with the packet.
@@ -191,7 +192,7 @@ fn emptied<R: Wait>(
 // The pass of a port.
 fn pass_of(port: Port) -> QueuePass
     ensures pass { (result.table_id ≡ port.inbox) × (result.me.1 ≡ []) }
-    ensures known { known result ≡ account 1 port.ports port.put port.taken }
+    ensures known { account_of result ≡ account 1 port.ports port.put port.taken }
 {
     port.pass
 }
@@ -199,10 +200,12 @@ fn pass_of(port: Port) -> QueuePass
 // The joined pass of the ports.
 fn joined(queue: &Queue, mut ports: Vec<Port>, whole: u32) -> QueuePass
     requires some { (0 < whole) × (whole ≤ vec_len ports) }
-    requires ports { All (IsPortOf (seen_inbox queue.now.table.shared.table_id whole (ruled_capacity queue.now))) ports.items }
+    requires ports { All (IsPortOf (seen_inbox queue.now.table.shared.table_id whole
+        (ruled_capacity queue.now))) ports.items }
     ensures pass { IsPassOf queue.now result }
-    ensures whole { ((known result).whole ≡ whole) × (whole ≤ (known result).parts) }
-    ensures sums { (h : Packet → ℕ) → (put_of h (known result) ≡ weigh (put_by h) ports.items) × (taken_of h (known result) ≡ weigh (taken_by h) ports.items) }
+    ensures whole { ((account_of result).whole ≡ whole) × (whole ≤ (account_of result).parts) }
+    ensures sums { (h : Packet → ℕ) → (put_of h (account_of result) ≡ weigh (put_by h) ports.items)
+        × (taken_of h (account_of result) ≡ weigh (taken_by h) ports.items) }
 {
     let mut pass = match ports.pop() {
         Some(port) => pass_of(port),
@@ -217,9 +220,9 @@ fn joined(queue: &Queue, mut ports: Vec<Port>, whole: u32) -> QueuePass
 // What a queue still has, by a pass with every part.
 fn left<R: Wait>(rt: &R, queue: &Queue, mut pass: QueuePass, mut room: Vec<Packet>) -> Vec<Packet>
     requires pass { IsPassOf queue.now pass }
-    requires whole { (0 < (known pass).parts) × ((known pass).whole ≤ (known pass).parts) }
+    requires whole { (0 < (account_of pass).parts) × ((account_of pass).whole ≤ (account_of pass).parts) }
     requires room { (vec_len room ≡ 0) × (room.items ≡ []) × (ruled_capacity queue.now ≤ vec_capacity room) }
-    ensures { (h : Packet → ℕ) → put_of h (known pass) ≡ taken_of h (known pass) + weigh h result.items }
+    ensures { (h : Packet → ℕ) → put_of h (account_of pass) ≡ taken_of h (account_of pass) + weigh h result.items }
 {
     let count = queue.len_as::<Takes, R>(rt, &mut pass);
     for _i in 0..count {

@@ -5,12 +5,12 @@ use Rattle.serde_json.proofs.OnLiterals.{serde_json_on_literals}
 use Rattle.fm_coord.specs.declared.entry.Range.TheVariants.{Interval, Full}
 use Rattle.fm_input.specs.declared.script.Act.TheVariants as act
 use Rattle.fm_input.specs.declared.request.Topic.TheVariants as topic
-use Rattle.fm_input.specs.Json.{given}
+use Rattle.fm_input.specs.Json.{and_then}
 use Rattle.fm_input.specs.Requests.{Asked, Opens, Does, Cuts, News, Takes, Asks, Agrees, Renews, request_of}
 
 -- what a line asks for, given that one packet was cut before, under the name p
 abbrev asked_by : List ℕ → Option Asked
-asked_by line = given (read_text line) (request_of (codes "p" ∷ []))
+asked_by line = and_then (read_text line) (request_of (codes "p" ∷ []))
 
 opening : asked_by (codes "{\"coordinators\":[2,64]}") ≡ Some (Opens (2 ∷ 64 ∷ []))
 unfolding serde_json_on_literals

@@ -8,7 +8,7 @@ use Rattle.fm_coord.specs.declared.entry.Range.{Range}
 use Rattle.fm_input.specs.declared.script.Act.{Act}
 use Rattle.fm_input.specs.declared.script.Act.TheVariants as act
 use Rattle.fm_input.specs.declared.script.Step.{Step}
-use Rattle.fm_input.specs.Json.{given, whole_of, number_8_at, text_at, id_at, has_size, items_at}
+use Rattle.fm_input.specs.Json.{and_then, whole_of, number_8_at, text_at, id_at, has_size, items_at}
 use Rattle.fm_input.specs.Script.{is_text, either, op_of, range_of, is_named, delivery_of, round_of, act_of, step_of, listed_of, coordinators_of}
 use Rattle.fm_input.specs.Requests.{Asked, Opens, Does, Cuts, News, Takes, Asks, Explains, Agrees, Renews, topic_named, cut_under, cut_asked, when_true, agree_asked, alone_of, asked_at, why_asked, request_of, CutsNothing, IsPlain}
 use Rattle.fm_input.proofs.Spelling.{AreDistinct-listed}
@@ -20,11 +20,11 @@ module _ {B : Type 0} (P : B → Type 0) where
   IfSome-when true x h = h
   IfSome-when false x h = tt
 
-  IfSome-given : {A : Type 0} (o : Option A) (f : A → Option B) → ((a : A) → IfSome (f a) P) → IfSome (given o f) P
+  IfSome-given : {A : Type 0} (o : Option A) (f : A → Option B) → ((a : A) → IfSome (f a) P) → IfSome (and_then o f) P
   IfSome-given None f each = tt
   IfSome-given (Some a) f each = each a
 
-  IfSome-given_when : {A : Type 0} (b : Bool) (a : A) (f : A → Option B) → IfSome (f a) P → IfSome (given (when b a) f) P
+  IfSome-given_when : {A : Type 0} (b : Bool) (a : A) (f : A → Option B) → IfSome (f a) P → IfSome (and_then (when b a) f) P
   IfSome-given_when true a f h = h
   IfSome-given_when false a f h = tt
 
@@ -47,7 +47,7 @@ step_with at act = record { at = at; act = act }
 abbrev StepCutsNothing : Step → Type 0
 StepCutsNothing step = CutsNothing step.act
 
-IfSome-step : (at : ℕ) (o : Option Act) → IfSome o CutsNothing → IfSome (given o (λ act. Some (step_with at act))) StepCutsNothing
+IfSome-step : (at : ℕ) (o : Option Act) → IfSome o CutsNothing → IfSome (and_then o (λ act. Some (step_with at act))) StepCutsNothing
 IfSome-step at None h = tt
 IfSome-step at (Some act) h = h
 
@@ -66,12 +66,12 @@ act-cuts_nothing names d none =
 
 -- a step of the number that an object has
 abbrev numbered_step : List (List ℕ) → Data → Option Step
-numbered_step names d = given (number_8_at (codes "at") d) (λ at. given (act_of names d) (λ act. Some (step_with at act)))
+numbered_step names d = and_then (number_8_at (codes "at") d) (λ at. and_then (act_of names d) (λ act. Some (step_with at act)))
 
 step-cuts_nothing : (names : List (List ℕ)) (d : Data) → get (codes "cut") d ≡ None → IfSome (step_of names d) StepCutsNothing
 step-cuts_nothing names d none =
     IfSome-given_when StepCutsNothing (has_size 2 d) d (numbered_step names) (
-    IfSome-given StepCutsNothing (number_8_at (codes "at") d) (λ at. given (act_of names d) (λ act. Some (step_with at act))) (λ at.
+    IfSome-given StepCutsNothing (number_8_at (codes "at") d) (λ at. and_then (act_of names d) (λ act. Some (step_with at act))) (λ at.
     IfSome-step at (act_of names d) (act-cuts_nothing names d none)))
 
 -- what is asked for
@@ -86,7 +86,7 @@ ranged_cut names at d range = either (get (codes "name") d) (cut_under names at 
 
 cut_asked-plain : (names : List (List ℕ)) (at : ℕ) (d : Data) → IfSome (cut_asked names at d) IsPlain
 cut_asked-plain names at d =
-    IfSome-given_when IsPlain (is_some (as_object d)) d (λ d. given (range_of d) (ranged_cut names at d)) (
+    IfSome-given_when IsPlain (is_some (as_object d)) d (λ d. and_then (range_of d) (ranged_cut names at d)) (
     IfSome-given IsPlain (range_of d) (ranged_cut names at d) (λ range.
     IfSome-either IsPlain (get (codes "name") d) (cut_under names at range) (Some (Cuts at range None)) (cut_under-plain names at range) tt))
 
@@ -105,7 +105,7 @@ listed-plain ds =
 
 opens-plain : (d : Data) → IfSome (option_map Opens (coordinators_of d)) IsPlain
 opens-plain d =
-    elim (items_at (codes "coordinators") d) as (λ o. IfSome (option_map Opens (given o listed_of)) IsPlain) [
+    elim (items_at (codes "coordinators") d) as (λ o. IfSome (option_map Opens (and_then o listed_of)) IsPlain) [
       | None ↦ tt
       | Some ds ↦ listed-plain ds
     ]
@@ -121,14 +121,14 @@ abbrev but_cut : List (List ℕ) → ℕ → Data → Option Asked
 but_cut names at d =
     either (get (codes "news") d) (when_true (News at)) (
     either (get (codes "take") d) (λ v. option_map (Takes at) (as_str v)) (
-    either (get (codes "ask") d) (λ v. option_map (Asks at) (given (as_str v) topic_named)) (
+    either (get (codes "ask") d) (λ v. option_map (Asks at) (and_then (as_str v) topic_named)) (
     option_map Does (step_of names d))))
 
 but_cut-plain : (names : List (List ℕ)) (at : ℕ) (d : Data) → get (codes "cut") d ≡ None → IfSome (but_cut names at d) IsPlain
 but_cut-plain names at d none =
     IfSome-either IsPlain (get (codes "news") d) (when_true (News at)) _ (when_true-plain (News at) tt) (
     IfSome-either IsPlain (get (codes "take") d) (λ v. option_map (Takes at) (as_str v)) _ (λ v. IfSome-map IsPlain (as_str v) (Takes at) (λ digits. tt)) (
-    IfSome-either IsPlain (get (codes "ask") d) (λ v. option_map (Asks at) (given (as_str v) topic_named)) _ (λ v. IfSome-map IsPlain (given (as_str v) topic_named) (Asks at) (λ topic. tt)) (
+    IfSome-either IsPlain (get (codes "ask") d) (λ v. option_map (Asks at) (and_then (as_str v) topic_named)) _ (λ v. IfSome-map IsPlain (and_then (as_str v) topic_named) (Asks at) (λ topic. tt)) (
     IfSome-map_of IsPlain (step_of names d) Does (step-cuts_nothing names d none))))
 
 asked_at-plain : (names : List (List ℕ)) (at : ℕ) (d : Data) → IfSome (asked_at names at d) IsPlain
@@ -140,7 +140,7 @@ asked_at-plain names at d =
 
 -- what the coordinator is asked for whose number an object has
 abbrev numbered_asked : List (List ℕ) → Data → Option Asked
-numbered_asked names d = given (number_8_at (codes "at") d) (λ at. asked_at names at d)
+numbered_asked names d = and_then (number_8_at (codes "at") d) (λ at. asked_at names at d)
 
 -- why a task waits or runs
 why-plain : (d : Data) → IfSome (why_asked d) IsPlain
@@ -152,7 +152,7 @@ why-plain d =
 
 -- of two members
 abbrev paired : List (List ℕ) → Data → Option Asked
-paired names d = given (when (has_size 2 d) d) (numbered_asked names)
+paired names d = and_then (when (has_size 2 d) d) (numbered_asked names)
 
 paired-plain : (names : List (List ℕ)) (d : Data) → IfSome (paired names d) IsPlain
 paired-plain names d =

@@ -8,7 +8,7 @@ use Rattle.serde_json.specs.declared.value.Value.{Value}
 use Rattle.fm_records.specs.Options.{only_if}
 use Rattle.fm_records.specs.Sets.{IsMember}
 use Rattle.fm_coord.specs.Numbers.{AreDistinct}
-use Rattle.fm_input.specs.Json.{given}
+use Rattle.fm_input.specs.Json.{and_then}
 use Rattle.fm_input.specs.Script.{coordinator_of, all_of, is_listed, are_distinct, are_coordinators, listed_of}
 
 -- numbers of a list, and one more
@@ -93,7 +93,7 @@ pub all_after-more : (ns : List ℕ) (vs : List Value) (i : ℕ) (v : Value) (n 
 all_after-more ns vs i v n h e is =
     let rest = all_of (map coordinator_of (map view (drop (i + 1) vs))) in
     ap (all_after ns) (drop_more vs i v h ∙ ap (λ w. w ∷ drop (i + 1) vs) (sym e))
-    ∙ ap (λ o. option_map (λ more. ns ++ more) (given o (λ a. option_map (λ more. a ∷ more) rest))) is
+    ∙ ap (λ o. option_map (λ more. ns ++ more) (and_then o (λ a. option_map (λ more. a ∷ more) rest))) is
     ∙ elim rest as (λ o. option_map (λ more. ns ++ more) (option_map (λ more. n ∷ more) o) ≡ option_map (λ more. (ns ++ n ∷ []) ++ more) o) [
       | None ↦ refl
       | Some more ↦ ap Some (sym (append_assoc ns (n ∷ []) more))

@@ -15,7 +15,7 @@ use Rattle.fm_input.specs.declared.request.Topic.{Topic}
 use Rattle.fm_input.specs.declared.request.Topic.TheVariants as topic
 use Rattle.fm_input.specs.declared.request.Request.{Request}
 use Rattle.fm_input.specs.declared.request.Request.TheVariants as request
-use Rattle.fm_input.specs.Json.{given, number_8_at, text_at, id_at, has_size}
+use Rattle.fm_input.specs.Json.{and_then, number_8_at, text_at, id_at, has_size}
 use Rattle.fm_input.specs.Script.{is_text, either, range_of, is_named, step_of, coordinators_of}
 
 -- what a line asks for, with texts as the bytes that they are
@@ -53,23 +53,23 @@ topic_named name =
 -- a cut under the name that a value is, which no packet before has
 abbrev pub cut_under : List (List ℕ) → ℕ → Range → Data → Option Asked
 cut_under names at range v =
-    given (as_str v) (λ name.
+    and_then (as_str v) (λ name.
     when (not (is_named names name)) (Cuts at range (Some name)))
 
 -- a cut: an object with both ends of an interval or neither, and with a name that no packet before has, or with none
 abbrev pub cut_asked : List (List ℕ) → ℕ → Data → Option Asked
 cut_asked names at d =
-    given (when (is_some (as_object d)) d) (λ d.
-    given (range_of d) (λ range.
+    and_then (when (is_some (as_object d)) d) (λ d.
+    and_then (range_of d) (λ range.
     either (get (codes "name") d) (cut_under names at range) (Some (Cuts at range None))))
 
 -- what is asked for by true
 abbrev pub when_true : Asked → Data → Option Asked
-when_true asked d = given (as_bool d) (λ b. when b asked)
+when_true asked d = and_then (as_bool d) (λ b. when b asked)
 
 -- a question that is not about one coordinator
 abbrev pub agree_asked : Data → Option Asked
-agree_asked d = given (as_str d) (λ word. when (is_text word (codes "agree")) Agrees)
+agree_asked d = and_then (as_str d) (λ word. when (is_text word (codes "agree")) Agrees)
 
 -- an object of one member
 abbrev pub alone_of : Data → Option Asked
@@ -85,15 +85,15 @@ asked_at names at d =
     either (get (codes "cut") d) (cut_asked names at) (
     either (get (codes "news") d) (when_true (News at)) (
     either (get (codes "take") d) (λ v. option_map (Takes at) (as_str v)) (
-    either (get (codes "ask") d) (λ v. option_map (Asks at) (given (as_str v) topic_named)) (
+    either (get (codes "ask") d) (λ v. option_map (Asks at) (and_then (as_str v) topic_named)) (
     option_map Does (step_of names d)))))
 
 -- an object of three members: the number of a coordinator that is asked why the task of the id waits or runs
 abbrev pub why_asked : Data → Option Asked
 why_asked d =
-    given (number_8_at (codes "at") d) (λ at.
-    given (text_at (codes "ask") d) (λ word.
-    given (when (is_text word (codes "why")) d) (λ d.
+    and_then (number_8_at (codes "at") d) (λ at.
+    and_then (text_at (codes "ask") d) (λ word.
+    and_then (when (is_text word (codes "why")) d) (λ d.
     option_map (Explains at) (id_at (codes "task") d))))
 
 -- what a value asks for, given that packets of the names were cut before
@@ -101,8 +101,8 @@ abbrev pub request_of : List (List ℕ) → Data → Option Asked
 request_of names d =
     cond (has_size 1 d) (alone_of d) (
     cond (has_size 3 d) (why_asked d) (
-    given (when (has_size 2 d) d) (λ d.
-    given (number_8_at (codes "at") d) (λ at.
+    and_then (when (has_size 2 d) d) (λ d.
+    and_then (number_8_at (codes "at") d) (λ at.
     asked_at names at d))))
 
 -- the line is JSON, and its value asks for that, given that packets of the names were cut before

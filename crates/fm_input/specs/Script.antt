@@ -17,29 +17,29 @@ use Rattle.fm_input.specs.declared.script.Act.{Act}
 use Rattle.fm_input.specs.declared.script.Act.TheVariants as act
 use Rattle.fm_input.specs.declared.script.Step.{Step}
 use Rattle.fm_input.specs.declared.script.Tell.{Tell}
-use Rattle.fm_input.specs.Json.{given, whole_of, number_at, number_32_at, number_8_at, flag_at, text_at, id_at, has_size, items_at}
+use Rattle.fm_input.specs.Json.{and_then, whole_of, number_at, number_32_at, number_8_at, flag_at, text_at, id_at, has_size, items_at}
 
 -- the fields of each operation
 abbrev pub job_of : Data → Option Op
 job_of d =
-    given (id_at (codes "id") d) (λ id.
-    given (number_at (codes "version") d) (λ version.
-    given (number_8_at (codes "writer") d) (λ writer.
-    given (flag_at (codes "withdrawn") d) (λ withdrawn.
-    given (number_32_at (codes "wait") d) (λ wait.
-    given (number_32_at (codes "preempt") d) (λ preempt.
+    and_then (id_at (codes "id") d) (λ id.
+    and_then (number_at (codes "version") d) (λ version.
+    and_then (number_8_at (codes "writer") d) (λ writer.
+    and_then (flag_at (codes "withdrawn") d) (λ withdrawn.
+    and_then (number_32_at (codes "wait") d) (λ wait.
+    and_then (number_32_at (codes "preempt") d) (λ preempt.
     Some (op.Job id version writer withdrawn wait preempt)))))))
 
 -- all of the values, if each is there
 abbrev pub all_of : {A : Type 0} → List (Option A) → Option (List A)
 all_of [] = Some []
-all_of (o ∷ os) = given o (λ a. option_map (λ rest. a ∷ rest) (all_of os))
+all_of (o ∷ os) = and_then o (λ a. option_map (λ rest. a ∷ rest) (all_of os))
 
 -- a machine that is preferred, with its credit
 abbrev pub entry_of : Data → Option (ℕ × ℕ)
 entry_of d =
-    given (id_at (codes "machine") d) (λ machine.
-    given (number_32_at (codes "credit") d) (λ credit.
+    and_then (id_at (codes "machine") d) (λ machine.
+    and_then (number_32_at (codes "credit") d) (λ credit.
     Some (machine, credit)))
 
 -- machines that are preferred, in the order of the list: four at most
@@ -48,17 +48,17 @@ entries_of ds = cond (nat_le (length ds) 4) (all_of (map entry_of ds)) None
 
 -- none if the member is not there
 abbrev pub prefer_of : Data → Option (List (ℕ × ℕ))
-prefer_of d = cond (is_none (get (codes "prefer") d)) (Some []) (given (items_at (codes "prefer") d) entries_of)
+prefer_of d = cond (is_none (get (codes "prefer") d)) (Some []) (and_then (items_at (codes "prefer") d) entries_of)
 
 abbrev pub spec_of : Data → Option Op
 spec_of d =
-    given (id_at (codes "id") d) (λ id.
-    given (number_at (codes "version") d) (λ version.
-    given (number_8_at (codes "writer") d) (λ writer.
-    given (flag_at (codes "withdrawn") d) (λ withdrawn.
-    given (id_at (codes "job") d) (λ job.
-    given (number_32_at (codes "request") d) (λ request.
-    given (prefer_of d) (λ prefer.
+    and_then (id_at (codes "id") d) (λ id.
+    and_then (number_at (codes "version") d) (λ version.
+    and_then (number_8_at (codes "writer") d) (λ writer.
+    and_then (flag_at (codes "withdrawn") d) (λ withdrawn.
+    and_then (id_at (codes "job") d) (λ job.
+    and_then (number_32_at (codes "request") d) (λ request.
+    and_then (prefer_of d) (λ prefer.
     Some (op.Spec id version writer withdrawn job request prefer))))))))
 
 -- the name spells the text
@@ -71,37 +71,37 @@ phase_named name = cond (is_text name (codes "pending")) (Some phase.Pending) (c
 
 abbrev pub progress_of : Data → Option Op
 progress_of d =
-    given (id_at (codes "id") d) (λ id.
-    given (number_32_at (codes "attempt") d) (λ attempt.
-    given (given (text_at (codes "phase") d) phase_named) (λ phase.
+    and_then (id_at (codes "id") d) (λ id.
+    and_then (number_32_at (codes "attempt") d) (λ attempt.
+    and_then (and_then (text_at (codes "phase") d) phase_named) (λ phase.
     Some (op.Progress id attempt phase))))
 
 abbrev pub machine_of : Data → Option Op
 machine_of d =
-    given (id_at (codes "id") d) (λ id.
-    given (number_at (codes "incarnation") d) (λ incarnation.
-    given (number_at (codes "version") d) (λ version.
-    given (number_8_at (codes "writer") d) (λ writer.
-    given (flag_at (codes "up") d) (λ up.
-    given (number_32_at (codes "slots") d) (λ slots.
-    given (number_32_at (codes "nic") d) (λ nic.
+    and_then (id_at (codes "id") d) (λ id.
+    and_then (number_at (codes "incarnation") d) (λ incarnation.
+    and_then (number_at (codes "version") d) (λ version.
+    and_then (number_8_at (codes "writer") d) (λ writer.
+    and_then (flag_at (codes "up") d) (λ up.
+    and_then (number_32_at (codes "slots") d) (λ slots.
+    and_then (number_32_at (codes "nic") d) (λ nic.
     Some (op.Machine id incarnation version writer up slots nic))))))))
 
 abbrev pub report_of : Data → Option Op
 report_of d =
-    given (id_at (codes "id") d) (λ id.
-    given (number_at (codes "incarnation") d) (λ incarnation.
-    given (number_at (codes "number") d) (λ number.
-    given (number_32_at (codes "used") d) (λ used.
+    and_then (id_at (codes "id") d) (λ id.
+    and_then (number_at (codes "incarnation") d) (λ incarnation.
+    and_then (number_at (codes "number") d) (λ number.
+    and_then (number_32_at (codes "used") d) (λ used.
     Some (op.Report id incarnation number used)))))
 
 abbrev pub propose_of : Data → Option Op
 propose_of d =
-    given (id_at (codes "id") d) (λ id.
-    given (number_32_at (codes "attempt") d) (λ attempt.
-    given (number_8_at (codes "coordinator") d) (λ coordinator.
-    given (id_at (codes "machine") d) (λ machine.
-    given (number_at (codes "incarnation") d) (λ incarnation.
+    and_then (id_at (codes "id") d) (λ id.
+    and_then (number_32_at (codes "attempt") d) (λ attempt.
+    and_then (number_8_at (codes "coordinator") d) (λ coordinator.
+    and_then (id_at (codes "machine") d) (λ machine.
+    and_then (number_at (codes "incarnation") d) (λ incarnation.
     Some (op.Propose id attempt coordinator machine incarnation))))))
 
 -- what the first of the members that is there spells
@@ -111,7 +111,7 @@ either (Some d) f other = f d
 
 -- an operation: the one member of an object, named for its kind
 abbrev pub op_of : Data → Option Op
-op_of d = given (when (has_size 1 d) d) (λ d.
+op_of d = and_then (when (has_size 1 d) d) (λ d.
     either (get (codes "job") d) job_of (
     either (get (codes "spec") d) spec_of (
     either (get (codes "progress") d) progress_of (
@@ -122,7 +122,7 @@ op_of d = given (when (has_size 1 d) d) (λ d.
 -- what a cut's packet comes from: an interval if both ends are named, all that is known if neither is
 abbrev pub range_between : Option Data → Option Data → Option Range
 range_between None None = Some Full
-range_between (Some from) (Some to) = given (whole_of from) (λ a. given (whole_of to) (λ b. Some (Interval a b)))
+range_between (Some from) (Some to) = and_then (whole_of from) (λ a. and_then (whole_of to) (λ b. Some (Interval a b)))
 range_between _ _ = None
 
 abbrev pub range_of : Data → Option Range
@@ -135,8 +135,8 @@ is_named names name = list_any (is_text name) names
 -- a cut gives its packet a name that no packet before has
 abbrev pub cut_of : List (List ℕ) → Data → Option Act
 cut_of names d =
-    given (text_at (codes "name") d) (λ name.
-    given (range_of d) (λ range.
+    and_then (text_at (codes "name") d) (λ name.
+    and_then (range_of d) (λ range.
     when (not (is_named names name)) (act.Cut range)))
 
 -- a delivery names a packet by its place among those before; if none has the name, the place is after them all
@@ -145,7 +145,7 @@ delivery_of names d = option_map (λ name. act.Deliver (position_or_len (is_text
 
 -- a round is asked for by true
 abbrev pub round_of : Data → Option Act
-round_of d = given (as_bool d) (λ b. when b act.Round)
+round_of d = and_then (as_bool d) (λ b. when b act.Round)
 
 -- what happens in a step, given that packets of the names were cut before: the one member beside the number of its
 -- coordinator
@@ -159,14 +159,14 @@ act_of names d =
 
 -- a step: an object of two members, the number of its coordinator and what happens there
 abbrev pub step_of : List (List ℕ) → Data → Option Step
-step_of names d = given (when (has_size 2 d) d) (λ d.
-    given (number_8_at (codes "at") d) (λ at.
-    given (act_of names d) (λ act.
+step_of names d = and_then (when (has_size 2 d) d) (λ d.
+    and_then (number_8_at (codes "at") d) (λ at.
+    and_then (act_of names d) (λ act.
     Some (record { at = at; act = act }))))
 
 -- the name that a step gives a packet, if it cuts one
 abbrev pub names_in : Data → List (List ℕ)
-names_in d = option_to_list (given (get (codes "cut") d) (text_at (codes "name")))
+names_in d = option_to_list (and_then (get (codes "cut") d) (text_at (codes "name")))
 
 -- what the values spell, one after another, given that packets of the names were cut before
 abbrev pub steps_of : List (List ℕ) → List Data → List (Option Step)
@@ -196,7 +196,7 @@ abbrev pub listed_of : List Data → Option (List ℕ)
 listed_of ds = only_if are_coordinators (all_of (map coordinator_of ds))
 
 abbrev pub coordinators_of : Data → Option (List ℕ)
-coordinators_of d = given (items_at (codes "coordinators") d) listed_of
+coordinators_of d = and_then (items_at (codes "coordinators") d) listed_of
 
 -- the value spells a script of these coordinators, these names of packets in the order of their cuts, and these steps
 pub record IsScriptOf (d : Data) (coordinators : List ℕ) (names : List (List ℕ)) (steps : List Step) : Type 0 where
@@ -228,7 +228,7 @@ told_in step = told_by step.at step.act
 
 -- what a value tells, if it spells a step that does; no packet has a name if all steps tell
 abbrev pub tell_of : Data → Option Tell
-tell_of d = given (step_of [] d) told_in
+tell_of d = and_then (step_of [] d) told_in
 
 -- the value spells a script of these coordinators and these tells alone
 pub record AreTellsOf (d : Data) (coordinators : List ℕ) (tells : List Tell) : Type 0 where

@@ -3,7 +3,7 @@
 ghost use Rattle.std.specs.Prelude.{◌≡◌, IfOk, IfErr, option_map};
 ghost use Rattle.serde_json.specs.Find.{as_str};
 ghost use Rattle.serde_json.specs.View.{view};
-ghost use Rattle.fm_input.specs.Json.{given};
+ghost use Rattle.fm_input.specs.Json.{and_then};
 ghost use Rattle.fm_input.specs.Script.{coordinators_of, step_of};
 ghost use Rattle.fm_input.specs.Requests.{Asks, Does, News, Opens, Renews, Takes, asked_of, topic_named, cut_under, cut_asked, when_true, agree_asked, alone_of, asked_at, why_asked, request_of, Requests, RequestsNothing, IsPlain};
 
@@ -199,7 +199,7 @@ fn packet_in(alloc: Global, packet: &Value, at: u8) -> Result<Option<Request>, O
 
 // A question about a coordinator.
 fn question_in(asked: &Value, at: u8) -> Option<Request>
-    ensures { option_map asked_of result ≡ option_map (Asks at) (given (as_str (view asked.now)) topic_named) }
+    ensures { option_map asked_of result ≡ option_map (Asks at) (and_then (as_str (view asked.now)) topic_named) }
 {
     let topic = topic_in(asked.as_str()?)?;
     Some(Request::Ask { at, topic })

@@ -268,7 +268,8 @@ fn state_in(machine: &MachineRec) -> Option<MachineReg>
     }
 }
 
-fn is_done(phase: Phase) -> bool
+/// Whether the phase is the last, that of a task that is done.
+pub fn is_done(phase: Phase) -> bool
     ensures { result ≡ is_done phase }
 {
     match phase {

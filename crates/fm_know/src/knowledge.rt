@@ -32,7 +32,12 @@ impl Model for Knowledge {
 
     ghost view = { λ k. record { jobs = k.jobs; tasks = k.tasks; machines = k.machines; proposals = k.proposals } };
 
-    ghost invariant = { λ k. CanBe (record { jobs = k.jobs; tasks = k.tasks; machines = k.machines; proposals = k.proposals }) };
+    ghost invariant = { λ k. CanBe (record {
+      jobs = k.jobs;
+      tasks = k.tasks;
+      machines = k.machines;
+      proposals = k.proposals;
+    }) };
 }
 
 impl Knowledge {

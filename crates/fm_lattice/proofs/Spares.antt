@@ -6,7 +6,7 @@ use Rattle.std.specs.Cmp.{IsTotalOrder}
 use Rattle.std.specs.declared.cmp.Ordering.{Ordering}
 use Rattle.fm_lattice.specs.Chains.{TellsApart}
 use Rattle.fm_lattice.specs.Joins.{option_join}
-use Rattle.fm_lattice.specs.Maps.{lookup, put, replaced, IsRising}
+use Rattle.fm_lattice.specs.Maps.{lookup, put, keep_new, IsRising}
 use Rattle.fm_lattice.specs.MapLaws.{lookup_put}
 use Rattle.fm_lattice.specs.Blocks.{HaveSpares}
 
@@ -21,9 +21,9 @@ module _ {K V A : Type 0} (cmp : K → K → Ordering) (total : IsTotalOrder cmp
   spares_push es (d ∷ cs) c h empty fits = (h.0, h.1, spares_push es cs c h.2 empty fits)
 
   -- a key that is there stays there
-  pub spares_put : (es : List (K × V)) (k : K) (v : V) (cs : List ((K × V) × Vec (K × V) A)) → IsRising cmp es → HaveSpares cmp room es cs → HaveSpares cmp room (put cmp replaced k v es) cs
+  pub spares_put : (es : List (K × V)) (k : K) (v : V) (cs : List ((K × V) × Vec (K × V) A)) → IsRising cmp es → HaveSpares cmp room es cs → HaveSpares cmp room (put cmp keep_new k v es) cs
   spares_put es k v [] r h = tt
-  spares_put es k v (c ∷ cs) r h = (h.0, (λ none. h.1 (none_before replaced _ _ (sym (lookup_put cmp total same replaced c.0.0 k v es r) ∙ none))), spares_put es k v cs r h.2)
+  spares_put es k v (c ∷ cs) r h = (h.0, (λ none. h.1 (none_before keep_new _ _ (sym (lookup_put cmp total same keep_new c.0.0 k v es r) ∙ none))), spares_put es k v cs r h.2)
 
 -- one more is done, one less is left
 pub one_more : {X Y Z : Type 0} (f : Z → X) (g : Y → X) (cs : List Z) (c : Z) (rest tail : List Y) (y : Y) (whole : List X) → f c ≡ g y → rest ≡ y ∷ tail → map f cs ++ map g rest ≡ whole → map f (cs ++ c ∷ []) ++ map g tail ≡ whole

@@ -9,7 +9,7 @@ use Rattle.std.proofs.Common.{sym, ap, ◌∙◌, subst}
 use Rattle.fm_lattice.specs.Chains.{TellsApart, by_order, by_cases, less_greater, greater_less}
 use Rattle.fm_lattice.specs.Joins.{JoinLaws, option_join, IsOptionOf}
 use Rattle.fm_lattice.specs.PlainLaws.{option_laws}
-use Rattle.fm_lattice.specs.Maps.{lookup, IsBelow, IsRising, AreValues, IsMap, put, map_join, replaced, joined_onto, joined_pair}
+use Rattle.fm_lattice.specs.Maps.{lookup, IsBelow, IsRising, AreValues, IsMap, put, map_join, keep_new, joined_onto, joined_pair}
 
 join_none : {V : Type 0} (join : V → V → V) (o : Option V) → option_join join o None ≡ o
 join_none join None = refl
@@ -208,16 +208,16 @@ module _ {K V : Type 0} (cmp : K → K → Ordering) (total : IsTotalOrder cmp) 
       (λ t. let is : e.0 ≡ q = sym (same q e.0 t) in ap (λ z. Some (joined_onto join (lookup cmp z a) e.1)) is)
       (λ _. rest)
 
-  written_over : (x y : Option V) → option_join replaced x (option_map (joined_onto join x) y) ≡ option_join join x y
+  written_over : (x y : Option V) → option_join keep_new x (option_map (joined_onto join x) y) ≡ option_join join x y
   written_over None None = refl
   written_over None (Some w) = refl
   written_over (Some v) None = refl
   written_over (Some v) (Some w) = refl
 
-  pub overwritten : (a b : List (K × V)) → IsRising cmp a → IsRising cmp b → map_join cmp replaced a (map (onto a) b) ≡ map_join cmp join a b
+  pub overwritten : (a b : List (K × V)) → IsRising cmp a → IsRising cmp b → map_join cmp keep_new a (map (onto a) b) ≡ map_join cmp join a b
   overwritten a b ra rb =
-      same_map cmp total same _ _ (rising_join cmp total same replaced a (map (onto a) b) ra) (rising_join cmp total same join a b ra) (λ q.
-      lookup_join cmp total same replaced q a (map (onto a) b) ra (rising_onto a b rb)
-      ∙ ap (option_join replaced (lookup cmp q a)) (lookup_onto a q b)
+      same_map cmp total same _ _ (rising_join cmp total same keep_new a (map (onto a) b) ra) (rising_join cmp total same join a b ra) (λ q.
+      lookup_join cmp total same keep_new q a (map (onto a) b) ra (rising_onto a b rb)
+      ∙ ap (option_join keep_new (lookup cmp q a)) (lookup_onto a q b)
       ∙ written_over (lookup cmp q a) (lookup cmp q b)
       ∙ sym (lookup_join cmp total same join q a b ra rb))

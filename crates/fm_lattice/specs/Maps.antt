@@ -48,8 +48,8 @@ JoinsByKey {K} cmp join x y r = (k : K) → lookup cmp k r ≡ option_join join 
 -- The two steps of a join in place: first the joined values, then the writes.
 
 -- the later of two
-abbrev pub replaced : {V : Type 0} → V → V → V
-replaced old new = new
+abbrev pub keep_new : {V : Type 0} → V → V → V
+keep_new old new = new
 
 -- the value joined to what is there, if anything is
 abbrev pub joined_onto : {V : Type 0} → (V → V → V) → Option V → V → V

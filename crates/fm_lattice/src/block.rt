@@ -1,13 +1,13 @@
 //! Blocks of pairs. A map owns a block, and can write it, or shares it with other maps, and can only read it.
 
 ghost use Rattle.std.specs.Prelude.{◌≡◌, ◌≤◌, ◌<◌, ◌+◌, ◌++◌, ◌∷◌, [], List, None, true, IfOk, OnOk, OnErr, length, vec_len, vec_capacity};
-ghost use Rattle.fm_lattice.specs.Maps.{IsRising, lookup, put, replaced};
+ghost use Rattle.fm_lattice.specs.Maps.{IsRising, lookup, put, keep_new};
 ghost use Rattle.fm_lattice.specs.Stocks.{alone};
 
 use crate::blocks::FULL;
 use crate::chain::Chain;
 use crate::join::{Join, OutOfMemory, copied};
-use crate::rising::set;
+use crate::rising::set_within;
 use std::alloc::Global;
 use std::marker::Model;
 use std::mem;
@@ -71,13 +71,13 @@ impl<K: Chain, V: Drop> Block<K, V> {
         requires owned { self.old.owned ≡ true }
         requires rising { IsRising K.cmp self.old.items }
         requires room { lookup K.cmp key self.old.items ≡ None → length self.old.items < self.old.room }
-        ensures items { self.new.items ≡ put K.cmp replaced key value self.old.items }
+        ensures items { self.new.items ≡ put K.cmp keep_new key value self.old.items }
         ensures owned { self.new.owned ≡ true }
         ensures keeps { length self.old.items ≤ length self.new.items }
         ensures grows { length self.new.items ≤ length self.old.items + 1 }
     {
         match &mut self.held {
-            Held::Own(pairs) => set(pairs, key, value),
+            Held::Own(pairs) => set_within(pairs, key, value),
             Held::Shared(_) => unreachable!(),
         }
     }

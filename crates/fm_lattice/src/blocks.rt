@@ -1,7 +1,7 @@
 //! Pairs whose keys rise, kept in blocks: finding a key, making room for one, and changing in place.
 
 ghost use Rattle.std.specs.Prelude.{◌≡◌, ◌+◌, ◌≤◌, ◌<◌, ◌++◌, ℕ, List, None, IsTrue, true, false, IfOk, OnOk, length, option_copied, slice_index_or, vec_len, vec_capacity};
-ghost use Rattle.fm_lattice.specs.Maps.{IsRising, lookup, put, replaced};
+ghost use Rattle.fm_lattice.specs.Maps.{IsRising, lookup, put, keep_new};
 ghost use Rattle.fm_lattice.specs.Blocks.{pairs_of, BeginsWith, AreHeaded, IsAbove, IsBlockOf, IsHomeOf, GoesToOwned, IsOwnedAt, HasAt, TakesKey, IsSpare};
 
 use crate::block::Block;
@@ -298,7 +298,7 @@ pub(crate) fn write<K: Chain, V: Drop>(
     requires takes { TakesKey K.cmp key blocks.old.items at }
     requires headed { AreHeaded blocks.old.items }
     requires rising { IsRising K.cmp (pairs_of blocks.old.items) }
-    ensures pairs { pairs_of blocks.new.items ≡ put K.cmp replaced key value (pairs_of blocks.old.items) }
+    ensures pairs { pairs_of blocks.new.items ≡ put K.cmp keep_new key value (pairs_of blocks.old.items) }
     ensures headed { AreHeaded blocks.new.items }
     ensures counted { length (pairs_of blocks.new.items) ≡ length (pairs_of blocks.old.items) + result }
     ensures owned { (k : K) → GoesToOwned K.cmp blocks.old.items k → GoesToOwned K.cmp blocks.new.items k }
@@ -313,7 +313,7 @@ fn write_in<K: Chain, V: Drop>(block: &mut (K, Block<K, V>), key: K, value: V) -
     requires owned { block.old.1.owned ≡ true }
     requires rising { IsRising K.cmp block.old.1.items }
     requires room { lookup K.cmp key block.old.1.items ≡ None → length block.old.1.items < block.old.1.room }
-    ensures items { block.new.1.items ≡ put K.cmp replaced key value block.old.1.items }
+    ensures items { block.new.1.items ≡ put K.cmp keep_new key value block.old.1.items }
     ensures first { BeginsWith block.new.0 block.new.1.items }
     ensures owned { block.new.1.owned ≡ true }
     ensures counted { length block.old.1.items + result ≡ length block.new.1.items }

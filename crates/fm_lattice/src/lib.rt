@@ -11,5 +11,5 @@ mod merging;
 mod pairs;
 pub mod plain;
 mod plan;
-mod rising;
+pub mod rising;
 pub mod shared;

@@ -1,7 +1,7 @@
 //! Joins of two maps in blocks: a merge into new blocks, and changes in place.
 
 ghost use Rattle.std.specs.Prelude.{◌≡◌, ◌↔◌, IsTrue, ◌+◌, ◌≤◌, ◌<◌, ◌++◌, ◌∷◌, [], List, None, IfOk, OnOk, OnErr, map, length, vec_len, vec_capacity};
-ghost use Rattle.fm_lattice.specs.Maps.{IsRising, lookup, put, map_join, replaced, joined_onto, joined_pair};
+ghost use Rattle.fm_lattice.specs.Maps.{IsRising, lookup, put, map_join, keep_new, joined_onto, joined_pair};
 ghost use Rattle.fm_lattice.specs.Blocks.{pairs_of, AreHeaded, HaveSpares, GoesToOwned, GoToOwned};
 
 use crate::block::Block;
@@ -274,7 +274,7 @@ pub(crate) fn apply<K: Chain, V: Drop>(
     requires spares { HaveSpares K.cmp 2 (pairs_of blocks.old.items) changes.items }
     requires owned { GoToOwned K.cmp blocks.old.items changes.items }
     requires room { vec_len blocks.old + vec_len changes ≤ vec_capacity blocks.old }
-    ensures pairs { pairs_of blocks.new.items ≡ map_join K.cmp replaced (pairs_of blocks.old.items) (map
+    ensures pairs { pairs_of blocks.new.items ≡ map_join K.cmp keep_new (pairs_of blocks.old.items) (map
         (λ c. c.0) changes.items) }
     ensures headed { AreHeaded blocks.new.items }
     ensures counted { length (pairs_of blocks.new.items) ≡ length (pairs_of blocks.old.items) + result }

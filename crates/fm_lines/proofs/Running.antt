@@ -9,7 +9,7 @@ use Rattle.fm_records.specs.declared.refusal.Refusal.TheVariants.{BadScript, Wri
 use Rattle.fm_dimacs.specs.Sending.{AppendsPrefix, StopsBy, IsSent}
 use Rattle.fm_dimacs.proofs.Sent.{appends_nothing, appends_more, prefix_later}
 use Rattle.fm_streams.specs.Sources.{Streams}
-use Rattle.fm_lines.specs.Lines.{lines_of, IsLine, ended}
+use Rattle.fm_lines.specs.Lines.{lines_of, IsLine, with_line_feed}
 use Rattle.fm_lines.specs.Runs.{IsTaken, Run, IsFollowed, most_counted}
 use Rattle.fm_lines.proofs.Spelling.{AreLines, are_more, ended_more, lines_more, first_line, last_line}
 
@@ -18,7 +18,7 @@ pub record SoFar {D : Type 0} (Answers : D → List ℕ → List ℕ → D → T
   pub text : List ℕ
   pub read : Consumes given left text
   pub lines : List (List ℕ)
-  pub whole : text ≡ flat_map ended lines
+  pub whole : text ≡ flat_map with_line_feed lines
   pub each : AreLines lines
   pub counted : count ≤ length text
   pub answers : List ℕ
@@ -27,7 +27,7 @@ pub record SoFar {D : Type 0} (Answers : D → List ℕ → List ℕ → D → T
   pub fails_not : has ≡ had
 
 -- a line with its feed has a byte at least
-some_byte : (line : List ℕ) (text bytes : List ℕ) (count : ℕ) → bytes ≡ ended line → count ≤ length text → count + 1 ≤ length (text ++ bytes)
+some_byte : (line : List ℕ) (text bytes : List ℕ) (count : ℕ) → bytes ≡ with_line_feed line → count ≤ length text → count + 1 ≤ length (text ++ bytes)
 some_byte line text bytes count e h =
     let all : length (text ++ bytes) ≡ length text + length bytes = length-append text bytes in
     let one : length bytes ≡ length line + 1 = ap length e ∙ length-append line (10 ∷ []) in
@@ -64,7 +64,7 @@ module _ {D : Type 0} (Answers : D → List ℕ → List ℕ → D → Type 0) w
           text = s.text;
           read = s.read;
           lines = s.lines;
-          followed = record { rest = []; line = refl; whole = s.whole ∙ sym (append-nil (flat_map ended s.lines)); cause = inr (omega arith) };
+          followed = record { rest = []; line = refl; whole = s.whole ∙ sym (append-nil (flat_map with_line_feed s.lines)); cause = inr (omega arith) };
           answers = s.answers;
           run = s.run;
           went = (s.out, s.fails_not);
@@ -115,7 +115,7 @@ module _ {D : Type 0} (Answers : D → List ℕ → List ℕ → D → Type 0) w
 
       module _ (new : D) (is2 : Option (List ℕ)) (has2 : Bool) (line answer : List ℕ) (taken : IsTaken Answers now line answer new) where
         -- a line more, whose answer went out
-        pub next : IsLine line → bytes ≡ ended line → Appends is is2 answer × (has2 ≡ has) → SoFar Answers old new (count + 1) given left2 was is2 had has2
+        pub next : IsLine line → bytes ≡ with_line_feed line → Appends is is2 answer × (has2 ≡ has) → SoFar Answers old new (count + 1) given left2 was is2 had has2
         next one e sent =
             record {
               text = s.text ++ bytes;
@@ -164,5 +164,5 @@ pub one_line : (line : List ℕ) → IsLine line → 0 < length line → lines_o
 one_line [] h lt = absurd (omega arith)
 one_line (b ∷ line) h lt = last_line b line h
 
-pub one_ended : (line bytes : List ℕ) → IsLine line → bytes ≡ ended line → lines_of bytes ≡ line ∷ []
-one_ended line bytes one e = ap lines_of (e ∙ sym (append-nil (ended line))) ∙ first_line line [] one
+pub one_ended : (line bytes : List ℕ) → IsLine line → bytes ≡ with_line_feed line → lines_of bytes ≡ line ∷ []
+one_ended line bytes one e = ap lines_of (e ∙ sym (append-nil (with_line_feed line))) ∙ first_line line [] one

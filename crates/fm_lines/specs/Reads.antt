@@ -4,7 +4,7 @@ use Rattle.fm_lines.specs.declared.lines.Line.{Line}
 use Rattle.fm_lines.specs.declared.lines.Line.TheVariants.{Whole, TooLong, OutOfMemory}
 use Rattle.fm_lines.specs.declared.lines.Next.{Next}
 use Rattle.fm_lines.specs.declared.lines.Next.TheVariants as next
-use Rattle.fm_lines.specs.Lines.{IsLine, ended}
+use Rattle.fm_lines.specs.Lines.{IsLine, with_line_feed}
 
 -- the most bytes of a line: 64 MiB
 abbrev pub most_line : ℕ
@@ -19,7 +19,7 @@ IsKept OutOfMemory line kept = Unit {0}
 -- the bytes that were read are a line and its line feed, and that is kept of it; or what follows the last line feed; or
 -- none
 abbrev pub IsNext : Next → List ℕ → List ℕ → Type 0
-IsNext (next.Line is) bytes kept = (line : List ℕ) × IsLine line × IsKept is line kept × (bytes ≡ ended line)
+IsNext (next.Line is) bytes kept = (line : List ℕ) × IsLine line × IsKept is line kept × (bytes ≡ with_line_feed line)
 IsNext (next.Last is) bytes kept = IsLine bytes × (0 < length bytes) × IsKept is bytes kept
 IsNext next.End bytes kept = bytes ≡ []
 

@@ -3,8 +3,8 @@ use Rattle.std.specs.Prelude.{ℕ, List, ◌++◌, codes, decimal}
 use Rattle.fm_records.specs.declared.refusal.Refusal.{Refusal}
 use Rattle.fm_records.specs.Refusals.{number_of}
 
-abbrev pub accepted : List ℕ → List ℕ
-accepted text = text ++ codes "ok\n"
+abbrev pub accepted_reply : List ℕ → List ℕ
+accepted_reply text = text ++ codes "ok\n"
 
-abbrev pub refused : Refusal → List ℕ
-refused r = codes "refusal " ++ (decimal (number_of r) ++ codes "\n")
+abbrev pub refusal_reply : Refusal → List ℕ
+refusal_reply r = codes "refusal " ++ (decimal (number_of r) ++ codes "\n")

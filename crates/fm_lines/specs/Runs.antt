@@ -6,13 +6,13 @@ use Rattle.fm_records.specs.declared.refusal.Refusal.{Refusal}
 use Rattle.fm_records.specs.declared.refusal.Refusal.TheVariants.{OutOfMemory, BadScript, WriteFault}
 use Rattle.fm_dimacs.specs.Sending.{AppendsPrefix}
 use Rattle.fm_streams.specs.Sources.{Streams}
-use Rattle.fm_lines.specs.Lines.{lines_of, IsLine, ended}
+use Rattle.fm_lines.specs.Lines.{lines_of, IsLine, with_line_feed}
 use Rattle.fm_lines.specs.Reads.{most_line}
-use Rattle.fm_lines.specs.Replies.{refused}
+use Rattle.fm_lines.specs.Replies.{refusal_reply}
 
 -- a line is refused unread: memory ran out for it, or it is too long
 abbrev pub IsUnread : List ℕ → List ℕ → Type 0
-IsUnread line text = (text ≡ refused OutOfMemory) ⊎ ((most_line < length line) × (text ≡ refused (BadScript 0)))
+IsUnread line text = (text ≡ refusal_reply OutOfMemory) ⊎ ((most_line < length line) × (text ≡ refusal_reply (BadScript 0)))
 
 -- a line is answered so, and makes new of old: it is refused unread and changes nothing, or the responder answers it
 abbrev pub IsTaken : {D : Type 0} → (D → List ℕ → List ℕ → D → Type 0) → D → List ℕ → List ℕ → D → Type 0
@@ -32,7 +32,7 @@ most_counted = 2 ^ 64 - 1
 pub record IsCutOff (text : List ℕ) (lines : List (List ℕ)) (streams : Streams) : Type 0 where
   pub rest : List ℕ
   pub line : IsLine rest
-  pub whole : text ≡ flat_map ended lines ++ rest
+  pub whole : text ≡ flat_map with_line_feed lines ++ rest
   pub cause : (streams.source_failed ≡ true) ⊎ (most_counted ≤ length text)
 
 -- which lines of what was read were answered: all of a stream that came to its end; all that were read before the sink

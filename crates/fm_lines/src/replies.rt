@@ -2,7 +2,7 @@
 
 ghost use Rattle.std.specs.Prelude.{◌≡◌, IsOkUnless};
 ghost use Rattle.fm_dimacs.specs.Sending.{IsSent};
-ghost use Rattle.fm_lines.specs.Replies.{accepted, refused};
+ghost use Rattle.fm_lines.specs.Replies.{accepted_reply, refusal_reply};
 
 use fm_dimacs::pieces::put_all;
 use fm_records::refusal::Refusal;
@@ -12,7 +12,7 @@ use fm_streams::sink::Sink;
 /// Writes the text of an accepted line's answer, and `ok`.
 pub(crate) fn send_accepted<W: Sink>(sink: &mut W, text: &[u8]) -> Result<(), Refusal>
     ensures sent { IsSent result (W.written sink.old) (W.written sink.new) (W.has_failed sink.old)
-        (W.has_failed sink.new) (accepted text.now) }
+        (W.has_failed sink.new) (accepted_reply text.now) }
     ensures cause { IsOkUnless result Refusal.WriteFault }
 {
     put_all(sink, text)?;
@@ -22,7 +22,7 @@ pub(crate) fn send_accepted<W: Sink>(sink: &mut W, text: &[u8]) -> Result<(), Re
 /// Writes why a line was refused.
 pub(crate) fn send_refused<W: Sink>(sink: &mut W, refusal: Refusal) -> Result<(), Refusal>
     ensures sent { IsSent result (W.written sink.old) (W.written sink.new) (W.has_failed sink.old)
-        (W.has_failed sink.new) (refused refusal) }
+        (W.has_failed sink.new) (refusal_reply refusal) }
     ensures cause { IsOkUnless result Refusal.WriteFault }
 {
     send(sink, line_of(refusal).as_bytes())
@@ -30,7 +30,7 @@ pub(crate) fn send_refused<W: Sink>(sink: &mut W, refusal: Refusal) -> Result<()
 
 // Why a line was refused.
 fn line_of(refusal: Refusal) -> &'static str
-    ensures { result.now ≡ refused refusal }
+    ensures { result.now ≡ refusal_reply refusal }
 {
     match refusal {
         Refusal::OutOfMemory => "refusal 1\n",

@@ -1,7 +1,7 @@
 //! Responders, which answer lines.
 
 ghost use Rattle.std.specs.Prelude.{◌≡◌, ℕ, List, MatchResult};
-ghost use Rattle.fm_lines.specs.Replies.{accepted, refused};
+ghost use Rattle.fm_lines.specs.Replies.{accepted_reply, refusal_reply};
 
 use fm_records::refusal::Refusal;
 
@@ -12,6 +12,6 @@ pub trait Responder {
 
     /// The text of the line's answer. A refused line changes nothing.
     fn answer(&mut self, line: &[u8]) -> Result<Vec<u8>, Refusal>
-        ensures { MatchResult result (λ text. answers self.old line.now (accepted text.items) self.new)
-            (λ refusal. answers self.old line.now (refused refusal) self.new × (self.new ≡ self.old)) };
+        ensures { MatchResult result (λ text. answers self.old line.now (accepted_reply text.items) self.new)
+            (λ refusal. answers self.old line.now (refusal_reply refusal) self.new × (self.new ≡ self.old)) };
 }

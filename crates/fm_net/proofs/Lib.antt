@@ -8,5 +8,3 @@ pub mod Made
 pub mod Shown
 pub mod Copied
 pub mod Refilled
-pub mod Behind
-pub mod Taken

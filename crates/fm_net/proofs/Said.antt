@@ -8,7 +8,7 @@ use Rattle.std.specs.Cmp.{IsTotalOrder}
 use Rattle.std.specs.declared.cmp.Ordering.{Ordering}
 use Rattle.std.proofs.lemmas.Cmp.{tied_back}
 use Rattle.fm_lattice.specs.Chains.{by_order, by_cases, less_greater, greater_less}
-use Rattle.fm_lattice.specs.Maps.{lookup, put, replaced, IsRising}
+use Rattle.fm_lattice.specs.Maps.{lookup, put, keep_new, IsRising}
 use Rattle.fm_records.specs.Sets.{insert_once}
 use Rattle.fm_records.specs.TableLaws.{Rises}
 use Rattle.fm_net.specs.declared.node.Node.{Node}
@@ -32,11 +32,11 @@ swapped cmp total a b =
 
 -- The keys of pairs by node.
 module _ {V : Type 0} where
-  pub keys_put : (n : Node) (v : V) (es : List (Node × V)) → keys_of (put node_cmp replaced n v es) ≡ insert_once node_cmp n (keys_of es)
+  pub keys_put : (n : Node) (v : V) (es : List (Node × V)) → keys_of (put node_cmp keep_new n v es) ≡ insert_once node_cmp n (keys_of es)
   keys_put n v [] = refl
   keys_put n v (e ∷ es) =
       let rest = keys_put n v es in
-      by_cases (node_cmp n e.0) (λ o. keys_of (by_order o ((n, v) ∷ e ∷ es) ((e.0, v) ∷ es) (e ∷ put node_cmp replaced n v es)) ≡ by_order o (n ∷ e.0 ∷ keys_of es) (e.0 ∷ keys_of es) (e.0 ∷ insert_once node_cmp n (keys_of es)))
+      by_cases (node_cmp n e.0) (λ o. keys_of (by_order o ((n, v) ∷ e ∷ es) ((e.0, v) ∷ es) (e ∷ put node_cmp keep_new n v es)) ≡ by_order o (n ∷ e.0 ∷ keys_of es) (e.0 ∷ keys_of es) (e.0 ∷ insert_once node_cmp n (keys_of es)))
       (λ _. refl) (λ _. refl) (λ _. ap (λ ks. e.0 ∷ ks) rest)
 
   pub keys_removed : (n : Node) (es : List (Node × V)) → keys_of (remove_entry (is_at (node_cmp n)) es) ≡ remove_node n (keys_of es)

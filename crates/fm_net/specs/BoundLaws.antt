@@ -22,7 +22,7 @@ use Rattle.fm_net.specs.Nodes.{IsInRange}
 use Rattle.fm_net.specs.Net.{CanBeNet}
 use Rattle.fm_net.specs.ListLaws.{some_member}
 use Rattle.fm_net.specs.Network.{is_held, is_live_of, waits_for, is_node, places, preferred_arc, arc_of, net_of}
-use Rattle.fm_net.specs.NetworkLaws.{passed, mapped_from, where_true, live_entry, open_entry, room_from, preferred_from, ends_of, is_network_of}
+use Rattle.fm_net.specs.NetworkLaws.{passes_some, mapped_from, where_true, live_entry, open_entry, room_from, preferred_from, ends_of, is_network_of}
 
 none : {A P : Type 0} {a : A} → None ≡ Some a → P
 none e = absurd (let no : ⊥ = cc in no)
@@ -101,14 +101,14 @@ module _ (k : Table) (is : CanBe k) where
   node_in_range Sink h = tt
   node_in_range (Unscheduled j) h =
       let e = some_member (λ x. is_live_of k j x.0) k.tasks h in
-      let s = passed (λ s. s.job == j) (live_spec k e.0.0) e.2 in
+      let s = passes_some (λ s. s.job == j) (live_spec k e.0.0) e.2 in
       subst (λ n. n < 2 ^ 128) (eqb-true s.0.job j s.2) (spec_ranges e.0.0 s.0 s.1).job
   node_in_range (Request r) h =
       let e = some_member (λ x. waits_for k r x.0) k.tasks h in
-      let s = passed (λ s. s.request == r) (live_spec k e.0.0) (both_true _ _ e.2).0 in
+      let s = passes_some (λ s. s.request == r) (live_spec k e.0.0) (both_true _ _ e.2).0 in
       subst (λ n. n ≤ 1000000) (eqb-true s.0.request r s.2) (spec_ranges e.0.0 s.0 s.1).request
-  node_in_range (Machine m) h = let s = passed (λ r. true) (open_state k m) h in (state_ranges m s.0 s.1).machine
-  node_in_range (Task t) h = let s = passed (λ s. true) (live_spec k t) h in (spec_ranges t s.0 s.1).task
+  node_in_range (Machine m) h = let s = passes_some (λ r. true) (open_state k m) h in (state_ranges m s.0 s.1).machine
+  node_in_range (Task t) h = let s = passes_some (λ s. true) (live_spec k t) h in (spec_ranges t s.0 s.1).task
 
   -- The capacities and costs of arcs.
 

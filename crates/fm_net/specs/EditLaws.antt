@@ -9,7 +9,7 @@ use Rattle.std.proofs.lemmas.Bool.{eqb-true}
 use Rattle.std.proofs.lemmas.Cmp.{tied_itself}
 use Rattle.fm_lattice.specs.Chains.{TellsApart, by_cases, less_greater, greater_less}
 use Rattle.fm_lattice.specs.Joins.{option_join}
-use Rattle.fm_lattice.specs.Maps.{lookup, IsBelow, IsRising, put, replaced}
+use Rattle.fm_lattice.specs.Maps.{lookup, IsBelow, IsRising, put, keep_new}
 use Rattle.fm_lattice.specs.MapLaws.{lookup_below, same_map, rising_put, lookup_put}
 use Rattle.fm_records.specs.Options.{when, and_then, passes}
 use Rattle.fm_records.specs.Sets.{IsMember}
@@ -22,7 +22,7 @@ use Rattle.fm_net.specs.Net.{Net, has_node, arc_at, IsTouched, CanBeNet, with_no
 use Rattle.fm_net.specs.ListLaws.{same_rising, has_member, passes_kept}
 use Rattle.fm_net.specs.declared.edit.Edit.{Edit}
 use Rattle.fm_net.specs.declared.edit.Edit.TheVariants.{DropNode, PutNode}
-use Rattle.fm_net.specs.Edits.{Arc, edited, after, MayPutArc, MayEdit, MayEditAll, joins, same_value, has_arc, gone_arcs, gone_nodes, new_nodes, new_arcs, drop_of, put_of, change}
+use Rattle.fm_net.specs.Edits.{Arc, after_edit, after, MayPutArc, MayEdit, MayEditAll, joins, same_value, has_arc, gone_arcs, gone_nodes, new_nodes, new_arcs, drop_of, put_of, change}
 use Rattle.fm_net.specs.KeptLists.{rising_kept, lookup_kept, has, has_kept, has_inserted, rises_inserted}
 
 none : {A P : Type 0} {a : A} → None ≡ Some a → P
@@ -114,24 +114,24 @@ abbrev over : Option (ℕ × ℕ) → Option (ℕ × ℕ) → Option (ℕ × ℕ
 over None o = o
 over (Some v) o = Some v
 
-joined_replaced : (o : Option (ℕ × ℕ)) (b : Bool) (v : ℕ × ℕ) → option_join replaced o (cond b (Some v) None) ≡ cond b (Some v) o
+joined_replaced : (o : Option (ℕ × ℕ)) (b : Bool) (v : ℕ × ℕ) → option_join keep_new o (cond b (Some v) None) ≡ cond b (Some v) o
 joined_replaced None true v = refl
 joined_replaced None false v = refl
 joined_replaced (Some w) true v = refl
 joined_replaced (Some w) false v = refl
 
-pub at_put : (e q : Node × Node) (v : ℕ × ℕ) (arcs : List Arc) → IsRising ends_cmp arcs → at q (put ends_cmp replaced e v arcs) ≡ cond (is_eq (ends_cmp q e)) (Some v) (at q arcs)
-at_put e q v arcs r = lookup_put ends_cmp ends_total ends_exact replaced q e v arcs r ∙ joined_replaced (at q arcs) (is_eq (ends_cmp q e)) v
+pub at_put : (e q : Node × Node) (v : ℕ × ℕ) (arcs : List Arc) → IsRising ends_cmp arcs → at q (put ends_cmp keep_new e v arcs) ≡ cond (is_eq (ends_cmp q e)) (Some v) (at q arcs)
+at_put e q v arcs r = lookup_put ends_cmp ends_total ends_exact keep_new q e v arcs r ∙ joined_replaced (at q arcs) (is_eq (ends_cmp q e)) v
 
 -- Edits one list after another.
 
 pub after_both : (es fs : List Edit) (net : Net) → after (es ++ fs) net ≡ after fs (after es net)
 after_both [] fs net = refl
-after_both (e ∷ es) fs net = after_both es fs (edited e net)
+after_both (e ∷ es) fs net = after_both es fs (after_edit e net)
 
 pub may_both : (es fs : List Edit) (net : Net) → MayEditAll net es → MayEditAll (after es net) fs → MayEditAll net (es ++ fs)
 may_both [] fs net a b = b
-may_both (e ∷ es) fs net a b = (a.0, may_both es fs (edited e net) a.1 b)
+may_both (e ∷ es) fs net a b = (a.0, may_both es fs (after_edit e net) a.1 b)
 
 -- First the arcs are dropped.
 
@@ -238,7 +238,7 @@ put_twice e q v bs o b =
 placed : (bs : List Arc) (net : Net) → IsRising ends_cmp bs → IsRising ends_cmp net.arcs → ((a : Arc) → IsMember a bs → MayPutArc net a.0.0 a.0.1 a.1.0 a.1.1) → Put bs net
 placed [] net s r fine = record { nodes = refl; rise = r; arcs = λ q. refl; may = tt }
 placed (a ∷ bs) net s r fine =
-    let rest = placed bs (with_arc a.0.0 a.0.1 a.1 net) s.1 (rising_put ends_cmp ends_total ends_exact replaced a.0 a.1 net.arcs r)
+    let rest = placed bs (with_arc a.0.0 a.0.1 a.1 net) s.1 (rising_put ends_cmp ends_total ends_exact keep_new a.0 a.1 net.arcs r)
     (λ b h. let f = fine b (inr h) in record { from_stands = f.from_stands; to_stands = f.to_stands; kinds = f.kinds; capacity_above = f.capacity_above; cost_within = f.cost_within }) in
     record {
       nodes = rest.nodes;

@@ -13,16 +13,16 @@ abbrev pub Arc : Type 0
 Arc = (Node × Node) × (ℕ × ℕ)
 
 -- the network after an edit
-abbrev pub edited : Edit → Net → Net
-edited (DropArc from to) net = without_arc from to net
-edited (DropNode n) net = without_node n net
-edited (PutNode n) net = with_node n net
-edited (PutArc from to capacity cost) net = with_arc from to (capacity, cost) net
+abbrev pub after_edit : Edit → Net → Net
+after_edit (DropArc from to) net = without_arc from to net
+after_edit (DropNode n) net = without_node n net
+after_edit (PutNode n) net = with_node n net
+after_edit (PutArc from to capacity cost) net = with_arc from to (capacity, cost) net
 
 -- the network after the edits, one after another
 abbrev pub after : List Edit → Net → Net
 after [] net = net
-after (e ∷ es) net = after es (edited e net)
+after (e ∷ es) net = after es (after_edit e net)
 
 -- what the caller must ensure for an arc
 pub record MayPutArc (net : Net) (from to : Node) (capacity cost : ℕ) : Type 0 where
@@ -42,7 +42,7 @@ MayEdit net (PutArc from to capacity cost) = MayPutArc net from to capacity cost
 -- and so for each edit, on what the earlier ones left
 abbrev pub MayEditAll : Net → List Edit → Type 0
 MayEditAll net [] = Unit {0}
-MayEditAll net (e ∷ es) = MayEdit net e × MayEditAll (edited e net) es
+MayEditAll net (e ∷ es) = MayEdit net e × MayEditAll (after_edit e net) es
 
 -- whether there is an arc between these ends, and whether exactly this arc does
 abbrev pub joins : Net → Node × Node → Bool

@@ -2,7 +2,7 @@
 use Rattle.std.specs.Prelude.{◌≡◌, ℕ, ◌<◌, ◌≤◌, ◌^◌, ◌⊎◌, Bool, cond, List, [], ◌∷◌, Option, Some, IsTrue, IsSome}
 use Rattle.std.specs.List.{list_any}
 use Rattle.std.specs.Ordering.{is_eq}
-use Rattle.fm_lattice.specs.Maps.{lookup, put, replaced, IsRising}
+use Rattle.fm_lattice.specs.Maps.{lookup, put, keep_new, IsRising}
 use Rattle.fm_records.specs.Sets.{insert_once}
 use Rattle.fm_records.specs.TableLaws.{Rises}
 use Rattle.fm_net.specs.declared.node.Node.{Node}
@@ -77,7 +77,7 @@ without_node n net = record { nodes = remove_node n net.nodes; arcs = net.arcs }
 
 -- the network with the arc in its place, in place of an existing one
 abbrev pub with_arc : Node → Node → ℕ × ℕ → Net → Net
-with_arc from to arc net = record { nodes = net.nodes; arcs = put ends_cmp replaced (from, to) arc net.arcs }
+with_arc from to arc net = record { nodes = net.nodes; arcs = put ends_cmp keep_new (from, to) arc net.arcs }
 
 -- the arcs without the one between these ends
 abbrev pub remove_arc : Node × Node → List ((Node × Node) × (ℕ × ℕ)) → List ((Node × Node) × (ℕ × ℕ))

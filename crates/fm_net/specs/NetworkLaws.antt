@@ -29,13 +29,13 @@ none e = absurd (let no : ⊥ = cc in no)
 
 -- What a value that passes a test, or that is there, comes from.
 
-pub passed : {A : Type 0} (test : A → Bool) (o : Option A) → passes test o ≡ true → (a : A) × (o ≡ Some a) × (test a ≡ true)
-passed test None e = absurd (let no : ⊥ = cc in no)
-passed test (Some a) e = (a, refl, e)
+pub passes_some : {A : Type 0} (test : A → Bool) (o : Option A) → passes test o ≡ true → (a : A) × (o ≡ Some a) × (test a ≡ true)
+passes_some test None e = absurd (let no : ⊥ = cc in no)
+passes_some test (Some a) e = (a, refl, e)
 
-pub kept : {A : Type 0} (test : A → Bool) (o : Option A) (a : A) → only_if test o ≡ Some a → (o ≡ Some a) × (test a ≡ true)
-kept test None a e = none e
-kept test (Some b) a e =
+pub only_if_some : {A : Type 0} (test : A → Bool) (o : Option A) (a : A) → only_if test o ≡ Some a → (o ≡ Some a) × (test a ≡ true)
+only_if_some test None a e = none e
+only_if_some test (Some b) a e =
     let is : b ≡ a = when_value (test b) b a e in
     (ap Some is, ap test (sym is) ∙ when_true (test b) b a e)
 
@@ -54,11 +54,11 @@ where_true false o a e = none e
 module _ (k : Table) where
   -- the record of a live task
   pub live_entry : (t : ℕ) (s : SpecReg) → live_spec k t ≡ Some s → (v : TaskValue) × (lookup nat_cmp t k.tasks ≡ Some v) × (v.0 ≡ Some s)
-  live_entry t s e = came_from (λ v. v.0) (lookup nat_cmp t k.tasks) s (kept _ (spec_of k t) s e).0
+  live_entry t s e = came_from (λ v. v.0) (lookup nat_cmp t k.tasks) s (only_if_some _ (spec_of k t) s e).0
 
   -- the record of an open machine
   pub open_entry : (m : ℕ) (r : MachineReg) → open_state k m ≡ Some r → (v : MachineValue) × (lookup nat_cmp m k.machines ≡ Some v) × (v.1.0 ≡ Some r)
-  open_entry m r e = came_from (λ v. v.1.0) (lookup nat_cmp m k.machines) r (kept _ (state_of k m) r e).0
+  open_entry m r e = came_from (λ v. v.1.0) (lookup nat_cmp m k.machines) r (only_if_some _ (state_of k m) r e).0
 
   task_member : (t : ℕ) (s : SpecReg) → live_spec k t ≡ Some s → (v : TaskValue) × IsMember (t, v) k.tasks × (v.0 ≡ Some s)
   task_member t s e = let f = live_entry t s e in (f.0, entry_member nat_cmp nat_same t f.0 k.tasks f.1, f.2)
@@ -77,17 +77,17 @@ module _ (k : Table) where
   node_named Sink h = inl refl
   node_named (Unscheduled j) h =
       let e = some_member (λ x. is_live_of k j x.0) k.tasks h in
-      let s = passed (λ s. s.job == j) (live_spec k e.0.0) e.2 in
+      let s = passes_some (λ s. s.job == j) (live_spec k e.0.0) e.2 in
       live_named e.0.0 s.0 (Unscheduled j) s.1 (inr (inl (ap Unscheduled (eqb-true s.0.job j s.2))))
   node_named (Request r) h =
       let e = some_member (λ x. waits_for k r x.0) k.tasks h in
-      let s = passed (λ s. s.request == r) (live_spec k e.0.0) (both_true _ _ e.2).0 in
+      let s = passes_some (λ s. s.request == r) (live_spec k e.0.0) (both_true _ _ e.2).0 in
       live_named e.0.0 s.0 (Request r) s.1 (inr (inr (inl (ap Request (eqb-true s.0.request r s.2)))))
   node_named (Machine m) h =
-      let s = passed (λ r. true) (open_state k m) h in
+      let s = passes_some (λ r. true) (open_state k m) h in
       let f = open_entry m s.0 s.1 in
       inr (member_behind (Machine m) (flat_map names_of_task k.tasks) _ (member_mapped (λ (e : ℕ × MachineValue). Machine e.0) (m, f.0) k.machines (entry_member nat_cmp nat_same m f.0 k.machines f.1)))
-  node_named (Task t) h = let s = passed (λ s. true) (live_spec k t) h in live_named t s.0 (Task t) s.1 (inl refl)
+  node_named (Task t) h = let s = passes_some (λ s. true) (live_spec k t) h in live_named t s.0 (Task t) s.1 (inl refl)
 
   pub node_member : (n : Node) → is_node k n ≡ true → IsMember n (nodes_of k)
   node_member n h = member_passing (is_node k) n (rising node_cmp (names k)) (member_rising node_cmp node_total node_exact n (names k) (node_named n h)) h
@@ -123,10 +123,10 @@ module _ (k : Table) where
   -- a task that is held, and the machine that holds it
   pub held_ends : (t m : ℕ) → holds k m t ≡ true → Ends (Task t) (Machine m)
   held_ends t m e =
-      let h = passed (λ h. h == m) (holder_of k t) e in
+      let h = passes_some (λ h. h == m) (holder_of k t) e in
       let f = where_true (is_live k t) _ h.0 h.1 in
       let spot = mapped_from (λ s. s.machine) (only_if (is_present k) (won_spot k t)) h.0 f.1 in
-      let present = both_true _ _ (kept (is_present k) (won_spot k t) spot.0 spot.1).1 in
+      let present = both_true _ _ (only_if_some (is_present k) (won_spot k t) spot.0 spot.1).1 in
       record { from = f.0; to = subst (λ q. is_open k q ≡ true) (spot.2 ∙ eqb-true h.0 m h.2) present.0; kinds = tt }
 
   -- what an arc into a machine with room comes from
@@ -173,7 +173,7 @@ module _ (k : Table) where
   pub ends_of : (a b : Node) (v : ℕ × ℕ) → arc_of k a b ≡ Some v → Ends a b
   ends_of (Task t) (Request r) v e =
       let waits = when_true (waits_for k r t) (1, 0) v e in
-      let s = passed (λ s. s.request == r) (live_spec k t) (both_true _ _ waits).0 in
+      let s = passes_some (λ s. s.request == r) (live_spec k t) (both_true _ _ waits).0 in
       record { from = live t s.0 s.1; to = is_some_task (waits_for k r) t s.0 s.1 waits; kinds = tt }
   ends_of (Task t) (Machine m) v e = elim (is_held k t) as (λ b. cond b (when (holds k m t) (1, 0)) (and_then (λ s. preferred_arc k s m) (live_spec k t)) ≡ Some v → Ends (Task t) (Machine m)) [
     | true ↦ λ f. held_ends t m (when_true (holds k m t) (1, 0) v f)
@@ -181,7 +181,7 @@ module _ (k : Table) where
   ] e
   ends_of (Task t) (Unscheduled j) v e =
       let is = (where_true (is_live_of k j t) _ v e).0 in
-      let s = passed (λ s. s.job == j) (live_spec k t) is in
+      let s = passes_some (λ s. s.job == j) (live_spec k t) is in
       record { from = live t s.0 s.1; to = is_some_task (is_live_of k j) t s.0 s.1 is; kinds = tt }
   ends_of (Request r) (Machine m) v e =
       let f = where_true (is_node k (Request r)) _ v e in

@@ -8,7 +8,7 @@ use Rattle.fm_records.specs.declared.ops.Op.{Op}
 use Rattle.fm_records.specs.Options.{when, and_then, passes}
 use Rattle.fm_records.specs.TableLaws.{Rises}
 use Rattle.fm_records.specs.Know.{job}
-use Rattle.fm_records.specs.SetFacts.{live, opened, holder, is_held_by, tasks, load, spare}
+use Rattle.fm_records.specs.SetFacts.{live, state_if_up, holder, is_held_by, tasks, load, spare}
 use Rattle.fm_net.specs.declared.node.Node.{Node}
 use Rattle.fm_net.specs.declared.node.Node.TheVariants.{Sink, Unscheduled, Request, Machine, Task}
 use Rattle.fm_net.specs.Nodes.{node_cmp, ends_cmp}
@@ -16,8 +16,8 @@ use Rattle.fm_net.specs.Net.{Net, has_node, arc_at}
 use Rattle.fm_net.specs.Network.{places}
 
 -- some machine holds the task
-abbrev pub held : List Op → ℕ → Bool
-held S t = is_some (holder S t)
+abbrev pub has_holder : List Op → ℕ → Bool
+has_holder S t = is_some (holder S t)
 
 -- the task is live, and its job is j
 abbrev pub live_of : List Op → ℕ → ℕ → Bool
@@ -25,7 +25,7 @@ live_of S j t = passes (λ s. s.job == j) (live S t)
 
 -- the task is live and not held, and its request is r
 abbrev pub waiting : List Op → ℕ → ℕ → Bool
-waiting S r t = passes (λ s. s.request == r) (live S t) && not (held S t)
+waiting S r t = passes (λ s. s.request == r) (live S t) && not (has_holder S t)
 
 -- The nodes.
 abbrev pub is_node_in : List Op → Node → Bool
@@ -36,13 +36,13 @@ is_node_in S (Unscheduled j) = list_any (live_of S j) (tasks S)
 -- a request of a live task that is not held
 is_node_in S (Request r) = list_any (waiting S r) (tasks S)
 -- an open machine
-is_node_in S (Machine m) = is_some (opened S m)
+is_node_in S (Machine m) = is_some (state_if_up S m)
 -- a live task
 is_node_in S (Task t) = is_some (live S t)
 
 -- the capacity and cost of a request's arc into an open machine that has room for it
 abbrev pub room_in : List Op → ℕ → ℕ → Option (ℕ × ℕ)
-room_in S r m = and_then (λ state. and_then (λ free. when (nat_le r free) (places state free r, r + load S m)) (spare S m)) (opened S m)
+room_in S r m = and_then (λ state. and_then (λ free. when (nat_le r free) (places state free r, r + load S m)) (spare S m)) (state_if_up S m)
 
 -- The capacity and cost of the arc from one node to another, if there is one.
 abbrev pub arc_in : List Op → Node → Node → Option (ℕ × ℕ)
@@ -52,11 +52,11 @@ arc_in S (Task t) (Request r) = when (waiting S r t) (1, 0)
 arc_in S (Request r) (Machine m) = cond (is_node_in S (Request r)) (room_in S r m) None
 -- a task that is held to the machine that holds it, and a live one that is not to each machine that it prefers and that
 -- has room
-arc_in S (Task t) (Machine m) = cond (held S t) (when (is_held_by S m t) (1, 0)) (and_then (λ s. and_then (λ credit. option_map (λ a. (1, a.1 - credit)) (room_in S s.request m)) (lookup nat_cmp m s.prefer)) (live S t))
+arc_in S (Task t) (Machine m) = cond (has_holder S t) (when (is_held_by S m t) (1, 0)) (and_then (λ s. and_then (λ credit. option_map (λ a. (1, a.1 - credit)) (room_in S s.request m)) (lookup nat_cmp m s.prefer)) (live S t))
 -- a live task to its job, for the price of waiting, or of a preemption if it is held
-arc_in S (Task t) (Unscheduled j) = cond (live_of S j t) (option_map (λ r. (1, cond (held S t) r.preempt r.wait)) (job S j)) None
+arc_in S (Task t) (Unscheduled j) = cond (live_of S j t) (option_map (λ r. (1, cond (has_holder S t) r.preempt r.wait)) (job S j)) None
 -- a machine to the sink
-arc_in S (Machine m) Sink = option_map (λ state. (state.slots, 0)) (opened S m)
+arc_in S (Machine m) Sink = option_map (λ state. (state.slots, 0)) (state_if_up S m)
 -- a job to the sink
 arc_in S (Unscheduled j) Sink = when (is_node_in S (Unscheduled j)) (count_by (live_of S j) (tasks S), 0)
 arc_in S _ _ = None

@@ -16,14 +16,14 @@ use Rattle.fm_net.specs.declared.node.Node.TheVariants.{Sink, Unscheduled, Reque
 use Rattle.fm_net.specs.Net.{Net}
 use Rattle.fm_net.specs.Network.{is_held, is_live_of, waits_for, some_task, live_tasks, is_node, places, room_arc, arc_of, IsNetworkOf, net_of}
 use Rattle.fm_net.specs.NetworkLaws.{network_is}
-use Rattle.fm_net.specs.SetNetwork.{held, live_of, waiting, is_node_in, room_in, arc_in, IsNetworkOfSet}
+use Rattle.fm_net.specs.SetNetwork.{has_holder, live_of, waiting, is_node_in, room_in, arc_in, IsNetworkOfSet}
 
 is_there : {A : Type 0} (o : Option A) → passes (λ a. true) o ≡ is_some o
 is_there None = refl
 is_there (Some a) = refl
 
 module _ (S : List Op) where
-  held_is : (t : ℕ) → is_held (know S) t ≡ held S t
+  held_is : (t : ℕ) → is_held (know S) t ≡ has_holder S t
   held_is t = ap (passes (λ m. true)) (holder_is S t) ∙ is_there (holder S t)
 
   live_of_is : (j t : ℕ) → is_live_of (know S) j t ≡ live_of S j t
@@ -36,7 +36,7 @@ module _ (S : List Op) where
   no_job j t e = ap (passes (λ s. s.job == j)) (not_live S t e)
 
   no_request : (r t : ℕ) → task S t ≡ None → waiting S r t ≡ false
-  no_request r t e = ap (λ (o : Option SpecReg). passes (λ s. s.request == r) o && not (held S t)) (not_live S t e)
+  no_request r t e = ap (λ (o : Option SpecReg). passes (λ s. s.request == r) o && not (has_holder S t)) (not_live S t e)
 
   some_live : (j : ℕ) → some_task (is_live_of (know S) j) (know S) ≡ list_any (live_of S j) (tasks S)
   some_live j = (λ i. some_task (λ t. live_of_is j t i) (know S)) ∙ any_rows (task S) (live_of S j) (no_job j) (tasks S)

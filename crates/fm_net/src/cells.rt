@@ -5,7 +5,7 @@ ghost use Rattle.std.specs.Iterator.{YieldsFirst, item_count};
 ghost use Rattle.std.specs.Map.{remove_entry};
 ghost use Rattle.std.specs.BTreeMap.{is_at};
 ghost use Rattle.fm_lattice.specs.Chains.{TellsApart};
-ghost use Rattle.fm_lattice.specs.Maps.{lookup, put, replaced, IsRising};
+ghost use Rattle.fm_lattice.specs.Maps.{lookup, put, keep_new, IsRising};
 ghost use Rattle.fm_net.specs.Cells.{IsPlainClone};
 
 use fm_lattice::join::OutOfMemory;
@@ -24,11 +24,11 @@ pub(crate) struct Cells<K: Ord + Copy, V: Copy> {
 impl<K: Ord + Copy, V: Copy> Model for Cells<K, V> {
     ghost use Rattle.std.specs.Prelude.{List};
     ghost use Rattle.slab.specs.Slab.{get};
-    ghost use Rattle.fm_net.specs.Cells.{shown, AreKept};
+    ghost use Rattle.fm_net.specs.Cells.{pairs_in, AreKept};
 
     ghost Value = { List (K × V) };
 
-    ghost view = { λ c. shown (get c.cells) c.places.entries };
+    ghost view = { λ c. pairs_in (get c.cells) c.places.entries };
 
     ghost invariant = { λ c. AreKept K.cmp c.cells c.places.entries };
 }
@@ -66,7 +66,7 @@ impl<K: Ord + Copy, V: Copy> Cells<K, V> {
     /// runs out, all is unchanged. O(log n).
     pub(crate) fn put(&mut self, key: K, value: V) -> Result<Option<V>, OutOfMemory>
         requires { TellsApart K.cmp }
-        ensures ok { OnOk result (self.new ≡ put K.cmp replaced key value self.old) }
+        ensures ok { OnOk result (self.new ≡ put K.cmp keep_new key value self.old) }
         ensures stood { IfOk result (λ old. old ≡ lookup K.cmp key self.old) }
         ensures err { OnErr result (self.new ≡ self.old) }
     {
@@ -130,11 +130,11 @@ pub(crate) struct Pairs<'a, K: Copy, V: Copy> {
 impl<'a, K: Copy, V: Copy> Model for Pairs<'a, K, V> {
     ghost use Rattle.std.specs.Prelude.{List};
     ghost use Rattle.slab.specs.Slab.{get};
-    ghost use Rattle.fm_net.specs.Cells.{shown, EachHasCell};
+    ghost use Rattle.fm_net.specs.Cells.{pairs_in, EachHasCell};
 
     ghost Value = { List (K × V) };
 
-    ghost view = { λ s. shown (get s.cells.now) s.places };
+    ghost view = { λ s. pairs_in (get s.cells.now) s.places };
 
     ghost invariant = { λ s. EachHasCell (get s.cells.now) s.places };
 }

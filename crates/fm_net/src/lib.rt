@@ -8,5 +8,4 @@ pub mod making;
 pub mod network;
 pub mod node;
 mod ordered;
-pub mod rising;
 pub mod walks;

@@ -1,7 +1,7 @@
 //! Making edits.
 
 ghost use Rattle.std.specs.Prelude.{◌≡◌, OnOk, OnErr};
-ghost use Rattle.fm_net.specs.Edits.{edited, after, MayEdit, MayEditAll, IsPartMade};
+ghost use Rattle.fm_net.specs.Edits.{after_edit, after, MayEdit, MayEditAll, IsPartMade};
 
 use crate::edit::Edit;
 use crate::network::Network;
@@ -13,7 +13,7 @@ const FEW: usize = 8;
 // Makes one edit.
 fn make(network: &mut Network, edit: &Edit) -> Result<(), OutOfMemory>
     requires { MayEdit network.old edit.now }
-    ensures ok { OnOk result (network.new ≡ edited edit.now network.old) }
+    ensures ok { OnOk result (network.new ≡ after_edit edit.now network.old) }
     ensures err { OnErr result (network.new ≡ network.old) }
 {
     match *edit {

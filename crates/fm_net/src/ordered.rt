@@ -5,13 +5,13 @@ ghost use Rattle.std.specs.Iterator.{YieldsFirst, item_count};
 ghost use Rattle.std.specs.Map.{remove_entry};
 ghost use Rattle.std.specs.BTreeMap.{is_at};
 ghost use Rattle.std.specs.Cmp.Lexicographic.{pointwise};
-ghost use Rattle.fm_lattice.specs.Maps.{lookup, put, replaced, IsRising};
+ghost use Rattle.fm_lattice.specs.Maps.{lookup, put, keep_new, IsRising};
 ghost use Rattle.fm_net.specs.Cells.{IsPlainClone};
 
 use crate::cells::{self, Cells};
-use crate::rising::{set, take, value_at};
 use fm_lattice::chain::Chain;
 use fm_lattice::join::OutOfMemory;
+use fm_lattice::rising::{set, take, value_at};
 use std::alloc::Global;
 use std::fmt;
 use std::marker::Model;
@@ -74,7 +74,7 @@ impl<K: Chain, V: Copy> Ordered<K, V> {
     /// the pairs are unchanged. Amortised O(1) after the last key of packed pairs, O(n log n) once, when a new key
     /// moves them into cells, and O(log n) else.
     pub(crate) fn put(&mut self, key: K, value: V) -> Result<Option<V>, OutOfMemory>
-        ensures ok { OnOk result (self.new ≡ put K.cmp replaced key value self.old) }
+        ensures ok { OnOk result (self.new ≡ put K.cmp keep_new key value self.old) }
         ensures stood { IfOk result (λ old. old ≡ lookup K.cmp key self.old) }
         ensures err { OnErr result (self.new ≡ self.old) }
     {

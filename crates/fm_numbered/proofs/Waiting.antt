@@ -22,7 +22,7 @@ use Rattle.fm_net.specs.NodeOrder.{ends_exact, ends_total}
 use Rattle.fm_net.specs.ListLaws.{entry_member}
 use Rattle.fm_net.specs.Net.{Net, CanBeNet, has_node, arc_at}
 use Rattle.fm_net.specs.Network.{is_live_of, is_held, live_tasks, is_node, arc_of, IsNetworkOf}
-use Rattle.fm_net.specs.NetworkLaws.{passed, kept, where_true, live_entry}
+use Rattle.fm_net.specs.NetworkLaws.{passes_some, only_if_some, where_true, live_entry}
 use Rattle.fm_net.specs.Same.{same_node, node_Decides}
 use Rattle.fm_certificate.specs.Totals.{source, target}
 use Rattle.fm_certificate.proofs.Alike.{same_itself}
@@ -109,9 +109,9 @@ module _ (k : Table) (net : Net) (can : CanBeNet net) (of : IsNetworkOf k net) w
 
   live_job : (t : ℕ) (s : SpecReg) → live_spec k t ≡ Some s → (r : JobReg) × (job_of k s.job ≡ Some r)
   live_job t s e =
-      let h = (kept _ (spec_of k t) s e).1 in
+      let h = (only_if_some _ (spec_of k t) s e).1 in
       let stand = (both_true _ _ (both_true _ _ h).0).1 in
-      let r = passed (λ r. not r.withdrawn) (job_of k s.job) stand in
+      let r = passes_some (λ r. not r.withdrawn) (job_of k s.job) stand in
       (r.0, r.1)
 
   live_of : (t : ℕ) (s : SpecReg) → live_spec k t ≡ Some s → is_live_of k s.job t ≡ true
@@ -126,7 +126,7 @@ module _ (k : Table) (net : Net) (can : CanBeNet net) (of : IsNetworkOf k net) w
   other_job : (t j : ℕ) (s : SpecReg) (v : ℕ × ℕ) → live_spec k t ≡ Some s → arc_of k (Task t) (Unscheduled j) ≡ Some v → s.job ≡ j
   other_job t j s v e arc =
       let is = (where_true (is_live_of k j t) _ v arc).0 in
-      let p = passed (λ (x : SpecReg). x.job == j) (live_spec k t) is in
+      let p = passes_some (λ (x : SpecReg). x.job == j) (live_spec k t) is in
       let both : Some p.0 ≡ Some s = sym p.1 ∙ e in
       let same : p.0 ≡ s = cc in
       ap (λ (x : SpecReg). x.job) (sym same) ∙ eqb-true p.0.job j p.2
@@ -141,7 +141,7 @@ module _ (k : Table) (net : Net) (can : CanBeNet net) (of : IsNetworkOf k net) w
   pub task_sends : (t : ℕ) → IsTrue (has_node net (Task t)) → units_by source units_of (Task t) ≡ 1
   task_sends t h =
       let live = sym (of.each_node (Task t)) ∙ h in
-      let s = passed (λ (x : SpecReg). true) (live_spec k t) live in
+      let s = passes_some (λ (x : SpecReg). true) (live_spec k t) live in
       let v = job_arc t s.0 s.1 in
       let a : NetArc = ((Task t, Unscheduled s.0.job), v.0) in
       single (λ (b : NetArc). cond (same_node b.0.0 (Task t)) (units_of b) 0) net.arcs a can.arcs_rise (stands (Task t) (Unscheduled s.0.job) v.0 v.1)
@@ -282,7 +282,7 @@ module _ (k : Table) (net : Net) (can : CanBeNet net) (of : IsNetworkOf k net) w
     from_task (Machine m) v arc = no_some arc
     from_task (Task t) v arc =
         let is = (where_true (is_live_of k j t) _ v arc).0 in
-        let s = passed (λ (x : SpecReg). x.job == j) (live_spec k t) is in
+        let s = passes_some (λ (x : SpecReg). x.job == j) (live_spec k t) is in
         let f = live_entry k t s.0 s.1 in
         ((t, f.0), entry_member nat_cmp nat_same t f.0 k.tasks f.1, refl)
 

@@ -7,5 +7,5 @@ abbrev pub history_limit : ℕ
 history_limit = 1000000
 
 -- the world of these coordinators, to which nothing happened
-abbrev pub opened : List ℕ → WorldOfSets
-opened listed = opening_world (map (λ n. (n, history_limit)) listed)
+abbrev pub new_world : List ℕ → WorldOfSets
+new_world listed = opening_world (map (λ n. (n, history_limit)) listed)

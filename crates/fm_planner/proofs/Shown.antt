@@ -14,7 +14,7 @@ use Rattle.fm_records.specs.Facts.{job_of, live_spec, is_live, open_state, holde
 use Rattle.fm_net.specs.ListLaws.{entry_member}
 use Rattle.fm_net.specs.declared.node.Node.TheVariants.{Unscheduled, Request, Machine, Task}
 use Rattle.fm_net.specs.Network.{is_node, is_held, is_live_of, waits_for, room_arc, preferred_arc, arc_of}
-use Rattle.fm_net.specs.NetworkLaws.{passed, came_from, mapped_from, room_from}
+use Rattle.fm_net.specs.NetworkLaws.{passes_some, came_from, mapped_from, room_from}
 use Rattle.fm_certificate.proofs.Members.{member_lookup}
 use Rattle.std.specs.Cmp.{nat_cmp_total}
 use Rattle.fm_tally.specs.declared.tally.LiveTask.{LiveTask}
@@ -26,7 +26,7 @@ use Rattle.fm_ways.specs.declared.way.Way.TheVariants.{ToJob, ByRequest, Straigh
 use Rattle.fm_ways.specs.Ways.{MayGo, ways_of, goes_by, takes_slot}
 use Rattle.fm_ways.specs.Prices.{first_node, arc_cost, cost_beyond, cost_from, AreFair}
 use Rattle.fm_ways.specs.Plans.{InTurn, all_at_jobs}
-use Rattle.fm_ways.specs.Moves.{rest_at, rest, moved, AreMoves, FitMoves}
+use Rattle.fm_ways.specs.Moves.{rest_at, rest, ways_with, AreMoves, FitMoves}
 use Rattle.fm_ways.proofs.Moves.{asked_count, slot_count}
 use Rattle.fm_ways.proofs.Stands.{live_job}
 use Rattle.fm_ways.proofs.Fair.{waits_spec, not_held}
@@ -68,7 +68,7 @@ straight_request e = absurd (let no : ⊥ = cc in no)
 
 module _ (k : Table) (tally : Tally) (claim : Claim) (counts : Counts) (is_for : TallyIsFor k tally) (counted : AreCounts k claim.moves counts) (can_be : CanBe k) (rises : IsRising nat_cmp claim.moves) (tested : Passes k tally claim counts) where
   abbrev way : ℕ → Way
-  way = moved k claim.moves
+  way = ways_with k claim.moves
 
   fair_task : (t : ℕ) (x : LiveTask) → task_at k t ≡ Some x → IsFairTask k tally claim (t, x)
   fair_task t x e = all_at (IsFairTask k tally claim) tally.tasks tested.tasks t x (is_for.tasks t ∙ e)
@@ -122,7 +122,7 @@ module _ (k : Table) (tally : Tally) (claim : Claim) (counts : Counts) (is_for :
       record {
         waits = (λ i. passes (λ (s : SpecReg). s.request == r) (f.live i) && not (free i)) ∙ ap (λ b. b && true) (eq-eqb f.spec.request r request);
         pays = λ j job live known.
-            let s = passed (λ (s : SpecReg). s.job == j) (live_spec k t) live in
+            let s = passes_some (λ (s : SpecReg). s.job == j) (live_spec k t) live in
             let spec : f.spec ≡ s.0 = some_is (sym f.live ∙ s.1) in
             let own : f.spec.job ≡ j = ap (λ (x : SpecReg). x.job) spec ∙ eqb-true s.0.job j s.2 in
             let same : f.job ≡ job = some_is (sym f.known ∙ ap (job_of k) own ∙ known) in
@@ -223,7 +223,7 @@ module _ (k : Table) (tally : Tally) (claim : Claim) (counts : Counts) (is_for :
   are_moves = record { rise = rises; live = live }
     where
       live : (t : ℕ) (w : Way) → lookup nat_cmp t claim.moves ≡ Some w → is_live k t ≡ true
-      live t (ToJob j) e = let l = move_left t j e in let s = passed (λ (s : SpecReg). s.job == j) (live_spec k t) l.live in ap (passes (λ (s : SpecReg). true)) s.1
+      live t (ToJob j) e = let l = move_left t j e in let s = passes_some (λ (s : SpecReg). s.job == j) (live_spec k t) l.live in ap (passes (λ (s : SpecReg). true)) s.1
       live t (ByRequest r m) e = let a = move_asked t r m e in let s = waits_spec k t r a.waits in ap (passes (λ (s : SpecReg). true)) s.1
       live t (Straight m) e = ap (passes (λ (s : SpecReg). true)) (move_straight t m e).live
 
@@ -346,7 +346,7 @@ module _ (k : Table) (tally : Tally) (claim : Claim) (counts : Counts) (is_for :
       stays : (t m j p : ℕ) (job : JobReg) → holder_of k t ≡ Some m → way t ≡ Straight p → IsTrue (is_live_of k j t) → job_of k j ≡ Some job → price_of k claim m - load_of k m ≤ job.preempt
       stays t m j p job held is live known = way_is t (Straight p) _ is
           (λ e _.
-          let s = passed (λ (s : SpecReg). s.job == j) (live_spec k t) live in
+          let s = passes_some (λ (s : SpecReg). s.job == j) (live_spec k t) live in
           let own = eqb-true s.0.job j s.2 in
           let x = in_tally k t s.0 job s.1 (ap (job_of k) own ∙ known) in
           let fair = (fair_task t (entry_of k t s.0 job) x).rests e in
@@ -361,7 +361,7 @@ module _ (k : Table) (tally : Tally) (claim : Claim) (counts : Counts) (is_for :
           (λ _ rests. job_straight (sym (free_rests t (not_held k t r waits)) ∙ rests))
           (λ e.
           let g = move_straight t m e in
-          let s = passed (λ (s : SpecReg). s.job == j) (live_spec k t) live in
+          let s = passes_some (λ (s : SpecReg). s.job == j) (live_spec k t) live in
           let one : g.spec ≡ s.0 = some_is (sym g.live ∙ s.1) in
           let own : g.spec.job ≡ j = ap (λ (x : SpecReg). x.job) one ∙ eqb-true s.0.job j s.2 in
           let q = waits_spec k t r waits in

@@ -5,7 +5,7 @@ ghost use Rattle.std.specs.Ordering.{nat_cmp};
 ghost use Rattle.fm_lattice.specs.Maps.{lookup};
 ghost use Rattle.fm_planner.specs.Claims.{rise_of, offer_of};
 
-use fm_net::rising::value_near;
+use fm_lattice::rising::value_near;
 use fm_records::ids::{MachineId, TaskId};
 use fm_tally::sorted::Sorted;
 use fm_ways::way::Way;

@@ -104,7 +104,8 @@ fn machine_of(way: &Way) -> Option<MachineId>
 // Adds one at the key, if there is one.
 fn count<K: Chain>(counts: &mut BTreeMap<K, u64>, key: &Option<K>) -> Result<(), OutOfMemory>
     requires { (q : K) → count_in K.cmp counts.old q + 1 < 2 ^ 64 }
-    ensures { OnOk result ((q : K) → count_in K.cmp counts.new q ≡ count_in K.cmp counts.old q + cond (passes (λ p. is_at (K.cmp p) q) key.now) 1 0) }
+    ensures { OnOk result ((q : K) → count_in K.cmp counts.new q
+        ≡ count_in K.cmp counts.old q + cond (passes (λ p. is_at (K.cmp p) q) key.now) 1 0) }
 {
     let Some(key) = *key else {
         return Ok(());

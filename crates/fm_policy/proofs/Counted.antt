@@ -17,7 +17,7 @@ use Rattle.fm_net.specs.declared.node.Node.TheVariants.{Unscheduled, Request}
 use Rattle.fm_net.specs.Network.{is_node, is_live_of, waits_for, live_tasks}
 use Rattle.fm_policy.specs.declared.live_task.LiveTask.{LiveTask}
 use Rattle.fm_policy.specs.LiveTasks.{live_task, all_live, waiting_request}
-use Rattle.fm_net.specs.NetworkLaws.{passed, kept}
+use Rattle.fm_net.specs.NetworkLaws.{passes_some, only_if_some}
 use Rattle.fm_policy.proofs.Parts.{spec_tested}
 use Rattle.fm_policy.proofs.Finished.{some_found, and_left, and_right}
 use Rattle.fm_policy.proofs.Listed.{HasKey, listed}
@@ -118,6 +118,6 @@ module _ (k : Table) where
   job_listed j h =
       let found = some_found (is_live_of k j) k.tasks h in
       let live = spec_tested k (λ s. s.job == j) found.0 found.1 in
-      let tested = (kept _ (spec_of k found.0) live.0 live.1).1 in
-      let stands = passed (λ r. not r.withdrawn) (job_of k live.0.job) (and_right _ _ (and_left _ _ tested)) in
+      let tested = (only_if_some _ (spec_of k found.0) live.0 live.1).1 in
+      let stands = passes_some (λ r. not r.withdrawn) (job_of k live.0.job) (and_right _ _ (and_left _ _ tested)) in
       subst (λ i. HasKey i k.jobs) (eqb-true live.0.job j live.2) (listed live.0.job k.jobs stands.0 stands.1)

@@ -1,6 +1,6 @@
 -- The nodes and arcs of a table's network, one by one.
 use Rattle.std.proofs.Common.{◌≡◌, ℕ, ◌-◌, Bool, true, false, cond, Option, Some, None, refl, sym, ◌∙◌, ap, eq-eqb}
-use Rattle.std.specs.Prelude.{◌==◌, ◌&&◌, not, nat_le, option_map, is_some}
+use Rattle.std.specs.Prelude.{◌==◌, ◌&&◌, not, option_map, is_some}
 use Rattle.std.specs.Ordering.{nat_cmp}
 use Rattle.fm_lattice.specs.Maps.{lookup}
 use Rattle.fm_records.specs.declared.records.JobReg.{JobReg}
@@ -8,7 +8,7 @@ use Rattle.fm_records.specs.declared.records.SpecReg.{SpecReg}
 use Rattle.fm_records.specs.declared.records.MachineReg.{MachineReg}
 use Rattle.fm_records.specs.Options.{when, and_then, only_if, passes}
 use Rattle.fm_records.specs.Table.{Table}
-use Rattle.fm_records.specs.Facts.{job_of, spec_of, live_spec, state_of, open_state, is_open, holder_of, load_of, spare_of}
+use Rattle.fm_records.specs.Facts.{job_of, spec_of, live_spec, state_of, open_state, is_open, holder_of, spare_of}
 use Rattle.fm_net.specs.declared.node.Node.TheVariants.{Sink, Unscheduled, Request, Machine, Task}
 use Rattle.fm_net.specs.Network.{is_node, is_held, is_live_of, waits_for, live_tasks, place_arc, room_arc, preferred_arc, arc_of}
 use Rattle.fm_policy.proofs.Listed.{HasKey, listed, some_listed}
@@ -94,13 +94,6 @@ module _ (k : Table) where
   pub request_to_machine : (r m : ℕ) (o : Option (ℕ × ℕ)) → is_node k (Request r) ≡ true → room_arc k r m ≡ o → arc_of k (Request r) (Machine m) ≡ o
   request_to_machine r m o waits e = λ i. cond (waits i) (e i) None
 
-  pub spare_is : (m : ℕ) (s : MachineReg) → open_state k m ≡ Some s → spare_of k m ≡ when (nat_le (load_of k m) s.nic) (s.nic - load_of k m)
-  spare_is m s e = ap (and_then (λ r. when (nat_le (load_of k m) r.nic) (r.nic - load_of k m))) e
-
   -- a request that is a node has an arc exactly if a machine has room
   pub place_there : (r m : ℕ) → is_node k (Request r) ≡ true → is_some (arc_of k (Request r) (Machine m)) ≡ true → is_some (room_arc k r m) ≡ true
   place_there r m waits some = ap is_some (sym (request_to_machine r m (room_arc k r m) waits refl)) ∙ some
-
-  -- an open machine has room as its state says
-  pub room_open : (r m : ℕ) (s : MachineReg) → open_state k m ≡ Some s → room_arc k r m ≡ and_then (place_arc k r m s) (when (nat_le (load_of k m) s.nic) (s.nic - load_of k m))
-  room_open r m s e = λ i. and_then (λ state. and_then (place_arc k r m state) (spare_is m s e i)) (e i)

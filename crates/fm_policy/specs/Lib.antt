@@ -6,4 +6,6 @@ pub mod Changes
 pub mod ChangeLaws
 pub mod LiveTasks
 pub mod Rooms
+pub mod RoomLaws
+pub mod Rules
 pub mod Surveys

@@ -1,28 +1,38 @@
--- What the open machines of a table have left.
-use Rattle.std.specs.Prelude.{ℕ, ◌+◌, ◌≤◌, ◌/◌, cond, ◌==◌, List, Option, option_map, min, nat_le}
+-- What open machines have left.
+use Rattle.std.specs.Prelude.{ℕ, ◌+◌, ◌-◌, ◌≤◌, ◌/◌, cond, ◌==◌, List, Option, min, nat_le}
 use Rattle.std.specs.List.{filter_map}
+use Rattle.fm_records.specs.declared.records.MachineReg.{MachineReg}
 use Rattle.fm_records.specs.Options.{when, and_then}
 use Rattle.fm_records.specs.Table.{Table}
-use Rattle.fm_records.specs.Facts.{open_state, load_of, spare_of}
+use Rattle.fm_records.specs.Facts.{open_state, load_of}
 use Rattle.fm_policy.specs.declared.room.Room.{Room}
 
--- the room on the machine, if it is open and its load is within its bandwidth
+-- the room on an open machine with this state and this load, if the load is within its bandwidth
+abbrev pub room_of : ℕ → MachineReg → ℕ → Option Room
+room_of m state load = when (nat_le load state.nic) (record { machine = m; slots = state.slots; load = load; bandwidth = state.nic })
+
+-- the room on the machine of a table, if it is open and its load is within its bandwidth
 abbrev pub room_at : Table → ℕ → Option Room
-room_at k m = and_then (λ state. option_map (λ spare. record { machine = m; slots = state.slots; load = load_of k m; spare = spare }) (spare_of k m)) (open_state k m)
+room_at k m = and_then (λ state. room_of m state (load_of k m)) (open_state k m)
 
 -- the rooms, by id
 abbrev pub all_rooms : Table → List Room
 all_rooms k = filter_map (λ e. room_at k e.0) k.machines
 
+-- what the load leaves of the bandwidth
+abbrev pub spare_in : Room → ℕ
+spare_in room = room.bandwidth - room.load
+
 -- how many tasks of the request fit: as many as there are slots, and as fit into the spare
 abbrev pub places_in : Room → ℕ → ℕ
-places_in room r = cond (r == 0) room.slots (min room.slots (room.spare / r))
+places_in room r = cond (r == 0) room.slots (min room.slots (spare_in room / r))
 
 -- how many fit and what each costs, if one fits
 abbrev pub fit_in : Room → ℕ → Option (ℕ × ℕ)
-fit_in room r = when (nat_le r room.spare) (places_in room r, r + room.load)
+fit_in room r = when (nat_le r (spare_in room)) (places_in room r, r + room.load)
 
 -- what a room can have
 pub record RoomWithin (room : Room) : Type 0 where
   pub slots_above : 1 ≤ room.slots
-  pub bandwidth : room.spare + room.load ≤ 1000000
+  pub load : room.load ≤ room.bandwidth
+  pub bandwidth : room.bandwidth ≤ 1000000

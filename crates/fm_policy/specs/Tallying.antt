@@ -17,11 +17,11 @@ abbrev pub held_in : Tallies → ℕ → ℕ
 held_in tallies m = unwrap_or (get nat_cmp tallies.held m) 0
 
 -- what one live task adds to a job, and to a machine
-abbrev pub counted : ℕ → LiveTask → ℕ
-counted j live = cond (live.spec.job == j) 1 0
+abbrev pub count_of_job : ℕ → LiveTask → ℕ
+count_of_job j live = cond (live.spec.job == j) 1 0
 
-abbrev pub requested : ℕ → LiveTask → ℕ
-requested m live = cond (passes (λ h. h == m) live.holder) live.spec.request 0
+abbrev pub request_on : ℕ → LiveTask → ℕ
+request_on m live = cond (passes (λ h. h == m) live.holder) live.spec.request 0
 
 -- the live tasks of each job, and the requests of the tasks that each machine holds
 pub record IsTally (k : Table) (tallies : Tallies) : Type 0 where

@@ -11,6 +11,7 @@ ghost use Rattle.fm_policy.specs.Surveys.{IsSurvey};
 
 use crate::live_task::LiveTask;
 use crate::room::Room;
+use crate::rules::{job_price, preferred_cost};
 use crate::survey::Survey;
 use fm_know::knowledge::Knowledge;
 use fm_know::laws::law_can_be;
@@ -198,10 +199,7 @@ fn put_unscheduled(
     let Some(job) = knowledge.job(live.spec.job) else {
         unreachable!()
     };
-    let price = match live.holder {
-        Some(_) => job.preempt,
-        None => job.wait,
-    };
+    let price = job_price(&job, live.holder);
     network.put_arc(
         Node::Task(live.task),
         Node::Unscheduled(live.spec.job),
@@ -303,7 +301,7 @@ fn put_preferred(
     let Some((_, cost)) = room.fit(live.spec.request) else {
         return Ok(());
     };
-    let cost = cost.saturating_sub(credit);
+    let cost = preferred_cost(cost, credit);
     network.put_arc(Node::Task(live.task), Node::Machine(machine), 1, cost)?;
     Ok(())
 }

@@ -10,6 +10,7 @@ mod live_task;
 mod nodes;
 pub mod pending;
 pub mod rebuilder;
-mod room;
+pub mod room;
+pub mod rules;
 mod survey;
 mod tallies;

@@ -1,27 +1,45 @@
 //! What the open machines have left.
 
-ghost use Rattle.std.specs.Prelude.{◌≡◌, ◌≤◌, ◌+◌, IfOk, IfSome};
+ghost use Rattle.std.specs.Prelude.{◌≡◌, ◌≤◌, ◌+◌, ◌-◌, IfOk, IfSome};
 ghost use Rattle.std.specs.List.{filter_map};
+ghost use Rattle.fm_know.specs.Limits.{StateWithin};
 ghost use Rattle.fm_policy.specs.Building.{IsWithinArcs};
-ghost use Rattle.fm_policy.specs.Rooms.{room_at, all_rooms, places_in, fit_in, RoomWithin};
+ghost use Rattle.fm_policy.specs.Rooms.{room_of, room_at, all_rooms, spare_in, places_in, fit_in, RoomWithin};
 ghost use Rattle.fm_policy.specs.Tallying.{IsTally};
 
 use crate::tallies::Tallies;
 use fm_know::knowledge::Knowledge;
 use fm_lattice::join::OutOfMemory;
 use fm_records::ids::MachineId;
+use fm_records::records::MachineReg;
 use std::alloc::Global;
 
-/// An open machine whose load is within its bandwidth, and how much of that is spare.
+/// An open machine whose load is within its bandwidth: what it has for tasks, and what they cost there.
 #[derive(Debug, Clone, Copy, Drop)]
-pub(crate) struct Room {
+pub struct Room {
     pub(crate) machine: MachineId,
     slots: u32,
     load: u32,
-    spare: u32,
+    bandwidth: u32,
 }
 
 impl Room {
+    /// The room on an open machine with this state and this load; none if the load is greater than the bandwidth.
+    pub fn new(machine: MachineId, state: &MachineReg, load: u128) -> Option<Room>
+        ensures room { result ≡ room_of machine state.now load }
+        ensures within { StateWithin state.now → IfSome result RoomWithin }
+    {
+        if load > u128::from(state.nic) {
+            return None;
+        }
+        Some(Room {
+            machine,
+            slots: state.slots,
+            load: load as u32,
+            bandwidth: state.nic,
+        })
+    }
+
     /// The room on the machine, if it is open and its load is within its bandwidth. O(log n).
     pub(crate) fn of(knowledge: &Knowledge, tallies: &Tallies, machine: MachineId) -> Option<Room>
         requires tally { IsTally knowledge.now tallies.now }
@@ -29,29 +47,26 @@ impl Room {
         ensures within { IfSome result RoomWithin }
     {
         let state = knowledge.open_state(machine)?;
-        let load = tallies.load_of(knowledge, machine);
-        if load > u128::from(state.nic) {
-            return None;
-        }
-        let load = load as u32;
-        Some(Room {
-            machine,
-            slots: state.slots,
-            load,
-            spare: state.nic - load,
-        })
+        Room::new(machine, &state, tallies.load_of(knowledge, machine))
     }
 
-    /// How many tasks of the request fit, and what each costs, if one fits.
-    pub(crate) fn fit(&self, request: u32) -> Option<(u64, u32)>
-        requires { RoomWithin self.now }
+    /// How many tasks of the request fit, at most 2^32 - 1, and what each costs, which is the request and the load; none
+    /// if the request is greater than what the load leaves of the bandwidth.
+    pub fn fit(&self, request: u32) -> Option<(u64, u32)>
         ensures fit { result ≡ fit_in self.now request }
-        ensures within { IfSome result IsWithinArcs }
+        ensures within { RoomWithin self.now → IfSome result IsWithinArcs }
     {
-        if request > self.spare {
+        if request > self.spare() {
             return None;
         }
         Some((u64::from(self.places(request)), request + self.load))
+    }
+
+    // What the load leaves of the bandwidth.
+    fn spare(&self) -> u32
+        ensures { result ≡ spare_in self.now }
+    {
+        self.bandwidth.saturating_sub(self.load)
     }
 
     // How many tasks of the request fit into the slots and the spare bandwidth.
@@ -61,7 +76,7 @@ impl Room {
         if request == 0 {
             self.slots
         } else {
-            self.slots.min(self.spare / request)
+            self.slots.min(self.spare() / request)
         }
     }
 }

@@ -3,9 +3,10 @@
 ghost use Rattle.std.specs.Prelude.{◌≡◌, ◌<◌, ◌+◌, ◌≤◌, ◌^◌, ℕ, cond, unwrap_or, IfOk, OnOk, length};
 ghost use Rattle.fm_records.specs.Facts.{load_of};
 ghost use Rattle.fm_policy.specs.LiveTasks.{all_live};
-ghost use Rattle.fm_policy.specs.Tallying.{live_in, held_in, counted, requested, IsTally};
+ghost use Rattle.fm_policy.specs.Tallying.{live_in, held_in, count_of_job, request_on, IsTally};
 
 use crate::live_task::LiveTask;
+use crate::rules::machine_load;
 use fm_know::knowledge::Knowledge;
 use fm_know::laws::law_can_be;
 use fm_lattice::join::OutOfMemory;
@@ -45,8 +46,8 @@ impl Tallies {
     fn add(&mut self, live: &LiveTask) -> Result<(), OutOfMemory>
         requires live_fits { (j : ℕ) → live_in self.old j + 1 < 2 ^ 64 }
         requires held_fits { (m : ℕ) → held_in self.old m + 2 ^ 32 < 2 ^ 128 }
-        ensures live { OnOk result ((j : ℕ) → live_in self.new j ≡ live_in self.old j + counted j live.now) }
-        ensures held { OnOk result ((m : ℕ) → held_in self.new m ≡ held_in self.old m + requested m live.now) }
+        ensures live { OnOk result ((j : ℕ) → live_in self.new j ≡ live_in self.old j + count_of_job j live.now) }
+        ensures held { OnOk result ((m : ℕ) → held_in self.new m ≡ held_in self.old m + request_on m live.now) }
     {
         let count = self.live_of(live.spec.job);
         self.live.insert(live.spec.job, count + 1)?;
@@ -76,7 +77,6 @@ impl Tallies {
     pub(crate) fn load_of(&self, knowledge: &Knowledge, machine: MachineId) -> u128
         ensures { IsTally knowledge.now self.now → result ≡ load_of knowledge.now machine }
     {
-        let used = u128::from(knowledge.used(machine));
-        used.max(self.held_of(machine))
+        machine_load(knowledge.used(machine), self.held_of(machine))
     }
 }

@@ -36,11 +36,11 @@ member_after q None xs h = h
 member_after q (Some k) xs h = inr h
 
 -- an operation that gives a value at a name mentions the name
-pub named : {V K : Type 0} (f : Op → Option V) (name : Op → Option K) (join : V → V → V) (q : K) → ((o : Op) (v : V) → f o ≡ Some v → name o ≡ Some q) → (S : List Op) (v : V) → all_of join (filter_map f S) ≡ Some v → IsMember q (filter_map name S)
-named f name join q says [] v e = none_some v e
-named f name join q says (o ∷ S) v e =
+pub names_member : {V K : Type 0} (f : Op → Option V) (name : Op → Option K) (join : V → V → V) (q : K) → ((o : Op) (v : V) → f o ≡ Some v → name o ≡ Some q) → (S : List Op) (v : V) → all_of join (filter_map f S) ≡ Some v → IsMember q (filter_map name S)
+names_member f name join q says [] v e = none_some v e
+names_member f name join q says (o ∷ S) v e =
     elim (f o) as (λ r. f o ≡ r → all_of join (cons_option r (filter_map f S)) ≡ Some v → IsMember q (cons_option (name o) (filter_map name S))) [
-      | None ↦ λ _ h. member_after q (name o) (filter_map name S) (named f name join q says S v h)
+      | None ↦ λ _ h. member_after q (name o) (filter_map name S) (names_member f name join q says S v h)
       | Some w ↦ λ g _. subst (λ z. IsMember q (cons_option z (filter_map name S))) (sym (says o w g)) (inl refl)
     ] refl e
 
@@ -71,25 +71,25 @@ spot_names at c (op.Propose id attempt coordinator machine incarnation) v e =
 spot_names at c _ v e = none_some v e
 
 pub lookup_job : (S : List Op) (j : ℕ) → lookup nat_cmp j (know S).jobs ≡ job S j
-lookup_job S j = lookup_table nat_cmp nat_cmp_total nat_same (job S) (filter_map job_named S) j (λ v e. named (job_in j) job_named _ j (job_says j) S v e)
+lookup_job S j = lookup_table nat_cmp nat_cmp_total nat_same (job S) (filter_map job_named S) j (λ v e. names_member (job_in j) job_named _ j (job_says j) S v e)
 
 task_names : (S : List Op) (t : ℕ) (v : TaskValue) (a : Option SpecReg) (p : Option Progress) → spec S t ≡ a → told_progress S t ≡ p → task_value a p ≡ Some v → IsMember t (filter_map task_named S)
 task_names S t v None None e g h = none_some v h
-task_names S t v None (Some p) e g h = named (progress_in t) task_named _ t (progress_says t) S p g
-task_names S t v (Some a) p e g h = named (spec_in t) task_named _ t (spec_says t) S a e
+task_names S t v None (Some p) e g h = names_member (progress_in t) task_named _ t (progress_says t) S p g
+task_names S t v (Some a) p e g h = names_member (spec_in t) task_named _ t (spec_says t) S a e
 
 pub lookup_task : (S : List Op) (t : ℕ) → lookup nat_cmp t (know S).tasks ≡ task S t
 lookup_task S t = lookup_table nat_cmp nat_cmp_total nat_same (task S) (filter_map task_named S) t (λ v e. task_names S t v (spec S t) (told_progress S t) refl refl e)
 
 machine_names : (S : List Op) (m : ℕ) (v : MachineValue) (o : Option ℕ) → incarnation S m ≡ o → option_map (machine_at S m) o ≡ Some v → IsMember m (filter_map machine_named S)
 machine_names S m v None e h = none_some v h
-machine_names S m v (Some i) e h = named (incarnation_in m) machine_named _ m (incarnation_says m) S i e
+machine_names S m v (Some i) e h = names_member (incarnation_in m) machine_named _ m (incarnation_says m) S i e
 
 pub lookup_machine : (S : List Op) (m : ℕ) → lookup nat_cmp m (know S).machines ≡ machine S m
 lookup_machine S m = lookup_table nat_cmp nat_cmp_total nat_same (machine S) (filter_map machine_named S) m (λ v e. machine_names S m v (incarnation S m) refl e)
 
 pub lookup_entry : (S : List Op) (at : ℕ × ℕ) (c : ℕ) → lookup nat_cmp c (table nat_cmp (filter_map coordinator_named S) (entry S at)) ≡ entry S at c
-lookup_entry S at c = lookup_table nat_cmp nat_cmp_total nat_same (entry S at) (filter_map coordinator_named S) c (λ v e. named (spot_in at c) coordinator_named _ c (λ o w g. (spot_names at c o w g).1) S v e)
+lookup_entry S at c = lookup_table nat_cmp nat_cmp_total nat_same (entry S at) (filter_map coordinator_named S) c (λ v e. names_member (spot_in at c) coordinator_named _ c (λ o w g. (spot_names at c o w g).1) S v e)
 
 -- some key of the list has a value if the table has a row
 has_row : {K V : Type 0} (f : K → Option V) (xs : List K) (e : K × V) (es : List (K × V)) → filter_map (with_value f) xs ≡ e ∷ es → (k : K) × (v : V) × (f k ≡ Some v)
@@ -104,7 +104,7 @@ entries_names : (S : List Op) (at : ℕ × ℕ) (v : List (ℕ × Spot)) (t : Li
 entries_names S at v [] e h = none_some v h
 entries_names S at v (x ∷ xs) e h =
     let there = has_row (entry S at) (rising nat_cmp (filter_map coordinator_named S)) x xs e in
-    named (spot_in at there.0) attempt_named _ at (λ o w g. (spot_names at there.0 o w g).0) S there.1 there.2
+    names_member (spot_in at there.0) attempt_named _ at (λ o w g. (spot_names at there.0 o w g).0) S there.1 there.2
 
 pub lookup_entries : (S : List Op) (at : ℕ × ℕ) → lookup attempt_cmp at (know S).proposals ≡ entries S at
 lookup_entries S at = lookup_table attempt_cmp total_attempt same_attempt (entries S) (filter_map attempt_named S) at (λ v e. entries_names S at v _ refl e)

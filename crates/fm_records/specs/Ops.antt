@@ -29,13 +29,13 @@ abbrev pub is_preference : List (ℕ × ℕ) → Bool
 is_preference es = machines_rise es && list_all (λ e. is_price e.1) es
 
 -- the fields of an operation that have a range of their own, in order, and whether each is in it
-abbrev pub limited : Op → List (Field × Bool)
-limited (op.Job id version writer withdrawn wait preempt) = (field.Writer, is_coordinator writer) ∷ (field.Wait, is_price wait) ∷ (field.Preempt, is_price preempt) ∷ []
-limited (op.Spec id version writer withdrawn job request prefer) = (field.Writer, is_coordinator writer) ∷ (field.Request, is_bandwidth request) ∷ (field.Prefer, is_preference prefer) ∷ []
-limited (op.Progress id attempt phase) = []
-limited (op.Machine id incarnation version writer up slots nic) = (field.Writer, is_coordinator writer) ∷ (field.Slots, is_slots slots) ∷ (field.Nic, is_bandwidth nic) ∷ []
-limited (op.Report id incarnation number used) = (field.Used, is_use used) ∷ []
-limited (op.Propose id attempt coordinator machine incarnation) = (field.Coordinator, is_coordinator coordinator) ∷ []
+abbrev pub ranges_of : Op → List (Field × Bool)
+ranges_of (op.Job id version writer withdrawn wait preempt) = (field.Writer, is_coordinator writer) ∷ (field.Wait, is_price wait) ∷ (field.Preempt, is_price preempt) ∷ []
+ranges_of (op.Spec id version writer withdrawn job request prefer) = (field.Writer, is_coordinator writer) ∷ (field.Request, is_bandwidth request) ∷ (field.Prefer, is_preference prefer) ∷ []
+ranges_of (op.Progress id attempt phase) = []
+ranges_of (op.Machine id incarnation version writer up slots nic) = (field.Writer, is_coordinator writer) ∷ (field.Slots, is_slots slots) ∷ (field.Nic, is_bandwidth nic) ∷ []
+ranges_of (op.Report id incarnation number used) = (field.Used, is_use used) ∷ []
+ranges_of (op.Propose id attempt coordinator machine incarnation) = (field.Coordinator, is_coordinator coordinator) ∷ []
 
 -- the first field whose test fails
 abbrev pub first_failing : List (Field × Bool) → Option Field
@@ -44,4 +44,4 @@ first_failing (f ∷ fs) = cond f.1 (first_failing fs) (Some f.0)
 
 -- the first field of an operation that is out of its range
 abbrev pub op_fault : Op → Option Field
-op_fault o = first_failing (limited o)
+op_fault o = first_failing (ranges_of o)

@@ -31,10 +31,10 @@ machines_rise [] = true
 machines_rise (e ∷ es) = rises_above e.0 es
 
 -- the list, and after it zeros up to four entries
-abbrev pub filled : List (ℕ × ℕ) → List (ℕ × ℕ)
-filled l = take 4 (l ++ (0, 0) ∷ (0, 0) ∷ (0, 0) ∷ (0, 0) ∷ [])
+abbrev pub four_entries : List (ℕ × ℕ) → List (ℕ × ℕ)
+four_entries l = take 4 (l ++ (0, 0) ∷ (0, 0) ∷ (0, 0) ∷ (0, 0) ∷ [])
 
 -- a row of four, of which the first n are listed and the others are zeros
 pub record IsFilled (n : ℕ) (row : List (ℕ × ℕ)) : Type 0 where
   pub counted : length (take n row) ≡ n
-  pub rest : row ≡ filled (take n row)
+  pub rest : row ≡ four_entries (take n row)

@@ -11,7 +11,7 @@ use Rattle.fm_records.specs.Sets.{with_value}
 use Rattle.fm_records.specs.Table.{TaskValue}
 use Rattle.fm_records.specs.Know.{told_progress, spec, progress, task_value, task, know}
 use Rattle.fm_records.specs.Facts.{is_done, request_of, live_spec, is_live, job_stands, open_state, is_open, is_present, won_spot, winner_of, holder_of, holds, held_tasks, used_of, load_of, spare_of, has_room}
-use Rattle.fm_records.specs.SetFacts.{stands, live, opened, present, won, holder, is_held_by, tasks, held, used, requested, load, spare, room}
+use Rattle.fm_records.specs.SetFacts.{stands, live, state_if_up, present, won, holder, is_held_by, tasks, tasks_held, use_reported, request_asked, load, spare, room}
 use Rattle.fm_records.specs.LookupLaws.{none_some, lookup_job}
 use Rattle.fm_records.specs.FactLaws.{spec_part, spec_is, progress_is, incarnation_is, state_is, report_is, winner_is}
 
@@ -72,11 +72,11 @@ module _ (S : List Op) where
   pub is_live_is : (t : ℕ) → is_live (know S) t ≡ is_some (live S t)
   is_live_is t = ap (passes (λ s. true)) (live_is t) ∙ is_there (live S t)
 
-  pub opened_is : (m : ℕ) → open_state (know S) m ≡ opened S m
+  pub opened_is : (m : ℕ) → open_state (know S) m ≡ state_if_up S m
   opened_is m = ap (only_if (λ r. r.up)) (state_is S m)
 
-  pub is_open_is : (m : ℕ) → is_open (know S) m ≡ is_some (opened S m)
-  is_open_is m = ap (passes (λ r. true)) (opened_is m) ∙ is_there (opened S m)
+  pub is_open_is : (m : ℕ) → is_open (know S) m ≡ is_some (state_if_up S m)
+  is_open_is m = ap (passes (λ r. true)) (opened_is m) ∙ is_there (state_if_up S m)
 
   pub present_is : (s : Spot) → is_present (know S) s ≡ present S s
   present_is s = λ i. is_open_is s.machine i && passes (λ n. n == s.incarnation) (incarnation_is S s.machine i)
@@ -99,15 +99,15 @@ module _ (S : List Op) where
   not_held : (m t : ℕ) → task S t ≡ None → is_held_by S m t ≡ false
   not_held m t e = ap (λ (o : Option SpecReg). passes (λ h. h == m) (cond (is_some o) (option_map (λ s. s.machine) (only_if (present S) (won S t))) None)) (not_live t e)
 
-  request_is : (t : ℕ) (v : TaskValue) → task S t ≡ Some v → request_of v.0 ≡ requested S t
+  request_is : (t : ℕ) (v : TaskValue) → task S t ≡ Some v → request_of v.0 ≡ request_asked S t
   request_is t v e = ap request_of (ap (and_then (λ v. v.0)) (sym e) ∙ spec_part (spec S t) (told_progress S t))
 
-  pub held_sum : (m : ℕ) → sum_by (λ e. request_of e.1.0) (held_tasks (know S) m) ≡ sum_by (requested S) (held S m)
+  pub held_sum : (m : ℕ) → sum_by (λ e. request_of e.1.0) (held_tasks (know S) m) ≡ sum_by (request_asked S) (tasks_held S m)
   held_sum m =
       (λ i. sum_by (λ e. request_of e.1.0) (filter (λ e. held_by_is m e.0 i) (know S).tasks))
-      ∙ sum_rows (task S) (is_held_by S m) (not_held m) (λ v. request_of v.0) (requested S) request_is 0 (tasks S)
+      ∙ sum_rows (task S) (is_held_by S m) (not_held m) (λ v. request_of v.0) (request_asked S) request_is 0 (tasks S)
 
-  pub used_is : (m : ℕ) → used_of (know S) m ≡ used S m
+  pub used_is : (m : ℕ) → used_of (know S) m ≡ use_reported S m
   used_is m = ap (λ o. or_else 0 (option_map (λ r. r.used) o)) (report_is S m)
 
   pub load_is : (m : ℕ) → load_of (know S) m ≡ load S m

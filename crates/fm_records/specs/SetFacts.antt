@@ -22,12 +22,12 @@ abbrev pub live : List Op → ℕ → Option SpecReg
 live S t = only_if (λ s. not s.withdrawn && stands S s.job && not (is_done (progress S t).phase)) (spec S t)
 
 -- the state of an open machine: told at its incarnation, and up
-abbrev pub opened : List Op → ℕ → Option MachineReg
-opened S m = only_if (λ r. r.up) (state S m)
+abbrev pub state_if_up : List Op → ℕ → Option MachineReg
+state_if_up S m = only_if (λ r. r.up) (state S m)
 
 -- the machine at the spot is open and at its present incarnation
 abbrev pub present : List Op → Spot → Bool
-present S s = is_some (opened S s.machine) && passes (λ i. i == s.incarnation) (incarnation S s.machine)
+present S s = is_some (state_if_up S s.machine) && passes (λ i. i == s.incarnation) (incarnation S s.machine)
 
 -- the spot that the winner of a task's present attempt names
 abbrev pub won : List Op → ℕ → Option Spot
@@ -45,24 +45,24 @@ abbrev pub tasks : List Op → List ℕ
 tasks S = rising nat_cmp (filter_map task_named S)
 
 -- the tasks that the machine holds
-abbrev pub held : List Op → ℕ → List ℕ
-held S m = filter (is_held_by S m) (tasks S)
+abbrev pub tasks_held : List Op → ℕ → List ℕ
+tasks_held S m = filter (is_held_by S m) (tasks S)
 
 -- the use that the machine reported, 0 if it reported none
-abbrev pub used : List Op → ℕ → ℕ
-used S m = or_else 0 (option_map (λ r. r.used) (report S m))
+abbrev pub use_reported : List Op → ℕ → ℕ
+use_reported S m = or_else 0 (option_map (λ r. r.used) (report S m))
 
 -- what the task requests
-abbrev pub requested : List Op → ℕ → ℕ
-requested S t = request_of (spec S t)
+abbrev pub request_asked : List Op → ℕ → ℕ
+request_asked S t = request_of (spec S t)
 
 -- the greater of the reported use and the sum of the requests of all held tasks
 abbrev pub load : List Op → ℕ → ℕ
-load S m = max (used S m) (sum_by (requested S) (held S m))
+load S m = max (use_reported S m) (sum_by (request_asked S) (tasks_held S m))
 
 -- what the load leaves of an open machine's nic, none if the load is greater
 abbrev pub spare : List Op → ℕ → Option ℕ
-spare S m = and_then (λ r. when (nat_le (load S m) r.nic) (r.nic - load S m)) (opened S m)
+spare S m = and_then (λ r. when (nat_le (load S m) r.nic) (r.nic - load S m)) (state_if_up S m)
 
 -- there is a spare, and it is the request or more
 abbrev pub room : List Op → ℕ → ℕ → Bool

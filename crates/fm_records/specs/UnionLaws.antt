@@ -31,7 +31,7 @@ use Rattle.fm_records.specs.Know.{none_begun, job_in, spec_in, progress_in, inca
 use Rattle.fm_records.specs.Joined.{task_join, parts_join, machine_join, table_join}
 use Rattle.fm_records.specs.SetLaws.{all_of-append, absorbs}
 use Rattle.fm_records.specs.TableLaws.{some_none, rising_table}
-use Rattle.fm_records.specs.LookupLaws.{lookup_entry, named, none_some, when_true, both_true}
+use Rattle.fm_records.specs.LookupLaws.{lookup_entry, names_member, none_some, when_true, both_true}
 use Rattle.fm_records.specs.KnowLaws.{know_is, is_know}
 
 -- nothing is below (0, Pending)
@@ -99,7 +99,7 @@ module _ (S : List Op) (m n : ℕ) where
   above join f says missing =
       elim (all_of join (filter_map f S)) as (λ o. all_of join (filter_map f S) ≡ o → o ≡ None) [
         | None ↦ λ _. refl
-        | Some v ↦ λ e. absurd (missing (absorbs (max_join nat_cmp) (max_laws nat_cmp nat_cmp_total nat_same) n (filter_map (incarnation_in m) S) (named f (incarnation_in m) join n says S v e)))
+        | Some v ↦ λ e. absurd (missing (absorbs (max_join nat_cmp) (max_laws nat_cmp nat_cmp_total nat_same) n (filter_map (incarnation_in m) S) (names_member f (incarnation_in m) join n says S v e)))
       ] refl
 
   no_state : (greater (Some n) (incarnation S m) ≡ incarnation S m → ⊥) → state_at S m n ≡ None

@@ -14,7 +14,7 @@ ghost use Rattle.fm_records.specs.Ranges.{all_in_range, CanBe};
 ghost use Rattle.fm_records.specs.Table.{Table};
 ghost use Rattle.fm_records.specs.Joined.{machines_join, proposals_join, table_join};
 ghost use Rattle.fm_records.specs.Facts.{job_of, spec_of, progress_of, incarnation_of, state_of, report_of, entries_of, winner_of, job_stands, live_spec, open_state, holder_of, load_of, spare_of, has_room};
-ghost use Rattle.fm_records.specs.SetFacts.{stands, live, opened, holder, load, spare, room};
+ghost use Rattle.fm_records.specs.SetFacts.{stands, live, state_if_up, holder, load, spare, room};
 ghost use Rattle.fm_records.specs.Characterized.{IsGreatestOf, IsLeastOf, IsKnow};
 
 pub mod equal;
@@ -65,7 +65,7 @@ pub fn law_facts()
 pub fn law_facts_of_sets()
     ensures stands { (S : List Op) (j : ℕ) → job_stands (know S) j ≡ stands S j }
     ensures live { (S : List Op) (t : ℕ) → live_spec (know S) t ≡ live S t }
-    ensures opened { (S : List Op) (m : ℕ) → open_state (know S) m ≡ opened S m }
+    ensures opened { (S : List Op) (m : ℕ) → open_state (know S) m ≡ state_if_up S m }
     ensures holder { (S : List Op) (t : ℕ) → holder_of (know S) t ≡ holder S t }
     ensures load { (S : List Op) (m : ℕ) → load_of (know S) m ≡ load S m }
     ensures spare { (S : List Op) (m : ℕ) → spare_of (know S) m ≡ spare S m }

@@ -26,7 +26,7 @@ pub struct Prefer {
 
 impl Model for Prefer {
     ghost use Rattle.std.specs.Prelude.{ℕ, List, length, take};
-    ghost use Rattle.fm_records.specs.Preferences.{filled, IsFilled};
+    ghost use Rattle.fm_records.specs.Preferences.{four_entries, IsFilled};
 
     ghost Value = { List (ℕ × ℕ) };
 
@@ -34,7 +34,7 @@ impl Model for Prefer {
 
     ghost invariant = { λ p. IsFilled p.len p.row };
 
-    ghost inverse = { λ l. record { row = filled l; len = length l } };
+    ghost inverse = { λ l. record { row = four_entries l; len = length l } };
 }
 
 impl Prefer {

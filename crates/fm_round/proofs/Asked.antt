@@ -24,7 +24,7 @@ use Rattle.fm_net.specs.NetworkLaws.{came_from, is_network_of}
 use Rattle.fm_net.specs.ListLaws.{any_of, some_member, entry_member}
 use Rattle.fm_net.specs.EditLaws.{member_found}
 use Rattle.fm_round.specs.declared.planning.RequestUnit.{RequestUnit}
-use Rattle.fm_round.specs.Planned.{Units, Wait, units_over, wait_in, seats_in, unscheduled_in, waits, seats, place_at, place_of, placed_in, preempt_of, planned}
+use Rattle.fm_round.specs.Planned.{Units, Wait, units_over, wait_in, seats_in, unscheduled_in, waits, seats, place_at, place_of, placed_in, preempt_of, plan_of_flow}
 use Rattle.fm_round.specs.Asked.{waits_by, has_request, is_asked, waiting_after, is_asked_after}
 
 abbrev NetArc : Type 0
@@ -127,7 +127,7 @@ module _ (k : Table) (sent : Node → Node → ℕ) where
   nothing_placed ws ss _ member idle = refl
 
   -- the plan of the arcs that are asked for is that of all
-  pub same_plan : planned (filter (is_asked net) all) k ≡ planned all k
+  pub same_plan : plan_of_flow (filter (is_asked net) all) k ≡ plan_of_flow all k
   same_plan =
       let asked = filter (is_asked net) all in
       let w : waits asked ≡ waits all = filtered (is_asked net) wait_in all (λ e _. nobody_waits e) in

@@ -13,7 +13,7 @@ use Rattle.fm_round.specs.declared.parts.Place.{Place}
 use Rattle.fm_round.specs.declared.parts.Preempt.{Preempt}
 use Rattle.fm_round.specs.declared.parts.Plan.{Plan}
 use Rattle.fm_round.specs.declared.parts.Answer.{Answer}
-use Rattle.fm_round.specs.Admission.{told, is_accepted, one_entry, in_turn, place_ops, place_answer, preempt_ops, preempt_answer, placed, preempted, admitted, got_place, is_within_nic}
+use Rattle.fm_round.specs.Admission.{told, is_accepted, one_entry, in_turn, place_ops, place_answer, preempt_ops, preempt_answer, admission_of_places, admission_of_preempts, admission, got_place, is_within_nic}
 use Rattle.fm_round.specs.Holdings.{requests_of, share}
 use Rattle.fm_round.proofs.Told.{told_nothing, told_more, told_table}
 use Rattle.fm_round.proofs.Keeps.{Keeps, open_kept, used_kept}
@@ -105,14 +105,14 @@ and_true : (a b : Bool) → a && b ≡ true → (a ≡ true) × (b ≡ true)
 and_true true b e = (refl, e)
 and_true false b e = absurd (let no : ⊥ = cc in no)
 
-placed_within : (c m : ℕ) (ps : List Place) (k : Table) → IsTable k → (more : List Answer) → got_place ps ((placed c k ps).answers ++ more) m ≡ true → is_within_nic (told k (placed c k ps).ops) m ≡ true
+placed_within : (c m : ℕ) (ps : List Place) (k : Table) → IsTable k → (more : List Answer) → got_place ps ((admission_of_places c k ps).answers ++ more) m ≡ true → is_within_nic (told k (admission_of_places c k ps).ops) m ≡ true
 placed_within c m [] k form more e = absurd (let no : ⊥ = cc in no)
 placed_within c m (p ∷ ps) k form more e =
     let answer = place_answer c k p in
     let one = one_entry answer (place_ops c k p) in
     let l = told k one.ops in
-    subst (λ z. is_within_nic z m ≡ true) (told_more k form one.ops (placed c l ps).ops)
-    (elim (or_true (p.machine == m && is_accepted answer) (got_place ps ((placed c l ps).answers ++ more) m) e) [
+    subst (λ z. is_within_nic z m ≡ true) (told_more k form one.ops (admission_of_places c l ps).ops)
+    (elim (or_true (p.machine == m && is_accepted answer) (got_place ps ((admission_of_places c l ps).answers ++ more) m) e) [
       | inl here ↦
           let both = and_true (p.machine == m) (is_accepted answer) here in
           let own : is_within_nic l m ≡ true =
@@ -122,10 +122,10 @@ placed_within c m (p ∷ ps) k form more e =
       | inr later ↦ placed_within c m ps l (told_table k form one.ops) more later
     ])
 
-pub admitted_within : (c m : ℕ) (plan : Plan) (k : Table) → IsTable k → got_place plan.places (admitted k c plan).answers m ≡ true → is_within_nic (told k (admitted k c plan).ops) m ≡ true
+pub admitted_within : (c m : ℕ) (plan : Plan) (k : Table) → IsTable k → got_place plan.places (admission k c plan).answers m ≡ true → is_within_nic (told k (admission k c plan).ops) m ≡ true
 admitted_within c m plan k form e =
-    let first = placed c k plan.places in
+    let first = admission_of_places c k plan.places in
     let l = told k first.ops in
-    let then = preempted l plan.preempts in
+    let then = admission_of_preempts l plan.preempts in
     subst (λ z. is_within_nic z m ≡ true) (told_more k form first.ops then.ops)
     (all_keep preempt_answer preempt_ops m (λ x f q. preempt_keeps x f q m) plan.preempts l (told_table k form first.ops) (placed_within c m plan.places k form then.answers e))

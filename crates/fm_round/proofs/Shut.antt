@@ -7,7 +7,7 @@ use Rattle.fm_lattice.specs.Maps.{lookup}
 use Rattle.fm_records.specs.declared.records.MachineReg.{MachineReg}
 use Rattle.fm_records.specs.Table.{Table, TaskValue}
 use Rattle.fm_records.specs.Facts.{request_of, open_state, holds, held_tasks, load_of, spare_of}
-use Rattle.fm_net.specs.NetworkLaws.{held_ends, mapped_from, passed}
+use Rattle.fm_net.specs.NetworkLaws.{held_ends, mapped_from, passes_some}
 use Rattle.fm_tally.specs.declared.tally.OpenMachine.{OpenMachine}
 use Rattle.fm_tally.specs.declared.tally.Tally.{Tally}
 use Rattle.fm_tally.specs.Tallies.{TallyIsFor}
@@ -44,7 +44,7 @@ module _ (k : Table) (tally : Tally) (is_for : TallyIsFor k tally) (m : ℕ) whe
     holds_none t = elim (holds k m t) as (λ b. holds k m t ≡ b → b ≡ false) [
       | true ↦ λ held.
           let opened = (held_ends k t m held).to in
-          let state = passed (λ (r : MachineReg). true) (open_state k m) opened in
+          let state = passes_some (λ (r : MachineReg). true) (open_state k m) opened in
           let there = ap (option_map (open_with k m)) state.1 in
           some_none (open_with k m state.0) (sym there ∙ sym (is_for.machines m) ∙ absent)
       | false ↦ λ _. refl

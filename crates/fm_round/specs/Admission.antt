@@ -108,27 +108,27 @@ abbrev pub one_entry : Answer → List Op → Admitted
 one_entry answer ops = record { ops = cond (is_accepted answer) ops []; answers = answer ∷ [] }
 
 -- the one and then the other
-abbrev pub followed : Admitted → Admitted → Admitted
-followed a b = record { ops = a.ops ++ b.ops; answers = a.answers ++ b.answers }
+abbrev pub in_order : Admitted → Admitted → Admitted
+in_order a b = record { ops = a.ops ++ b.ops; answers = a.answers ++ b.answers }
 
 -- entries in turn, each decided on what is known with what the earlier ones added
 abbrev pub in_turn : {E : Type 0} → (Table → E → Answer) → (Table → E → List Op) → Table → List E → Admitted
 in_turn answer_to ops_of k [] = record { ops = []; answers = [] }
 in_turn answer_to ops_of k (e ∷ es) =
     let one = one_entry (answer_to k e) (ops_of k e) in
-    followed one (in_turn answer_to ops_of (told k one.ops) es)
+    in_order one (in_turn answer_to ops_of (told k one.ops) es)
 
-abbrev pub placed : ℕ → Table → List Place → Admitted
-placed c = in_turn (place_answer c) (place_ops c)
+abbrev pub admission_of_places : ℕ → Table → List Place → Admitted
+admission_of_places c = in_turn (place_answer c) (place_ops c)
 
-abbrev pub preempted : Table → List Preempt → Admitted
-preempted = in_turn preempt_answer preempt_ops
+abbrev pub admission_of_preempts : Table → List Preempt → Admitted
+admission_of_preempts = in_turn preempt_answer preempt_ops
 
 -- what is admitted of a plan of coordinator c: the places in turn, and then the preempts
-abbrev pub admitted : Table → ℕ → Plan → Admitted
-admitted k c plan =
-    let first = placed c k plan.places in
-    followed first (preempted (told k first.ops) plan.preempts)
+abbrev pub admission : Table → ℕ → Plan → Admitted
+admission k c plan =
+    let first = admission_of_places c k plan.places in
+    in_order first (admission_of_preempts (told k first.ops) plan.preempts)
 
 -- some place on the machine was accepted, if the answers begin with those to the places
 abbrev pub got_place : List Place → List Answer → ℕ → Bool

@@ -85,8 +85,8 @@ abbrev pub preempt_of : Table → ℕ → Option Preempt
 preempt_of k t = when (is_held k t) (record { task = t; attempt = attempt_of k t })
 
 -- both in the order of the tasks' ids
-abbrev pub planned : Units → Table → Plan
-planned f k = record {
+abbrev pub plan_of_flow : Units → Table → Plan
+plan_of_flow f k = record {
   places = filter_map (placed_in (waits f) (seats f) k) f;
   preempts = filter_map (preempt_of k) (filter_map unscheduled_in f);
 }

@@ -7,7 +7,7 @@ ghost use Rattle.fm_records.specs.Ranges.{in_range, all_in_range};
 ghost use Rattle.fm_records.specs.Spelled.{IsTable};
 ghost use Rattle.fm_records.specs.Facts.{attempt_of, open_state};
 ghost use Rattle.fm_know.specs.Limits.{StateWithin};
-ghost use Rattle.fm_round.specs.Admission.{told, is_accepted, last_attempt, has_proposal, place_ops, place_answer, preempt_ops, preempt_answer, one_entry, placed, preempted, admitted, got_place, is_within_nic};
+ghost use Rattle.fm_round.specs.Admission.{told, is_accepted, last_attempt, has_proposal, place_ops, place_answer, preempt_ops, preempt_answer, one_entry, admission_of_places, admission_of_preempts, admission, got_place, is_within_nic};
 ghost use Rattle.fm_round.specs.Hearings.{Took, IsReady};
 ghost use Rattle.fm_records.specs.Sets.{IsMember};
 ghost use Rattle.fm_round.specs.declared.parts.Place.{Place as Entry};
@@ -36,7 +36,7 @@ pub fn admit(
     coordinator: CoordId,
     plan: &Plan,
 ) -> Result<Admitted, OutOfMemory>
-    ensures admitted { IfOk result (λ a. a ≡ admitted knowledge.now coordinator plan.now) }
+    ensures admitted { IfOk result (λ a. a ≡ admission knowledge.now coordinator plan.now) }
     ensures in_range { IfOk result (λ a. IsTrue (all_in_range a.ops)) }
     ensures within_nic { IfOk result (λ a. (m : ℕ) → IsTrue (got_place plan.now.places a.answers m)
         → IsTrue (is_within_nic (told knowledge.now a.ops) m)) }
@@ -54,7 +54,7 @@ pub fn admit_by(
     plan: &Plan,
 ) -> Result<Admitted, OutOfMemory>
     requires { TallyIsFor knowledge.now tally.now }
-    ensures admitted { IfOk result (λ a. a ≡ admitted knowledge.now coordinator plan.now) }
+    ensures admitted { IfOk result (λ a. a ≡ admission knowledge.now coordinator plan.now) }
     ensures in_range { IfOk result (λ a. IsTrue (all_in_range a.ops)) }
     ensures within_nic { IfOk result (λ a. (m : ℕ) → IsTrue (got_place plan.now.places a.answers m)
         → IsTrue (is_within_nic (told knowledge.now a.ops) m)) }
@@ -73,7 +73,7 @@ fn admit_with(
 ) -> Result<Admitted, OutOfMemory>
     requires holdings { AreHoldings knowledge.now holdings }
     requires counted { (p : Entry) → IsMember p plan.now.places → IsTrue (is_counted holdings p.machine) }
-    ensures admitted { IfOk result (λ a. a ≡ admitted knowledge.now coordinator plan.now) }
+    ensures admitted { IfOk result (λ a. a ≡ admission knowledge.now coordinator plan.now) }
     ensures in_range { IfOk result (λ a. IsTrue (all_in_range a.ops)) }
     ensures within_nic { IfOk result (λ a. (m : ℕ) → IsTrue (got_place plan.now.places a.answers m)
         → IsTrue (is_within_nic (told knowledge.now a.ops) m)) }
@@ -132,7 +132,7 @@ impl Hearing {
         requires ready { IsReady self.old }
         requires holdings { AreHoldings self.old.now holdings }
         requires counted { (p : Entry) → IsMember p places.now → IsTrue (is_counted holdings p.machine) }
-        ensures took { OnOk result (Took (placed coordinator self.old.now places.now) self.old self.new) }
+        ensures took { OnOk result (Took (admission_of_places coordinator self.old.now places.now) self.old self.new) }
         ensures ready { OnOk result (IsReady self.new) }
     {
         let mut holdings = holdings;
@@ -145,7 +145,7 @@ impl Hearing {
     // Takes the preempts in their order.
     fn take_preempts(&mut self, preempts: &[Preempt]) -> Result<(), OutOfMemory>
         requires { IsReady self.old }
-        ensures took { OnOk result (Took (preempted self.old.now preempts.now) self.old self.new) }
+        ensures took { OnOk result (Took (admission_of_preempts self.old.now preempts.now) self.old self.new) }
         ensures ready { OnOk result (IsReady self.new) }
     {
         for preempt in preempts {

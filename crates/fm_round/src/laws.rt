@@ -10,7 +10,7 @@ ghost use Rattle.fm_net.specs.Nodes.{ends_cmp};
 ghost use Rattle.fm_net.specs.declared.node.Node.{Node};
 ghost use Rattle.fm_round.specs.Planned.{Units, units, waits, seats, tasks_of, machines_of};
 ghost use Rattle.fm_round.specs.declared.parts.Plan.{Plan};
-ghost use Rattle.fm_round.specs.Admission.{told, admitted};
+ghost use Rattle.fm_round.specs.Admission.{told, admission};
 ghost use Rattle.fm_round.specs.Stopping.{stops_of};
 
 pub mod equal;
@@ -23,7 +23,7 @@ pub fn law_told()
 /// Admission and stops depend on what is known alone: sets with the same table have the same admission and stops.
 pub fn law_sets()
     ensures admitted { (S T : List Op) (c : ℕ) (plan : Plan) → know S ≡ know T
-        → admitted (know S) c plan ≡ admitted (know T) c plan }
+        → admission (know S) c plan ≡ admission (know T) c plan }
     ensures stops { (S T : List Op) (c : ℕ) → know S ≡ know T → stops_of (know S) c ≡ stops_of (know T) c }
 {}
 

@@ -3,7 +3,7 @@
 ghost use Rattle.std.specs.Prelude.{◌≡◌, ◌∷◌, ◌++◌, [], cond, filter, IfOk, OnOk};
 ghost use Rattle.fm_net.specs.Network.{net_of};
 ghost use Rattle.fm_certificate.specs.Flows.{units_in, IsFeasible};
-ghost use Rattle.fm_round.specs.Planned.{units_over, planned};
+ghost use Rattle.fm_round.specs.Planned.{units_over, plan_of_flow};
 ghost use Rattle.fm_round.specs.Asked.{is_asked, waiting_after, is_asked_after};
 
 use crate::parts::Plan;
@@ -29,7 +29,7 @@ pub fn plan(
 ) -> Result<Plan, OutOfMemory>
     requires network { network.now ≡ net_of knowledge.now }
     requires feasible { IsFeasible network.now (units_in flow.now) }
-    ensures { IfOk result (λ plan. plan ≡ planned (units_over network.now (units_in flow.now)) knowledge.now) }
+    ensures { IfOk result (λ plan. plan ≡ plan_of_flow (units_over network.now (units_in flow.now)) knowledge.now) }
 {
     network.known();
     let units = asked(alloc, network, flow)?;

@@ -5,7 +5,7 @@ ghost use Rattle.std.specs.List.{filter_map, slice_get};
 ghost use Rattle.fm_lattice.specs.Maps.{IsRising};
 ghost use Rattle.fm_net.specs.Nodes.{ends_cmp};
 ghost use Rattle.fm_net.specs.Network.{is_held};
-ghost use Rattle.fm_round.specs.Planned.{wait_in, seats_in, unscheduled_in, waits, seats, tasks_of, machines_of, place_at, placed_in, preempt_of, planned};
+ghost use Rattle.fm_round.specs.Planned.{wait_in, seats_in, unscheduled_in, waits, seats, tasks_of, machines_of, place_at, placed_in, preempt_of, plan_of_flow};
 ghost use Rattle.fm_round.specs.Seating.{queue_of, placed_next, AreApart};
 ghost use Rattle.fm_records.specs.Options.{and_then, when};
 
@@ -29,7 +29,7 @@ pub fn plan_of(
     knowledge: &Knowledge,
 ) -> Result<Plan, OutOfMemory>
     requires { IsRising ends_cmp flow.now }
-    ensures { IfOk result (λ plan. plan ≡ planned flow.now knowledge.now) }
+    ensures { IfOk result (λ plan. plan ≡ plan_of_flow flow.now knowledge.now) }
 {
     let seats = seats_of(alloc, flow)?;
     let places = places_of(alloc, flow, seats.as_slice(), knowledge)?;

@@ -11,11 +11,11 @@ use Rattle.fm_records.specs.Know.{none_begun}
 use Rattle.fm_records.specs.Options.{and_then, only_if, or_else, passes, when}
 use Rattle.fm_records.specs.Table.{Table, TaskValue}
 use Rattle.fm_records.specs.Facts.{request_of, holds, held_tasks, spec_of, live_spec, job_stands, progress_of, is_done, is_present, won_spot}
-use Rattle.fm_net.specs.NetworkLaws.{kept, came_from, mapped_from}
+use Rattle.fm_net.specs.NetworkLaws.{only_if_some, came_from, mapped_from}
 use Rattle.fm_tally.specs.declared.holdings.Holdings.{Holdings}
 use Rattle.fm_tally.specs.declared.unfinished.UnfinishedTask.{UnfinishedTask}
 use Rattle.fm_tally.specs.Holdings.{requests_in, tasks_in, AreHoldings}
-use Rattle.fm_tally.specs.Tallies.{unfinished}
+use Rattle.fm_tally.specs.Tallies.{unfinished_spec}
 use Rattle.fm_tally.specs.Unfinished.{task_with, unfinished_at}
 use Rattle.fm_tally.proofs.Rows.{rows, lookup_met}
 
@@ -39,7 +39,7 @@ module _ (k : Table) where
   -- Whoever is held is unfinished.
 
   is_unfinished : (t : ℕ) (v : TaskValue) (s : SpecReg) → lookup nat_cmp t k.tasks ≡ Some v → v.0 ≡ Some s
-      → (not s.withdrawn && job_stands k s.job && not (is_done (progress_of k t).phase)) ≡ true → unfinished v ≡ Some s
+      → (not s.withdrawn && job_stands k s.job && not (is_done (progress_of k t).phase)) ≡ true → unfinished_spec v ≡ Some s
   is_unfinished t v s row spec live =
       let parts = both_true (not s.withdrawn && job_stands k s.job) (not (is_done (progress_of k t).phase)) live in
       let told : not s.withdrawn ≡ true = (both_true (not s.withdrawn) (job_stands k s.job) parts.0).0 in
@@ -50,26 +50,26 @@ module _ (k : Table) where
   -- a live task is unfinished
   pub live_unfinished : (t : ℕ) (s : SpecReg) → live_spec k t ≡ Some s → (u : UnfinishedTask) × (unfinished_at k t ≡ Some u)
   live_unfinished t s e =
-      let h = kept _ (spec_of k t) s e in
+      let h = only_if_some _ (spec_of k t) s e in
       let row = came_from (λ (w : TaskValue). w.0) (lookup nat_cmp t k.tasks) s h.0 in
-      let is : and_then unfinished (lookup nat_cmp t k.tasks) ≡ Some s = ap (and_then unfinished) row.1 ∙ is_unfinished t row.0 s row.1 row.2 h.1 in
+      let is : and_then unfinished_spec (lookup nat_cmp t k.tasks) ≡ Some s = ap (and_then unfinished_spec) row.1 ∙ is_unfinished t row.0 s row.1 row.2 h.1 in
       (task_with s (won_spot k t), ap (option_map (λ z. task_with z (won_spot k t))) is)
 
-  none_held : (t : ℕ) (v : TaskValue) → lookup nat_cmp t k.tasks ≡ Some v → unfinished v ≡ None → (m : ℕ) → holds k m t ≡ false
+  none_held : (t : ℕ) (v : TaskValue) → lookup nat_cmp t k.tasks ≡ Some v → unfinished_spec v ≡ None → (m : ℕ) → holds k m t ≡ false
   none_held t v row none m = elim (live_spec k t) as (λ o. live_spec k t ≡ o → passes (λ h. h == m) (cond (passes (λ (s : SpecReg). true) o) (option_map (λ s. s.machine) (only_if (is_present k) (won_spot k t))) None) ≡ false) [
     | None ↦ λ _. refl
     | Some s ↦ λ e.
-        let h = kept _ (spec_of k t) s e in
+        let h = only_if_some _ (spec_of k t) s e in
         let spec : v.0 ≡ Some s = sym (ap (and_then (λ (w : TaskValue). w.0)) row) ∙ h.0 in
         no_some s (sym none ∙ is_unfinished t v s row spec h.1)
   ] refl
 
   same_request : (t : ℕ) (v : TaskValue) (u : UnfinishedTask) → lookup nat_cmp t k.tasks ≡ Some v → unfinished_at k t ≡ Some u → u.request ≡ request_of v.0
   same_request t v u row is =
-      let spec = mapped_from _ (and_then unfinished (lookup nat_cmp t k.tasks)) u is in
-      let from = came_from unfinished (lookup nat_cmp t k.tasks) spec.0 spec.1 in
+      let spec = mapped_from _ (and_then unfinished_spec (lookup nat_cmp t k.tasks)) u is in
+      let from = came_from unfinished_spec (lookup nat_cmp t k.tasks) spec.0 spec.1 in
       let same : from.0 ≡ v = inside from.0 v (sym from.1 ∙ row) in
-      let known = kept _ from.0.0 spec.0 from.2 in
+      let known = only_if_some _ from.0.0 spec.0 from.2 in
       ap (λ (w : UnfinishedTask). w.request) (sym spec.2) ∙ sym (ap request_of known.0) ∙ ap (λ (w : TaskValue). request_of w.0) same
 
   -- The sums over the unfinished tasks are those over all tasks.
@@ -90,9 +90,9 @@ module _ (k : Table) where
     row_at walked e es whole = subst (λ xs. lookup nat_cmp e.0 xs ≡ Some e.1) (sym whole) (lookup_met walked es e (subst (IsRising nat_cmp) whole rising))
 
     gone : (t : ℕ) (v : TaskValue) → lookup nat_cmp t k.tasks ≡ Some v → unfinished_at k t ≡ None → holds k m t ≡ false
-    gone t v row none = elim (unfinished v) as (λ o. unfinished v ≡ o → holds k m t ≡ false) [
+    gone t v row none = elim (unfinished_spec v) as (λ o. unfinished_spec v ≡ o → holds k m t ≡ false) [
       | None ↦ λ is. none_held t v row is m
-      | Some s ↦ λ is. no_some (task_with s (won_spot k t)) (sym none ∙ ap (option_map (λ z. task_with z (won_spot k t))) (ap (and_then unfinished) row ∙ is))
+      | Some s ↦ λ is. no_some (task_with s (won_spot k t)) (sym none ∙ ap (option_map (λ z. task_with z (won_spot k t))) (ap (and_then unfinished_spec) row ∙ is))
     ] refl
 
     one : (e : ℕ × TaskValue) (es : List (ℕ × TaskValue)) (later : List (ℕ × UnfinishedTask)) → lookup nat_cmp e.0 k.tasks ≡ Some e.1

@@ -7,7 +7,7 @@ use Rattle.std.proofs.lemmas.Bool.{eqb-true, eqb-false}
 use Rattle.std.proofs.lemmas.Cmp.{tied_itself}
 use Rattle.fm_lattice.specs.Chains.{by_cases, nat_same}
 use Rattle.fm_lattice.specs.Joins.{option_join}
-use Rattle.fm_lattice.specs.Maps.{lookup, put, replaced, IsBelow, IsRising}
+use Rattle.fm_lattice.specs.Maps.{lookup, put, keep_new, IsBelow, IsRising}
 use Rattle.fm_lattice.specs.MapLaws.{lookup_put}
 use Rattle.fm_records.specs.Options.{or_else, passes}
 
@@ -32,26 +32,26 @@ module _ {V W : Type 0} (f : V → W) where
 apart : (a b : ℕ) → (a == b) ≡ false → is_eq (nat_cmp b a) ≡ false
 apart a b differ = by_cases (nat_cmp b a) (λ r. is_eq r ≡ false) (λ _. refl) (λ t. absurd (eqb-false a b differ (sym (nat_same b a t)))) (λ _. refl)
 
-join_replaced : {V : Type 0} (o : Option V) (v : V) → option_join replaced o (Some v) ≡ Some v
+join_replaced : {V : Type 0} (o : Option V) (v : V) → option_join keep_new o (Some v) ≡ Some v
 join_replaced None v = refl
 join_replaced (Some w) v = refl
 
-join_none : {V : Type 0} (o : Option V) → option_join replaced o None ≡ o
+join_none : {V : Type 0} (o : Option V) → option_join keep_new o None ≡ o
 join_none None = refl
 join_none (Some w) = refl
 
 -- the value at key k is replaced by g
 module _ {V : Type 0} (k : ℕ) (h g : V) (es : List (ℕ × V)) (rising : IsRising nat_cmp es) (there : lookup nat_cmp k es ≡ Some h) where
-  pub after : (m : ℕ) → lookup nat_cmp m (put nat_cmp replaced k g es) ≡ cond (k == m) (Some g) (lookup nat_cmp m es)
+  pub after : (m : ℕ) → lookup nat_cmp m (put nat_cmp keep_new k g es) ≡ cond (k == m) (Some g) (lookup nat_cmp m es)
   after m =
-      lookup_put nat_cmp nat_cmp_total nat_same replaced m k g es rising
-      ∙ elim (k == m) as (λ b. (k == m) ≡ b → option_join replaced (lookup nat_cmp m es) (cond (is_eq (nat_cmp m k)) (Some g) None) ≡ cond b (Some g) (lookup nat_cmp m es)) [
-        | true ↦ λ yes. ap (λ b. option_join replaced (lookup nat_cmp m es) (cond b (Some g) None)) (subst (λ z. is_eq (nat_cmp z k) ≡ true) (eqb-true k m yes) (ap is_eq (tied_itself nat_cmp_total k))) ∙ join_replaced (lookup nat_cmp m es) g
-        | false ↦ λ differ. ap (λ b. option_join replaced (lookup nat_cmp m es) (cond b (Some g) None)) (apart k m differ) ∙ join_none (lookup nat_cmp m es)
+      lookup_put nat_cmp nat_cmp_total nat_same keep_new m k g es rising
+      ∙ elim (k == m) as (λ b. (k == m) ≡ b → option_join keep_new (lookup nat_cmp m es) (cond (is_eq (nat_cmp m k)) (Some g) None) ≡ cond b (Some g) (lookup nat_cmp m es)) [
+        | true ↦ λ yes. ap (λ b. option_join keep_new (lookup nat_cmp m es) (cond b (Some g) None)) (subst (λ z. is_eq (nat_cmp z k) ≡ true) (eqb-true k m yes) (ap is_eq (tied_itself nat_cmp_total k))) ∙ join_replaced (lookup nat_cmp m es) g
+        | false ↦ λ differ. ap (λ b. option_join keep_new (lookup nat_cmp m es) (cond b (Some g) None)) (apart k m differ) ∙ join_none (lookup nat_cmp m es)
       ] refl
 
   -- a number of the values that grows by r
-  pub grown : (f : V → ℕ) (r : ℕ) → f g ≡ f h + r → (m : ℕ) → or_else 0 (option_map f (lookup nat_cmp m (put nat_cmp replaced k g es))) ≡ or_else 0 (option_map f (lookup nat_cmp m es)) + cond (k == m) r 0
+  pub grown : (f : V → ℕ) (r : ℕ) → f g ≡ f h + r → (m : ℕ) → or_else 0 (option_map f (lookup nat_cmp m (put nat_cmp keep_new k g es))) ≡ or_else 0 (option_map f (lookup nat_cmp m es)) + cond (k == m) r 0
   grown f r more m =
       ap (λ o. or_else 0 (option_map f o)) (after m)
       ∙ elim (k == m) as (λ b. (k == m) ≡ b → or_else 0 (option_map f (cond b (Some g) (lookup nat_cmp m es))) ≡ or_else 0 (option_map f (lookup nat_cmp m es)) + cond b r 0) [
@@ -60,7 +60,7 @@ module _ {V : Type 0} (k : ℕ) (h g : V) (es : List (ℕ × V)) (rising : IsRis
       ] refl
 
   -- a test that both pass alike
-  pub tested : (test : V → Bool) → test g ≡ test h → (m : ℕ) → passes test (lookup nat_cmp m (put nat_cmp replaced k g es)) ≡ passes test (lookup nat_cmp m es)
+  pub tested : (test : V → Bool) → test g ≡ test h → (m : ℕ) → passes test (lookup nat_cmp m (put nat_cmp keep_new k g es)) ≡ passes test (lookup nat_cmp m es)
   tested test alike m =
       ap (passes test) (after m)
       ∙ elim (k == m) as (λ b. (k == m) ≡ b → passes test (cond b (Some g) (lookup nat_cmp m es)) ≡ passes test (lookup nat_cmp m es)) [

@@ -18,7 +18,7 @@ use Rattle.fm_records.specs.Know.{none_begun}
 use Rattle.fm_records.specs.Facts.{first_of}
 use Rattle.fm_tally.specs.declared.unfinished.UnfinishedTask.{UnfinishedTask}
 use Rattle.fm_tally.specs.Sides.{is_under, is_over}
-use Rattle.fm_tally.specs.Tallies.{unfinished}
+use Rattle.fm_tally.specs.Tallies.{unfinished_spec}
 use Rattle.fm_tally.specs.Unfinished.{task_with, unfinished_at, AreUnfinished, AreBehind}
 use Rattle.fm_tally.proofs.Sides.{AreUnder, told_at, rising_told, lookup_told, told_split, under_told}
 
@@ -26,7 +26,7 @@ use Rattle.fm_tally.proofs.Sides.{AreUnder, told_at, rising_told, lookup_told, t
 abbrev pub shape : Option TaskValue → (ℕ → Option (List (ℕ × Spot))) → Option UnfinishedTask
 shape o entries =
     option_map (λ s. task_with s (option_map (λ w. w.1) (first_of (or_else [] (entries (or_else none_begun (option_map (λ (v : TaskValue). v.1) o)).attempt)))))
-    (and_then unfinished o)
+    (and_then unfinished_spec o)
 
 unchanged : (k now : Table) (t : ℕ) → lookup nat_cmp t now.tasks ≡ lookup nat_cmp t k.tasks
     → ((a : ℕ) → lookup attempt_cmp (t, a) now.proposals ≡ lookup attempt_cmp (t, a) k.proposals) → unfinished_at now t ≡ unfinished_at k t

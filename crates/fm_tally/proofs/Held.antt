@@ -7,16 +7,16 @@ use Rattle.fm_records.specs.Options.{and_then, only_if, passes}
 use Rattle.fm_records.specs.Table.{Table}
 use Rattle.fm_records.specs.Facts.{job_of, spec_of, live_spec, is_present, won_spot, holder_of}
 use Rattle.fm_net.specs.Network.{is_held}
-use Rattle.fm_net.specs.NetworkLaws.{passed, kept}
+use Rattle.fm_net.specs.NetworkLaws.{passes_some, only_if_some}
 use Rattle.fm_tally.specs.declared.tally.LiveTask.{LiveTask}
 use Rattle.fm_tally.specs.Tallies.{has_any, task_at}
 
 module _ (k : Table) where
   live_job : (t : ℕ) (s : SpecReg) → live_spec k t ≡ Some s → (r : JobReg) × (job_of k s.job ≡ Some r)
   live_job t s e =
-      let h = (kept _ (spec_of k t) s e).1 in
+      let h = (only_if_some _ (spec_of k t) s e).1 in
       let stand = (both_true _ _ (both_true _ _ h).0).1 in
-      let r = passed (λ r. not r.withdrawn) (job_of k s.job) stand in
+      let r = passes_some (λ r. not r.withdrawn) (job_of k s.job) stand in
       (r.0, r.1)
 
   abbrev entry_of : ℕ → SpecReg → JobReg → LiveTask

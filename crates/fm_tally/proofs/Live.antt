@@ -19,7 +19,7 @@ use Rattle.fm_tally.specs.declared.holdings.Holdings.{Holdings}
 use Rattle.fm_tally.specs.declared.tally.LiveTask.{LiveTask}
 use Rattle.fm_tally.specs.declared.tally.OpenMachine.{OpenMachine}
 use Rattle.fm_tally.specs.Holdings.{is_there, placed_by, nothing_on, requests_in, tasks_in, AreHoldings}
-use Rattle.fm_tally.specs.Tallies.{has_any, unfinished, task_at, entry_of, task_by, requests_by, tasks_by, machine_at, left_of, open_by}
+use Rattle.fm_tally.specs.Tallies.{has_any, unfinished_spec, task_at, entry_of, task_by, requests_by, tasks_by, machine_at, left_of, open_by}
 use Rattle.fm_tally.specs.Unfinished.{unfinished_at}
 use Rattle.fm_tally.specs.declared.unfinished.UnfinishedTask.{UnfinishedTask}
 use Rattle.fm_tally.proofs.Held.{held_is}
@@ -72,7 +72,7 @@ module _ (k : Table) where
   abbrev by_spec : Option ℕ → SpecReg → Option LiveTask
   by_spec h s = option_map (entry h s) (only_if stands (job_of k s.job))
 
-  same_task : (h : Option ℕ) (o : Option SpecReg) (p : Progress) → and_then (by_spec h) (unfinished (o, p)) ≡ told h o p
+  same_task : (h : Option ℕ) (o : Option SpecReg) (p : Progress) → and_then (by_spec h) (unfinished_spec (o, p)) ≡ told h o p
   same_task h None p = refl
   same_task h (Some s) p =
       let live = live_of (Some s) p in
@@ -88,7 +88,7 @@ module _ (k : Table) where
       → task_by k.jobs (and_then (placed_by hs) u.spot) u ≡ task_at k t
   task_is hs t u there known =
       let spot = won_spot k t in
-      let spec = mapped_from _ (and_then unfinished (lookup nat_cmp t k.tasks)) u known in
+      let spec = mapped_from _ (and_then unfinished_spec (lookup nat_cmp t k.tasks)) u known in
       let row = came_from _ (lookup nat_cmp t k.tasks) spec.0 spec.1 in
       let won = won_by t (progress_of k t) in
       sym (ap (λ (w : UnfinishedTask). task_by k.jobs (and_then (placed_by hs) w.spot) w) spec.2)

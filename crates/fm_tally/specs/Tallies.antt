@@ -46,8 +46,8 @@ all_machines k = filter_map (λ e. with_value (machine_at k) e.0) k.machines
 -- The same of records at hand.
 
 -- the spec of a task that is known, not withdrawn and not done
-abbrev pub unfinished : TaskValue → Option SpecReg
-unfinished v = only_if (λ s. not s.withdrawn && not (is_done v.1.phase)) v.0
+abbrev pub unfinished_spec : TaskValue → Option SpecReg
+unfinished_spec v = only_if (λ s. not s.withdrawn && not (is_done v.1.phase)) v.0
 
 -- an unfinished task of the job, which the machine holds
 abbrev pub entry_of : UnfinishedTask → JobReg → Option ℕ → LiveTask

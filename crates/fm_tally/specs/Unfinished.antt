@@ -11,7 +11,7 @@ use Rattle.fm_records.specs.Table.{Table}
 use Rattle.fm_records.specs.TableLaws.{Rises}
 use Rattle.fm_records.specs.Facts.{won_spot}
 use Rattle.fm_tally.specs.declared.unfinished.UnfinishedTask.{UnfinishedTask}
-use Rattle.fm_tally.specs.Tallies.{has_any, unfinished}
+use Rattle.fm_tally.specs.Tallies.{has_any, unfinished_spec}
 
 -- a task with the spec, where the winner of its attempt names the spot
 abbrev pub task_with : SpecReg → Option Spot → UnfinishedTask
@@ -19,7 +19,7 @@ task_with s spot = record { job = s.job; request = s.request; prefers = has_any 
 
 -- a task of the table, if it is neither withdrawn nor done
 abbrev pub unfinished_at : Table → ℕ → Option UnfinishedTask
-unfinished_at k t = option_map (λ s. task_with s (won_spot k t)) (and_then unfinished (lookup nat_cmp t k.tasks))
+unfinished_at k t = option_map (λ s. task_with s (won_spot k t)) (and_then unfinished_spec (lookup nat_cmp t k.tasks))
 
 -- the tasks are just those of the table
 abbrev pub AreUnfinished : Table → List (ℕ × UnfinishedTask) → Type 0

@@ -1,12 +1,12 @@
 //! Pairs by rising key, one behind another.
 
 ghost use Rattle.std.specs.Prelude.{◌≡◌, [], Some, None, IfSome, IsNone, IfOk, OnOk, OnErr};
-ghost use Rattle.fm_lattice.specs.Maps.{lookup, put, replaced, IsRising};
+ghost use Rattle.fm_lattice.specs.Maps.{lookup, put, keep_new, IsRising};
 ghost use Rattle.fm_lattice.specs.Places.{IsAt};
 
 use fm_lattice::chain::Chain;
 use fm_lattice::join::OutOfMemory;
-use fm_net::rising::{set, value_at, value_near};
+use fm_lattice::rising::{set, value_at, value_near};
 use std::alloc::Global;
 use std::marker::Model;
 
@@ -97,7 +97,7 @@ impl<K: Chain, V: Copy> Sorted<K, V> {
     /// Replaces the value at the key, of which the caller passes the place.
     pub(crate) fn replace(&mut self, at: usize, key: K, value: V)
         requires { IsAt K.cmp self.old key at }
-        ensures { self.new ≡ put K.cmp replaced key value self.old }
+        ensures { self.new ≡ put K.cmp keep_new key value self.old }
     {
         self.pairs[at].1 = value;
     }
@@ -105,7 +105,7 @@ impl<K: Chain, V: Copy> Sorted<K, V> {
     /// Puts the value at the key, and answers the one that was there. After a refusal of memory nothing has changed. Amortised O(1)
     /// behind the last key, O(log n) at a key that is there, and O(n) before others.
     pub fn put(&mut self, key: K, value: V) -> Result<Option<V>, OutOfMemory>
-        ensures ok { OnOk result (self.new ≡ put K.cmp replaced key value self.old) }
+        ensures ok { OnOk result (self.new ≡ put K.cmp keep_new key value self.old) }
         ensures stood { IfOk result (λ old. old ≡ lookup K.cmp key self.old) }
         ensures err { OnErr result (self.new ≡ self.old) }
     {

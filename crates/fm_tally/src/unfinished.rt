@@ -5,19 +5,19 @@ ghost use Rattle.std.specs.Prelude.{◌≡◌, ◌++◌, ℕ, filter, option_cop
 ghost use Rattle.std.specs.Ordering.{nat_cmp};
 ghost use Rattle.std.specs.declared.cmp.Ordering.TheVariants.{Less};
 ghost use Rattle.fm_lattice.specs.Maps.{lookup, IsRising};
-ghost use Rattle.fm_records.specs.Facts.{is_done, won_spot};
+ghost use Rattle.fm_records.specs.Facts.{won_spot};
 ghost use Rattle.fm_records.specs.Orders.{attempt_cmp};
-ghost use Rattle.fm_tally.specs.Tallies.{unfinished};
+ghost use Rattle.fm_tally.specs.Tallies.{unfinished_spec};
 ghost use Rattle.fm_tally.specs.Unfinished.{task_with, unfinished_at, AreUnfinished, AreBehind};
 ghost use Rattle.fm_tally.specs.Winners.{spot_in};
 ghost use Rattle.fm_tally.specs.Sides.{is_under, is_over};
 
 use crate::sorted::Sorted;
 use crate::winners::Winners;
+use fm_know::facts::is_done;
 use fm_know::knowledge::Knowledge;
 use fm_lattice::join::OutOfMemory;
 use fm_records::ids::{JobId, TaskId};
-use fm_records::ops::Phase;
 use fm_records::records::{SpecReg, Spot, TaskRec};
 use std::alloc::Global;
 use std::cmp::Ordering;
@@ -102,7 +102,7 @@ fn move_under<'a>(
 // The task with the record, if it is unfinished, with the winners that are still ahead.
 fn met_task(task: TaskId, known: &TaskRec, winners: &mut Winners<'_>) -> Option<UnfinishedTask>
     ensures task { result
-        ≡ option_map (λ s. task_with s (spot_in winners.old (task, known.now.1.attempt))) (unfinished known.now) }
+        ≡ option_map (λ s. task_with s (spot_in winners.old (task, known.now.1.attempt))) (unfinished_spec known.now) }
     ensures ahead { (t a : ℕ) → attempt_cmp (task, known.now.1.attempt) (t, a) ≡ Less
         → lookup attempt_cmp (t, a) winners.new ≡ lookup attempt_cmp (t, a) winners.old }
 {
@@ -146,7 +146,7 @@ fn task_with(spec: &SpecReg, spot: Option<Spot>) -> UnfinishedTask
 
 // The spec of the record, if it is known and not withdrawn, and the task is not done.
 fn unfinished(known: &TaskRec) -> Option<&SpecReg>
-    ensures { option_copied result ≡ unfinished known.now }
+    ensures { option_copied result ≡ unfinished_spec known.now }
 {
     match &known.0.0 {
         Some(spec) if !spec.0.withdrawn && !is_done(known.1.0.phase) => Some(&spec.0),
@@ -158,13 +158,4 @@ fn attempt_in(known: &TaskRec) -> u32
     ensures { result ≡ known.now.1.attempt }
 {
     known.1.0.attempt
-}
-
-fn is_done(phase: Phase) -> bool
-    ensures { result ≡ is_done phase }
-{
-    match phase {
-        Phase::Pending | Phase::Running => false,
-        Phase::Done => true,
-    }
 }

@@ -34,7 +34,8 @@ impl<'a> Model for Winners<'a> {
 
     ghost view = { λ w. cons_option (option_map (λ e. (e.0.now, e.1.now)) w.first) w.later };
 
-    ghost invariant = { λ w. IsRising attempt_cmp (cons_option (option_map (λ e. (e.0.now, e.1.now)) w.first) w.later) × (is_none w.first ≡ true → w.later ≡ []) };
+    ghost invariant = { λ w. IsRising attempt_cmp (cons_option (option_map (λ e. (e.0.now, e.1.now)) w.first) w.later)
+        × (is_none w.first ≡ true → w.later ≡ []) };
 }
 
 impl<'a> Winners<'a> {

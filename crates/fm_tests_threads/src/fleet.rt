@@ -258,12 +258,34 @@ fn with_a_trim(mut log: SeatLog) -> Result<SeatLog, Fail> {
     Ok(log)
 }
 
-// The first seat's log is given a trim for its last entry.
-fn alter(logs: &mut Vec<SeatLog>) -> Result<(), Fail> {
+// The log of the first seat whose last entry, a view, is said to come one place later in the history.
+fn with_a_later_view(mut log: SeatLog) -> Result<SeatLog, Fail> {
+    let Some(
+        Entry {
+            by,
+            call,
+            reply: Reply::Seen(at, known),
+        },
+    ) = log.entries.pop()
+    else {
+        return Err("no view".into());
+    };
+    let reply = Reply::Seen(at.saturating_add(1), known);
+    log.entries.push(Entry { by, call, reply })?;
+    Ok(log)
+}
+
+// The first seat's log is given a later place of its view, or a trim in place of it.
+fn alter(logs: &mut Vec<SeatLog>, trims: bool) -> Result<(), Fail> {
     let (Some(two), Some(one)) = (logs.pop(), logs.pop()) else {
         return Err("no logs".into());
     };
-    logs.push(with_a_trim(one)?)?;
+    let one = if trims {
+        with_a_trim(one)?
+    } else {
+        with_a_later_view(one)?
+    };
+    logs.push(one)?;
     logs.push(two)?;
     Ok(())
 }
@@ -272,7 +294,12 @@ fn altered(mut closed: Closed<Rebuilder>) -> Result<(), Fail> {
     if counts(&closed) != (3, 205, 101) {
         return Err("a hundred tells and a view each".into());
     }
-    alter(&mut closed.logs)?;
+    alter(&mut closed.logs, false)?;
+    is(
+        audit(&closed) == Err(Refusal::NotMine(1)),
+        "seat 1 has another view",
+    )?;
+    alter(&mut closed.logs, true)?;
     is(audit(&closed) == Err(Refusal::NotMine(1)), "seat 1 differs")
 }
 

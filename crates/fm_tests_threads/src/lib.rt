@@ -2,9 +2,11 @@
 #![tactic(auto)]
 
 #[cfg(test)]
-mod fleet;
+mod again;
 #[cfg(test)]
-mod gossip;
+mod exchange;
+#[cfg(test)]
+mod fleet;
 #[cfg(test)]
 mod held;
 #[cfg(test)]

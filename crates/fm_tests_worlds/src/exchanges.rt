@@ -14,6 +14,8 @@ use fm_policy::rebuilder::Rebuilder;
 use fm_records::ids::{CoordId, JobId, MachineId, TaskId};
 use fm_records::ops::Op;
 use fm_records::prefer::Prefer;
+use fm_round::listed::Listed;
+use fm_round::parts::{Place, Plan};
 use fm_world::distinct::distinct;
 use fm_world::step::{Act, Step};
 use fm_world::world::World;
@@ -96,30 +98,50 @@ fn operation(state: &mut u32) -> Op {
     }
 }
 
+// A plan that places a task.
+fn plan(alloc: Global, state: &mut u32) -> Result<Plan, Fail> {
+    let mut places = Vec::new(alloc);
+    places.push(Place {
+        task: TaskId::new(u128::from(draw(state, 5))),
+        machine: MachineId::new(u128::from(draw(state, 3))),
+        incarnation: 1,
+    })?;
+    Ok(Plan {
+        places: Listed::new(places),
+        preempts: Listed::new(Vec::new(alloc)),
+    })
+}
+
 // An act, if so many packets were cut.
-fn act(state: &mut u32, cuts: u32) -> Act {
-    match draw(state, 5) {
+fn act(alloc: Global, state: &mut u32, cuts: u32) -> Result<Act, Fail> {
+    Ok(match draw(state, 7) {
         0 => Act::Cut(Range::Full),
         1 | 2 if cuts > 0 => Act::Deliver(draw(state, cuts) as usize),
         3 => Act::View,
+        4 => Act::Trim(u64::from(draw(state, 3))),
+        5 => Act::Commit(plan(alloc, state)?),
         _ => Act::Tell(operation(state)),
-    }
+    })
 }
 
-// Lets the first coordinators, so many, do what is drawn.
-fn play(world: &mut World<Keeper>, seed: u32, count: u8) -> Result<(), Fail> {
+// Lets the first coordinators, so many, do what is drawn, asked by seats 0 to 2, and answers how many steps were
+// accepted: a trim may ask for more than there is.
+fn play(alloc: Global, world: &mut World<Keeper>, seed: u32, count: u8) -> Result<usize, Fail> {
     let mut state = seed;
     let mut cuts = 0u32;
+    let mut accepted = 0usize;
     for _i in 0..STEPS {
         let at = u8::try_from(draw(&mut state, u32::from(count))).unwrap_or(0);
         let at = at.saturating_add(1);
-        let act = act(&mut state, cuts);
-        if let Act::Cut(_) = act {
-            cuts = cuts.saturating_add(1);
+        let by = draw(&mut state, 3);
+        let act = act(alloc, &mut state, cuts)?;
+        let is_cut = matches!(act, Act::Cut(_));
+        if world.step(&Step { at, by, act }).is_ok() {
+            accepted = accepted.saturating_add(1);
+            cuts = cuts.saturating_add(u32::from(is_cut));
         }
-        let _ = world.step(&Step { at, by: 0, act })?;
     }
-    Ok(())
+    Ok(accepted)
 }
 
 fn dumped(alloc: Global, world: &mut World<Keeper>, number: u8) -> Result<Vec<u8>, Fail> {
@@ -160,17 +182,17 @@ fn gathered(alloc: Global, nodes: &[Coordinator<Keeper>]) -> Option<Vec<Step>> {
     }
 }
 
-// Whether what is drawn is gathered to as many steps as were played, which a new world takes and which come to the
+// Whether what is drawn is gathered to as many steps as were accepted, which a new world takes and which come to the
 // same.
 fn is_gathered(alloc: Global, seed: u32) -> Result<bool, Fail> {
     let count = 2 + (seed % 4) as u8;
     let mut played = world(alloc, true)?;
-    play(&mut played, seed, count)?;
+    let accepted = play(alloc, &mut played, seed, count)?;
     let Some(steps) = gathered(alloc, played.coordinators()) else {
         return Ok(false);
     };
     let mut again = world(alloc, false)?;
-    if steps.len() != STEPS as usize || again.run(steps.as_slice()).is_err() {
+    if steps.len() != accepted || again.run(steps.as_slice()).is_err() {
         return Ok(false);
     }
     are_alike(alloc, &mut played, &mut again, count)

@@ -6,10 +6,10 @@ use Rattle.fm_net.specs.Network.{net_of}
 use Rattle.fm_certificate.specs.Flows.{Units, IsLeast}
 use Rattle.fm_round.specs.declared.parts.Plan.{Plan}
 use Rattle.fm_round.specs.declared.parts.Admitted.{Admitted}
-use Rattle.fm_round.specs.Admission.{admitted}
-use Rattle.fm_round.specs.Planned.{units_over, planned}
+use Rattle.fm_round.specs.Admission.{admission}
+use Rattle.fm_round.specs.Planned.{units_over, plan_of_flow}
 use Rattle.fm_round.specs.Schedules.{IsPlanOf}
 
-pub decided : (k : Table) (net : Net) (units : Units) (plan : Plan) (n : ℕ) (a : Admitted) → net ≡ net_of k → IsLeast net units → plan ≡ planned (units_over net units) k → a ≡ admitted k n plan → (x : Plan) × IsPlanOf k x × a ≡ admitted k n x
+pub decided : (k : Table) (net : Net) (units : Units) (plan : Plan) (n : ℕ) (a : Admitted) → net ≡ net_of k → IsLeast net units → plan ≡ plan_of_flow (units_over net units) k → a ≡ admission k n plan → (x : Plan) × IsPlanOf k x × a ≡ admission k n x
 decided k net units plan n a is least made comes =
-    (plan, record { units = units; least = subst (λ m. IsLeast m units) is least; planned = made ∙ (λ i. planned (units_over (is i) units) k) }, comes)
+    (plan, record { units = units; least = subst (λ m. IsLeast m units) is least; planned = made ∙ (λ i. plan_of_flow (units_over (is i) units) k) }, comes)

@@ -2,7 +2,7 @@
 
 ghost use Rattle.std.specs.Prelude.{◌≡◌, ℕ, IsTrue, IfOk};
 ghost use Rattle.fm_round.specs.declared.parts.Plan.{Plan as Planned};
-ghost use Rattle.fm_round.specs.Admission.{admitted, told, got_place, is_within_nic};
+ghost use Rattle.fm_round.specs.Admission.{admission, told, got_place, is_within_nic};
 ghost use Rattle.fm_round.specs.Schedules.{IsPlanOf};
 
 use fm_flow::solve::solve;
@@ -24,7 +24,7 @@ pub fn decide(
     coordinator: CoordId,
 ) -> Result<Admitted, Refusal>
     ensures admitted { IfOk result (λ a. (plan : Planned) × IsPlanOf knowledge.now plan
-        × (a ≡ admitted knowledge.now coordinator plan)) }
+        × (a ≡ admission knowledge.now coordinator plan)) }
 {
     law_can_be(knowledge);
     let network = build(alloc, knowledge)?;

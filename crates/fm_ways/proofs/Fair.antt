@@ -10,7 +10,7 @@ use Rattle.fm_records.specs.Facts.{job_of, live_spec, is_live, holder_of, holds,
 use Rattle.fm_net.specs.declared.node.Node.{Node}
 use Rattle.fm_net.specs.declared.node.Node.TheVariants.{Sink, Unscheduled, Request, Machine, Task}
 use Rattle.fm_net.specs.Network.{is_held, is_live_of, waits_for, preferred_arc, arc_of}
-use Rattle.fm_net.specs.NetworkLaws.{passed, mapped_from, where_true, came_from, ends_of}
+use Rattle.fm_net.specs.NetworkLaws.{passes_some, mapped_from, where_true, came_from, ends_of}
 use Rattle.fm_ways.specs.Ways.{Way, ToJob, ByRequest, Straight, MayGo}
 use Rattle.fm_ways.specs.Prices.{first_node, cost_beyond, cost_from, AreCheapest, AreFair}
 use Rattle.fm_ways.proofs.Stands.{job_arc}
@@ -27,15 +27,15 @@ module _ (k : Table) where
   -- a live task has one job and, where it waits, one request
   pub one_job : (t i j : ℕ) → is_live_of k i t ≡ true → is_live_of k j t ≡ true → i ≡ j
   one_job t i j a b =
-      let p = passed (λ (s : SpecReg). s.job == i) (live_spec k t) a in
-      let q = passed (λ (s : SpecReg). s.job == j) (live_spec k t) b in
+      let p = passes_some (λ (s : SpecReg). s.job == i) (live_spec k t) a in
+      let q = passes_some (λ (s : SpecReg). s.job == j) (live_spec k t) b in
       let both : Some p.0 ≡ Some q.0 = sym p.1 ∙ q.1 in
       let same : p.0 ≡ q.0 = cc in
       sym (eqb-true p.0.job i p.2) ∙ ap (λ (s : SpecReg). s.job) same ∙ eqb-true q.0.job j q.2
 
   pub waits_spec : (t r : ℕ) → waits_for k r t ≡ true → (s : SpecReg) × (live_spec k t ≡ Some s) × (s.request ≡ r)
   waits_spec t r w =
-      let p = passed (λ (s : SpecReg). s.request == r) (live_spec k t) (both_true _ _ w).0 in
+      let p = passes_some (λ (s : SpecReg). s.request == r) (live_spec k t) (both_true _ _ w).0 in
       (p.0, p.1, eqb-true p.0.request r p.2)
 
   one_request : (t q r : ℕ) → waits_for k q t ≡ true → waits_for k r t ≡ true → q ≡ r
@@ -53,7 +53,7 @@ module _ (k : Table) where
   not_held t r w = elim (is_held k t) as (λ b. is_held k t ≡ b → b ≡ false) [ true ↦ λ h. both_ways (is_held k t) h (both_true _ _ w).1 | false ↦ λ _. refl ] refl
 
   held_by : (t m : ℕ) → holds k m t ≡ true → holder_of k t ≡ Some m
-  held_by t m e = let h = passed (λ (x : ℕ). x == m) (holder_of k t) e in h.1 ∙ ap (λ (x : ℕ). Some x) (eqb-true h.0 m h.2)
+  held_by t m e = let h = passes_some (λ (x : ℕ). x == m) (holder_of k t) e in h.1 ∙ ap (λ (x : ℕ). Some x) (eqb-true h.0 m h.2)
 
   one_holder : (t m p : ℕ) → holder_of k t ≡ Some m → holder_of k t ≡ Some p → m ≡ p
   one_holder t m p a b = let both : Some m ≡ Some p = sym a ∙ b in cc
@@ -165,8 +165,8 @@ module _ (k : Table) (way : ℕ → Way) (price offer : ℕ → ℕ) (may : (t :
   none_cheaper t (Unscheduled j) v arc =
       let live = (ends_of k (Task t) (Unscheduled j) v arc).from in
       let least : costs t ≤ v.1 = elim (is_held k t) as (λ b. is_held k t ≡ b → costs t ≤ v.1) [
-        | true ↦ λ held. let m = passed (λ (x : ℕ). true) (holder_of k t) held in held_job t m.0 j v m.1 held arc (way t) refl (may t live)
-        | false ↦ λ held. let s = passed (λ (x : SpecReg). true) (live_spec k t) live in free_job t s.0.request j v (waits_of k t s.0 s.1 held) held arc (way t) refl (may t live)
+        | true ↦ λ held. let m = passes_some (λ (x : ℕ). true) (holder_of k t) held in held_job t m.0 j v m.1 held arc (way t) refl (may t live)
+        | false ↦ λ held. let s = passes_some (λ (x : SpecReg). true) (live_spec k t) live in free_job t s.0.request j v (waits_of k t s.0 s.1 held) held arc (way t) refl (may t live)
       ] refl in
       omega arith
   none_cheaper t (Machine m) v arc =

@@ -17,7 +17,7 @@ use Rattle.fm_net.specs.declared.node.Node.TheVariants.{Sink, Unscheduled, Reque
 use Rattle.fm_net.specs.ListLaws.{entry_member}
 use Rattle.fm_net.specs.Net.{CanBeNet}
 use Rattle.fm_net.specs.Network.{is_live_of, live_tasks, is_node, arc_of, net_of}
-use Rattle.fm_net.specs.NetworkLaws.{passed, mapped_from, where_true, live_entry, ends_of, is_network_of}
+use Rattle.fm_net.specs.NetworkLaws.{passes_some, mapped_from, where_true, live_entry, ends_of, is_network_of}
 use Rattle.fm_net.specs.Same.{same_node, same_ends}
 use Rattle.fm_certificate.specs.Flows.{leaving, IsFeasible}
 use Rattle.fm_certificate.proofs.Sums.{sum_same}
@@ -75,7 +75,7 @@ module _ (k : Table) (way : ℕ → Way) (can_be : CanBe k) (can : CanBeNet (net
   -- one way from each live task
   one_way : (t : ℕ) → is_live k t ≡ true → sum_by (out (Task t)) (flat_map steps ways) ≡ 1
   one_way t live =
-      let s = passed (λ (s : SpecReg). true) (live_spec k t) live in
+      let s = passes_some (λ (s : SpecReg). true) (live_spec k t) live in
       let e = live_entry k t s.0 s.1 in
       let here : ℕ × TaskValue = (t, e.0) in
       let f : ℕ × TaskValue → ℕ = λ x. cond (is_live k x.0) (cond (same_node (Task x.0) (Task t)) 1 0) 0 in

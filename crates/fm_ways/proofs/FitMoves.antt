@@ -8,7 +8,7 @@ use Rattle.fm_records.specs.Table.{Table}
 use Rattle.fm_records.specs.Facts.{live_spec, is_live, holder_of, holds}
 use Rattle.fm_net.specs.Network.{is_held, preferred_arc}
 use Rattle.fm_ways.specs.Ways.{Way, MayGo, Fit}
-use Rattle.fm_ways.specs.Moves.{rest_at, rest, moved, AreMoves, FitMoves}
+use Rattle.fm_ways.specs.Moves.{rest_at, rest, ways_with, AreMoves, FitMoves}
 use Rattle.fm_ways.proofs.Rounds.{left_fit}
 use Rattle.fm_ways.proofs.Moves.{asked_count, slot_count}
 
@@ -26,7 +26,7 @@ module _ (k : Table) where
     moved_may t live None e = rest_may t live (holder_of k t) refl
     moved_may t live (Some w) e = fits.may t w e
 
-    pub moves_fit : Fit k (moved k moves)
+    pub moves_fit : Fit k (ways_with k moves)
     moves_fit = record {
       may = λ t live. moved_may t live (lookup nat_cmp t moves) refl;
       room = λ r m v arc. omega (arith, fits.room r m v arc, asked_count k moves can_be are r m);

@@ -22,9 +22,9 @@ use Rattle.fm_net.specs.NodeOrder.{ends_exact}
 use Rattle.fm_net.specs.ListLaws.{entry_member, member_mapped, member_of_one}
 use Rattle.fm_net.specs.Net.{CanBeNet}
 use Rattle.fm_net.specs.Network.{arc_of, net_of}
-use Rattle.fm_net.specs.NetworkLaws.{passed, live_entry, is_network_of}
+use Rattle.fm_net.specs.NetworkLaws.{passes_some, live_entry, is_network_of}
 use Rattle.fm_net.specs.Same.{same_ends}
-use Rattle.fm_round.specs.Planned.{Units, units_over, unscheduled_in, preempt_of, planned}
+use Rattle.fm_round.specs.Planned.{Units, units_over, unscheduled_in, preempt_of, plan_of_flow}
 use Rattle.fm_round.proofs.Over.{rising_over}
 use Rattle.fm_ways.specs.Ways.{Way, ToJob, ByRequest, Straight, steps_of, steps, crossings, units_of, ways_of, MayGo}
 use Rattle.fm_ways.specs.Prices.{first_node}
@@ -99,7 +99,7 @@ module _ (k : Table) (way : ℕ → Way) (can_be : CanBe k) (can : CanBeNet (net
 
   task_entry : (t : ℕ) → is_live k t ≡ true → (v : TaskValue) × IsMember (t, v) k.tasks
   task_entry t live =
-      let s = passed (λ (s : SpecReg). true) (live_spec k t) live in
+      let s = passes_some (λ (s : SpecReg). true) (live_spec k t) live in
       let e = live_entry k t s.0 s.1 in
       (e.0, entry_member nat_cmp nat_same t e.0 k.tasks e.1)
 
@@ -172,5 +172,5 @@ module _ (k : Table) (way : ℕ → Way) (can_be : CanBe k) (can : CanBeNet (net
   to_job ((Request r, n), u) = refl
   to_job ((Machine m, n), u) = refl
 
-  pub preempts_are : (planned f k).preempts ≡ preempts_of_ways k way
+  pub preempts_are : (plan_of_flow f k).preempts ≡ preempts_of_ways k way
   preempts_are = ap (filter_map (preempt_of k)) (found_same unscheduled_in (going is_job) f (λ e _. to_job e) ∙ going_is is_job)

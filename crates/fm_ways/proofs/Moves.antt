@@ -17,7 +17,7 @@ use Rattle.fm_records.specs.Facts.{live_spec, is_live, holder_of, holds, attempt
 use Rattle.fm_net.specs.Net.{CanBeNet}
 use Rattle.fm_net.specs.ListLaws.{entry_member}
 use Rattle.fm_net.specs.Network.{is_held, net_of}
-use Rattle.fm_net.specs.NetworkLaws.{passed, live_entry, held_ends}
+use Rattle.fm_net.specs.NetworkLaws.{passes_some, live_entry, held_ends}
 use Rattle.fm_certificate.proofs.Members.{member_lookup}
 use Rattle.fm_certificate.proofs.Sums.{sum_same, sum_both}
 use Rattle.fm_round.specs.declared.parts.Place.{Place}
@@ -27,7 +27,7 @@ use Rattle.fm_round.specs.Schedules.{IsPlanOf}
 use Rattle.fm_ways.specs.Ways.{Way, ToJob, ByRequest, Straight, ways_of, goes_by, takes_slot, Fit}
 use Rattle.fm_ways.specs.Prices.{first_node, AreFair}
 use Rattle.fm_ways.specs.Plans.{is_job, is_run, goer, place_way, places_of_ways, preempts_of_ways, InTurn}
-use Rattle.fm_ways.specs.Moves.{rest_at, rest, moved, AreMoves, places_of_moves, preempts_of_moves, plan_of_moves}
+use Rattle.fm_ways.specs.Moves.{rest_at, rest, ways_with, AreMoves, places_of_moves, preempts_of_moves, plan_of_moves}
 use Rattle.fm_ways.proofs.Stands.{sum_ways}
 use Rattle.fm_ways.proofs.Listed.{found_same, fused}
 use Rattle.fm_ways.proofs.Rounds.{is_plan}
@@ -118,7 +118,7 @@ sum_found f g (x ∷ xs) =
 
 module _ (k : Table) (moves : List (ℕ × Way)) (can_be : CanBe k) (are : AreMoves k moves) where
   abbrev way : ℕ → Way
-  way = moved k moves
+  way = ways_with k moves
 
   abbrev at : ℕ → Option Way
   at t = lookup nat_cmp t moves
@@ -126,7 +126,7 @@ module _ (k : Table) (moves : List (ℕ × Way)) (can_be : CanBe k) (are : AreMo
   all : filter_map (row moves) k.tasks ≡ moves
   all = listed k.tasks moves can_be.table.tasks.rising are.rise (λ t w m.
       let live = are.live t w (member_lookup nat_cmp nat_cmp_total nat_same (t, w) moves are.rise m) in
-      let s = passed (λ s. true) (live_spec k t) live in
+      let s = passes_some (λ s. true) (live_spec k t) live in
       let e = live_entry k t s.0 s.1 in
       (e.0, entry_member nat_cmp nat_same t e.0 k.tasks e.1))
 

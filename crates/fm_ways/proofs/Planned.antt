@@ -23,7 +23,7 @@ use Rattle.fm_net.specs.Network.{is_held, net_of}
 use Rattle.fm_net.specs.NetworkLaws.{is_network_of}
 use Rattle.fm_certificate.proofs.Members.{member_lookup}
 use Rattle.fm_round.specs.declared.parts.Place.{Place}
-use Rattle.fm_round.specs.Planned.{Wait, Units, units, units_over, wait_in, waits, seats, tasks_of, machines_of, machine_for, place_at, place_of, placed_in, planned}
+use Rattle.fm_round.specs.Planned.{Wait, Units, units, units_over, wait_in, waits, seats, tasks_of, machines_of, machine_for, place_at, place_of, placed_in, plan_of_flow}
 use Rattle.fm_round.proofs.Flows.{seats_counted}
 use Rattle.fm_ways.specs.Ways.{Way, ToJob, ByRequest, Straight, steps, units_of, ways_of, goes_by, Fit}
 use Rattle.fm_ways.specs.Prices.{first_node}
@@ -194,7 +194,7 @@ module _ (k : Table) (way : ℕ → Way) (can_be : CanBe k) (can : CanBeNet (net
   placed_is ((Request q, n), u) m = refl
   placed_is ((Machine q, n), u) m = refl
 
-  pub places_are : (planned f k).places ≡ places_of_ways k way
+  pub places_are : (plan_of_flow f k).places ≡ places_of_ways k way
   places_are =
       found_same (placed_in ws (seats f) k) (λ e. and_then place (going is_run e)) f placed_is
       ∙ sym (fused (going is_run) place f)

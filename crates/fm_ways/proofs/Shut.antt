@@ -11,12 +11,12 @@ use Rattle.fm_records.specs.Facts.{open_state, holder_of, holds}
 use Rattle.fm_net.specs.BoundLaws.{job_prices}
 use Rattle.fm_net.specs.Net.{CanBeNet}
 use Rattle.fm_net.specs.Network.{room_arc, preferred_arc, net_of}
-use Rattle.fm_net.specs.NetworkLaws.{passed, came_from, mapped_from, room_from, held_ends}
+use Rattle.fm_net.specs.NetworkLaws.{passes_some, came_from, mapped_from, room_from, held_ends}
 use Rattle.fm_round.specs.Schedules.{IsPlanOf}
 use Rattle.fm_ways.specs.Ways.{ByRequest, Straight}
 use Rattle.fm_ways.specs.Prices.{AreFair}
 use Rattle.fm_ways.specs.Plans.{InTurn}
-use Rattle.fm_ways.specs.Moves.{rest_at, moved, AreMoves, FitMoves, plan_of_moves}
+use Rattle.fm_ways.specs.Moves.{rest_at, ways_with, AreMoves, FitMoves, plan_of_moves}
 use Rattle.fm_ways.proofs.Moves.{moves_plan}
 use Rattle.fm_ways.proofs.FitMoves.{moves_fit}
 
@@ -33,7 +33,7 @@ module _ (k : Table) (can_be : CanBe k) (can : CanBeNet (net_of k)) (shut : (m :
   no_holder : {P : Type 0} (t m : ℕ) → holder_of k t ≡ Some m → P
   no_holder t m e =
       let held : holds k m t ≡ true = ap (passes (λ (x : ℕ). x == m)) e ∙ eq-eqb m m refl in
-      let state = passed (λ (r : MachineReg). true) (open_state k m) (held_ends k t m held).to in
+      let state = passes_some (λ (r : MachineReg). true) (open_state k m) (held_ends k t m held).to in
       no_open m state.0 state.1
 
   no_preferred : {P : Type 0} (s : SpecReg) (m : ℕ) (v : ℕ × ℕ) → preferred_arc k s m ≡ Some v → P
@@ -56,7 +56,7 @@ module _ (k : Table) (can_be : CanBe k) (can : CanBeNet (net_of k)) (shut : (m :
   none_fit : FitMoves k []
   none_fit = record { may = λ t w e. no_some e; room = λ r m v arc. omega arith; slots = λ m state e. no_open m state e }
 
-  none_fair : AreFair k (moved k []) (λ m. 0) (λ r. 1000000000)
+  none_fair : AreFair k (ways_with k []) (λ m. 0) (λ r. 1000000000)
   none_fair = record {
     load = λ m state e. no_open m state e;
     free = λ m state e _. no_open m state e;
@@ -70,7 +70,7 @@ module _ (k : Table) (can_be : CanBe k) (can : CanBeNet (net_of k)) (shut : (m :
     prefers = λ t m s v _ _ arc. no_preferred s m v arc;
   }
 
-  none_turn : InTurn k (moved k [])
+  none_turn : InTurn k (ways_with k [])
   none_turn t u r m n _ _ is _ _ = never_asks t r m (holder_of k t) is
 
   pub nothing_moves : IsPlanOf k (plan_of_moves k [])

@@ -13,7 +13,7 @@ use Rattle.fm_records.specs.Facts.{job_of, spec_of, live_spec, is_live, open_sta
 use Rattle.fm_net.specs.declared.node.Node.{Node}
 use Rattle.fm_net.specs.declared.node.Node.TheVariants.{Sink, Unscheduled, Request, Machine, Task}
 use Rattle.fm_net.specs.Network.{is_held, is_live_of, live_tasks, is_node, room_arc, arc_of, net_of}
-use Rattle.fm_net.specs.NetworkLaws.{passed, kept, room_from, ends_of, is_network_of}
+use Rattle.fm_net.specs.NetworkLaws.{passes_some, only_if_some, room_from, ends_of, is_network_of}
 use Rattle.fm_ways.specs.Ways.{Way, ToJob, ByRequest, Straight, steps_of, steps, ways_of, MayGo, HasArcsOf}
 
 -- members of lists in turn
@@ -61,21 +61,21 @@ module _ (k : Table) (way : ℕ → Way) where
 module _ (k : Table) where
   pub live_job : (t : ℕ) (s : SpecReg) → live_spec k t ≡ Some s → (r : JobReg) × (job_of k s.job ≡ Some r)
   live_job t s e =
-      let h = (kept _ (spec_of k t) s e).1 in
+      let h = (only_if_some _ (spec_of k t) s e).1 in
       let stand = (both_true _ _ (both_true _ _ h).0).1 in
-      let r = passed (λ r. not r.withdrawn) (job_of k s.job) stand in
+      let r = passes_some (λ r. not r.withdrawn) (job_of k s.job) stand in
       (r.0, r.1)
 
   pub job_arc : (t j : ℕ) → is_live_of k j t ≡ true → (v : ℕ × ℕ) × (arc_of k (Task t) (Unscheduled j) ≡ Some v)
   job_arc t j is =
-      let s = passed (λ (s : SpecReg). s.job == j) (live_spec k t) is in
+      let s = passes_some (λ (s : SpecReg). s.job == j) (live_spec k t) is in
       let r = live_job t s.0 s.1 in
       let there : job_of k j ≡ Some r.0 = ap (job_of k) (sym (eqb-true s.0.job j s.2)) ∙ r.1 in
       let v : ℕ × ℕ = (1, cond (is_held k t) r.0.preempt r.0.wait) in
       (v, ap (λ b. cond b (option_map (λ job. (1, cond (is_held k t) job.preempt job.wait)) (job_of k j)) None) is ∙ ap (option_map (λ job. (1, cond (is_held k t) job.preempt job.wait))) there)
 
   slot_arc : (m : ℕ) → is_node k (Machine m) ≡ true → (v : ℕ × ℕ) × (arc_of k (Machine m) Sink ≡ Some v)
-  slot_arc m h = let s = passed (λ r. true) (open_state k m) h in ((s.0.slots, 0), ap (option_map (λ state. (state.slots, 0))) s.1)
+  slot_arc m h = let s = passes_some (λ r. true) (open_state k m) h in ((s.0.slots, 0), ap (option_map (λ state. (state.slots, 0))) s.1)
 
   abbrev HasArc : Node × Node → Type 0
   HasArc s = (v : ℕ × ℕ) × (arc_of k s.0 s.1 ≡ Some v)

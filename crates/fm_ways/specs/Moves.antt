@@ -25,8 +25,8 @@ abbrev pub rest : Table → ℕ → Way
 rest k t = rest_at k t (holder_of k t)
 
 -- the ways of all tasks, where these move
-abbrev pub moved : Table → List (ℕ × Way) → ℕ → Way
-moved k moves t = or_else (rest k t) (lookup nat_cmp t moves)
+abbrev pub ways_with : Table → List (ℕ × Way) → ℕ → Way
+ways_with k moves t = or_else (rest k t) (lookup nat_cmp t moves)
 
 -- moves are of live tasks, ids rising
 pub record AreMoves (k : Table) (moves : List (ℕ × Way)) : Type 0 where

@@ -2,7 +2,7 @@
 
 ghost use Rattle.std.specs.Prelude.{◌≡◌, ℕ, ◌+◌, List, [], None, IsTrue, count_by};
 ghost use Rattle.fm_records.specs.Facts.{open_state, holds};
-ghost use Rattle.fm_ways.specs.Moves.{moved, AreMoves, FitMoves, plan_of_moves};
+ghost use Rattle.fm_ways.specs.Moves.{ways_with, AreMoves, FitMoves, plan_of_moves};
 ghost use Rattle.fm_lattice.specs.Maps.{IsRising};
 ghost use Rattle.fm_net.specs.declared.node.Node.{Node as NodeName};
 ghost use Rattle.fm_net.specs.Nodes.{ends_cmp};
@@ -12,7 +12,7 @@ ghost use Rattle.fm_net.specs.Net.{Net, CanBeNet};
 ghost use Rattle.fm_net.specs.Network.{net_of};
 ghost use Rattle.fm_certificate.specs.Flows.{leaving, entering, is_between, IsFeasible, IsLeast};
 ghost use Rattle.fm_round.specs.Schedules.{IsPlanOf};
-ghost use Rattle.fm_round.specs.Planned.{units_over, planned};
+ghost use Rattle.fm_round.specs.Planned.{units_over, plan_of_flow};
 ghost use Rattle.fm_ways.specs.Plans.{preempts_of_ways, places_of_ways, plan_of_ways, all_at_jobs, InTurn};
 ghost use Rattle.fm_ways.specs.Prices.{AreCheapest, AreFair};
 ghost use Rattle.fm_ways.specs.Ways.{Way, units_of, ways_of, goes_by, takes_slot, HasArcsOf, Fit};
@@ -45,13 +45,13 @@ pub fn law_fair()
 /// The plan of the flow preempts just the held tasks whose way is over their job.
 pub fn law_preempts()
     ensures { (k : Table) (way : ℕ → Way) → CanBe k → CanBeNet (net_of k) → Fit k way
-        → (planned (units_over (net_of k) (units_of (ways_of k way))) k).preempts ≡ preempts_of_ways k way }
+        → (plan_of_flow (units_over (net_of k) (units_of (ways_of k way))) k).preempts ≡ preempts_of_ways k way }
 {}
 
 /// If the tasks of each request go in turn, the plan of the flow has each task at the machine of its way.
 pub fn law_places()
     ensures { (k : Table) (way : ℕ → Way) → CanBe k → CanBeNet (net_of k) → Fit k way → InTurn k way
-        → (planned (units_over (net_of k) (units_of (ways_of k way))) k).places ≡ places_of_ways k way }
+        → (plan_of_flow (units_over (net_of k) (units_of (ways_of k way))) k).places ≡ places_of_ways k way }
 {}
 
 /// So the plan of such ways is a plan of what is known: that of a least flow of its network. Nobody has to build the network.
@@ -69,18 +69,18 @@ pub fn law_at_jobs()
 /// those that move, and those that move to it.
 pub fn law_counts()
     ensures asked { (k : Table) (moves : List (ℕ × Way)) → CanBe k → AreMoves k moves → (r m : ℕ)
-        → count_by (goes_by r m) (ways_of k (moved k moves)) ≡ count_by (goes_by r m) moves }
+        → count_by (goes_by r m) (ways_of k (ways_with k moves)) ≡ count_by (goes_by r m) moves }
     ensures slots { (k : Table) (moves : List (ℕ × Way)) → CanBe k → AreMoves k moves → (m : ℕ)
-        → count_by (takes_slot m) (ways_of k (moved k moves)) + count_by (λ w. holds k m w.0) moves
+        → count_by (takes_slot m) (ways_of k (ways_with k moves)) + count_by (λ w. holds k m w.0) moves
         ≡ count_by (λ e. holds k m e.0) k.tasks + count_by (takes_slot m) moves }
 {}
 
 /// And the plan is made of the moves alone.
 pub fn law_moves()
     ensures fit { (k : Table) (moves : List (ℕ × Way)) → CanBe k → AreMoves k moves → FitMoves k moves
-        → Fit k (moved k moves) }
+        → Fit k (ways_with k moves) }
     ensures plan { (k : Table) (moves : List (ℕ × Way)) (price offer : ℕ → ℕ) → CanBe k → CanBeNet (net_of k)
-        → AreMoves k moves → FitMoves k moves → AreFair k (moved k moves) price offer → InTurn k (moved k moves)
+        → AreMoves k moves → FitMoves k moves → AreFair k (ways_with k moves) price offer → InTurn k (ways_with k moves)
         → IsPlanOf k (plan_of_moves k moves) }
 {}
 

@@ -2,3 +2,4 @@ pub mod Gaps
 pub mod Roomy
 pub mod Pricing
 pub mod Suffices
+pub mod Growing

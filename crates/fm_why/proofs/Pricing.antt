@@ -24,7 +24,7 @@ use Rattle.fm_net.specs.declared.node.Node.TheVariants.{Sink, Unscheduled, Reque
 use Rattle.fm_net.specs.ListLaws.{member_passing, member_mapped, entry_member}
 use Rattle.fm_net.specs.Net.{Net, CanBeNet, IsArcKind, has_node, arc_at}
 use Rattle.fm_net.specs.Network.{is_held, is_live_of, arc_of, net_of}
-use Rattle.fm_net.specs.NetworkLaws.{where_true, passed, came_from, open_entry, is_network_of}
+use Rattle.fm_net.specs.NetworkLaws.{where_true, passes_some, came_from, open_entry, is_network_of}
 use Rattle.fm_net.specs.NodeOrder.{ends_exact, ends_total}
 use Rattle.fm_net.specs.Nodes.{ends_cmp}
 use Rattle.fm_net.specs.Same.{same_node, node_Decides}
@@ -191,7 +191,7 @@ module _ (k : Table) (net : Net) (least t r more : ℕ) where
 
   is_roomy : (m : ℕ) → has_room k m r ≡ true → IsMember m (roomy k r)
   is_roomy m room =
-      let spare = passed (λ s. nat_le r s) (spare_of k m) room in
+      let spare = passes_some (λ s. nat_le r s) (spare_of k m) room in
       let state = came_from (λ (s : MachineReg). when (nat_le (load_of k m) s.nic) (s.nic - load_of k m)) (open_state k m) spare.0 spare.1 in
       let entry = open_entry k m state.0 state.1 in
       let key = member_mapped (λ (e : ℕ × MachineValue). e.0) (m, entry.0) k.machines (entry_member nat_cmp nat_same m entry.0 k.machines entry.1) in

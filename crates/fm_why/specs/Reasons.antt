@@ -14,6 +14,7 @@ use Rattle.fm_why.specs.Running.{IsDearer, IsDearerOver}
 use Rattle.fm_why.specs.Ways.{way_cost, roomy}
 use Rattle.fm_why.specs.Pricing.{StaysLeast}
 use Rattle.fm_why.specs.Examples.{IsExample}
+use Rattle.fm_why.specs.Changes.{IsRemedy}
 use Rattle.fm_why.specs.declared.reasons.Choice.{Choice}
 use Rattle.fm_why.specs.declared.reasons.Choices.{Choices}
 use Rattle.fm_why.specs.declared.reasons.Reasons.{Reasons}
@@ -34,8 +35,8 @@ pub record IsFound (net : Net) (t j : ℕ) (choices : Choices) : Type 0 where
   pub waits : IsTrue choices.waits ↔ (0 < units (Task t) (Unscheduled j))
 
 -- a live task that no machine holds: its request and its price of waiting; the schedule; each machine to which it has a way, the
--- cheapest first; the price of waiting, for this task alone, up to which that schedule stays least: at each if there is none; and
--- possibly a schedule that runs it on the first of these machines
+-- cheapest first; the price of waiting, for this task alone, up to which that schedule stays least: at each if there is none;
+-- possibly a schedule that runs it on the first of these machines; and up to two changes by which it would run
 pub record AreChoices (k : Table) (t : ℕ) (spec : SpecReg) (choices : Choices) : Type 0 where
   pub request : choices.request ≡ spec.request
   pub wait : Some choices.wait ≡ option_map (λ job. job.wait) (job_of k spec.job)
@@ -50,6 +51,8 @@ pub record AreChoices (k : Table) (t : ℕ) (spec : SpecReg) (choices : Choices)
       → StaysLeast (net_of k) (Task t) (Unscheduled spec.job) more found.units
   pub example : IfSome choices.example (λ example.
       IsSomeAnd (slice_get choices.machines.items 0) (λ e. IsExample (net_of k) found.units t e.machine example))
+  pub remedies : All (IsRemedy k t spec.request) choices.remedies.items
+  pub few : length choices.remedies.items ≤ 2
 
 -- the reasons are those of the task: it is not known; or not live; or held, and by whom; or free
 abbrev pub AreReasons : Table → ℕ → Reasons → Type 0

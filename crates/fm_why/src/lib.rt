@@ -2,6 +2,7 @@
 #![tactic(auto)]
 
 mod bounds;
+mod changes;
 mod choosing;
 mod example;
 mod feasible;

@@ -29,6 +29,27 @@ pub struct Example {
     pub moves: Vec<Move>,
 }
 
+/// What an operator could tell of a machine.
+#[derive(Debug, Clone, Copy, PartialEq, Eq, Drop)]
+pub enum Change {
+    /// One more slot.
+    Slot,
+    /// So much more bandwidth.
+    Bandwidth(u32),
+}
+
+/// A change of one machine by which a task that waits would run.
+#[derive(Debug, Clone, Copy, PartialEq, Eq, Drop)]
+pub struct Remedy {
+    /// The machine that changes.
+    pub machine: MachineId,
+    pub change: Change,
+    /// A machine on which a least schedule runs the task then.
+    pub place: MachineId,
+    /// What that schedule costs.
+    pub cost: u128,
+}
+
 /// What there is to choose for a live task that no machine holds.
 #[derive(Debug, Drop)]
 pub struct Choices {
@@ -51,6 +72,8 @@ pub struct Choices {
     pub price: Option<u128>,
     /// A schedule that runs it on the first of the machines, if the one that was found leaves it waiting, and one was found.
     pub example: Option<Example>,
+    /// Up to two changes of a machine by which it would run, if the schedule that was found leaves it waiting.
+    pub remedies: Vec<Remedy>,
 }
 
 /// Where a task is.

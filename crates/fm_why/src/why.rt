@@ -1,6 +1,6 @@
 //! Why a task waits or runs.
 
-ghost use Rattle.std.specs.Prelude.{◌≡◌, ◌↔◌, ◌+◌, ◌<◌, ◌^◌, Some, None, IfOk, IfSome, IsTrue, option_map, slice_get};
+ghost use Rattle.std.specs.Prelude.{◌≡◌, ◌↔◌, ◌+◌, ◌<◌, ◌≤◌, ◌^◌, Some, None, IfOk, IfSome, IsTrue, length, option_map, slice_get};
 ghost use Rattle.std.specs.List.{All};
 ghost use Rattle.fm_records.specs.Facts.{job_of, live_spec, holder_of};
 ghost use Rattle.fm_net.specs.Network.{net_of};
@@ -10,13 +10,15 @@ ghost use Rattle.fm_certificate.specs.Flows.{units_in};
 ghost use Rattle.fm_why.specs.Examples.{IsExample};
 ghost use Rattle.fm_certificate.specs.Certificates.{IsCertified};
 ghost use Rattle.fm_why.specs.Schedule.{IsSchedule};
+ghost use Rattle.fm_why.specs.Changes.{IsRemedy};
 ghost use Rattle.fm_why.specs.Reasons.{AreChoices, AreReasons};
 
 use crate::bounds::{Schedule, more_over};
+use crate::changes::remedies_of;
 use crate::choosing::choices_of;
 use crate::example::example_on;
 use crate::feasible::{Aim, has_units};
-use crate::reasons::{Choice, Choices, Example, Reasons};
+use crate::reasons::{Choice, Choices, Example, Reasons, Remedy};
 use crate::tuning::Paths;
 use fm_certificate::check::check;
 use fm_certificate::cost::cost;
@@ -35,9 +37,10 @@ use std::alloc::Global;
 
 /// Where the task is by what is known; for a live task that no machine holds, what its schedule costs, how much dearer
 /// each schedule is that runs it on a machine, or leaves it waiting, at least, up to which price of waiting its schedule
-/// stays least, and possibly a schedule that runs it on the cheapest machine. Refused only if memory runs out. If the
-/// task is live and not held, the cost is that of building the network and of solving it, of shortest paths in it, and
-/// of at most two flows that are tried, O(arcs log arcs) each; else that of look-ups.
+/// stays least, possibly a schedule that runs it on the cheapest machine, and up to two changes of a machine by which it
+/// would run. Refused only if memory runs out. If the task is live and not held, the cost is that of building the network
+/// and of solving it, of shortest paths in it, and of at most two flows that are tried, O(arcs log arcs) each; if it waits,
+/// also that of a tally and of at most two changed clusters that are built and solved. Else it is that of look-ups.
 pub fn why(alloc: Global, knowledge: &Knowledge, task: TaskId) -> Result<Reasons, OutOfMemory>
     ensures { IfOk result (AreReasons knowledge.now task) }
 {
@@ -86,17 +89,39 @@ fn choices(
     let listed = machines.as_slice();
     let price = price_of(job.wait, listed);
     let example = example_of(alloc, &network, &schedule, task, spec.request, listed)?;
+    let waits = has_units(&schedule.flow, &from, &to);
+    let remedies = remedies(alloc, knowledge, task, spec.request, listed, waits)?;
     Ok(Choices {
         request: spec.request,
         wait: job.wait,
         least: schedule.least,
-        waits: has_units(&schedule.flow, &from, &to),
+        waits,
         waiting: more_over(&network, &schedule, &from, &to),
         machines,
         known: knowledge.machines().len(),
         price,
         example,
+        remedies,
     })
+}
+
+// The changes of a machine by which the task would run, if it waits now.
+fn remedies(
+    alloc: Global,
+    knowledge: &Knowledge,
+    task: TaskId,
+    request: u32,
+    machines: &[Choice],
+    waits: bool,
+) -> Result<Vec<Remedy>, OutOfMemory>
+    ensures each { IfOk result (λ found. All (IsRemedy knowledge.now task request) found.items) }
+    ensures few { IfOk result (λ found. length found.items ≤ 2) }
+{
+    if waits {
+        remedies_of(alloc, knowledge, task, request, machines)
+    } else {
+        Ok(Vec::new(alloc))
+    }
 }
 
 // Up to which price of waiting the schedule stays least: that of waiting now, and what the cheapest machine costs more.

@@ -13,7 +13,7 @@ use Rattle.std.specs.Prelude.{nat_le, ◌&&◌}
 use Rattle.std.proofs.lemmas.Bool.{ltb-false, le-ltb, leb-true, le-leb}
 use Rattle.std.proofs.lemmas.List.{take_at, drop_at, take-append-drop, length-append, length-take}
 use Rattle.fm_records.specs.LookupLaws.{both_true}
-use Rattle.fm_wire.specs.Formats.{◌>>=◌, Format, bytes_of, number_at, number, only, leading, ◌⨾◌, seen_as, part, tagged, comes_after, key_at, record_at, records_at, counted, records}
+use Rattle.fm_wire.specs.Formats.{◌>>=◌, Format, bytes_of, number_at, number, only, leading, ◌⨾◌, seen_as, part, by_tag, comes_after, key_at, record_at, records_at, with_count, records}
 use Rattle.fm_wire.proofs.Binds.{bind_ok, guard_ok, ok_is}
 use Rattle.fm_wire.proofs.Walks.{less_is}
 use Rattle.fm_wire.proofs.Widths.{IsBytes, IsBytes-take, IsBytes-drop, IsWide, wide8, wide64}
@@ -124,13 +124,13 @@ part_lawful {A} true F f = record {
 part_lawful {A} false F f = only_lawful None
 
 pub tagged_lawful : {A : Type 0} (least greatest : ℕ) (tag_of : A → ℕ) (form : ℕ → Format A) → greatest < 2 ^ 8 → ((tag : ℕ) → Lawful (form tag)) → ((tag : ℕ) (a : A) → least ≤ tag → tag ≤ greatest → (form tag).has a → tag_of a ≡ tag)
-    → Lawful (tagged least greatest tag_of form)
+    → Lawful (by_tag least greatest tag_of form)
 tagged_lawful {A} least greatest tag_of form small forms tells =
     let tags = number_lawful w8 (2 ^ 8) least greatest wide8 small in
     record {
       again = λ a rest has.
           let tag = tag_of a in
-          ap (tagged least greatest tag_of form).read (append_assoc (bytes_of w8 tag) ((form tag).spell a) rest)
+          ap (by_tag least greatest tag_of form).read (append_assoc (bytes_of w8 tag) ((form tag).spell a) rest)
           ∙ rw (tags.again tag ((form tag).spell a ++ rest) has.0) ((forms tag).again a rest has.1);
       takes = λ bytes a rest fits e.
           let t = bind_ok (number_at w8 least greatest bytes) (λ tag. (form tag.0).read tag.1) (a, rest) e in
@@ -252,12 +252,12 @@ module _ {K V : Type 0} (cmp : K → K → Ordering) (total : IsTotalOrder cmp) 
         fits = there.fits;
       })
 
-  pub counted_lawful : (w : Width) (limit greatest : ℕ) → IsWide w limit → greatest < limit → Lawful (counted w greatest cmp F G)
+  pub counted_lawful : (w : Width) (limit greatest : ℕ) → IsWide w limit → greatest < limit → Lawful (with_count w greatest cmp F G)
   counted_lawful w limit greatest wide below =
       let counts = number_lawful w limit 0 greatest wide below in
       record {
         again = λ es rest has.
-            ap (counted w greatest cmp F G).read (append_assoc (bytes_of w (length es)) (flat_map spell_one es) rest)
+            ap (with_count w greatest cmp F G).read (append_assoc (bytes_of w (length es)) (flat_map spell_one es) rest)
             ∙ rw (counts.again (length es) (flat_map spell_one es ++ rest) (omega arith, has.0)) (again_all None es rest (starts_first es) has.1 has.2);
         takes = λ bytes es rest fits h.
             let n = bind_ok (number_at w 0 greatest bytes) (λ count. records_at cmp F G count.0 None count.1) (es, rest) h in

@@ -18,7 +18,7 @@ use Rattle.fm_delta.specs.declared.packet.Packet.{Packet}
 use Rattle.fm_wire.specs.Formats.{◌⨾◌, fault_place}
 use Rattle.fm_wire.specs.declared.version.Version.{Version}
 use Rattle.fm_wire.specs.declared.version.Version.TheVariants.{Fdg1, Fdg2}
-use Rattle.fm_wire.specs.Grammar.{id, attempt, coordinator, job, task, machine, spot, Listed, listed, entry_cmp, entries_at, entries_of, header, body, version_word, packet, spelling_in, fault, IsPacket, CanSpell, Spells, IsSpelling}
+use Rattle.fm_wire.specs.Grammar.{id, attempt, coordinator, job, task, machine, spot, Listed, lists_of, entry_cmp, entries_at, entries_of, header, body, version_word, packet, spelling_in, fault, IsPacket, CanSpell, Spells, IsSpelling}
 use Rattle.fm_wire.proofs.Widths.{IsBytes}
 use Rattle.fm_wire.proofs.PacketLawful.{packet_lawful}
 use Rattle.fm_wire.proofs.Grouped.{entry_total, entries_rise, full_rise, AreGroups, groups_begin, groups_end, entry_step, with_entry, below_groups}
@@ -43,7 +43,7 @@ unfolding version_word
 version_has Fdg1 = (omega arith, omega arith)
 version_has Fdg2 = (omega arith, omega arith)
 
-body_has : (v : Version) (p : Packet) → IsPacket p → CanSpell v p → (body v).has (listed p)
+body_has : (v : Version) (p : Packet) → IsPacket p → CanSpell v p → (body v).has (lists_of p)
 unfolding body header
 body_has v p is can =
     let k = p.value in
@@ -69,7 +69,7 @@ body_has v p is can =
       ),
     )
 
-packet_has : (v : Version) (p : Packet) → IsPacket p → CanSpell v p → packet.has (v, listed p)
+packet_has : (v : Version) (p : Packet) → IsPacket p → CanSpell v p → packet.has (v, lists_of p)
 unfolding packet
 packet_has v p is can = (version_has v, body_has v p is can)
 
@@ -100,7 +100,7 @@ found_can_be v w groups has is map =
           (entries_out groups fields);
     }
 
-found_is_packet : (v : Version) (p : Packet) → (body v).has (listed p) → CanBe p.value → IsPacket p
+found_is_packet : (v : Version) (p : Packet) → (body v).has (lists_of p) → CanBe p.value → IsPacket p
 unfolding body header
 found_is_packet v p has value = record {
   sender = λ i. le-leb 1 p.sender has.0.0.0 i && le-leb p.sender 64 has.0.0.1 i;
@@ -112,7 +112,7 @@ found_is_packet v p has value = record {
   entries = omega (arith, has.1.1.1.1.0);
 }
 
-found_can_spell : (v : Version) (p : Packet) → (body v).has (listed p) → CanSpell v p
+found_can_spell : (v : Version) (p : Packet) → (body v).has (lists_of p) → CanSpell v p
 unfolding body
 found_can_spell v p has = tasks_can v p has.1.1.0.2
 
@@ -136,13 +136,13 @@ record IsOf (v : Version) (w : Listed) : Type 0 where
   told : Packet
   packet : IsPacket told
   can_spell : CanSpell v told
-  same : listed told ≡ w
+  same : lists_of told ≡ w
 
 is_of : (v : Version) (w : Listed) → (body v).has w → IsOf v w
 is_of v w has =
     let g = grouped w.entries (entries_rising v w has) in
     let p : Packet = record { sender = w.sender; number = w.number; value = record { jobs = w.jobs; tasks = w.tasks; machines = w.machines; proposals = g.0 } } in
-    let same : listed p ≡ w = λ i. record { sender = w.sender; number = w.number; jobs = w.jobs; tasks = w.tasks; machines = w.machines; entries = g.1 i } in
+    let same : lists_of p ≡ w = λ i. record { sender = w.sender; number = w.number; jobs = w.jobs; tasks = w.tasks; machines = w.machines; entries = g.1 i } in
     let told = subst (body v).has (sym same) has in
     record { told = p; packet = found_is_packet v p told (found_can_be v w g.0 has g.1 g.2); can_spell = found_can_spell v p told; same = same }
 
@@ -201,8 +201,8 @@ one_grouping ((at, s ∷ spots) ∷ a) ((to, t ∷ more) ∷ b) p q e =
 abbrev Told : Type 0
 Told = Version × Listed
 
-read_again : (v : Version) (p : Packet) (rest : List ℕ) → IsPacket p → CanSpell v p → packet.read (spelling_in v p ++ rest) ≡ Ok ((v, listed p), rest)
-read_again v p rest is can = packet_lawful.again (v, listed p) rest (packet_has v p is can)
+read_again : (v : Version) (p : Packet) (rest : List ℕ) → IsPacket p → CanSpell v p → packet.read (spelling_in v p ++ rest) ≡ Ok ((v, lists_of p), rest)
+read_again v p rest is can = packet_lawful.again (v, lists_of p) rest (packet_has v p is can)
 
 abbrev read_of : Told × List ℕ → Result (Told × List ℕ) ℕ
 read_of x = Ok x
@@ -210,7 +210,7 @@ read_of x = Ok x
 same_read : (x y : Told × List ℕ) → read_of x ≡ read_of y → x ≡ y
 same_read x y e = cc
 
-same_listed : (p q : Packet) → IsPacket p → IsPacket q → listed p ≡ listed q → p ≡ q
+same_listed : (p q : Packet) → IsPacket p → IsPacket q → lists_of p ≡ lists_of q → p ≡ q
 same_listed p q is_p is_q e =
     let groups = one_grouping p.value.proposals q.value.proposals is_p.value.table.proposals is_q.value.table.proposals (ap (λ (w : Listed). w.entries) e) in
     λ i. record { sender = (e i).sender; number = (e i).number; value = record { jobs = (e i).jobs; tasks = (e i).tasks; machines = (e i).machines; proposals = groups i } }
@@ -221,7 +221,7 @@ pub begins : (v w : Version) (p q : Packet) (rest : List ℕ) → IsPacket p →
 begins v w p q rest is_p is_q can_p can_q e =
     let left = read_again v p rest is_p can_p in
     let right = read_again w q [] is_q can_q in
-    let same : ((v, listed p), rest) ≡ ((w, listed q), []) = same_read ((v, listed p), rest) ((w, listed q), []) (sym left ∙ ap packet.read (e ∙ sym (append-nil (spelling_in w q))) ∙ right) in (
+    let same : ((v, lists_of p), rest) ≡ ((w, lists_of q), []) = same_read ((v, lists_of p), rest) ((w, lists_of q), []) (sym left ∙ ap packet.read (e ∙ sym (append-nil (spelling_in w q))) ∙ right) in (
       ap (λ (x : Told × List ℕ). x.0.0) same,
       same_listed p q is_p is_q (ap (λ (x : Told × List ℕ). x.0.1) same),
       ap (λ (x : Told × List ℕ). x.1) same,
@@ -251,16 +251,16 @@ spelled_where_none bytes fits none =
 
 pub none_where_spelled : (bytes : List ℕ) → IsSpelling bytes → fault bytes ≡ None
 none_where_spelled bytes (p, is, s) =
-    let read : packet.read bytes ≡ Ok ((s.0, listed p), []) = ap packet.read (s.2 ∙ sym (append-nil (spelling_in s.0 p))) ∙ read_again s.0 p [] is s.1 in
+    let read : packet.read bytes ≡ Ok ((s.0, lists_of p), []) = ap packet.read (s.2 ∙ sym (append-nil (spelling_in s.0 p))) ∙ read_again s.0 p [] is s.1 in
     ap (fault_place (length bytes)) read
 
 -- what was found in bytes without fault is the packet that they spell
-pub found_spelled : (bytes : List ℕ) (v : Version) (p : Packet) (rest : List ℕ) → IsBytes bytes → packet.read bytes ≡ Ok ((v, listed p), rest) → fault bytes ≡ None → Spells bytes p
+pub found_spelled : (bytes : List ℕ) (v : Version) (p : Packet) (rest : List ℕ) → IsBytes bytes → packet.read bytes ≡ Ok ((v, lists_of p), rest) → fault bytes ≡ None → Spells bytes p
 found_spelled bytes v p rest fits e none =
     let w = whole_of bytes (packet.read bytes) refl none in
-    let same : ((v, listed p), rest) ≡ (w.0, []) = same_read ((v, listed p), rest) (w.0, []) (sym e ∙ w.1) in
-    let took = packet_lawful.takes bytes (v, listed p) rest fits e in
-    (v, found_can_spell v p (has_body (v, listed p) took.has), took.whole ∙ ap (λ (x : Told × List ℕ). spelling_in v p ++ x.1) same ∙ append-nil (spelling_in v p))
+    let same : ((v, lists_of p), rest) ≡ (w.0, []) = same_read ((v, lists_of p), rest) (w.0, []) (sym e ∙ w.1) in
+    let took = packet_lawful.takes bytes (v, lists_of p) rest fits e in
+    (v, found_can_spell v p (has_body (v, lists_of p) took.has), took.whole ∙ ap (λ (x : Told × List ℕ). spelling_in v p ++ x.1) same ∙ append-nil (spelling_in v p))
 
-pub found_packet : (bytes : List ℕ) (v : Version) (p : Packet) (rest : List ℕ) → IsBytes bytes → packet.read bytes ≡ Ok ((v, listed p), rest) → CanBe p.value → IsPacket p
-found_packet bytes v p rest fits e value = found_is_packet v p (has_body (v, listed p) (packet_lawful.takes bytes (v, listed p) rest fits e).has) value
+pub found_packet : (bytes : List ℕ) (v : Version) (p : Packet) (rest : List ℕ) → IsBytes bytes → packet.read bytes ≡ Ok ((v, lists_of p), rest) → CanBe p.value → IsPacket p
+found_packet bytes v p rest fits e value = found_is_packet v p (has_body (v, lists_of p) (packet_lawful.takes bytes (v, lists_of p) rest fits e).has) value

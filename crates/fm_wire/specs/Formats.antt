@@ -96,8 +96,8 @@ part true F = record {
 part false F = only None
 
 -- a byte from least to greatest, which tells by what format the value follows
-abbrev pub tagged : {A : Type 0} → ℕ → ℕ → (A → ℕ) → (ℕ → Format A) → Format A
-tagged least greatest tag_of form = record {
+abbrev pub by_tag : {A : Type 0} → ℕ → ℕ → (A → ℕ) → (ℕ → Format A) → Format A
+by_tag least greatest tag_of form = record {
   has = λ a. (number w8 least greatest).has (tag_of a) × (form (tag_of a)).has a;
   spell = λ a. bytes_of w8 (tag_of a) ++ (form (tag_of a)).spell a;
   read = λ bytes. do
@@ -132,8 +132,8 @@ records_at cmp F G (suc n) last bytes = do
   Ok (first.0 ∷ others.0, others.1)
 
 -- records, keys rising, behind their count: a number of so many bits, up to the greatest
-abbrev pub counted : {K V : Type 0} → Width → ℕ → (K → K → Ordering) → Format K → Format V → Format (List (K × V))
-counted w greatest cmp F G = record {
+abbrev pub with_count : {K V : Type 0} → Width → ℕ → (K → K → Ordering) → Format K → Format V → Format (List (K × V))
+with_count w greatest cmp F G = record {
   has = λ es. (length es ≤ greatest) × IsRising cmp es × AllByRecursion (λ e. F.has e.0 × G.has e.1) es;
   spell = λ es. bytes_of w (length es) ++ flat_map (λ e. F.spell e.0 ++ G.spell e.1) es;
   read = λ bytes. do
@@ -143,7 +143,7 @@ counted w greatest cmp F G = record {
 
 -- as many records as there are
 abbrev pub records : {K V : Type 0} → (K → K → Ordering) → Format K → Format V → Format (List (K × V))
-records = counted w64 (2 ^ 64 - 1)
+records = with_count w64 (2 ^ 64 - 1)
 
 -- the place of the first fault in so many bytes that are to be one value and nothing more: none if all were read, the
 -- first byte after the value if there is one, else where the reading failed

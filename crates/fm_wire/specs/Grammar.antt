@@ -20,7 +20,7 @@ use Rattle.fm_records.specs.Table.{TaskValue, MachineValue}
 use Rattle.fm_delta.specs.declared.packet.Packet.{Packet}
 use Rattle.fm_wire.specs.declared.version.Version.{Version}
 use Rattle.fm_wire.specs.declared.version.Version.TheVariants.{Fdg1, Fdg2}
-use Rattle.fm_wire.specs.Formats.{Format, number, only, leading, ◌⨾◌, seen_as, part, tagged, counted, records, fault_in}
+use Rattle.fm_wire.specs.Formats.{Format, number, only, leading, ◌⨾◌, seen_as, part, by_tag, with_count, records, fault_in}
 
 -- the fields that several records have
 abbrev pub id : Format ℕ
@@ -60,7 +60,7 @@ job = seen_as (count ⨾ coordinator ⨾ flag ⨾ price ⨾ price)
 -- the machines that a task prefers, rising and four at most, each with its credit; in the first version there are none
 unfoldable pub preferences : Version → Format (List (ℕ × ℕ))
 preferences Fdg1 = only []
-preferences Fdg2 = counted w8 4 nat_cmp id price
+preferences Fdg2 = with_count w8 4 nat_cmp id price
 
 -- version, writer, withdrawn, job, request, preferences
 unfoldable pub spec : Version → Format SpecReg
@@ -73,7 +73,7 @@ abbrev pub has_of : Option SpecReg → ℕ
 has_of o = cond (is_some o) 1 0
 
 unfoldable pub optional_spec : Version → Format (Option SpecReg)
-optional_spec v = tagged 0 1 has_of (λ has. part (has == 1) (spec v))
+optional_spec v = by_tag 0 1 has_of (λ has. part (has == 1) (spec v))
 
 -- attempt, phase, has, and the spec if it follows
 unfoldable pub task : Version → Format TaskValue
@@ -99,7 +99,7 @@ parts_of (None, Some r) = 2
 parts_of (Some s, Some r) = 3
 
 unfoldable pub parts : Format (Option MachineReg × Option Report)
-parts = tagged 1 3 parts_of (λ parts. part (parts == 1 || parts == 3) state ⨾ part (parts == 2 || parts == 3) report)
+parts = by_tag 1 3 parts_of (λ parts. part (parts == 1 || parts == 3) state ⨾ part (parts == 2 || parts == 3) report)
 
 -- incarnation, parts, and the parts that follow
 unfoldable pub machine : Format MachineValue
@@ -129,8 +129,8 @@ entries_at at spots = map (λ c. ((at, c.0), c.1)) spots
 abbrev pub entries_of : List ((ℕ × ℕ) × List (ℕ × Spot)) → List (((ℕ × ℕ) × ℕ) × Spot)
 entries_of = flat_map (λ e. entries_at e.0 e.1)
 
-abbrev pub listed : Packet → Listed
-listed p = record {
+abbrev pub lists_of : Packet → Listed
+lists_of p = record {
   sender = p.sender;
   number = p.number;
   jobs = p.value.jobs;
@@ -180,7 +180,7 @@ packet = leading version_word body
 
 -- the bytes of a packet in a version
 abbrev pub spelling_in : Version → Packet → List ℕ
-spelling_in v p = packet.spell (v, listed p)
+spelling_in v p = packet.spell (v, lists_of p)
 
 -- the bytes of a packet: in the version in which packets are written
 abbrev pub spelling : Packet → List ℕ

@@ -5,7 +5,7 @@ use Rattle.fm_wire.specs.declared.fault.ReadError.TheVariants as errors
 use Rattle.fm_wire.specs.declared.version.Version.{Version}
 use Rattle.fm_delta.specs.declared.packet.Packet.{Packet}
 use Rattle.fm_wire.specs.Formats.{Reading}
-use Rattle.fm_wire.specs.Grammar.{Listed, listed}
+use Rattle.fm_wire.specs.Grammar.{Listed, lists_of}
 
 -- what a function answered, seen by view, is what reading gives
 abbrev pub Gives : {X Y : Type 0} → (X → Y) → Result X ℕ → Result Y ℕ → Type 0
@@ -28,10 +28,10 @@ rest_of (Err left) = Err left
 
 -- the packet's lists are at the front, unless memory ran out
 abbrev pub FindsListed : Result Packet ReadError → Reading Listed → Type 0
-FindsListed (Ok p) read = (rest : List ℕ) × (read ≡ Ok (listed p, rest))
+FindsListed (Ok p) read = (rest : List ℕ) × (read ≡ Ok (lists_of p, rest))
 FindsListed (Err e) read = Fails e read
 
 -- the packet is at the front in one of the versions, unless memory ran out
 abbrev pub Finds : Result Packet ReadError → Reading (Version × Listed) → Type 0
-Finds (Ok p) read = (v : Version) × (rest : List ℕ) × (read ≡ Ok ((v, listed p), rest))
+Finds (Ok p) read = (v : Version) × (rest : List ℕ) × (read ≡ Ok ((v, lists_of p), rest))
 Finds (Err e) read = Fails e read

@@ -15,7 +15,7 @@ use Rattle.clap.specs.declared.error.ErrorKind.TheVariants as kind
 use Rattle.clap.specs.declared.parser.matches.ValueSource.TheVariants.{CommandLine}
 use Rattle.clap.proofs.OnLiterals.{clap_on_literals}
 use Rattle.fm_words.specs.Telling.{Telling, Text, wrong}
-use Rattle.fm_words.specs.Heard.{dashes, long, ends, ends_at, shown, counts, name_at, name_or_option_at, number, number_at, number_in, option_at, with_name, with_name_and_option, with_option}
+use Rattle.fm_words.specs.Heard.{dashes, long, ends, ends_at, look_telling, counts, name_at, name_or_option_at, number, number_at, number_in, option_at, with_name, with_name_and_option, with_option}
 use Rattle.fm_words.specs.Parser.{name_rule, number_of, number_read, number_rule}
 use Rattle.fm_words.proofs.Looks.{by_look, is_end, letter_in}
 use Rattle.fm_words.proofs.Digits.{is_read, taken}
@@ -189,7 +189,7 @@ again c b rows has (w ∷ rest) =
 -- ---- behind the option
 
 -- the option's name is not that of help
-no_help_shown : (n : Text) (v : Option Text) → bytes_eq (codes "at") n ≡ true → shown (long n v) ≡ wrong
+no_help_shown : (n : Text) (v : Option Text) → bytes_eq (codes "at") n ≡ true → look_telling (long n v) ≡ wrong
 unfolding clap_on_literals
 no_help_shown n None m =
     let is : codes "at" ≡ n = (bytes_eq-Decides (codes "at") n).0 m in
@@ -229,10 +229,10 @@ module _ (c : Both) (b : Option Text) (rows : List Row) (pending : Option (Text 
   option_again has w rest n None e l m = passes (shape c) c.tell here (waits b come) w rest (rw (e, l, m, s.no_fault) refl) (rw (e, l, m, s.comes_to) refl) ∙ again c b come has rest
   option_again has w rest n (Some x) e l m = rw (e, l, m, s.no_fault, s.comes_to, has) refl
 
-  on_long : HasNumber come → (w : Text) (rest : List Text) (n : Text) (v : Option Text) → is_end w ≡ false → long_of w ≡ Some (n, v) → comes c here (w ∷ rest) ≡ shown (long n v) ∷ []
+  on_long : HasNumber come → (w : Text) (rest : List Text) (n : Text) (v : Option Text) → is_end w ≡ false → long_of w ≡ Some (n, v) → comes c here (w ∷ rest) ≡ look_telling (long n v) ∷ []
   on_long has w rest n v e l = go (bytes_eq (codes "at") n) refl
     where
-      go : (k : Bool) → bytes_eq (codes "at") n ≡ k → comes c here (w ∷ rest) ≡ shown (long n v) ∷ []
+      go : (k : Bool) → bytes_eq (codes "at") n ≡ k → comes c here (w ∷ rest) ≡ look_telling (long n v) ∷ []
       go true k = option_again has w rest n v e l k ∙ ap (λ t. t ∷ []) (sym (no_help_shown n v k))
       go false k = at_long (place c b rows pending s.no_fault) w rest n v e l (help_at n k)
 
@@ -378,10 +378,10 @@ option_named c b w rest n (Some z) e l m = in_own_word c b w rest n z e l m
 
 -- the option's name, or another
 by_name : (c : Both) (b : Option Text) (w : Text) (rest : List Text) (n : Text) (v : Option Text) → is_end w ≡ false → long_of w ≡ Some (n, v)
-    → comes c (begun b) (w ∷ rest) ≡ (if bytes_eq (codes "at") n then number 0 255 (goes c b) v rest else shown (long n v)) ∷ []
+    → comes c (begun b) (w ∷ rest) ≡ (if bytes_eq (codes "at") n then number 0 255 (goes c b) v rest else look_telling (long n v)) ∷ []
 by_name c b w rest n v e l = go (bytes_eq (codes "at") n) refl
   where
-    go : (k : Bool) → bytes_eq (codes "at") n ≡ k → comes c (begun b) (w ∷ rest) ≡ (if k then number 0 255 (goes c b) v rest else shown (long n v)) ∷ []
+    go : (k : Bool) → bytes_eq (codes "at") n ≡ k → comes c (begun b) (w ∷ rest) ≡ (if k then number 0 255 (goes c b) v rest else look_telling (long n v)) ∷ []
     go true m = option_named c b w rest n v e l m
     go false m = at_long (place c b [] (held_name b) (begun_no_fault b)) w rest n v e l (help_at n m)
 

@@ -8,7 +8,7 @@ use Rattle.clap.specs.Words.{Row}
 use Rattle.fm_words.specs.declared.words.Question.{Question}
 use Rattle.fm_words.specs.declared.words.Question.TheVariants as question
 use Rattle.fm_words.specs.Telling.{Text, agree, ask, fleet, follow, pack, run, unpack, why, wrong}
-use Rattle.fm_words.specs.Heard.{Form, asks, commands, default_renew_after, fleets, follows, given, most_renew_after, nothing, packs, whys}
+use Rattle.fm_words.specs.Heard.{Form, asks, commands, default_renew_after, fleets, follows, telling_of_words, most_renew_after, nothing, packs, whys}
 use Rattle.fm_words.specs.Parser.{tellings, told_as, told_with}
 use Rattle.fm_words.proofs.Leaf.{built_with, helper}
 use Rattle.fm_words.proofs.Entering.{enter}
@@ -20,7 +20,7 @@ use Rattle.fm_words.proofs.Both.{Both, takes_both}
 use Rattle.fm_words.proofs.Both as both
 
 abbrev pub IsTold : Form → Type 0
-IsTold c = (program : Text) (rest : List Text) → tellings (program ∷ c.name ∷ rest) ≡ given c.takes rest ∷ []
+IsTold c = (program : Text) (rest : List Text) → tellings (program ∷ c.name ∷ rest) ≡ telling_of_words c.takes rest ∷ []
 
 -- P holds of each
 abbrev pub Each : (Form → Type 0) → List Form → Type 0

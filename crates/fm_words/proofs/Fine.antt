@@ -8,7 +8,7 @@ use Rattle.clap.specs.Walk.{arg_by_index, idle}
 use Rattle.clap.specs.Faults.{settle_fault}
 use Rattle.clap.proofs.OnLiterals.{clap_on_literals}
 use Rattle.fm_words.specs.Telling.{Telling, Text, wrong}
-use Rattle.fm_words.specs.Heard.{dashes, long, short, ends, ends_at, shown}
+use Rattle.fm_words.specs.Heard.{dashes, long, short, ends, ends_at, look_telling}
 use Rattle.fm_words.proofs.Looks.{by_look, is_end, letter_in}
 use Rattle.fm_words.proofs.Leaf.{HasLetterOfHelp, HelpsAt, at, built_with, held_at, leaf_from}
 
@@ -33,22 +33,22 @@ pub record IsLast (p : Place) (t : Telling) : Type 0 where
 
 -- a long name that is no argument's, but that of help
 pub at_long : (p : Place) (w : Text) (rest : List Text) (n : Text) (v : Option Text) → is_end w ≡ false → long_of w ≡ Some (n, v) → HelpsAt p.rules n
-    → comes p (w ∷ rest) ≡ shown (long n v) ∷ []
+    → comes p (w ∷ rest) ≡ look_telling (long n v) ∷ []
 unfolding clap_on_literals
 at_long p w rest n v e l k = go (bytes_eq (codes "help") n) v refl l
   where
-    go : (b : Bool) (u : Option Text) → bytes_eq (codes "help") n ≡ b → long_of w ≡ Some (n, u) → comes p (w ∷ rest) ≡ shown (long n u) ∷ []
+    go : (b : Bool) (u : Option Text) → bytes_eq (codes "help") n ≡ b → long_of w ≡ Some (n, u) → comes p (w ∷ rest) ≡ look_telling (long n u) ∷ []
     go true None h l = rw (e, l, k, h, p.no_fault) refl
     go true (Some x) h l = rw (e, l, k, h) refl
     go false None h l = rw (e, l, k, h) refl
     go false (Some x) h l = rw (e, l, k, h) refl
 
 pub at_short : (p : Place) (w : Text) (rest : List Text) (x : ℕ) (xs : Text) (c : ℕ) → is_end w ≡ false → long_of w ≡ None → short_of w ≡ Some (x ∷ xs) → slice_get (chars (x ∷ xs)) 0 ≡ Some c
-    → comes p (w ∷ rest) ≡ shown (short c) ∷ []
+    → comes p (w ∷ rest) ≡ look_telling (short c) ∷ []
 unfolding clap_on_literals
 at_short p w rest x xs c e l s o = go (104 == c) refl
   where
-    go : (b : Bool) → (104 == c) ≡ b → comes p (w ∷ rest) ≡ shown (short c) ∷ []
+    go : (b : Bool) → (104 == c) ≡ b → comes p (w ∷ rest) ≡ look_telling (short c) ∷ []
     go true h = rw (e, l, s, o, p.letters c, h, p.no_fault) refl
     go false h = rw (e, l, s, o, p.letters c, h) refl
 

@@ -14,7 +14,7 @@ use Rattle.clap.specs.declared.error.ErrorKind.TheVariants as kind
 use Rattle.clap.specs.declared.parser.matches.ValueSource.TheVariants.{CommandLine}
 use Rattle.clap.proofs.OnLiterals.{clap_on_literals}
 use Rattle.fm_words.specs.Telling.{Telling, Text, wrong}
-use Rattle.fm_words.specs.Heard.{long, ends, ends_at, shown, counts, number, number_at, number_in, option_at, with_option}
+use Rattle.fm_words.specs.Heard.{long, ends, ends_at, look_telling, counts, number, number_at, number_in, option_at, with_option}
 use Rattle.fm_words.specs.Parser.{number_of, number_read, number_rule}
 use Rattle.fm_words.proofs.Same.{flipped}
 use Rattle.fm_words.proofs.Looks.{by_look, is_end, letter_in}
@@ -187,7 +187,7 @@ unfolding clap_on_literals
 own_is_last c z n is = record { no_positional = refl; is_told = rw (c.itself, c.no_help, c.tells, c.itself, is) refl }
 
 -- the option's name is not that of help
-no_help_shown : (c : Numbered) (n : Text) (v : Option Text) → bytes_eq c.option_name n ≡ true → shown (long n v) ≡ wrong
+no_help_shown : (c : Numbered) (n : Text) (v : Option Text) → bytes_eq c.option_name n ≡ true → look_telling (long n v) ≡ wrong
 no_help_shown c n None m =
     let is : c.option_name ≡ n = (bytes_eq-Decides c.option_name n).0 m in
     let flipped : bytes_eq (codes "help") c.option_name ≡ false = flipped c.option_name (codes "help") false c.no_help in
@@ -219,10 +219,10 @@ next_ends c z good n is (w ∷ rest) =
     by_look w (λ look. comes c (next c [] z) (w ∷ rest) ≡ ends_at look t rest ∷ [])
     (at_dashes p t (next_is_last c z good n is) w rest) on_long (at_short p w rest) (at_plain p t (next_is_last c z good n is) w rest)
   where
-    on_long : (m : Text) (v : Option Text) → is_end w ≡ false → long_of w ≡ Some (m, v) → comes c (next c [] z) (w ∷ rest) ≡ shown (long m v) ∷ []
+    on_long : (m : Text) (v : Option Text) → is_end w ≡ false → long_of w ≡ Some (m, v) → comes c (next c [] z) (w ∷ rest) ≡ look_telling (long m v) ∷ []
     on_long m v e l = go (bytes_eq c.option_name m) refl
       where
-        go : (b : Bool) → bytes_eq c.option_name m ≡ b → comes c (next c [] z) (w ∷ rest) ≡ shown (long m v) ∷ []
+        go : (b : Bool) → bytes_eq c.option_name m ≡ b → comes c (next c [] z) (w ∷ rest) ≡ look_telling (long m v) ∷ []
         go true k = next_again c z good w rest m v e l k ∙ ap (λ t. t ∷ []) (sym (no_help_shown c m v k))
         go false k = at_long (in_next c z good) w rest m v e l (help_at c m k)
 
@@ -234,10 +234,10 @@ own_ends c z n is (w ∷ rest) =
     by_look w (λ look. comes c (own c z) (w ∷ rest) ≡ ends_at look t rest ∷ [])
     (at_dashes p t (own_is_last c z n is) w rest) on_long (at_short p w rest) (at_plain p t (own_is_last c z n is) w rest)
   where
-    on_long : (m : Text) (v : Option Text) → is_end w ≡ false → long_of w ≡ Some (m, v) → comes c (own c z) (w ∷ rest) ≡ shown (long m v) ∷ []
+    on_long : (m : Text) (v : Option Text) → is_end w ≡ false → long_of w ≡ Some (m, v) → comes c (own c z) (w ∷ rest) ≡ look_telling (long m v) ∷ []
     on_long m v e l = go (bytes_eq c.option_name m) refl
       where
-        go : (b : Bool) → bytes_eq c.option_name m ≡ b → comes c (own c z) (w ∷ rest) ≡ shown (long m v) ∷ []
+        go : (b : Bool) → bytes_eq c.option_name m ≡ b → comes c (own c z) (w ∷ rest) ≡ look_telling (long m v) ∷ []
         go true k = own_again c z w rest m v e l k ∙ ap (λ t. t ∷ []) (sym (no_help_shown c m v k))
         go false k = at_long (in_own c z) w rest m v e l (help_at c m k)
 

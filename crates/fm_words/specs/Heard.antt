@@ -44,16 +44,16 @@ number_in least most v =
 -- ---- the words behind the name of a command
 
 -- a word that no command takes: `--help`, or `-h` with whatever follows it, asks for help; any other is wrong
-abbrev pub shown : Look → Telling
-shown (long name None) = if bytes_eq (codes "help") name then help else wrong
-shown (short c) = if 104 == c then help else wrong
-shown _ = wrong
+abbrev pub look_telling : Look → Telling
+look_telling (long name None) = if bytes_eq (codes "help") name then help else wrong
+look_telling (short c) = if 104 == c then help else wrong
+look_telling _ = wrong
 
 -- after the last argument there is nothing more, or `--` alone
 abbrev pub ends_at : Look → Telling → List Text → Telling
 ends_at dashes t [] = t
 ends_at dashes t (w ∷ rest) = wrong
-ends_at look t rest = shown look
+ends_at look t rest = look_telling look
 
 abbrev pub ends : Telling → List Text → Telling
 ends t [] = t
@@ -64,7 +64,7 @@ abbrev pub name_at : (Text → Telling) → Look → Text → List Text → Tell
 name_at give dashes w (name ∷ []) = give name
 name_at give dashes w rest = wrong
 name_at give plain w rest = ends (give w) rest
-name_at give look w rest = shown look
+name_at give look w rest = look_telling look
 
 abbrev pub with_name : (Text → Telling) → List Text → Telling
 with_name give [] = wrong
@@ -89,7 +89,7 @@ number least most next None (v ∷ rest) = number_at least most next (look_of v)
 -- an option with its number, once; or no argument
 abbrev pub option_at : Text → ℕ → ℕ → (Option ℕ → Telling) → Look → List Text → Telling
 option_at option least most give (long n v) rest =
-    if bytes_eq option n then number least most (λ k. ends (give (Some k))) v rest else shown (long n v)
+    if bytes_eq option n then number least most (λ k. ends (give (Some k))) v rest else look_telling (long n v)
 option_at option least most give look rest = ends_at look (give None) rest
 
 abbrev pub with_option : Text → ℕ → ℕ → (Option ℕ → Telling) → List Text → Telling
@@ -99,7 +99,7 @@ with_option option least most give (w ∷ rest) = option_at option least most gi
 -- a name, and an option with its number before or behind it, once; or the name alone
 abbrev pub name_or_option_at : Text → ℕ → ℕ → (Text → Option ℕ → Telling) → Look → Text → List Text → Telling
 name_or_option_at option least most give (long n v) w rest =
-    if bytes_eq option n then number least most (λ k. with_name (λ name. give name (Some k))) v rest else shown (long n v)
+    if bytes_eq option n then number least most (λ k. with_name (λ name. give name (Some k))) v rest else look_telling (long n v)
 name_or_option_at option least most give plain w rest = with_option option least most (give w) rest
 name_or_option_at option least most give look w rest = name_at (λ name. give name None) look w rest
 
@@ -168,11 +168,11 @@ commands = record { name = codes "agree"; takes = nothing (run agree) }
 -- ---- the command line, the program's own name first
 
 -- what a command asks for by the words behind its name
-abbrev pub given : Takes → List Text → Telling
-given (nothing t) = ends t
-given (one_name give) = with_name give
-given (one_number option least most give) = with_option option least most give
-given (name_and_number option least most give) = with_name_and_option option least most give
+abbrev pub telling_of_words : Takes → List Text → Telling
+telling_of_words (nothing t) = ends t
+telling_of_words (one_name give) = with_name give
+telling_of_words (one_number option least most give) = with_option option least most give
+telling_of_words (name_and_number option least most give) = with_name_and_option option least most give
 
 abbrev pub command_named : Text → Option Form
 command_named w = find (λ c. bytes_eq c.name w) commands
@@ -190,13 +190,13 @@ helps rest = wrong
 -- the first word: `help`, the name of a command, or a flag that asks for help
 abbrev pub heard_at : Text → List Text → Telling
 heard_at w rest = if bytes_eq (codes "help") w then helps rest
-    else option_map_or (λ c. given c.takes rest) (command_named w) (shown (look_of w))
+    else option_map_or (λ c. telling_of_words c.takes rest) (command_named w) (look_telling (look_of w))
 
 -- what the words ask for
-abbrev pub heard : List Text → Telling
-heard [] = wrong
-heard (program ∷ []) = wrong
-heard (program ∷ w ∷ rest) = heard_at w rest
+abbrev pub telling_of : List Text → Telling
+telling_of [] = wrong
+telling_of (program ∷ []) = wrong
+telling_of (program ∷ w ∷ rest) = heard_at w rest
 
 -- the words are `help refusals`, behind the program's name
 abbrev pub ask_for_refusals : List Text → Bool

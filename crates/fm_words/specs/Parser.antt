@@ -1,4 +1,4 @@
--- The commands as the kit's `clap` has them, and what it may make of words. What comes of it is `heard`, which needs
+-- The commands as the kit's `clap` has them, and what it may make of words. What comes of it is `telling_of`, which needs
 -- none of this.
 use Rattle.std.specs.Prelude.{◌≡◌, ◌⊎◌, ◌^◌, ◌&&◌, ℕ, Bool, true, false, pos, nat_le, nat_lt, IfOk, Result}
 use Rattle.std.specs.Prelude.{List, [], ◌∷◌, map, fold, find, codes, bytes_eq}
@@ -14,7 +14,7 @@ use Rattle.clap.specs.declared.error.ErrorKind.{ErrorKind}
 use Rattle.clap.specs.declared.error.ErrorKind.TheVariants as kind
 use Rattle.fm_words.specs.declared.words.Words.{Words}
 use Rattle.fm_words.specs.Telling.{Telling, Text, help, told_of, wrong}
-use Rattle.fm_words.specs.Heard.{Form, Takes, nothing, one_name, one_number, name_and_number, commands, heard, is_topic}
+use Rattle.fm_words.specs.Heard.{Form, Takes, nothing, one_name, one_number, name_and_number, commands, telling_of, is_topic}
 
 -- ---- the commands
 
@@ -114,4 +114,4 @@ IsOneOf t (x ∷ xs) = (t ≡ x) ⊎ IsOneOf t xs
 
 -- what was made of the words is what they ask for
 abbrev pub IsHeard : {E : Type 0} → List Text → Result Words E → Type 0
-IsHeard all r = IfOk r (λ w. told_of w ≡ heard all)
+IsHeard all r = IfOk r (λ w. told_of w ≡ telling_of all)

@@ -1,7 +1,7 @@
 //! What the words of a command line ask for.
 
 ghost use Rattle.std.specs.Prelude.{◌≡◌, IfOk, IsOkUnless, IsTrue, Ok, false, map, string_bytes};
-ghost use Rattle.fm_words.specs.Heard.{ask_for_refusals, heard};
+ghost use Rattle.fm_words.specs.Heard.{ask_for_refusals, telling_of};
 ghost use Rattle.fm_words.specs.Parser.{IsHeard};
 ghost use Rattle.fm_words.specs.Telling.{told_of};
 ghost use Rattle.fm_words.specs.declared.words.Words.TheVariants as asked;
@@ -68,11 +68,11 @@ pub enum Words<'a> {
     Wrong(String),
 }
 
-/// Reads the words of a command line, the program's own name first. `heard` defines what any words ask for; the texts
-/// of help and of wrong words are not defined. `OutOfMemory` is the only refusal, and words that ask for the page of
-/// refusals are never refused.
+/// Reads the words of a command line, the program's own name first. `telling_of` defines what any words ask for; the
+/// texts of help and of wrong words are not defined. `OutOfMemory` is the only refusal, and words that ask for the page
+/// of refusals are never refused.
 pub fn read_words<'a>(alloc: Global, words: &'a [String]) -> Result<Words<'a>, Refusal>
-    ensures heard { IfOk result (λ w. told_of w ≡ heard (map string_bytes words.entry.now)) }
+    ensures heard { IfOk result (λ w. told_of w ≡ telling_of (map string_bytes words.entry.now)) }
     ensures refusals { IsTrue (ask_for_refusals (map string_bytes words.entry.now)) → result ≡ Ok asked.Refusals }
     ensures err { IsOkUnless result Refusal.OutOfMemory }
 {

@@ -16,13 +16,13 @@ use Rattle.fm_coord.specs.declared.entry.Call.TheVariants as call
 use Rattle.fm_coord.specs.Events.{Sent, Event, Replica}
 use Rattle.fm_coord.specs.Events as event
 use Rattle.fm_coord.specs.Causes.{cause, refusal_for}
-use Rattle.fm_coord.specs.Replays.{seen, call_of, reply_of}
+use Rattle.fm_coord.specs.Replays.{seen_packet, call_of, reply_of}
 use Rattle.fm_coord.specs.States.{State, bounds, StandsFor, IsEventAt}
-use Rattle.fm_coord.specs.Answers.{answered}
+use Rattle.fm_coord.specs.Answers.{answer_to}
 use Rattle.fm_coord.specs.StepLaws.{no_fault, same_bounds, packet_is}
 use Rattle.fm_world.specs.declared.step.Act.{Act}
 use Rattle.fm_world.specs.declared.step.Act.TheVariants as act
-use Rattle.fm_world.specs.Worlds.{spelled_out, event_asked, acted, cut_by, cause_here}
+use Rattle.fm_world.specs.Worlds.{spelled_out, event_asked, after_maybe, cut_by, cause_here}
 use Rattle.fm_world.specs.Calls.{call_asked, refusal_asked, IsSpelled}
 use Rattle.fm_world.specs.Stands.{IsActed}
 
@@ -37,18 +37,18 @@ some_is : {A : Type 0} {a b : A} → Some a ≡ Some b → a ≡ b
 some_is e = cc
 
 -- a packet is what the operations that spell it out come to
-as_spelled : (p : Packet) → know (ops p.value) ≡ p.value → p ≡ seen (spelled_out p)
+as_spelled : (p : Packet) → know (ops p.value) ≡ p.value → p ≡ seen_packet (spelled_out p)
 as_spelled p e = λ i. record { sender = p.sender; number = p.number; value = (sym e) i }
 
-delivered : (o : Option Sent) → option_map call.Merge (option_map seen o) ≡ option_map call_of (option_map event.Merge o)
+delivered : (o : Option Sent) → option_map call.Merge (option_map seen_packet o) ≡ option_map call_of (option_map event.Merge o)
 delivered None = refl
 delivered (Some p) = refl
 
 -- the call of an act is that of its event
-pub asked_alike : (ps : List Packet) (sent : List Sent) (a : Act) → ps ≡ map seen sent → IsSpelled a → call_asked ps a ≡ option_map call_of (event_asked sent a)
+pub asked_alike : (ps : List Packet) (sent : List Sent) (a : Act) → ps ≡ map seen_packet sent → IsSpelled a → call_asked ps a ≡ option_map call_of (event_asked sent a)
 asked_alike ps sent (act.Tell op) is spelled = refl
 asked_alike ps sent (act.Cut range) is spelled = refl
-asked_alike ps sent (act.Deliver i) is spelled = ap (option_map call.Merge) (ap (λ qs. slice_get qs i) is ∙ slice_get-map seen sent i) ∙ delivered (slice_get sent i)
+asked_alike ps sent (act.Deliver i) is spelled = ap (option_map call.Merge) (ap (λ qs. slice_get qs i) is ∙ slice_get-map seen_packet sent i) ∙ delivered (slice_get sent i)
 asked_alike ps sent (act.Trim n) is spelled = refl
 asked_alike ps sent act.View is spelled = refl
 asked_alike ps sent (act.Commit plan) is spelled = refl
@@ -64,17 +64,17 @@ comes : (o : Option Event) (c : Call) → option_map call_of o ≡ Some c → Co
 comes None c e = absurd (let no : ⊥ = cc in no)
 comes (Some event) c e = record { event = event; asks = refl; is = sym (some_is e) }
 
-module _ (s : State) (r : Replica) (st : StandsFor s r) (ps : List Packet) (sent : List Sent) (is : ps ≡ map seen sent) where
-  uncut : ps ≡ map seen (sent ++ [])
-  uncut = is ∙ ap (map seen) (sym (append-nil sent))
+module _ (s : State) (r : Replica) (st : StandsFor s r) (ps : List Packet) (sent : List Sent) (is : ps ≡ map seen_packet sent) where
+  uncut : ps ≡ map seen_packet (sent ++ [])
+  uncut = is ∙ ap (map seen_packet) (sym (append-nil sent))
 
   -- the packets after an event
-  after_event : (event : Event) → cause (bounds s) (call_of event) ≡ None → kept ps (answered s (call_of event)) ≡ map seen (sent ++ cut_by r (Some event))
+  after_event : (event : Event) → cause (bounds s) (call_of event) ≡ None → kept ps (answer_to s (call_of event)) ≡ map seen_packet (sent ++ cut_by r (Some event))
   after_event (event.Tell op) none = uncut
   after_event (event.Merge p) none = uncut
   after_event (event.Cut range) none =
       let packet = packet_is s r st range (no_fault _ _ none) in
-      (λ i. is i ++ packet i ∷ []) ∙ sym (map-append seen sent _)
+      (λ i. is i ++ packet i ∷ []) ∙ sym (map-append seen_packet sent _)
   after_event (event.Trim n) none = uncut
   after_event event.View none = uncut
   after_event (event.Commit plan) none = uncut
@@ -88,18 +88,18 @@ module _ (s : State) (r : Replica) (st : StandsFor s r) (ps : List Packet) (sent
     refused = ap (refusal_asked (bounds s)) (asked_alike ps sent a is spelled) ∙ refused_on (event_asked sent a)
 
     -- an act whose call was accepted is the act's event
-    pub is_acted : (by : ℕ) (c : Call) (new : State) (said : Answer) → call_asked ps a ≡ Some c → cause (bounds s) c ≡ None → said ≡ answered s c
+    pub is_acted : (by : ℕ) (c : Call) (new : State) (said : Answer) → call_asked ps a ≡ Some c → cause (bounds s) c ≡ None → said ≡ answer_to s c
         → ((event : Event) → c ≡ call_of event → IsEventAt r by event (reply_of r event) new) → IsActed new (kept ps said) r sent by a
     is_acted by c new said call none answer events =
         let found = comes (event_asked sent a) c (sym (asked_alike ps sent a is spelled) ∙ call) in
         let e = events found.event found.is in
         record {
           accepted = ap (cause_here r) found.asks ∙ e.accepted;
-          stands = subst (λ o. StandsFor new (acted by o r)) (sym found.asks) e.stands;
+          stands = subst (λ o. StandsFor new (after_maybe by o r)) (sym found.asks) e.stands;
           packets =
-              ap (kept ps) answer ∙ ap (λ d. kept ps (answered s d)) found.is
+              ap (kept ps) answer ∙ ap (λ d. kept ps (answer_to s d)) found.is
               ∙ after_event found.event (subst (λ d. cause (bounds s) d ≡ None) found.is none)
-              ∙ ap (λ o. map seen (sent ++ cut_by r o)) (sym found.asks);
+              ∙ ap (λ o. map seen_packet (sent ++ cut_by r o)) (sym found.asks);
         }
 
 pub by_cause : {T : Type 0} (result : Result T Refusal) (a b : Refusal) → a ≡ b → IfErr result (λ refusal. refusal ≡ a) → IfErr result (λ refusal. refusal ≡ b)

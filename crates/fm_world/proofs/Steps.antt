@@ -13,13 +13,13 @@ use Rattle.fm_coord.specs.declared.view.View.{View}
 use Rattle.fm_coord.specs.declared.view.Sight.{Sight}
 use Rattle.fm_coord.specs.Events.{Sent, Replica, opening}
 use Rattle.fm_coord.specs.Events as event
-use Rattle.fm_coord.specs.Replays.{seen, replay}
+use Rattle.fm_coord.specs.Replays.{seen_packet, replay}
 use Rattle.fm_coord.specs.States.{State, WithKeeper, StandsFor, IsEventAt, IsCoordinator}
 use Rattle.fm_world.specs.declared.step.Act.{Act}
 use Rattle.fm_world.specs.declared.step.Act.TheVariants as act
 use Rattle.fm_world.specs.declared.step.Step.{Step}
-use Rattle.fm_world.specs.Worlds.{WorldOfSets, with_number, event_asked, acted, cause_here, cause_at, cause_of, refusal_of, sent_at, step_of}
-use Rattle.fm_world.specs.Stands.{Kept, state_of, number_of, WorldStandsFor, state_with, shown, IsActed}
+use Rattle.fm_world.specs.Worlds.{WorldOfSets, with_number, event_asked, after_maybe, cause_here, cause_at, cause_of, refusal_of, sent_at, step_of}
+use Rattle.fm_world.specs.Stands.{Kept, state_of, number_of, WorldStandsFor, state_with, view_shown, IsActed}
 use Rattle.fm_world.proofs.Acts.{by_cause}
 use Rattle.fm_world.proofs.Places.{Stood, stood, absent, put_back, same_states, found_at, missing}
 
@@ -48,7 +48,7 @@ module _ {N T : Type 0} (cs : List (WithKeeper N)) (ps : List Packet) (step : St
     one : Stood (with_number w.replicas step.at) old.state
     one = stood step.at (map state_of cs) w.replicas stands.coordinators old.state here
 
-    pub refuses : ((r : Replica) (sent : List Sent) → StandsFor old.state r → ps ≡ map seen sent → IfErr result (λ refusal. refusal ≡ or_else OutOfMemory (cause_here r (event_asked sent step.act)))) → IfErr result (λ refusal. refusal ≡ refusal_of w step)
+    pub refuses : ((r : Replica) (sent : List Sent) → StandsFor old.state r → ps ≡ map seen_packet sent → IfErr result (λ refusal. refusal ≡ or_else OutOfMemory (cause_here r (event_asked sent step.act)))) → IfErr result (λ refusal. refusal ≡ refusal_of w step)
     refuses err =
         by_cause result _ _ (ap (λ o. or_else OutOfMemory (cause_at o (event_asked w.packets step.act))) (sym one.at))
         (err one.replica w.packets one.stands stands.packets)
@@ -64,12 +64,12 @@ module _ {N T : Type 0} (cs : List (WithKeeper N)) (ps : List Packet) (step : St
         let event = event_asked w.packets step.act in
         record {
           coordinators =
-              put_back step.at cs w.replicas i old new (acted step.by event) (stands w h).coordinators place.0 place.1 place.2
-              (λ r there. let same : (one w h).replica ≡ r = let e = (one w h).at in cc in subst (λ (q : Replica). StandsFor new.state (acted step.by event q)) same a.stands);
-          packets = a.packets ∙ ap (λ o. map seen (sent_at w.packets o event)) (sym (one w h).at);
+              put_back step.at cs w.replicas i old new (after_maybe step.by event) (stands w h).coordinators place.0 place.1 place.2
+              (λ r there. let same : (one w h).replica ≡ r = let e = (one w h).at in cc in subst (λ (q : Replica). StandsFor new.state (after_maybe step.by event q)) same a.stands);
+          packets = a.packets ∙ ap (λ o. map seen_packet (sent_at w.packets o event)) (sym (one w h).at);
         }
 
-    module _ (acts : (r : Replica) (sent : List Sent) → StandsFor old.state r → ps ≡ map seen sent → OnOk result (IsActed new.state new_ps r sent step.by step.act)) (w : WorldOfSets) (h : WorldStandsFor k w) where
+    module _ (acts : (r : Replica) (sent : List Sent) → StandsFor old.state r → ps ≡ map seen_packet sent → OnOk result (IsActed new.state new_ps r sent step.by step.act)) (w : WorldOfSets) (h : WorldStandsFor k w) where
       on_ok : {P Q : Type 0} (res : Result T Refusal) → (P → Q) → OnOk res P → OnOk res Q
       on_ok (Ok v) f p = f p
       on_ok (Err e) f p = tt
@@ -93,24 +93,24 @@ module _ {N T : Type 0} (cs : List (WithKeeper N)) (ps : List Packet) (step : St
           (λ j. record { coordinators = states j; packets = p j }) ∙ whole
 
 -- a view shows what the coordinator that the number names has to show
-pub shows : (o : Option State) (s : State) (a : Act) (result : Result (Option View) Refusal) → o ≡ Some s → IfOk result (λ view. view ≡ shown (Some s) a) → IfOk result (λ view. view ≡ shown o a)
-shows o s a result named h = subst (λ (p : Option State). IfOk result (λ view. view ≡ shown p a)) (sym named) h
+pub shows : (o : Option State) (s : State) (a : Act) (result : Result (Option View) Refusal) → o ≡ Some s → IfOk result (λ view. view ≡ view_shown (Some s) a) → IfOk result (λ view. view ≡ view_shown o a)
+shows o s a result named h = subst (λ (p : Option State). IfOk result (λ view. view ≡ view_shown p a)) (sym named) h
 
 -- and so does a look without a network
 pub sees : (o : Option State) (s : State) (result : Result Sight Refusal) → o ≡ Some s → IfOk result (λ sight. sight.at ≡ length s.history) → IfOk result (λ sight. sight.knowledge ≡ s.knowledge)
-    → IfOk result (λ sight. shown o act.View ≡ Some (record { at = sight.at; knowledge = sight.knowledge; network = net_of sight.knowledge }))
+    → IfOk result (λ sight. view_shown o act.View ≡ Some (record { at = sight.at; knowledge = sight.knowledge; network = net_of sight.knowledge }))
 sees o s (Ok sight) named at known =
-    ap (λ p. shown p act.View) named ∙ (λ i. Some (record { at = (sym at) i; knowledge = (sym known) i; network = net_of ((sym known) i) }))
+    ap (λ p. view_shown p act.View) named ∙ (λ i. Some (record { at = (sym at) i; knowledge = (sym known) i; network = net_of ((sym known) i) }))
 sees o s (Err e) named at known = tt
 
 -- it is an accepted view
-pub seen_acted : (new : State) (r : Replica) (sent : List Sent) (ps : List Packet) (by : ℕ) (result : Result Sight Refusal) → ps ≡ map seen sent
+pub seen_acted : (new : State) (r : Replica) (sent : List Sent) (ps : List Packet) (by : ℕ) (result : Result Sight Refusal) → ps ≡ map seen_packet sent
     → IfOk result (λ sight. IsEventAt r by event.View (reply.Seen sight.at sight.knowledge) new) → OnOk result (IsActed new ps r sent by act.View)
 seen_acted new r sent ps by (Ok sight) is e =
     record {
       accepted = e.accepted;
       stands = e.stands;
-      packets = is ∙ ap (map seen) (sym (append-nil sent));
+      packets = is ∙ ap (map seen_packet) (sym (append-nil sent));
     }
 seen_acted new r sent ps by (Err e) is h = tt
 

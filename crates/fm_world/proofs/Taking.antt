@@ -11,18 +11,18 @@ use Rattle.fm_delta.specs.declared.packet.Packet.{Packet}
 use Rattle.fm_coord.specs.declared.entry.Call.TheVariants as call
 use Rattle.fm_coord.specs.Events.{Sent, Replica, happens}
 use Rattle.fm_coord.specs.Events as event
-use Rattle.fm_coord.specs.Replays.{seen}
-use Rattle.fm_coord.specs.States.{State, StandsFor, asked, step_asked}
+use Rattle.fm_coord.specs.Replays.{seen_packet}
+use Rattle.fm_coord.specs.States.{State, StandsFor, caller_and_call, step_asked}
 use Rattle.fm_world.specs.declared.step.Step.{Step}
-use Rattle.fm_world.specs.Worlds.{WorldOfSets, changed_at, acted, sent_at, step_of, spelled_out, taken_in, event_asked}
+use Rattle.fm_world.specs.Worlds.{WorldOfSets, changed_at, after_maybe, sent_at, step_of, spelled_out, taken_in, event_asked}
 use Rattle.fm_world.specs.declared.step.Act.TheVariants as act
 use Rattle.fm_world.specs.Stands.{Kept, AllStand, WorldStandsFor}
 
 -- the sets of two packets that are seen alike come to the same
-known_alike : (p q : Sent) → seen p ≡ seen q → know p.set ≡ know q.set
+known_alike : (p q : Sent) → seen_packet p ≡ seen_packet q → know p.set ≡ know q.set
 known_alike p q e = ap (λ (x : Packet). x.value) e
 
-module _ (by : ℕ) (p q : Sent) (alike : seen p ≡ seen q) where
+module _ (by : ℕ) (p q : Sent) (alike : seen_packet p ≡ seen_packet q) where
   -- what one packet's merge leaves, the other's does
   pub merged_alike : (s : State) (r : Replica) → StandsFor s (happens r by (event.Merge p)) → StandsFor s (happens r by (event.Merge q))
   merged_alike s r st =
@@ -64,16 +64,16 @@ uncut sent None p = refl
 uncut sent (Some r) p = append-nil sent
 
 -- after the step that takes a packet in, the coordinators stand for the world in which it stood for other operations
-pub stands_alike : (k : Kept) (w : WorldOfSets) (at by : ℕ) (packet : Packet) (sent : Sent) → seen (spelled_out packet) ≡ seen sent → WorldStandsFor k (step_of w (record { at = at; by = by; act = act.Take packet })) → WorldStandsFor k (taken_in w at by sent)
+pub stands_alike : (k : Kept) (w : WorldOfSets) (at by : ℕ) (packet : Packet) (sent : Sent) → seen_packet (spelled_out packet) ≡ seen_packet sent → WorldStandsFor k (step_of w (record { at = at; by = by; act = act.Take packet })) → WorldStandsFor k (taken_in w at by sent)
 stands_alike k w at by packet sent alike h =
     let with_other = λ (o : Option Replica). uncut w.packets o (spelled_out packet) in
     record {
       coordinators = all_alike by (spelled_out packet) sent alike at k.coordinators w.replicas h.coordinators;
-      packets = h.packets ∙ ap (map seen) (with_other _);
+      packets = h.packets ∙ ap (map seen_packet) (with_other _);
     }
 
 -- a packet that is spelled out is seen as it came
-pub as_it_came : (p : Packet) → know (ops p.value) ≡ p.value → seen (spelled_out p) ≡ p
+pub as_it_came : (p : Packet) → know (ops p.value) ≡ p.value → seen_packet (spelled_out p) ≡ p
 as_it_came p e = λ i. record { sender = p.sender; number = p.number; value = e i }
 
 pub on_ok : {T : Type 0} {P Q : Type 0} (result : Result T Refusal) → (P → Q) → OnOk result P → OnOk result Q

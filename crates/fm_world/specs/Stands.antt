@@ -4,13 +4,13 @@ use Rattle.fm_delta.specs.declared.packet.Packet.{Packet}
 use Rattle.fm_net.specs.Network.{net_of}
 use Rattle.fm_coord.specs.declared.view.View.{View}
 use Rattle.fm_coord.specs.Events.{Sent, Replica}
-use Rattle.fm_coord.specs.Replays.{seen}
+use Rattle.fm_coord.specs.Replays.{seen_packet}
 use Rattle.fm_coord.specs.Numbers.{AreDistinct}
 use Rattle.fm_coord.specs.States.{State, WithKeeper, StandsFor}
 use Rattle.fm_world.specs.declared.step.Act.{Act}
 use Rattle.fm_world.specs.declared.step.Act.TheVariants as act
 use Rattle.fm_world.specs.declared.step.Step.{Step}
-use Rattle.fm_world.specs.Worlds.{WorldOfSets, opening_world, run_of, AreAccepted, event_asked, acted, cut_by, cause_here}
+use Rattle.fm_world.specs.Worlds.{WorldOfSets, opening_world, run_of, AreAccepted, event_asked, after_maybe, cut_by, cause_here}
 
 -- what the coordinators keep, and the packets that were cut, in the order of their cuts
 pub record Kept : Type 0 where
@@ -42,7 +42,7 @@ AllStand (s ∷ ss) [] = ⊥
 -- the coordinators stand for the replicas, and the packets are those of the world, with the tables of their sets
 pub record WorldStandsFor (k : Kept) (w : WorldOfSets) : Type 0 where
   pub coordinators : AllStand k.coordinators w.replicas
-  pub packets : k.packets ≡ map seen w.packets
+  pub packets : k.packets ≡ map seen_packet w.packets
 
 -- accepted steps lead here, from unused coordinators of distinct numbers
 pub record IsReached (k : Kept) : Type 0 where
@@ -59,12 +59,12 @@ state_with [] n = None
 state_with (s ∷ ss) n = cond (s.number == n) (Some s) (state_with ss n)
 
 -- what a step shows: of a view the count of entries before it, what is known, and its network
-abbrev pub shown : Option State → Act → Option View
-shown (Some s) act.View = Some (record { at = length s.history; knowledge = s.knowledge; network = net_of s.knowledge })
-shown _ _ = None
+abbrev pub view_shown : Option State → Act → Option View
+view_shown (Some s) act.View = Some (record { at = length s.history; knowledge = s.knowledge; network = net_of s.knowledge })
+view_shown _ _ = None
 
 -- an act at a replica was accepted: what the coordinator and the packets are is what they are after the event
 pub record IsActed (s : State) (ps : List Packet) (r : Replica) (sent : List Sent) (by : ℕ) (act : Act) : Type 0 where
   pub accepted : cause_here r (event_asked sent act) ≡ None
-  pub stands : StandsFor s (acted by (event_asked sent act) r)
-  pub packets : ps ≡ map seen (sent ++ cut_by r (event_asked sent act))
+  pub stands : StandsFor s (after_maybe by (event_asked sent act) r)
+  pub packets : ps ≡ map seen_packet (sent ++ cut_by r (event_asked sent act))

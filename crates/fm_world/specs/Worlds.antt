@@ -49,9 +49,9 @@ event_asked sent (act.Commit plan) = Some (event.Commit plan)
 event_asked sent (act.Take packet) = Some (event.Merge (spelled_out packet))
 
 -- the replica after the event, if there is one
-abbrev pub acted : ℕ → Option Event → Replica → Replica
-acted by None r = r
-acted by (Some event) r = happens r by event
+abbrev pub after_maybe : ℕ → Option Event → Replica → Replica
+after_maybe by None r = r
+after_maybe by (Some event) r = happens r by event
 
 -- the packet of a cut
 abbrev pub cut_by : Replica → Option Event → List Sent
@@ -85,7 +85,7 @@ sent_at sent (Some r) event = sent ++ cut_by r event
 abbrev pub step_of : WorldOfSets → Step → WorldOfSets
 step_of w s =
     record {
-      replicas = changed_at s.at (acted s.by (event_asked w.packets s.act)) w.replicas;
+      replicas = changed_at s.at (after_maybe s.by (event_asked w.packets s.act)) w.replicas;
       packets = sent_at w.packets (with_number w.replicas s.at) (event_asked w.packets s.act);
     }
 

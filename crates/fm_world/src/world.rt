@@ -7,12 +7,12 @@ ghost use Rattle.fm_dimacs.specs.Text.{dump_text};
 ghost use Rattle.fm_coord.specs.Numbers.{AreDistinct};
 ghost use Rattle.fm_records.specs.Know.{know};
 ghost use Rattle.fm_coord.specs.Events.{Sent};
-ghost use Rattle.fm_coord.specs.Replays.{seen};
+ghost use Rattle.fm_coord.specs.Replays.{seen_packet};
 ghost use Rattle.fm_tally.specs.Tallies.{TallyIsFor};
 ghost use Rattle.fm_world.specs.declared.step.Act.TheVariants as act;
 ghost use Rattle.fm_world.specs.Worlds.{WorldOfSets, opening_world, with_number, cause_of, refusal_of, step_of, run_of, AreAccepted, taken_by, taken_in, StopsAt};
 ghost use Rattle.fm_world.specs.Agreement.{EachKnows, SameAgree, IsDumpOf};
-ghost use Rattle.fm_world.specs.Stands.{state_of, number_of, opening_of, AreUnused, AllStand, WorldStandsFor, IsReached, state_with, shown};
+ghost use Rattle.fm_world.specs.Stands.{state_of, number_of, opening_of, AreUnused, AllStand, WorldStandsFor, IsReached, state_with, view_shown};
 
 use crate::acting::act_at;
 use crate::distinct::place_of;
@@ -44,7 +44,10 @@ impl<N: NetKeeper> Model for World<N> {
 
     ghost view = { λ a. record { coordinators = map state_of a.coordinators.items; packets = a.packets.items } };
 
-    ghost invariant = { λ a. IsReached (record { coordinators = map state_of a.coordinators.items; packets = a.packets.items }) };
+    ghost invariant = { λ a. IsReached (record {
+      coordinators = map state_of a.coordinators.items;
+      packets = a.packets.items;
+    }) };
 }
 
 impl<N: NetKeeper> World<N> {
@@ -124,7 +127,8 @@ impl<N: NetKeeper> World<N> {
         ensures stands { (w : WorldOfSets) → WorldStandsFor self.old w
             → OnOk result (WorldStandsFor self.new (step_of w step.now)) }
         ensures accepted { (w : WorldOfSets) → WorldStandsFor self.old w → OnOk result (cause_of w step.now ≡ None) }
-        ensures view { IfOk result (λ view. view ≡ shown (state_with self.old.coordinators step.now.at) step.now.act) }
+        ensures view { IfOk result (λ view. view
+            ≡ view_shown (state_with self.old.coordinators step.now.at) step.now.act) }
         ensures err { (w : WorldOfSets) → WorldStandsFor self.old w
             → IfErr result (λ refusal. refusal ≡ refusal_of w step.now) }
         ensures unchanged { OnErr result (self.new ≡ self.old) }
@@ -148,7 +152,7 @@ impl<N: NetKeeper> World<N> {
             → OnOk result (WorldStandsFor self.new (step_of w (record { at = at; by = by; act = act.View }))) }
         ensures accepted { (w : WorldOfSets) → WorldStandsFor self.old w
             → OnOk result (cause_of w (record { at = at; by = by; act = act.View }) ≡ None) }
-        ensures sight { IfOk result (λ sight. shown (state_with self.old.coordinators at) act.View
+        ensures sight { IfOk result (λ sight. view_shown (state_with self.old.coordinators at) act.View
             ≡ Some (record { at = sight.at; knowledge = sight.knowledge; network = net_of sight.knowledge })) }
         ensures tally { IfOk result (λ sight. TallyIsFor sight.knowledge sight.tally) }
         ensures err { (w : WorldOfSets) → WorldStandsFor self.old w
@@ -176,7 +180,7 @@ impl<N: NetKeeper> World<N> {
     /// stand for the world in which these were merged: for example all that its sender had received. NoCoordinator,
     /// HistoryFull, OutOfMemory. Then nothing has changed, except possibly whether a network is fresh.
     pub fn take(&mut self, at: u8, by: u32, mut packet: Packet) -> Result<(), Refusal>
-        ensures stands { (w : WorldOfSets) (sent : Sent) → WorldStandsFor self.old w → packet ≡ seen sent
+        ensures stands { (w : WorldOfSets) (sent : Sent) → WorldStandsFor self.old w → packet ≡ seen_packet sent
             → OnOk result (WorldStandsFor self.new (taken_in w at by sent)) }
         ensures accepted { (w : WorldOfSets) → WorldStandsFor self.old w
             → OnOk result (cause_of w (record { at = at; by = by; act = act.Take packet }) ≡ None) }

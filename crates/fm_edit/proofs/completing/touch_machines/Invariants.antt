@@ -1,14 +1,15 @@
-use Rattle.std.proofs.Common.{◌≡◌, true, false, drop}
-use Rattle.fm_net.specs.declared.node.Node.{Node}
-use Rattle.fm_net.specs.Nodes.{node_cmp}
-use Rattle.fm_net.specs.Touched.{is_among}
+use Rattle.std.proofs.Common.{◌≡◌, ℕ, true, false}
+use Rattle.std.specs.Prelude.{is_some}
+use Rattle.std.specs.Ordering.{nat_cmp}
+use Rattle.std.specs.BTreeMap.{get}
+use Rattle.fm_lattice.specs.Maps.{lookup}
+use Rattle.fm_net.specs.declared.node.Node.TheVariants.{Machine}
 use Rattle.fm_edit.specs.Touched.{has_pair, Grows}
-use Rattle.fm_edit.specs.Completing.{is_machine}
 use Rattle.fm_edit.proofs.completing.touch_machines.Given as goal
 
-abbrev pub invariant-loop-node : goal.invariant-loop-node
-invariant-loop-node l = record {
+abbrev pub invariant-loop-machine : goal.invariant-loop-machine
+invariant-loop-machine l = record {
   grows : Grows l.fn.touched l.touched;
   same : l.touched.nodes ≡ l.fn.touched.nodes;
-  has : (n : Node) → is_among node_cmp l.nodes n ≡ true → is_among node_cmp (drop l.node-index l.nodes) n ≡ false → is_machine n ≡ true → (r : Node) → is_among node_cmp l.requests r ≡ true → has_pair l.touched r n ≡ true;
+  has : (m : ℕ) → is_some (get nat_cmp l.seen.machines m) ≡ true → is_some (lookup nat_cmp m l.machine-iterator.iter) ≡ false → has_pair l.touched l.request (Machine m) ≡ true;
 }

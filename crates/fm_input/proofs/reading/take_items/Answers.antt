@@ -2,7 +2,7 @@ use Rattle.std.proofs.Common.{Some, map, sym, ◌∙◌, ap}
 use Rattle.std.specs.Prelude.{option_map}
 use Rattle.serde_json.specs.Find.{as_array}
 use Rattle.serde_json.specs.View.{view}
-use Rattle.fm_input.specs.Json.{given, list_of}
+use Rattle.fm_input.specs.Json.{and_then, list_of}
 use Rattle.fm_input.proofs.Views.{list_of-items_of}
 use Rattle.fm_input.proofs.reading.take_items.Goals as goal
 
@@ -12,4 +12,4 @@ returns c =
     ap (λ v. Some (map view v.items)) c.replace.ensures.value
     ∙ ap Some (sym (list_of-items_of taken))
     ∙ ap (option_map list_of) c.in_ok-items.ensures.value
-    ∙ ap (λ o. option_map list_of (given o as_array)) c.in_ok-get_mut.ensures
+    ∙ ap (λ o. option_map list_of (and_then o as_array)) c.in_ok-get_mut.ensures

@@ -4,8 +4,11 @@ use Rattle.fm_lattice.proofs.InBlocks.{blocks_rise, block_at, block_first, block
 use Rattle.fm_lattice.proofs.Owned.{home_at, home_first, home_before}
 use Rattle.fm_lattice.proofs.blocks.block_of.Goals as goal
 
-pub place-requires : goal.place-requires
-place-requires g c = blocks_rise g.K.Ord.cmp g.met.K.Ord.total g.met.K.Chain.same c.args.blocks.now c.requires.headed c.requires.rising
+pub place-requires-clause-exact : goal.place-requires-clause-exact
+place-requires-clause-exact g c = g.met.K.Chain.same
+
+pub place-requires-clause-rising : goal.place-requires-clause-rising
+place-requires-clause-rising g c = blocks_rise g.K.Ord.cmp g.met.K.Ord.total g.met.K.Chain.same c.args.blocks.now c.requires.headed c.requires.rising
 
 pub returns-in-Ok-clause-block : goal.returns-in-Ok-clause-block
 returns-in-Ok-clause-block g c = block_at g.K.Ord.cmp g.met.K.Ord.total g.met.K.Chain.same c.args.blocks.now c.args.key.now c.in-Ok.at c.requires.headed c.requires.rising c.in-Ok.ensures.found

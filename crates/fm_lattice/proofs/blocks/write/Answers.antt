@@ -1,5 +1,5 @@
 use Rattle.std.proofs.Common.{◌≡◌, ◌<◌, length, get_or, subst, sym, ◌∙◌, ap, arith}
-use Rattle.fm_lattice.specs.Maps.{lookup, put, replaced, IsRising}
+use Rattle.fm_lattice.specs.Maps.{lookup, put, keep_new, IsRising}
 use Rattle.fm_lattice.specs.Blocks.{BeginsWith}
 use Rattle.fm_lattice.proofs.InBlocks.{inside_blocks, rising_in, lookup_in, put_in, headed_set, count_set, blocks_rise, begins_at}
 use Rattle.fm_lattice.proofs.Owned.{owned_put}
@@ -23,8 +23,8 @@ write_in-requires-clause-room g c none =
 
 pub returns-clause-pairs : goal.returns-clause-pairs
 returns-clause-pairs g c =
-    put_in g.K.Ord.cmp g.met.K.Ord.total g.met.K.Chain.same replaced c.args.blocks.now.items c.args.key c.args.value c.args.at c.index_mut.result.now c.write_in.new.block c.requires.takes.is_block
-    (c.write_in.ensures.items ∙ ap (λ z. put g.K.Ord.cmp replaced c.args.key c.args.value z.1.items) c.index_mut.ensures.value)
+    put_in g.K.Ord.cmp g.met.K.Ord.total g.met.K.Chain.same keep_new c.args.blocks.now.items c.args.key c.args.value c.args.at c.index_mut.result.now c.write_in.new.block c.requires.takes.is_block
+    (c.write_in.ensures.items ∙ ap (λ z. put g.K.Ord.cmp keep_new c.args.key c.args.value z.1.items) c.index_mut.ensures.value)
 
 pub returns-clause-headed : goal.returns-clause-headed
 returns-clause-headed g c = headed_set c.args.blocks.now.items c.args.at c.write_in.new.block c.requires.headed c.write_in.ensures.first
@@ -42,7 +42,7 @@ returns-clause-owned g c =
     let block = c.index_mut.result.now in
     let inside = inside_blocks g.K.Ord.cmp g.met.K.Ord.total g.met.K.Chain.same bs c.args.key c.args.at c.requires.takes.is_block in
     let before : BeginsWith block.0 block.1.items = subst (λ z. BeginsWith z.0 z.1.items) (sym c.index_mut.ensures.value) (begins_at bs c.args.at block c.requires.headed inside) in
-    owned_put g.K.Ord.cmp g.met.K.Ord.total g.met.K.Chain.same replaced bs c.args.key c.args.value c.args.at block
+    owned_put g.K.Ord.cmp g.met.K.Ord.total g.met.K.Chain.same keep_new bs c.args.key c.args.value c.args.at block
     c.write_in.new.block (blocks_rise g.K.Ord.cmp g.met.K.Ord.total g.met.K.Chain.same bs c.requires.headed
     c.requires.rising) c.index_mut.ensures.value before c.write_in.ensures.items c.write_in.ensures.first
     c.write_in.ensures.owned

@@ -2,7 +2,7 @@ use Rattle.std.proofs.Common.{◌≡◌, ◌+◌, ◌<◌, ◌≤◌, ◌^◌, [
 use Rattle.std.proofs.lemmas.List.{nil_from_length}
 use Rattle.std.proofs.lemmas.Result.{IfOk-weaker}
 use mathlib.Core.Bool.{false≢true}
-use Rattle.fm_lattice.specs.Maps.{map_join, replaced, joined_pair}
+use Rattle.fm_lattice.specs.Maps.{map_join, keep_new, joined_pair}
 use Rattle.fm_lattice.specs.MapLaws.{overwritten}
 use Rattle.fm_lattice.specs.Blocks.{pairs_of, HaveSpares, GoToOwned}
 use Rattle.fm_lattice.specs.Plans.{outcome}
@@ -14,7 +14,7 @@ returns-clause-outcome g c =
     let here = pairs_of c.args.blocks.now.items in
     let there = pairs_of c.args.other.now in
     let news : map (λ c. c.0) c.in_ok-changes.changes.items ≡ map (joined_pair g.K.Ord.cmp g.V.Join.join here) there = c.in_ok-changes.ensures.pairs in
-    ap (map_join g.K.Ord.cmp replaced here) news
+    ap (map_join g.K.Ord.cmp keep_new here) news
     ∙ overwritten g.K.Ord.cmp g.met.K.Ord.total g.met.K.Chain.same g.V.Join.join here there c.requires.here.map.rising c.requires.there.map.rising
 
 pub returns-clause-ready : goal.returns-clause-ready
@@ -42,7 +42,7 @@ returns-then-is_empty-clause-outcome g c =
     let joined = joined_to_none g.K.Ord.cmp g.met.K.Ord.total g.met.K.Chain.same g.V.Join.join g.V.Join.is_value g.met.V.Join.laws there c.requires.there.map in
     IfOk-weaker c.plan_copy.result (λ plan. (plan.aside ≡ true) × (pairs_of plan.whole.items ≡ there)) (λ plan. outcome g.K.Ord.cmp here plan.aside plan.whole.items plan.changes.items ≡ map_join g.K.Ord.cmp g.V.Join.join here there)
     (λ plan made.
-    ap (λ b. cond b (pairs_of plan.whole.items) (map_join g.K.Ord.cmp replaced here (map (λ c. c.0) plan.changes.items))) made.0
+    ap (λ b. cond b (pairs_of plan.whole.items) (map_join g.K.Ord.cmp keep_new here (map (λ c. c.0) plan.changes.items))) made.0
     ∙ made.1 ∙ joined ∙ ap (λ es. map_join g.K.Ord.cmp g.V.Join.join es there) (sym none))
     c.plan_copy.ensures.pairs
 
@@ -51,5 +51,5 @@ returns-then-is_below-clause-outcome g c =
     let here = pairs_of c.args.blocks.now.items in
     let there = pairs_of c.args.other.now in
     let below : map_join g.K.Ord.cmp g.V.Join.join there here ≡ here = search (rules, c.is_below.ensures, c.deref.ensures.value, c.if-is_below.true) in
-    ap (λ changes. map_join g.K.Ord.cmp replaced here (map (λ c. c.0) changes)) c.new-then-is_below.ensures.items
+    ap (λ changes. map_join g.K.Ord.cmp keep_new here (map (λ c. c.0) changes)) c.new-then-is_below.ensures.items
     ∙ tells_nothing g.K.Ord.cmp g.met.K.Ord.total g.met.K.Chain.same g.V.Join.join g.V.Join.is_value g.met.V.Join.laws there c.requires.there.map here c.requires.here.map below

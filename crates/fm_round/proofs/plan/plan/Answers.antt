@@ -5,7 +5,7 @@ use Rattle.fm_net.specs.Nodes.{ends_cmp}
 use Rattle.fm_net.specs.NodeOrder.{ends_total, ends_exact}
 use Rattle.fm_net.specs.KeptLists.{rising_kept}
 use Rattle.fm_certificate.specs.Flows.{units_in}
-use Rattle.fm_round.specs.Planned.{units_over, planned}
+use Rattle.fm_round.specs.Planned.{units_over, plan_of_flow}
 use Rattle.fm_round.specs.Asked.{is_asked}
 use Rattle.fm_round.proofs.Asked.{same_plan}
 use Rattle.fm_round.proofs.Over.{rising_over}
@@ -24,6 +24,6 @@ pub returns : goal.returns
 returns c =
     let k = c.args.knowledge.now in
     let sent = units_in c.args.flow.now in
-    let asked = ap (λ f. planned f k) (c.deref.ensures.value ∙ c.in_ok-units.ensures) in
-    let same = subst (λ n. planned (filter (is_asked n) (units_over n sent)) k ≡ planned (units_over n sent) k) (sym c.requires.network) (same_plan k sent) in
+    let asked = ap (λ f. plan_of_flow f k) (c.deref.ensures.value ∙ c.in_ok-units.ensures) in
+    let same = subst (λ n. plan_of_flow (filter (is_asked n) (units_over n sent)) k ≡ plan_of_flow (units_over n sent) k) (sym c.requires.network) (same_plan k sent) in
     if_ok (λ plan is. is ∙ asked ∙ same) c.plan_of.result c.plan_of.ensures

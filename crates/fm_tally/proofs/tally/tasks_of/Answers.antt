@@ -12,7 +12,7 @@ use Rattle.fm_net.specs.NetworkLaws.{came_from, mapped_from}
 use Rattle.fm_tally.specs.declared.tally.LiveTask.{LiveTask}
 use Rattle.fm_tally.specs.declared.unfinished.UnfinishedTask.{UnfinishedTask}
 use Rattle.fm_tally.specs.Holdings.{placed_by, requests_in, tasks_in}
-use Rattle.fm_tally.specs.Tallies.{task_at, task_by, unfinished}
+use Rattle.fm_tally.specs.Tallies.{task_at, task_by, unfinished_spec}
 use Rattle.fm_tally.specs.Unfinished.{unfinished_at}
 use Rattle.fm_tally.proofs.Counting.{IsCounting, counting_begins, counting_next, counting_ends, live_unfinished}
 use Rattle.fm_tally.proofs.Live.{there_is, no_requests, no_tasks, task_is, requests_are, tasks_are}
@@ -29,8 +29,8 @@ loop-task-init c =
     let same : all ≡ rows (unfinished_at k) k.tasks =
     same_map nat_cmp nat_cmp_total nat_same all (rows (unfinished_at k) k.tasks) c.pairs-pairs.ensures.rising (rising_rows (unfinished_at k) k.tasks table.tasks.rising)
     (λ q. ap (lookup nat_cmp q) c.pairs-pairs.ensures.pairs ∙ c.requires.unfinished q ∙ sym (lookup_rows (unfinished_at k) k.tasks q (λ (w : UnfinishedTask) e.
-    let s = mapped_from _ (and_then unfinished (lookup nat_cmp q k.tasks)) w e in
-    let v = came_from unfinished (lookup nat_cmp q k.tasks) s.0 s.1 in
+    let s = mapped_from _ (and_then unfinished_spec (lookup nat_cmp q k.tasks)) w e in
+    let v = came_from unfinished_spec (lookup nat_cmp q k.tasks) s.0 s.1 in
     (v.0, v.1)))) in
     record {
       found = ap (λ xs. xs ++ rows (task_at k) all) (let none : c.in_ok-found.found.items ≡ [] = search rules in none);

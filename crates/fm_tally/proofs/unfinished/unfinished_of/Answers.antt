@@ -5,7 +5,7 @@ use Rattle.fm_lattice.specs.Maps.{lookup, IsRising}
 use Rattle.fm_records.specs.Options.{and_then}
 use Rattle.fm_net.specs.NetworkLaws.{came_from, mapped_from}
 use Rattle.fm_tally.specs.declared.unfinished.UnfinishedTask.{UnfinishedTask}
-use Rattle.fm_tally.specs.Tallies.{unfinished}
+use Rattle.fm_tally.specs.Tallies.{unfinished_spec}
 use Rattle.fm_tally.specs.Unfinished.{unfinished_at}
 use Rattle.fm_tally.proofs.Rows.{rows, rising_rows, lookup_rows}
 use Rattle.fm_tally.proofs.Step.{found_is}
@@ -72,6 +72,6 @@ returns c =
     let k = c.args.knowledge.now in
     let all : c.of.result ≡ rows (unfinished_at k) k.tasks = search (rules, c.loop-task.invariant.found) in
     λ q. ap (lookup nat_cmp q) all ∙ lookup_rows (unfinished_at k) k.tasks q (λ (w : UnfinishedTask) e.
-    let s = mapped_from _ (and_then unfinished (lookup nat_cmp q k.tasks)) w e in
-    let v = came_from unfinished (lookup nat_cmp q k.tasks) s.0 s.1 in
+    let s = mapped_from _ (and_then unfinished_spec (lookup nat_cmp q k.tasks)) w e in
+    let v = came_from unfinished_spec (lookup nat_cmp q k.tasks) s.0 s.1 in
     (v.0, v.1))

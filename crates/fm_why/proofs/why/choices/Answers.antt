@@ -35,7 +35,7 @@ returns c =
         units = units_in schedule.flow;
         least = subst (λ (n : Net). IsLeast n (units_in schedule.flow)) is c.in_ok-schedule.ensures.least;
         cost = subst (λ (n : Net). schedule.least ≡ cost_of n (units_in schedule.flow)) is c.in_ok-schedule.ensures.cost;
-        waits = c.has_units.ensures;
+        waits = c.has_units-waits.ensures;
       };
       waiting = subst (λ (n : Net). IsDearerOver n schedule.least (Task c.args.task) (Unscheduled spec.job) c.more_over.result) is c.more_over.ensures.dearer;
       each = subst (λ (n : Net). All (IsChoice n schedule.least c.args.task spec.request) c.in_ok-machines.machines.items) is c.in_ok-machines.ensures.each;
@@ -48,6 +48,8 @@ returns c =
       example =
           let at = λ (n : Net) (es : List Choice). IfSome c.in_ok-example.example (λ example. IsSomeAnd (slice_get es 0) (λ e. IsExample n (units_in schedule.flow) c.args.task e.machine example)) in
           subst (at (net_of k)) c.as_slice-listed.ensures.value (subst (λ (n : Net). at n c.as_slice-listed.result.now) is c.in_ok-example.ensures);
+      remedies = c.in_ok-remedies.ensures.each;
+      few = c.in_ok-remedies.ensures.few;
       stays = λ more within.
           let items = c.in_ok-machines.machines.items in
           let first = first_within c.args.job.wait more (slice_get items 0) (subst (λ o. IfSome o (λ price. c.args.job.wait + more ≤ price)) price within) in

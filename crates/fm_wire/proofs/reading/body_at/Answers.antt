@@ -4,7 +4,7 @@ use Rattle.fm_records.specs.Ids.{is_coordinator}
 use Rattle.fm_records.specs.RangeLaws.{when_value}
 use Rattle.fm_records.specs.Ranges.{CanBe}
 use Rattle.fm_records.specs.Table.{Table}
-use Rattle.fm_wire.specs.Grammar.{Listed, listed, entries_of}
+use Rattle.fm_wire.specs.Grammar.{Listed, lists_of, entries_of}
 use Rattle.fm_wire.proofs.Parts.{ReadHeader, ReadJobs, ReadTasks, ReadMachines, reads_body, header_fails, jobs_fail, tasks_fail, machines_fail, entries_fail}
 use Rattle.fm_wire.proofs.PacketLawful.{body_lawful}
 use Rattle.fm_wire.proofs.PacketLaws.{found_can_be}
@@ -106,7 +106,7 @@ returns-clause-found c =
     let w : Listed = record { sender = c.in_ok-sender.sender; number = c.in_ok-sender.number; jobs = c.in_ok-jobs.jobs; tasks = c.in_ok-tasks.tasks; machines = c.in_ok-machines.machines; entries = c.in_ok-entries.entries } in
     let sender : c.in_ok-sender.sender ≡ c.unwrap.result = when_value (is_coordinator c.in_ok-sender.sender) c.in_ok-sender.sender c.unwrap.result (sym c.new.ensures ∙ c.unwrap.ensures) in
     let value = c.of.ensures in
-    let same : w ≡ listed (record { sender = c.unwrap.result; number = c.in_ok-sender.number; value = c.of.result }) = λ i.
+    let same : w ≡ lists_of (record { sender = c.unwrap.result; number = c.in_ok-sender.number; value = c.of.result }) = λ i.
     record {
       sender = sender i;
       number = c.in_ok-sender.number;

@@ -2,7 +2,7 @@ use Rattle.std.proofs.Common.{◌≡◌, ◌∙◌, None, ap, sym, subst, rules}
 use Rattle.fm_records.specs.Table.{Table}
 use Rattle.fm_records.specs.Know.{know}
 use Rattle.fm_round.specs.declared.parts.Admitted.{Admitted}
-use Rattle.fm_round.specs.Admission.{admitted}
+use Rattle.fm_round.specs.Admission.{admission}
 use Rattle.fm_coord.specs.declared.entry.Call.TheVariants as call
 use Rattle.fm_coord.specs.declared.entry.Reply.TheVariants as reply
 use Rattle.fm_coord.specs.Causes.{room_fault}
@@ -15,10 +15,10 @@ pub take_in-requires : goal.take_in-requires
 take_in-requires g c =
     let s : State = c.args.self.now.state in
     let room : room_fault (bounds s) ≡ None = search rules in
-    let came : c.in_ok-admitted.admitted ≡ admitted s.knowledge s.number c.args.plan = c.in_ok-admitted.ensures ∙ c.in_ok-decided.ensures.admitted in
-    let shared : c.in_ok-share.field-0 ≡ admitted s.knowledge s.number c.args.plan = c.in_ok-share.ensures ∙ came in
+    let came : c.in_ok-admitted.admitted ≡ admission s.knowledge s.number c.args.plan = c.in_ok-admitted.ensures ∙ c.in_ok-decided.ensures.admitted in
+    let shared : c.in_ok-share.field-0 ≡ admission s.knowledge s.number c.args.plan = c.in_ok-share.ensures ∙ came in
     let delta : c.in_ok-delta.delta ≡ know c.in_ok-admitted.admitted.ops = search rules in
-    let told : c.in_ok-delta.delta ≡ know (admitted s.knowledge s.number c.args.plan).ops = delta ∙ ap (λ (a : Admitted). know a.ops) came in
+    let told : c.in_ok-delta.delta ≡ know (admission s.knowledge s.number c.args.plan).ops = delta ∙ ap (λ (a : Admitted). know a.ops) came in
     subst (λ (p : Table × Admitted). IsCoordinator (took s p.0 (entry c.args.by (call.Commit c.args.plan) (reply.Admitted p.1)))) (λ i. (sym told i, sym shared i))
     (keeps_commit s c.known.ensures.coordinator c.args.by c.args.plan room)
 
@@ -27,6 +27,6 @@ returns-clause-event g c =
     let s : State = c.args.self.now.state in
     let room : room_fault (bounds s) ≡ None = search rules in
     let a : Admitted = c.in_ok-admitted.admitted in
-    let came : a ≡ admitted s.knowledge s.number c.args.plan = c.in_ok-admitted.ensures ∙ c.in_ok-decided.ensures.admitted in
+    let came : a ≡ admission s.knowledge s.number c.args.plan = c.in_ok-admitted.ensures ∙ c.in_ok-decided.ensures.admitted in
     let made : c.take_in.new.self.state ≡ took s (know a.ops) (entry c.args.by (call.Commit c.args.plan) (reply.Admitted a)) = search rules in
     λ r st. committed s r st c.args.by c.take_in.new.self.state c.args.plan a came room made

@@ -1,6 +1,6 @@
 use Rattle.std.proofs.Common.{◌≡◌, ◌∙◌}
 use Rattle.std.proofs.lemmas.Result.{IfOk-weaker}
-use Rattle.fm_coord.specs.Replays.{seen}
+use Rattle.fm_coord.specs.Replays.{seen_packet}
 use Rattle.fm_coord.specs.Events.{packet_of}
 use Rattle.fm_coord.specs.States.{cut_packet}
 use Rattle.fm_coord.specs.StepLaws.{packet_is}
@@ -9,5 +9,5 @@ use Rattle.fm_coord.proofs.coordinator.Coordinator.packet_for.Goals as goal
 pub returns-clause-seen : goal.returns-clause-seen
 returns-clause-seen g c = λ r st.
     let s = c.args.self.now.state in
-    IfOk-weaker c.packet_of.result (λ packet. packet ≡ cut_packet s c.args.range) (λ packet. packet ≡ seen (packet_of r c.args.range))
+    IfOk-weaker c.packet_of.result (λ packet. packet ≡ cut_packet s c.args.range) (λ packet. packet ≡ seen_packet (packet_of r c.args.range))
     (λ packet is. is ∙ packet_is s r st c.args.range c.in_ok-check_range.ensures.ok) c.packet_of.ensures.ok

@@ -1,5 +1,5 @@
 use Rattle.std.proofs.Common.{◌≡◌, ◌∙◌, List, None, ap, sym, subst, rules}
-use Rattle.fm_delta.specs.Deltas.{trimmed, Deltas}
+use Rattle.fm_delta.specs.Deltas.{with_floor, Deltas}
 use Rattle.fm_coord.specs.declared.entry.Entry.{Entry}
 use Rattle.fm_coord.specs.declared.entry.Call.TheVariants as call
 use Rattle.fm_coord.specs.declared.entry.Reply.TheVariants as reply
@@ -18,7 +18,7 @@ invariant_of-self-2 g c =
     let is : s ≡ c.args.self.now.state = same_state c.self.view_is in
     let room : room_fault (bounds s) ≡ None = subst (λ (t : State). room_fault (bounds t) ≡ None) (sym is) c.in_ok-check_room.ensures.ok in
     let fault : floor_fault (bounds s) c.args.n ≡ None = subst (λ (t : State). floor_fault (bounds t) c.args.n ≡ None) (sym is) c.in_ok-check_floor.ensures.ok in
-    let deltas : c.trim.new.self.deltas ≡ trimmed s.deltas c.args.n = search rules in
+    let deltas : c.trim.new.self.deltas ≡ with_floor s.deltas c.args.n = search rules in
     let items = c.in_ok-push.ensures.items in
     record {
       coordinator =
@@ -36,7 +36,7 @@ returns-clause-event g c =
     let t : State = record { number = a.number; limit = a.limit; knowledge = a.knowledge; deltas = a.buffer.deltas; cuts = a.cuts; history = a.history.items } in
     let is : t ≡ s = same_state c.self.view_is in
     let none = no_cause (bounds s) (call.Trim c.args.n) c.in_ok-check_floor.ensures.ok c.in_ok-check_room.ensures.ok in
-    let deltas : c.trim.new.self.deltas ≡ trimmed t.deltas c.args.n = search rules in
+    let deltas : c.trim.new.self.deltas ≡ with_floor t.deltas c.args.n = search rules in
     let items = c.in_ok-push.ensures.items in
     let new : State = record { number = t.number; limit = t.limit; knowledge = t.knowledge; deltas = c.trim.new.self.deltas; cuts = t.cuts; history = c.push.new.self.items } in
     let made : new ≡ let_go s c.args.n (entry c.args.by (call.Trim c.args.n) reply.Nothing) =

@@ -4,8 +4,8 @@ use Rattle.fm_records.specs.declared.refusal.Refusal.TheVariants.{BadScript}
 use Rattle.fm_world.specs.Stands.{WorldStandsFor}
 use Rattle.fm_input.specs.declared.request.Request.{Request}
 use Rattle.fm_input.specs.Requests.{Opens, Requests, RequestsNothing, asked_of}
-use Rattle.fm_lines.specs.Replies.{refused}
-use Rattle.fm_opening.specs.Openings.{opened}
+use Rattle.fm_lines.specs.Replies.{refusal_reply}
+use Rattle.fm_opening.specs.Openings.{new_world}
 use Rattle.fm_follow.specs.Following.{fresh, IsRefused}
 use Rattle.fm_follow.proofs.Results.{returned}
 use Rattle.fm_follow.proofs.Sessions.{too_early}
@@ -15,15 +15,15 @@ pub returns-in_err-listed-clause-err : goal.returns-in_err-listed-clause-err
 returns-in_err-listed-clause-err c =
     let nothing = subst (λ (names : List (List ℕ)). RequestsNothing names c.args.line.now c.in_err-listed.field-0.0) c.new.ensures c.in_err-listed.ensures.err in
     returned c.from_residual.result c.from_residual.ensures.1
-    (λ e same. subst (λ (x : Refusal). IsRefused None c.args.line.now (refused x) None) (sym same)
+    (λ e same. subst (λ (x : Refusal). IsRefused None c.args.line.now (refusal_reply x) None) (sym same)
     (record { refusal = c.in_err-listed.field-0.0; cause = inl nothing; is = refl; same = refl }))
 
 pub returns-in-Open-clause-ok : goal.returns-in-Open-clause-ok
 returns-in-Open-clause-ok c = λ behind.
     let listed = c.in-Open.listed.items in
-    let k = fresh (opened listed) in
+    let k = fresh (new_world listed) in
     let heard = subst (λ (names : List (List ℕ)). Requests names c.args.line.now (asked_of c.in_ok-listed.field-0)) c.new.ensures c.in_ok-listed.ensures.ok in
-    let stands = subst (λ (l : List ℕ). WorldStandsFor c.in_ok-world-in-Open.world (opened l)) c.deref.ensures.value c.in_ok-world-in-Open.ensures in (
+    let stands = subst (λ (l : List ℕ). WorldStandsFor c.in_ok-world-in-Open.world (new_world l)) c.deref.ensures.value c.in_ok-world-in-Open.ensures in (
       k,
       record {
         asked = Opens listed;
@@ -34,7 +34,7 @@ returns-in-Open-clause-ok c = λ behind.
         settles = inl refl;
         is = refl;
       },
-      c.new-in-Open.ensures (opened listed) stands,
+      c.new-in-Open.ensures (new_world listed) stands,
     )
 
 pub returns : goal.returns

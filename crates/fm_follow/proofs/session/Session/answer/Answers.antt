@@ -1,7 +1,7 @@
 use Rattle.std.proofs.Common.{ℕ, List, Some, refl, sym, ap, ◌∙◌, subst, inl}
 use Rattle.fm_records.specs.declared.refusal.Refusal.{Refusal}
 use Rattle.fm_input.specs.Requests.{Requests, RequestsNothing, asked_of}
-use Rattle.fm_lines.specs.Replies.{refused}
+use Rattle.fm_lines.specs.Replies.{refusal_reply}
 use Rattle.fm_follow.specs.Following.{Named, IsRefused}
 use Rattle.fm_follow.proofs.Results.{returned}
 use Rattle.fm_follow.proofs.Sessions.{accepts}
@@ -12,7 +12,7 @@ returns-in_err-request-clause-err c = λ k here.
     let names = c.names.ensures ∙ ap (λ (n : Named). n.names) here.named_is in
     let nothing = subst (λ (ns : List (List ℕ)). RequestsNothing ns c.args.line.now c.in_err-request.field-0.0) names c.in_err-request.ensures.err in
     returned c.from_residual.result c.from_residual.ensures.1
-    (λ e same. subst (λ (x : Refusal). IsRefused (Some k) c.args.line.now (refused x) (Some k)) (sym same)
+    (λ e same. subst (λ (x : Refusal). IsRefused (Some k) c.args.line.now (refusal_reply x) (Some k)) (sym same)
     (record { refusal = c.in_err-request.field-0.0; cause = inl nothing; is = refl; same = refl }))
 
 pub returns-clause-ok : goal.returns-clause-ok

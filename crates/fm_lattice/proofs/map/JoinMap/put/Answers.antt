@@ -1,5 +1,5 @@
 use Rattle.std.proofs.Common.{◌≡◌, [], ◌∷◌, ◌+◌, refl, sym, ◌∙◌, ap, subst, arith, length, append-nil, length-append}
-use Rattle.fm_lattice.specs.Maps.{IsMap, lookup, put, replaced, joined_onto}
+use Rattle.fm_lattice.specs.Maps.{IsMap, lookup, put, keep_new, joined_onto}
 use Rattle.fm_lattice.specs.MapLaws.{is_map_put, lookup_put, overwritten}
 use Rattle.fm_lattice.specs.Blocks.{pairs_of}
 use Rattle.fm_lattice.proofs.InBlocks.{put_back}
@@ -32,8 +32,8 @@ returns-clause-ok g c =
     let before = pairs_of c.self.inside.blocks.items in
     let joined : c.in_ok-joined.joined ≡ joined_onto g.V.Join.join (lookup g.K.Ord.cmp c.args.key before) c.args.value = rw c.deref-2.ensures.value at c.in_ok-joined.ensures in
     c.write.ensures.pairs
-    ∙ ap (put g.K.Ord.cmp replaced c.args.key c.in_ok-joined.joined) c.in_ok-at.ensures.pairs
-    ∙ ap (λ v. put g.K.Ord.cmp replaced c.args.key v before) joined
+    ∙ ap (put g.K.Ord.cmp keep_new c.args.key c.in_ok-joined.joined) c.in_ok-at.ensures.pairs
+    ∙ ap (λ v. put g.K.Ord.cmp keep_new c.args.key v before) joined
     ∙ overwritten g.K.Ord.cmp g.met.K.Ord.total g.met.K.Chain.same g.V.Join.join before ((c.args.key, c.args.value) ∷ []) c.self.invariant.map.rising (tt, tt)
     ∙ ap (put g.K.Ord.cmp g.V.Join.join c.args.key c.args.value) c.self.view_is
 

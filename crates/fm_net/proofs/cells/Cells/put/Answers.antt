@@ -2,7 +2,7 @@ use Rattle.std.proofs.Common.{◌≡◌, ◌∙◌, ℕ, Some, None, slice_index
 use Rattle.std.specs.Prelude.{count_by}
 use Rattle.std.specs.Option.{unwrap_or}
 use Rattle.slab.specs.Slab.{get, slab_len}
-use Rattle.fm_lattice.specs.Maps.{lookup, put, replaced}
+use Rattle.fm_lattice.specs.Maps.{lookup, put, keep_new}
 use Rattle.fm_net.proofs.Copied.{kept_same}
 use Rattle.fm_net.proofs.Shown.{CellIs, rising_said}
 use Rattle.fm_net.proofs.Refilled.{stood_told, fills_told, no_more_told, cells_told, shown_told, filled_again}
@@ -57,7 +57,7 @@ returns-clause-ok g c =
     let filled : CellIs (get mid) (get c.insert_reserved.new.self) c.insert_reserved.result (Some (c.args.key, c.args.value)) = record { changed = c.insert_reserved.ensures.updates.changed; others = c.insert_reserved.ensures.updates.others } in
     let u = filled_again (get s) (get mid) (get c.insert_reserved.new.self) p c.insert_reserved.result (Some (c.args.key, c.args.value)) fills gone filled in
     shown_told g.K.Ord.cmp g.met.K.Ord.total (get s) c.vacant_key-next.result p c.args.key es c.self.invariant.indexed empty told c.requires (get c.insert_reserved.new.self) c.args.value _ u (search rules)
-    ∙ ap (put g.K.Ord.cmp replaced c.args.key c.args.value) c.self.view_is
+    ∙ ap (put g.K.Ord.cmp keep_new c.args.key c.args.value) c.self.view_is
 
 pub returns-clause-stood : goal.returns-clause-stood
 returns-clause-stood g c =

@@ -3,7 +3,7 @@ use Rattle.std.specs.BTreeMap.{is_at}
 use Rattle.std.specs.Map.{remove_entry}
 use Rattle.slab.specs.Slab.{get}
 use Rattle.fm_lattice.specs.Maps.{lookup}
-use Rattle.fm_net.specs.Cells.{shown}
+use Rattle.fm_net.specs.Cells.{pairs_in}
 use Rattle.fm_net.proofs.Shown.{rising_said, stands, value_stands, removed_in_cells, removed_shown, shown_absent, nothing_stands}
 use Rattle.fm_net.proofs.cells.Cells.remove.Goals as goal
 
@@ -39,7 +39,7 @@ returns-in-Some-clause-stood g c =
 pub returns-in-None-clause-without : goal.returns-in-None-clause-without
 returns-in-None-clause-without g c =
     let at = get c.self.inside.cells in
-    ap (λ es. shown at es) c.in-None.ensures.unchanged
+    ap (λ es. pairs_in at es) c.in-None.ensures.unchanged
     ∙ sym (shown_absent g.K.Ord.cmp g.met.K.Ord.total at c.args.key.now c.self.inside.places.entries c.self.invariant.indexed.cells (sym c.in-None.ensures.value))
     ∙ ap (remove_entry (is_at (g.K.Ord.cmp c.args.key.now))) c.self.view_is
 

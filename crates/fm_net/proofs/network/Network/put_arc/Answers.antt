@@ -1,6 +1,6 @@
 use Rattle.std.proofs.Common.{◌∙◌, ap, refl, sym, subst, arith}
 use Rattle.std.specs.Map.{keys_of}
-use Rattle.fm_lattice.specs.Maps.{lookup, replaced, IsRising}
+use Rattle.fm_lattice.specs.Maps.{lookup, keep_new, IsRising}
 use Rattle.fm_lattice.specs.MapLaws.{rising_put}
 use Rattle.fm_net.specs.Nodes.{ends_cmp}
 use Rattle.fm_net.specs.NodeOrder.{ends_exact, ends_total}
@@ -14,7 +14,7 @@ invariant_of-self-2 c =
     let old : Net = record { nodes = keys_of c.self.inside.nodes; arcs = c.self.inside.arcs } in
     let new : Net = record { nodes = keys_of c.self.inside.nodes; arcs = c.put.new.self } in
     after_put_arc old new c.self.invariant c.args.from c.args.to refl
-    (subst (IsRising ends_cmp) (sym c.in_ok-put.ensures.ok) (rising_put ends_cmp ends_total ends_exact replaced (c.args.from, c.args.to) (c.args.capacity, c.args.cost) c.self.inside.arcs c.self.invariant.arcs_rise))
+    (subst (IsRising ends_cmp) (sym c.in_ok-put.ensures.ok) (rising_put ends_cmp ends_total ends_exact keep_new (c.args.from, c.args.to) (c.args.capacity, c.args.cost) c.self.inside.arcs c.self.invariant.arcs_rise))
     (c.args.capacity, c.args.cost)
     (record {
       from_stands = ap (λ net. has_node net c.args.from) c.self.view_is ∙ c.requires.from_stands;

@@ -1,0 +1,13 @@
+mod Causes
+mod Columns
+mod Drained
+mod Ending
+mod Merging
+mod Passing
+mod Seated
+pub mod Stopping
+mod Working
+pub mod Listing
+pub mod Same
+pub mod Numbers
+pub mod Senders

@@ -1,6 +1,0 @@
-pub mod Served
-pub mod Members
-pub mod Passing
-pub mod Used
-pub mod Works
-pub mod Exchanges

@@ -1,4 +1,0 @@
-pub mod Listing
-pub mod Same
-pub mod Numbers
-pub mod Senders

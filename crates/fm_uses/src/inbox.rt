@@ -1,0 +1,26 @@
+//! Inboxes alone: afterwards it is known that no packet was lost, and none was given twice.
+
+ghost use Rattle.std.specs.Prelude.{◌≡◌, map, All, OnOk};
+ghost use Rattle.fm_inbox.specs.Ports.{IsPortOf, all_put, all_taken};
+ghost use Rattle.fm_inbox.specs.Rule.{SamePackets};
+
+use fm_inbox::door::{Door, Doors};
+use fm_records::refusal::Refusal;
+use std::sync::Wait;
+
+/// Closes an inbox after its threads gave all doors back: each packet that was put was taken as often. The caller must
+/// pass doors of this inbox. NotMine(0) if one is missing, InboxFull if a packet is left.
+pub fn drained<R: Wait>(rt: &R, inbox: Doors, out: Vec<Door>) -> Result<(), Refusal>
+    requires { All (λ d. IsPortOf inbox.inbox d.port) out.items }
+    ensures { OnOk result (SamePackets (all_put (map (λ d. d.port) out.items))
+        (all_taken (map (λ d. d.port) out.items))) }
+{
+    match inbox.close(rt, out) {
+        Ok(left) => if left.is_empty() {
+            Ok(())
+        } else {
+            Err(Refusal::InboxFull)
+        },
+        Err(kept) => Err(kept.refusal),
+    }
+}
