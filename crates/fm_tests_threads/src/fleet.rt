@@ -260,14 +260,11 @@ fn with_a_trim(mut log: SeatLog) -> Result<SeatLog, Fail> {
 
 // The log of the first seat whose last entry, a view, is said to come one place later in the history.
 fn with_a_later_view(mut log: SeatLog) -> Result<SeatLog, Fail> {
-    let Some(
-        Entry {
-            by,
-            call,
-            reply: Reply::Seen(at, known),
-        },
-    ) = log.entries.pop()
-    else {
+    let Some(entry) = log.entries.pop() else {
+        return Err("no entry".into());
+    };
+    let Entry { by, call, reply } = entry;
+    let Reply::Seen(at, known) = reply else {
         return Err("no view".into());
     };
     let reply = Reply::Seen(at.saturating_add(1), known);
