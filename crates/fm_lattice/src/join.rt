@@ -75,3 +75,12 @@ pub fn copied<T: Join>(a: &T) -> Result<T, OutOfMemory>
     a.known();
     a.joined(a)
 }
+
+// Whether the values are the same, which is whether each is below the other.
+pub(crate) fn equal<T: Join>(a: &T, b: &T) -> bool
+    ensures { IsTrue result ↔ (a.now ≡ b.now) }
+{
+    a.known();
+    b.known();
+    a.leq(b) && b.leq(a)
+}

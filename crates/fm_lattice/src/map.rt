@@ -8,7 +8,7 @@ use crate::block::Block;
 use crate::blocks::{comes_last, copied_blocks, make_room, shared_blocks, value_at, write};
 use crate::chain::Chain;
 use crate::join::{Join, OutOfMemory};
-use crate::merging::{append, counted, is_below, joined_at, merged};
+use crate::merging::{append, are_same, counted, is_below, joined_at, merged};
 pub use crate::pairs::Pairs;
 use crate::plan::{carry_out, plan_join};
 use std::alloc::Global;
@@ -113,6 +113,14 @@ impl<K: Chain, V: Join> JoinMap<K, V> {
         let plan = plan_join(&mut self.blocks, self.len, &other.blocks, other.len)?;
         self.len = carry_out(&mut self.blocks, self.len, plan);
         Ok(())
+    }
+
+    /// Whether both are the same map. One walk along both, which ends at the first difference: O(n), and O(1) if one
+    /// has more keys.
+    pub fn equals(&self, other: &JoinMap<K, V>) -> bool
+        ensures { IsTrue result ↔ (self.now ≡ other.now) }
+    {
+        self.len == other.len && are_same(&self.blocks, &other.blocks)
     }
 
     /// The same map. Blocks that are already shared cost a pointer each, and each pair of the others is copied: O(n),

@@ -10,7 +10,7 @@ use crate::blocks::{
 };
 use crate::chain::Chain;
 use crate::filling::Filling;
-use crate::join::{Join, OutOfMemory, copied};
+use crate::join::{Join, OutOfMemory, copied, equal};
 use crate::pairs::Pairs;
 use std::alloc::Global;
 use std::cmp::Ordering;
@@ -83,6 +83,34 @@ pub(crate) fn is_below<K: Chain, V: Join>(
         Some(_) => false,
         None => true,
     }
+}
+
+// Whether both have the same pairs. O(n + m).
+pub(crate) fn are_same<K: Chain, V: Join>(
+    left: &[(K, Block<K, V>)],
+    right: &[(K, Block<K, V>)],
+) -> bool
+    requires left_headed { AreHeaded left.now }
+    requires right_headed { AreHeaded right.now }
+    ensures { IsTrue result ↔ (pairs_of left.now ≡ pairs_of right.now) }
+{
+    let mut lefts = Pairs::of(left);
+    let mut rights = Pairs::of(right);
+    'both: while let (Some(here), Some(there)) = (lefts.first(), rights.first()) {
+        if !is_same(here, there) {
+            return false;
+        }
+        lefts.skip_first();
+        rights.skip_first();
+    }
+    lefts.first().is_none() && rights.first().is_none()
+}
+
+// Whether both have the same key and the same value.
+fn is_same<K: Chain, V: Join>(here: &(K, V), there: &(K, V)) -> bool
+    ensures { IsTrue result ↔ (here.now ≡ there.now) }
+{
+    here.0.cmp(&there.0).is_eq() && equal(&here.1, &there.1)
 }
 
 // Adds a copy of each.
