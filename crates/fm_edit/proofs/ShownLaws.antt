@@ -1,24 +1,22 @@
--- What is shown of a table that is seen, with the sums over all its tasks, is the table's network.
-use Rattle.std.proofs.Common.{◌≡◌, ◌∙◌, ℕ, ◌+◌, ◌-◌, ◌<◌, ◌≤◌, ◌^◌, Bool, true, false, cond, List, [], ◌∷◌, length, None, refl, sym, ap, arith}
-use Rattle.std.specs.Prelude.{◌&&◌, ◌||◌, ◌==◌, not, filter, sum_by, min, max, option_map}
+-- What is shown of a table that is seen, with the sums over all its tasks, is what the table tells, and so its network.
+use Rattle.std.proofs.Common.{◌≡◌, ◌∙◌, ℕ, ◌+◌, ◌-◌, ◌<◌, ◌≤◌, ◌^◌, Bool, true, false, cond, List, [], ◌∷◌, length, refl, sym, ap, arith}
+use Rattle.std.specs.Prelude.{◌&&◌, ◌||◌, ◌==◌, not, nat_lt, filter, sum_by, min, max}
 use Rattle.std.specs.List.{list_any}
-use Rattle.std.proofs.lemmas.Bool.{eqb-true}
+use Rattle.std.proofs.lemmas.Bool.{eqb-true, eqb-false, lt-ltb}
 use Rattle.std.proofs.lemmas.List.Sums.{sum_by-cons, count_by-le-length}
-use Rattle.std.specs.Ordering.{nat_cmp}
-use Rattle.fm_lattice.specs.Maps.{lookup}
-use Rattle.fm_records.specs.Options.{when, and_then}
 use Rattle.fm_records.specs.Table.{Table, TaskValue}
-use Rattle.fm_records.specs.Facts.{used_of, load_of, open_state, live_spec, holds}
+use Rattle.fm_records.specs.Facts.{used_of, load_of, job_of, open_state}
 use Rattle.fm_net.specs.declared.node.Node.{Node}
 use Rattle.fm_net.specs.declared.node.Node.TheVariants.{Sink, Unscheduled, Request, Machine, Task}
-use Rattle.fm_net.specs.Network.{is_held, is_live_of, waits_for, live_tasks, is_node, room_arc, arc_of}
-use Rattle.fm_policy.specs.Rooms.{room_of, fit_in}
-use Rattle.fm_policy.specs.RoomLaws.{room_fits}
+use Rattle.fm_net.specs.Network.{is_live_of, waits_for, live_tasks, is_node, arc_of}
+use Rattle.fm_policy.specs.declared.facts.NodeFacts.TheVariants.{OfJob, OfRequest, OfMachine}
+use Rattle.fm_policy.specs.Facts.{facts_of, arc_between}
+use Rattle.fm_policy.specs.FactsLaws as policy
 use Rattle.fm_edit.specs.LocalLaws.{counted}
 use Rattle.fm_edit.specs.Sight.{sight_of}
 use Rattle.fm_edit.specs.Index.{counts_at, weight_at}
 use Rattle.fm_edit.specs.Memory.{sum_over, none_out}
-use Rattle.fm_edit.specs.Shown.{node_shown, load_shown, fit_shown, arc_shown}
+use Rattle.fm_edit.specs.Shown.{facts_shown, node_shown, arc_shown}
 
 and_yes : (b : Bool) → (b && true) ≡ b
 and_yes true = refl
@@ -29,6 +27,9 @@ one_more whole rest e z = omega arith
 
 least : (n bound : ℕ) → n ≤ bound → bound < 2 ^ 63 → min n (2 ^ 64 - 1) ≡ n
 least n bound h g = omega arith
+
+capped : (n : ℕ) → (n ≡ 0 → ⊥) → 0 < min n (2 ^ 64 - 1)
+capped n apart = omega (arith, apart)
 
 some_sum : {X : Type 0} (p : X → Bool) (xs : List X) → not (sum_by (λ x. 1) (filter p xs) == 0) ≡ list_any p xs
 some_sum p [] = refl
@@ -44,6 +45,13 @@ some_sum p (x ∷ xs) =
       | false ↦ rest
     ]
 
+-- a sum that is cut to what fits is 0 just if the sum is
+some_capped : (n : ℕ) → nat_lt 0 (min n (2 ^ 64 - 1)) ≡ not (n == 0)
+some_capped n = elim (n == 0) as (λ b. (n == 0) ≡ b → nat_lt 0 (min n (2 ^ 64 - 1)) ≡ not b) [
+  | true ↦ λ is. ap (λ m. nat_lt 0 (min m (2 ^ 64 - 1))) (eqb-true n 0 is)
+  | false ↦ λ is. let apart = eqb-false n 0 is in lt-ltb 0 (min n (2 ^ 64 - 1)) (capped n apart)
+] refl
+
 module _ (k : Table) where
   abbrev sums : Node → ℕ
   sums = sum_over none_out k
@@ -54,29 +62,31 @@ module _ (k : Table) where
   live_is : (j : ℕ) → sums (Unscheduled j) ≡ live_tasks k j
   live_is j = sum_is (Unscheduled j) ∙ sym (counted (λ (e : ℕ × TaskValue). is_live_of k j e.0) k.tasks)
 
-  load_is : (m : ℕ) → load_shown (sight_of k) sums m ≡ load_of k m
+  load_is : (m : ℕ) → max (used_of k m) (sums (Machine m)) ≡ load_of k m
   load_is m = ap (λ x. max (used_of k m) x) (sum_is (Machine m))
 
-  fit_is : (q m : ℕ) → fit_shown (sight_of k) sums q m ≡ room_arc k q m
-  fit_is q m = (λ i. and_then (λ room. fit_in room q) (and_then (λ state. room_of m state (load_is m i)) (open_state k m))) ∙ sym (room_fits k q m)
+  waits_is : (r : ℕ) → not (sums (Request r) == 0) ≡ is_node k (Request r)
+  waits_is r = ap (λ x. not (x == 0)) (sum_is (Request r)) ∙ some_sum (λ (e : ℕ × TaskValue). waits_for k r e.0) k.tasks
 
   pub node_is : (n : Node) → node_shown (sight_of k) sums n ≡ is_node k n
   node_is Sink = refl
-  node_is (Unscheduled j) = ap (λ x. not (x == 0)) (sum_is (Unscheduled j)) ∙ some_sum (λ (e : ℕ × TaskValue). is_live_of k j e.0) k.tasks
-  node_is (Request q) = ap (λ x. not (x == 0)) (sum_is (Request q)) ∙ some_sum (λ (e : ℕ × TaskValue). waits_for k q e.0) k.tasks
+  node_is (Unscheduled j) = some_capped (sums (Unscheduled j)) ∙ ap (λ x. not (x == 0)) (sum_is (Unscheduled j)) ∙ some_sum (λ (e : ℕ × TaskValue). is_live_of k j e.0) k.tasks
+  node_is (Request r) = waits_is r
   node_is (Machine m) = refl
   node_is (Task t) = refl
 
-  count_is : (j : ℕ) → length k.tasks < 2 ^ 63 → min (sums (Unscheduled j)) (2 ^ 64 - 1) ≡ live_tasks k j
-  count_is j small =
-      let bound = count_by-le-length (λ (e : ℕ × TaskValue). is_live_of k j e.0) k.tasks in
-      ap (λ x. min x (2 ^ 64 - 1)) (live_is j) ∙ least (live_tasks k j) (length k.tasks) bound small
+  module _ (small : length k.tasks < 2 ^ 63) where
+    count_is : (j : ℕ) → min (sums (Unscheduled j)) (2 ^ 64 - 1) ≡ live_tasks k j
+    count_is j =
+        let bound = count_by-le-length (λ (e : ℕ × TaskValue). is_live_of k j e.0) k.tasks in
+        ap (λ x. min x (2 ^ 64 - 1)) (live_is j) ∙ least (live_tasks k j) (length k.tasks) bound small
 
-  pub arc_is : length k.tasks < 2 ^ 63 → (a b : Node) → arc_shown (sight_of k) sums a b ≡ arc_of k a b
-  arc_is small (Task t) (Request q) = refl
-  arc_is small (Request q) (Machine m) = λ i. cond (node_is (Request q) i) (fit_is q m i) None
-  arc_is small (Task t) (Machine m) = λ i. cond (is_held k t) (when (holds k m t) (1, 0)) (and_then (λ s. and_then (λ credit. option_map (λ a. (1, a.1 - credit)) (fit_is s.request m i)) (lookup nat_cmp m s.prefer)) (live_spec k t))
-  arc_is small (Task t) (Unscheduled j) = refl
-  arc_is small (Machine m) Sink = refl
-  arc_is small (Unscheduled j) Sink = λ i. when (node_is (Unscheduled j) i) (count_is j small i, 0)
-  arc_is small _ _ = refl
+    facts_are : (n : Node) → facts_shown (sight_of k) sums n ≡ facts_of k n
+    facts_are Sink = refl
+    facts_are (Unscheduled j) = λ i. OfJob (record { job = j; register = job_of k j; live = count_is j i })
+    facts_are (Request r) = λ i. OfRequest (record { request = r; waits = waits_is r i })
+    facts_are (Machine m) = λ i. OfMachine (record { machine = m; state = open_state k m; load = load_is m i })
+    facts_are (Task t) = refl
+
+    pub arc_is : (a b : Node) → arc_shown (sight_of k) sums a b ≡ arc_of k a b
+    arc_is a b = (λ i. arc_between (facts_are a i) (facts_are b i)) ∙ policy.arc_is k a b

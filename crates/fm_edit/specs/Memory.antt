@@ -1,17 +1,18 @@
 -- What an Editor remembers of a table: a line for each index, which function of the table it is. Own.
-use Rattle.std.specs.Prelude.{◌≡◌, ℕ, Bool, false, not, ◌&&◌, ◌||◌, Option, filter, sum_by}
+use Rattle.std.specs.Prelude.{◌≡◌, ℕ, Bool, false, not, ◌&&◌, ◌||◌, Option, IfSome, filter, sum_by}
 use Rattle.std.specs.Ordering.{nat_cmp, is_eq}
 use Rattle.fm_records.specs.Table.{Table}
 use Rattle.fm_net.specs.declared.node.Node.{Node}
-use Rattle.fm_policy.specs.declared.room.Room.{Room}
+use Rattle.fm_policy.specs.declared.facts.NodeFacts.{NodeFacts}
+use Rattle.fm_policy.specs.Facts.{node_of}
 use Rattle.fm_edit.specs.declared.index.Index.{Index}
 use Rattle.fm_edit.specs.declared.memory.Memory.{Memory}
 use Rattle.fm_net.specs.Net.{Net}
 use Rattle.fm_net.specs.Network.{net_of}
 use Rattle.fm_edit.specs.Sight.{sight_of, seen_in, prefers_in}
 use Rattle.fm_edit.specs.Index.{is_listed, counts_at, weight_at, lists, lists_preferred, sum_in}
-use Rattle.fm_edit.specs.Shown.{node_shown, room_shown, fit_shown, arc_shown, IsPlace}
-use Rattle.fm_edit.specs.declared.shown.Place.{Place}
+use Rattle.fm_edit.specs.Shown.{facts_shown, node_shown, arc_shown}
+use Rattle.fm_edit.specs.declared.shown.Ends.{Ends}
 
 -- what the tasks that are not out add up to at a node
 abbrev pub sum_over : (ℕ → Bool) → Table → Node → ℕ
@@ -36,21 +37,23 @@ pub record Remembers (k : Table) (m : Memory) : Type 0 where
   pub sees : seen_in m.seen ≡ sight_of k
   pub counts : Counts none_out k m.index
 
--- the nodes, rooms and arcs of what a memory has in sight, with its sums
+-- what a memory tells of nodes, and the nodes and arcs that follow from that
+abbrev pub facts_by : Memory → Node → NodeFacts
+facts_by m = facts_shown (seen_in m.seen) (sum_in m.index)
+
 abbrev pub node_by : Memory → Node → Bool
 node_by m = node_shown (seen_in m.seen) (sum_in m.index)
-
-abbrev pub room_by : Memory → ℕ → Option Room
-room_by m = room_shown (seen_in m.seen) (sum_in m.index)
-
-abbrev pub fit_by : Memory → ℕ → ℕ → Option (ℕ × ℕ)
-fit_by m = fit_shown (seen_in m.seen) (sum_in m.index)
 
 abbrev pub arc_by : Memory → Node → Node → Option (ℕ × ℕ)
 arc_by m = arc_shown (seen_in m.seen) (sum_in m.index)
 
-abbrev pub IsPlaceBy : Memory → Place → Type 0
-IsPlaceBy m = IsPlace (seen_in m.seen) (sum_in m.index)
+-- what was found of a node is what the memory tells of it; and so of two ends, if they were found
+abbrev pub IsKnownBy : Memory → NodeFacts → Type 0
+IsKnownBy m x = x ≡ facts_by m (node_of x)
+
+pub record AreKnownBy (m : Memory) (ends : Ends) : Type 0 where
+  pub from : IfSome ends.from (IsKnownBy m)
+  pub to : IfSome ends.to (IsKnownBy m)
 
 -- the memory is of the table, and the network is the table's
 pub record IsAt (m : Memory) (net : Net) (k : Table) : Type 0 where

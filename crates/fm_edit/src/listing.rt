@@ -1,15 +1,15 @@
 //! The edits of what was touched, in order.
 
-ghost use Rattle.std.specs.Prelude.{◌≡◌, ◌++◌, ◌∷◌, [], not, option_map, IfOk, OnOk, IfSome};
+ghost use Rattle.std.specs.Prelude.{◌≡◌, ◌++◌, ◌∷◌, [], not, option_map, IfOk, OnOk};
 ghost use Rattle.fm_records.specs.Options.{passes, when};
 ghost use Rattle.fm_net.specs.declared.edit.Edit.{Edit as EditName};
 ghost use Rattle.fm_net.specs.Edits.{joins, same_value, has_arc};
 ghost use Rattle.fm_net.specs.Touched.{put_at};
-ghost use Rattle.fm_edit.specs.Memory.{node_by, arc_by, IsPlaceBy};
+ghost use Rattle.fm_edit.specs.Memory.{node_by, arc_by, AreKnownBy};
 ghost use Rattle.fm_edit.specs.Listing.{arcs_that_go, nodes_that_go, nodes_that_come, arcs_that_come, edits_of};
 
 use crate::memory::Memory;
-use crate::shown::Place;
+use crate::shown::Ends;
 use crate::touched::Touched;
 use fm_lattice::join::OutOfMemory;
 use fm_net::edit::Edit;
@@ -41,8 +41,7 @@ impl Memory {
     }
 
     // Adds the edits of the pairs' arcs, to one list if they go, and to the other if they come or differ: one scan,
-    // since computing the arc between two nodes is expensive; and a machine is looked up once for its consecutive
-    // pairs.
+    // since looking up the ends of an arc is expensive; and a node is looked up once for its consecutive pairs.
     fn add_arcs(
         &self,
         going: &mut Vec<Edit>,
@@ -55,7 +54,10 @@ impl Memory {
         ensures coming { OnOk result (coming.new.items
             ≡ coming.old.items ++ arcs_that_come network.now (node_by self.now) (arc_by self.now) pairs.now.keys) }
     {
-        let mut last = None;
+        let mut last = Ends {
+            from: None,
+            to: None,
+        };
         for pair in pairs.iter() {
             self.add_arc(going, coming, network, &mut last, pair)?;
         }
@@ -68,17 +70,17 @@ impl Memory {
         going: &mut Vec<Edit>,
         coming: &mut Vec<Edit>,
         network: &Network,
-        last: &mut Option<Place>,
+        last: &mut Ends,
         pair: &(Node, Node),
     ) -> Result<(), OutOfMemory>
-        requires { IfSome last.old (IsPlaceBy self.now) }
-        ensures last { IfSome last.new (IsPlaceBy self.now) }
+        requires { AreKnownBy self.now last.old }
+        ensures last { AreKnownBy self.now last.new }
         ensures going { OnOk result (going.new.items
             ≡ going.old.items ++ arcs_that_go network.now (node_by self.now) (arc_by self.now) (pair.now ∷ [])) }
         ensures coming { OnOk result (coming.new.items
             ≡ coming.old.items ++ arcs_that_come network.now (node_by self.now) (arc_by self.now) (pair.now ∷ [])) }
     {
-        match self.arc_after(last, &pair.0, &pair.1) {
+        match self.arc_after(last, pair) {
             None => {
                 if let Some(edit) = drop_arc(network, pair) {
                     going.push(edit)?;

@@ -178,23 +178,6 @@ impl Seen {
         }
     }
 
-    /// The spec of the task, if it is live.
-    pub(crate) fn live_spec(&self, task: TaskId) -> Option<SpecReg>
-        ensures { result ≡ live_in (seen_in self.now) task }
-    {
-        self.live_of(self.tasks.get(&task)?)
-    }
-
-    /// Whether the task is live.
-    pub(crate) fn is_live(&self, task: TaskId) -> bool
-        ensures { result ≡ is_some (live_in (seen_in self.now) task) }
-    {
-        match self.tasks.get(&task) {
-            Some(known) => self.live_of(known).is_some(),
-            None => false,
-        }
-    }
-
     /// The state of the machine, if it is open.
     pub(crate) fn open_state(&self, machine: MachineId) -> Option<MachineReg>
         ensures { result ≡ open_in (seen_in self.now) machine }
@@ -203,19 +186,6 @@ impl Seen {
         match &record.1.0.0 {
             Some(state) if state.0.up => Some(state.0),
             _ => None,
-        }
-    }
-
-    /// The machine that holds the task.
-    pub(crate) fn holder(&self, task: TaskId) -> Option<MachineId>
-        ensures { result ≡ holder_in (seen_in self.now) task }
-    {
-        // most tasks have no winner, and are not looked up again
-        let spot = self.spots.get(&task)?;
-        if self.is_present(*spot) && self.is_live(task) {
-            Some(spot.machine)
-        } else {
-            None
         }
     }
 

@@ -8,6 +8,8 @@ use Rattle.fm_records.specs.Table.{Table}
 use Rattle.fm_records.specs.Facts.{live_spec, holder_of, is_live}
 use Rattle.fm_net.specs.BoundLaws.{spec_ranges}
 use Rattle.fm_net.specs.NetworkLaws.{mapped_from}
+use Rattle.fm_policy.specs.declared.facts.TaskFacts.{TaskFacts}
+use Rattle.fm_policy.specs.Facts.{task_facts}
 use Rattle.fm_policy.specs.declared.live_task.LiveTask.{LiveTask}
 use Rattle.fm_policy.specs.LiveTasks.{live_task}
 
@@ -23,6 +25,10 @@ module _ (k : Table) where
 
   pub its_holder : (t : ℕ) (x : LiveTask) → live_task k t ≡ Some x → holder_of k t ≡ x.holder
   its_holder t x is = ap (λ (y : LiveTask). y.holder) (parts t x is).2
+
+  -- what is known of the task is what the table tells
+  pub told_live : (x : TaskFacts) (live : LiveTask) → live_task k live.task ≡ Some live → x ≡ record { task = live.task; spec = Some live.spec; holder = live.holder } → x ≡ task_facts k live.task
+  told_live x live is told = told ∙ (λ i. record { task = live.task; spec = sym (its_spec live.task live is) i; holder = sym (its_holder live.task live is) i })
 
   pub it_lives : (t : ℕ) (x : LiveTask) → live_task k t ≡ Some x → is_live k t ≡ true
   it_lives t x is = ap (passes (λ s. true)) (its_spec t x is)

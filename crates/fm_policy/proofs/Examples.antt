@@ -23,18 +23,18 @@ state = record { version = 1; writer = 1; up = true; slots = 4; nic = 1000 }
 
 -- beside a load of 900, three tasks of request 30 fit, at a cost of 930 each, one of request 100, and none of 101; as many of
 -- request 0 as there are slots
-three_fit : and_then (λ room. fit_in room 30) (room_of 10 state 900) ≡ Some (3, 930)
+three_fit : and_then (λ room. fit_in room 30) (room_of state 900) ≡ Some (3, 930)
 three_fit = refl
 
-one_fits : and_then (λ room. fit_in room 100) (room_of 10 state 900) ≡ Some (1, 1000)
+one_fits : and_then (λ room. fit_in room 100) (room_of state 900) ≡ Some (1, 1000)
 one_fits = refl
 
-none_fits : and_then (λ room. fit_in room 101) (room_of 10 state 900) ≡ None
+none_fits : and_then (λ room. fit_in room 101) (room_of state 900) ≡ None
 none_fits = refl
 
-slots_fit : and_then (λ room. fit_in room 0) (room_of 10 state 900) ≡ Some (4, 900)
+slots_fit : and_then (λ room. fit_in room 0) (room_of state 900) ≡ Some (4, 900)
 slots_fit = refl
 
 -- a machine with more load than bandwidth has no room
-overloaded : room_of 10 state 1001 ≡ None
+overloaded : room_of state 1001 ≡ None
 overloaded = refl

@@ -1,4 +1,5 @@
 pub mod Adds
+pub mod Opened
 pub mod Listed
 pub mod Parts
 pub mod Covered
@@ -8,7 +9,6 @@ pub mod Named
 pub mod Surveyed
 pub mod Alive
 pub mod Counted
-pub mod Roomy
 pub mod Summed
 mod Preferred
 mod Examples

@@ -71,14 +71,6 @@ module _ (k : Table) where
   pub job_to_sink : (j : ℕ) → is_node k (Unscheduled j) ≡ true → arc_of k (Unscheduled j) Sink ≡ Some (live_tasks k j, 0)
   job_to_sink j h = ap (λ b. when b (live_tasks k j, 0)) h
 
-  pub task_to_machine : (t m : ℕ) → holder_of k t ≡ Some m → arc_of k (Task t) (Machine m) ≡ Some (1, 0)
-  task_to_machine t m h = (λ i. cond (passes (λ n. true) (h i)) (when (passes (λ n. n == m) (h i)) (1, 0)) (and_then (λ s. preferred_arc k s m) (live_spec k t))) ∙ ap (λ b. when b (1, 0)) (same m)
-
-  pub task_to_preferred : (t m credit : ℕ) (s : SpecReg) (place : ℕ × ℕ) → live_spec k t ≡ Some s → holder_of k t ≡ None → lookup nat_cmp m s.prefer ≡ Some credit → room_arc k s.request m ≡ Some place → arc_of k (Task t) (Machine m) ≡ Some (1, place.1 - credit)
-  task_to_preferred t m credit s place e h c r =
-      (λ i. cond (passes (λ n. true) (h i)) (when (passes (λ n. n == m) (h i)) (1, 0)) (and_then (λ s. preferred_arc k s m) (e i)))
-      ∙ (λ i. and_then (λ q. option_map (λ a. (1, a.1 - q)) (r i)) (c i))
-
   -- what a task that is not held prefers has a credit, and room for it
   pub preferred_needs : (t m : ℕ) (s : SpecReg) → live_spec k t ≡ Some s → holder_of k t ≡ None → is_some (arc_of k (Task t) (Machine m)) ≡ true → (is_some (lookup nat_cmp m s.prefer) ≡ true) × (is_some (room_arc k s.request m) ≡ true)
   preferred_needs t m s e h some =
@@ -90,10 +82,3 @@ module _ (k : Table) where
 
   pub task_to_job : (t : ℕ) (s : SpecReg) (job : JobReg) → live_spec k t ≡ Some s → job_of k s.job ≡ Some job → arc_of k (Task t) (Unscheduled s.job) ≡ Some (1, cond (is_held k t) job.preempt job.wait)
   task_to_job t s job e h = λ i. cond (live_of_job t s e i) (option_map (λ r. (1, cond (is_held k t) r.preempt r.wait)) (h i)) None
-
-  pub request_to_machine : (r m : ℕ) (o : Option (ℕ × ℕ)) → is_node k (Request r) ≡ true → room_arc k r m ≡ o → arc_of k (Request r) (Machine m) ≡ o
-  request_to_machine r m o waits e = λ i. cond (waits i) (e i) None
-
-  -- a request that is a node has an arc exactly if a machine has room
-  pub place_there : (r m : ℕ) → is_node k (Request r) ≡ true → is_some (arc_of k (Request r) (Machine m)) ≡ true → is_some (room_arc k r m) ≡ true
-  place_there r m waits some = ap is_some (sym (request_to_machine r m (room_arc k r m) waits refl)) ∙ some

@@ -5,7 +5,7 @@ use Rattle.fm_records.specs.Table.{Table}
 use Rattle.fm_records.specs.Facts.{is_open, live_spec, holder_of}
 use Rattle.fm_net.specs.declared.node.Node.{Node}
 use Rattle.fm_net.specs.declared.node.Node.TheVariants.{Sink, Unscheduled, Request, Machine, Task}
-use Rattle.fm_net.specs.Net.{Net, has_node, arc_at}
+use Rattle.fm_net.specs.Net.{Net, has_node, arc_at, IsArcKind}
 use Rattle.fm_net.specs.Network.{is_node, arc_of}
 
 abbrev pub Stands : Net → Node → Type 0
@@ -29,7 +29,16 @@ pub record Adds (k : Table) (old new : Net) : Type 0 where
   pub part : IsPart k old → IsPart k new
   pub grows : Grows old new
 
--- a capacity and a cost that an arc may have
+-- an arc of the table's network joins two of its nodes, of kinds that an arc may join, and has a capacity and a cost that an arc
+-- may have
+pub record IsArcOf (k : Table) (a b : Node) (arc : ℕ × ℕ) : Type 0 where
+  pub from : IsTrue (is_node k a)
+  pub to : IsTrue (is_node k b)
+  pub kinds : IsArcKind a b
+  pub capacity : 1 ≤ arc.0
+  pub cost : arc.1 ≤ 1000000000
+
+-- the capacity and the cost of a place
 abbrev pub IsWithinArcs : ℕ × ℕ → Type 0
 IsWithinArcs arc = (1 ≤ arc.0) × (arc.1 ≤ 1000000)
 
@@ -50,6 +59,9 @@ CoversPlace k r m net = IsSome (arc_of k (Request r) (Machine m)) → Leads net 
 
 abbrev pub CoversMachine : Table → ℕ → Net → Type 0
 CoversMachine k m net = IsTrue (is_open k m) → Leads net (Machine m) Sink
+
+abbrev pub Covers : Table → Node → Node → Net → Type 0
+Covers k a b net = IsSome (arc_of k a b) → Leads net a b
 
 abbrev pub CoversPreferred : Table → ℕ → ℕ → Net → Type 0
 CoversPreferred k t m net = IsSome (arc_of k (Task t) (Machine m)) → Leads net (Task t) (Machine m)

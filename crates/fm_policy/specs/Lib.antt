@@ -8,4 +8,6 @@ pub mod LiveTasks
 pub mod Rooms
 pub mod RoomLaws
 pub mod Rules
+pub mod Facts
+pub mod FactsLaws
 pub mod Surveys

@@ -9,7 +9,7 @@ use Rattle.fm_net.specs.Network.{place_arc, room_arc}
 use Rattle.fm_policy.specs.Rooms.{room_of, room_at, fit_in}
 
 module _ (k : Table) (r m : ℕ) where
-  place_fits : (state : MachineReg) (b : Bool) → and_then (place_arc k r m state) (when b (state.nic - load_of k m)) ≡ and_then (λ room. fit_in room r) (when b (record { machine = m; slots = state.slots; load = load_of k m; bandwidth = state.nic }))
+  place_fits : (state : MachineReg) (b : Bool) → and_then (place_arc k r m state) (when b (state.nic - load_of k m)) ≡ and_then (λ room. fit_in room r) (when b (record { slots = state.slots; load = load_of k m; bandwidth = state.nic }))
   place_fits state true = refl
   place_fits state false = refl
 
@@ -18,7 +18,7 @@ module _ (k : Table) (r m : ℕ) where
 
   pub room_fits : room_arc k r m ≡ and_then (λ room. fit_in room r) (room_at k m)
   room_fits =
-      elim (open_state k m) as (λ o. open_state k m ≡ o → and_then (λ state. and_then (place_arc k r m state) (spare_of k m)) o ≡ and_then (λ room. fit_in room r) (and_then (λ state. room_of m state (load_of k m)) o)) [
+      elim (open_state k m) as (λ o. open_state k m ≡ o → and_then (λ state. and_then (place_arc k r m state) (spare_of k m)) o ≡ and_then (λ room. fit_in room r) (and_then (λ state. room_of state (load_of k m)) o)) [
         | None ↦ λ _. refl
         | Some state ↦ λ e. ap (and_then (place_arc k r m state)) (spare_is state e) ∙ place_fits state (nat_le (load_of k m) state.nic)
       ] refl

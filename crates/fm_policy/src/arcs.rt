@@ -3,18 +3,17 @@
 ghost use Rattle.std.specs.Prelude.{◌≡◌, ℕ, OnOk, IsTrue, Some, None};
 ghost use Rattle.fm_records.specs.Facts.{live_spec, holder_of};
 ghost use Rattle.fm_net.specs.declared.node.Node.{Node as NodeName};
-ghost use Rattle.fm_net.specs.Network.{is_node};
-ghost use Rattle.fm_policy.specs.Building.{Leads, Adds, HasNodes, HasWaiting, HasHolder, CoversJob, CoversMachine, CoversTask, CoversPreferred, CoversPlace};
+ghost use Rattle.fm_net.specs.Network.{is_node, arc_of};
+ghost use Rattle.fm_policy.specs.Building.{Adds, HasNodes, HasWaiting, HasHolder, Covers, CoversJob, CoversMachine, CoversTask, CoversPreferred, CoversPlace};
+ghost use Rattle.fm_policy.specs.Facts.{task_facts};
 ghost use Rattle.fm_policy.specs.LiveTasks.{live_task};
-ghost use Rattle.fm_policy.specs.Rooms.{room_at, RoomWithin};
 ghost use Rattle.fm_policy.specs.Surveys.{IsSurvey};
 
+use crate::facts::{RequestFacts, TaskFacts};
+use crate::laws::law_arcs;
 use crate::live_task::LiveTask;
-use crate::room::Room;
-use crate::rules::{job_price, preferred_cost};
 use crate::survey::Survey;
 use fm_know::knowledge::Knowledge;
-use fm_know::laws::law_can_be;
 use fm_lattice::join::OutOfMemory;
 use fm_net::network::Network;
 use fm_net::node::Node;
@@ -49,11 +48,8 @@ fn put_job(
     ensures adds { OnOk result (Adds knowledge.now network.old network.new) }
     ensures covers { OnOk result (CoversJob knowledge.now job network.new) }
 {
-    network.known();
-    let live = survey.tallies.live_of(job);
-    if live > 0 {
-        network.put_arc(Node::Unscheduled(job), Node::Sink, live, 0)?;
-    }
+    let arc = survey.job(knowledge, job).live_arc();
+    put(network, knowledge, Node::Unscheduled(job), Node::Sink, arc)?;
     Ok(())
 }
 
@@ -88,43 +84,31 @@ fn put_request(
     ensures adds { OnOk result (Adds knowledge.now network.old network.new) }
     ensures covers { OnOk result ((m : ℕ) → CoversPlace knowledge.now request m network.new) }
 {
-    law_can_be(knowledge);
-    for room in &survey.rooms {
-        put_place(network, knowledge, request, room)?;
+    let from = RequestFacts {
+        request,
+        waits: true,
+    };
+    for machine in &survey.machines {
+        let arc = from.place_arc(machine);
+        let to = Node::Machine(machine.machine);
+        put(network, knowledge, Node::Request(request), to, arc)?;
     }
     Ok(())
 }
 
-// Puts the arc of a request that waits to the machine, if it fits.
-fn put_place(
+/// Puts the arcs of the open machines, to the sink.
+pub(crate) fn put_machines(
     network: &mut Network,
     knowledge: &Knowledge,
-    request: u32,
-    room: &Room,
+    survey: &Survey,
 ) -> Result<(), OutOfMemory>
-    requires nodes { HasNodes knowledge.now network.old }
-    requires waits { IsTrue (is_node knowledge.now (NodeName.Request request)) }
-    requires room { room_at knowledge.now room.now.machine ≡ Some room.now }
-    requires within { RoomWithin room.now }
-    ensures adds { OnOk result (Adds knowledge.now network.old network.new) }
-    ensures covers { OnOk result (CoversPlace knowledge.now request room.now.machine network.new) }
-{
-    let Some((fit, cost)) = room.fit(request) else {
-        return Ok(());
-    };
-    let machine = room.machine;
-    network.put_arc(Node::Request(request), Node::Machine(machine), fit, cost)?;
-    Ok(())
-}
-
-/// Puts the arcs of the open machines, to the sink.
-pub(crate) fn put_machines(network: &mut Network, knowledge: &Knowledge) -> Result<(), OutOfMemory>
+    requires survey { IsSurvey knowledge.now survey.now }
     requires nodes { HasNodes knowledge.now network.old }
     ensures adds { OnOk result (Adds knowledge.now network.old network.new) }
     ensures covers { OnOk result ((m : ℕ) → CoversMachine knowledge.now m network.new) }
 {
     for (machine, _) in knowledge.machines().iter() {
-        put_machine(network, knowledge, *machine)?;
+        put_machine(network, knowledge, survey, *machine)?;
     }
     Ok(())
 }
@@ -133,18 +117,16 @@ pub(crate) fn put_machines(network: &mut Network, knowledge: &Knowledge) -> Resu
 fn put_machine(
     network: &mut Network,
     knowledge: &Knowledge,
+    survey: &Survey,
     machine: MachineId,
 ) -> Result<(), OutOfMemory>
+    requires survey { IsSurvey knowledge.now survey.now }
     requires nodes { HasNodes knowledge.now network.old }
     ensures adds { OnOk result (Adds knowledge.now network.old network.new) }
     ensures covers { OnOk result (CoversMachine knowledge.now machine network.new) }
 {
-    network.known();
-    let Some(state) = knowledge.open_state(machine) else {
-        return Ok(());
-    };
-    let slots = u64::from(state.slots);
-    network.put_arc(Node::Machine(machine), Node::Sink, slots, 0)?;
+    let arc = survey.machine(knowledge, machine).slots_arc();
+    put(network, knowledge, Node::Machine(machine), Node::Sink, arc)?;
     Ok(())
 }
 
@@ -178,34 +160,11 @@ fn put_task(
     ensures adds { OnOk result (Adds knowledge.now network.old network.new) }
     ensures covers { OnOk result (CoversTask knowledge.now live.now.task network.new) }
 {
-    put_unscheduled(network, knowledge, live)?;
-    put_holder(network, knowledge, survey, live)?;
-    Ok(())
-}
-
-// Puts the arc of a live task to its job.
-fn put_unscheduled(
-    network: &mut Network,
-    knowledge: &Knowledge,
-    live: &LiveTask,
-) -> Result<(), OutOfMemory>
-    requires nodes { HasNodes knowledge.now network.old }
-    requires live { live_spec knowledge.now live.now.task ≡ Some live.now.spec }
-    requires holder { holder_of knowledge.now live.now.task ≡ live.now.holder }
-    ensures adds { OnOk result (Adds knowledge.now network.old network.new) }
-    ensures unscheduled { OnOk result (Leads network.new (NodeName.Task live.now.task)
-        (NodeName.Unscheduled live.now.spec.job)) }
-{
-    let Some(job) = knowledge.job(live.spec.job) else {
-        unreachable!()
-    };
-    let price = job_price(&job, live.holder);
-    network.put_arc(
-        Node::Task(live.task),
-        Node::Unscheduled(live.spec.job),
-        1,
-        price,
-    )?;
+    let from = live.facts();
+    let arc = from.job_arc(&survey.job(knowledge, live.spec.job));
+    let to = Node::Unscheduled(live.spec.job);
+    put(network, knowledge, Node::Task(live.task), to, arc)?;
+    put_holder(network, knowledge, survey, live, &from)?;
     Ok(())
 }
 
@@ -215,9 +174,11 @@ fn put_holder(
     knowledge: &Knowledge,
     survey: &Survey,
     live: &LiveTask,
+    from: &TaskFacts,
 ) -> Result<(), OutOfMemory>
     requires survey { IsSurvey knowledge.now survey.now }
     requires nodes { HasNodes knowledge.now network.old }
+    requires from { from.now ≡ task_facts knowledge.now live.now.task }
     requires live { live_spec knowledge.now live.now.task ≡ Some live.now.spec }
     requires holder { holder_of knowledge.now live.now.task ≡ live.now.holder }
     ensures adds { OnOk result (Adds knowledge.now network.old network.new) }
@@ -226,10 +187,12 @@ fn put_holder(
 {
     match live.holder {
         Some(machine) => {
-            network.put_arc(Node::Task(live.task), Node::Machine(machine), 1, 0)?;
+            let arc = from.machine_arc(&survey.machine(knowledge, machine));
+            let to = Node::Machine(machine);
+            put(network, knowledge, Node::Task(live.task), to, arc)?;
             Ok(())
         }
-        None => put_waiting(network, knowledge, survey, live),
+        None => put_waiting(network, knowledge, survey, live, from),
     }
 }
 
@@ -239,69 +202,68 @@ fn put_waiting(
     knowledge: &Knowledge,
     survey: &Survey,
     live: &LiveTask,
+    from: &TaskFacts,
 ) -> Result<(), OutOfMemory>
     requires survey { IsSurvey knowledge.now survey.now }
     requires nodes { HasNodes knowledge.now network.old }
+    requires from { from.now ≡ task_facts knowledge.now live.now.task }
     requires live { live_spec knowledge.now live.now.task ≡ Some live.now.spec }
     requires waits { holder_of knowledge.now live.now.task ≡ None }
     ensures adds { OnOk result (Adds knowledge.now network.old network.new) }
     ensures waiting { OnOk result (HasWaiting knowledge.now live.now.task live.now.spec.request network.new) }
 {
-    network.put_arc(
-        Node::Task(live.task),
-        Node::Request(live.spec.request),
-        1,
-        0,
-    )?;
-    put_preferences(network, knowledge, survey, live)?;
+    let request = RequestFacts {
+        request: live.spec.request,
+        waits: true,
+    };
+    let arc = from.waiting_arc(&request);
+    let to = Node::Request(live.spec.request);
+    put(network, knowledge, Node::Task(live.task), to, arc)?;
+    put_preferences(network, knowledge, survey, live, from)?;
     Ok(())
 }
 
-// Puts the arcs of a live task that is not held to the machines that it prefers.
+// Puts the arcs of a live task that is not held to the machines that it prefers and that have room.
 fn put_preferences(
     network: &mut Network,
     knowledge: &Knowledge,
     survey: &Survey,
     live: &LiveTask,
+    from: &TaskFacts,
 ) -> Result<(), OutOfMemory>
     requires survey { IsSurvey knowledge.now survey.now }
     requires nodes { HasNodes knowledge.now network.old }
+    requires from { from.now ≡ task_facts knowledge.now live.now.task }
     requires live { live_spec knowledge.now live.now.task ≡ Some live.now.spec }
     requires waits { holder_of knowledge.now live.now.task ≡ None }
     ensures adds { OnOk result (Adds knowledge.now network.old network.new) }
     ensures covers { OnOk result ((m : ℕ) → CoversPreferred knowledge.now live.now.task m network.new) }
 {
     for entry in live.spec.prefer.entries() {
-        put_preferred(network, knowledge, survey, live, entry.0)?;
+        let arc = from.machine_arc(&survey.machine(knowledge, entry.0));
+        let to = Node::Machine(entry.0);
+        put(network, knowledge, Node::Task(live.task), to, arc)?;
     }
     Ok(())
 }
 
-// Puts the arc of a live task that is not held to the machine, if it prefers that and it has room.
-fn put_preferred(
+// Puts the arc from one node to the other, if there is one.
+fn put(
     network: &mut Network,
     knowledge: &Knowledge,
-    survey: &Survey,
-    live: &LiveTask,
-    machine: MachineId,
+    from: Node,
+    to: Node,
+    arc: Option<(u64, u32)>,
 ) -> Result<(), OutOfMemory>
-    requires survey { IsSurvey knowledge.now survey.now }
     requires nodes { HasNodes knowledge.now network.old }
-    requires live { live_spec knowledge.now live.now.task ≡ Some live.now.spec }
-    requires waits { holder_of knowledge.now live.now.task ≡ None }
+    requires arc { arc ≡ arc_of knowledge.now from to }
     ensures adds { OnOk result (Adds knowledge.now network.old network.new) }
-    ensures covers { OnOk result (CoversPreferred knowledge.now live.now.task machine network.new) }
+    ensures covers { OnOk result (Covers knowledge.now from to network.new) }
 {
-    let Some(credit) = live.spec.prefer.credit(machine) else {
+    let Some((capacity, cost)) = arc else {
         return Ok(());
     };
-    let Some(room) = Room::of(knowledge, &survey.tallies, machine) else {
-        return Ok(());
-    };
-    let Some((_, cost)) = room.fit(live.spec.request) else {
-        return Ok(());
-    };
-    let cost = preferred_cost(cost, credit);
-    network.put_arc(Node::Task(live.task), Node::Machine(machine), 1, cost)?;
+    law_arcs(knowledge);
+    network.put_arc(from, to, capacity, cost)?;
     Ok(())
 }

@@ -14,7 +14,7 @@ use std::alloc::Global;
 /// The network of what is known: the sink, the open machines, the live tasks, their jobs, and the requests of those
 /// that no machine holds, with their arcs. The records of tasks are gone over once, with a look-up of the job and of
 /// the proposals of each, and each arc is put after the one before: O(n log n) in the records, and O(1) amortised for
-/// each pair of a request and a machine with room.
+/// each pair of a request and an open machine.
 pub fn build(alloc: Global, knowledge: &Knowledge) -> Result<Network, OutOfMemory>
     ensures { IfOk result (λ net. net ≡ net_of knowledge.now) }
 {
@@ -23,7 +23,7 @@ pub fn build(alloc: Global, knowledge: &Knowledge) -> Result<Network, OutOfMemor
     put_nodes(&mut network, knowledge, &survey)?;
     arcs::put_jobs(&mut network, knowledge, &survey)?;
     arcs::put_requests(&mut network, knowledge, &survey)?;
-    arcs::put_machines(&mut network, knowledge)?;
+    arcs::put_machines(&mut network, knowledge, &survey)?;
     arcs::put_tasks(&mut network, knowledge, &survey)?;
     network.known();
     Ok(network)

@@ -4,6 +4,7 @@
 mod arcs;
 pub mod build;
 pub mod changed;
+pub mod facts;
 pub mod keeper;
 pub mod laws;
 mod live_task;

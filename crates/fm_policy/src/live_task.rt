@@ -7,6 +7,7 @@ ghost use Rattle.fm_lattice.specs.Maps.{lookup};
 ghost use Rattle.fm_records.specs.Sets.{rising};
 ghost use Rattle.fm_policy.specs.LiveTasks.{live_task, all_live, waiting_request};
 
+use crate::facts::TaskFacts;
 use fm_know::knowledge::Knowledge;
 use fm_lattice::join::OutOfMemory;
 use fm_records::ids::{MachineId, TaskId};
@@ -30,6 +31,17 @@ impl LiveTask {
     {
         let (spec, holder) = knowledge.live_task(task, known)?;
         Some(LiveTask { task, spec, holder })
+    }
+
+    /// What is known of the task.
+    pub(crate) fn facts(&self) -> TaskFacts
+        ensures { result ≡ record { task = self.now.task; spec = Some self.now.spec; holder = self.now.holder } }
+    {
+        TaskFacts {
+            task: self.task,
+            spec: Some(self.spec),
+            holder: self.holder,
+        }
     }
 
     // The request that the task waits for, if no machine holds it.

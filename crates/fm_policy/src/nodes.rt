@@ -5,6 +5,7 @@ ghost use Rattle.fm_net.specs.declared.node.Node.{Node as NodeName};
 ghost use Rattle.fm_policy.specs.Building.{Adds, HasNode, HasNodes};
 ghost use Rattle.fm_policy.specs.Surveys.{IsSurvey};
 
+use crate::facts::NodeFacts;
 use crate::survey::Survey;
 use fm_know::knowledge::Knowledge;
 use fm_know::laws::law_can_be;
@@ -26,7 +27,7 @@ pub(crate) fn put_nodes(
     network.known();
     put_jobs(network, knowledge, survey)?;
     put_requests(network, knowledge, survey)?;
-    put_machines(network, knowledge)?;
+    put_machines(network, knowledge, survey)?;
     put_tasks(network, knowledge, survey)?;
     Ok(())
 }
@@ -58,7 +59,7 @@ fn put_job(
     ensures adds { OnOk result (Adds knowledge.now network.old network.new) }
     ensures has { OnOk result (HasNode knowledge.now (NodeName.Unscheduled job) network.new) }
 {
-    if survey.tallies.live_of(job) > 0 {
+    if NodeFacts::OfJob(survey.job(knowledge, job)).is_there() {
         network.put_node(Node::Unscheduled(job))?;
     }
     Ok(())
@@ -82,12 +83,17 @@ fn put_requests(
 }
 
 // Puts the open machines.
-fn put_machines(network: &mut Network, knowledge: &Knowledge) -> Result<(), OutOfMemory>
+fn put_machines(
+    network: &mut Network,
+    knowledge: &Knowledge,
+    survey: &Survey,
+) -> Result<(), OutOfMemory>
+    requires survey { IsSurvey knowledge.now survey.now }
     ensures adds { OnOk result (Adds knowledge.now network.old network.new) }
     ensures all { OnOk result ((m : ℕ) → HasNode knowledge.now (NodeName.Machine m) network.new) }
 {
     for (machine, _) in knowledge.machines().iter() {
-        put_machine(network, knowledge, *machine)?;
+        put_machine(network, knowledge, survey, *machine)?;
     }
     Ok(())
 }
@@ -96,12 +102,14 @@ fn put_machines(network: &mut Network, knowledge: &Knowledge) -> Result<(), OutO
 fn put_machine(
     network: &mut Network,
     knowledge: &Knowledge,
+    survey: &Survey,
     machine: MachineId,
 ) -> Result<(), OutOfMemory>
+    requires survey { IsSurvey knowledge.now survey.now }
     ensures adds { OnOk result (Adds knowledge.now network.old network.new) }
     ensures has { OnOk result (HasNode knowledge.now (NodeName.Machine machine) network.new) }
 {
-    if knowledge.is_open(machine) {
+    if NodeFacts::OfMachine(survey.machine(knowledge, machine)).is_there() {
         network.put_node(Node::Machine(machine))?;
     }
     Ok(())

@@ -1,25 +1,13 @@
-use Rattle.std.proofs.Common.{◌∙◌, Some, sym, ap, arith}
+use Rattle.std.proofs.Common.{◌∙◌, ap}
+use Rattle.std.specs.Prelude.{is_some}
 use Rattle.fm_net.specs.declared.node.Node.TheVariants.{Sink, Unscheduled}
-use Rattle.fm_policy.proofs.Adds.{adds_arc}
-use Rattle.fm_policy.proofs.Counted.{job_counted, job_counts}
+use Rattle.fm_policy.specs.Facts.{live_arc}
+use Rattle.fm_policy.specs.FactsLaws.{arc_is}
 use Rattle.fm_policy.proofs.Parts.{job_to_sink}
 use Rattle.fm_policy.proofs.arcs.put_job.Goals as goal
 
-pub put_arc-requires-clause-from_stands : goal.put_arc-requires-clause-from_stands
-put_arc-requires-clause-from_stands c =
-    let counted = c.live_of-live.ensures ∙ c.requires.survey.tally.live c.args.job in
-    c.requires.nodes (Unscheduled c.args.job) (job_counted c.args.knowledge.now c.args.job (omega (arith, counted)))
+pub put-requires-clause-arc : goal.put-requires-clause-arc
+put-requires-clause-arc c = c.live_arc-arc.ensures ∙ ap live_arc c.job.ensures ∙ arc_is c.args.knowledge.now (Unscheduled c.args.job) Sink
 
-pub returns-in_ok-put_arc-clause-adds : goal.returns-in_ok-put_arc-clause-adds
-returns-in_ok-put_arc-clause-adds c =
-    let k = c.args.knowledge.now in
-    let j = c.args.job in
-    let counted = c.live_of-live.ensures ∙ c.requires.survey.tally.live j in
-    let node = job_counted k j (omega (arith, counted)) in
-    adds_arc k c.args.network.now c.put_arc.new.self (Unscheduled j) Sink (c.live_of-live.result, 0) (job_to_sink k j node ∙ ap (λ n. Some (n, 0)) (sym counted)) c.in_ok-put_arc.ensures.has c.in_ok-put_arc.ensures.arc
-
-pub returns-else-live-gt0-clause-covers : goal.returns-else-live-gt0-clause-covers
-returns-else-live-gt0-clause-covers c = λ is.
-    let counted = c.live_of-live.ensures ∙ c.requires.survey.tally.live c.args.job in
-    let some = job_counts c.args.knowledge.now c.args.job is in
-    absurd (omega (arith, counted, some))
+pub returns-clause-covers : goal.returns-clause-covers
+returns-clause-covers c = λ is. c.in_ok-put.ensures.covers (ap is_some (job_to_sink c.args.knowledge.now c.args.job is))

@@ -1,11 +1,12 @@
-use Rattle.std.proofs.Common.{Some, sym, ◌∙◌, ap}
+use Rattle.std.proofs.Common.{◌∙◌, ap}
 use Rattle.fm_net.specs.declared.node.Node.TheVariants.{Sink, Machine}
-use Rattle.fm_policy.proofs.Adds.{adds_arc}
-use Rattle.fm_policy.proofs.Parts.{machine_to_sink}
+use Rattle.fm_policy.specs.Facts.{slots_arc}
+use Rattle.fm_policy.specs.FactsLaws.{arc_is}
+use Rattle.fm_policy.proofs.Opened.{open_leads}
 use Rattle.fm_policy.proofs.arcs.put_machine.Goals as goal
 
-pub returns-clause-adds : goal.returns-clause-adds
-returns-clause-adds c =
-    let k = c.args.knowledge.now in
-    let m = c.args.machine in
-    adds_arc k c.args.network.now c.put_arc.new.self (Machine m) Sink (c.from-slots.result, 0) (machine_to_sink k m c.in-Some.state (sym c.in-Some.ensures.record) ∙ ap (λ n. Some (n, 0)) (sym c.from-slots.ensures)) c.in_ok-put_arc.ensures.has c.in_ok-put_arc.ensures.arc
+pub put-requires-clause-arc : goal.put-requires-clause-arc
+put-requires-clause-arc c = c.slots_arc-arc.ensures ∙ ap slots_arc c.machine.ensures ∙ arc_is c.args.knowledge.now (Machine c.args.machine) Sink
+
+pub returns-clause-covers : goal.returns-clause-covers
+returns-clause-covers c = λ is. c.in_ok-put.ensures.covers (open_leads c.args.knowledge.now c.args.machine is)

@@ -1,16 +1,20 @@
-use Rattle.std.proofs.Common.{◌∙◌, arith}
+use Rattle.std.proofs.Common.{◌≡◌, ◌∙◌, true, sym, ap}
 use Rattle.fm_net.specs.declared.node.Node.TheVariants.{Unscheduled}
+use Rattle.fm_policy.specs.declared.facts.NodeFacts.TheVariants.{OfJob}
+use Rattle.fm_policy.specs.Facts.{is_there}
+use Rattle.fm_policy.specs.FactsLaws.{there_is}
 use Rattle.fm_policy.proofs.Adds.{adds_node}
-use Rattle.fm_policy.proofs.Counted.{job_counted, job_counts}
 use Rattle.fm_policy.proofs.nodes.put_job.Goals as goal
 
 pub returns-in_ok-put_node-clause-adds : goal.returns-in_ok-put_node-clause-adds
 returns-in_ok-put_node-clause-adds c =
-    let counted = c.live_of.ensures ∙ c.requires.survey.tally.live c.args.job in
-    adds_node c.args.knowledge.now c.args.network.now c.put_node.new.self (Unscheduled c.args.job) (job_counted c.args.knowledge.now c.args.job (omega (arith, counted))) c.in_ok-put_node.ensures.has c.in_ok-put_node.ensures.arc
+    let k = c.args.knowledge.now in
+    let j = c.args.job in
+    adds_node k c.args.network.now c.put_node.new.self (Unscheduled j) (sym (there_is k (Unscheduled j)) ∙ ap (λ x. is_there (OfJob x)) (sym c.job.ensures) ∙ sym c.is_there.ensures ∙ c.if-is_there.true) c.in_ok-put_node.ensures.has c.in_ok-put_node.ensures.arc
 
-pub returns-else-live_of-gt0-clause-has : goal.returns-else-live_of-gt0-clause-has
-returns-else-live_of-gt0-clause-has c = λ is.
-    let counted = c.live_of.ensures ∙ c.requires.survey.tally.live c.args.job in
-    let some = job_counts c.args.knowledge.now c.args.job is in
-    absurd (omega (arith, counted, some))
+pub returns-else-is_there-clause-has : goal.returns-else-is_there-clause-has
+returns-else-is_there-clause-has c = λ is.
+    let k = c.args.knowledge.now in
+    let j = c.args.job in
+    let there : c.is_there.result ≡ true = c.is_there.ensures ∙ ap (λ x. is_there (OfJob x)) c.job.ensures ∙ there_is k (Unscheduled j) ∙ is in
+    absurd (let no : ⊥ = cc in no)
