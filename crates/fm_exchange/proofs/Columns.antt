@@ -52,6 +52,11 @@ column_ports own at b (m ∷ ms) = All-cons (IsPortOf b) _ _ (of_one (own == at)
   of_one true = (refl, refl)
   of_one false = (refl, refl)
 
+-- there is one for each member
+pub length-column : (own at : ℕ) (b : InboxSeen) (ms : List Passed) → length (column own at b ms) ≡ length ms
+length-column own at b [] = refl
+length-column own at b (m ∷ ms) = ap suc (length-column own (at + 1) b ms)
+
 -- the inboxes but for these are closed, and the members' ports of these are used
 pub record AreClosed (bs : List InboxSeen) (ms : List Passed) (ports : List (List PortSeen)) : Type 0 where
   pub used : AreUsed 0 bs ms ports

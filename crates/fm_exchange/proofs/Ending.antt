@@ -1,5 +1,5 @@
 -- A closed coordinator whose audit found no fault.
-use Rattle.std.proofs.Common.{◌≡◌, ◌⊎◌, ℕ, zero, suc, ◌+◌, ◌<◌, ◌≤◌, List, [], ◌∷◌, map, length, inl, inr, subst, sym, refl, ap, ◌∙◌, ⊎_elim, arith}
+use Rattle.std.proofs.Common.{◌≡◌, ◌⊎◌, ℕ, zero, suc, ◌+◌, ◌<◌, ◌≤◌, List, [], ◌∷◌, ◌++◌, map, length, inl, inr, subst, sym, refl, ap, ◌∙◌, ⊎_elim, arith}
 use Rattle.std.specs.Prelude.{slice_get, Some, Contains, drop}
 use Rattle.std.specs.List.Sorted.{IsPermutation}
 use Rattle.std.proofs.lemmas.Bool.{cases_lt}
@@ -7,7 +7,7 @@ use Rattle.std.proofs.lemmas.List.Sorted.{Contains-permutation}
 use Rattle.std.proofs.lemmas.Option.{slice_get_within, get_or_from_slice_get}
 use Rattle.fm_coord.specs.States.{State}
 use Rattle.fm_fleet.specs.declared.seat.SeatLog.{SeatLog}
-use Rattle.fm_fleet.specs.Seats.{SeatSeen, seen_seat, seat_of, AreNumbered}
+use Rattle.fm_fleet.specs.Seats.{SeatSeen, seen_seat, seat_of, HasSeat, IsMissing, AreNumbered}
 use Rattle.fm_fleet.specs.Audits.{of_seat, StandInOne}
 use Rattle.fm_exchange.specs.Served.{IsEnded, seat_in}
 
@@ -42,3 +42,16 @@ ended number limit base seats logs s named limited from_start all numbered two s
           let within = slice_get_within logs listed.0 listed.1 listed.2 in
           one_of_two e.by listed.1.seat listed.0 listed.3 (numbered listed.0 listed.1 listed.2) (omega (arith, within, two));
     }
+
+-- of a node with two seats none is missing if both are there
+pub none_missing : (n : ℕ) (seats : List SeatSeen) (k : ℕ) → 2 ≡ n → HasSeat 1 seats × HasSeat 2 seats → IsMissing n seats k → ⊥
+none_missing n seats zero two both missing = omega (arith, missing.0)
+none_missing n seats (suc zero) two both missing = missing.2 both.0
+none_missing n seats (suc (suc zero)) two both missing = missing.2 both.1
+none_missing n seats (suc (suc (suc k))) two both missing = omega (arith, two, missing.1)
+
+-- the seats that were pushed, one after the other
+pub both_seats : (seats some none : List SeatSeen) (one two : SeatSeen) → none ≡ [] → some ≡ none ++ one ∷ [] → seats ≡ some ++ two ∷ [] → one.number ≡ 1 → two.number ≡ 2 → HasSeat 1 seats × HasSeat 2 seats
+both_seats seats some none one two empty first second is_one is_two =
+    let these : seats ≡ one ∷ two ∷ [] = second ∙ ap (λ xs. xs ++ two ∷ []) (first ∙ ap (λ xs. xs ++ one ∷ []) empty) in
+    subst (λ xs. HasSeat 1 xs × HasSeat 2 xs) (sym these) ((0, one, refl, is_one), (1, two, refl, is_two))

@@ -1,5 +1,5 @@
 -- Why calls of a fleet are refused.
-use Rattle.std.proofs.Common.{◌≡◌, ◌⊎◌, ℕ, Bool, true, false, refl, sym, subst, inl, inr}
+use Rattle.std.proofs.Common.{◌≡◌, ◌⊎◌, ℕ, Bool, true, false, refl, sym, ap, subst, inl, inr}
 use Rattle.std.specs.Prelude.{nat_le, Option, Some, None, option_map, IsTrue, IfSome}
 use Rattle.fm_records.specs.declared.refusal.Refusal.{Refusal}
 use Rattle.fm_records.specs.declared.refusal.Refusal.TheVariants.{OutOfMemory, BadOp, HistoryFull}
@@ -56,6 +56,11 @@ round_stops base s t r (inr half) = of_half half.cause where
   of_half : ((r ≡ OutOfMemory) ⊎ ((plan : Plan) × IsPlanOf half.known plan × MayRefuse (call.Commit plan) r)) → IsTrue (may_stop r)
   of_half (inl none) = subst (λ z. IsTrue (may_stop z)) (sym none) refl
   of_half (inr (plan, of, refused)) = call_stops (call.Commit plan) r (commit_plan plan) refused
+
+-- a round, done or refused, keeps its seat's number
+pub round_number : (base : ℕ) (s t : SeatSeen) (r : Refusal) → IsRefusedRound base s t r → t.number ≡ s.number
+round_number base s t r (inl (same, refused)) = ap (λ (z : SeatSeen). z.number) same
+round_number base s t r (inr half) = ap (λ (z : SeatSeen). z.number) half.listed
 
 pub first_may : (a b : Option Refusal) → IsTrue (may_be_first a) → IsTrue (may_be_first b) → IsTrue (may_be_first (first_of a b))
 first_may None b h k = k

@@ -1,13 +1,13 @@
 -- What the threads of a fleet are given, and what they leave.
-use Rattle.std.proofs.Common.{◌≡◌, ℕ, suc, ◌+◌, List, [], ◌∷◌, ◌++◌, map, length, refl, subst, sym, ap, ◌∙◌, append_assoc, arith}
+use Rattle.std.proofs.Common.{◌≡◌, ℕ, suc, ◌+◌, ◌<◌, List, [], ◌∷◌, ◌++◌, map, length, refl, subst, sym, ap, ◌∙◌, append_assoc, arith}
 use Rattle.std.specs.Prelude.{Result, Ok, Err, IfOk, IfErr}
 use Rattle.std.proofs.lemmas.List.{append-nil}
-use Rattle.fm_inbox.specs.Ports.{InboxSeen}
+use Rattle.fm_inbox.specs.Ports.{InboxSeen, DoorsSeen}
 use Rattle.fm_exchange.specs.Served.{AreServed}
 use Rattle.fm_exchange.specs.Members.{MemberSeen, but_for, task_of}
 use Rattle.fm_exchange.specs.Passing.{passed_at}
 use Rattle.fm_exchange.specs.Used.{new_port, AreUsed}
-use Rattle.fm_exchange.specs.Works.{WorkSeen, DoneSeen, LinksSeen, links, links_of, linked_work, linked_works, works_of, IsDone, AreDone, IsDoneUnless, AreDoneUnless, NoneRefused}
+use Rattle.fm_exchange.specs.Works.{WorkSeen, DoneSeen, LinksSeen, links, links_of, HaveOut, HaveDoors, linked_work, linked_works, works_of, AreDone, IsDoneUnless, AreDoneUnless, NoneRefused}
 
 -- the links of one member more are made
 pub next_links : (numbers : List ℕ) (bs now : List InboxSeen) (before more : List LinksSeen) (n k : ℕ) (m : MemberSeen) (its rest whole : List MemberSeen) (l : LinksSeen) → its ≡ m ∷ rest → more ≡ before ++ l ∷ [] → l ≡ links (but_for m.number numbers) n (map new_port bs) → now ≡ bs → k ≡ n + 1
@@ -117,3 +117,20 @@ module _ (numbers : List ℕ) (rounds : ℕ) (bs : List InboxSeen) (ms : List Me
 
   pub as_many : length ds ≡ length ms
   as_many = count_of numbers rounds bs 0 ms ds done_unless
+
+-- inboxes of which fewer doors are out than they have ports have a door each
+pub have_doors : (ports out : ℕ) (bs : List DoorsSeen) → out < ports → HaveOut ports out bs → HaveDoors bs
+have_doors ports out [] fewer h = tt
+have_doors ports out (b ∷ bs) fewer h = (rw (h.0, h.1) fewer, have_doors ports out bs fewer h.2)
+
+-- one inbox more
+pub have_out_last : (ports out : ℕ) (bs : List DoorsSeen) (b : DoorsSeen) → HaveOut ports out bs → b.inbox.ports ≡ ports → b.out ≡ out → HaveOut ports out (bs ++ b ∷ [])
+have_out_last ports out [] b h many some_out = (many, some_out, tt)
+have_out_last ports out (c ∷ bs) b h many some_out = (h.0, h.1, have_out_last ports out bs b h.2 many some_out)
+
+-- the last inbox of which all doors are out
+pub last_out : (ports out : ℕ) (bs whole : List DoorsSeen) (b : DoorsSeen) → whole ≡ bs ++ b ∷ [] → HaveOut ports out whole → HaveOut ports out bs × (b.inbox.ports ≡ ports)
+last_out ports out bs whole b is h = parted bs (subst (HaveOut ports out) is h) where
+  parted : (bs : List DoorsSeen) → HaveOut ports out (bs ++ b ∷ []) → HaveOut ports out bs × (b.inbox.ports ≡ ports)
+  parted [] h = (tt, h.0)
+  parted (c ∷ bs) h = let p = parted bs h.2 in ((h.0, h.1, p.0), p.1)

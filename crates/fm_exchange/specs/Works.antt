@@ -1,7 +1,7 @@
 -- What contracts see of what the threads of a fleet are given, and of what they leave (this project's profile).
-use Rattle.std.specs.Prelude.{◌≡◌, ℕ, ◌+◌, List, [], ◌∷◌, map, Option, None}
+use Rattle.std.specs.Prelude.{◌≡◌, ℕ, ◌+◌, ◌<◌, List, [], ◌∷◌, map, Option, None}
 use Rattle.fm_records.specs.declared.refusal.Refusal.{Refusal}
-use Rattle.fm_inbox.specs.Ports.{InboxSeen, PortSeen}
+use Rattle.fm_inbox.specs.Ports.{InboxSeen, DoorsSeen, PortSeen}
 use Rattle.fm_coord.specs.States.{State}
 use Rattle.fm_exchange.specs.Served.{Task, task, IsServed}
 use Rattle.fm_exchange.specs.Members.{MemberSeen, but_for, task_of}
@@ -39,6 +39,16 @@ links senders place ports = record { senders = senders; place = place; ports = p
 abbrev pub links_of : List ℕ → List InboxSeen → ℕ → List MemberSeen → List LinksSeen
 links_of numbers bs place [] = []
 links_of numbers bs place (m ∷ ms) = links (but_for m.number numbers) place (map new_port bs) ∷ links_of numbers bs (place + 1) ms
+
+-- each of these inboxes has so many ports, and so many of its doors are out
+abbrev pub HaveOut : ℕ → ℕ → List DoorsSeen → Type 0
+HaveOut ports out [] = Unit {0}
+HaveOut ports out (b ∷ bs) = (b.inbox.ports ≡ ports) × (b.out ≡ out) × HaveOut ports out bs
+
+-- each of these inboxes has a door that is not out
+abbrev pub HaveDoors : List DoorsSeen → Type 0
+HaveDoors [] = Unit {0}
+HaveDoors (b ∷ bs) = (b.out < b.inbox.ports) × HaveDoors bs
 
 -- what a member and its links come to, and those of each
 abbrev pub linked_work : ℕ → MemberSeen → LinksSeen → WorkSeen

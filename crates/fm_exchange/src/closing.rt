@@ -5,6 +5,7 @@ ghost use Rattle.fm_inbox.specs.Rule.{SamePackets};
 ghost use Rattle.fm_exchange.specs.Passing.{ArePassedOn, passed_at};
 ghost use Rattle.fm_exchange.specs.Stopping.{may_stop};
 ghost use Rattle.fm_exchange.specs.Used.{AreUsed, column};
+ghost use Rattle.fm_exchange.specs.Works.{HaveOut};
 
 use fm_coord::coordinator::Coordinator;
 use fm_fleet::door::{Door, Doors};
@@ -35,7 +36,7 @@ impl<N: NetKeeper> Model for Done<N> {
 }
 
 /// Closes each inbox with its doors: each packet that was put was taken once. The coordinators stay with the caller.
-/// NotMine(0) if a door is missing or a packet is left; OutOfMemory.
+/// NotMine(0) if a packet is left; OutOfMemory.
 pub(crate) fn close_all<N: NetKeeper + Drop, R: Wait>(
     rt: &R,
     alloc: Global,
@@ -45,6 +46,7 @@ pub(crate) fn close_all<N: NetKeeper + Drop, R: Wait>(
     requires used { AreUsed 0 (map (λ b. b.inbox) inboxes.items)
         (map passed_at (map (λ d. d.state) dones.old)) (map (λ d. d.ports) dones.old) }
     requires count { length inboxes.items ≡ length dones.old }
+    requires out { HaveOut (length dones.old) (length dones.old) inboxes.items }
     ensures same { map (λ d. d.state) dones.new ≡ map (λ d. d.state) dones.old }
     ensures passed { OnOk result (ArePassedOn (map passed_at (map (λ d. d.state) dones.old))) }
     ensures cause { IfErr result (λ refusal. IsTrue (may_stop refusal)) }
@@ -57,9 +59,10 @@ pub(crate) fn close_all<N: NetKeeper + Drop, R: Wait>(
     Ok(())
 }
 
-// Closes an inbox with its doors. NotMine(0) if one is missing or a packet is left.
+// Closes an inbox with all its doors. NotMine(0) if a packet is left.
 fn close_one<R: Wait>(rt: &R, inbox: Doors, out: Vec<Door>) -> Result<(), Refusal>
-    requires { All (λ d. IsPortOf inbox.inbox d.port) out.items }
+    requires doors { All (λ d. IsPortOf inbox.inbox d.port) out.items }
+    requires all { vec_len out ≡ inbox.inbox.ports }
     ensures same { OnOk result (SamePackets (all_put (map (λ d. d.port) out.items))
         (all_taken (map (λ d. d.port) out.items))) }
     ensures cause { IfErr result (λ refusal. IsTrue (may_stop refusal)) }
@@ -70,7 +73,7 @@ fn close_one<R: Wait>(rt: &R, inbox: Doors, out: Vec<Door>) -> Result<(), Refusa
         } else {
             Err(Refusal::NotMine(0))
         },
-        Err(kept) => Err(kept.refusal),
+        Err(_) => unreachable!(),
     }
 }
 

@@ -1,11 +1,11 @@
 //! Coordinators that run at the same time.
-ghost use Rattle.std.specs.Prelude.{◌≡◌, ◌≤◌, [], None, length, map, vec_len, vec_capacity, IsTrue, IfOk, IfErr, IfSome, IfNone, OnOk};
+ghost use Rattle.std.specs.Prelude.{◌≡◌, ◌⊎◌, ◌≤◌, [], None, length, map, vec_len, vec_capacity, IsTrue, IfOk, IfErr, IfSome, IfNone, OnOk, IsOkUnless};
 ghost use Rattle.fm_exchange.specs.Served.{AreServed};
 ghost use Rattle.fm_exchange.specs.Members.{number_of, tasks_of};
 ghost use Rattle.fm_exchange.specs.Passing.{passed_at, ArePassedOn};
 ghost use Rattle.fm_exchange.specs.Stopping.{may_stop, AreBack};
 ghost use Rattle.fm_exchange.specs.Used.{AreUsed};
-ghost use Rattle.fm_exchange.specs.Works.{links_of, IsDoneUnless, AreDoneUnless, NoneRefused};
+ghost use Rattle.fm_exchange.specs.Works.{links_of, HaveOut, IsDoneUnless, AreDoneUnless, NoneRefused};
 
 use crate::closing::{Done, close_all};
 use crate::halt::Halt;
@@ -51,6 +51,7 @@ pub fn run_fleet<N: NetKeeper + Send + Drop, G: Gate + Send + Drop, R: Threads +
     ensures passed { IfOk result (λ coordinators. ArePassedOn (map passed_at (map (λ c. c.state) coordinators.items))) }
     ensures cause { IfErr result (λ fault. IsTrue (may_stop fault.refusal)) }
     ensures back { IfErr result (λ fault. AreBack members.items fault.members.items fault.coordinators.items) }
+    ensures unstarted { IfErr result (λ fault. (fault.members.items ≡ []) ⊎ (fault.refusal ≡ Refusal.OutOfMemory)) }
 {
     let (links, inboxes, rooms) = match prepared(alloc, &members) {
         Ok(prepared) => prepared,
@@ -90,7 +91,7 @@ struct Rooms<N: NetKeeper, G> {
     coordinators: Vec<Coordinator<N>>,
 }
 
-// All that may be refused before there are threads.
+// What has to be there before the first thread. Refused only if memory runs out.
 fn prepared<N: NetKeeper + Drop, G: Drop>(
     alloc: Global,
     members: &[Member<N, G>],
@@ -98,11 +99,12 @@ fn prepared<N: NetKeeper + Drop, G: Drop>(
     ensures links { IfOk result (λ r. r.0.items
         ≡ links_of (map number_of members.now) (map (λ b. b.inbox) r.1.items) 0 members.now) }
     ensures inboxes { IfOk result (λ r. length r.1.items ≡ length members.now) }
+    ensures out { IfOk result (λ r. HaveOut (length members.now) (length members.now) r.1.items) }
     ensures works { IfOk result (λ r. (r.2.works.items ≡ []) × (length members.now ≤ vec_capacity r.2.works)) }
     ensures dones { IfOk result (λ r. (r.2.dones.items ≡ []) × (length members.now ≤ vec_capacity r.2.dones)) }
     ensures coordinators { IfOk result (λ r. (r.2.coordinators.items ≡ [])
         × (length members.now ≤ vec_capacity r.2.coordinators)) }
-    ensures cause { IfErr result (λ refusal. IsTrue (may_stop refusal)) }
+    ensures err { IsOkUnless result Refusal.OutOfMemory }
 {
     let (links, inboxes) = link(alloc, members)?;
     let count = members.len();
@@ -125,6 +127,7 @@ fn closed<N: NetKeeper + Drop, R: Wait>(
     requires used { NoneRefused dones.old → AreUsed 0 (map (λ b. b.inbox) inboxes.items)
         (map passed_at (map (λ d. d.state) dones.old)) (map (λ d. d.ports) dones.old) }
     requires count { length inboxes.items ≡ length dones.old }
+    requires out { HaveOut (length dones.old) (length dones.old) inboxes.items }
     ensures same { map (λ d. d.state) dones.new ≡ map (λ d. d.state) dones.old }
     ensures none { OnOk result (NoneRefused dones.old) }
     ensures passed { OnOk result (ArePassedOn (map passed_at (map (λ d. d.state) dones.old))) }

@@ -50,6 +50,7 @@ pub(crate) fn take_in<N: NetKeeper, L: NodeName, R: Wait>(
     ensures doors { result.refusal ≡ None → (bs : List InboxSeen) → seat.log ≡ []
         → map (λ d. d.port) intake.doors.items ≡ map new_port bs
         → map (λ d. d.port) result.doors.items ≡ used_ports intake.place 0 (passed_in result.seat) bs }
+    ensures number { result.seat.number ≡ seat.number }
     ensures cause { IfSome result.refusal (λ refusal. IsTrue (may_stop refusal)) }
 {
     let Intake {
@@ -94,6 +95,7 @@ fn exchange<N: NetKeeper, L: NodeName, R: Wait>(
     ensures doors { OnOk result ((bs : List InboxSeen) → seat.old.log ≡ []
         → map (λ d. d.port) doors.old ≡ map new_port bs
         → map (λ d. d.port) doors.new ≡ used_ports place 0 (passed_in seat.new) bs) }
+    ensures number { seat.new.number ≡ seat.old.number }
     ensures cause { IfErr result (λ refusal. IsTrue (may_stop refusal)) }
 {
     tell_all(rt, node, seat, tells)?;
@@ -110,6 +112,7 @@ fn tell_all<N: NetKeeper, L: NodeName, R: Wait>(
     tells: &[Op],
 ) -> Result<(), Refusal>
     ensures told { OnOk result (seat.new ≡ all_told seat.old tells.now) }
+    ensures number { seat.new.number ≡ seat.old.number }
     ensures cause { IfErr result (λ refusal. IsTrue (may_stop refusal)) }
 {
     let mut rest = tells;
@@ -135,6 +138,7 @@ fn pass_on<N: NetKeeper, L: NodeName, R: Wait>(
     ensures merged { OnOk result ((merged : AreMerged senders.items seat.old seat.new)
         × ((bs : List InboxSeen) → map (λ d. d.port) doors.old ≡ map new_port bs
         → map (λ d. d.port) doors.new ≡ used_ports place 0 (passing (packet.now ∷ []) merged.packets) bs)) }
+    ensures number { seat.new.number ≡ seat.old.number }
     ensures cause { IfErr result (λ refusal. IsTrue (may_stop refusal)) }
 {
     put_all(rt, doors, 0, place, packet)?;
@@ -192,6 +196,7 @@ fn merge_all<N: NetKeeper, L: NodeName, R: Wait>(
 ) -> Result<(), Refusal>
     ensures merged { OnOk result ((merged : AreMerged awaited.items seat.old seat.new)
         × (own.new.port ≡ after_takes own.old.port merged.packets)) }
+    ensures number { seat.new.number ≡ seat.old.number }
     ensures cause { IfErr result (λ refusal. IsTrue (may_stop refusal)) }
 {
     while !awaited.is_empty() {

@@ -1,9 +1,10 @@
 //! Coordinators that run in threads, exchange all that they know, and are counted.
 
-ghost use Rattle.std.specs.Prelude.{◌≡◌, map, IfOk, IfErr};
+ghost use Rattle.std.specs.Prelude.{◌≡◌, None, map, IfOk, IfErr};
 ghost use Rattle.fm_coord.specs.Numbers.{AreDistinct};
 ghost use Rattle.fm_world.specs.Stands.{state_of};
 ghost use Rattle.fm_exchange.specs.Musters.{calls_of, IsMustered, IsStopped};
+ghost use Rattle.fm_exchange.specs.Stopping.{StopsMuster};
 
 use crate::agreeing::{law_exchanged, law_senders};
 use crate::counts::{Calls, Counts};
@@ -45,6 +46,7 @@ pub fn muster<R: Threads + Wait + Sync>(
     requires { AreDistinct script.now.coordinators.items }
     ensures ok { IfOk result (λ counts. IsMustered script.now.coordinators.items script.now.tells.items rounds counts) }
     ensures err { IfErr result (λ stop. IsStopped script.now.coordinators.items script.now.tells.items stop) }
+    ensures cause { IfErr result (λ stop. stop.step ≡ None → StopsMuster stop.refusal) }
 {
     if let Some(stop) = first_refused(&script.coordinators, &script.tells) {
         return Err(stop);
@@ -67,7 +69,8 @@ fn run<R: Threads + Wait + Sync>(
     rounds_done: &AtomicU64,
 ) -> Result<Counts, Refusal>
     requires { AreDistinct script.now.coordinators.items }
-    ensures { IfOk result (λ counts. IsMustered script.now.coordinators.items script.now.tells.items rounds counts) }
+    ensures ok { IfOk result (λ counts. IsMustered script.now.coordinators.items script.now.tells.items rounds counts) }
+    ensures cause { IfErr result StopsMuster }
 {
     let members = members(alloc, &script.coordinators, &script.tells, rounds_done)?;
     let mut closed = match run_fleet(rt, alloc, members, rounds) {

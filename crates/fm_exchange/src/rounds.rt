@@ -35,6 +35,7 @@ pub(crate) fn run_rounds<N: NetKeeper, L: NodeName, G: Gate + Drop, R: Wait>(
     halt: &Halt,
 ) -> Ran<L>
     ensures ran { result.refusal ≡ None → AreRounds L.base rounds seat result.seat }
+    ensures number { result.seat.number ≡ seat.number }
     ensures cause { IfSome result.refusal (λ refusal. IsTrue (may_stop refusal)) }
 {
     for _i in 0..rounds {
@@ -52,7 +53,7 @@ pub(crate) fn run_rounds<N: NetKeeper, L: NodeName, G: Gate + Drop, R: Wait>(
 }
 
 // Runs a round, unless the fleet is stopped. If it is refused, the fleet is stopped.
-#[tactic(auto, using(crate::proofs::Stopping::round_stops))]
+#[tactic(auto, using(crate::proofs::Stopping::round_stops, crate::proofs::Stopping::round_number))]
 fn next_round<N: NetKeeper, L: NodeName, G: Gate, R: Wait>(
     rt: &R,
     alloc: Global,
@@ -62,6 +63,7 @@ fn next_round<N: NetKeeper, L: NodeName, G: Gate, R: Wait>(
     halt: &Halt,
 ) -> Result<(), Refusal>
     ensures ok { OnOk result ((admitted : WhatCame) × IsRound L.base seat.old seat.new admitted) }
+    ensures number { seat.new.number ≡ seat.old.number }
     ensures cause { IfErr result (λ refusal. IsTrue (may_stop refusal)) }
 {
     halt.check(rt)?;
@@ -87,5 +89,5 @@ impl<L: NodeName> Promise<Ran<L>> for Rounds<L> {
     ghost use Rattle.fm_exchange.specs.Stopping.{may_stop};
 
     ghost kept_by = { λ p r. (r.refusal ≡ None → AreRounds L.base p.rounds p.seat.value r.seat)
-        × IfSome r.refusal (λ refusal. IsTrue (may_stop refusal)) };
+        × (r.seat.number ≡ p.seat.value.number) × IfSome r.refusal (λ refusal. IsTrue (may_stop refusal)) };
 }

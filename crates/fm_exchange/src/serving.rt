@@ -3,7 +3,7 @@ ghost use Rattle.std.specs.Prelude.{◌≡◌, ◌<◌, ◌≤◌, List, [], Som
 ghost use Rattle.fm_inbox.specs.Ports.{InboxSeen};
 ghost use Rattle.fm_records.specs.declared.refusal.Refusal.TheVariants.{OutOfMemory};
 ghost use Rattle.fm_fleet.specs.Audits.{StandInOne};
-ghost use Rattle.fm_fleet.specs.Seats.{AreNew};
+ghost use Rattle.fm_fleet.specs.Seats.{AreNew, HasSeat};
 ghost use Rattle.fm_exchange.specs.Served.{IsIntake, AreRounds, new_seat, IsEnded};
 ghost use Rattle.fm_exchange.specs.Passing.{passed_in};
 ghost use Rattle.fm_exchange.specs.Used.{new_port, used_ports};
@@ -166,6 +166,7 @@ fn by_two<
         → map (λ d. d.port) intake.doors.items ≡ map new_port bs
         → map (λ d. d.port) result.doors.items ≡ used_ports intake.place 0 (passed_in result.one) bs }
     ensures rounds { result.refusal ≡ None → AreRounds L.base rounds two result.two }
+    ensures numbers { (result.one.number ≡ one.number) × (result.two.number ≡ two.number) }
     ensures cause { IfSome result.refusal (λ refusal. IsTrue (may_stop refusal)) }
 {
     thread::scope(
@@ -179,6 +180,7 @@ fn by_two<
                 → map (λ d. d.port) intake.doors.items ≡ map new_port bs
                 → map (λ d. d.port) result.doors.items ≡ used_ports intake.place 0 (passed_in result.one) bs }
             ensures rounds { result.refusal ≡ None → AreRounds L.base rounds two result.two }
+            ensures numbers { (result.one.number ≡ one.number) × (result.two.number ≡ two.number) }
             ensures cause { IfSome result.refusal (λ refusal. IsTrue (may_stop refusal)) }
         {
             let promise = Rounds {
@@ -220,7 +222,8 @@ fn both<L: NodeName>(taken: Taken<L>, ran: Ran<L>) -> Used<L>
 
 // What is left if a thread could not be made.
 fn unused<L: NodeName>(one: Seat<L>, intake: Intake, ran: Ran<L>) -> Used<L>
-    ensures { result.refusal ≡ Some OutOfMemory }
+    ensures refusal { result.refusal ≡ Some OutOfMemory }
+    ensures seats { (result.one ≡ one) × (result.two ≡ ran.seat) }
 {
     let Intake { doors, .. } = intake;
     Used {
@@ -231,8 +234,8 @@ fn unused<L: NodeName>(one: Seat<L>, intake: Intake, ran: Ran<L>) -> Used<L>
     }
 }
 
-// Closes the node with its seats, and audits it. The coordinator comes back in any case. The lock forgets which
-// coordinator it holds, so its number and limit are looked at.
+// Closes the node with both its seats, and audits it. The lock forgets which coordinator it holds, so its number and
+// limit are looked at.
 fn end<N: NetKeeper + Drop, L: NodeName>(
     node: Node<N, L>,
     seats: Vec<Seat<L>>,
@@ -241,6 +244,7 @@ fn end<N: NetKeeper + Drop, L: NodeName>(
 ) -> (Coordinator<N>, Option<Refusal>)
     requires base { 0 ≡ L.base }
     requires parts { 2 ≡ node }
+    requires seats { HasSeat 1 seats.items × HasSeat 2 seats.items }
     ensures ended { result.1 ≡ None → IsEnded number limit seats.items result.0.state }
     ensures cause { IfSome result.1 (λ refusal. IsTrue (may_stop refusal)) }
 {
@@ -250,10 +254,7 @@ fn end<N: NetKeeper + Drop, L: NodeName>(
             let Closed { coordinator, .. } = closed;
             (coordinator, fault)
         }
-        Err(kept) => {
-            let fault = kept.refusal;
-            (kept.into_coordinator(), Some(fault))
-        }
+        Err(_) => unreachable!(),
     }
 }
 

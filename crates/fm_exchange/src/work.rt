@@ -1,9 +1,8 @@
 //! What a node's thread is given.
-ghost use Rattle.std.specs.Prelude.{◌≡◌, ◌+◌, ◌++◌, ◌<◌, ◌≤◌, length, map, vec_len, vec_capacity, IsTrue, IfOk, IfErr, OnOk};
+ghost use Rattle.std.specs.Prelude.{◌≡◌, ℕ, ◌+◌, ◌++◌, ◌<◌, ◌≤◌, length, map, vec_len, vec_capacity, IfOk, OnOk, IsOkUnless};
 ghost use Rattle.fm_exchange.specs.Members.{number_of, but_for};
-ghost use Rattle.fm_exchange.specs.Stopping.{may_stop};
 ghost use Rattle.fm_exchange.specs.Used.{new_port};
-ghost use Rattle.fm_exchange.specs.Works.{links, links_of, linked_work, linked_works};
+ghost use Rattle.fm_exchange.specs.Works.{links, links_of, HaveOut, HaveDoors, linked_work, linked_works};
 
 use crate::intake::Intake;
 use crate::member::Member;
@@ -62,7 +61,7 @@ impl Model for Links {
     ghost invariant = { λ l. l.place < vec_len l.doors };
 }
 
-/// The links of each member, and an inbox for each, with a door for each. OutOfMemory.
+/// The links of each member, and an inbox for each, all of whose doors are in the links: one for each. OutOfMemory.
 pub(crate) fn link<N: NetKeeper, G>(
     alloc: Global,
     members: &[Member<N, G>],
@@ -70,7 +69,8 @@ pub(crate) fn link<N: NetKeeper, G>(
     ensures links { IfOk result (λ r. r.0.items
         ≡ links_of (map number_of members.now) (map (λ b. b.inbox) r.1.items) 0 members.now) }
     ensures inboxes { IfOk result (λ r. length r.1.items ≡ length members.now) }
-    ensures cause { IfErr result (λ refusal. IsTrue (may_stop refusal)) }
+    ensures out { IfOk result (λ r. HaveOut (length members.now) (length members.now) r.1.items) }
+    ensures err { IsOkUnless result Refusal.OutOfMemory }
 {
     let numbers = numbers(alloc, members)?;
     let mut inboxes = inboxes(alloc, members.len())?;
@@ -144,7 +144,7 @@ fn numbers<N: NetKeeper, G>(
     members: &[Member<N, G>],
 ) -> Result<Vec<CoordId>, Refusal>
     ensures numbers { IfOk result (λ numbers. numbers.items ≡ map number_of members.now) }
-    ensures cause { IfErr result (λ refusal. IsTrue (may_stop refusal)) }
+    ensures err { IsOkUnless result Refusal.OutOfMemory }
 {
     let mut numbers = Vec::new(alloc);
     for member in members {
@@ -161,11 +161,13 @@ fn links_at(
     place: usize,
     number: CoordId,
 ) -> Result<Links, Refusal>
-    requires { place < length inboxes.old }
+    requires inside { (place < length inboxes.old) × (place < length numbers.now) }
+    requires out { HaveOut (length numbers.now) place inboxes.old }
     ensures links { IfOk result (λ l. l
         ≡ links (but_for number numbers.now) place (map new_port (map (λ b. b.inbox) inboxes.old))) }
     ensures inboxes { OnOk result (map (λ b. b.inbox) inboxes.new ≡ map (λ b. b.inbox) inboxes.old) }
-    ensures cause { IfErr result (λ refusal. IsTrue (may_stop refusal)) }
+    ensures out { OnOk result (HaveOut (length numbers.now) (place + 1) inboxes.new) }
+    ensures err { IsOkUnless result Refusal.OutOfMemory }
 {
     let senders = but_for(alloc, number, numbers)?;
     let mut doors = Vec::new(alloc);
@@ -180,7 +182,7 @@ fn links_at(
 // The numbers but for this one, in order.
 fn but_for(alloc: Global, number: CoordId, numbers: &[CoordId]) -> Result<Vec<CoordId>, Refusal>
     ensures others { IfOk result (λ others. others.items ≡ but_for number numbers.now) }
-    ensures cause { IfErr result (λ refusal. IsTrue (may_stop refusal)) }
+    ensures err { IsOkUnless result Refusal.OutOfMemory }
 {
     let mut others = Vec::new(alloc);
     for other in numbers {
@@ -194,25 +196,25 @@ fn but_for(alloc: Global, number: CoordId, numbers: &[CoordId]) -> Result<Vec<Co
 // So many inboxes, with a port for each of as many.
 fn inboxes(alloc: Global, members: usize) -> Result<Vec<Doors>, Refusal>
     ensures count { IfOk result (λ inboxes. vec_len inboxes ≡ members) }
-    ensures cause { IfErr result (λ refusal. IsTrue (may_stop refusal)) }
+    ensures out { IfOk result (λ inboxes. HaveOut members 0 inboxes.items) }
+    ensures err { IsOkUnless result Refusal.OutOfMemory }
 {
-    let Ok(ports) = u32::try_from(members) else {
-        return Err(Refusal::OutOfMemory);
-    };
     let mut inboxes = Vec::new(alloc);
     for _i in 0..members {
-        inboxes.push(Doors::new(alloc, ports, SIZE)?)?;
+        inboxes.push(Doors::new(alloc, members, SIZE)?)?;
     }
     Ok(inboxes)
 }
 
 // Adds a door to each of the inboxes.
 fn open_all(doors: &mut Vec<Door>, inboxes: &mut [Doors]) -> Result<(), Refusal>
+    requires { HaveDoors inboxes.old }
     ensures doors { OnOk result (map (λ d. d.port) doors.new.items
         ≡ map (λ d. d.port) doors.old.items ++ map new_port (map (λ b. b.inbox) inboxes.old)) }
     ensures count { OnOk result (vec_len doors.new ≡ vec_len doors.old + length inboxes.old) }
+    ensures out { OnOk result ((ports out : ℕ) → HaveOut ports out inboxes.old → HaveOut ports (out + 1) inboxes.new) }
     ensures inboxes { OnOk result (map (λ b. b.inbox) inboxes.new ≡ map (λ b. b.inbox) inboxes.old) }
-    ensures cause { IfErr result (λ refusal. IsTrue (may_stop refusal)) }
+    ensures err { IsOkUnless result Refusal.OutOfMemory }
 {
     let Some((inbox, rest)) = inboxes.split_first_mut() else {
         return Ok(());
@@ -221,15 +223,17 @@ fn open_all(doors: &mut Vec<Door>, inboxes: &mut [Doors]) -> Result<(), Refusal>
     open_all(doors, rest)
 }
 
-// A door to the inbox.
+// A door to the inbox, which has one that is not out.
 #[tactic(auto, using(crate::proofs::Columns::is_new))]
 fn opened(inbox: &mut Doors) -> Result<Door, Refusal>
+    requires { inbox.old.out < inbox.old.inbox.ports }
     ensures door { IfOk result (λ door. door.port ≡ new_port inbox.old.inbox) }
     ensures inbox { inbox.new.inbox ≡ inbox.old.inbox }
-    ensures cause { IfErr result (λ refusal. IsTrue (may_stop refusal)) }
+    ensures out { OnOk result (inbox.new.out ≡ inbox.old.out + 1) }
+    ensures err { IsOkUnless result Refusal.OutOfMemory }
 {
     match inbox.open()? {
         Some(door) => Ok(door),
-        None => Err(Refusal::NotMine(0)),
+        None => unreachable!(),
     }
 }

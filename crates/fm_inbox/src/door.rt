@@ -76,8 +76,9 @@ pub struct DoorsKept {
 }
 
 impl Doors {
-    /// An inbox as that of `Inbox::new`, with all its ports. The memory for closing it is reserved. OutOfMemory.
-    pub fn new(alloc: Global, ports: u32, size: usize) -> Result<Doors, Refusal>
+    /// An inbox as that of `Inbox::new`, but for any number of ports, at least one, and with all of them. The memory for
+    /// closing it is reserved. OutOfMemory.
+    pub fn new(alloc: Global, ports: usize, size: usize) -> Result<Doors, Refusal>
         requires { (0 < ports) × (0 < size) }
         ensures inbox { IfOk result (λ doors. (doors.inbox.ports ≡ ports) × (doors.inbox.size ≡ size)) }
         ensures none_out { IfOk result (λ doors. doors.out ≡ 0) }
@@ -85,7 +86,7 @@ impl Doors {
     {
         let mut room = Vec::new(alloc);
         room.reserve(size)?;
-        let (inbox, ports) = Inbox::new(alloc, ports, size)?;
+        let (inbox, ports) = Inbox::with_ports(alloc, ports, size)?;
         let inbox = Arc::new(alloc, inbox)?;
         Ok(Doors { inbox, ports, room })
     }
@@ -119,7 +120,7 @@ impl Doors {
             × (vec_len out ≢ self.inbox.ports)) }
         ensures back { IfErr result (λ kept. (kept.doors ≡ self) × (kept.out ≡ out)) }
     {
-        if out.len() as u64 != self.inbox.ports() as u64 {
+        if out.len() != self.inbox.ports() {
             return Err(DoorsKept {
                 refusal: Refusal::NotMine(0),
                 doors: self,

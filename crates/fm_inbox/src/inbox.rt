@@ -35,7 +35,7 @@ impl Model for Port {
 #[derive(Drop)]
 pub struct Inbox {
     queue: Queue,
-    ports: u32,
+    ports: usize,
     room: Vec<Packet>,
 }
 
@@ -77,10 +77,25 @@ impl Inbox {
         ensures room { IfOk result (λ r. ports ≤ vec_capacity r.1) }
         ensures err { IsOkUnless result Refusal.OutOfMemory }
     {
+        Inbox::with_ports(alloc, ports as usize, size)
+    }
+
+    /// As `new`, for any number of ports, at least one.
+    pub(crate) fn with_ports(
+        alloc: Global,
+        ports: usize,
+        size: usize,
+    ) -> Result<(Inbox, Vec<Port>), Refusal>
+        requires { (0 < ports) × (0 < size) }
+        ensures inbox { IfOk result (λ r. (r.0.ports ≡ ports) × (r.0.size ≡ size)) }
+        ensures ports { IfOk result (λ r. (vec_len r.1 ≡ ports) × All (IsNewPortOf r.0) r.1.items) }
+        ensures room { IfOk result (λ r. ports ≤ vec_capacity r.1) }
+        ensures err { IsOkUnless result Refusal.OutOfMemory }
+    {
         let mut room = Vec::new(alloc);
         room.reserve(size)?;
         let mut made = Vec::new(alloc);
-        made.reserve(ports as usize)?;
+        made.reserve(ports)?;
         let (queue, mut pass) = Queue::ruled(alloc, size)?;
         for _i in 1..ports {
             queue.another::<OneMore>(&mut pass);
@@ -138,7 +153,7 @@ impl Inbox {
         ensures err { IfErr result (λ kept. (kept.refusal ≡ Refusal.NotMine 0) × (vec_len ports < self.ports)) }
         ensures back { IfErr result (λ kept. (kept.inbox ≡ self) × (kept.ports ≡ ports)) }
     {
-        if (ports.len() as u64) < (self.ports as u64) {
+        if ports.len() < self.ports {
             return Err(InboxKept {
                 refusal: Refusal::NotMine(0),
                 inbox: self,
@@ -164,7 +179,7 @@ impl Inbox {
     }
 
     /// How many ports there are.
-    pub(crate) fn ports(&self) -> u32
+    pub(crate) fn ports(&self) -> usize
         ensures { result ≡ self.now.ports }
     {
         self.ports
@@ -176,7 +191,7 @@ fn emptied<R: Wait>(
     rt: &R,
     queue: &Queue,
     ports: Vec<Port>,
-    whole: u32,
+    whole: usize,
     room: Vec<Packet>,
 ) -> Vec<Packet>
     requires some { (0 < whole) × (whole ≤ vec_len ports) }
@@ -198,7 +213,7 @@ fn pass_of(port: Port) -> QueuePass
 }
 
 // The joined pass of the ports.
-fn joined(queue: &Queue, mut ports: Vec<Port>, whole: u32) -> QueuePass
+fn joined(queue: &Queue, mut ports: Vec<Port>, whole: usize) -> QueuePass
     requires some { (0 < whole) × (whole ≤ vec_len ports) }
     requires ports { All (IsPortOf (seen_inbox queue.now.table.shared.table_id whole
         (ruled_capacity queue.now))) ports.items }

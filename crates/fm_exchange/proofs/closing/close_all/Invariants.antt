@@ -1,5 +1,6 @@
 use Rattle.std.proofs.Common.{◌≡◌, map, length}
 use Rattle.fm_exchange.specs.Passing.{passed_at}
+use Rattle.fm_exchange.specs.Works.{HaveOut}
 use Rattle.fm_exchange.proofs.Columns.{AreClosed}
 use Rattle.fm_exchange.proofs.closing.close_all.Given as goal
 
@@ -7,6 +8,7 @@ abbrev pub invariant-loop-inbox : goal.invariant-loop-inbox
 invariant-loop-inbox g l =
     (map (λ d. d.state) l.dones ≡ map (λ d. d.state) l.fn.dones)
     × AreClosed (map (λ b. b.inbox) l.inboxes.items) (map passed_at (map (λ d. d.state) l.fn.dones)) (map (λ d. d.ports) l.dones)
+    × HaveOut (length l.fn.dones) (length l.fn.dones) l.inboxes.items
 
 abbrev pub decreases-loop-inbox : goal.decreases-loop-inbox
 decreases-loop-inbox g l = length l.inboxes.items

@@ -1,10 +1,10 @@
-use Rattle.std.proofs.Common.{◌≡◌, map, length, ap, sym, subst, refl, inr, ◌∙◌, arith}
+use Rattle.std.proofs.Common.{map, length, ap, sym, subst, inr, ◌∙◌, arith}
 use Rattle.std.proofs.lemmas.List.{length-map}
 use Rattle.fm_exchange.specs.Served.{AreServed}
 use Rattle.fm_exchange.specs.Members.{number_of, tasks_of}
 use Rattle.fm_exchange.specs.Passing.{passed_at, ArePassedOn}
 use Rattle.fm_exchange.specs.Used.{AreUsed}
-use Rattle.fm_exchange.specs.Works.{NoneRefused}
+use Rattle.fm_exchange.specs.Works.{HaveOut, NoneRefused}
 use Rattle.fm_exchange.proofs.Columns.{written}
 use Rattle.fm_exchange.proofs.Working.{all_used, all_served, as_many, length-links_of, linked_for}
 use Rattle.fm_exchange.proofs.fleet.run_fleet.Goals as goal
@@ -31,6 +31,16 @@ closed-closed-requires-clause-count g c =
     c.in-Ok.ensures.inboxes ∙ ap length c.deref.ensures.value
     ∙ sym (as_many (map number_of ms) c.args.rounds bs ms c.in-Ok.prepared.0.items c.works-works.result.items c.at_once-dones.result.items linked c.works-works.ensures.works c.at_once-dones.ensures)
     ∙ ap length (sym c.deref_mut.ensures.value)
+
+pub closed-closed-requires-clause-out : goal.closed-closed-requires-clause-out
+closed-closed-requires-clause-out g c =
+    let bs = map (λ b. b.inbox) c.in-Ok.prepared.1.items in
+    let ms = c.args.members.items in
+    let linked = linked_for bs _ ms c.in-Ok.prepared.0.items c.deref.ensures.value c.in-Ok.ensures.links in
+    let many = ap length c.deref.ensures.value
+    ∙ sym (as_many (map number_of ms) c.args.rounds bs ms c.in-Ok.prepared.0.items c.works-works.result.items c.at_once-dones.result.items linked c.works-works.ensures.works c.at_once-dones.ensures)
+    ∙ ap length (sym c.deref_mut.ensures.value) in
+    subst (λ n. HaveOut n n c.in-Ok.prepared.1.items) many c.in-Ok.ensures.out
 
 pub coordinators_of-coordinators-requires-clause-room : goal.coordinators_of-coordinators-requires-clause-room
 coordinators_of-coordinators-requires-clause-room g c =

@@ -1,4 +1,4 @@
-use Rattle.std.proofs.Common.{◌≡◌, arith, map, ap, sym, subst, ◌∙◌}
+use Rattle.std.proofs.Common.{arith, map, ap, sym, subst, ◌∙◌}
 use Rattle.fm_coord.specs.Numbers.{AreDistinct}
 use Rattle.fm_world.specs.Stands.{state_of, number_of}
 use Rattle.fm_gather.specs.Listings.{IsWholeRun, IsWhole}
@@ -38,8 +38,8 @@ gather-requires g c =
     let after = ap (map state_of) (c.deref-6.ensures.value ∙ kept) ∙ c.in_ok-exchange.ensures.ok ∙ ap (λ cs. after_exchange (map state_of cs)) c.deref_mut.ensures.value in
     subst AreDistinct (sym (listed_after c.args.rounds listed tells closed c.deref-6.result.now served after)) c.requires
 
-pub returns-in-Ok-gather : goal.returns-in-Ok-gather
-returns-in-Ok-gather g c =
+pub returns-in-Ok-gather-clause-ok : goal.returns-in-Ok-gather-clause-ok
+returns-in-Ok-gather-clause-ok g c =
     let closed = c.in-Ok.closed.items in
     let kept = written c.in-Ok.closed.len c.exchange.new.coordinators closed (omega (arith, c.exchange.auto.coordinators, c.deref_mut.ensures.len, c.in-Ok.closed.ok.0)) (omega (arith, c.in-Ok.closed.ok.0)) in
     let after = c.in_ok-exchange.ensures.ok ∙ ap (λ cs. after_exchange (map state_of cs)) c.deref_mut.ensures.value in

@@ -1,4 +1,6 @@
-use Rattle.std.proofs.Common.{rules, ◌+◌, ◌≤◌, ◌∙◌, sym, vec_len, vec_capacity, arith}
+use Rattle.std.proofs.Common.{rules, ◌+◌, ◌≤◌, ◌∙◌, ap, sym, vec_len, vec_capacity, arith}
+use Rattle.fm_fleet.specs.Seats.{SeatSeen}
+use Rattle.fm_exchange.proofs.Ending.{both_seats}
 use Rattle.fm_exchange.proofs.Seated.{served}
 use Rattle.fm_exchange.proofs.Stopping.{neither}
 use Rattle.fm_exchange.proofs.serving.serve.Goals as goal
@@ -7,6 +9,13 @@ pub push_reserved-requires-2 : goal.push_reserved-requires-2
 push_reserved-requires-2 g c =
     let room : vec_len c.reserve.new.self + 2 ≤ vec_capacity c.reserve.new.self = search rules in
     omega (arith, room, c.push_reserved.ensures.len, c.push_reserved.ensures.capacity)
+
+pub end-coordinator-requires-clause-seats : goal.end-coordinator-requires-clause-seats
+end-coordinator-requires-clause-seats g c =
+    let numbers = c.by_two-used.ensures.numbers in
+    both_seats c.push_reserved-2.new.self.items c.push_reserved.new.self.items c.reserve.new.self.items c.by_two-used.result.one c.by_two-used.result.two
+    (c.reserve.ensures.items ∙ c.new-room.ensures.items) c.push_reserved.ensures.items c.push_reserved-2.ensures.items
+    (numbers.0 ∙ ap (λ (s : SeatSeen). s.number) c.two_of-one.ensures.0) (numbers.1 ∙ ap (λ (s : SeatSeen). s.number) c.two_of-one.ensures.1)
 
 pub returns : goal.returns
 returns g c = λ none.

@@ -1,6 +1,6 @@
 use Rattle.std.specs.Prelude.{◌≡◌, ◌++◌, drop, map, length, vec_len}
 use Rattle.fm_exchange.specs.Members.{number_of}
-use Rattle.fm_exchange.specs.Works.{links_of}
+use Rattle.fm_exchange.specs.Works.{links_of, HaveOut}
 use Rattle.fm_exchange.proofs.work.link.Given as goal
 
 abbrev pub invariant-loop-member : goal.invariant-loop-member
@@ -10,3 +10,4 @@ invariant-loop-member g l =
     (l.links.items ++ links_of numbers boxes (vec_len l.links) (drop l.member-index l.members) ≡ links_of numbers boxes 0 l.members)
     × (vec_len l.inboxes ≡ length l.members)
     × (vec_len l.links ≡ l.member-index)
+    × HaveOut (length l.members) l.member-index l.inboxes.items

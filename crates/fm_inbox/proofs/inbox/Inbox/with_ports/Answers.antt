@@ -1,7 +1,7 @@
 use Rattle.std.proofs.Common.{arith, ap, ◌∙◌, sym}
 use Rattle.fm_inbox.specs.declared.rule.Account.{Account}
 use Rattle.fm_inbox.proofs.Keeps.{grows, cuts}
-use Rattle.fm_inbox.proofs.inbox.Inbox.new.Goals as goal
+use Rattle.fm_inbox.proofs.inbox.Inbox.with_ports.Goals as goal
 
 pub another-requires-clause-rule : goal.another-requires-clause-rule
 another-requires-clause-rule c =

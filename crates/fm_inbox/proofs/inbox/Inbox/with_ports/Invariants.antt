@@ -2,7 +2,7 @@ use Rattle.std.specs.Prelude.{◌≡◌, ◌+◌, ◌≤◌, [], All, vec_len, v
 use Rattle.crossbeam_queue.specs.Passes.{IsPassOf, ruled_capacity}
 use Rattle.fm_inbox.specs.Rule.{account}
 use Rattle.fm_inbox.specs.Ports.{account_of, IsNewPortOf, seen_inbox}
-use Rattle.fm_inbox.proofs.inbox.Inbox.new.Given as goal
+use Rattle.fm_inbox.proofs.inbox.Inbox.with_ports.Given as goal
 
 abbrev pub invariant-loop-i : goal.invariant-loop-i
 invariant-loop-i l = IsPassOf l.queue l.pass × (account_of l.pass ≡ account l._i l._i [] [])
