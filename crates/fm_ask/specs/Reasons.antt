@@ -1,10 +1,12 @@
 -- The text that says why a task waits or runs (this project's profile).
-use Rattle.std.specs.Prelude.{◌≡◌, ℕ, Bool, ◌+◌, ◌-◌, ◌==◌, List, [], ◌++◌, if◌then◌else◌, codes, decimal, length, take, drop, Option, Some, None, slice_get}
+use Rattle.std.specs.Prelude.{◌≡◌, ℕ, Bool, ◌+◌, ◌-◌, ◌==◌, List, [], ◌++◌, if◌then◌else◌, codes, decimal, length, take, Option, Some, None, slice_get}
+use Rattle.std.specs.List.{zip}
 use Rattle.fm_records.specs.Ids.{id_text}
 use Rattle.fm_records.specs.Options.{passes}
 use Rattle.fm_records.specs.Table.{Table}
 use Rattle.fm_net.specs.declared.node.Node.{Node}
 use Rattle.fm_net.specs.declared.node.Node.TheVariants.{Sink, Unscheduled, Request, Machine, Task}
+use Rattle.fm_why.specs.declared.reasons.TheConstants.{SHOWN}
 use Rattle.fm_why.specs.declared.reasons.Change.{Change}
 use Rattle.fm_why.specs.declared.reasons.Change.TheVariants.{Slot, Bandwidth}
 use Rattle.fm_why.specs.declared.reasons.Choice.{Choice}
@@ -18,11 +20,15 @@ use Rattle.fm_why.specs.Reasons.{AreReasons}
 use Rattle.fm_ask.specs.Lines.{lines_of}
 
 -- a schedule was found that runs the task on the machine, and costs no more than each must
-abbrev pub is_exact : Choices → Choice → Bool
-is_exact c e = passes (λ example. example.cost == c.least + e.dearer) c.example
+abbrev pub is_exact : ℕ → Choice → Option Example → Bool
+is_exact least e found = passes (λ example. example.cost == least + e.dearer) found
+
+-- the same of the cheapest machine
+abbrev pub is_first_exact : Choices → Choice → Bool
+is_first_exact c e = passes (is_exact c.least e) (slice_get c.examples.items 0)
 
 abbrev pub bound_text : Choices → Choice → List ℕ
-bound_text c e = if is_exact c e then codes "exactly " ++ (decimal e.dearer ++ codes " more\n") else codes "at least " ++ (decimal e.dearer ++ codes " more\n")
+bound_text c e = if is_first_exact c e then codes "exactly " ++ (decimal e.dearer ++ codes " more\n") else codes "at least " ++ (decimal e.dearer ++ codes " more\n")
 
 -- what it would take to run a task that waits: what the cheapest machine with room costs, if there is one
 abbrev pub waiting_text : Choices → Option Choice → List ℕ
@@ -90,33 +96,39 @@ example_head e example =
     codes "a schedule that runs it on machine " ++ (id_text e.machine ++ (codes " costs " ++ (decimal example.cost
     ++ (codes "; tasks that go elsewhere in it: " ++ (decimal (length example.moves.items) ++ codes "\n")))))
 
-abbrev pub example_text : Option Choice → Option Example → List ℕ
-example_text (Some e) (Some example) = example_head e example ++ lines_of move_text (take 5 example.moves.items)
+abbrev pub example_text : Option Choice → Option (Option Example) → List ℕ
+example_text (Some e) (Some (Some example)) = example_head e example ++ lines_of move_text (take 5 example.moves.items)
 example_text _ _ = []
 
--- a machine with room: what the way there costs, and how much dearer schedules are that use it
-abbrev pub choice_text : Choice → List ℕ
-choice_text e = codes "on machine " ++ (id_text e.machine ++ (codes " it costs " ++ (decimal e.cost ++ (codes ", and each schedule that runs it there costs at least " ++ (decimal e.dearer ++ codes " more")))))
+-- how much dearer each schedule is that runs the task on the machine
+abbrev pub at_least_text : Choice → List ℕ
+at_least_text e = codes ", and each schedule that runs it there costs at least " ++ (decimal e.dearer ++ codes " more")
 
--- the same of a machine for which a schedule was found that costs just so much more
+-- a schedule was found that is just so much dearer
 abbrev pub exact_text : Choice → List ℕ
-exact_text e = codes "on machine " ++ (id_text e.machine ++ (codes " it costs " ++ (decimal e.cost ++ (codes ", and the cheapest schedule that runs it there costs exactly " ++ (decimal e.dearer ++ codes " more")))))
+exact_text e = codes ", and the cheapest schedule that runs it there costs exactly " ++ (decimal e.dearer ++ codes " more")
 
-abbrev pub first_line : Choices → Choice → List ℕ
-first_line c e = (if is_exact c e then exact_text e else choice_text e) ++ codes "\n"
+-- one was found that is dearer than that
+abbrev pub beyond_text : ℕ → Choice → Example → List ℕ
+beyond_text least e example = at_least_text e ++ (codes "; one was found that costs " ++ (decimal (example.cost - least) ++ codes " more"))
 
--- the cheapest machine, of which alone such a schedule is looked for
-abbrev pub first_text : Choices → Option Choice → List ℕ
-first_text c None = []
-first_text c (Some e) = first_line c e
+abbrev pub dearer_text : ℕ → Choice → Option Example → List ℕ
+dearer_text least e None = at_least_text e
+dearer_text least e (Some example) = if is_exact least e (Some example) then exact_text e else beyond_text least e example
 
--- an example, and the five cheapest machines
+-- a machine with room: what the way there costs, and how much dearer schedules are that use it
+abbrev pub choice_text : ℕ → Choice × Option Example → List ℕ
+choice_text least e = codes "on machine " ++ (id_text e.0.machine ++ (codes " it costs " ++ (decimal e.0.cost ++ dearer_text least e.0 e.1)))
+
+-- the cheapest machines, each with the schedule that was found for it
+abbrev pub listed_text : Choices → List ℕ
+listed_text c = lines_of (choice_text c.least) (zip c.machines.items c.examples.items)
+
+-- an example of the cheapest machine, and the cheapest machines
 abbrev pub machines_text : Choices → List ℕ
-machines_text c =
-    example_text (slice_get c.machines.items 0) c.example
-    ++ (first_text c (slice_get c.machines.items 0) ++ lines_of choice_text (take 4 (drop 1 c.machines.items)))
+machines_text c = example_text (slice_get c.machines.items 0) (slice_get c.examples.items 0) ++ listed_text c
 
--- the machines behind the five that are listed, from the first of them on
+-- the machines behind those that are listed, from the first of them on
 abbrev pub others_text : ℕ → Option Choice → List ℕ
 others_text more None = []
 others_text more (Some e) = codes "on each of " ++ (decimal more ++ (codes " other machines with room at least " ++ (decimal e.dearer ++ codes " more\n")))
@@ -128,10 +140,10 @@ room_line c = codes "room for its request of " ++ (decimal c.request ++ (codes "
 abbrev pub theory_line : List ℕ
 theory_line = codes "by potentials that certify the schedule: what is sent over an empty arc costs at least its reduced cost more\n"
 
--- the answer, the schedule, an example and the five cheapest machines, how many more there are, and the theory
+-- the answer, the schedule, an example and the cheapest machines, how many more there are, and the theory
 abbrev pub choices_text : ℕ → Choices → List ℕ
 choices_text task c =
-    answer_line task c ++ (schedule_text c ++ (machines_text c ++ (others_text (length c.machines.items - 5) (slice_get c.machines.items 5) ++ (room_line c ++ theory_line))))
+    answer_line task c ++ (schedule_text c ++ (machines_text c ++ (others_text (length c.machines.items - SHOWN) (slice_get c.machines.items SHOWN) ++ (room_line c ++ theory_line))))
 
 abbrev pub held_text : ℕ → ℕ → List ℕ
 held_text task machine = codes "task " ++ (id_text task ++ (codes " is held by machine " ++ (id_text machine ++ codes "\n")))

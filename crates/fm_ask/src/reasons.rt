@@ -1,26 +1,23 @@
 //! Why a task waits or runs, as text.
 
-ghost use Rattle.std.specs.Prelude.{◌≡◌, ◌++◌, ◌-◌, length, take, drop, slice_get, IfOk, OnOk, IsOkUnless, string_bytes};
-ghost use Rattle.fm_ask.specs.Reasons.{answer_line, bound_text, change_text, choices_text, cost_line, exact_text, example_head, example_text, first_line, first_text, goal_text, is_exact, held_text, machines_text, others_text, place_text, price_line, price_text, reasons_text, remedy_end, room_line, schedule_text, running_text, theory_line, waiting_text, IsReasonsText};
+ghost use Rattle.std.specs.Prelude.{◌≡◌, ◌++◌, ◌-◌, length, take, slice_get, IfOk, OnOk, IsOkUnless, string_bytes};
+ghost use Rattle.fm_ask.specs.Reasons.{answer_line, bound_text, change_text, choice_text, choices_text, cost_line, dearer_text, exact_text, example_head, example_text, goal_text, is_exact, is_first_exact, held_text, at_least_text, listed_text, machines_text, others_text, place_text, price_line, price_text, reasons_text, remedy_end, room_line, schedule_text, running_text, theory_line, waiting_text, IsReasonsText};
 
 use crate::lines::{LineText, write_lines};
 use fm_know::knowledge::Knowledge;
 use fm_net::node::Node;
 use fm_records::ids::{MachineId, TaskId};
 use fm_records::refusal::Refusal;
-use fm_why::reasons::{Change, Choice, Choices, Example, Move, Reasons, Remedy};
+use fm_why::reasons::{Change, Choice, Choices, Example, Move, Reasons, Remedy, SHOWN};
 use fm_why::why::why;
 use std::alloc::Global;
 
-// How many machines are listed: so the text has fewer than 20 lines for a cluster of any size.
-const SHOWN: usize = 5;
-
-// How many of them are behind the first.
-const BEHIND: usize = 4;
+// How many moves of an example are listed: so the text has fewer than 20 lines for a cluster of any size.
+const MOVES: usize = 5;
 
 /// Where the task is, by what is known, and for a live task that no machine holds, how much dearer each schedule is that
-/// runs it on one of the five cheapest machines, at least; if it waits, also up to two changes of a machine by which it would
-/// run. Refused only if memory runs out. It costs what `why` does.
+/// runs it on one of the five cheapest machines, at least, or exactly if such a schedule was found; if it waits, also up to
+/// two changes of a machine by which it would run. Refused only if memory runs out. It costs what `why` does.
 pub fn why_text(alloc: Global, knowledge: &Knowledge, task: TaskId) -> Result<String, Refusal>
     ensures ok { IfOk result (λ text. IsReasonsText knowledge.now task (string_bytes text)) }
     ensures err { IsOkUnless result Refusal.OutOfMemory }
@@ -70,81 +67,91 @@ fn choices_text(alloc: Global, task: TaskId, choices: &Choices) -> Result<String
     Ok(lines)
 }
 
-// Appends the schedule that runs the task on the first machine, if one was found, and the first machines.
+// Appends the schedule that runs the task on the cheapest machine, if one was found, and the cheapest machines.
 fn write_machines(alloc: Global, choices: &Choices, lines: &mut String) -> Result<(), Refusal>
     ensures ok { OnOk result (string_bytes lines.new ≡ string_bytes lines.old ++ machines_text choices.now) }
     ensures err { IsOkUnless result Refusal.OutOfMemory }
 {
     write_example(alloc, choices, lines)?;
-    write_first(alloc, choices, lines)?;
-    write_lines(alloc, behind(choices.machines.as_slice()), lines)
+    write_listed(alloc, choices, lines)
 }
 
-// Appends the cheapest machine, if there is one.
-fn write_first(alloc: Global, choices: &Choices, lines: &mut String) -> Result<(), Refusal>
-    ensures ok { OnOk result (string_bytes lines.new
-        ≡ string_bytes lines.old ++ first_text choices.now (slice_get choices.now.machines.items 0)) }
+// Appends a line for each of the cheapest machines.
+fn write_listed(alloc: Global, choices: &Choices, lines: &mut String) -> Result<(), Refusal>
+    ensures ok { OnOk result (string_bytes lines.new ≡ string_bytes lines.old ++ listed_text choices.now) }
     ensures err { IsOkUnless result Refusal.OutOfMemory }
 {
-    let Some(first) = choices.machines.first() else {
-        return Ok(());
-    };
-    write_first_line(alloc, choices, first, lines)
-}
-
-// Appends the cheapest machine.
-fn write_first_line(
-    alloc: Global,
-    choices: &Choices,
-    first: &Choice,
-    lines: &mut String,
-) -> Result<(), Refusal>
-    ensures ok { OnOk result (string_bytes lines.new ≡ string_bytes lines.old ++ first_line choices.now first.now) }
-    ensures err { IsOkUnless result Refusal.OutOfMemory }
-{
-    if is_exact(choices, first) {
-        write_exact(alloc, first, lines)?;
-    } else {
-        first.write_text(alloc, lines)?;
+    for (choice, found) in choices.machines.iter().zip(&choices.examples) {
+        write_choice(alloc, choices.least, choice, found, lines)?;
+        lines.push_str("\n")?;
     }
-    lines.push('\n')?;
     Ok(())
 }
 
-// Appends a machine on which the cheapest schedule costs just so much more.
-fn write_exact(alloc: Global, choice: &Choice, lines: &mut String) -> Result<(), Refusal>
-    ensures ok { OnOk result (string_bytes lines.new ≡ string_bytes lines.old ++ exact_text choice.now) }
+// Appends a machine, and how much dearer it is there.
+fn write_choice(
+    alloc: Global,
+    least: u128,
+    choice: &Choice,
+    found: &Option<Example>,
+    lines: &mut String,
+) -> Result<(), Refusal>
+    ensures ok { OnOk result (string_bytes lines.new
+        ≡ string_bytes lines.old ++ choice_text least (choice.now, found.now)) }
     ensures err { IsOkUnless result Refusal.OutOfMemory }
 {
     let machine = choice.machine.text(alloc)?;
-    let (cost, dearer) = (choice.cost, choice.dearer);
+    let cost = choice.cost;
+    write!(lines, "on machine {machine} it costs {cost}")?;
+    write_dearer(least, choice, found, lines)
+}
+
+// Appends how much dearer it is on the machine: at least, or just that if such a schedule was found.
+fn write_dearer(
+    least: u128,
+    choice: &Choice,
+    found: &Option<Example>,
+    lines: &mut String,
+) -> Result<(), Refusal>
+    ensures ok { OnOk result (string_bytes lines.new
+        ≡ string_bytes lines.old ++ dearer_text least choice.now found.now) }
+    ensures err { IsOkUnless result Refusal.OutOfMemory }
+{
+    if is_exact(least, choice, found) {
+        return write_exact(choice, lines);
+    }
+    write_at_least(choice, lines)?;
+    if let Some(example) = found {
+        let beyond = example.cost.saturating_sub(least);
+        write!(lines, "; one was found that costs {beyond} more")?;
+    }
+    Ok(())
+}
+
+// Appends that the cheapest schedule with the task on the machine is just so much dearer.
+fn write_exact(choice: &Choice, lines: &mut String) -> Result<(), Refusal>
+    ensures ok { OnOk result (string_bytes lines.new ≡ string_bytes lines.old ++ exact_text choice.now) }
+    ensures err { IsOkUnless result Refusal.OutOfMemory }
+{
+    let dearer = choice.dearer;
     write!(
         lines,
-        "on machine {machine} it costs {cost}, and the cheapest schedule that runs it there costs exactly {dearer} more"
+        ", and the cheapest schedule that runs it there costs exactly {dearer} more"
     )?;
     Ok(())
 }
 
-// The first of the machines behind the cheapest.
-fn behind(machines: &[Choice]) -> &[Choice]
-    ensures { result.now ≡ take 4 (drop 1 machines.now) }
+// Appends that each schedule with the task on the machine is so much dearer at least.
+fn write_at_least(choice: &Choice, lines: &mut String) -> Result<(), Refusal>
+    ensures ok { OnOk result (string_bytes lines.new ≡ string_bytes lines.old ++ at_least_text choice.now) }
+    ensures err { IsOkUnless result Refusal.OutOfMemory }
 {
-    if machines.is_empty() {
-        machines
-    } else {
-        first_four(&machines[1..])
-    }
-}
-
-// The first of the machines that are listed as all others.
-fn first_four(machines: &[Choice]) -> &[Choice]
-    ensures { result.now ≡ take 4 machines.now }
-{
-    if machines.len() > BEHIND {
-        &machines[..BEHIND]
-    } else {
-        machines
-    }
+    let dearer = choice.dearer;
+    write!(
+        lines,
+        ", and each schedule that runs it there costs at least {dearer} more"
+    )?;
+    Ok(())
 }
 
 // Appends the answer.
@@ -216,25 +223,32 @@ fn write_schedule(alloc: Global, choices: &Choices, lines: &mut String) -> Resul
 }
 
 // Whether a schedule was found that runs the task on the machine and costs no more than each must.
-fn is_exact(choices: &Choices, choice: &Choice) -> bool
-    ensures { result ≡ is_exact choices.now choice.now }
+fn is_exact(least: u128, choice: &Choice, found: &Option<Example>) -> bool
+    ensures { result ≡ is_exact least choice.now found.now }
 {
-    match &choices.example {
-        Some(example) => {
-            let (cost, least) = (example.cost, choices.least);
-            cost >= least && cost - least == choice.dearer
-        }
+    match found {
+        Some(example) => example.cost >= least && example.cost - least == choice.dearer,
         None => false,
     }
 }
 
-// Appends how much dearer it is on the machine.
-fn write_bound(choices: &Choices, choice: &Choice, lines: &mut String) -> Result<(), Refusal>
-    ensures ok { OnOk result (string_bytes lines.new ≡ string_bytes lines.old ++ bound_text choices.now choice.now) }
+// The same of the cheapest machine, whose example is the first.
+fn is_first_exact(choices: &Choices, first: &Choice) -> bool
+    ensures { result ≡ is_first_exact choices.now first.now }
+{
+    match choices.examples.first() {
+        Some(found) => is_exact(choices.least, first, found),
+        None => false,
+    }
+}
+
+// Appends how much dearer it is on the cheapest machine.
+fn write_bound(choices: &Choices, first: &Choice, lines: &mut String) -> Result<(), Refusal>
+    ensures ok { OnOk result (string_bytes lines.new ≡ string_bytes lines.old ++ bound_text choices.now first.now) }
     ensures err { IsOkUnless result Refusal.OutOfMemory }
 {
-    let dearer = choice.dearer;
-    if is_exact(choices, choice) {
+    let dearer = first.dearer;
+    if is_first_exact(choices, first) {
         write!(lines, "exactly {dearer} more\n")?;
     } else {
         write!(lines, "at least {dearer} more\n")?;
@@ -278,14 +292,14 @@ fn write_price_of(price: Option<u128>, lines: &mut String) -> Result<(), Refusal
     Ok(())
 }
 
-// Appends the schedule that runs the task on the first machine, if one was found.
+// Appends the schedule that runs the task on the cheapest machine, if one was found.
 fn write_example(alloc: Global, choices: &Choices, lines: &mut String) -> Result<(), Refusal>
-    ensures ok { OnOk result (string_bytes lines.new
-        ≡ string_bytes lines.old ++ example_text (slice_get choices.now.machines.items 0) choices.now.example) }
+    ensures ok { OnOk result (string_bytes lines.new ≡ string_bytes lines.old
+        ++ example_text (slice_get choices.now.machines.items 0) (slice_get choices.now.examples.items 0)) }
     ensures err { IsOkUnless result Refusal.OutOfMemory }
 {
-    match (choices.machines.first(), &choices.example) {
-        (Some(first), Some(example)) => {
+    match (choices.machines.first(), choices.examples.first()) {
+        (Some(first), Some(Some(example))) => {
             write_example_head(alloc, first, example, lines)?;
             write_lines(alloc, first_moves(&example.moves), lines)
         }
@@ -317,8 +331,8 @@ fn write_example_head(
 fn first_moves(moves: &[Move]) -> &[Move]
     ensures { result.now ≡ take 5 moves.now }
 {
-    if moves.len() > SHOWN {
-        &moves[..SHOWN]
+    if moves.len() > MOVES {
+        &moves[..MOVES]
     } else {
         moves
     }
@@ -327,7 +341,7 @@ fn first_moves(moves: &[Move]) -> &[Move]
 // Appends how many machines are not listed, if there are any, and how much dearer the cheapest of them is.
 fn write_others(machines: &[Choice], lines: &mut String) -> Result<(), Refusal>
     ensures ok { OnOk result (string_bytes lines.new
-        ≡ string_bytes lines.old ++ others_text (length machines.now - 5) (slice_get machines.now 5)) }
+        ≡ string_bytes lines.old ++ others_text (length machines.now - SHOWN) (slice_get machines.now SHOWN)) }
     ensures err { IsOkUnless result Refusal.OutOfMemory }
 {
     if let Some(next) = machines.get(SHOWN) {
@@ -392,22 +406,6 @@ fn write_goal(alloc: Global, to: Node, lines: &mut String) -> Result<(), Refusal
         Node::Sink | Node::Task(_) => {}
     }
     Ok(())
-}
-
-impl LineText for Choice {
-    ghost use Rattle.fm_ask.specs.Reasons.{choice_text};
-
-    ghost line_text = { choice_text };
-
-    fn write_text(&self, alloc: Global, lines: &mut String) -> Result<(), Refusal> {
-        let machine = self.machine.text(alloc)?;
-        let (cost, dearer) = (self.cost, self.dearer);
-        write!(
-            lines,
-            "on machine {machine} it costs {cost}, and each schedule that runs it there costs at least {dearer} more"
-        )?;
-        Ok(())
-    }
 }
 
 impl LineText for Remedy {

@@ -1,5 +1,5 @@
 -- A schedule that runs a task on a machine, as an example of what that costs; this project's profile.
-use Rattle.std.specs.Prelude.{◌≡◌, ℕ, ◌≤◌, ◌==◌, ◌&&◌, nat_lt, if◌then◌else◌, List, [], ◌∷◌, Option, Some, None}
+use Rattle.std.specs.Prelude.{◌≡◌, ℕ, ◌≤◌, ◌==◌, ◌&&◌, nat_lt, if◌then◌else◌, List, [], ◌∷◌, Option, Some, None, IfSome}
 use Rattle.std.specs.List.{filter_map}
 use Rattle.fm_net.specs.declared.node.Node.{Node}
 use Rattle.fm_net.specs.declared.node.Node.TheVariants.{Task}
@@ -7,6 +7,7 @@ use Rattle.fm_net.specs.Net.{Net}
 use Rattle.fm_certificate.specs.Checks.{Arc}
 use Rattle.fm_certificate.specs.Flows.{Units, cost_of, IsFeasible}
 use Rattle.fm_certificate.specs.Totals.{Entry}
+use Rattle.fm_why.specs.declared.reasons.Choice.{Choice}
 use Rattle.fm_why.specs.declared.reasons.Example.{Example}
 use Rattle.fm_why.specs.declared.reasons.Move.{Move}
 use Rattle.fm_why.specs.Running.{RunsOn}
@@ -28,6 +29,10 @@ pub record IsExample (net : Net) (now : Units) (t m : ℕ) (example : Example) :
   pub runs : RunsOn net units t m
   pub cost_is : example.cost ≡ cost_of net units
   pub moves_are : example.moves.items ≡ moves_between net now units
+
+-- of a machine to which the task has a way, possibly such a flow
+abbrev pub IsExampleFor : Net → Units → ℕ → Choice × Option Example → Type 0
+IsExampleFor net now t e = IfSome e.1 (IsExample net now t e.0.machine)
 
 -- the units are of these arcs, in turn, and within their capacities
 abbrev pub AreWithin : List Entry → List Arc → Type 0

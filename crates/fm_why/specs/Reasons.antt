@@ -1,6 +1,6 @@
 -- Why a task waits or runs, in numbers that hold of every schedule.
-use Rattle.std.specs.Prelude.{◌≡◌, ◌↔◌, ℕ, ◌+◌, ◌≤◌, ◌<◌, ◌^◌, Some, None, option_map, map, length, slice_get, IsTrue, IfSome}
-use Rattle.std.specs.List.{All}
+use Rattle.std.specs.Prelude.{◌≡◌, ◌↔◌, ℕ, ◌+◌, ◌≤◌, ◌<◌, ◌^◌, Some, None, option_map, map, length, slice_get, min, IsTrue, IfSome}
+use Rattle.std.specs.List.{All, zip}
 use Rattle.std.specs.List.Sorted.{IsPermutation, IsNonDecreasingBy}
 use Rattle.std.specs.Option.{IsSomeAnd}
 use Rattle.fm_records.specs.declared.records.SpecReg.{SpecReg}
@@ -13,8 +13,9 @@ use Rattle.fm_certificate.specs.Flows.{Units, cost_of, IsLeast}
 use Rattle.fm_why.specs.Running.{IsDearer, IsDearerOver}
 use Rattle.fm_why.specs.Ways.{way_cost, roomy}
 use Rattle.fm_why.specs.Pricing.{StaysLeast}
-use Rattle.fm_why.specs.Examples.{IsExample}
+use Rattle.fm_why.specs.Examples.{IsExampleFor}
 use Rattle.fm_why.specs.Changes.{IsRemedy}
+use Rattle.fm_why.specs.declared.reasons.TheConstants.{SHOWN}
 use Rattle.fm_why.specs.declared.reasons.Choice.{Choice}
 use Rattle.fm_why.specs.declared.reasons.Choices.{Choices}
 use Rattle.fm_why.specs.declared.reasons.Reasons.{Reasons}
@@ -36,7 +37,7 @@ pub record IsFound (net : Net) (t j : ℕ) (choices : Choices) : Type 0 where
 
 -- a live task that no machine holds: its request and its price of waiting; the schedule; each machine to which it has a way, the
 -- cheapest first; the price of waiting, for this task alone, up to which that schedule stays least: at each if there is none;
--- possibly a schedule that runs it on the first of these machines; and up to two changes by which it would run
+-- for each of the first of these machines, possibly a schedule that runs it there; and up to two changes by which it would run
 pub record AreChoices (k : Table) (t : ℕ) (spec : SpecReg) (choices : Choices) : Type 0 where
   pub request : choices.request ≡ spec.request
   pub wait : Some choices.wait ≡ option_map (λ job. job.wait) (job_of k spec.job)
@@ -49,8 +50,8 @@ pub record AreChoices (k : Table) (t : ℕ) (spec : SpecReg) (choices : Choices)
   pub price : choices.price ≡ option_map (λ e. choices.wait + e.dearer) (slice_get choices.machines.items 0)
   pub stays : (more : ℕ) → IfSome choices.price (λ price. choices.wait + more ≤ price)
       → StaysLeast (net_of k) (Task t) (Unscheduled spec.job) more found.units
-  pub example : IfSome choices.example (λ example.
-      IsSomeAnd (slice_get choices.machines.items 0) (λ e. IsExample (net_of k) found.units t e.machine example))
+  pub examples : All (IsExampleFor (net_of k) found.units t) (zip choices.machines.items choices.examples.items)
+  pub shown : length choices.examples.items ≡ min SHOWN (length choices.machines.items)
   pub remedies : All (IsRemedy k t spec.request) choices.remedies.items
   pub few : length choices.remedies.items ≤ 2
 

@@ -3,6 +3,9 @@
 use fm_net::node::Node;
 use fm_records::ids::{MachineId, TaskId};
 
+/// Of how many machines, the cheapest ones, a schedule is looked for as an example.
+pub const SHOWN: usize = 5;
+
 /// A machine to which a task has a way.
 #[derive(Debug, Clone, Copy, PartialEq, Eq, Drop)]
 pub struct Choice {
@@ -70,8 +73,9 @@ pub struct Choices {
     /// Up to which price of waiting, for this task alone, the schedule that was found stays least; up to any if there is
     /// none.
     pub price: Option<u128>,
-    /// A schedule that runs it on the first of the machines, if the one that was found leaves it waiting, and one was found.
-    pub example: Option<Example>,
+    /// For each of the first of the machines, `SHOWN` at most, a schedule that runs it there, if the one that was found
+    /// leaves it waiting, and one was found.
+    pub examples: Vec<Option<Example>>,
     /// Up to two changes of a machine by which it would run, if the schedule that was found leaves it waiting.
     pub remedies: Vec<Remedy>,
 }

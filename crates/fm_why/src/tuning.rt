@@ -1,6 +1,6 @@
 //! The cheapest ways to send a unit on from each node to where a task's unit goes now, by relaxing arcs (Bellman and
-//! Ford), and what they claim: potentials, and flows in which the unit goes elsewhere. They are tried: checks decide
-//! whether they are what they claim to be.
+//! Ford), and what they claim: potentials, and arcs on which units change if the unit goes elsewhere. They are tried:
+//! checks decide whether they are what they claim to be.
 
 use fm_certificate::flow::Flow;
 use fm_certificate::potentials::Potentials;
@@ -25,9 +25,37 @@ struct Certificate {
     values: Vec<i128>,
 }
 
+// An arc over which a unit more goes, or one less.
+#[derive(Debug, Clone, Copy, Drop)]
+struct Leg {
+    from: Node,
+    to: Node,
+    more: bool,
+}
+
+impl Leg {
+    fn of(from: &Node, to: &Node, more: bool) -> Self {
+        Leg {
+            from: *from,
+            to: *to,
+            more,
+        }
+    }
+}
+
+/// An arc with its units in a flow, and in another one.
+#[derive(Debug, Clone, Copy, Drop)]
+pub(crate) struct Shift {
+    pub(crate) from: Node,
+    pub(crate) to: Node,
+    pub(crate) before: u64,
+    pub(crate) after: u64,
+}
+
 /// What a further unit costs from each node to the goal, and the first step of its way.
 #[derive(Drop)]
 pub(crate) struct Paths {
+    nodes: Vec<Node>,
     numbered: Numbered,
     certificate: Certificate,
     goal: usize,
@@ -44,9 +72,10 @@ impl Paths {
         potentials: &Potentials,
         goal: &Node,
     ) -> Result<Self, OutOfMemory> {
+        let nodes: Vec<Node> = network.nodes().collect(alloc)?;
         let numbered = Numbered::of(alloc, network)?;
         let certificate = certificate_of(alloc, network, flow, potentials)?;
-        let goal = place_of(network, goal);
+        let goal = place_of(&nodes, goal);
         let mut costs = vec![in alloc; FAR; numbered.places.end]?;
         let mut steps = vec![in alloc; None; numbered.places.end]?;
         lower(&mut costs, goal, 0);
@@ -57,6 +86,7 @@ impl Paths {
         }
         take(&numbered, &certificate, &mut costs);
         Ok(Paths {
+            nodes,
             numbered,
             certificate,
             goal,
@@ -67,66 +97,98 @@ impl Paths {
 
     /// The potentials, each less what a further unit costs from its node. With them a bound is exact where a unit can
     /// be sent on so. O(arcs).
-    pub(crate) fn tuned(
-        &self,
-        alloc: Global,
-        network: &Network,
-    ) -> Result<Potentials, OutOfMemory> {
+    pub(crate) fn tuned(&self, alloc: Global) -> Result<Potentials, OutOfMemory> {
         let mut found = Potentials::new(alloc);
         let mut place = 0usize;
-        for node in network.nodes() {
+        for node in &self.nodes {
             let value = value_or(&self.certificate.values, place, 0);
             let cost = value_or(&self.costs, place, FAR);
-            found.put(node, value.saturating_sub(cost))?;
+            found.put(*node, value.saturating_sub(cost))?;
             place = place.saturating_add(1);
         }
         Ok(found)
     }
 
-    /// The flow with the task's unit on the way to the last node, over the other one if there is one, in place of the
-    /// arc to the goal, and with a unit sent on from the last node to the goal, if there is a way. O(arcs log arcs).
+    /// The arcs on which the flow's units change if the task's unit goes to the last node, over the other one if there
+    /// is one, in place of the arc to the goal, and a unit is sent on from the last node to the goal; none if there is
+    /// no such way. O(nodes log arcs).
     pub(crate) fn moved(
         &self,
         alloc: Global,
-        network: &Network,
+        flow: &Flow,
         task: &Node,
         goal: &Node,
         via: Option<Node>,
         last: &Node,
-    ) -> Result<Option<Flow>, OutOfMemory> {
-        let mut changes = vec![in alloc; 0i64; self.numbered.arcs.len()]?;
-        change(&mut changes, place_of_arc(network, task, goal), -1);
+    ) -> Result<Option<Vec<Shift>>, OutOfMemory> {
+        let mut legs = Vec::new(alloc);
+        legs.push(Leg::of(task, goal, false))?;
         match via {
             Some(via) => {
-                change(&mut changes, place_of_arc(network, task, &via), 1);
-                change(&mut changes, place_of_arc(network, &via, last), 1);
+                legs.push(Leg::of(task, &via, true))?;
+                legs.push(Leg::of(&via, last, true))?;
             }
-            None => change(&mut changes, place_of_arc(network, task, last), 1),
+            None => legs.push(Leg::of(task, last, true))?,
         }
-        if !self.send_on(&mut changes, place_of(network, last)) {
-            return Ok(None);
+        if self.send_on(&mut legs, place_of(&self.nodes, last))? {
+            shifts_of(alloc, flow, &legs)
+        } else {
+            Ok(None)
         }
-        changed(alloc, network, &self.certificate.units, &changes)
     }
 
-    // Notes a unit more over each step of the way from the node to the goal, and returns whether there is one.
-    fn send_on(&self, changes: &mut [i64], from: usize) -> bool {
+    // Puts the arcs of the way from the node to the goal behind the others, and returns whether there is such a way.
+    fn send_on(&self, legs: &mut Vec<Leg>, from: usize) -> Result<bool, OutOfMemory> {
         let mut node = from;
         for _ in 0..self.steps.len() {
             if node == self.goal {
-                return true;
+                return Ok(true);
             }
             let Some(step) = value_or(&self.steps, node, None) else {
-                return false;
+                return Ok(false);
             };
             let Some(arc) = self.numbered.arcs.get(step.arc) else {
-                return false;
+                return Ok(false);
             };
-            change(changes, step.arc, if step.forward { 1 } else { -1 });
+            let (source, target) = (self.node_at(arc.from), self.node_at(arc.to));
+            legs.push(Leg::of(&source, &target, step.forward))?;
             node = if step.forward { arc.to } else { arc.from };
         }
-        false
+        Ok(false)
     }
+
+    // The node at the place; the sink beyond the end.
+    fn node_at(&self, place: usize) -> Node {
+        value_or(&self.nodes, place, Node::Sink)
+    }
+}
+
+// The arcs with their units before and after; none if one is not there, or has no unit to take away.
+fn shifts_of(alloc: Global, flow: &Flow, legs: &[Leg]) -> Result<Option<Vec<Shift>>, OutOfMemory> {
+    let mut shifts = Vec::new(alloc);
+    for leg in legs {
+        let Some(shift) = shift_of(flow, leg) else {
+            return Ok(None);
+        };
+        shifts.push(shift)?;
+    }
+    Ok(Some(shifts))
+}
+
+// The arc with its units before and after, if it is there, and has a unit if one is taken away.
+fn shift_of(flow: &Flow, leg: &Leg) -> Option<Shift> {
+    let before = flow.units(leg.from, leg.to)?;
+    let after = if leg.more {
+        before.checked_add(1)?
+    } else {
+        before.checked_sub(1)?
+    };
+    Some(Shift {
+        from: leg.from,
+        to: leg.to,
+        before,
+        after,
+    })
 }
 
 // The units and the values, in order.
@@ -147,23 +209,11 @@ fn certificate_of(
     Ok(Certificate { units, values })
 }
 
-// The place of the node in node order; beyond the end if it is not there.
-fn place_of(network: &Network, goal: &Node) -> usize {
+// The place of the node among these; beyond the end if it is not there.
+fn place_of(nodes: &[Node], goal: &Node) -> usize {
     let mut place = 0usize;
-    for node in network.nodes() {
-        if node == *goal {
-            return place;
-        }
-        place = place.saturating_add(1);
-    }
-    place
-}
-
-// The place of the arc among all; beyond the end if it is not there.
-fn place_of_arc(network: &Network, from: &Node, to: &Node) -> usize {
-    let mut place = 0usize;
-    for (source, target, _, _) in network.arcs() {
-        if source == *from && target == *to {
+    for node in nodes {
+        if node == goal {
             return place;
         }
         place = place.saturating_add(1);
@@ -240,31 +290,4 @@ fn reduced(arc: &Arc, values: &[i128]) -> i128 {
     i128::from(arc.cost)
         .saturating_add(value_or(values, arc.from, 0))
         .saturating_sub(value_or(values, arc.to, 0))
-}
-
-// Adds to what changes on the arc.
-fn change(changes: &mut [i64], arc: usize, by: i64) {
-    if let Some(there) = changes.get_mut(arc) {
-        *there = there.saturating_add(by);
-    }
-}
-
-// The flow of the units with their changes, if none falls below 0.
-fn changed(
-    alloc: Global,
-    network: &Network,
-    units: &[u64],
-    changes: &[i64],
-) -> Result<Option<Flow>, OutOfMemory> {
-    let mut flow = Flow::new(alloc);
-    let mut place = 0usize;
-    for (from, to, _, _) in network.arcs() {
-        let by = value_or(changes, place, 0);
-        let Some(sent) = value_or(units, place, 0).checked_add_signed(by) else {
-            return Ok(None);
-        };
-        flow.put(from, to, sent)?;
-        place = place.saturating_add(1);
-    }
-    Ok(Some(flow))
 }

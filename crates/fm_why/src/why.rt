@@ -1,13 +1,9 @@
 //! Why a task waits or runs.
 
-ghost use Rattle.std.specs.Prelude.{◌≡◌, ◌↔◌, ◌+◌, ◌<◌, ◌≤◌, ◌^◌, Some, None, IfOk, IfSome, IsTrue, length, option_map, slice_get};
+ghost use Rattle.std.specs.Prelude.{◌≡◌, ◌↔◌, ◌+◌, ◌<◌, ◌≤◌, ◌^◌, Some, None, IfOk, IfSome, IsTrue, length, option_map, slice_get, take};
 ghost use Rattle.std.specs.List.{All};
 ghost use Rattle.fm_records.specs.Facts.{job_of, live_spec, holder_of};
 ghost use Rattle.fm_net.specs.Network.{net_of};
-ghost use Rattle.std.specs.Option.{IsSomeAnd};
-ghost use Rattle.fm_certificate.specs.Built.{IsBuilt};
-ghost use Rattle.fm_certificate.specs.Flows.{units_in};
-ghost use Rattle.fm_why.specs.Examples.{IsExample};
 ghost use Rattle.fm_certificate.specs.Certificates.{IsCertified};
 ghost use Rattle.fm_why.specs.Schedule.{IsSchedule};
 ghost use Rattle.fm_why.specs.Changes.{IsRemedy};
@@ -16,9 +12,9 @@ ghost use Rattle.fm_why.specs.Reasons.{AreChoices, AreReasons};
 use crate::bounds::{Schedule, more_over};
 use crate::changes::remedies_of;
 use crate::choosing::choices_of;
-use crate::example::example_on;
-use crate::feasible::{Aim, has_units};
-use crate::reasons::{Choice, Choices, Example, Reasons, Remedy};
+use crate::example::examples_on;
+use crate::feasible::has_units;
+use crate::reasons::{Choice, Choices, Reasons, Remedy, SHOWN};
 use crate::tuning::Paths;
 use fm_certificate::check::check;
 use fm_certificate::cost::cost;
@@ -37,10 +33,11 @@ use std::alloc::Global;
 
 /// Where the task is by what is known; for a live task that no machine holds, what its schedule costs, how much dearer
 /// each schedule is that runs it on a machine, or leaves it waiting, at least, up to which price of waiting its schedule
-/// stays least, possibly a schedule that runs it on the cheapest machine, and up to two changes of a machine by which it
-/// would run. Refused only if memory runs out. If the task is live and not held, the cost is that of building the network
-/// and of solving it, of shortest paths in it, and of at most two flows that are tried, O(arcs log arcs) each; if it waits,
-/// also that of a tally and of at most two changed clusters that are built and solved. Else it is that of look-ups.
+/// stays least, possibly a schedule that runs it on each of the cheapest machines, `SHOWN` at most, and up to two changes of
+/// a machine by which it would run. Refused only if memory runs out. If the task is live and not held, the cost is that of
+/// building the network and of solving it, and of shortest paths in it. If it waits, it is also that of at most two flows
+/// for each of these machines that are tried, O((nodes + arcs) log nodes) each, of a tally, and of at most two changed
+/// clusters that are built and solved. Else it is that of look-ups.
 pub fn why(alloc: Global, knowledge: &Knowledge, task: TaskId) -> Result<Reasons, OutOfMemory>
     ensures { IfOk result (AreReasons knowledge.now task) }
 {
@@ -88,7 +85,8 @@ fn choices(
     let (from, to) = (Node::Task(task), Node::Unscheduled(spec.job));
     let listed = machines.as_slice();
     let price = price_of(job.wait, listed);
-    let example = example_of(alloc, &network, &schedule, task, spec.request, listed)?;
+    let shown = first_of(listed);
+    let examples = examples_on(alloc, &network, &schedule, task, spec.request, shown)?;
     let waits = has_units(&schedule.flow, &from, &to);
     let remedies = remedies(alloc, knowledge, task, spec.request, listed, waits)?;
     Ok(Choices {
@@ -100,7 +98,7 @@ fn choices(
         machines,
         known: knowledge.machines().len(),
         price,
-        example,
+        examples,
         remedies,
     })
 }
@@ -133,30 +131,14 @@ fn price_of(wait: u32, machines: &[Choice]) -> Option<u128>
     Some(u128::from(wait) + first.dearer)
 }
 
-// A schedule that runs the task on the first of the machines, if it waits now, there is one, and the schedule was found.
-fn example_of(
-    alloc: Global,
-    network: &Network,
-    schedule: &Schedule,
-    task: TaskId,
-    request: u32,
-    machines: &[Choice],
-) -> Result<Option<Example>, OutOfMemory>
-    requires { IsBuilt network.now }
-    ensures { IfOk result (λ found. IfSome found (λ example. IsSomeAnd (slice_get machines.now 0) (λ e.
-        IsExample network.now (units_in schedule.now.flow) task e.machine example))) }
+// The first of the machines, for which examples are looked for.
+fn first_of(machines: &[Choice]) -> &[Choice]
+    ensures { result.now ≡ take SHOWN machines.now }
 {
-    match (&schedule.goal, machines.first()) {
-        (Node::Unscheduled(_), Some(first)) => {
-            let machine = first.machine;
-            let aim = Aim {
-                task,
-                request,
-                machine,
-            };
-            example_on(alloc, network, schedule, &aim)
-        }
-        _ => Ok(None),
+    if machines.len() > SHOWN {
+        &machines[..SHOWN]
+    } else {
+        machines
     }
 }
 
@@ -214,7 +196,7 @@ fn sharpened(
     requires { IsCertified network.now flow.now potentials }
     ensures { IfOk result (IsCertified network.now flow.now) }
 {
-    let tried = paths.tuned(alloc, network)?;
+    let tried = paths.tuned(alloc)?;
     if check(network, flow, &tried) {
         Ok(tried)
     } else {

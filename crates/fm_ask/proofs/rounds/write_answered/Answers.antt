@@ -1,16 +1,11 @@
-use Rattle.std.proofs.Common.{◌≡◌, ◌++◌, ◌⊎◌, ◌∙◌, List, [], ◌∷◌, string_bytes, append-nil, ap, refl, sym, inl, inr}
+use Rattle.std.proofs.Common.{◌++◌, ◌∙◌, string_bytes, append-nil, ap, sym}
 use Rattle.std.proofs.lemmas.Slice.Zip.{either_empty_from_Zip}
 use Rattle.std.specs.Iterator.Adapters.{zip_first, zip_second}
-use Rattle.std.specs.List.{zip}
 use Rattle.std.specs.Slice.Iter.{iter_rest}
 use Rattle.fm_ask.specs.Lines.{lines_of}
 use Rattle.fm_ask.specs.Rounds.{answered_text}
+use Rattle.fm_ask.proofs.Zipped.{none_left}
 use Rattle.fm_ask.proofs.rounds.write_answered.Goals as goal
-
-none_left : {A B : Type 0} (xs : List A) (ys : List B) → (xs ≡ []) ⊎ (ys ≡ []) → zip xs ys ≡ []
-none_left xs ys (inl e) = ap (λ zs. zip zs ys) e
-none_left [] ys (inr e) = refl
-none_left (x ∷ xs) ys (inr e) = ap (zip (x ∷ xs)) e
 
 pub returns-clause-ok : goal.returns-clause-ok
 returns-clause-ok g c =

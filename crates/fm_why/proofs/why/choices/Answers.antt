@@ -1,18 +1,21 @@
-use Rattle.std.proofs.Common.{◌≡◌, ◌∙◌, refl, sym, subst, ap, ℕ, ◌+◌, ◌≤◌, ◌<◌, ◌^◌, map, length, List}
-use Rattle.std.specs.Option.{IsSomeAnd}
-use Rattle.std.specs.Prelude.{IfSome, option_map, slice_get}
-use Rattle.std.specs.List.{All}
+use Rattle.std.proofs.Common.{◌≡◌, ◌∙◌, refl, sym, subst, ap, ℕ, ◌+◌, ◌≤◌, ◌<◌, ◌^◌, map, length, List, arith}
+use Rattle.std.specs.Prelude.{IfSome, min, option_map, slice_get, take}
+use Rattle.std.specs.List.{All, zip}
 use Rattle.std.specs.List.Sorted.{IsPermutation}
 use Rattle.fm_net.specs.declared.node.Node.TheVariants.{Unscheduled, Task}
 use Rattle.fm_net.specs.Net.{Net, CanBeNet}
 use Rattle.fm_net.specs.Network.{net_of}
 use Rattle.fm_certificate.specs.Flows.{units_in, cost_of, IsLeast}
+use Rattle.std.proofs.Math.Nat.{min-le_left}
+use Rattle.std.proofs.lemmas.List.{length-take}
+use Rattle.fm_why.specs.declared.reasons.TheConstants.{SHOWN}
 use Rattle.fm_why.specs.declared.reasons.Choice.{Choice}
 use Rattle.fm_why.specs.Running.{IsDearerOver}
 use Rattle.fm_why.specs.Ways.{IsOnlyRequest, ways_of}
 use Rattle.fm_why.specs.Reasons.{IsChoice}
-use Rattle.fm_why.specs.Examples.{IsExample}
+use Rattle.fm_why.specs.Examples.{IsExampleFor}
 use Rattle.fm_why.proofs.Roomy.{only_request, ways_are_roomy}
+use Rattle.fm_why.proofs.Shown.{zip_take}
 use Rattle.fm_why.proofs.Pricing.{each_roomy, first_within, fits_all, stays_least}
 use Rattle.fm_why.proofs.why.choices.Goals as goal
 
@@ -28,6 +31,9 @@ returns c =
     let spec = c.args.spec in
     let price : c.price_of-price.result ≡ option_map (λ (e : Choice). c.args.job.wait + e.dearer) (slice_get c.in_ok-machines.machines.items 0) =
     c.price_of-price.ensures ∙ ap (λ (es : List Choice). option_map (λ (e : Choice). c.args.job.wait + e.dearer) (slice_get es 0)) c.as_slice-listed.ensures.value in
+    let items = c.in_ok-machines.machines.items in
+    let first : c.first_of-shown.result.now ≡ take SHOWN items = c.first_of-shown.ensures ∙ ap (λ (es : List Choice). take SHOWN es) c.as_slice-listed.ensures.value in
+    let shown : length c.in_ok-examples.examples.items ≡ min SHOWN (length items) = c.in_ok-examples.ensures.all ∙ ap length first ∙ length-take SHOWN items in
     record {
       request = refl;
       wait = rw c.requires.job refl;
@@ -45,13 +51,15 @@ returns c =
       cheapest_first = c.in_ok-machines.ensures.cheapest_first;
       known = c.len.ensures ∙ ap length c.machines.ensures;
       price = price;
-      example =
-          let at = λ (n : Net) (es : List Choice). IfSome c.in_ok-example.example (λ example. IsSomeAnd (slice_get es 0) (λ e. IsExample n (units_in schedule.flow) c.args.task e.machine example)) in
-          subst (at (net_of k)) c.as_slice-listed.ensures.value (subst (λ (n : Net). at n c.as_slice-listed.result.now) is c.in_ok-example.ensures);
+      examples =
+          let found = c.in_ok-examples.examples.items in
+          let at = λ (n : Net) (es : List Choice). All (IsExampleFor n (units_in schedule.flow) c.args.task) (zip es found) in
+          let each = subst (at (net_of k)) first (subst (λ (n : Net). at n c.first_of-shown.result.now) is c.in_ok-examples.ensures.each) in
+          subst (All (IsExampleFor (net_of k) (units_in schedule.flow) c.args.task)) (zip_take SHOWN items found (omega (arith, shown, min-le_left SHOWN (length items)))) each;
+      shown = shown;
       remedies = c.in_ok-remedies.ensures.each;
       few = c.in_ok-remedies.ensures.few;
       stays = λ more within.
-          let items = c.in_ok-machines.machines.items in
           let first = first_within c.args.job.wait more (slice_get items 0) (subst (λ o. IfSome o (λ price. c.args.job.wait + more ≤ price)) price within) in
           let can = subst CanBeNet is c.known.ensures in
           let each = subst (λ (n : Net). All (IsChoice n schedule.least c.args.task spec.request) items) is c.in_ok-machines.ensures.each in
@@ -66,5 +74,5 @@ returns c =
 pub price_of-price-requires : goal.price_of-price-requires
 price_of-price-requires c = subst (All (λ (e : Choice). e.dearer < 2 ^ 111)) (sym c.as_slice-listed.ensures.value) (fits_all c.in_ok-network.network c.in_ok-schedule.schedule.least c.args.task c.args.spec.request c.in_ok-machines.machines.items c.in_ok-machines.ensures.each)
 
-pub example_of-requires : goal.example_of-requires
-example_of-requires c = (c.args.knowledge.now, c.law_can_be.ensures, c.in_ok-network.ensures)
+pub examples_on-requires : goal.examples_on-requires
+examples_on-requires c = (c.args.knowledge.now, c.law_can_be.ensures, c.in_ok-network.ensures)

@@ -1,0 +1,33 @@
+-- Machines, each beside what was found for it.
+use Rattle.std.proofs.Common.{◌≡◌, ◌∙◌, ◌++◌, ◌≤◌, ap, refl, sym, subst, ℕ, suc, zero, List, [], ◌∷◌, Some, length, arith}
+use Rattle.std.specs.Prelude.{slice_get, take}
+use Rattle.std.specs.List.{All, zip}
+use Rattle.std.proofs.lemmas.List.Elements.{All-nil, All-push}
+
+zip_none : {A B : Type 0} (xs : List A) (ys : List B) → ys ≡ [] → zip xs ys ≡ []
+zip_none [] ys none = refl
+zip_none (x ∷ xs) ys none = ap (zip (x ∷ xs)) none
+
+-- what is found for the next one is the last pair
+zip_next : {A B : Type 0} (xs : List A) (ys : List B) (a : A) (b : B) → slice_get xs (length ys) ≡ Some a → zip xs (ys ++ b ∷ []) ≡ zip xs ys ++ (a, b) ∷ []
+zip_next [] ys a b at = absurd (let no : ⊥ = cc in no)
+zip_next (x ∷ xs) [] a b at = let same : x ≡ a = cc in ap (λ y. (y, b) ∷ zip xs []) same ∙ ap (λ ps. (a, b) ∷ ps) (zip_none xs [] refl)
+zip_next (x ∷ xs) (c ∷ ys) a b at = ap (λ ps. (x, c) ∷ ps) (zip_next xs ys a b at)
+
+-- nothing was found yet
+pub all_none : {A B : Type 0} (P : A × B → Type 0) (xs : List A) (ys : List B) → ys ≡ [] → All P (zip xs ys)
+all_none P xs ys none = subst (All P) (sym (zip_none xs ys none)) (All-nil P)
+
+-- what holds of each pair holds with one more
+pub all_next : {A B : Type 0} (P : A × B → Type 0) (xs : List A) (ys : List B) (a : A) (b : B) → slice_get xs (length ys) ≡ Some a → All P (zip xs ys) → P (a, b)
+    → All P (zip xs (ys ++ b ∷ []))
+all_next P xs ys a b at all p = subst (All P) (sym (zip_next xs ys a b at)) (All-push P (zip xs ys) (a, b) all p)
+
+-- the others have none
+pub zip_take : {A B : Type 0} (n : ℕ) (xs : List A) (ys : List B) → length ys ≤ n → zip (take n xs) ys ≡ zip xs ys
+zip_take zero [] ys le = refl
+zip_take (suc n) [] ys le = refl
+zip_take zero (a ∷ xs) [] le = refl
+zip_take (suc n) (a ∷ xs) [] le = refl
+zip_take zero (a ∷ xs) (b ∷ ys) le = absurd (omega (arith, le))
+zip_take (suc n) (a ∷ xs) (b ∷ ys) le = ap (λ ps. (a, b) ∷ ps) (zip_take n xs ys (omega (arith, le)))
