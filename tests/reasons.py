@@ -1,7 +1,8 @@
 """Tests of `firmament why`: each text is worked out again. That the bounds are never above what the cheapest schedule with the task
-there costs more is proved; that they are equal to it is proved where the text says "exactly", and else tested alone. That cost comes
-from the solver of tests/witness.py, which is made to send the task there, and for clusters of few tasks from all schedules, one by one
-(tests/schedules.py). Each change by which a task is said to run is told, and the cluster that comes of it is worked out in the same way."""
+there costs more is proved; that they are equal to it is proved where the text says "exactly", and else tested alone. That it says so of
+each listed machine of a task that waits is tested here. That cost comes from the solver of tests/witness.py, which is made to send the
+task there, and for clusters of few tasks from all schedules, one by one (tests/schedules.py). Each change by which a task is said to run
+is told, and the cluster that comes of it is worked out in the same way."""
 import collections
 import json
 import pathlib
@@ -23,6 +24,9 @@ EXAMPLE = re.compile(r"(?<= for all others\n)a schedule that runs it on machine 
 MOVE = re.compile(r"in it task (\S+) (?:(waits)|(goes over its request of \d+)|runs on machine (\S+))\n")
 REMEDY = re.compile(r"with (?:1 more slot|(\d+) more bandwidth) on machine (\S+) it would run (?:there|on machine (\S+)): "
                     r"the schedule then costs (\d+), and none costs less\n")
+CHOICE = re.compile(r"on machine (\S+) it costs \d+, and (?:the cheapest schedule .* costs (exactly)|each schedule .* at least) (\d+) more"
+                    r"(?:; one was found that costs (\d+) more)?\n")
+BEHIND = re.compile(r"\non machine .*(?=\non machine .* costs exactly \d+ more\n)")
 AHEAD = re.compile(r"\Atask .* waits.*\nthis schedule costs .*\n(?:it stays least .*\n)?\Z")
 MOST_LINES, SHOWN, UNKNOWN, MOST_SLOTS, MOST_NIC = 20, 5, 7, 1000, 10 ** 6
 THEORY = "by potentials that certify the schedule: what is sent over an empty arc costs at least its reduced cost more"
@@ -50,9 +54,8 @@ def lines_of(facts, waits, known):
     yield "this schedule costs %d, and none costs less" % facts.least
     if waits and places:
         yield "it stays least while the price of waiting is %d or less for this task, and as it is for all others" % (facts.wait + places[0][0])
-    for place, (more, name, cost) in enumerate(places[:SHOWN]):
-        is_exact = waits and place == 0
-        how = "the cheapest schedule that runs it there costs exactly" if is_exact else "each schedule that runs it there costs at least"
+    how = "the cheapest schedule that runs it there costs exactly" if waits else "each schedule that runs it there costs at least"
+    for more, name, cost in places[:SHOWN]:
         yield "on machine %s it costs %d, and %s %d more" % (name, cost, how, more)
     if places[SHOWN:]:
         yield "on each of %d other machines with room at least %d more" % (len(places) - SHOWN, places[SHOWN][0])
@@ -237,7 +240,9 @@ def explained(name, run, script, few=None):
 
 
 def enumerated(run, seeds):
-    """What is said of the tasks of small clusters, and of one that none of them knows, against all schedules."""
+    """What is said of the tasks of small clusters, and of one that none of them knows, against all schedules. It is counted how often the
+    text says "exactly" of a machine behind the first."""
+    behind = 0
     for seed in seeds:
         steps, tasks = schedules.few(seed)
         known, script = schedules.known(steps), schedules.script_of(steps)
@@ -248,14 +253,51 @@ def enumerated(run, seeds):
             return Facts(reference.name(task), known.specs[task][4], known.jobs[known.specs[task][3]][3], found.least, places)
 
         def wrong_for(task):
-            text = run("why", script, reference.name(task))
+            text = told[task]
             wrong = wrong_of(text, texts(known, task, facts_of))
             is_free = known.is_live(task) and known.holder(task) is None
             return wrong or (wrong_changes(taken, task, text, places_by_schedules) if is_free else None)
 
         taken = {reference.operation(*next(iter(step.items()))) for step in steps}
-        wrong = [wrong_for(task) for task in tasks + [UNKNOWN]]
+        told = {task: run("why", script, reference.name(task)) for task in tasks + [UNKNOWN]}
+        wrong = [wrong_for(task) for task in told]
+        behind += sum(len(BEHIND.findall(text)) for text in told.values())
         yield "reasons in all %d schedules of %d: %s" % (found.count, seed, list(filter(None, wrong)) or "so"), not any(wrong)
+    yield "%d machines behind the first have an exact bound" % behind, behind > 0
+
+
+def chained(links):
+    """A task that waits, and a chain of tasks: each runs on one machine, and would run on the next one for the same, which the next task
+    has. The last machine is free and dear. So a schedule that runs the waiting task on the first machine moves all of the chain."""
+    first, last, waiting = 100, 100 + links, 99
+    jobs = [("job", {"id": drawn.unique(job), "version": 1, "writer": 1, "withdrawn": False, "wait": wait, "preempt": wait})
+            for job, wait in ((1, 100), (2, 60))]
+    machines = [("machine", {"id": drawn.unique(machine), "incarnation": 1, "version": 1, "writer": 1, "up": True, "slots": 1, "nic": 2000})
+                for machine in range(first, last + 1)]
+    report = ("report", {"id": drawn.unique(last), "incarnation": 1, "number": 1, "used": 1000})
+    tasks = [("spec", {"id": drawn.unique(task), "version": 1, "writer": 1, "withdrawn": False, "job": drawn.unique(1), "request": 50,
+                       "prefer": [{"machine": drawn.unique(machine), "credit": 1000 if machine == last else 30}
+                                  for machine in (task, task + 1)]})
+             for task in range(first, last)]
+    spec = ("spec", {"id": drawn.unique(waiting), "version": 1, "writer": 1, "withdrawn": False, "job": drawn.unique(2), "request": 50})
+    told = jobs + machines + [report] + tasks + [spec]
+    return json.dumps({"coordinators": [1], "steps": [{"at": 1, "tell": {kind: fields}} for kind, fields in told]}).encode(), waiting
+
+
+def far(run, links):
+    """What is said of a task if a cheapest schedule with it moves more tasks than the search for ways gets to, which ends after 64 turns. The
+    bounds hold all the same, and what was found costs no less than a cheapest schedule."""
+    script, waiting = chained(links)
+    network = networks.read_dump(run("graph", script))
+    task = next(node for node in network.of_kind("T") if network.nodes[node].name == reference.name(waiting))
+    least, ways = witness.least_cost(*whys.problem(network)), whys.routes(network, task)
+    lines = CHOICE.findall(run("why", script, reference.name(waiting)))
+    for machine, exact, bound, found in lines:
+        more = min(whys.forced(network, way) for way in ways[machine]) - least
+        most = bound if exact else found or more
+        yield "a chain of %d to machine ..%s costs %d more" % (links, machine[-3:], more), int(bound) <= more <= int(most)
+    beyond = sum(found != "" for _, _, _, found in lines)
+    yield "%d of %d schedules cost more than the bound" % (beyond, len(lines)), len(lines) == SHOWN and beyond > 0
 
 
 def all_tests(run):
@@ -265,3 +307,4 @@ def all_tests(run):
     for seed in range(20):
         yield from explained("contended %d" % seed, run, drawn.contended(seed).encode())
     yield from enumerated(run, range(60))
+    yield from far(run, 100)
