@@ -1,29 +1,18 @@
-//! The program `firmament`: runs a script on a world of coordinators, and writes what is asked for.
+//! The program `firmament`: a process around one run of `fm_serve`.
 #![tactic(auto)]
 
-mod answer;
-mod ending;
-mod fault;
-mod fleet;
-mod progress;
-mod refusals;
-mod respond;
-mod run;
-mod serve;
-mod watch;
-
-use ending::Ending;
-use fault::Fault;
 use fm_dimacs::out::Over;
 use fm_records::refusal::Refusal;
+use fm_serve::ending::Ending;
+use fm_serve::fault::Fault;
+use fm_serve::progress::Progress;
+use fm_serve::serve::serve;
+use fm_serve::watch::serve_watched;
 use fm_streams::source::Input;
-use progress::Progress;
-use serve::serve;
 use std::alloc::Global;
 use std::io::{BufReader, IsTerminal};
 use std::process::ExitCode;
 use std::{env, io};
-use watch::serve_watched;
 
 fn main(rt: HostRuntime) -> ExitCode {
     let alloc = rt.alloc();

@@ -21,8 +21,8 @@ use Rattle.fm_tally.specs.declared.tally.LiveTask.{LiveTask}
 use Rattle.fm_tally.specs.declared.tally.OpenMachine.{OpenMachine}
 use Rattle.fm_tally.specs.declared.tally.Tally.{Tally}
 use Rattle.fm_tally.specs.Tallies.{has_any, task_at, TallyIsFor}
-use Rattle.fm_ways.specs.declared.way.Way.{Way}
-use Rattle.fm_ways.specs.declared.way.Way.TheVariants.{ToJob, ByRequest, Straight}
+use Rattle.fm_tally.specs.declared.way.Way.{Way}
+use Rattle.fm_tally.specs.declared.way.Way.TheVariants.{ToJob, ByRequest, Straight}
 use Rattle.fm_ways.specs.Ways.{MayGo, ways_of, goes_by, takes_slot}
 use Rattle.fm_ways.specs.Prices.{first_node, arc_cost, cost_beyond, cost_from, AreFair}
 use Rattle.fm_ways.specs.Plans.{InTurn, all_at_jobs}
@@ -30,9 +30,9 @@ use Rattle.fm_ways.specs.Moves.{rest_at, rest, ways_with, AreMoves, FitMoves}
 use Rattle.fm_ways.proofs.Moves.{asked_count, slot_count}
 use Rattle.fm_ways.proofs.Stands.{live_job}
 use Rattle.fm_ways.proofs.Fair.{waits_spec, not_held}
-use Rattle.fm_planner.specs.declared.claim.Claim.{Claim}
+use Rattle.fm_search.specs.declared.claim.Claim.{Claim}
 use Rattle.fm_planner.specs.declared.counts.Counts.{Counts}
-use Rattle.fm_planner.specs.Claims.{rise_of, price_of, offer_of}
+use Rattle.fm_search.specs.Claims.{rise_of, price_of, offer_of}
 use Rattle.fm_planner.specs.Counts.{AreCounts}
 use Rattle.fm_planner.specs.Checks.{IsFairAtRest, IsFairTask, load_in, straight_cost, own_cost, IsNoCheaper, Leaves, Asks, GoesStraight, IsFairMove, IsFairOffer, IsFairMachine, Passes, fits}
 use Rattle.fm_planner.proofs.Lists.{all_at, counted_member}

@@ -9,8 +9,8 @@ use Rattle.std.specs.Map.{lookup as found_in}
 use Rattle.fm_lattice.specs.Chains.{by_cases, nat_same}
 use Rattle.fm_lattice.specs.Maps.{IsBelow, IsRising}
 use Rattle.fm_records.specs.Sets.{IsMember}
-use Rattle.fm_ways.specs.declared.way.Way.{Way}
-use Rattle.fm_ways.specs.declared.way.Way.TheVariants.{ToJob, ByRequest, Straight}
+use Rattle.fm_tally.specs.declared.way.Way.{Way}
+use Rattle.fm_tally.specs.declared.way.Way.TheVariants.{ToJob, ByRequest, Straight}
 use Rattle.fm_planner.specs.Checks.{after_move, IsNext, GoInTurn}
 
 below_of : (k : ℕ) (e : ℕ × Way) (es : List (ℕ × Way)) → IsBelow nat_cmp k es → IsMember e es → k < e.0

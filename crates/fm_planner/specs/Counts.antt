@@ -6,8 +6,8 @@ use Rattle.std.specs.BTreeMap.{BTreeMap, get}
 use Rattle.fm_records.specs.Orders.{attempt_cmp}
 use Rattle.fm_records.specs.Table.{Table}
 use Rattle.fm_records.specs.Facts.{holds}
-use Rattle.fm_ways.specs.declared.way.Way.{Way}
-use Rattle.fm_ways.specs.declared.way.Way.TheVariants.{ToJob, ByRequest, Straight}
+use Rattle.fm_tally.specs.declared.way.Way.{Way}
+use Rattle.fm_tally.specs.declared.way.Way.TheVariants.{ToJob, ByRequest, Straight}
 use Rattle.fm_ways.specs.Ways.{goes_by, takes_slot}
 use Rattle.fm_planner.specs.declared.counts.Counts.{Counts}
 

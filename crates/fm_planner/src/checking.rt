@@ -4,17 +4,17 @@
 ghost use Rattle.std.specs.Prelude.{◌≡◌, ◌≤◌, ◌<◌, ◌+◌, ◌↔◌, ℕ, None, IsTrue, IfOk, IfSome, OnOk};
 ghost use Rattle.std.specs.Ordering.{nat_cmp};
 ghost use Rattle.std.specs.BTreeMap.{get};
-ghost use Rattle.fm_planner.specs.Claims.{rise_of, offer_of};
+ghost use Rattle.fm_search.specs.Claims.{rise_of, offer_of};
 ghost use Rattle.fm_planner.specs.Checks.{AllOf, IsFairTask, IsFairMove, IsFairMachine, IsFairOffer, IsTop, IsFairAtRest, IsPreferredFairly, IsNoCheaper, HasRoom, GoesStraight, own_cost, straight_cost, load_in, HasFairSlots, HasMoreRoom, Leaves, Asks, GoInTurn, IsNext, after_move, fits, Passes};
 
-use crate::claim::Claim;
 use crate::counts::Counts;
 use fm_know::knowledge::Knowledge;
 use fm_lattice::join::OutOfMemory;
 use fm_records::ids::{JobId, MachineId, TaskId};
 use fm_records::prefer::Prefer;
+use fm_search::claim::Claim;
 use fm_tally::tally::{LiveTask, OpenMachine, Tally};
-use fm_ways::way::Way;
+use fm_tally::way::Way;
 use std::alloc::Global;
 use std::collections::BTreeMap;
 

@@ -9,7 +9,7 @@ use fm_know::knowledge::Knowledge;
 use fm_lattice::chain::Chain;
 use fm_lattice::join::OutOfMemory;
 use fm_records::ids::{MachineId, TaskId};
-use fm_ways::way::Way;
+use fm_tally::way::Way;
 use std::alloc::Global;
 use std::collections::BTreeMap;
 

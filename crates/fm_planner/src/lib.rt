@@ -1,19 +1,8 @@
-//! Plans of what is known from a tally of it: no network is built.
+//! Plans of what is known from a tally of it: no network is built. The plan is that of a claim (`fm_search`) which passes a check.
 #![tactic(auto)]
 
-mod bits;
-mod board;
 mod checking;
-mod claim;
 mod counts;
-mod exits;
 mod making;
-mod numbers;
-mod paths;
 pub mod planned;
 pub mod planner;
-mod prices;
-mod search;
-mod setup;
-mod tree;
-mod waiting;

@@ -13,7 +13,7 @@ use fm_lattice::join::OutOfMemory;
 use fm_records::ids::{MachineId, TaskId};
 use fm_round::listed::Listed;
 use fm_round::parts::{Place, Plan, Preempt};
-use fm_ways::way::Way;
+use fm_tally::way::Way;
 use std::alloc::Global;
 
 /// The plan of the moves. O(n log n).

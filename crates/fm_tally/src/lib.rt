@@ -6,4 +6,5 @@ mod holdings;
 pub mod sorted;
 pub mod tally;
 pub mod unfinished;
+pub mod way;
 pub mod winners;

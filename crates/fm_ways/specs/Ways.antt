@@ -2,8 +2,8 @@
 -- ways go over it. Textbook: the decomposition of a flow into paths.
 use Rattle.std.specs.Prelude.{◌≡◌, ℕ, ◌≤◌, ◌==◌, ◌&&◌, Bool, false, List, [], ◌∷◌, Some, IsTrue, count_by, flat_map}
 use Rattle.std.specs.List.{filter_map}
-pub use Rattle.fm_ways.specs.declared.way.Way.{Way}
-pub use Rattle.fm_ways.specs.declared.way.Way.TheVariants.{ToJob, ByRequest, Straight}
+pub use Rattle.fm_tally.specs.declared.way.Way.{Way}
+pub use Rattle.fm_tally.specs.declared.way.Way.TheVariants.{ToJob, ByRequest, Straight}
 use Rattle.fm_records.specs.declared.records.MachineReg.{MachineReg}
 use Rattle.fm_records.specs.Options.{when}
 use Rattle.fm_records.specs.Table.{Table}

@@ -1,0 +1,15 @@
+//! A search for a plan of a least flow, from a tally. Nothing is proved of its result but that it is safe and ends: whoever uses a
+//! claim checks it first.
+#![tactic(auto)]
+
+mod bits;
+mod board;
+pub mod claim;
+mod exits;
+mod numbers;
+mod paths;
+mod prices;
+pub mod search;
+mod setup;
+mod tree;
+mod waiting;

@@ -1,0 +1,99 @@
+-- What a command answers to a text, and why it does not (this project's profile).
+use Rattle.std.specs.Prelude.{◌≡◌, ◌⊎◌, ℕ, List, cond, option_map, position, Option, Some, None, Result, Ok, Err}
+use Rattle.fm_records.specs.declared.refusal.Refusal.{Refusal}
+use Rattle.fm_records.specs.declared.refusal.Refusal.TheVariants.{OutOfMemory, NoPacket}
+use Rattle.fm_world.specs.Worlds.{WorldOfSets}
+use Rattle.fm_input.specs.declared.script.Step.{Step}
+use Rattle.fm_input.specs.Script.{is_text}
+use Rattle.fm_input.specs.Texts.{Spells, SpellsNone}
+use Rattle.fm_ask.specs.declared.query.Query.{Query}
+use Rattle.fm_ask.specs.declared.query.Query.TheVariants as query
+use Rattle.fm_ask.specs.Queries.{IsText, differs_in, Lacks}
+use Rattle.fm_ask.specs.Unpacked.{IsUnpacked, IsNotUnpacked}
+use Rattle.fm_words.specs.declared.words.Question.{Question}
+use Rattle.fm_words.specs.declared.words.Question.TheVariants as question
+use Rattle.fm_words.specs.Telling.{Asked, ask, agree, pack, unpack, why}
+use Rattle.fm_serve.specs.declared.fault.Fault.{Fault}
+use Rattle.fm_serve.specs.declared.ending.Ending.{Ending}
+use Rattle.fm_serve.specs.declared.ending.Ending.TheVariants.{Done, Differ}
+use Rattle.fm_serve.specs.Faults.{fault_of, script_fault_of}
+use Rattle.fm_serve.specs.Endings.{coordinator_asked}
+use Rattle.fm_opening.specs.Openings.{new_world}
+use Rattle.fm_serve.specs.Running.{Come, Stops, After}
+
+-- the text was not read as a script, and why
+pub record IsNoScript (text : List ℕ) (fault : Fault) : Type 0 where
+  pub refusal : Refusal
+  pub named : fault ≡ script_fault_of refusal
+  pub cause : SpellsNone text refusal
+
+-- the question about the coordinator of the number
+abbrev pub query_at : Question → ℕ → Query
+query_at question.Graph n = query.Graph n
+query_at question.Solve n = query.Solve n
+query_at question.Plan n = query.Plan n
+query_at question.Winners n = query.Winners n
+
+abbrev pub query_about : Question → Result ℕ Fault → Result (Option Query) Fault
+query_about q (Ok n) = Ok (Some (query_at q n))
+query_about q (Err fault) = Err fault
+
+-- why the task waits or runs, by what a coordinator knows
+abbrev pub why_about : ℕ → Result ℕ Fault → Result (Option Query) Fault
+why_about task (Ok n) = Ok (Some (query.Why n task))
+why_about task (Err fault) = Err fault
+
+-- the query of a command, for a script of these coordinators and names of packets: none if no packet has the name,
+-- and a fault if the coordinator that is asked is not listed
+abbrev pub query_of : Asked → List ℕ → List (List ℕ) → Result (Option Query) Fault
+query_of (ask q at) listed names = query_about q (coordinator_asked listed at)
+query_of agree listed names = Ok (Some query.Agree)
+query_of (pack name) listed names = Ok (option_map query.Packet (position (is_text name) names))
+query_of unpack listed names = Ok None
+query_of (why task at) listed names = why_about task (coordinator_asked listed at)
+
+-- the output is the world's text for the query, and the ending says whether coordinators know different things
+abbrev pub AnswersIn : Option Query → WorldOfSets → Ending → List ℕ → Type 0
+AnswersIn None w ending output = ⊥
+AnswersIn (Some q) w ending output = (ending ≡ cond (differs_in q w) Differ Done) × IsText q w output
+
+-- the steps of the text's script led to a world that answers the command so
+pub record IsOfScript (c : Asked) (text : List ℕ) (ending : Ending) (output : List ℕ) : Type 0 where
+  pub listed : List ℕ
+  pub names : List (List ℕ)
+  pub steps : List Step
+  pub spelled : Spells text listed names steps
+  pub query : Option Query
+  pub asked : query_of c listed names ≡ Ok query
+  pub world : WorldOfSets
+  pub came : Come (new_world listed) steps world
+  pub answered : AnswersIn query world ending output
+
+-- the complete output of the command for the text, and the ending; `unpack` reads no script
+abbrev pub Wants : Asked → List ℕ → Ending → List ℕ → Type 0
+Wants unpack text ending output = (ending ≡ Done) × IsUnpacked text output
+Wants c text ending output = IsOfScript c text ending output
+
+-- what is asked for is not there once the steps ran
+abbrev pub LacksIn : Option Query → WorldOfSets → Fault → Type 0
+LacksIn None w fault = fault ≡ fault_of NoPacket
+LacksIn (Some q) w fault = (refusal : Refusal) × Lacks q w refusal × (fault ≡ fault_of refusal)
+
+-- the first cause why a script has no answer: the coordinator that is asked is not listed; else a step is refused; else
+-- what is asked for is not there
+abbrev pub StopsFor : Result (Option Query) Fault → List ℕ → List Step → Fault → Type 0
+StopsFor (Err unlisted) listed steps fault = fault ≡ unlisted
+StopsFor (Ok query) listed steps fault = Stops listed steps fault ⊎ After listed steps (λ w. LacksIn query w fault)
+
+-- the text spells a script that has no answer to the command
+pub record IsStopped (c : Asked) (text : List ℕ) (fault : Fault) : Type 0 where
+  pub listed : List ℕ
+  pub names : List (List ℕ)
+  pub steps : List Step
+  pub spelled : Spells text listed names steps
+  pub cause : StopsFor (query_of c listed names) listed steps fault
+
+-- why the command has no answer to the text
+abbrev pub IsRefused : Asked → List ℕ → Fault → Type 0
+IsRefused unpack text fault = (refusal : Refusal) × (fault ≡ fault_of refusal) × IsNotUnpacked text refusal
+IsRefused c text fault = (fault ≡ fault_of OutOfMemory) ⊎ (IsNoScript text fault ⊎ IsStopped c text fault)

@@ -1,0 +1,193 @@
+//! What a command answers to a text.
+
+ghost use Rattle.std.specs.Prelude.{◌≡◌, ◌⊎◌, cond, Ok, IfOk, IfErr, Some};
+ghost use Rattle.fm_coord.specs.Numbers.{AreDistinct};
+ghost use Rattle.fm_ask.specs.Queries.{ForEachWorld};
+ghost use Rattle.fm_input.specs.Texts.{Spells};
+ghost use Rattle.fm_records.specs.declared.refusal.Refusal.TheVariants as refused;
+ghost use Rattle.fm_words.specs.Telling.{asked_of};
+ghost use Rattle.fm_words.specs.Telling as told;
+ghost use Rattle.fm_serve.specs.declared.ending.Ending.TheVariants as ending;
+ghost use Rattle.fm_serve.specs.Answers.{IsNoScript, AnswersIn, LacksIn, IsOfScript, IsStopped, Wants, IsRefused, query_at, query_of};
+ghost use Rattle.fm_serve.specs.Endings.{coordinator_asked};
+ghost use Rattle.fm_serve.specs.Faults.{fault_of};
+
+use crate::ending::Ending;
+use crate::fault::Fault;
+use crate::progress::Progress;
+use crate::respond::Answered;
+use crate::run::run;
+use fm_ask::query::{Query, ask};
+use fm_ask::unpack::unpack;
+use fm_edit::keepers::Keeper;
+use fm_input::reading::read_script;
+use fm_input::script::Script;
+use fm_records::ids::{CoordId, TaskId};
+use fm_records::refusal::Refusal;
+use fm_words::words::{Command, Question};
+use fm_world::world::World;
+use std::alloc::Global;
+
+/// What the command answers to the text. Refused if the text, the coordinator that is asked, a step or what is asked
+/// for is at fault, the first of these, or if memory runs out.
+pub fn answer(
+    alloc: Global,
+    progress: &Progress,
+    command: Command,
+    text: &[u8],
+) -> Result<Answered, Fault>
+    ensures ok { IfOk result (λ a. Wants (asked_of command.entry) text.now a.ending a.output.items) }
+    ensures err { IfErr result (λ fault. IsRefused (asked_of command.entry) text.now fault) }
+{
+    match command {
+        Command::Unpack => unpacked(alloc, text),
+        Command::Ask { .. } | Command::Agree | Command::Pack { .. } | Command::Why { .. } => {
+            answer_script(alloc, progress, command, text)
+        }
+    }
+}
+
+// The lines of the packet that the text spells.
+fn unpacked(alloc: Global, text: &[u8]) -> Result<Answered, Fault>
+    ensures ok { IfOk result (λ a. Wants told.unpack text.now a.ending a.output.items) }
+    ensures err { IfErr result (λ fault. IsRefused told.unpack text.now fault) }
+{
+    match unpack(alloc, text) {
+        Ok(lines) => Ok(Answered {
+            ending: Ending::Done,
+            output: lines.into_bytes(),
+        }),
+        Err(refusal) => Err(Fault::from(refusal)),
+    }
+}
+
+// What the script's world answers once its steps ran.
+fn answer_script(
+    alloc: Global,
+    progress: &Progress,
+    command: Command,
+    text: &[u8],
+) -> Result<Answered, Fault>
+    ensures ok { IfOk result (λ a. IsOfScript (asked_of command.entry) text.now a.ending a.output.items) }
+    ensures err { IfErr result (λ fault. (fault ≡ fault_of refused.OutOfMemory)
+        ⊎ (IsNoScript text.now fault ⊎ IsStopped (asked_of command.entry) text.now fault)) }
+{
+    let script = match script_in(alloc, text) {
+        Ok(script) => script,
+        Err(fault) => return Err(fault),
+    };
+    let query = match query_of(command, &script) {
+        Ok(query) => query,
+        Err(fault) => return Err(fault),
+    };
+    let mut world = match run(alloc, progress, &script) {
+        Ok(world) => world,
+        Err(fault) => return Err(fault),
+    };
+    reply(alloc, &mut world, query)
+}
+
+// What the world answers to the query. NoPacket if there is none, since no packet has the name.
+fn reply(alloc: Global, world: &mut World<Keeper>, query: Option<Query>) -> Result<Answered, Fault>
+    ensures ok { ForEachWorld world.old (λ w. IfOk result (λ a. AnswersIn query w a.ending a.output.items)) }
+    ensures err { ForEachWorld world.old (λ w. IfErr result (λ fault.
+        (fault ≡ fault_of refused.OutOfMemory) ⊎ LacksIn query w fault)) }
+{
+    let Some(query) = query else {
+        return Err(Fault::from(Refusal::NoPacket));
+    };
+    match ask(alloc, world, query) {
+        Ok(answer) => Ok(Answered {
+            ending: ending_of(answer.differs),
+            output: answer.text,
+        }),
+        Err(refusal) => Err(Fault::from(refusal)),
+    }
+}
+
+// How a run with an answer ends.
+fn ending_of(differs: bool) -> Ending
+    ensures { result ≡ cond differs ending.Differ ending.Done }
+{
+    if differs {
+        Ending::Differ
+    } else {
+        Ending::Done
+    }
+}
+
+// The query of the command: none if no packet has the name. NoCoordinator if the coordinator that is asked is not
+// listed.
+fn query_of(command: Command, script: &Script) -> Result<Option<Query>, Fault>
+    ensures { result ≡ query_of (asked_of command.entry) script.now.coordinators.items script.now.names }
+{
+    match command {
+        Command::Ask { question, at } => match asked(&script.coordinators, at) {
+            Ok(number) => Ok(Some(query_at(question, number))),
+            Err(fault) => Err(fault),
+        },
+        Command::Agree => Ok(Some(Query::Agree)),
+        Command::Pack { name } => match script.names.place(name) {
+            Some(place) => Ok(Some(Query::Packet(place))),
+            None => Ok(None),
+        },
+        Command::Unpack => Ok(None),
+        Command::Why { task, at } => match asked(&script.coordinators, at) {
+            Ok(number) => Ok(Some(Query::Why(number, TaskId::new(task)))),
+            Err(fault) => Err(fault),
+        },
+    }
+}
+
+// The question about the coordinator.
+fn query_at(question: Question, at: CoordId) -> Query
+    ensures { result ≡ query_at question at }
+{
+    match question {
+        Question::Graph => Query::Graph(at),
+        Question::Solve => Query::Solve(at),
+        Question::Plan => Query::Plan(at),
+        Question::Winners => Query::Winners(at),
+    }
+}
+
+// The script that the text spells.
+fn script_in(alloc: Global, text: &[u8]) -> Result<Script, Fault>
+    ensures distinct { IfOk result (λ script. AreDistinct script.coordinators.items) }
+    ensures spelled { IfOk result (λ s. Spells text.now s.coordinators.items s.names s.steps.items) }
+    ensures unread { IfErr result (λ fault. IsNoScript text.now fault) }
+{
+    match read_script(alloc, text) {
+        Ok(script) => Ok(script),
+        Err(refusal) => Err(Fault::of_script(refusal)),
+    }
+}
+
+// The coordinator that is asked: the one named, or else the first that the script lists.
+fn asked(listed: &[CoordId], at: Option<u8>) -> Result<CoordId, Fault>
+    ensures { result ≡ coordinator_asked listed.now at }
+{
+    match at {
+        Some(number) => named(listed, number),
+        None => match listed {
+            [first, ..] => Ok(*first),
+            [] => Err(Fault::from(Refusal::NoCoordinator)),
+        },
+    }
+}
+
+// The coordinator with the number.
+fn named(listed: &[CoordId], number: u8) -> Result<CoordId, Fault>
+    ensures { result ≡ coordinator_asked listed.now (Some number) }
+{
+    match listed.split_first() {
+        None => Err(Fault::from(Refusal::NoCoordinator)),
+        Some((first, rest)) => {
+            if first.value() == number {
+                Ok(*first)
+            } else {
+                named(rest, number)
+            }
+        }
+    }
+}

@@ -1,0 +1,14 @@
+//! One run of the program `firmament`, as a library: from the words of a command line and the bytes of an input to what is written
+//! and how the run ends. `fm_cli` gives it the words, the input and the output of a process.
+#![tactic(auto)]
+
+pub mod answer;
+pub mod ending;
+pub mod fault;
+pub mod fleet;
+pub mod progress;
+mod refusals;
+pub mod respond;
+pub mod run;
+pub mod serve;
+pub mod watch;

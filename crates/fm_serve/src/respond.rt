@@ -1,0 +1,114 @@
+//! What the program answers to its words and its input.
+
+ghost use Rattle.std.specs.Prelude.{◌≡◌, []};
+ghost use Rattle.fm_words.specs.Telling.{asked_of, told_of, Telling};
+ghost use Rattle.fm_words.specs.Telling as told;
+ghost use Rattle.fm_serve.specs.declared.ending.Ending.TheVariants as ending;
+ghost use Rattle.fm_serve.specs.Responses.{Responds};
+
+use crate::answer::answer;
+use crate::ending::Ending;
+use crate::fault::Fault;
+use crate::fleet::count_fleet;
+use crate::progress::Progress;
+use crate::refusals::REFUSALS;
+use fm_records::refusal::Refusal;
+use fm_words::words::{Command, Words};
+use std::alloc::Global;
+use std::sync::Wait;
+use std::thread::Threads;
+
+/// The complete output of a run, and how it then ends.
+#[derive(Debug, Drop)]
+pub struct Answered {
+    pub ending: Ending,
+    pub output: Vec<u8>,
+}
+
+impl Answered {
+    // The run was stopped: nothing goes out.
+    fn stopped(alloc: Global, fault: Fault) -> Answered
+        ensures ending { result.ending ≡ ending.Stopped fault }
+        ensures output { result.output.items ≡ [] }
+    {
+        Answered {
+            ending: Ending::Stopped(fault),
+            output: Vec::new(alloc),
+        }
+    }
+}
+
+/// The program's answer to its words and to the text of its input, which only a command or a fleet uses: the complete
+/// output, and how the run then ends. It reads and writes nothing. Faults are found in this order: the text, the
+/// coordinator that is asked, the steps in order, the name of a packet. A run that is stopped has no output. Only a
+/// fleet starts threads, and waits for them. A stream has no answer here: `serve` follows it line by line. Progress
+/// is counted as the run goes on; no answer depends on it.
+pub fn respond<T: Threads + Wait + Sync>(
+    rt: &T,
+    alloc: Global,
+    progress: &Progress,
+    words: Words,
+    text: &[u8],
+) -> Answered
+    ensures { Responds (told_of words.entry) text.now result.ending result.output.items }
+{
+    match words {
+        Words::Run(command) => run_command(alloc, progress, command, text),
+        Words::Fleet { rounds } => run_fleet(rt, alloc, progress, rounds, text),
+        Words::Follow { .. } => Answered {
+            ending: Ending::Done,
+            output: Vec::new(alloc),
+        },
+        Words::Help(page) => Answered {
+            ending: Ending::Done,
+            output: page.into_bytes(),
+        },
+        Words::Refusals => refusals_page(alloc),
+        Words::Wrong(said) => Answered {
+            ending: Ending::Wrong(said),
+            output: Vec::new(alloc),
+        },
+    }
+}
+
+// What a command answers to the text.
+fn run_command(alloc: Global, progress: &Progress, command: Command, text: &[u8]) -> Answered
+    ensures { Responds (told.run (asked_of command.entry)) text.now result.ending result.output.items }
+{
+    match answer(alloc, progress, command, text) {
+        Ok(answered) => answered,
+        Err(fault) => Answered::stopped(alloc, fault),
+    }
+}
+
+// What is counted of a fleet of the text.
+fn run_fleet<T: Threads + Wait + Sync>(
+    rt: &T,
+    alloc: Global,
+    progress: &Progress,
+    rounds: u32,
+    text: &[u8],
+) -> Answered
+    ensures { Responds (told.fleet rounds) text.now result.ending result.output.items }
+{
+    match count_fleet(rt, alloc, progress, rounds, text) {
+        Ok(lines) => Answered {
+            ending: Ending::Done,
+            output: lines.into_bytes(),
+        },
+        Err(fault) => Answered::stopped(alloc, fault),
+    }
+}
+
+// The page of refusals.
+fn refusals_page(alloc: Global) -> Answered
+    ensures { Responds told.page [] result.ending result.output.items }
+{
+    match String::from_str(alloc, REFUSALS) {
+        Ok(page) => Answered {
+            ending: Ending::Done,
+            output: page.into_bytes(),
+        },
+        Err(_) => Answered::stopped(alloc, Fault::from(Refusal::OutOfMemory)),
+    }
+}

@@ -1,0 +1,82 @@
+//! Running a script's steps on a world of its coordinators.
+
+ghost use Rattle.std.specs.Prelude.{◌≡◌, ℕ, IfOk, IfErr, OnOk};
+ghost use Rattle.fm_world.specs.declared.step.Act.TheVariants as world_act;
+ghost use Rattle.fm_coord.specs.Numbers.{AreDistinct};
+ghost use Rattle.fm_world.specs.Worlds.{WorldOfSets, refusal_of};
+ghost use Rattle.fm_world.specs.Stands.{WorldStandsFor};
+ghost use Rattle.fm_input.specs.declared.script.Act.TheVariants as script_act;
+ghost use Rattle.fm_follow.specs.Acting.{Makes, Fails};
+ghost use Rattle.fm_serve.specs.Running.{Acts, Come, Refuses, StopsIn, Stops, IsRun};
+
+use crate::fault::Fault;
+use crate::progress::Progress;
+use fm_edit::keepers::Keeper;
+use fm_follow::acting::take_step;
+use fm_input::script::{Act, Script, Step};
+use fm_opening::world::open;
+use fm_planner::planned::plan_for;
+use fm_records::refusal::Refusal;
+use fm_world::step::Act as WorldAct;
+use fm_world::world::World;
+use std::alloc::Global;
+
+/// The world after the script's steps. A step that is refused is named: by NoCoordinator if its coordinator is
+/// not listed, by NoPacket if no packet of the name was cut, else as the coordinator's call, and a round also if
+/// memory runs out for its plan. Else it is refused only if memory runs out. The caller must ensure that no two
+/// coordinators have one number.
+pub fn run(alloc: Global, progress: &Progress, script: &Script) -> Result<World<Keeper>, Fault>
+    requires { AreDistinct script.now.coordinators.items }
+    ensures ok { IfOk result (λ world. IsRun script.now.coordinators.items script.now.steps.items world) }
+    ensures err { IfErr result (λ fault. Stops script.now.coordinators.items script.now.steps.items fault) }
+{
+    let mut world = open(alloc, &script.coordinators)?;
+    take_all(alloc, progress, &mut world, &script.steps)?;
+    Ok(world)
+}
+
+// Takes the steps in order, up to the first that is refused, and counts them.
+fn take_all(
+    alloc: Global,
+    progress: &Progress,
+    world: &mut World<Keeper>,
+    steps: &[Step],
+) -> Result<(), Fault>
+    ensures ok { Makes result world.old world.new (λ w v. Come w steps.now v) }
+    ensures err { Fails result world.old (λ w fault. StopsIn w steps.now fault) }
+{
+    for (place, step) in steps.iter().enumerate() {
+        if let Err(refusal) = take(alloc, world, step.at, step.act) {
+            return Err(Fault {
+                refusal,
+                step: Some(place + 1),
+            });
+        }
+        progress.count_step();
+    }
+    Ok(())
+}
+
+// What happens in a step.
+fn take(alloc: Global, world: &mut World<Keeper>, at: u8, act: Act) -> Result<(), Refusal>
+    ensures ok { Makes result world.old world.new (λ w v. Acts w at act v) }
+    ensures err { Fails result world.old (λ w refusal. Refuses w at act refusal) }
+{
+    match act {
+        Act::Tell(op) => take_step(world, at, WorldAct::Tell(op)),
+        Act::Cut(range) => take_step(world, at, WorldAct::Cut(range)),
+        Act::Deliver(packet) => take_step(world, at, WorldAct::Deliver(packet)),
+        Act::Trim(n) => take_step(world, at, WorldAct::Trim(n)),
+        Act::Round => round(alloc, world, at),
+    }
+}
+
+// A round: a look at what is known with the tally, the plan by that, and the commit of the plan.
+fn round(alloc: Global, world: &mut World<Keeper>, at: u8) -> Result<(), Refusal>
+    ensures ok { Makes result world.old world.new (λ w v. Acts w at script_act.Round v) }
+    ensures err { Fails result world.old (λ w refusal. Refuses w at script_act.Round refusal) }
+{
+    let sight = world.see(at, 0)?;
+    let planned = plan_for(alloc, sight.tally.get(), sight.knowledge.get())?;
+    take_step(world, at, WorldAct::Commit(planned.plan))
+}
