@@ -1,0 +1,97 @@
+"""How the gate's tasks are laid out over processors and memory.
+
+Proofs come first, and of these the one with the most minutes of others behind it. It gets as many jobs as there are processors; the
+other proofs share what is left. Wrong bodies and tests run at a lower priority in what the proofs leave free, so they never hold a proof up.
+A task without work ends at once. Minutes are those of budget.json, or estimated by lines.
+"""
+import os
+import threading
+from concurrent.futures import FIRST_COMPLETED, ThreadPoolExecutor, wait
+
+# how much lower the priority is of what no proof waits for
+CALM = 10
+# minutes of a line that budget.json does not know, and the share of its minutes that a proof takes with all processors
+OF_A_LINE, WITH_ALL = 0.0025, 0.6
+# what a further job takes of the memory of the first, as the toolchain has it
+OF_A_JOB = 0.6
+
+
+def calmly(call, *given):
+    """The call at a lower priority, which the processes that it starts have too."""
+    os.setpriority(os.PRIO_PROCESS, threading.get_native_id(), CALM)
+    return call(*given)
+
+
+class Lanes:
+    """Tasks by key, each with what it waits for, its lines, its memory and its call, as the toolchain has them; those that run; and
+    what the others gave."""
+
+    def __init__(self, tasks, processors, memory, minutes):
+        self.tasks, self.processors, self.memory = tasks, processors, memory
+        self.running, self.given = {}, {}
+        self.behind = self.chains(minutes)
+        self.left = sorted(tasks, key=lambda key: (not is_proof(key), -self.behind[key]))
+
+    def chains(self, minutes):
+        """The minutes of each task with those of the longest chain of others that waits for it. A task comes after those it waits for."""
+        behind = dict.fromkeys(self.tasks, 0.0)
+        for key in reversed([*self.tasks]):
+            waits, lines, *_ = self.tasks[key]
+            own = minutes.get(key[:2], lines * OF_A_LINE)
+            behind[key] += own * WITH_ALL if is_proof(key) else own
+            for low in waits:
+                behind[low] = max(behind[low], behind[key])
+        return behind
+
+    def ready(self):
+        return [key for key in self.left if all(low in self.given for low in self.tasks[key][0])]
+
+    def jobs(self, key, ready, room):
+        """How many jobs a proof gets: all for the longest chain, and of the others each its share."""
+        proofs = [it for it in (*self.running, *ready) if is_proof(it)]
+        is_first = all(self.behind[key] >= self.behind[it] for it in proofs)
+        wanted = self.processors if is_first else self.processors // len(proofs)
+        most = 1 + int((room / self.tasks[key][2] - 1) / OF_A_JOB)
+        return max(1, min(wanted, most, 4))
+
+    def is_free(self, key):
+        """Whether one more task of this kind may run by the processors: each proof may have one, and the rest one more than is idle."""
+        kinds = [is_proof(it) for it in self.running]
+        if is_proof(key):
+            return sum(kinds) < self.processors
+        return len(kinds) <= self.processors
+
+    def begin(self, pools):
+        """Starts all tasks that there is room for. A proof that lacks memory keeps the others from taking it."""
+        lacks = False
+        for key in self.ready():
+            _, lines, needs, call = self.tasks[key]
+            if not lines:
+                self.left.remove(key)
+                self.given[key] = call(self.given, 1)
+                return True
+            room = self.memory - sum(held for _, held in self.running.values())
+            if lacks or not self.is_free(key):
+                continue
+            if self.running and needs > room:
+                lacks = is_proof(key)
+                continue
+            jobs = self.jobs(key, self.ready(), room) if is_proof(key) else 1
+            words = (call, self.given, jobs) if is_proof(key) else (calmly, call, self.given, jobs)
+            self.left.remove(key)
+            self.running[key] = pools[is_proof(key)].submit(*words), needs * (1 + OF_A_JOB * (jobs - 1))
+        return False
+
+    def run(self):
+        with ThreadPoolExecutor(self.processors) as proofs, ThreadPoolExecutor(self.processors + 1) as others:
+            while self.left or self.running:
+                if self.begin({True: proofs, False: others}):
+                    continue
+                ended = wait([it for it, _ in self.running.values()], return_when=FIRST_COMPLETED).done
+                for key in [key for key, (it, _) in self.running.items() if it in ended]:
+                    self.given[key] = self.running.pop(key)[0].result()
+        return self.given
+
+
+def is_proof(key):
+    return key[1] == "proof"
