@@ -63,9 +63,11 @@ class Beside:
         began, ended, work = self.spent.get(task, (0, 0, 0))
         with self.printing:
             self.passed, self.failed = self.passed + passed, self.failed + failed
-            if failed:
-                print(said.rstrip("\n"))
-            print("%s: %d passed, %d failed (%.0f s, %.0f of a processor)" % (" ".join(task), passed, failed, ended - began, work), flush=True)
+            counts = "%s: %d passed, %d failed (%.0f s, %.0f of a processor)" % (" ".join(task), passed, failed, ended - began, work)
+            self.say(said.rstrip("\n") + "\n" + counts if failed else counts)
+
+    def say(self, text):
+        print(text, flush=True)
 
     def tried(self, name):
         """Runs the tests of a crate by `rt try`: with checks of each index, sum and access, and no proof."""

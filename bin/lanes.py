@@ -12,8 +12,8 @@ from concurrent.futures import FIRST_COMPLETED, ThreadPoolExecutor, wait
 CALM = 10
 # minutes of a line that budget.json does not know, and the share of its minutes that a proof takes with all processors
 OF_A_LINE, WITH_ALL = 0.0025, 0.6
-# what a further job takes of the memory of the first, as the toolchain has it
-OF_A_JOB = 0.6
+# what a further job takes of the memory of the first, as the toolchain has it, and what tasks take at most of the memory that it reckons
+OF_A_JOB, OF_RECKONED = 0.6, 0.75
 
 
 def calmly(call, *given):
@@ -27,7 +27,7 @@ class Lanes:
     what the others gave."""
 
     def __init__(self, tasks, processors, memory, minutes):
-        self.tasks, self.processors, self.memory = tasks, processors, memory
+        self.tasks, self.processors, self.memory = tasks, processors, memory / OF_RECKONED
         self.running, self.given = {}, {}
         self.behind = self.chains(minutes)
         self.left = sorted(tasks, key=lambda key: (not is_proof(key), -self.behind[key]))
@@ -47,19 +47,17 @@ class Lanes:
         return [key for key in self.left if all(low in self.given for low in self.tasks[key][0])]
 
     def jobs(self, key, ready, room):
-        """How many jobs a proof gets: all for the longest chain, and of the others each its share."""
-        proofs = [it for it in (*self.running, *ready) if is_proof(it)]
-        is_first = all(self.behind[key] >= self.behind[it] for it in proofs)
-        wanted = self.processors if is_first else self.processors // len(proofs)
+        """How many jobs a proof gets: all if it has the longest chain behind it, and else its share."""
+        others = [it for it in (*self.running, *ready) if is_proof(it) and it != key]
+        is_first = all(self.behind[key] > self.behind[it] for it in others)
+        wanted = self.processors if is_first else self.processors // (1 + len(others))
         most = 1 + int((room / self.tasks[key][2] - 1) / OF_A_JOB)
         return max(1, min(wanted, most, 4))
 
     def is_free(self, key):
-        """Whether one more task of this kind may run by the processors: each proof may have one, and the rest one more than is idle."""
-        kinds = [is_proof(it) for it in self.running]
-        if is_proof(key):
-            return sum(kinds) < self.processors
-        return len(kinds) <= self.processors
+        """Whether one more task may run by the processors: a proof if there are fewer proofs, and another task if there are fewer tasks."""
+        same = [it for it in self.running if is_proof(it)] if is_proof(key) else self.running
+        return len(same) < self.processors
 
     def begin(self, pools):
         """Starts all tasks that there is room for. A proof that lacks memory keeps the others from taking it."""
@@ -83,7 +81,7 @@ class Lanes:
         return False
 
     def run(self):
-        with ThreadPoolExecutor(self.processors) as proofs, ThreadPoolExecutor(self.processors + 1) as others:
+        with ThreadPoolExecutor(self.processors) as proofs, ThreadPoolExecutor(self.processors) as others:
             while self.left or self.running:
                 if self.begin({True: proofs, False: others}):
                     continue

@@ -1,0 +1,149 @@
+"""Tests of how the gate lays out its work and counts it: bin/lanes.py, bin/budget.py, bin/checked.py and bin/beside.py, on tasks that are made up."""
+import json
+import pathlib
+import sys
+import tempfile
+import threading
+import time
+import types
+
+ROOT = pathlib.Path(__file__).resolve().parent.parent
+sys.path.append(str(ROOT / "bin"))
+import beside
+import budget
+import checked
+import lanes
+
+
+class Tasks:
+    """Made-up tasks that note when each runs, with how many jobs, and beside which others."""
+
+    def __init__(self):
+        self.tasks, self.order, self.jobs, self.beside, self.now, self.lock = {}, [], {}, [], set(), threading.Lock()
+
+    def add(self, name, kind, waits=(), lines=1, memory=1, gives=True):
+        self.tasks[name, kind] = list(waits), lines, memory, lambda given, jobs: self.ran((name, kind), jobs, gives)
+
+    def ran(self, key, jobs, gives):
+        with self.lock:
+            self.order.append(key)
+            self.jobs[key] = jobs
+            self.now.add(key)
+            self.beside.append(set(self.now))
+        time.sleep(0.01)
+        with self.lock:
+            self.now.remove(key)
+        return gives
+
+    def run(self, processors=4, memory=100, minutes=None):
+        return lanes.Lanes(self.tasks, processors, memory, minutes or {}).run()
+
+
+def chain():
+    """Two crates on one, the second with a longer chain behind it, and wrong bodies of each."""
+    made = Tasks()
+    made.add("low", "proof")
+    made.add("short", "proof", [("low", "proof")])
+    made.add("long", "proof", [("low", "proof")])
+    made.add("top", "proof", [("long", "proof")])
+    for name in ("low", "short", "long", "top"):
+        made.add(name, "edits", [(name, "proof")])
+    return made
+
+
+def laid_out():
+    made = chain()
+    given = made.run(processors=1, minutes={("low", "proof"): 1, ("short", "proof"): 1, ("long", "proof"): 1, ("top", "proof"): 9, ("low", "edits"): 99})
+    yield "each task runs once", sorted(made.order) == sorted(made.tasks) and set(given) == set(made.tasks)
+    proofs = [name for name, kind in made.order if kind == "proof"]
+    yield "the longest chain goes first", proofs == ["low", "long", "top", "short"]
+    yield "each task runs behind those that it waits for", all(
+        made.order.index(low) < made.order.index(key) for key, (waits, *_) in made.tasks.items() for low in waits)
+    yield "one processor runs one task", all(len(it) == 1 for it in made.beside)
+    made = Tasks()
+    for number in range(9):
+        made.add(f"crate{number}", "proof", memory=40 / lanes.OF_RECKONED)
+    made.run()
+    yield "tasks are beside each other as memory allows", max(len(it) for it in made.beside) == 2
+    made = Tasks()
+    made.add("alone", "proof", memory=200)
+    yield "a task that needs more than there is runs alone", made.run() == {("alone", "proof"): True}
+    made = Tasks()
+    made.add("alone", "proof", memory=10)
+    made.run()
+    yield "a proof that is alone gets all processors", made.jobs["alone", "proof"] == 4
+    made = Tasks()
+    for number in range(4):
+        made.add(f"crate{number}", "proof")
+    made.run(minutes={("crate2", "proof"): 5})
+    yield "the others get one each", [made.jobs[f"crate{it}", "proof"] for it in (0, 1, 3)] == [1, 1, 1] and made.jobs["crate2", "proof"] == 4
+    made = Tasks()
+    made.add("low", "proof", gives=False)
+    made.add("low", "tests", lines=0)
+    made.add("low", "edits", [("low", "proof"), ("low", "tests")])
+    yield "what a failed task gave is passed on", made.run()["low", "proof"] is False and len(made.order) == 3
+
+
+def budgets():
+    low = {"fm_records": [], "a": ["fm_records"], "b": ["fm_records"], "c": ["a", "b"]}
+    work = {"fm_records": {"proof": 2.0}, "a": {"proof": 4.0, "edits": 1.0}, "b": {"proof": 8.0}, "c": {"proof": 2.0}, "tests/run": {"fuzz": 1.0}}
+    with tempfile.TemporaryDirectory() as folder:
+        file, stands_on = budget.FILE, budget.stands_on
+        budget.FILE, budget.stands_on = pathlib.Path(folder, "budget.json"), lambda: low
+        try:
+            budget.write(work)
+            made = json.loads(budget.FILE.read_text())
+            yield "the longest chain is a sum of proofs", made["chain"] == round(6 * budget.ROOM, 1)
+            yield "all work is a sum", made["work"] == round(9 * budget.ROOM, 1)
+            yield "what a run took is within its own budget", budget.compared(work)[1]
+            twice = {**work, "b": {"proof": 16.0}}
+            lines, is_within = budget.compared(twice)
+            yield "a longer chain exceeds it", not is_within and any("chain" in line and "EXCEEDED" in line for line in lines)
+            yield "the crate is named", any(line.startswith("budget: b, proof: 8.00 units, and 4.00") for line in lines)
+            faster = {name: {kind: spent / 3 for kind, spent in kinds.items()} for name, kinds in work.items()}
+            yield "another machine is within it", budget.compared(faster)[1]
+            part = {name: kinds for name, kinds in work.items() if name != "b"}
+            yield "part of a run is not compared", budget.compared(part) == (["budget: not compared, since not every crate was proved in this run"], True)
+        finally:
+            budget.FILE, budget.stands_on = file, stands_on
+
+
+def archive(*files):
+    """An archive with long names."""
+    names, body = b"", b""
+    for name, text in files:
+        head = b"/%d" % len(names) if len(name) > 14 else name.encode() + b"/"
+        if len(name) > 14:
+            names += name.encode() + b"/\n"
+        body += b"%-16s%-32s%-10d`\n" % (head, b"", len(text)) + text + b"\n" * (len(text) % 2)
+    return b"!<arch>\n" + b"%-16s%-32s%-10d`\n" % (b"//", b"", len(names)) + names + b"\n" * (len(names) % 2) + body
+
+
+def kept():
+    proof = b"--@ antt-checked 81\n--@ kernel one/two\nodd"
+    with tempfile.TemporaryDirectory() as folder:
+        rlib, to = pathlib.Path(folder, "a.rlib"), pathlib.Path(folder, "kept")
+        (rlib / "toolchain").mkdir(parents=True)
+        (rlib / "toolchain/checked.a").write_bytes(archive(
+            ("a_name_of_many_letters.oantt", proof), ("short.oantt", proof + b"!"), ("other.txt", proof), ("no_proof.oantt", b"else"), ("../out.oantt", proof)))
+        checked.give(rlib, to)
+        found = {str(it.relative_to(to)): it.read_bytes() for it in to.rglob("*") if it.is_file()}
+        yield "a library gives what was checked", found == {"one_two/a_name_of_many_letters.oantt": proof, "one_two/short.oantt": proof + b"!"}
+        checked.give(pathlib.Path(folder, "none.rlib"), pathlib.Path(folder, "nothing"))
+        yield "a library that is not there gives nothing", not pathlib.Path(folder, "nothing").exists()
+
+
+def groups():
+    rt = types.SimpleNamespace(BACKENDS={}, crates_of=lambda root: [], run=lambda crate, tests, ending="": True)
+    made = beside.Beside(rt, False)
+    lost = dict.fromkeys([(name, "proof") for name in beside.TESTED], True)
+    lost[beside.TESTED[-1], "proof"] = False
+    made.say = lambda text: None
+    yield "a group is not run if its program is not proved", made.group(lost, "words") is False
+    yield "and counts as failed", (made.passed, made.failed) == (0, 1)
+    yield "there are groups, each once", len(beside.groups()) == len(set(beside.groups())) > 20
+
+
+def all_tests():
+    for tests in (laid_out, budgets, kept, groups):
+        yield from tests()
