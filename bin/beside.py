@@ -72,7 +72,7 @@ class Beside:
     def tried(self, name):
         """Runs the tests of a crate by `rt try`: with checks of each index, sum and access, and no proof."""
         task = name, "tests"
-        said, status = self.timed(task, ["rt", "try", "--test"], cwd=pathlib.Path(self.copied(), "crates", name))
+        said, status = self.timed(task, [sys.executable, str(ROOT / "bin/tried.py")], cwd=pathlib.Path(self.copied(), "crates", name))
         found = TRIED.search(said) if status == 0 else None
         passed, failed = (int(found[1]), int(found[2])) if found else (0, 1)
         self.tell(task, passed, failed or int(not passed), said)
