@@ -9,6 +9,33 @@ import tempfile
 import time
 
 HERE = pathlib.Path(__file__).resolve().parent
+sys.path.insert(0, str(HERE.parent / "bin"))
+import kept
+
+
+def add_program(parser, metavar="FILE"):
+    """Lets a command line say which program is timed."""
+    parser.add_argument("--program", metavar=metavar, help="what is timed; the proved program if it is not given")
+    parser.add_argument("--unproved", action="store_true", help="times the unproved build with checks instead")
+
+
+def choose_program(words):
+    """Has the words name the program that is timed, if they name none, and answers which build it is, or None if it was named. An
+    unproved build has to be asked for: its checks take time too."""
+    script = pathlib.Path(sys.argv[0]).name
+    if words.program is not None:
+        return None
+    if not words.unproved and not kept.is_proved():
+        sys.exit("bench/%s: there is no proved program, or a source is newer: bin/build makes it, and --unproved times a build with checks" % script)
+    try:
+        words.program = kept.program() if words.unproved else kept.PROVED
+    except kept.NoBuild as why:
+        sys.exit("bench/%s: %s" % (script, why))
+    if not words.unproved:
+        return "proved"
+    os.environ.update(kept.CHECKS)
+    print("bench/%s: times an unproved build with checks, which is slower than the proved program" % script, file=sys.stderr, flush=True)
+    return "unproved, with checks"
 
 
 def timed(program, words, script):

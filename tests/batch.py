@@ -1,5 +1,5 @@
-"""Runs of the program for bin/test, all in one batch: tests ask for runs before there are answers, then an unproved build makes
-them all (bin/runs.py), and the tests go on again with what each run answered.
+"""Runs of the program for bin/test, all in one batch: tests ask for runs before there are answers, then the unproved build makes
+them all side by side (bin/runs.py), and the tests go on again with what each run answered.
 
 So each group of tests runs twice. The first time a run is noted, and answered as tests/reference.py has it, since some tests
 make further runs of an answer. A run that a batch cannot make is left out: one with an environment, a limit or a stream of its
@@ -42,7 +42,7 @@ class Batch:
         return lines and text is not None and len(text) < LARGEST
 
     def make(self):
-        """Has an unproved build run all that was asked for."""
+        """Has the unproved build run all that was asked for."""
         asked = sorted(self.numbers, key=self.numbers.get)
         self.answers = dict(enumerate(runs.unproved(asked)))
 

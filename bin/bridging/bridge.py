@@ -7,12 +7,13 @@ import time
 from collections.abc import Sequence
 from typing import Optional
 
+import kept
 from bridging.answers import Answers
 from bridging.broker import Broker
 from bridging.claims import Claim
 from bridging.coordinator import Coordinator, most_packet, take_line
 from bridging.endings import BROKER_REFUSES, JOURNAL_FAILED, NOT_ALL_SENT, NUMBER_TAKEN, OUTPUT_FAILED, WELL, Failure
-from bridging.follower import is_accepted
+from bridging.follower import is_accepted, usual_program
 from bridging.inbox import Inbox
 from bridging.journal import Journal
 from bridging.lines import Lines
@@ -55,10 +56,10 @@ class Bridge:
 
     # from the beginning to the end
 
-    def run(self) -> int:
-        """Runs to the end of the lines, or until a signal. Answers the status."""
+    def run(self, program: str) -> int:
+        """Runs with the program to the end of the lines, or until a signal. Answers the status."""
         asked = self._settings
-        self._coordinator = Coordinator(asked.program, asked.number, asked.renew_after, asked.connect_wait)
+        self._coordinator = Coordinator(program, asked.number, asked.renew_after, asked.connect_wait)
         try:
             self._begin()
             self._has_begun = True
@@ -367,11 +368,16 @@ def main(given: Sequence[str]) -> int:
         # one that was closed would be given to something else: now it has no lines, and cannot be written
         if not is_open(descriptor):
             os.open(os.devnull, os.O_RDONLY)
-    bridge = Bridge(settings)
-    for number in signal.SIGTERM, signal.SIGINT:
-        signal.signal(number, bridge.stop)
+    telling = Telling(settings.number, settings.is_json)
     try:
-        return bridge.run()
+        # before signals only stop the bridge, since this may make a build
+        program = settings.program or usual_program()
+        if settings.program is None and not kept.is_proved():
+            telling.say("unproved", "runs the unproved build, since there is no proved program, or a source is newer")
+        bridge = Bridge(settings)
+        for number in signal.SIGTERM, signal.SIGINT:
+            signal.signal(number, bridge.stop)
+        return bridge.run(program)
     except Failure as failure:
-        Telling(settings.number, settings.is_json).say("failed", str(failure), status=failure.status)
+        telling.say("failed", str(failure), status=failure.status)
         return failure.status

@@ -6,6 +6,7 @@ import subprocess
 from collections.abc import Sequence
 from typing import Optional
 
+import kept
 from bridging.endings import FOLLOWER_ENDED, NO_PROGRAM, Failure
 
 # the program answers a line that is longer by refusal 16
@@ -19,6 +20,15 @@ NO_LINE = b"refusal 16\n"
 
 def is_accepted(answer: bytes) -> bool:
     return answer.endswith(OK)
+
+
+def usual_program() -> str:
+    """What runs the proved program, or else the unproved build, which is made first if there is none."""
+    try:
+        kept.best()
+    except kept.NoBuild as why:
+        raise Failure(NO_PROGRAM, str(why)) from None
+    return kept.ROOT + "/bin/firmament"
 
 
 class Follower:

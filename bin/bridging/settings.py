@@ -8,7 +8,6 @@ from typing import NoReturn, Optional
 
 from bridging.endings import WRONG_WORDS
 
-PROGRAM = pathlib.Path(__file__).resolve().parent.parent.parent / "crates/fm_cli/out/fm_cli"
 FORBIDDEN = "+#/"
 MOST_NAME = 200
 PORT, TLS_PORT = 1883, 8883
@@ -42,7 +41,7 @@ class Settings:
     end_wait: float
     stays: bool
     renew_after: int
-    program: str
+    program: Optional[str]
     is_json: bool
     is_traced: bool
     report: float
@@ -147,7 +146,7 @@ def parser() -> argparse.ArgumentParser:
                        help="says on standard error what it does as JSON, an object a line")
     other.add_argument("--trace", action="store_true", dest="is_traced",
                        help="says of each packet when its lines were answered, and when it was taken in")
-    other.add_argument("--program", default=str(PROGRAM), metavar="FILE", help="the proved program `firmament`")
+    other.add_argument("--program", metavar="FILE", help="the program `firmament` (what bin/firmament runs)")
     return words
 
 
