@@ -13,7 +13,6 @@ use fm_dimacs::out::Over;
 use fm_edit::editor::Editor;
 use fm_edit::keepers::Keeper;
 use fm_know::knowledge::Knowledge;
-use fm_policy::keeper::NetKeeper;
 use fm_policy::rebuilder::Rebuilder;
 use fm_records::refusal::Refusal;
 use std::alloc::Global;
