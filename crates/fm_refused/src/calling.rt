@@ -78,14 +78,25 @@ fn calls(
     asked: Asked,
 ) -> Result<Verdict, Refusal> {
     let call = asked.call(memory.alloc)?;
+    let before = counts(coordinator);
     let refusal = refused(memory, coordinator, call);
     let is_lost = is_lost(coordinator, kind);
+    let is_left = refusal.is_none() || counts(coordinator) == before;
     if refusal.is_some() {
         make(coordinator, asked.call(memory.alloc)?)?;
     }
     let is_added = coordinator.history().len() == ENTRIES + 1;
-    let is_right = is_added && writes_right(memory.alloc, coordinator)?;
+    let is_right = is_left && is_added && writes_right(memory.alloc, coordinator)?;
     Ok(judged(refusal, is_right).with_stale(is_lost))
+}
+
+// Its floor, its end, and how many entries it has.
+fn counts(coordinator: &Either) -> (u64, u64, usize) {
+    (
+        coordinator.floor(),
+        coordinator.end(),
+        coordinator.history().len(),
+    )
 }
 
 /// The network of a coordinator is written. If that is refused, it is written again.
