@@ -127,7 +127,6 @@ fn print_kept<W: Wait>(
     for asked in ASKED {
         print(rt, waits, words, Trial::Kept(Kept::Asked(asked), kind))?;
     }
-    print(rt, waits, words, Trial::Kept(Kept::Shown, kind))?;
     print(rt, waits, words, Trial::Kept(Kept::Dumped, kind))?;
     for asked in ASKED {
         print(rt, waits, words, Trial::Kept(Kept::BySeat(asked), kind))?;

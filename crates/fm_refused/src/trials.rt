@@ -57,7 +57,6 @@ pub(crate) const VALUES: [Value; 17] = [
 #[derive(Clone, Copy, Drop)]
 pub(crate) enum Kept {
     Asked(Asked),
-    Shown,
     Dumped,
     BySeat(Asked),
     Round,
@@ -142,7 +141,6 @@ impl fmt::Display for Kept {
     fn fmt<W: fmt::Write>(&self, f: &mut fmt::Formatter<W>) -> fmt::Result {
         match self {
             Kept::Asked(asked) => f.write_str(asked.text()),
-            Kept::Shown => f.write_str("what a view shows"),
             Kept::Dumped => f.write_str("dump of a coordinator"),
             Kept::BySeat(asked) => write!(f, "{} by a seat", asked.text()),
             Kept::Round => f.write_str("run_round"),
@@ -155,7 +153,6 @@ impl Kept {
     fn made<R: Wait>(&self, rt: &R, memory: Memory, kind: Kind) -> Result<Verdict, Refusal> {
         match self {
             Kept::Asked(asked) => calling::called(memory, kind, *asked),
-            Kept::Shown => calling::viewed(memory, kind),
             Kept::Dumped => calling::dumped(memory, kind),
             Kept::BySeat(asked) => seats::asked(rt, memory, kind, Wanted::Call(*asked)),
             Kept::Round => seats::asked(rt, memory, kind, Wanted::Round),

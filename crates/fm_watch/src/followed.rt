@@ -1,6 +1,6 @@
-//! What is known, and an Editor that follows it.
+//! What is known, a delta, and an Editor that follows what is known.
 
-ghost use Rattle.std.specs.Prelude.{true, IsTrue, OnOk};
+ghost use Rattle.std.specs.Prelude.{true, IsTrue};
 ghost use Rattle.fm_policy.specs.Keeping.{TookIn};
 ghost use Rattle.fm_edit.specs.Editing.{is_fresh_editor, IsFor};
 
@@ -12,14 +12,17 @@ use fm_net::edit::Edit;
 use fm_net::network::Network;
 use fm_policy::build::build;
 use fm_policy::changed::{Changed, changed_of};
+use fm_policy::keeper::NetKeeper;
+use fm_records::ops::Op;
 use fm_records::refusal::Refusal;
 use std::alloc::Global;
 use std::marker::Model;
 
-/// What is known, and an Editor that is fresh for it.
+/// What is known, what was told since, and an Editor that is for what is known, or stale after memory ran out.
 #[derive(Drop)]
 pub(crate) struct Followed {
     known: Knowledge,
+    delta: Knowledge,
     editor: Editor,
 }
 
@@ -31,7 +34,14 @@ impl Model for Followed {
 
     ghost view = { λ f. tt };
 
-    ghost invariant = { λ f. IsTrue (is_fresh_editor f.editor) × IsFor f.editor f.known };
+    ghost invariant = { λ f. IsTrue (is_fresh_editor f.editor) → IsFor f.editor f.known };
+}
+
+/// What came of a delta: the edits of the network, and the keys that were looked up.
+#[derive(Drop)]
+pub(crate) struct Taken {
+    pub(crate) edits: Vec<Edit>,
+    pub(crate) keys: Vec<Key>,
 }
 
 impl Followed {
@@ -40,27 +50,34 @@ impl Followed {
         let editor = Editor::new(alloc)?;
         Ok(Followed {
             known: Knowledge::empty(alloc),
+            delta: Knowledge::empty(alloc),
             editor,
         })
     }
 
-    /// Takes the delta in, and answers with it the edits of the network and the keys that were looked up.
-    pub(crate) fn take_in(self, alloc: Global, delta: &Knowledge) -> Result<Taken, Refusal> {
-        let Followed {
-            mut known,
-            mut editor,
-        } = self;
-        law_can_be(&known);
-        law_can_be(delta);
-        let changed = changed_of(alloc, delta)?;
-        known.join_into(delta)?;
-        let (edits, keys) = follow(alloc, &mut editor, &known, &changed)?;
-        let followed = Followed { known, editor };
-        Ok(Taken {
-            followed,
-            edits,
-            keys,
-        })
+    /// Adds the operation to the delta.
+    pub(crate) fn tell(&mut self, alloc: Global, op: &Op) -> Result<(), Refusal> {
+        op.check()?;
+        let told = Knowledge::delta_of(alloc, op)?;
+        self.delta.join_into(&told)?;
+        Ok(())
+    }
+
+    /// Takes the delta in. Stuck if the Editor is stale.
+    pub(crate) fn take_in(&mut self, alloc: Global) -> Result<Taken, Refusal> {
+        if !self.editor.is_fresh() {
+            return Err(Refusal::Stuck);
+        }
+        law_can_be(&self.known);
+        law_can_be(&self.delta);
+        let changed = changed_of(alloc, &self.delta)?;
+        self.known.join_into(&self.delta)?;
+        follow(alloc, &mut self.editor, &self.known, &changed)
+    }
+
+    /// Begins a delta.
+    pub(crate) fn begin(&mut self, alloc: Global) {
+        self.delta = Knowledge::empty(alloc);
     }
 
     /// The network of what is known, built from nothing.
@@ -71,31 +88,27 @@ impl Followed {
     }
 }
 
-/// What came of a delta.
-#[derive(Drop)]
-pub(crate) struct Taken {
-    pub(crate) followed: Followed,
-    pub(crate) edits: Vec<Edit>,
-    pub(crate) keys: Vec<Key>,
-}
-
 // Has the Editor follow what is known, and returns the edits and the keys.
 fn follow(
     alloc: Global,
     editor: &mut Editor,
     known: &Knowledge,
     changed: &Changed,
-) -> Result<(Vec<Edit>, Vec<Key>), Refusal>
+) -> Result<Taken, Refusal>
     requires fresh { IsTrue (is_fresh_editor editor.old) }
     requires took_in { TookIn true (IsFor editor.old) known.now changed.now }
-    ensures fresh { OnOk result (IsTrue (is_fresh_editor editor.new)) }
-    ensures given { OnOk result (IsFor editor.new known.now) }
+    ensures { IsTrue (is_fresh_editor editor.new) → IsFor editor.new known.now }
 {
     let mut look = KnowLook::new(alloc, known);
     let edits = edit(alloc, editor, &mut look, changed)?;
-    let mut keys = Vec::new(alloc);
-    for key in look.keys() {
-        keys.push(*key)?;
+    let keys = copied(alloc, look.keys())?;
+    Ok(Taken { edits, keys })
+}
+
+fn copied(alloc: Global, keys: &[Key]) -> Result<Vec<Key>, Refusal> {
+    let mut copied = Vec::new(alloc);
+    for key in keys {
+        copied.push(*key)?;
     }
-    Ok((edits, keys))
+    Ok(copied)
 }

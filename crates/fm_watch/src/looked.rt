@@ -1,10 +1,12 @@
 //! Two coordinators that are told the same and read together: one edits its network or builds it, the other builds it.
 
 use fm_coord::coordinator::Coordinator;
+use fm_coord::shared::Shared;
 use fm_coord::view::View;
-use fm_dimacs::dump::dump;
 use fm_dimacs::out::Over;
 use fm_edit::deferred::Deferred;
+use fm_net::network::Network;
+use fm_policy::keeper::NetKeeper;
 use fm_policy::rebuilder::Rebuilder;
 use fm_records::ids::CoordId;
 use fm_records::ops::Op;
@@ -33,13 +35,8 @@ pub(crate) struct Sight {
 impl Looked {
     /// Nothing is known.
     pub(crate) fn new(alloc: Global) -> Result<Looked, Refusal> {
-        let Some(number) = CoordId::new(1) else {
-            return Err(Refusal::NoCoordinator);
-        };
-        let keeper = Deferred::new(alloc)?;
-        let deferring = Coordinator::new(alloc, number, LIMIT, keeper);
-        let keeper = Rebuilder::new(alloc)?;
-        let building = Coordinator::new(alloc, number, LIMIT, keeper);
+        let deferring = deferring(alloc)?;
+        let building = building(alloc)?;
         Ok(Looked {
             deferring,
             building,
@@ -56,20 +53,63 @@ impl Looked {
     pub(crate) fn look(&mut self, alloc: Global) -> Result<Sight, Refusal> {
         let is_same = self.is_same()?;
         let (edits, builds) = self.deferring.keeper().counts();
-        let mut out = Over::new(Vec::new(alloc));
-        self.deferring.dump(&mut out)?;
+        let text = text(alloc, &mut self.deferring)?;
         Ok(Sight {
             is_same,
             edits,
             builds,
-            text: out.into_inner(),
+            text,
         })
     }
 
     // Whether both see equal networks.
     fn is_same(&mut self) -> Result<bool, Refusal> {
-        let first: View = self.deferring.view(0)?;
-        let second: View = self.building.view(0)?;
-        Ok(*first.network.get() == *second.network.get())
+        let network = seen(&mut self.deferring)?;
+        is_seen(&mut self.building, network.get())
     }
+}
+
+fn deferring(alloc: Global) -> Result<Coordinator<Deferred>, Refusal> {
+    let number = number()?;
+    let keeper = Deferred::new(alloc)?;
+    Ok(Coordinator::new(alloc, number, LIMIT, keeper))
+}
+
+fn building(alloc: Global) -> Result<Coordinator<Rebuilder>, Refusal> {
+    let number = number()?;
+    let keeper = Rebuilder::new(alloc)?;
+    Ok(Coordinator::new(alloc, number, LIMIT, keeper))
+}
+
+fn number() -> Result<CoordId, Refusal> {
+    match CoordId::new(1) {
+        Some(number) => Ok(number),
+        None => Err(Refusal::NoCoordinator),
+    }
+}
+
+// The network that it sees.
+fn seen<N: NetKeeper>(coordinator: &mut Coordinator<N>) -> Result<Shared<Network>, Refusal> {
+    let View { network, .. } = coordinator.view(0)?;
+    Ok(network)
+}
+
+// Whether this is the network that it sees.
+fn is_seen<N: NetKeeper>(
+    coordinator: &mut Coordinator<N>,
+    network: &Network,
+) -> Result<bool, Refusal> {
+    let seen = seen(coordinator)?;
+    Ok(are_same(seen.get(), network))
+}
+
+fn are_same(one: &Network, other: &Network) -> bool {
+    one == other
+}
+
+// The text of its network.
+fn text<N: NetKeeper>(alloc: Global, coordinator: &mut Coordinator<N>) -> Result<Vec<u8>, Refusal> {
+    let mut out = Over::new(Vec::new(alloc));
+    coordinator.dump(&mut out)?;
+    Ok(out.into_inner())
 }

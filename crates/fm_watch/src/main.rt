@@ -18,8 +18,6 @@ ghost use Rattle.fm_coord.specs.Numbers.{AreDistinct};
 
 use fm_input::reading::read_script;
 use fm_input::script::{Act, Script};
-use fm_know::knowledge::Knowledge;
-use fm_records::ops::Op;
 use fm_records::refusal::Refusal;
 use fm_streams::input::read_input;
 use fm_streams::source::Input;
@@ -33,22 +31,35 @@ use stepped::{Look, take_first};
 fn main(rt: HostRuntime) -> Result<(), anyhow::Error> {
     let script = script(&rt)?;
     match env::args(&rt)?.nth(1).as_deref() {
-        Some("looks") => looks(&rt, script),
+        Some("looks") => looks(&rt, &script),
         Some("steps") => steps(&rt, &script, Look::View),
         Some("sights") => steps(&rt, &script, Look::Sight),
         Some("tallies") => steps(&rt, &script, Look::Tally),
-        word => edits(&rt, script, word.is_some()),
+        word => edits(&rt, &script, word.is_some()),
     }
 }
 
 // Shows or times an edit for each delta.
-fn edits(rt: &HostRuntime, script: Script, is_timed: bool) -> Result<(), anyhow::Error> {
-    let mut watch = Watch {
-        followed: Followed::new(rt.alloc())?,
-        delta: Knowledge::empty(rt.alloc()),
-    };
-    for step in script.steps {
-        watch = watch.step(rt, step.act, is_timed)?;
+fn edits(rt: &HostRuntime, script: &Script, is_timed: bool) -> Result<(), anyhow::Error> {
+    let mut followed = Followed::new(rt.alloc())?;
+    for step in &script.steps {
+        follow(rt, &mut followed, step.act, is_timed)?;
+    }
+    Ok(())
+}
+
+// After a step of the script.
+fn follow(
+    rt: &HostRuntime,
+    followed: &mut Followed,
+    act: Act,
+    is_timed: bool,
+) -> Result<(), anyhow::Error> {
+    match act {
+        Act::Tell(op) => followed.tell(rt.alloc(), &op)?,
+        Act::Cut(_) if is_timed => timed(rt, followed)?,
+        Act::Cut(_) => shown(rt, followed)?,
+        _ => {}
     }
     Ok(())
 }
@@ -65,9 +76,9 @@ fn steps(rt: &HostRuntime, script: &Script, look: Look) -> Result<(), anyhow::Er
 }
 
 // Tells two coordinators the operations, and looks at each cut.
-fn looks(rt: &HostRuntime, script: Script) -> Result<(), anyhow::Error> {
+fn looks(rt: &HostRuntime, script: &Script) -> Result<(), anyhow::Error> {
     let mut looked = Looked::new(rt.alloc())?;
-    for step in script.steps {
+    for step in &script.steps {
         looked_at(rt, &mut looked, step.act)?;
     }
     Ok(())
@@ -101,62 +112,11 @@ fn script(rt: &HostRuntime) -> Result<Script, Refusal>
     read_script(rt.alloc(), text.as_slice())
 }
 
-// What was taken in, and what was told since. Functions that may be refused hold one value each: a proof considers
-// what is dropped at each refusal.
-#[derive(Drop)]
-struct Watch {
-    followed: Followed,
-    delta: Knowledge,
-}
-
-impl Watch {
-    // After a step of the script.
-    fn step(self, rt: &HostRuntime, act: Act, is_timed: bool) -> Result<Watch, anyhow::Error> {
-        match act {
-            Act::Tell(op) => self.told(rt.alloc(), &op),
-            Act::Cut(_) => self.cut(rt, is_timed),
-            _ => Ok(self),
-        }
-    }
-
-    // With the operation in the delta.
-    fn told(mut self, alloc: Global, op: &Op) -> Result<Watch, anyhow::Error> {
-        tell(alloc, &mut self.delta, op)?;
-        Ok(self)
-    }
-
-    // With the delta taken in.
-    fn cut(self, rt: &HostRuntime, is_timed: bool) -> Result<Watch, anyhow::Error> {
-        let Watch { followed, delta } = self;
-        let followed = if is_timed {
-            timed(rt, followed, &delta)?
-        } else {
-            shown(rt, followed, &delta)?
-        };
-        Ok(Watch {
-            followed,
-            delta: Knowledge::empty(rt.alloc()),
-        })
-    }
-}
-
-// Adds the operation to a delta.
-fn tell(alloc: Global, delta: &mut Knowledge, op: &Op) -> Result<(), Refusal> {
-    op.check()?;
-    let told = Knowledge::delta_of(alloc, op)?;
-    delta.join_into(&told)?;
-    Ok(())
-}
-
 // Takes the delta in, and prints the edits and the keys.
-fn shown(
-    rt: &HostRuntime,
-    followed: Followed,
-    delta: &Knowledge,
-) -> Result<Followed, anyhow::Error> {
-    let taken = followed.take_in(rt.alloc(), delta)?;
-    show(rt, &taken)?;
-    Ok(taken.followed)
+fn shown(rt: &HostRuntime, followed: &mut Followed) -> Result<(), anyhow::Error> {
+    let taken = followed.take_in(rt.alloc())?;
+    followed.begin(rt.alloc());
+    show(rt, &taken)
 }
 
 fn show(rt: &HostRuntime, taken: &Taken) -> Result<(), anyhow::Error> {
@@ -171,27 +131,20 @@ fn show(rt: &HostRuntime, taken: &Taken) -> Result<(), anyhow::Error> {
 }
 
 // Takes the delta in, and prints how long that took, beside building the network from nothing.
-fn timed(
-    rt: &HostRuntime,
-    followed: Followed,
-    delta: &Knowledge,
-) -> Result<Followed, anyhow::Error> {
-    let (followed, edits, took) = taken_in(rt, followed, delta)?;
-    let (arcs, built) = built(rt, &followed)?;
+fn timed(rt: &HostRuntime, followed: &mut Followed) -> Result<(), anyhow::Error> {
+    let (edits, took) = taken_in(rt, followed)?;
+    followed.begin(rt.alloc());
+    let (arcs, built) = built(rt, followed)?;
     println!(rt; "{edits} edits in {took} ns, {arcs} arcs built in {built} ns")?;
-    Ok(followed)
+    Ok(())
 }
 
 // How many edits merging the delta takes, and how many nanoseconds it took.
-fn taken_in(
-    rt: &HostRuntime,
-    followed: Followed,
-    delta: &Knowledge,
-) -> Result<(Followed, usize, u128), anyhow::Error> {
+fn taken_in(rt: &HostRuntime, followed: &mut Followed) -> Result<(usize, u128), anyhow::Error> {
     let begun = Instant::now(rt)?;
-    let taken = followed.take_in(rt.alloc(), delta)?;
+    let taken = followed.take_in(rt.alloc())?;
     let took = begun.elapsed(rt)?.as_nanos();
-    Ok((taken.followed, taken.edits.len(), took))
+    Ok((taken.edits.len(), took))
 }
 
 // How many arcs the network has, and how many nanoseconds it took to build it from nothing.
