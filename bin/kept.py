@@ -106,6 +106,11 @@ def main():
     except NoBuild as why:
         say(why)
         return NO_BUILD
+    except KeyboardInterrupt:
+        # ends as one that was not caught does, so that the shell that waits for it ends too
+        import signal
+        signal.signal(signal.SIGINT, signal.SIG_DFL)
+        os.kill(os.getpid(), signal.SIGINT)
 
 
 if __name__ == "__main__":
