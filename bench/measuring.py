@@ -2,6 +2,7 @@
 import os
 import pathlib
 import re
+import shlex
 import shutil
 import subprocess
 import sys
@@ -22,19 +23,22 @@ def add_program(parser, metavar="FILE"):
 def choose_program(words):
     """Has the words name the program that is timed, if they name none, and answers which build it is, or None if it was named. An
     unproved build has to be asked for: its checks take time too."""
-    script = pathlib.Path(sys.argv[0]).name
+    script = "bench/" + pathlib.Path(sys.argv[0]).name
     if words.program is not None:
+        if not any(map(os.path.exists, (words.program, shlex.split(words.program)[0]))):
+            sys.exit("%s: no program at %s" % (script, words.program))
         return None
-    if not words.unproved and not kept.is_proved():
-        sys.exit("bench/%s: there is no proved program, or a source is newer: bin/build makes it, and --unproved times a build with checks" % script)
-    try:
-        words.program = kept.program() if words.unproved else kept.PROVED
-    except kept.NoBuild as why:
-        sys.exit("bench/%s: %s" % (script, why))
     if not words.unproved:
+        words.program = kept.PROVED
+        if not kept.is_proved():
+            sys.exit("%s: no proved program, or a source is newer: bin/build makes it; --unproved times a build with checks" % script)
         return "proved"
+    try:
+        words.program = kept.program()
+    except kept.NoBuild as why:
+        sys.exit("%s: %s" % (script, why))
     os.environ.update(kept.CHECKS)
-    print("bench/%s: times an unproved build with checks, which is slower than the proved program" % script, file=sys.stderr, flush=True)
+    print("%s: times an unproved build with checks, which is slower than the proved program" % script, file=sys.stderr, flush=True)
     return "unproved, with checks"
 
 

@@ -32,7 +32,7 @@ def is_proved():
     """Whether there is a proved program, and no source is newer."""
     if not os.path.isfile(PROVED):
         return False
-    return max(os.stat(it).st_mtime for it in [*sources(), *folders()]) <= os.stat(PROVED).st_mtime
+    return max(os.stat(it).st_mtime for it in [*sources(), *(folder for folder, _ in folders())]) <= os.stat(PROVED).st_mtime
 
 
 def best():
@@ -64,14 +64,13 @@ def name():
 
 def sources():
     """The files that a build reads, in order."""
-    return [ROOT + "/crates.txt", *sorted(folder + "/" + name for folder in folders() for name in os.listdir(folder)
-                                          if os.path.isfile(folder + "/" + name))]
+    return [ROOT + "/crates.txt", *sorted(folder + "/" + name for folder, names in folders() for name in names)]
 
 
 def folders():
-    """The folders of crates in which sources are."""
+    """The folders of crates in which sources are, each with the names of the files in it."""
     tops = (ROOT + "/crates/" + crate + "/" + part for crate in os.listdir(ROOT + "/crates") for part in ("src", "specs"))
-    return [folder for top in tops for folder, _, _ in os.walk(top)]
+    return [(folder, names) for top in tops for folder, _, names in os.walk(top)]
 
 
 def toolchain():
@@ -106,6 +105,11 @@ def main():
     except NoBuild as why:
         say(why)
         return NO_BUILD
+    except KeyboardInterrupt:
+        # ends as one that was not caught does, so that the shell that waits for it ends too
+        import signal
+        signal.signal(signal.SIGINT, signal.SIG_DFL)
+        os.kill(os.getpid(), signal.SIGINT)
 
 
 if __name__ == "__main__":
