@@ -10,6 +10,8 @@ import shutil
 import sys
 
 sys.dont_write_bytecode = True
+sys.path.insert(0, str(pathlib.Path(__file__).resolve().parent))
+import building
 
 
 def toolchain():
@@ -22,6 +24,7 @@ def toolchain():
 
 
 def main():
+    building.end_with_parent()
     rt = toolchain()
     if hasattr(rt.rtlib, "RATTLE"):
         rt.rtlib.RATTLE = shutil.which("true")
