@@ -93,6 +93,9 @@ def say(text):
 def main():
     """Prints the checks and the place of the kept build for a script, which becomes it."""
     sys.argv[0] = sys.argv[1]
+    if sys.stderr is None:
+        # it is closed, and what is printed to none goes to standard output
+        sys.stderr = open(os.devnull, "w")
     try:
         if not os.path.isfile(FOLDER + "/" + name()):
             import building
