@@ -87,15 +87,22 @@ def toolchain():
 
 
 def say(text):
-    print("%s: %s" % (os.path.relpath(os.path.realpath(sys.argv[0]), ROOT), text), file=sys.stderr, flush=True)
+    write("%s: %s\n" % (os.path.relpath(os.path.realpath(sys.argv[0]), ROOT), text))
+
+
+def write(text):
+    """Writes to standard error; if that is closed or full, nothing else changes."""
+    try:
+        if sys.stderr is not None:
+            sys.stderr.write(text)
+            sys.stderr.flush()
+    except OSError:
+        pass
 
 
 def main():
     """Prints the checks and the place of the kept build for a script, which becomes it."""
     sys.argv[0] = sys.argv[1]
-    if sys.stderr is None:
-        # it is closed, and what is printed to none goes to standard output
-        sys.stderr = open(os.devnull, "w")
     try:
         if not os.path.isfile(FOLDER + "/" + name()):
             import building
