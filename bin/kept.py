@@ -13,8 +13,7 @@ import sys
 ROOT = os.path.dirname(os.path.dirname(os.path.realpath(__file__)))
 PROVED = ROOT + "/crates/fm_cli/out/fm_cli"
 FOLDER = ROOT + "/out/unproved"
-# What is set beside the environment of each run. The status of a run in which a check fails is none of the program's own, and a request
-# for too much memory is refused, as under `rt try`.
+# What is set beside the environment of each run: one in which a check fails ends with a status that is none of the program's own.
 CHECKS = {"ASAN_OPTIONS": "abort_on_error=0:exitcode=70"}
 FAULT = NO_BUILD = 70
 NOT_CAUGHT = 3
@@ -87,7 +86,17 @@ def toolchain():
 
 
 def say(text):
-    print("%s: %s" % (os.path.relpath(os.path.realpath(sys.argv[0]), ROOT), text), file=sys.stderr, flush=True)
+    write("%s: %s\n" % (os.path.relpath(os.path.realpath(sys.argv[0]), ROOT), text))
+
+
+def write(text):
+    """Writes to standard error; if that is closed or full, nothing else changes."""
+    try:
+        if sys.stderr is not None:
+            sys.stderr.write(text)
+            sys.stderr.flush()
+    except OSError:
+        pass
 
 
 def main():
