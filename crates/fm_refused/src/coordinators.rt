@@ -56,12 +56,12 @@ pub(crate) enum Kind {
 }
 
 impl Kind {
-    /// As it is printed.
+    /// As it is printed, after the call.
     pub(crate) fn text(&self) -> &'static str {
         match self {
-            Kind::Edits => "edits",
-            Kind::Stale(_) => "stale",
-            Kind::Builds => "builds",
+            Kind::Edits => ", edits",
+            Kind::Stale(_) => ", stale",
+            Kind::Builds => ", builds",
         }
     }
 }

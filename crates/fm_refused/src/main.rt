@@ -37,33 +37,52 @@ fn main(rt: HostRuntime) -> Result<(), anyhow::Error> {
     if words.first == 0 {
         print_bytes(&rt)?;
     }
-    if words.asks("values") {
-        for value in VALUES {
-            print(&rt, &rt, &words, Trial::Value(value))?;
-        }
+    if words.asks(Group::Values) {
+        print_values(&rt, &rt, &words)?;
     }
     print_kinds(&rt, &rt, &words)?;
-    if words.asks("others") {
-        for other in OTHERS {
-            print(&rt, &rt, &words, Trial::Other(other))?;
-        }
+    if words.asks(Group::Others) {
+        print_others(&rt, &rt, &words)?;
     }
     Ok(())
 }
 
+// A group of calls, or none.
+#[derive(Clone, Copy, PartialEq, Drop)]
+enum Group {
+    Values,
+    Edits,
+    Stale,
+    Builds,
+    Others,
+    Unknown,
+}
+
+// The group of this name.
+fn group_named(name: &str) -> Group {
+    match name {
+        "values" => Group::Values,
+        "edits" => Group::Edits,
+        "stale" => Group::Stale,
+        "builds" => Group::Builds,
+        "others" => Group::Others,
+        _ => Group::Unknown,
+    }
+}
+
 // What is asked for: which allocation of each call is refused first, or 0, how many the next one is after that, or 0,
 // and of which group of calls, if not of all.
-#[derive(Drop)]
+#[derive(Clone, Copy, Drop)]
 struct Words {
     first: u32,
     every: u32,
-    group: Option<String>,
+    group: Option<Group>,
 }
 
 impl Words {
-    fn asks(&self, group: &str) -> bool {
-        match &self.group {
-            Some(asked) => asked.as_str() == group,
+    fn asks(&self, group: Group) -> bool {
+        match self.group {
+            Some(asked) => asked == group,
             None => true,
         }
     }
@@ -87,7 +106,7 @@ fn asked(rt: &HostRuntime) -> Result<Words, anyhow::Error> {
         match word.as_str().parse::<u32>() {
             Ok(number) if words.first == 0 => words.first = number,
             Ok(number) => words.every = number,
-            Err(_) => words.group = Some(word),
+            Err(_) => words.group = Some(group_named(word.as_str())),
         }
     }
     Ok(words)
@@ -102,16 +121,30 @@ fn print_bytes(rt: &HostRuntime) -> Result<(), anyhow::Error> {
     Ok(())
 }
 
+fn print_values<W: Wait>(rt: &HostRuntime, waits: &W, words: &Words) -> Result<(), anyhow::Error> {
+    for value in VALUES {
+        print(rt, waits, words, Trial::Value(value))?;
+    }
+    Ok(())
+}
+
+fn print_others<W: Wait>(rt: &HostRuntime, waits: &W, words: &Words) -> Result<(), anyhow::Error> {
+    for other in OTHERS {
+        print(rt, waits, words, Trial::Other(other))?;
+    }
+    Ok(())
+}
+
 // Calls of coordinators, for each way in which they keep their networks.
 fn print_kinds<W: Wait>(rt: &HostRuntime, waits: &W, words: &Words) -> Result<(), anyhow::Error> {
-    if words.asks("edits") {
+    if words.asks(Group::Edits) {
         print_kept(rt, waits, words, Kind::Edits)?;
     }
-    if words.asks("stale") {
+    if words.asks(Group::Stale) {
         let place = place_of_edits(words.memory(rt.alloc()))?;
         print_kept(rt, waits, words, Kind::Stale(place))?;
     }
-    if words.asks("builds") {
+    if words.asks(Group::Builds) {
         print_kept(rt, waits, words, Kind::Builds)?;
     }
     Ok(())
@@ -147,7 +180,8 @@ fn print<W: Wait>(
             Ok(verdict) => verdict.text(),
             Err(_) => "not begun",
         };
-        println!(rt; "{trial}: {text}")?;
+        let (name, by, kind) = trial.names();
+        println!(rt; "{name}{by}{kind}: {text}")?;
         if words.every == 0 || !memory.has_refused() {
             break;
         }
