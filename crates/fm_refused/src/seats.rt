@@ -7,7 +7,7 @@ use crate::cluster::op;
 use crate::coordinators::{BEGUN, ENTRIES, Either, Kind, LAST, begun, is_lost, writes_right};
 use crate::memory::Memory;
 use crate::verdict::{Verdict, judged};
-use fm_coord::entry::Call;
+use fm_coord::entry::{Call, Entry};
 use fm_edit::keepers::Keeper;
 use fm_fleet::audit::audit;
 use fm_fleet::closing::{Closed, close};
@@ -150,8 +150,8 @@ fn rounds<L: NodeName, R: Wait>(
     }
 }
 
-// What became of it: the history is to have its entries, or, if it was refused, not all of them, and the seat's list
-// is to agree with that.
+// What became of it: the history is to begin as it did, to have the entries of the call, or, if it was refused, not all of them, and
+// the seat's list is to agree with that.
 fn looked_at(
     memory: Memory,
     kind: Kind,
@@ -162,6 +162,7 @@ fn looked_at(
     let entries = left.closed.coordinator.history().len();
     let is_lost = is_lost(&left.closed.coordinator, kind);
     let is_right = has_entries(entries, wanted, refusal.is_some())
+        && begins_as_before(memory, left.closed.coordinator.history())?
         && audit(&left.closed).is_ok()
         && writes_right(memory.alloc, &mut left.closed.coordinator)?;
     Ok(
@@ -169,6 +170,19 @@ fn looked_at(
             .with_view(entries > ENTRIES)
             .with_stale(is_lost),
     )
+}
+
+// Whether the history begins as that of a coordinator before the last operations.
+fn begins_as_before(memory: Memory, history: &[Entry]) -> Result<bool, Refusal> {
+    let before = begun(memory, Kind::Builds, 1)?;
+    Ok(begins_alike(history, before.history()))
+}
+
+fn begins_alike(history: &[Entry], before: &[Entry]) -> bool {
+    match history.get(..before.len()) {
+        Some(first) => first == before,
+        None => false,
+    }
 }
 
 fn has_entries(entries: usize, wanted: Wanted, is_refused: bool) -> bool {
