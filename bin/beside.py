@@ -15,7 +15,7 @@ import time
 ROOT = pathlib.Path(__file__).resolve().parent.parent
 # a build of a crate's tests, and a group of tests, in bytes of memory
 BUILD, GROUP = 3_000_000_000, 1_000_000_000
-SECONDS = 1800
+SECONDS = 3600
 COUNTS = re.compile(r"^(\d+) passed, (\d+) failed$", re.MULTILINE)
 TRIED = re.compile(r"^test result: \w+\. (\d+) passed; (\d+) failed; 0 ignored; 0 filtered out$", re.MULTILINE)
 # the programs that tests/run runs
@@ -32,11 +32,13 @@ class Beside:
         self.crates = []
 
     def tasks(self, given):
-        """The toolchain's tasks with these. The tests of a crate are tried, in place of their proof."""
-        added = dict(given)
+        """The toolchain's tasks with these. The tests of a crate are tried, in place of their proof: one crate after another, since the
+        build is in a session of its own, and so has no lower priority than the proofs."""
+        added, before = dict(given), []
         for crate in self.crates:
             if (crate.name, "tests") in given and not self.proves_tests and crate.has_tests():
-                added[crate.name, "tests"] = [], 1, BUILD, lambda _given, _jobs, name=crate.name: self.tried(name)
+                added[crate.name, "tests"] = before, 1, BUILD, lambda _given, _jobs, name=crate.name: self.tried(name)
+                before = [(crate.name, "tests")]
             if (crate.name, "proof") in given and crate.is_program:
                 added[crate.name, "run"] = [(crate.name, "proof")], 1, GROUP, lambda given, _jobs, crate=crate: self.run_program(given, crate)
         programs = [(name, "proof") for name in TESTED]

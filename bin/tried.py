@@ -1,21 +1,17 @@
 #!/usr/bin/env python3
 """Runs the tests of the crate in this folder by `rt try --test`, but without the check that it starts beside them: bin/tried.py
 
-That check only hints at names that a proof would refuse, and takes as long as the build of the tests. The build runs in a session of its
-own, which Linux would give as much of the processors as the gate's proofs together. So the session gets a lower priority.
+That check only hints at names that a proof would refuse, and takes as long as the build of the tests.
 """
-import contextlib
 import importlib.machinery
 import importlib.util
 import pathlib
 import shutil
-import subprocess
 import sys
 
 sys.dont_write_bytecode = True
 sys.path.insert(0, str(pathlib.Path(__file__).resolve().parent))
 import building
-from lanes import CALM
 
 
 def toolchain():
@@ -27,18 +23,8 @@ def toolchain():
     return made
 
 
-class Calm(subprocess.Popen):
-    """A process whose session has a lower priority, if Linux groups processes by sessions."""
-
-    def __init__(self, *words, **how):
-        super().__init__(*words, **how)
-        with contextlib.suppress(OSError):
-            pathlib.Path(f"/proc/{self.pid}/autogroup").write_text(str(CALM))
-
-
 def main():
     building.end_with_parent()
-    subprocess.Popen = Calm
     rt = toolchain()
     if hasattr(rt.rtlib, "RATTLE"):
         rt.rtlib.RATTLE = shutil.which("true")
