@@ -2,12 +2,14 @@
 
 use crate::cluster::{op, packet, plan};
 use crate::coordinators::{
-    ENTRIES, Either, Kind, dump, is_lost, is_text, made, make, refused, text_of_known, writes_right,
+    Either, Kind, are_alike, commit, give, is_lost, is_right_view, made, merge, tell, trim, view,
 };
 use crate::memory::Memory;
-use crate::networks::{is_part, writer_for};
+use crate::networks::{is_part, network_of, text_of, writer_for};
 use crate::verdict::{Verdict, judged};
 use fm_coord::entry::{Call, Range};
+use fm_dimacs::out::Over;
+use fm_know::knowledge::Knowledge;
 use fm_records::refusal::Refusal;
 use std::alloc::Global;
 
@@ -65,57 +67,105 @@ impl Asked {
     }
 }
 
-/// The call is made of a coordinator. If it is refused, it is made again.
-pub(crate) fn called(memory: Memory, kind: Kind, asked: Asked) -> Result<Verdict, Refusal> {
-    let mut coordinator = made(memory, kind, 1)?;
-    calls(memory, kind, &mut coordinator, asked)
+/// Makes the call.
+pub(crate) fn make(coordinator: &mut Either, by: u32, call: Call) -> Result<(), Refusal> {
+    match call {
+        Call::Tell(op) => tell(coordinator, by, op),
+        Call::Merge(packet) => merge(coordinator, by, packet),
+        Call::Cut(range) => give(coordinator, by, range),
+        Call::Trim(n) => trim(coordinator, by, n),
+        Call::View => see(coordinator, by),
+        Call::Commit(plan) => commit(coordinator, by, plan),
+    }
 }
 
-fn calls(
-    memory: Memory,
-    kind: Kind,
-    coordinator: &mut Either,
-    asked: Asked,
-) -> Result<Verdict, Refusal> {
-    let call = asked.call(memory.alloc)?;
-    let before = counts(coordinator);
-    let refusal = refused(memory, coordinator, call);
-    let is_lost = is_lost(coordinator, kind);
-    let is_left = refusal.is_none() || counts(coordinator) == before;
-    if refusal.is_some() {
-        make(coordinator, asked.call(memory.alloc)?)?;
-    }
-    let is_added = coordinator.history().len() == ENTRIES + 1;
-    let is_right = is_left && is_added && writes_right(memory.alloc, coordinator)?;
+fn see(coordinator: &mut Either, by: u32) -> Result<(), Refusal> {
+    let _view = view(coordinator, by)?;
+    Ok(())
+}
+
+/// The call is made of a coordinator.
+pub(crate) fn called(memory: Memory, kind: Kind, asked: Asked) -> Result<Verdict, Refusal> {
+    let mut coordinator = made(memory, kind, 1)?;
+    let refusal = refused(memory, &mut coordinator, asked)?;
+    let is_lost = is_lost(&coordinator, kind);
+    let is_right = if refusal.is_some() {
+        is_as_before(memory, &mut coordinator)?
+    } else {
+        is_as_after(memory, asked, &mut coordinator)?
+    };
     Ok(judged(refusal, is_right).with_stale(is_lost))
 }
 
-// Its floor, its end, and how many entries it has.
-fn counts(coordinator: &Either) -> (u64, u64, usize) {
-    (
-        coordinator.floor(),
-        coordinator.end(),
-        coordinator.history().len(),
-    )
+// Why the call is refused, if it is.
+fn refused(
+    memory: Memory,
+    coordinator: &mut Either,
+    asked: Asked,
+) -> Result<Option<Refusal>, Refusal> {
+    let call = asked.call(memory.alloc)?;
+    memory.refuse();
+    let refusal = make(coordinator, 0, call).err();
+    memory.give();
+    Ok(refusal)
 }
 
-/// The network of a coordinator is written. If that is refused, it is written again.
+// Whether the coordinator is as one that was not asked. How that one keeps its network makes no difference.
+fn is_as_before(memory: Memory, coordinator: &mut Either) -> Result<bool, Refusal> {
+    let mut wanted = made(memory, Kind::Builds, 1)?;
+    are_alike(memory.alloc, coordinator, &mut wanted)
+}
+
+// Whether the coordinator is as one that was asked so with ample memory.
+fn is_as_after(memory: Memory, asked: Asked, coordinator: &mut Either) -> Result<bool, Refusal> {
+    let mut wanted = made(memory, Kind::Builds, 1)?;
+    make(&mut wanted, 0, asked.call(memory.alloc)?)?;
+    are_alike(memory.alloc, coordinator, &mut wanted)
+}
+
+/// A view is asked for, whose network is looked at.
+pub(crate) fn viewed(memory: Memory, kind: Kind) -> Result<Verdict, Refusal> {
+    let mut coordinator = made(memory, kind, 1)?;
+    memory.refuse();
+    let answer = view(&mut coordinator, 0);
+    memory.give();
+    match answer {
+        Ok(seen) => Ok(judged(None, is_right_view(memory.alloc, &seen)?)),
+        Err(refusal) => {
+            let is_right = is_as_before(memory, &mut coordinator)?;
+            Ok(judged(Some(refusal), is_right))
+        }
+    }
+}
+
+/// The network of a coordinator is written.
 pub(crate) fn dumped(memory: Memory, kind: Kind) -> Result<Verdict, Refusal> {
     let mut coordinator = made(memory, kind, 1)?;
-    dumps(memory, &mut coordinator)
+    let (refusal, is_written) = dumps(memory, &mut coordinator)?;
+    let is_right = is_as_before(memory, &mut coordinator)?;
+    Ok(judged(refusal, is_written && is_right))
 }
 
-fn dumps(memory: Memory, coordinator: &mut Either) -> Result<Verdict, Refusal> {
+// Why it is refused, if it is, and whether what was written is the complete text, or may be part of it.
+fn dumps(memory: Memory, coordinator: &mut Either) -> Result<(Option<Refusal>, bool), Refusal> {
     let text = text_of_known(memory.alloc, coordinator.knowledge())?;
-    dumps_text(memory, coordinator, text.as_slice())
-}
-
-fn dumps_text(memory: Memory, coordinator: &mut Either, text: &[u8]) -> Result<Verdict, Refusal> {
     let mut out = writer_for(memory.alloc, text.len())?;
     memory.refuse();
     let refusal = dump(coordinator, &mut out).err();
     memory.give();
-    let is_written = is_part(refusal.is_some(), out.into_inner().as_slice(), text);
-    let is_right = is_written && is_text(memory.alloc, coordinator, text)?;
-    Ok(judged(refusal, is_right))
+    let is_written = is_part(
+        refusal.is_some(),
+        out.into_inner().as_slice(),
+        text.as_slice(),
+    );
+    Ok((refusal, is_written))
+}
+
+fn dump(coordinator: &mut Either, out: &mut Over<Vec<u8>>) -> Result<(), Refusal> {
+    coordinator.dump(out)
+}
+
+fn text_of_known(alloc: Global, known: &Knowledge) -> Result<Vec<u8>, Refusal> {
+    let network = network_of(alloc, known)?;
+    text_of(alloc, &network)
 }

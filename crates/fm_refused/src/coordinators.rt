@@ -1,20 +1,25 @@
-//! Coordinators: what happened to one before a call, the call, and how it is looked at after it.
+//! Coordinators: what happened to one before a call, the call, and whether two are equal.
 
 ghost use Rattle.std.specs.Prelude.{[], IsTrue, IfOk};
 ghost use Rattle.fm_records.specs.Know.{know};
 ghost use Rattle.fm_edit.specs.Keepers.{is_fresh_keeper, KeeperIsFor};
 
-use crate::cluster::{numbered, op};
+use crate::cluster::{are_same, numbered, op};
 use crate::memory::Memory;
-use crate::networks::{network_of, text_of};
+use crate::networks;
+use crate::networks::network_of;
 use fm_coord::coordinator::Coordinator;
-use fm_coord::entry::{Call, Range};
-use fm_dimacs::out::Over;
+use fm_coord::entry::{Entry, Range};
+use fm_coord::shared::Shared;
+use fm_coord::view::View;
+use fm_delta::packet::Packet;
 use fm_edit::editor::Editor;
 use fm_edit::keepers::Keeper;
-use fm_know::knowledge::Knowledge;
+use fm_policy::keeper::NetKeeper;
 use fm_policy::rebuilder::Rebuilder;
+use fm_records::ops::Op;
 use fm_records::refusal::Refusal;
+use fm_round::parts::Plan;
 use std::alloc::Global;
 
 // How many operations each is told before it lets deltas go, how many before the one by which a network may become
@@ -25,11 +30,6 @@ const TOLD_FIRST: u32 = 32;
 const TOLD: u32 = 57;
 
 pub(crate) const LAST: [u32; 4] = [58, 59, 60, 61];
-
-/// How many entries there are then, and how many before the last operations.
-pub(crate) const ENTRIES: usize = 64;
-
-pub(crate) const BEGUN: usize = 60;
 
 // Which delta is the first that it keeps.
 const FLOOR: u64 = 30;
@@ -56,12 +56,12 @@ pub(crate) enum Kind {
 }
 
 impl Kind {
-    /// As it is printed, after the call.
+    /// As it is printed.
     pub(crate) fn text(&self) -> &'static str {
         match self {
-            Kind::Edits => ", edits",
-            Kind::Stale(_) => ", stale",
-            Kind::Builds => ", builds",
+            Kind::Edits => "edits",
+            Kind::Stale(_) => "stale",
+            Kind::Builds => "builds",
         }
     }
 }
@@ -69,7 +69,7 @@ impl Kind {
 /// A coordinator that was told operations, dropped its first deltas, cut a packet, and was told some again.
 pub(crate) fn made(memory: Memory, kind: Kind, number: u8) -> Result<Either, Refusal> {
     let mut coordinator = begun(memory, kind, number)?;
-    go_on(&mut coordinator)?;
+    go_on(&mut coordinator, 0)?;
     Ok(coordinator)
 }
 
@@ -97,8 +97,7 @@ pub(crate) fn place_of_edits(memory: Memory) -> Result<u32, Refusal> {
 fn is_left_stale(memory: Memory) -> Result<bool, Refusal> {
     let mut coordinator = new(memory.alloc, Kind::Edits, 1)?;
     tell_first(&mut coordinator)?;
-    let refusal = refused(memory, &mut coordinator, Call::Tell(op(TOLD)));
-    Ok(refusal.is_none() && !coordinator.is_fresh())
+    Ok(is_told(memory, &mut coordinator, op(TOLD)) && !coordinator.is_fresh())
 }
 
 fn new(alloc: Global, kind: Kind, number: u8) -> Result<Either, Refusal> {
@@ -118,27 +117,23 @@ fn keeper(alloc: Global, kind: Kind) -> Result<Keeper, Refusal>
 
 fn begin(memory: Memory, kind: Kind, coordinator: &mut Either) -> Result<(), Refusal> {
     tell_first(coordinator)?;
-    let told = Call::Tell(op(TOLD));
-    if let Some(refusal) = refused(refusing(memory, kind), coordinator, told) {
-        return Err(refusal);
+    if !is_told(refusing(memory, kind), coordinator, op(TOLD)) {
+        return Err(Refusal::OutOfMemory);
     }
-    make(coordinator, Call::Cut(Range::Full))?;
+    give(coordinator, 0, Range::Full)?;
     check_kind(memory, kind, coordinator)
 }
 
 fn tell_first(coordinator: &mut Either) -> Result<(), Refusal> {
-    for number in 0..TOLD {
-        if number == TOLD_FIRST {
-            make(coordinator, Call::Trim(FLOOR))?;
-        }
-        make(coordinator, Call::Tell(op(number)))?;
-    }
-    Ok(())
+    tell_all(coordinator, 0, TOLD_FIRST)?;
+    trim(coordinator, 0, FLOOR)?;
+    tell_all(coordinator, TOLD_FIRST, TOLD)
 }
 
-fn go_on(coordinator: &mut Either) -> Result<(), Refusal> {
-    for number in LAST {
-        make(coordinator, Call::Tell(op(number)))?;
+// It is told these operations, the second number's not among them.
+fn tell_all(coordinator: &mut Either, from: u32, to: u32) -> Result<(), Refusal> {
+    for number in from..to {
+        tell(coordinator, 0, op(number))?;
     }
     Ok(())
 }
@@ -149,6 +144,14 @@ fn refusing(memory: Memory, kind: Kind) -> Memory {
         Kind::Stale(place) => memory.at(place),
         _ => memory.ample(),
     }
+}
+
+// Whether the tell is accepted, for which memory may be refused.
+fn is_told(memory: Memory, coordinator: &mut Either, op: Op) -> bool {
+    memory.refuse();
+    let told = tell(coordinator, 0, op);
+    memory.give();
+    told.is_ok()
 }
 
 // Stuck if a coordinator has not the kind of network that it should have.
@@ -164,46 +167,102 @@ fn check_kind(memory: Memory, kind: Kind, coordinator: &Either) -> Result<(), Re
     Ok(())
 }
 
-/// Makes the call, and drops what is answered.
-pub(crate) fn make(coordinator: &mut Either, call: Call) -> Result<(), Refusal> {
-    let _answer = coordinator.call(0, call)?;
+/// The last operations are told by the seat of this number.
+pub(crate) fn go_on(coordinator: &mut Either, by: u32) -> Result<(), Refusal> {
+    for number in LAST {
+        tell(coordinator, by, op(number))?;
+    }
     Ok(())
 }
 
-/// Why the call is refused, if it is, for which memory may be refused.
-pub(crate) fn refused(memory: Memory, coordinator: &mut Either, call: Call) -> Option<Refusal> {
-    memory.refuse();
-    let refusal = make(coordinator, call).err();
-    memory.give();
-    refusal
+pub(crate) fn tell(coordinator: &mut Either, by: u32, op: Op) -> Result<(), Refusal> {
+    coordinator.tell(by, op)
 }
 
-/// Whether it writes the text of the network that is built from what it knows.
-pub(crate) fn writes_right(alloc: Global, coordinator: &mut Either) -> Result<bool, Refusal> {
-    let wanted = text_of_known(alloc, coordinator.knowledge())?;
-    is_text(alloc, coordinator, wanted.as_slice())
+pub(crate) fn merge(coordinator: &mut Either, by: u32, packet: Packet) -> Result<(), Refusal> {
+    coordinator.merge(by, packet)
 }
 
-/// Whether this is the text that it writes.
-pub(crate) fn is_text(
-    alloc: Global,
+pub(crate) fn cut(
     coordinator: &mut Either,
-    text: &[u8],
+    by: u32,
+    range: Range,
+) -> Result<Shared<Packet>, Refusal> {
+    coordinator.cut(by, range)
+}
+
+pub(crate) fn trim(coordinator: &mut Either, by: u32, n: u64) -> Result<(), Refusal> {
+    coordinator.trim(by, n)
+}
+
+pub(crate) fn view(coordinator: &mut Either, by: u32) -> Result<View, Refusal> {
+    coordinator.view(by)
+}
+
+pub(crate) fn commit(coordinator: &mut Either, by: u32, plan: Plan) -> Result<(), Refusal> {
+    let _admitted = coordinator.commit(by, plan)?;
+    Ok(())
+}
+
+/// A packet is cut, and dropped.
+pub(crate) fn give(coordinator: &mut Either, by: u32, range: Range) -> Result<(), Refusal> {
+    let _packet = cut(coordinator, by, range)?;
+    Ok(())
+}
+
+/// Whether both know, keep and list the same, and the first one's network is that of what it knows: if it is fresh, and
+/// in any case in the next view.
+pub(crate) fn are_alike(
+    alloc: Global,
+    one: &mut Either,
+    other: &mut Either,
 ) -> Result<bool, Refusal> {
-    let mut out = Over::new(Vec::new(alloc));
-    dump(coordinator, &mut out)?;
-    Ok(out.into_inner().as_slice() == text)
+    Ok(
+        list_alike(one, other)
+            && follows(alloc, one)?
+            && give_alike(one, other)?
+            && shows_right(alloc, one)?,
+    )
 }
 
-/// Writes the text of its network.
-pub(crate) fn dump(coordinator: &mut Either, out: &mut Over<Vec<u8>>) -> Result<(), Refusal> {
-    coordinator.dump(out)
+fn list_alike(one: &Either, other: &Either) -> bool {
+    are_same(one.knowledge(), other.knowledge())
+        && one.floor() == other.floor()
+        && one.end() == other.end()
+        && are_same_entries(one.history(), other.history())
 }
 
-/// The text of the network that is built from what is known.
-pub(crate) fn text_of_known(alloc: Global, known: &Knowledge) -> Result<Vec<u8>, Refusal> {
-    let network = network_of(alloc, known)?;
-    text_of(alloc, &network)
+fn are_same_entries(one: &[Entry], other: &[Entry]) -> bool {
+    one == other
+}
+
+// Whether the network is stale, or that of what is known.
+fn follows(alloc: Global, coordinator: &Either) -> Result<bool, Refusal> {
+    if !coordinator.is_fresh() {
+        return Ok(true);
+    }
+    let wanted = network_of(alloc, coordinator.knowledge())?;
+    Ok(networks::are_same(coordinator.keeper().network(), &wanted))
+}
+
+// Whether packets of each delta that is kept are the same.
+fn give_alike(one: &mut Either, other: &mut Either) -> Result<bool, Refusal> {
+    for number in one.floor()..one.end() {
+        let delta = Range::Interval(number, number + 1);
+        if !are_same_packets(cut(one, 0, delta)?.get(), cut(other, 0, delta)?.get()) {
+            return Ok(false);
+        }
+    }
+    Ok(true)
+}
+
+fn are_same_packets(one: &Packet, other: &Packet) -> bool {
+    one == other
+}
+
+fn shows_right(alloc: Global, coordinator: &mut Either) -> Result<bool, Refusal> {
+    let seen = view(coordinator, 0)?;
+    is_right_view(alloc, &seen)
 }
 
 /// Whether its network cannot follow any more, though it edits and memory is ample again.
@@ -212,4 +271,10 @@ pub(crate) fn is_lost(coordinator: &Either, kind: Kind) -> bool {
         Kind::Edits => !coordinator.is_fresh(),
         Kind::Stale(_) | Kind::Builds => false,
     }
+}
+
+/// Whether the network of the view is that of what was known.
+pub(crate) fn is_right_view(alloc: Global, seen: &View) -> Result<bool, Refusal> {
+    let wanted = network_of(alloc, seen.knowledge.get())?;
+    Ok(networks::are_same(seen.network.get(), &wanted))
 }

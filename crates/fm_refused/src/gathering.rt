@@ -1,10 +1,10 @@
 //! Histories gathered.
 
 use crate::cluster::{packet, plan};
-use crate::coordinators::{Either, Kind, made, make};
+use crate::coordinators::{Either, Kind, commit, cut, made, merge};
 use crate::memory::Memory;
 use crate::verdict::{Verdict, judged};
-use fm_coord::entry::{Call, Range};
+use fm_coord::entry::Range;
 use fm_gather::gather::gather;
 use fm_records::refusal::Refusal;
 use fm_world::distinct::distinct;
@@ -51,7 +51,7 @@ fn two(memory: Memory) -> Result<Vec<Either>, Refusal> {
 
 fn tell_one_another(alloc: Global, both: &mut [Either]) -> Result<(), Refusal> {
     if let [one, other] = both {
-        make(one, Call::Commit(plan(alloc)?))?;
+        commit(one, 0, plan(alloc)?)?;
         pass_on(one, other)?;
         pass_on(other, one)?;
     }
@@ -59,13 +59,13 @@ fn tell_one_another(alloc: Global, both: &mut [Either]) -> Result<(), Refusal> {
 }
 
 fn pass_on(from: &mut Either, to: &mut Either) -> Result<(), Refusal> {
-    let packet = from.cut(0, Range::Full)?;
-    make(to, Call::Merge(packet.get().copy()?))
+    let packet = cut(from, 0, Range::Full)?;
+    merge(to, 0, packet.get().copy()?)
 }
 
 fn merge_at_last(alloc: Global, both: &mut [Either]) -> Result<(), Refusal> {
     if let [_, other] = both {
-        make(other, Call::Merge(packet(alloc, 40, 48)?))?;
+        merge(other, 0, packet(alloc, 40, 48)?)?;
     }
     Ok(())
 }

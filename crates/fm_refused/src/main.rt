@@ -37,52 +37,33 @@ fn main(rt: HostRuntime) -> Result<(), anyhow::Error> {
     if words.first == 0 {
         print_bytes(&rt)?;
     }
-    if words.asks(Group::Values) {
-        print_values(&rt, &rt, &words)?;
+    if words.asks("values") {
+        for value in VALUES {
+            print(&rt, &rt, &words, Trial::Value(value))?;
+        }
     }
     print_kinds(&rt, &rt, &words)?;
-    if words.asks(Group::Others) {
-        print_others(&rt, &rt, &words)?;
+    if words.asks("others") {
+        for other in OTHERS {
+            print(&rt, &rt, &words, Trial::Other(other))?;
+        }
     }
     Ok(())
 }
 
-// A group of calls, or none.
-#[derive(Clone, Copy, PartialEq, Drop)]
-enum Group {
-    Values,
-    Edits,
-    Stale,
-    Builds,
-    Others,
-    Unknown,
-}
-
-// The group of this name.
-fn group_named(name: &str) -> Group {
-    match name {
-        "values" => Group::Values,
-        "edits" => Group::Edits,
-        "stale" => Group::Stale,
-        "builds" => Group::Builds,
-        "others" => Group::Others,
-        _ => Group::Unknown,
-    }
-}
-
 // What is asked for: which allocation of each call is refused first, or 0, how many the next one is after that, or 0,
 // and of which group of calls, if not of all.
-#[derive(Clone, Copy, Drop)]
+#[derive(Drop)]
 struct Words {
     first: u32,
     every: u32,
-    group: Option<Group>,
+    group: Option<String>,
 }
 
 impl Words {
-    fn asks(&self, group: Group) -> bool {
-        match self.group {
-            Some(asked) => asked == group,
+    fn asks(&self, group: &str) -> bool {
+        match &self.group {
+            Some(asked) => asked.as_str() == group,
             None => true,
         }
     }
@@ -106,7 +87,7 @@ fn asked(rt: &HostRuntime) -> Result<Words, anyhow::Error> {
         match word.as_str().parse::<u32>() {
             Ok(number) if words.first == 0 => words.first = number,
             Ok(number) => words.every = number,
-            Err(_) => words.group = Some(group_named(word.as_str())),
+            Err(_) => words.group = Some(word),
         }
     }
     Ok(words)
@@ -121,30 +102,16 @@ fn print_bytes(rt: &HostRuntime) -> Result<(), anyhow::Error> {
     Ok(())
 }
 
-fn print_values<W: Wait>(rt: &HostRuntime, waits: &W, words: &Words) -> Result<(), anyhow::Error> {
-    for value in VALUES {
-        print(rt, waits, words, Trial::Value(value))?;
-    }
-    Ok(())
-}
-
-fn print_others<W: Wait>(rt: &HostRuntime, waits: &W, words: &Words) -> Result<(), anyhow::Error> {
-    for other in OTHERS {
-        print(rt, waits, words, Trial::Other(other))?;
-    }
-    Ok(())
-}
-
 // Calls of coordinators, for each way in which they keep their networks.
 fn print_kinds<W: Wait>(rt: &HostRuntime, waits: &W, words: &Words) -> Result<(), anyhow::Error> {
-    if words.asks(Group::Edits) {
+    if words.asks("edits") {
         print_kept(rt, waits, words, Kind::Edits)?;
     }
-    if words.asks(Group::Stale) {
+    if words.asks("stale") {
         let place = place_of_edits(words.memory(rt.alloc()))?;
         print_kept(rt, waits, words, Kind::Stale(place))?;
     }
-    if words.asks(Group::Builds) {
+    if words.asks("builds") {
         print_kept(rt, waits, words, Kind::Builds)?;
     }
     Ok(())
@@ -160,6 +127,7 @@ fn print_kept<W: Wait>(
     for asked in ASKED {
         print(rt, waits, words, Trial::Kept(Kept::Asked(asked), kind))?;
     }
+    print(rt, waits, words, Trial::Kept(Kept::Shown, kind))?;
     print(rt, waits, words, Trial::Kept(Kept::Dumped, kind))?;
     for asked in ASKED {
         print(rt, waits, words, Trial::Kept(Kept::BySeat(asked), kind))?;
@@ -180,8 +148,7 @@ fn print<W: Wait>(
             Ok(verdict) => verdict.text(),
             Err(_) => "not begun",
         };
-        let (name, by, kind) = trial.names();
-        println!(rt; "{name}{by}{kind}: {text}")?;
+        println!(rt; "{trial}: {text}")?;
         if words.every == 0 || !memory.has_refused() {
             break;
         }

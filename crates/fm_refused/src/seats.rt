@@ -2,19 +2,24 @@
 
 ghost use Rattle.std.specs.Prelude.{◌≡◌, length};
 
-use crate::calling::Asked;
+use crate::calling::{Asked, make};
 use crate::cluster::op;
-use crate::coordinators::{BEGUN, ENTRIES, Either, Kind, LAST, begun, is_lost, writes_right};
+use crate::coordinators::{Either, Kind, LAST, are_alike, begun, commit, go_on, is_lost};
 use crate::memory::Memory;
 use crate::verdict::{Verdict, judged};
-use fm_coord::entry::{Call, Entry};
+use fm_coord::entry::{Call, Range};
+use fm_delta::packet::Packet;
 use fm_edit::keepers::Keeper;
 use fm_fleet::audit::audit;
 use fm_fleet::closing::{Closed, close};
 use fm_fleet::node::Node;
 use fm_fleet::round::{NoGate, run_round};
 use fm_fleet::seat::{NodeName, Seat};
+use fm_planner::planned::plan_of;
+use fm_records::ops::Op;
 use fm_records::refusal::Refusal;
+use fm_round::parts::Plan;
+use std::alloc::Global;
 use std::marker::Brand;
 use std::sync::Wait;
 use std::sync::ledger::Blank;
@@ -27,16 +32,6 @@ const SEAT: u32 = 1;
 pub(crate) enum Wanted {
     Call(Asked),
     Round,
-}
-
-impl Wanted {
-    // How many entries it adds.
-    fn entries(&self) -> usize {
-        match self {
-            Wanted::Call(_) => 1,
-            Wanted::Round => 2,
-        }
-    }
 }
 
 // What is left of a node whose seat asked, and why it was refused.
@@ -54,8 +49,14 @@ pub(crate) fn asked<R: Wait>(
     wanted: Wanted,
 ) -> Result<Verdict, Refusal> {
     let coordinator = begun(memory, kind, 1)?;
-    let mut left = picked(rt, memory, coordinator, wanted)?;
-    looked_at(memory, kind, wanted, &mut left)
+    let Left {
+        mut closed,
+        refusal,
+    } = picked(rt, memory, coordinator, wanted)?;
+    let is_listed = audit(&closed).is_ok();
+    let is_lost = is_lost(&closed.coordinator, kind);
+    let verdict = looked_at(memory, &mut closed.coordinator, wanted, refusal, is_listed)?;
+    Ok(verdict.with_stale(is_lost))
 }
 
 // Plays under a name that this call picks.
@@ -83,45 +84,45 @@ fn play<L: NodeName, R: Wait>(
     let Ok((node, mut seats)) = Node::<Keeper, L>::new(memory.alloc, blank, coordinator, 1) else {
         return Err(Refusal::OutOfMemory);
     };
-    let refusal = asks(rt, memory, &node, seats.as_mut_slice(), wanted).err();
+    let refusal = refused(rt, memory, &node, seats.as_mut_slice(), wanted)?;
     match close(node, seats) {
         Ok(closed) => Ok(Left { closed, refusal }),
         Err(kept) => Err(kept.refusal),
     }
 }
 
-// The first seat tells the last operations, and asks.
-fn asks<L: NodeName, R: Wait>(
+// Why the first seat is refused what it asks for, if it is.
+fn refused<L: NodeName, R: Wait>(
     rt: &R,
     memory: Memory,
     node: &Node<Keeper, L>,
     seats: &mut [Seat<L>],
     wanted: Wanted,
-) -> Result<(), Refusal> {
+) -> Result<Option<Refusal>, Refusal> {
     let Some(seat) = seats.first_mut() else {
         return Err(Refusal::NotMine(SEAT));
     };
     for number in LAST {
-        make_at(rt, node, seat, Call::Tell(op(number)))?;
+        tell_at(rt, node, seat, op(number))?;
     }
     match wanted {
-        Wanted::Call(asked) => calls(rt, memory, node, seat, asked),
-        Wanted::Round => rounds(rt, memory, node, seat),
+        Wanted::Call(asked) => refused_call(rt, memory, node, seat, asked),
+        Wanted::Round => Ok(refused_round(rt, memory, node, seat)),
     }
 }
 
-fn calls<L: NodeName, R: Wait>(
+fn refused_call<L: NodeName, R: Wait>(
     rt: &R,
     memory: Memory,
     node: &Node<Keeper, L>,
     seat: &mut Seat<L>,
     asked: Asked,
-) -> Result<(), Refusal> {
+) -> Result<Option<Refusal>, Refusal> {
     let call = asked.call(memory.alloc)?;
     memory.refuse();
-    let made = make_at(rt, node, seat, call);
+    let refusal = make_at(rt, node, seat, call).err();
     memory.give();
-    made
+    Ok(refusal)
 }
 
 fn make_at<L: NodeName, R: Wait>(
@@ -130,91 +131,159 @@ fn make_at<L: NodeName, R: Wait>(
     seat: &mut Seat<L>,
     call: Call,
 ) -> Result<(), Refusal> {
-    let _answer = node.call(rt, seat, call)?;
+    match call {
+        Call::Tell(op) => tell_at(rt, node, seat, op),
+        Call::Merge(packet) => merge_at(rt, node, seat, packet),
+        Call::Cut(range) => cut_at(rt, node, seat, range),
+        Call::Trim(n) => trim_at(rt, node, seat, n),
+        Call::View => view_at(rt, node, seat),
+        Call::Commit(plan) => commit_at(rt, node, seat, plan),
+    }
+}
+
+fn tell_at<L: NodeName, R: Wait>(
+    rt: &R,
+    node: &Node<Keeper, L>,
+    seat: &mut Seat<L>,
+    op: Op,
+) -> Result<(), Refusal> {
+    node.tell(rt, seat, op)
+}
+
+fn merge_at<L: NodeName, R: Wait>(
+    rt: &R,
+    node: &Node<Keeper, L>,
+    seat: &mut Seat<L>,
+    packet: Packet,
+) -> Result<(), Refusal> {
+    node.merge(rt, seat, packet)
+}
+
+fn cut_at<L: NodeName, R: Wait>(
+    rt: &R,
+    node: &Node<Keeper, L>,
+    seat: &mut Seat<L>,
+    range: Range,
+) -> Result<(), Refusal> {
+    let _packet = node.cut(rt, seat, range)?;
     Ok(())
 }
 
-fn rounds<L: NodeName, R: Wait>(
+fn trim_at<L: NodeName, R: Wait>(
+    rt: &R,
+    node: &Node<Keeper, L>,
+    seat: &mut Seat<L>,
+    n: u64,
+) -> Result<(), Refusal> {
+    node.trim(rt, seat, n)
+}
+
+fn view_at<L: NodeName, R: Wait>(
+    rt: &R,
+    node: &Node<Keeper, L>,
+    seat: &mut Seat<L>,
+) -> Result<(), Refusal> {
+    let _view = node.view(rt, seat)?;
+    Ok(())
+}
+
+fn commit_at<L: NodeName, R: Wait>(
+    rt: &R,
+    node: &Node<Keeper, L>,
+    seat: &mut Seat<L>,
+    plan: Plan,
+) -> Result<(), Refusal> {
+    let _admitted = node.commit(rt, seat, plan)?;
+    Ok(())
+}
+
+fn refused_round<L: NodeName, R: Wait>(
     rt: &R,
     memory: Memory,
     node: &Node<Keeper, L>,
     seat: &mut Seat<L>,
-) -> Result<(), Refusal> {
+) -> Option<Refusal> {
     let mut gate = NoGate;
     memory.refuse();
     let refusal = run_round(rt, memory.alloc, node, seat, &mut gate).err();
     memory.give();
-    match refusal {
-        Some(refusal) => Err(refusal),
-        None => Ok(()),
-    }
+    refusal
 }
 
-// What became of it: the history is to begin as it did, to have the entries of the call, or, if it was refused, not all of them, and
-// the seat's list is to agree with that.
+// What became of it: the coordinator is to be as one that was asked the same without a node.
 fn looked_at(
     memory: Memory,
-    kind: Kind,
+    coordinator: &mut Either,
     wanted: Wanted,
-    left: &mut Left,
+    refusal: Option<Refusal>,
+    is_listed: bool,
 ) -> Result<Verdict, Refusal> {
-    let refusal = left.refusal;
-    let entries = left.closed.coordinator.history().len();
-    let is_lost = is_lost(&left.closed.coordinator, kind);
-    let is_right = has_entries(entries, wanted, refusal.is_some())
-        && begins_as_before(memory, left.closed.coordinator.history())?
-        && audit(&left.closed).is_ok()
-        && writes_right(memory.alloc, &mut left.closed.coordinator)?;
-    Ok(
-        judged(refusal, is_right)
-            .with_view(entries > ENTRIES)
-            .with_stale(is_lost),
-    )
+    let mut other = begun(memory, Kind::Builds, 1)?;
+    compared(memory, coordinator, &mut other, wanted, refusal, is_listed)
 }
 
-// Whether the history begins as that of a coordinator before the last operations.
-fn begins_as_before(memory: Memory, history: &[Entry]) -> Result<bool, Refusal> {
-    let before = begun(memory, Kind::Builds, 1)?;
-    Ok(begins_alike(history, before.history()))
+fn compared(
+    memory: Memory,
+    coordinator: &mut Either,
+    other: &mut Either,
+    wanted: Wanted,
+    refusal: Option<Refusal>,
+    is_listed: bool,
+) -> Result<Verdict, Refusal> {
+    go_on(other, SEAT)?;
+    let is_viewed = is_round(wanted) && other.history().len() < coordinator.history().len();
+    if refusal.is_none() {
+        ask(memory.alloc, other, wanted)?;
+    } else if is_viewed {
+        ask(memory.alloc, other, Wanted::Call(Asked::View))?;
+    }
+    let is_right = is_listed && are_alike(memory.alloc, coordinator, other)?;
+    Ok(judged(refusal, is_right).with_view(is_viewed))
 }
 
-fn begins_alike(history: &[Entry], before: &[Entry]) -> bool {
-    match history.get(..before.len()) {
-        Some(first) => first == before,
-        None => false,
+fn is_round(wanted: Wanted) -> bool {
+    match wanted {
+        Wanted::Call(_) => false,
+        Wanted::Round => true,
     }
 }
 
-fn has_entries(entries: usize, wanted: Wanted, is_refused: bool) -> bool {
-    let complete = ENTRIES + wanted.entries();
-    if is_refused {
-        ENTRIES <= entries && entries < complete
-    } else {
-        entries == complete
+fn ask(alloc: Global, coordinator: &mut Either, wanted: Wanted) -> Result<(), Refusal> {
+    match wanted {
+        Wanted::Call(asked) => make(coordinator, SEAT, asked.call(alloc)?),
+        Wanted::Round => round(alloc, coordinator),
     }
+}
+
+// A round, without a node.
+fn round(alloc: Global, coordinator: &mut Either) -> Result<(), Refusal> {
+    let sight = coordinator.see(SEAT)?;
+    let plan = plan_of(alloc, sight.knowledge.get())?;
+    commit(coordinator, SEAT, plan)
 }
 
 /// A node is made of a coordinator, which is returned if that is refused.
 pub(crate) fn made_node(memory: Memory) -> Result<Verdict, Refusal> {
     let coordinator = begun(memory, Kind::Edits, 1)?;
-    let mut kept = picked_node(memory, coordinator)?;
-    let is_as_begun = kept.coordinator.history().len() == BEGUN && kept.coordinator.is_fresh();
-    let is_right = is_as_begun && writes_right(memory.alloc, &mut kept.coordinator)?;
-    Ok(judged(kept.refusal, is_right))
+    let (mut kept, refusal) = picked_node(memory, coordinator)?;
+    let is_right = is_as_begun(memory, &mut kept)?;
+    Ok(judged(refusal, is_right))
 }
 
-// The coordinator of which a node was to be made, and why it was not.
-#[derive(Drop)]
-struct Kept {
-    coordinator: Either,
-    refusal: Option<Refusal>,
+fn is_as_begun(memory: Memory, coordinator: &mut Either) -> Result<bool, Refusal> {
+    let mut wanted = begun(memory, Kind::Builds, 1)?;
+    are_alike(memory.alloc, coordinator, &mut wanted)
 }
 
-fn picked_node(memory: Memory, coordinator: Either) -> Result<Kept, Refusal> {
+fn picked_node(memory: Memory, coordinator: Either) -> Result<(Either, Option<Refusal>), Refusal> {
     new_node::<Brand>(memory, Blank::new(1), coordinator)
 }
 
-fn new_node<L: NodeName>(memory: Memory, blank: Blank, coordinator: Either) -> Result<Kept, Refusal>
+fn new_node<L: NodeName>(
+    memory: Memory,
+    blank: Blank,
+    coordinator: Either,
+) -> Result<(Either, Option<Refusal>), Refusal>
     requires name { blank.name ≡ L.name }
     requires parts { blank.parts ≡ L.parts }
     requires seats { 1 ≡ L.parts }
@@ -224,15 +293,9 @@ fn new_node<L: NodeName>(memory: Memory, blank: Blank, coordinator: Either) -> R
     let answer = Node::<Keeper, L>::new(memory.alloc, blank, coordinator, 1);
     memory.give();
     match answer {
-        Err(fault) => Ok(Kept {
-            coordinator: fault.coordinator,
-            refusal: Some(fault.refusal),
-        }),
+        Err(fault) => Ok((fault.coordinator, Some(fault.refusal))),
         Ok((node, seats)) => match close(node, seats) {
-            Ok(closed) => Ok(Kept {
-                coordinator: closed.coordinator,
-                refusal: None,
-            }),
+            Ok(closed) => Ok((closed.coordinator, None)),
             Err(kept) => Err(kept.refusal),
         },
     }

@@ -7,6 +7,7 @@ use crate::seats::{self, Wanted};
 use crate::verdict::Verdict;
 use crate::{editing, gathering, knowing, networks, planning};
 use fm_records::refusal::Refusal;
+use std::fmt;
 use std::sync::Wait;
 
 /// A call of values.
@@ -56,6 +57,7 @@ pub(crate) const VALUES: [Value; 17] = [
 #[derive(Clone, Copy, Drop)]
 pub(crate) enum Kept {
     Asked(Asked),
+    Shown,
     Dumped,
     BySeat(Asked),
     Round,
@@ -136,28 +138,24 @@ impl Value {
     }
 }
 
+impl fmt::Display for Kept {
+    fn fmt<W: fmt::Write>(&self, f: &mut fmt::Formatter<W>) -> fmt::Result {
+        match self {
+            Kept::Asked(asked) => f.write_str(asked.text()),
+            Kept::Shown => f.write_str("what a view shows"),
+            Kept::Dumped => f.write_str("dump of a coordinator"),
+            Kept::BySeat(asked) => write!(f, "{} by a seat", asked.text()),
+            Kept::Round => f.write_str("run_round"),
+        }
+    }
+}
+
 impl Kept {
-    // As it is printed.
-    fn text(&self) -> &'static str {
-        match self {
-            Kept::Asked(asked) | Kept::BySeat(asked) => asked.text(),
-            Kept::Dumped => "dump of a coordinator",
-            Kept::Round => "run_round",
-        }
-    }
-
-    // Who made it, if that is printed.
-    fn by(&self) -> &'static str {
-        match self {
-            Kept::BySeat(_) => " by a seat",
-            _ => "",
-        }
-    }
-
     // Makes it.
     fn made<R: Wait>(&self, rt: &R, memory: Memory, kind: Kind) -> Result<Verdict, Refusal> {
         match self {
             Kept::Asked(asked) => calling::called(memory, kind, *asked),
+            Kept::Shown => calling::viewed(memory, kind),
             Kept::Dumped => calling::dumped(memory, kind),
             Kept::BySeat(asked) => seats::asked(rt, memory, kind, Wanted::Call(*asked)),
             Kept::Round => seats::asked(rt, memory, kind, Wanted::Round),
@@ -189,16 +187,17 @@ impl Other {
     }
 }
 
-impl Trial {
-    /// As it is printed: the call, who made it, and how its coordinator keeps its network.
-    pub(crate) fn names(&self) -> (&'static str, &'static str, &'static str) {
+impl fmt::Display for Trial {
+    fn fmt<W: fmt::Write>(&self, f: &mut fmt::Formatter<W>) -> fmt::Result {
         match self {
-            Trial::Value(value) => (value.text(), "", ""),
-            Trial::Kept(kept, kind) => (kept.text(), kept.by(), kind.text()),
-            Trial::Other(other) => (other.text(), "", ""),
+            Trial::Value(value) => f.write_str(value.text()),
+            Trial::Kept(kept, kind) => write!(f, "{kept}, {}", kind.text()),
+            Trial::Other(other) => f.write_str(other.text()),
         }
     }
+}
 
+impl Trial {
     /// Makes the call, and says its result. Refused if what it is made on could not be made.
     pub(crate) fn made<R: Wait>(&self, rt: &R, memory: Memory) -> Result<Verdict, Refusal> {
         match self {

@@ -11,7 +11,7 @@ pub(crate) enum Verdict {
     DoneStale,
     /// It was answered otherwise, or what it changed is something else.
     DoneOtherwise,
-    /// It ran out of memory, and all that is looked at is as before.
+    /// It ran out of memory, and all is as before.
     Unchanged,
     /// It ran out of memory after its view, which alone is listed.
     Viewed,
