@@ -43,8 +43,11 @@ class Beside:
                 added[crate.name, "run"] = [(crate.name, "proof")], 1, GROUP, lambda given, _jobs, crate=crate: self.run_program(given, crate)
         programs = [(name, "proof") for name in TESTED]
         if all(key in given for key in programs) and os.getcwd() == str(ROOT):
+            # one after another: some measure the time of processors, or wait for what others do
+            before = programs
             for group in groups():
-                added["tests/run", group] = programs, 1, GROUP, lambda given, _jobs, group=group: self.group(given, group)
+                added["tests/run", group] = before, 1, GROUP, lambda given, _jobs, group=group: self.group(given, group)
+                before = [*programs, ("tests/run", group)]
         return added
 
     def timed(self, task, command, **how):
