@@ -1,5 +1,5 @@
 mod Causes
-mod Columns
+pub mod Columns
 mod Drained
 mod Ending
 mod Merging
@@ -7,7 +7,6 @@ mod Passing
 mod Seated
 pub mod Stopping
 mod Working
-pub mod Listing
 pub mod Same
 pub mod Numbers
 pub mod Senders

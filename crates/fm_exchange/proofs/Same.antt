@@ -15,7 +15,7 @@ use Rattle.fm_coord.specs.Numbers.{AreDistinct}
 use Rattle.fm_coord.specs.States.{State, IsCoordinator, entry, took, replay_of}
 use Rattle.fm_gather.specs.Listings.{AreCoordinators, number_in}
 use Rattle.fm_exchange.specs.Exchanges.{whole_packet, cut_off, merged_in, of_others, told_by_others, after_exchange}
-use Rattle.fm_exchange.specs.Musters.{KnowSame}
+use Rattle.fm_exchange.specs.Agreement.{KnowSame}
 
 -- members of lists
 

@@ -5,4 +5,4 @@ pub mod Passing
 pub mod Used
 pub mod Works
 pub mod Exchanges
-pub mod Musters
+pub mod Agreement

@@ -1,7 +1,7 @@
 -- Why a fleet is stopped (this project's profile).
 use Rattle.std.specs.Prelude.{◌≡◌, ◌⊎◌, Bool, true, false, IsTrue, List, [], Option, Some, None, length}
 use Rattle.fm_records.specs.declared.refusal.Refusal.{Refusal}
-use Rattle.fm_records.specs.declared.refusal.Refusal.TheVariants.{OutOfMemory, BadOp, HistoryFull, InboxFull, NotMine, Stuck}
+use Rattle.fm_records.specs.declared.refusal.Refusal.TheVariants.{OutOfMemory, BadOp, HistoryFull, InboxFull, NotMine}
 use Rattle.fm_exchange.specs.Members.{MemberSeen}
 
 -- whether a refusal may stop a fleet: memory ran out, an operation is out of range, a history or an inbox is full, or an audit
@@ -18,10 +18,6 @@ may_stop _ = false
 abbrev pub may_be_first : Option Refusal → Bool
 may_be_first None = true
 may_be_first (Some refusal) = may_stop refusal
-
--- why a fleet is not counted: it was stopped, or its histories are not one list of steps
-abbrev pub StopsMuster : Refusal → Type 0
-StopsMuster r = IsTrue (may_stop r) ⊎ (r ≡ Stuck)
 
 -- what comes back of a fleet of these members that is refused: all of them, if no thread was started, or else as many
 -- coordinators

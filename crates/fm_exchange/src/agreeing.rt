@@ -6,7 +6,7 @@ ghost use Rattle.fm_coord.specs.States.{State};
 ghost use Rattle.fm_world.specs.Stands.{state_of, number_of};
 ghost use Rattle.fm_gather.specs.Listings.{AreCoordinators, Made, IsWhole};
 ghost use Rattle.fm_exchange.specs.Exchanges.{after_exchange};
-ghost use Rattle.fm_exchange.specs.Musters.{KnowSame, AreCutBySenders};
+ghost use Rattle.fm_exchange.specs.Agreement.{KnowSame, AreCutBySenders};
 
 use fm_coord::coordinator::Coordinator;
 use fm_policy::keeper::NetKeeper;

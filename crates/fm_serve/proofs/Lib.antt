@@ -1,3 +1,5 @@
 pub mod Rounds
 pub mod Coming
 pub mod Answering
+mod Listing
+mod Numbers

@@ -4,9 +4,9 @@ use Rattle.fm_records.specs.declared.refusal.Refusal.{Refusal}
 use Rattle.fm_records.specs.declared.refusal.Refusal.TheVariants.{OutOfMemory}
 use Rattle.fm_input.specs.declared.script.Tell.{Tell}
 use Rattle.fm_input.specs.Texts.{SpellsTells, SpellsNoTells}
-use Rattle.fm_exchange.specs.declared.counts.Counts.{Counts}
-use Rattle.fm_exchange.specs.declared.muster.Stop.{Stop}
-use Rattle.fm_exchange.specs.Musters.{IsMustered, IsStopped, counts_text}
+use Rattle.fm_serve.specs.declared.counts.Counts.{Counts}
+use Rattle.fm_serve.specs.declared.muster.Stop.{Stop}
+use Rattle.fm_serve.specs.Musters.{IsMustered, IsStopped, counts_text}
 use Rattle.fm_serve.specs.declared.fault.Fault.{Fault}
 use Rattle.fm_serve.specs.Faults.{fault_of, script_fault_of}
 

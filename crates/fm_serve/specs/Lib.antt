@@ -1,6 +1,7 @@
 pub mod Faults
 pub mod Endings
 pub mod Running
+pub mod Musters
 pub mod Fleets
 pub mod Refused
 pub mod Answers

@@ -7,7 +7,7 @@ ghost use Rattle.fm_serve.specs.Fleets.{IsUntold, IsCounted, IsNotCounted};
 
 use crate::fault::Fault;
 use crate::progress::Progress;
-use fm_exchange::muster::muster;
+use crate::muster::muster;
 use fm_input::script::Tells;
 use fm_input::telling::read_tells;
 use std::alloc::Global;

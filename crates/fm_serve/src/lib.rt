@@ -3,9 +3,13 @@
 #![tactic(auto)]
 
 pub mod answer;
+mod counter;
+pub mod counts;
 pub mod ending;
 pub mod fault;
 pub mod fleet;
+mod members;
+pub mod muster;
 pub mod progress;
 mod refusals;
 pub mod respond;

@@ -1,5 +1,5 @@
 use Rattle.std.proofs.Common.{sym, subst}
-use Rattle.fm_exchange.specs.Musters.{KnowSame}
+use Rattle.fm_exchange.specs.Agreement.{KnowSame}
 use Rattle.fm_uses.proofs.exchange.agree.Goals as goal
 
 pub returns-clause-same : goal.returns-clause-same

@@ -2,7 +2,7 @@
 
 ghost use Rattle.std.specs.Prelude.{◌≡◌, ◌++◌, IfOk, OnOk, IsOkUnless, string_bytes};
 ghost use Rattle.std.specs.List.{flat_map};
-ghost use Rattle.fm_exchange.specs.Musters.{calls_line, counts_text};
+ghost use Rattle.fm_serve.specs.Musters.{calls_line, counts_text};
 
 use fm_records::ids::CoordId;
 use fm_records::refusal::Refusal;

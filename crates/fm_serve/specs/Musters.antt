@@ -1,28 +1,25 @@
 -- The counts of a script of tells whose coordinators run in threads (this project's profile).
-use Rattle.std.specs.Prelude.{◌≡◌, ◌⊎◌, ℕ, ◌+◌, ◌==◌, List, [], ◌∷◌, ◌++◌, length, map, cond, codes, decimal, Option, Some, None, option_map}
+use Rattle.std.specs.Prelude.{◌≡◌, ◌⊎◌, IsTrue, ℕ, ◌+◌, ◌==◌, List, [], ◌∷◌, ◌++◌, length, map, cond, codes, decimal, Option, Some, None, option_map}
 use Rattle.std.specs.List.{flat_map}
 use Rattle.fm_records.specs.declared.ops.Op.{Op}
 use Rattle.fm_records.specs.declared.refusal.Refusal.{Refusal}
-use Rattle.fm_records.specs.declared.refusal.Refusal.TheVariants.{BadOp, NoCoordinator}
+use Rattle.fm_records.specs.declared.refusal.Refusal.TheVariants.{BadOp, NoCoordinator, Stuck}
 use Rattle.fm_records.specs.Ops.{op_fault}
-use Rattle.fm_records.specs.Sets.{IsMember}
-use Rattle.fm_delta.specs.declared.packet.Packet.{Packet}
-use Rattle.fm_coord.specs.declared.entry.Entry.{Entry}
-use Rattle.fm_coord.specs.declared.entry.Call.TheVariants as call
-use Rattle.fm_coord.specs.declared.entry.Reply.TheVariants as reply
 use Rattle.fm_coord.specs.States.{State}
 use Rattle.fm_world.specs.declared.step.Step.{Step}
 use Rattle.fm_gather.specs.Listings.{IsWholeRun}
 use Rattle.fm_exchange.specs.Served.{AreServed}
+use Rattle.fm_exchange.specs.Stopping.{may_stop}
 use Rattle.fm_exchange.specs.Members.{MemberSeen, member, tasks_of}
 use Rattle.fm_exchange.specs.Passing.{passed_at, ArePassedOn}
 use Rattle.fm_exchange.specs.Exchanges.{after_exchange}
+use Rattle.fm_exchange.specs.Agreement.{KnowSame, AreCutBySenders}
 use Rattle.fm_input.specs.declared.script.Tell.{Tell}
 use Rattle.fm_input.specs.Script.{is_listed}
 use Rattle.fm_opening.specs.Openings.{history_limit}
-use Rattle.fm_exchange.specs.declared.counts.Calls.{Calls}
-use Rattle.fm_exchange.specs.declared.counts.Counts.{Counts}
-use Rattle.fm_exchange.specs.declared.muster.Stop.{Stop}
+use Rattle.fm_serve.specs.declared.counts.Calls.{Calls}
+use Rattle.fm_serve.specs.declared.counts.Counts.{Counts}
+use Rattle.fm_serve.specs.declared.muster.Stop.{Stop}
 
 -- what the coordinator with the number is told, in order
 abbrev pub told_at : ℕ → List Tell → List Op
@@ -51,27 +48,6 @@ first_refused listed place (t ∷ ts) = named_or place (tell_fault listed t) (fi
 abbrev pub calls_of : State → Calls
 calls_of s = record { coordinator = s.number; count = length s.history }
 
--- any two of the coordinators know the same
-abbrev pub KnowSame : List State → Type 0
-KnowSame ss = (s t : State) → IsMember s ss → IsMember t ss → s.knowledge ≡ t.knowledge
-
--- the coordinator merged this packet; it cut this packet
-abbrev pub HasMerged : State → Packet → Type 0
-HasMerged s p = (e : Entry) × IsMember e s.history × (e.call ≡ call.Merge p)
-
-abbrev pub HasCut : State → Packet → Type 0
-HasCut s p = (e : Entry) × IsMember e s.history × (e.reply ≡ reply.Packet p)
-
--- the coordinator is the packet's sender, and cut it, and no other of its number
-pub record IsCutOf (s : State) (p : Packet) : Type 0 where
-  pub sender : s.number ≡ p.sender
-  pub cut : HasCut s p
-  pub only : (q : Packet) → HasCut s q → q.number ≡ p.number → q ≡ p
-
--- each packet that one of the coordinators merged was cut by the one that it names
-abbrev pub AreCutBySenders : List State → Type 0
-AreCutBySenders ss = (s : State) (p : Packet) → IsMember s ss → HasMerged s p → (r : State) × IsMember r ss × IsCutOf r p
-
 -- a fleet of the members ran, and this was counted of it
 pub record IsMustered (listed : List ℕ) (tells : List Tell) (rounds : ℕ) (c : Counts) : Type 0 where
   -- the coordinators when they were closed: each did what it was to do
@@ -91,6 +67,10 @@ pub record IsMustered (listed : List ℕ) (tells : List Tell) (rounds : ℕ) (c 
 -- why nothing was counted: the first tell that is refused; or none is, and no step is named
 abbrev pub IsStopped : List ℕ → List Tell → Stop → Type 0
 IsStopped listed tells stop = (first_refused listed 1 tells ≡ Some stop) ⊎ ((first_refused listed 1 tells ≡ None) × (stop.step ≡ None))
+
+-- why a fleet is not counted: it was stopped, or its histories are not one list of steps
+abbrev pub StopsMuster : Refusal → Type 0
+StopsMuster r = IsTrue (may_stop r) ⊎ (r ≡ Stuck)
 
 -- the lines: what each coordinator accepted, that all was audited, the length of the one list, and that all know the
 -- same

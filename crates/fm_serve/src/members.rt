@@ -2,12 +2,12 @@
 
 ghost use Rattle.std.specs.Prelude.{◌≡◌, ◌++◌, None, Some, IfOk, IfErr, OnOk};
 ghost use Rattle.fm_input.specs.Script.{is_listed};
-ghost use Rattle.fm_exchange.specs.Musters.{tell_fault, first_refused, told_at, members_of};
+ghost use Rattle.fm_serve.specs.Musters.{tell_fault, first_refused, told_at, members_of};
 
 use crate::counter::RoundCounter;
-use crate::member::Member;
 use crate::muster::Stop;
 use fm_edit::keepers::Keeper;
+use fm_exchange::member::Member;
 use fm_input::script::Tell;
 use fm_lattice::join::OutOfMemory;
 use fm_opening::coordinators::coordinator_at;

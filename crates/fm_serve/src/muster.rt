@@ -3,16 +3,15 @@
 ghost use Rattle.std.specs.Prelude.{◌≡◌, None, map, IfOk, IfErr};
 ghost use Rattle.fm_coord.specs.Numbers.{AreDistinct};
 ghost use Rattle.fm_world.specs.Stands.{state_of};
-ghost use Rattle.fm_exchange.specs.Musters.{calls_of, IsMustered, IsStopped};
-ghost use Rattle.fm_exchange.specs.Stopping.{StopsMuster};
+ghost use Rattle.fm_serve.specs.Musters.{calls_of, IsMustered, IsStopped, StopsMuster};
 
-use crate::agreeing::{law_exchanged, law_senders};
 use crate::counts::{Calls, Counts};
-use crate::exchange::exchange;
-use crate::fleet::run_fleet;
 use crate::members::{first_refused, members};
 use fm_coord::coordinator::Coordinator;
 use fm_edit::keepers::Keeper;
+use fm_exchange::agreeing::{law_exchanged, law_senders};
+use fm_exchange::exchange::exchange;
+use fm_exchange::fleet::run_fleet;
 use fm_gather::gather::gather;
 use fm_input::script::Tells;
 use fm_lattice::join::OutOfMemory;

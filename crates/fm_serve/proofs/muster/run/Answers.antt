@@ -5,10 +5,11 @@ use Rattle.fm_gather.specs.Listings.{IsWholeRun, IsWhole}
 use Rattle.fm_exchange.specs.Served.{AreServed}
 use Rattle.fm_exchange.specs.Members.{tasks_of}
 use Rattle.fm_exchange.specs.Exchanges.{after_exchange}
-use Rattle.fm_exchange.specs.Musters.{members_of, calls_of, KnowSame, AreCutBySenders}
+use Rattle.fm_exchange.specs.Agreement.{KnowSame, AreCutBySenders}
+use Rattle.fm_serve.specs.Musters.{members_of, calls_of}
 use Rattle.fm_exchange.proofs.Columns.{written}
-use Rattle.fm_exchange.proofs.Numbers.{listed_before, listed_after}
-use Rattle.fm_exchange.proofs.muster.run.Goals as goal
+use Rattle.fm_serve.proofs.Numbers.{listed_before, listed_after}
+use Rattle.fm_serve.proofs.muster.run.Goals as goal
 
 pub law_exchanged-requires : goal.law_exchanged-requires
 law_exchanged-requires g c =

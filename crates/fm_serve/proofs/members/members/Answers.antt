@@ -1,9 +1,9 @@
 use Rattle.std.proofs.Common.{◌≡◌, ◌∙◌, arith}
 use Rattle.fm_exchange.specs.Members.{member}
 use Rattle.fm_opening.specs.Openings.{history_limit}
-use Rattle.fm_exchange.specs.Musters.{told_at}
-use Rattle.fm_exchange.proofs.Listing.{no_members, next_member, all_members}
-use Rattle.fm_exchange.proofs.members.members.Goals as goal
+use Rattle.fm_serve.specs.Musters.{told_at}
+use Rattle.fm_serve.proofs.Listing.{no_members, next_member, all_members}
+use Rattle.fm_serve.proofs.members.members.Goals as goal
 
 pub loop-number-init : goal.loop-number-init
 loop-number-init c = no_members c.args.listed.now c.args.tells.now c.in_ok-members.members.items c.in_ok-members.ensures.items

@@ -5,7 +5,7 @@ use Rattle.std.proofs.Math.Seq.{drop-cons}
 use Rattle.fm_input.specs.declared.script.Tell.{Tell}
 use Rattle.fm_exchange.specs.Members.{MemberSeen, member}
 use Rattle.fm_opening.specs.Openings.{history_limit}
-use Rattle.fm_exchange.specs.Musters.{told_at, members_of}
+use Rattle.fm_serve.specs.Musters.{told_at, members_of}
 
 -- before the first
 pub no_members : (listed : List ℕ) (tells : List Tell) (ms : List MemberSeen) → ms ≡ [] → ms ++ members_of (drop 0 listed) tells ≡ members_of listed tells
