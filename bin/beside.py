@@ -19,7 +19,7 @@ SECONDS = 3600
 COUNTS = re.compile(r"^(\d+) passed, (\d+) failed$", re.MULTILINE)
 TRIED = re.compile(r"^test result: \w+\. (\d+) passed; (\d+) failed; 0 ignored; 0 filtered out$", re.MULTILINE)
 # the programs that tests/run runs
-TESTED = ("fm_cli", "fm_watch", "fm_refused")
+TESTED = ("fm_cli", "fm_probe_editor", "fm_faults")
 
 
 class Beside:

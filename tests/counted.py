@@ -1,5 +1,5 @@
-"""Tests of what calls ask the allocator for: `fm_watch steps` takes the first steps of a script, with and without the last one, and
-tests/refusing.c counts. With `fm_watch sights` a round is a look with the tally, and with `fm_watch tallies` the tally alone. And of what
+"""Tests of what calls ask the allocator for: `fm_probe_editor steps` takes the first steps of a script, with and without the last one, and
+tests/refusing.c counts. With `fm_probe_editor sights` a round is a look with the tally, and with `fm_probe_editor tallies` the tally alone. And of what
 a process keeps: its resident memory. A record is a pair of a key and a value in a block of 64 pairs at most, which maps share."""
 import json
 import resource

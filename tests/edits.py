@@ -1,6 +1,6 @@
-"""Tests of an Editor by what it does with each delta, which `fm_watch` prints: the edits are the change from the network before
+"""Tests of an Editor by what it does with each delta, which `fm_probe_editor` prints: the edits are the change from the network before
 to the one after, as tests/reference.py works both out, and what is looked up are the keys of the delta, each once and dirty.
-And tests of two coordinators that are looked at after each delta, with `fm_watch looks`: one edits its network, as the counts of
+And tests of two coordinators that are looked at after each delta, with `fm_probe_editor looks`: one edits its network, as the counts of
 its edits and builds show, the other builds it, and both networks are that of what was told."""
 import json
 import random

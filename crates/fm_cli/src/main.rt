@@ -8,7 +8,7 @@ use fm_serve::fault::Fault;
 use fm_serve::progress::Progress;
 use fm_serve::serve::serve;
 use fm_serve::watch::serve_watched;
-use fm_streams::source::Input;
+use fm_io::source::Input;
 use std::alloc::Global;
 use std::io::{BufReader, IsTerminal};
 use std::process::ExitCode;

@@ -8,7 +8,7 @@ use crate::node::Node;
 use crate::seat::{NodeName, Seat};
 use fm_coord::shared::Shared;
 use fm_coord::view::View;
-use fm_plan::least::least_plan;
+use fm_planner::network_plan::least_plan;
 use fm_planner::planned;
 use fm_policy::keeper::NetKeeper;
 use fm_records::refusal::Refusal;

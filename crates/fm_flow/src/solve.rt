@@ -4,7 +4,7 @@ ghost use Rattle.std.specs.Prelude.{◌≡◌, IfOk, IfErr};
 ghost use Rattle.fm_certificate.specs.Built.{IsBuilt};
 ghost use Rattle.fm_certificate.specs.Flows.{units_in, IsLeast};
 ghost use Rattle.fm_certificate.specs.Certificates.{IsCertified};
-ghost use Rattle.fm_numbered.specs.Numbered.{IsNumbered};
+ghost use Rattle.fm_indexed.specs.Numbered.{IsNumbered};
 
 use fm_certificate::flow::Flow;
 use fm_certificate::laws::law_least;
@@ -13,10 +13,10 @@ use fm_heuristics::first::first_flow;
 use fm_heuristics::start::resumed;
 use fm_lattice::join::OutOfMemory;
 use fm_net::network::Network;
-use fm_numbered::improved::improved;
-use fm_numbered::named::certified;
-use fm_numbered::numbered::Numbered;
-use fm_numbered::unscheduled::law_unscheduled;
+use fm_indexed::improved::improved;
+use fm_indexed::named::certified;
+use fm_indexed::numbered::Numbered;
+use fm_indexed::unscheduled::law_unscheduled;
 use fm_records::refusal::Refusal;
 use std::alloc::Global;
 

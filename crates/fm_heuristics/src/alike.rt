@@ -5,8 +5,8 @@ use crate::lanes::first_from;
 use crate::lenient::part;
 use fm_cycles::arcs::Arc;
 use fm_lattice::join::OutOfMemory;
-use fm_numbered::numbered::Numbered;
-use fm_numbered::places::Kind;
+use fm_indexed::numbered::Numbered;
+use fm_indexed::places::Kind;
 use std::alloc::Global;
 
 /// The arcs of a lone task: from the first to before the end.

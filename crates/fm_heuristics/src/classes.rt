@@ -2,9 +2,9 @@
 
 use crate::lenient::{part, put};
 use fm_lattice::join::OutOfMemory;
-use fm_numbered::numbered::Numbered;
-use fm_numbered::places::Kind;
-use fm_numbered::sums::{inflow, sum_at};
+use fm_indexed::numbered::Numbered;
+use fm_indexed::places::Kind;
+use fm_indexed::sums::{inflow, sum_at};
 use std::alloc::Global;
 
 /// A task with one of its places, and its arcs to the job and to that place. The *saving* is what the second costs less than

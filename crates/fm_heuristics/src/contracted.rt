@@ -7,8 +7,8 @@ use crate::link::{AMPLE, Link, Origin};
 use fm_cycles::arcs::Arc;
 use fm_cycles::lookup::value_or;
 use fm_lattice::join::OutOfMemory;
-use fm_numbered::numbered::Numbered;
-use fm_numbered::places::Kind;
+use fm_indexed::numbered::Numbered;
+use fm_indexed::places::Kind;
 use std::alloc::Global;
 
 /// The contracted network, with units that send each supply straight to the sink, over the links that join its nodes

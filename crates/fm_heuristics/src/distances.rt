@@ -10,7 +10,7 @@ use crate::lenient::part;
 use fm_cycles::arcs::Arc;
 use fm_cycles::lookup::value_or;
 use fm_lattice::join::OutOfMemory;
-use fm_numbered::numbered::Numbered;
+use fm_indexed::numbered::Numbered;
 use std::alloc::Global;
 
 // More than a path costs on which there are fewer than a million requests: an arc into a machine costs 1,000,000 at

@@ -3,15 +3,15 @@
 ghost use Rattle.std.specs.Prelude.{◌≡◌, ◌^◌, length, IfOk};
 ghost use Rattle.fm_cycles.specs.Walks.{AreBounded};
 ghost use Rattle.fm_cycles.specs.Found.{costs_in};
-ghost use Rattle.fm_numbered.specs.Feasible.{IsFlowOf};
-ghost use Rattle.fm_numbered.specs.Unscheduled.{all_unscheduled};
+ghost use Rattle.fm_indexed.specs.Feasible.{IsFlowOf};
+ghost use Rattle.fm_indexed.specs.Unscheduled.{all_unscheduled};
 
 use crate::distances::{potentials_from, potentials_over};
 use crate::lanes::first_from;
 use crate::simplex::simplex;
 use crate::start::start;
 use fm_lattice::join::OutOfMemory;
-use fm_numbered::numbered::Numbered;
+use fm_indexed::numbered::Numbered;
 use std::alloc::Global;
 
 // Whether tasks have more arcs than one to their job and one to a place. O(log arcs).

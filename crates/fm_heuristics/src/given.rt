@@ -5,7 +5,7 @@ use fm_certificate::flow::Flow;
 use fm_lattice::join::OutOfMemory;
 use fm_net::network::Network;
 use fm_net::node::Node;
-use fm_numbered::numbered::Numbered;
+use fm_indexed::numbered::Numbered;
 use std::alloc::Global;
 use std::cmp::Ordering;
 

@@ -5,9 +5,9 @@ use crate::lenient::put;
 use crate::loading::Loading;
 use fm_cycles::lookup::value_or;
 use fm_lattice::join::OutOfMemory;
-use fm_numbered::numbered::Numbered;
-use fm_numbered::places::Kind;
-use fm_numbered::sums::at;
+use fm_indexed::numbered::Numbered;
+use fm_indexed::places::Kind;
+use fm_indexed::sums::at;
 use std::alloc::Global;
 
 /// The units of the earlier flow that no task has taken up yet.

@@ -5,8 +5,8 @@ use crate::lanes::{Lanes, first_from, machine_at, machine_of, price_at, request_
 use crate::lenient::{part, put};
 use fm_cycles::lookup::value_or;
 use fm_lattice::join::OutOfMemory;
-use fm_numbered::numbered::Numbered;
-use fm_numbered::sums::at;
+use fm_indexed::numbered::Numbered;
+use fm_indexed::sums::at;
 use std::alloc::Global;
 
 /// More than any price.

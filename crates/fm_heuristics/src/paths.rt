@@ -7,8 +7,8 @@ use crate::lenient::put;
 use crate::loading::{Hop, Loading};
 use fm_cycles::lookup::value_or;
 use fm_lattice::join::OutOfMemory;
-use fm_numbered::numbered::Numbered;
-use fm_numbered::places::Kind;
+use fm_indexed::numbered::Numbered;
+use fm_indexed::places::Kind;
 use std::alloc::Global;
 
 /// How a request was reached: over a full machine where it has units, which another request joins, or else a task that

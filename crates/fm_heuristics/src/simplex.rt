@@ -1,7 +1,7 @@
 //! A flow by the network simplex method, with strongly feasible trees (Cunningham, 1976).
 
 ghost use Rattle.std.specs.Prelude.{IfOk, IfSome};
-ghost use Rattle.fm_numbered.specs.Feasible.{IsFlowOf};
+ghost use Rattle.fm_indexed.specs.Feasible.{IsFlowOf};
 
 use crate::alike::Alike;
 use crate::contracted::Contracted;
@@ -9,8 +9,8 @@ use crate::pivots::Pivots;
 use crate::spread::{costs, spread};
 use crate::tree::{Stop, Tree};
 use fm_lattice::join::OutOfMemory;
-use fm_numbered::feasible::is_feasible;
-use fm_numbered::numbered::Numbered;
+use fm_indexed::feasible::is_feasible;
+use fm_indexed::numbered::Numbered;
 use std::alloc::Global;
 
 // The hardest networks known, chains of preferences and ties everywhere, take a pivot a link at most.

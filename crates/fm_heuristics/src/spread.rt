@@ -7,7 +7,7 @@ use crate::lenient::put;
 use crate::link::{Link, Origin};
 use crate::tree::Tree;
 use fm_lattice::join::OutOfMemory;
-use fm_numbered::numbered::Numbered;
+use fm_indexed::numbered::Numbered;
 use std::alloc::Global;
 
 /// The units of the network's arcs if the links of the contracted one have these. O(arcs).

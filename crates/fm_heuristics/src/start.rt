@@ -4,8 +4,8 @@ ghost use Rattle.std.specs.Prelude.{IfOk, IfSome};
 ghost use Rattle.fm_cycles.specs.Walks.{ArePotentials};
 ghost use Rattle.fm_cycles.specs.Residual.{residual};
 ghost use Rattle.fm_cycles.specs.Found.{costs_in};
-ghost use Rattle.fm_numbered.specs.Feasible.{IsFlowOf};
-ghost use Rattle.fm_numbered.specs.Unscheduled.{all_unscheduled};
+ghost use Rattle.fm_indexed.specs.Feasible.{IsFlowOf};
+ghost use Rattle.fm_indexed.specs.Unscheduled.{all_unscheduled};
 
 use crate::classes::{Choice, Class, classes_of, drain, saving, settle};
 use crate::distances::potentials_from;
@@ -21,10 +21,10 @@ use fm_cycles::arcs::Arc;
 use fm_cycles::confirming::are_potentials;
 use fm_lattice::join::OutOfMemory;
 use fm_net::network::Network;
-use fm_numbered::feasible::is_feasible;
-use fm_numbered::numbered::Numbered;
-use fm_numbered::places::Kind;
-use fm_numbered::unscheduled::unscheduled;
+use fm_indexed::feasible::is_feasible;
+use fm_indexed::numbered::Numbered;
+use fm_indexed::places::Kind;
+use fm_indexed::unscheduled::unscheduled;
 use std::alloc::Global;
 
 // What a place is worth to a task that saves so much there: what a unit through it saves in all, except the price of

@@ -14,7 +14,7 @@ use Rattle.fm_records.specs.Table.{Table}
 use Rattle.fm_records.specs.Facts.{holder_of, holds}
 use Rattle.fm_tally.specs.declared.way.Way.{Way}
 use Rattle.fm_tally.specs.declared.way.Way.TheVariants.{ToJob, ByRequest, Straight}
-use Rattle.fm_ways.specs.Ways.{goes_by, takes_slot}
+use Rattle.fm_paths.specs.Ways.{goes_by, takes_slot}
 use Rattle.fm_planner.specs.Counts.{pair_of, machine_of}
 
 -- a comparison of numbers, as a test of equality

@@ -4,3 +4,4 @@ pub mod Entries
 pub mod Turns
 pub mod Shown
 mod Tops
+pub mod Plans

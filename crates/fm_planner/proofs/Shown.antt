@@ -23,13 +23,13 @@ use Rattle.fm_tally.specs.declared.tally.Tally.{Tally}
 use Rattle.fm_tally.specs.Tallies.{has_any, task_at, TallyIsFor}
 use Rattle.fm_tally.specs.declared.way.Way.{Way}
 use Rattle.fm_tally.specs.declared.way.Way.TheVariants.{ToJob, ByRequest, Straight}
-use Rattle.fm_ways.specs.Ways.{MayGo, ways_of, goes_by, takes_slot}
-use Rattle.fm_ways.specs.Prices.{first_node, arc_cost, cost_beyond, cost_from, AreFair}
-use Rattle.fm_ways.specs.Plans.{InTurn, all_at_jobs}
-use Rattle.fm_ways.specs.Moves.{rest_at, rest, ways_with, AreMoves, FitMoves}
-use Rattle.fm_ways.proofs.Moves.{asked_count, slot_count}
-use Rattle.fm_ways.proofs.Stands.{live_job}
-use Rattle.fm_ways.proofs.Fair.{waits_spec, not_held}
+use Rattle.fm_paths.specs.Ways.{MayGo, ways_of, goes_by, takes_slot}
+use Rattle.fm_paths.specs.Prices.{first_node, arc_cost, cost_beyond, cost_from, AreFair}
+use Rattle.fm_paths.specs.Plans.{InTurn, all_at_jobs}
+use Rattle.fm_paths.specs.Moves.{rest_at, rest, ways_with, AreMoves, FitMoves}
+use Rattle.fm_paths.proofs.Moves.{asked_count, slot_count}
+use Rattle.fm_paths.proofs.Stands.{live_job}
+use Rattle.fm_paths.proofs.Fair.{waits_spec, not_held}
 use Rattle.fm_search.specs.declared.claim.Claim.{Claim}
 use Rattle.fm_planner.specs.declared.counts.Counts.{Counts}
 use Rattle.fm_search.specs.Claims.{rise_of, price_of, offer_of}

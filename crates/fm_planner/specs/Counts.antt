@@ -8,7 +8,7 @@ use Rattle.fm_records.specs.Table.{Table}
 use Rattle.fm_records.specs.Facts.{holds}
 use Rattle.fm_tally.specs.declared.way.Way.{Way}
 use Rattle.fm_tally.specs.declared.way.Way.TheVariants.{ToJob, ByRequest, Straight}
-use Rattle.fm_ways.specs.Ways.{goes_by, takes_slot}
+use Rattle.fm_paths.specs.Ways.{goes_by, takes_slot}
 use Rattle.fm_planner.specs.declared.counts.Counts.{Counts}
 
 abbrev pub count_in : {K : Type 0} → (K → K → Ordering) → BTreeMap K ℕ → K → ℕ

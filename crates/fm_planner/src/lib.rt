@@ -1,8 +1,10 @@
-//! Plans of what is known from a tally of it: no network is built. The plan is that of a claim (`fm_search`) which passes a check.
+//! Plans of what is known. From a tally alone, with no network: the plan of a claim (`fm_search`) which passes a check. Or else
+//! that of a least flow of the network.
 #![tactic(auto)]
 
 mod checking;
 mod counts;
 mod making;
+pub mod network_plan;
 pub mod planned;
 pub mod planner;

@@ -7,7 +7,7 @@ ghost use Rattle.fm_tally.specs.Tallies.{TallyIsFor};
 use crate::planner::plan_of_tally;
 use fm_know::knowledge::Knowledge;
 use fm_lattice::join::OutOfMemory;
-use fm_plan::least::least_plan;
+use crate::network_plan::least_plan;
 use fm_policy::build::build;
 use fm_round::parts::Plan;
 use fm_tally::tally::Tally;

@@ -13,7 +13,7 @@ use fm_lattice::join::OutOfMemory;
 use fm_round::parts::Plan;
 use fm_search::search::search;
 use fm_tally::tally::Tally;
-use fm_ways::laws::law_moves;
+use fm_paths::laws::law_moves;
 use std::alloc::Global;
 
 /// A plan of a least flow of the network of what is known, which is not built. The caller must pass the tally of what is known.

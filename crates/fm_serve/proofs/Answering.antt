@@ -1,9 +1,9 @@
 -- What the program answers, from what its parts answer.
 use Rattle.std.proofs.Common.{◌≡◌, ◌⊎◌, ℕ, List, Bool, true, false, cond, Option, Some, None, inl, inr}
 use Rattle.fm_world.specs.Worlds.{WorldOfSets}
-use Rattle.fm_ask.specs.declared.query.Query.{Query}
-use Rattle.fm_ask.specs.Queries.{differs_in}
-use Rattle.fm_words.specs.Telling.{Asked, ask, agree, pack, unpack, run, why}
+use Rattle.fm_query.specs.declared.query.Query.{Query}
+use Rattle.fm_query.specs.Queries.{differs_in}
+use Rattle.fm_args.specs.Telling.{Asked, ask, agree, pack, unpack, run, why}
 use Rattle.fm_serve.specs.declared.fault.Fault.{Fault}
 use Rattle.fm_serve.specs.declared.ending.Ending.{Ending}
 use Rattle.fm_serve.specs.declared.ending.Ending.TheVariants.{Done, Differ, Wrong, Stopped}

@@ -6,8 +6,8 @@ use Rattle.fm_records.specs.declared.refusal.Refusal.{Refusal}
 use Rattle.fm_world.specs.Worlds.{WorldOfSets}
 use Rattle.fm_world.specs.Stands.{Kept, WorldStandsFor}
 use Rattle.fm_world.proofs.Runs.{each_knows, same_agree}
-use Rattle.fm_input.specs.declared.script.Step.{Step}
-use Rattle.fm_opening.specs.Openings.{new_world}
+use Rattle.fm_script.specs.declared.script.Step.{Step}
+use Rattle.fm_script.specs.Openings.{new_world}
 use Rattle.fm_serve.specs.Running.{Acts, Come, Refuses, StopsIn, IsRun}
 
 come_more : (w v u : WorldOfSets) (ss : List Step) (s : Step) → Come w ss v → Acts v s.at s.act u → Come w (ss ++ s ∷ []) u

@@ -2,9 +2,9 @@
 use Rattle.std.proofs.Common.{◌≡◌, ◌<◌, ◌≤◌, ◌+◌, ◌++◌, ◌∷◌, ◌∙◌, ℕ, suc, List, [], length, drop, sym, ap, append_assoc, arith, get_or}
 use Rattle.std.proofs.lemmas.List.{append-nil, length-drop, nil_from_length}
 use Rattle.std.proofs.Math.Seq.{drop-cons}
-use Rattle.fm_input.specs.declared.script.Tell.{Tell}
-use Rattle.fm_exchange.specs.Members.{MemberSeen, member}
-use Rattle.fm_opening.specs.Openings.{history_limit}
+use Rattle.fm_script.specs.declared.script.Tell.{Tell}
+use Rattle.fm_gossip.specs.Members.{MemberSeen, member}
+use Rattle.fm_script.specs.Openings.{history_limit}
 use Rattle.fm_serve.specs.Musters.{told_at, members_of}
 
 -- before the first

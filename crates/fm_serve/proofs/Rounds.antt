@@ -10,7 +10,7 @@ use Rattle.fm_world.specs.Stands.{Kept, WorldStandsFor, state_with, view_shown}
 use Rattle.fm_world.proofs.Places.{Stood, stood}
 use Rattle.fm_world.proofs.Runs.{if_err}
 use Rattle.fm_round.specs.Schedules.{IsPlanOf}
-use Rattle.fm_follow.specs.Acting.{step_at, IsPlanAt, Takes}
+use Rattle.fm_service.specs.Acting.{step_at, IsPlanAt, Takes}
 use Rattle.fm_serve.specs.Running.{Rounds, StopsAfterView}
 
 -- what is shown of a coordinator is what it knows

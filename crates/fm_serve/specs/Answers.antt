@@ -3,22 +3,22 @@ use Rattle.std.specs.Prelude.{◌≡◌, ◌⊎◌, ℕ, List, cond, option_map,
 use Rattle.fm_records.specs.declared.refusal.Refusal.{Refusal}
 use Rattle.fm_records.specs.declared.refusal.Refusal.TheVariants.{OutOfMemory, NoPacket}
 use Rattle.fm_world.specs.Worlds.{WorldOfSets}
-use Rattle.fm_input.specs.declared.script.Step.{Step}
-use Rattle.fm_input.specs.Script.{is_text}
-use Rattle.fm_input.specs.Texts.{Spells, SpellsNone}
-use Rattle.fm_ask.specs.declared.query.Query.{Query}
-use Rattle.fm_ask.specs.declared.query.Query.TheVariants as query
-use Rattle.fm_ask.specs.Queries.{IsText, differs_in, Lacks}
-use Rattle.fm_ask.specs.Unpacked.{IsUnpacked, IsNotUnpacked}
-use Rattle.fm_words.specs.declared.words.Question.{Question}
-use Rattle.fm_words.specs.declared.words.Question.TheVariants as question
-use Rattle.fm_words.specs.Telling.{Asked, ask, agree, pack, unpack, why}
+use Rattle.fm_script.specs.declared.script.Step.{Step}
+use Rattle.fm_script.specs.Script.{is_text}
+use Rattle.fm_script.specs.Texts.{Spells, SpellsNone}
+use Rattle.fm_query.specs.declared.query.Query.{Query}
+use Rattle.fm_query.specs.declared.query.Query.TheVariants as query
+use Rattle.fm_query.specs.Queries.{IsText, differs_in, Lacks}
+use Rattle.fm_query.specs.Unpacked.{IsUnpacked, IsNotUnpacked}
+use Rattle.fm_args.specs.declared.words.Question.{Question}
+use Rattle.fm_args.specs.declared.words.Question.TheVariants as question
+use Rattle.fm_args.specs.Telling.{Asked, ask, agree, pack, unpack, why}
 use Rattle.fm_serve.specs.declared.fault.Fault.{Fault}
 use Rattle.fm_serve.specs.declared.ending.Ending.{Ending}
 use Rattle.fm_serve.specs.declared.ending.Ending.TheVariants.{Done, Differ}
 use Rattle.fm_serve.specs.Faults.{fault_of, script_fault_of}
 use Rattle.fm_serve.specs.Endings.{coordinator_asked}
-use Rattle.fm_opening.specs.Openings.{new_world}
+use Rattle.fm_script.specs.Openings.{new_world}
 use Rattle.fm_serve.specs.Running.{Come, Stops, After}
 
 -- the text was not read as a script, and why

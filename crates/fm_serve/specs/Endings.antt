@@ -5,7 +5,7 @@ use Rattle.fm_serve.specs.declared.fault.Fault.{Fault}
 use Rattle.fm_serve.specs.declared.ending.Ending.{Ending}
 use Rattle.fm_serve.specs.declared.ending.Ending.TheVariants.{Done, Differ, Wrong, Stopped}
 use Rattle.fm_serve.specs.Faults.{fault_of, status_of, fault_text}
-use Rattle.fm_input.specs.Script.{is_listed}
+use Rattle.fm_script.specs.Script.{is_listed}
 
 -- 0 if all is done, 5 if coordinators do not know the same, 2 if the words were wrong, and else the fault's status
 abbrev pub ending_status : Ending → ℕ

@@ -2,8 +2,8 @@
 use Rattle.std.specs.Prelude.{◌≡◌, ◌⊎◌, ℕ, List}
 use Rattle.fm_records.specs.declared.refusal.Refusal.{Refusal}
 use Rattle.fm_records.specs.declared.refusal.Refusal.TheVariants.{OutOfMemory}
-use Rattle.fm_input.specs.declared.script.Tell.{Tell}
-use Rattle.fm_input.specs.Texts.{SpellsTells, SpellsNoTells}
+use Rattle.fm_script.specs.declared.script.Tell.{Tell}
+use Rattle.fm_script.specs.Texts.{SpellsTells, SpellsNoTells}
 use Rattle.fm_serve.specs.declared.counts.Counts.{Counts}
 use Rattle.fm_serve.specs.declared.muster.Stop.{Stop}
 use Rattle.fm_serve.specs.Musters.{IsMustered, IsStopped, counts_text}

@@ -7,16 +7,16 @@ use Rattle.fm_records.specs.declared.refusal.Refusal.TheVariants.{BadOp, NoCoord
 use Rattle.fm_records.specs.Ops.{op_fault}
 use Rattle.fm_coord.specs.States.{State}
 use Rattle.fm_world.specs.declared.step.Step.{Step}
-use Rattle.fm_gather.specs.Listings.{IsWholeRun}
-use Rattle.fm_exchange.specs.Served.{AreServed}
-use Rattle.fm_exchange.specs.Stopping.{may_stop}
-use Rattle.fm_exchange.specs.Members.{MemberSeen, member, tasks_of}
-use Rattle.fm_exchange.specs.Passing.{passed_at, ArePassedOn}
-use Rattle.fm_exchange.specs.Exchanges.{after_exchange}
-use Rattle.fm_exchange.specs.Agreement.{KnowSame, AreCutBySenders}
-use Rattle.fm_input.specs.declared.script.Tell.{Tell}
-use Rattle.fm_input.specs.Script.{is_listed}
-use Rattle.fm_opening.specs.Openings.{history_limit}
+use Rattle.fm_world.specs.Listings.{IsWholeRun}
+use Rattle.fm_gossip.specs.Served.{AreServed}
+use Rattle.fm_gossip.specs.Stopping.{may_stop}
+use Rattle.fm_gossip.specs.Members.{MemberSeen, member, tasks_of}
+use Rattle.fm_gossip.specs.Passing.{passed_at, ArePassedOn}
+use Rattle.fm_gossip.specs.Exchanges.{after_exchange}
+use Rattle.fm_gossip.specs.Agreement.{KnowSame, AreCutBySenders}
+use Rattle.fm_script.specs.declared.script.Tell.{Tell}
+use Rattle.fm_script.specs.Script.{is_listed}
+use Rattle.fm_script.specs.Openings.{history_limit}
 use Rattle.fm_serve.specs.declared.counts.Calls.{Calls}
 use Rattle.fm_serve.specs.declared.counts.Counts.{Counts}
 use Rattle.fm_serve.specs.declared.muster.Stop.{Stop}

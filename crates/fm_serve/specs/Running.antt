@@ -9,11 +9,11 @@ use Rattle.fm_world.specs.Worlds.{WorldOfSets, refusal_of}
 use Rattle.fm_world.specs.Stands.{Kept, WorldStandsFor}
 use Rattle.fm_world.specs.Agreement.{EachKnows, SameAgree}
 use Rattle.fm_serve.specs.declared.fault.Fault.{Fault}
-use Rattle.fm_input.specs.declared.script.Act.{Act}
-use Rattle.fm_input.specs.declared.script.Act.TheVariants as act
-use Rattle.fm_input.specs.declared.script.Step.{Step}
-use Rattle.fm_opening.specs.Openings.{new_world}
-use Rattle.fm_follow.specs.Acting.{step_at, IsPlanAt, Takes}
+use Rattle.fm_script.specs.declared.script.Act.{Act}
+use Rattle.fm_script.specs.declared.script.Act.TheVariants as act
+use Rattle.fm_script.specs.declared.script.Step.{Step}
+use Rattle.fm_script.specs.Openings.{new_world}
+use Rattle.fm_service.specs.Acting.{step_at, IsPlanAt, Takes}
 use Rattle.fm_serve.specs.Faults.{fault_of}
 
 -- what a step asks a coordinator for; a round asks it for a view first

@@ -2,11 +2,11 @@
 
 ghost use Rattle.std.specs.Prelude.{◌≡◌, ◌⊎◌, cond, Ok, IfOk, IfErr, Some};
 ghost use Rattle.fm_coord.specs.Numbers.{AreDistinct};
-ghost use Rattle.fm_ask.specs.Queries.{ForEachWorld};
-ghost use Rattle.fm_input.specs.Texts.{Spells};
+ghost use Rattle.fm_query.specs.Queries.{ForEachWorld};
+ghost use Rattle.fm_script.specs.Texts.{Spells};
 ghost use Rattle.fm_records.specs.declared.refusal.Refusal.TheVariants as refused;
-ghost use Rattle.fm_words.specs.Telling.{asked_of};
-ghost use Rattle.fm_words.specs.Telling as told;
+ghost use Rattle.fm_args.specs.Telling.{asked_of};
+ghost use Rattle.fm_args.specs.Telling as told;
 ghost use Rattle.fm_serve.specs.declared.ending.Ending.TheVariants as ending;
 ghost use Rattle.fm_serve.specs.Answers.{IsNoScript, AnswersIn, LacksIn, IsOfScript, IsStopped, Wants, IsRefused, query_at, query_of};
 ghost use Rattle.fm_serve.specs.Endings.{coordinator_asked};
@@ -17,14 +17,14 @@ use crate::fault::Fault;
 use crate::progress::Progress;
 use crate::respond::Answered;
 use crate::run::run;
-use fm_ask::query::{Query, ask};
-use fm_ask::unpack::unpack;
+use fm_query::query::{Query, ask};
+use fm_query::unpack::unpack;
 use fm_edit::keepers::Keeper;
-use fm_input::reading::read_script;
-use fm_input::script::Script;
+use fm_script::reading::read_script;
+use fm_script::script::Script;
 use fm_records::ids::{CoordId, TaskId};
 use fm_records::refusal::Refusal;
-use fm_words::words::{Command, Question};
+use fm_args::words::{Command, Question};
 use fm_world::world::World;
 use std::alloc::Global;
 

@@ -2,14 +2,14 @@
 
 ghost use Rattle.std.specs.Prelude.{IfOk, IfErr, string_bytes};
 ghost use Rattle.fm_coord.specs.Numbers.{AreDistinct};
-ghost use Rattle.fm_input.specs.Texts.{SpellsTells};
+ghost use Rattle.fm_script.specs.Texts.{SpellsTells};
 ghost use Rattle.fm_serve.specs.Fleets.{IsUntold, IsCounted, IsNotCounted};
 
 use crate::fault::Fault;
 use crate::progress::Progress;
 use crate::muster::muster;
-use fm_input::script::Tells;
-use fm_input::telling::read_tells;
+use fm_script::script::Tells;
+use fm_script::telling::read_tells;
 use std::alloc::Global;
 use std::sync::Wait;
 use std::thread::Threads;

@@ -1,16 +1,16 @@
 //! The members of the fleet that a script of tells asks for.
 
 ghost use Rattle.std.specs.Prelude.{◌≡◌, ◌++◌, None, Some, IfOk, IfErr, OnOk};
-ghost use Rattle.fm_input.specs.Script.{is_listed};
+ghost use Rattle.fm_script.specs.Script.{is_listed};
 ghost use Rattle.fm_serve.specs.Musters.{tell_fault, first_refused, told_at, members_of};
 
 use crate::counter::RoundCounter;
 use crate::muster::Stop;
 use fm_edit::keepers::Keeper;
-use fm_exchange::member::Member;
-use fm_input::script::Tell;
+use fm_gossip::member::Member;
+use fm_script::script::Tell;
 use fm_lattice::join::OutOfMemory;
-use fm_opening::coordinators::coordinator_at;
+use fm_script::coordinators::coordinator_at;
 use fm_records::ids::CoordId;
 use fm_records::ops::Op;
 use fm_records::refusal::Refusal;

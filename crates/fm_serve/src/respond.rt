@@ -1,8 +1,8 @@
 //! What the program answers to its words and its input.
 
 ghost use Rattle.std.specs.Prelude.{◌≡◌, []};
-ghost use Rattle.fm_words.specs.Telling.{asked_of, told_of, Telling};
-ghost use Rattle.fm_words.specs.Telling as told;
+ghost use Rattle.fm_args.specs.Telling.{asked_of, told_of, Telling};
+ghost use Rattle.fm_args.specs.Telling as told;
 ghost use Rattle.fm_serve.specs.declared.ending.Ending.TheVariants as ending;
 ghost use Rattle.fm_serve.specs.Responses.{Responds};
 
@@ -13,7 +13,7 @@ use crate::fleet::count_fleet;
 use crate::progress::Progress;
 use crate::refusals::REFUSALS;
 use fm_records::refusal::Refusal;
-use fm_words::words::{Command, Words};
+use fm_args::words::{Command, Words};
 use std::alloc::Global;
 use std::sync::Wait;
 use std::thread::Threads;

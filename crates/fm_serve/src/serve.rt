@@ -1,21 +1,21 @@
 //! One run of the program, over its words, a source and a sink.
 
 ghost use Rattle.std.specs.Prelude.{◌≡◌, IfOk, IfErr, map, string_bytes};
-ghost use Rattle.fm_words.specs.Heard.{telling_of};
-ghost use Rattle.fm_words.specs.Telling.{told_of};
+ghost use Rattle.fm_args.specs.Heard.{telling_of};
+ghost use Rattle.fm_args.specs.Telling.{told_of};
 ghost use Rattle.fm_serve.specs.Served.{IsServed, IsStoppedReading, IsStreamed, TakesIn, WentOut, reads, renewal_of};
 
 use crate::ending::Ending;
 use crate::fault::Fault;
 use crate::progress::Progress;
 use crate::respond::{Answered, respond};
-use fm_follow::stream::follow_stream;
+use fm_service::stream::follow_stream;
 use fm_records::refusal::Refusal;
-use fm_streams::input::read_input;
-use fm_streams::sending::send;
-use fm_streams::sink::Sink;
-use fm_streams::source::Source;
-use fm_words::words::{Words, read_words};
+use fm_io::input::read_input;
+use fm_io::sending::send;
+use fm_io::sink::Sink;
+use fm_io::source::Source;
+use fm_args::words::{Words, read_words};
 use std::alloc::Global;
 use std::sync::Wait;
 use std::thread::Threads;

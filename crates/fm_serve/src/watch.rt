@@ -2,15 +2,15 @@
 //! written.
 
 ghost use Rattle.std.specs.Prelude.{◌≡◌, map, string_bytes};
-ghost use Rattle.fm_words.specs.Heard.{telling_of};
+ghost use Rattle.fm_args.specs.Heard.{telling_of};
 ghost use Rattle.fm_serve.specs.Served.{IsServed};
 
 use crate::ending::Ending;
 use crate::progress::Progress;
 use crate::serve::serve;
 use fm_dimacs::out::Out;
-use fm_streams::sink::Sink;
-use fm_streams::source::Source;
+use fm_io::sink::Sink;
+use fm_io::source::Source;
 use std::alloc::Global;
 use std::io::Eprint;
 use std::sync::{Condvar, CondvarTimeouts, Mutex, Wait};

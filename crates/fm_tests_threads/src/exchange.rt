@@ -1,8 +1,8 @@
 use crate::held::Held;
 use fm_coord::coordinator::Coordinator;
 use fm_coord::entry::{Call, Entry};
-use fm_exchange::fleet::run_fleet;
-use fm_exchange::member::Member;
+use fm_gossip::fleet::run_fleet;
+use fm_gossip::member::Member;
 use fm_fleet::round::{Gate, NoGate};
 use fm_policy::keeper::NetKeeper;
 use fm_policy::rebuilder::Rebuilder;

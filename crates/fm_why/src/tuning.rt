@@ -9,7 +9,7 @@ use fm_cycles::lookup::value_or;
 use fm_lattice::join::OutOfMemory;
 use fm_net::network::Network;
 use fm_net::node::Node;
-use fm_numbered::numbered::Numbered;
+use fm_indexed::numbered::Numbered;
 use std::alloc::Global;
 
 // More than any path costs. A node from which no unit gets to the goal keeps it.

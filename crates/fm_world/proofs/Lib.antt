@@ -5,3 +5,10 @@ pub mod Numbers
 pub mod Runs
 pub mod Reached
 pub mod Taking
+pub mod Maximal
+pub mod Alike
+pub mod Running
+pub mod Growing
+pub mod Naming
+pub mod Visits
+pub mod Left

@@ -2,4 +2,8 @@ pub mod Worlds
 pub mod Calls
 pub mod Stands
 pub mod Agreement
-pub mod Examples
+pub mod AgreementExamples
+pub mod Listings
+pub mod Names
+pub mod Sweeps
+pub mod ListingExamples

@@ -1,7 +1,12 @@
-//! Several coordinators, run in steps, and the main theorem about them.
+//! Several coordinators, run in steps, and the main theorem about them; and one list of steps gathered from their histories.
 #![tactic(auto)]
 
 mod acting;
 pub mod distinct;
+pub mod gather;
+mod gathered;
+pub mod laws;
+mod packets;
 pub mod step;
+mod sweeping;
 pub mod world;

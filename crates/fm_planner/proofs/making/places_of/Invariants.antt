@@ -1,5 +1,5 @@
 use Rattle.std.proofs.Common.{◌≡◌, ◌++◌, drop}
-use Rattle.fm_ways.specs.Moves.{places_of_moves}
+use Rattle.fm_paths.specs.Moves.{places_of_moves}
 use Rattle.fm_planner.proofs.making.places_of.Given as goal
 
 abbrev pub invariant-loop-task : goal.invariant-loop-task

@@ -1,5 +1,5 @@
 use Rattle.std.proofs.Common.{◌≡◌, ◌++◌, drop}
-use Rattle.fm_ways.specs.Moves.{preempts_of_moves}
+use Rattle.fm_paths.specs.Moves.{preempts_of_moves}
 use Rattle.fm_planner.proofs.making.preempts_of.Given as goal
 
 abbrev pub invariant-loop-task : goal.invariant-loop-task

@@ -1,6 +1,6 @@
 use Rattle.std.proofs.Common.{◌≡◌, ◌∙◌, arith}
-use Rattle.fm_exchange.specs.Members.{member}
-use Rattle.fm_opening.specs.Openings.{history_limit}
+use Rattle.fm_gossip.specs.Members.{member}
+use Rattle.fm_script.specs.Openings.{history_limit}
 use Rattle.fm_serve.specs.Musters.{told_at}
 use Rattle.fm_serve.proofs.Listing.{no_members, next_member, all_members}
 use Rattle.fm_serve.proofs.members.members.Goals as goal

@@ -1,13 +1,13 @@
 use Rattle.std.proofs.Common.{arith, map, ap, sym, subst, ◌∙◌}
 use Rattle.fm_coord.specs.Numbers.{AreDistinct}
 use Rattle.fm_world.specs.Stands.{state_of, number_of}
-use Rattle.fm_gather.specs.Listings.{IsWholeRun, IsWhole}
-use Rattle.fm_exchange.specs.Served.{AreServed}
-use Rattle.fm_exchange.specs.Members.{tasks_of}
-use Rattle.fm_exchange.specs.Exchanges.{after_exchange}
-use Rattle.fm_exchange.specs.Agreement.{KnowSame, AreCutBySenders}
+use Rattle.fm_world.specs.Listings.{IsWholeRun, IsWhole}
+use Rattle.fm_gossip.specs.Served.{AreServed}
+use Rattle.fm_gossip.specs.Members.{tasks_of}
+use Rattle.fm_gossip.specs.Exchanges.{after_exchange}
+use Rattle.fm_gossip.specs.Agreement.{KnowSame, AreCutBySenders}
 use Rattle.fm_serve.specs.Musters.{members_of, calls_of}
-use Rattle.fm_exchange.proofs.Columns.{written}
+use Rattle.fm_gossip.proofs.Columns.{written}
 use Rattle.fm_serve.proofs.Numbers.{listed_before, listed_after}
 use Rattle.fm_serve.proofs.muster.run.Goals as goal
 

@@ -1,4 +1,4 @@
-use Rattle.fm_opening.specs.Openings.{new_world}
+use Rattle.fm_script.specs.Openings.{new_world}
 use Rattle.fm_serve.proofs.Coming.{is_run}
 use Rattle.fm_serve.proofs.run.run.Goals as goal
 

@@ -1,0 +1,163 @@
+//! The meaning of the parser's answer.
+
+ghost use Rattle.std.specs.Prelude.{◌≡◌, ◌≢◌, IfOk, codes, map, option_map, string_bytes};
+ghost use Rattle.clap.specs.Words.{first_of, found_of, kind_of, rows_of, subcommand_rows_of};
+ghost use Rattle.fm_args.specs.Heard.{asks, fleets, follows, packs, whys};
+ghost use Rattle.fm_records.specs.Ids.{read_id};
+ghost use Rattle.std.specs.Option.{option_map_or};
+ghost use Rattle.fm_args.specs.Parser.{number_read, told_as, told_at_error, told_by, told_with};
+ghost use Rattle.fm_args.specs.Telling.{run, told_of, why, wrong};
+
+use super::help::{ask_for_help, begin_with_help};
+use super::words::{Command, DEFAULT_RENEW_AFTER, Question, Words};
+use clap::error::ErrorKind;
+use clap::{ArgMatches, Error};
+use fm_lattice::join::OutOfMemory;
+use fm_records::ids::TaskId;
+use std::alloc::Global;
+
+// What is said of a word that is no id.
+const NO_ID: &str = "error: a task is named by its id, a UUID\n";
+
+/// The meaning of the matches of a command.
+pub fn named<'a>(alloc: Global, matches: &ArgMatches<'a>) -> Words<'a>
+    ensures { told_of result ≡ told_by (subcommand_rows_of matches.now) }
+{
+    match matches.subcommand() {
+        Some((name, inner)) => named_as(alloc, name, inner),
+        None => Words::Wrong(String::new(alloc)),
+    }
+}
+
+// The meaning of the matches of the command of the name.
+fn named_as<'a>(alloc: Global, name: &str, inner: &ArgMatches<'a>) -> Words<'a>
+    ensures { told_of result ≡ told_as name.now (rows_of (found_of inner.now)) }
+{
+    match name {
+        "agree" => Words::Run(Command::Agree),
+        "fleet" => runs(inner),
+        "follow" => follows(inner),
+        "graph" => asks(Question::Graph, inner),
+        "pack" => packs(alloc, inner),
+        "solve" => asks(Question::Solve, inner),
+        "plan" => asks(Question::Plan, inner),
+        "unpack" => Words::Run(Command::Unpack),
+        "why" => whys(alloc, inner),
+        "winners" => asks(Question::Winners, inner),
+        // The parser knows no other.
+        _ => Words::Wrong(String::new(alloc)),
+    }
+}
+
+// The question, with the coordinator that is named.
+fn asks<'a>(question: Question, matches: &ArgMatches<'a>) -> Words<'a>
+    ensures { told_of result ≡ told_with (asks question) (rows_of (found_of matches.now)) }
+{
+    let at = at_in(matches);
+    Words::Run(Command::Ask { question, at })
+}
+
+fn at_in<'a>(matches: &ArgMatches<'a>) -> Option<u8>
+    ensures { result ≡ number_read 8 (codes "at") (rows_of (found_of matches.now)) }
+{
+    matches.get_one::<u8>("at")
+}
+
+// A fleet, with as many rounds as are named.
+fn runs<'a>(matches: &ArgMatches<'a>) -> Words<'a>
+    ensures { told_of result ≡ told_with fleets (rows_of (found_of matches.now)) }
+{
+    let rounds = rounds_in(matches).unwrap_or(0);
+    Words::Fleet { rounds }
+}
+
+fn rounds_in<'a>(matches: &ArgMatches<'a>) -> Option<u32>
+    ensures { result ≡ number_read 32 (codes "rounds") (rows_of (found_of matches.now)) }
+{
+    matches.get_one::<u32>("rounds")
+}
+
+// Coordinators that are kept running, renewed after as many entries as are named.
+fn follows<'a>(matches: &ArgMatches<'a>) -> Words<'a>
+    ensures { told_of result ≡ told_with follows (rows_of (found_of matches.now)) }
+{
+    let renew_after = renew_after_in(matches).unwrap_or(DEFAULT_RENEW_AFTER);
+    Words::Follow { renew_after }
+}
+
+fn renew_after_in<'a>(matches: &ArgMatches<'a>) -> Option<u32>
+    ensures { result ≡ number_read 32 (codes "renew-after") (rows_of (found_of matches.now)) }
+{
+    matches.get_one::<u32>("renew-after")
+}
+
+// The name of a packet, which the command requires.
+fn packs<'a>(alloc: Global, matches: &ArgMatches<'a>) -> Words<'a>
+    ensures { told_of result ≡ told_with packs (rows_of (found_of matches.now)) }
+{
+    match name_in(matches) {
+        Some(name) => Words::Run(Command::Pack { name }),
+        None => Words::Wrong(String::new(alloc)),
+    }
+}
+
+// Why the task of the id waits or runs, asked of the coordinator that is named.
+fn whys<'a>(alloc: Global, matches: &ArgMatches<'a>) -> Words<'a>
+    ensures { told_of result ≡ told_with whys (rows_of (found_of matches.now)) }
+{
+    match name_in(matches) {
+        Some(name) => why_of(alloc, name, at_in(matches)),
+        None => Words::Wrong(String::new(alloc)),
+    }
+}
+
+// Why the task of the id waits or runs; if the word is no id, that it is none.
+fn why_of<'a>(alloc: Global, name: &str, at: Option<u8>) -> Words<'a>
+    ensures { told_of result ≡ option_map_or (λ task. run (why task at)) (read_id name.now) wrong }
+{
+    match TaskId::read(name) {
+        Some(id) => Words::Run(Command::Why {
+            task: id.value(),
+            at,
+        }),
+        None => match String::from_str(alloc, NO_ID) {
+            Ok(text) => Words::Wrong(text),
+            Err(_) => Words::Wrong(String::new(alloc)),
+        },
+    }
+}
+
+fn name_in<'a>(matches: &ArgMatches<'a>) -> Option<&'a str>
+    ensures { option_map (λ s. s.now) result ≡ first_of (codes "name") (rows_of (found_of matches.now)) }
+{
+    matches.get_str("name")
+}
+
+/// The text of words that are no command, as the parser has it.
+pub fn text_of<'a>(alloc: Global, error: &Error, words: &[String]) -> Result<Words<'a>, OutOfMemory>
+    ensures told { IfOk result (λ w. told_of w ≡ told_at_error (map string_bytes words.now) (kind_of error.now)) }
+    ensures memory { IfOk result (λ w. kind_of error.now ≢ ErrorKind.OutOfMemory) }
+{
+    if error.kind() == ErrorKind::OutOfMemory {
+        return Err(OutOfMemory);
+    }
+    let text = error.to_string(alloc)?;
+    Ok(shown(error, words, text))
+}
+
+// The text as help, or as what is wrong. Of words that begin with `help` the parser's contract does not say which: the
+// words decide.
+fn shown<'a>(error: &Error, words: &[String], text: String) -> Words<'a>
+    ensures { told_of result ≡ told_at_error (map string_bytes words.now) (kind_of error.now) }
+{
+    let is_help = if begin_with_help(words) {
+        ask_for_help(words)
+    } else {
+        !error.use_stderr()
+    };
+    if is_help {
+        Words::Help(text)
+    } else {
+        Words::Wrong(text)
+    }
+}

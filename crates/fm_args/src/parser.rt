@@ -1,0 +1,278 @@
+//! The commands that the parser knows, with their texts of help.
+
+ghost use Rattle.std.specs.Prelude.{◌≡◌, IfOk, codes, false, take};
+ghost use Rattle.clap.specs.Words.{app_of, new_app, rule_of, with_rule};
+ghost use Rattle.clap.specs.declared.builder.command.Command.TheViews.{out-Command};
+ghost use Rattle.fm_args.specs.Heard.{asks, commands, fleets, follows, most_renew_after, nothing, packs, whys};
+ghost use Rattle.fm_args.specs.Parser.{command_app, firmament, name_rule, no_commands, number_rule, with_commands};
+ghost use Rattle.fm_args.specs.Telling.{agree, run, unpack};
+ghost use Rattle.fm_args.specs.declared.words.Question.TheVariants as question;
+
+use super::words::{MOST_RENEW_AFTER, MOST_ROUNDS};
+use clap::{Arg, ArgAction, Command, value_parser};
+use fm_lattice::join::OutOfMemory;
+use std::alloc::Global;
+
+/// The program, with its commands in the order of their names, except that `plan` is after `solve`.
+pub fn parser<'a>(alloc: Global) -> Result<Command<'a>, OutOfMemory>
+    ensures { IfOk result (λ c. app_of c ≡ firmament) }
+{
+    let solve = solve(alloc)?;
+    let plan = plan(alloc)?;
+    let unpack = unpack(alloc);
+    let why = why(alloc)?;
+    let winners = winners(alloc)?;
+    let with_pack = up_to_pack(alloc)?;
+    let with_solve = with_pack.subcommand(solve)?;
+    let with_plan = with_solve.subcommand(plan)?;
+    let with_unpack = with_plan.subcommand(unpack)?;
+    let with_why = with_unpack.subcommand(why)?;
+    let with_winners = with_why.subcommand(winners)?;
+    Ok(with_winners)
+}
+
+// The program with the first five of its commands.
+fn up_to_pack<'a>(alloc: Global) -> Result<Command<'a>, OutOfMemory>
+    ensures { IfOk result (λ c. app_of c ≡ with_commands (take 5 commands)) }
+{
+    let agree = agree(alloc);
+    let fleet = fleet(alloc)?;
+    let follow = follow(alloc)?;
+    let graph = graph(alloc)?;
+    let pack = pack(alloc)?;
+    let with_agree = program(alloc)?.subcommand(agree)?;
+    let with_fleet = with_agree.subcommand(fleet)?;
+    let with_follow = with_fleet.subcommand(follow)?;
+    let with_graph = with_follow.subcommand(graph)?;
+    let with_pack = with_graph.subcommand(pack)?;
+    Ok(with_pack)
+}
+
+fn program<'a>(alloc: Global) -> Result<Command<'a>, OutOfMemory>
+    ensures app { IfOk result (λ c. app_of c ≡ no_commands) }
+    ensures local { IfOk result (λ c. (out-Command c).has_globals ≡ false) }
+{
+    let program = Command::new(alloc, "firmament").bin_name("firmament")?;
+    Ok(
+        program
+            .about(
+                "Schedules tasks over a network of bandwidths: runs the script on standard input, and prints what is asked for",
+            )
+            .after_help(
+                "Example: firmament graph < examples/first.json\n\nRefusals by their numbers: firmament help refusals",
+            )
+            .subcommand_required(true)
+            .arg_required_else_help(true),
+    )
+}
+
+fn agree<'a>(alloc: Global) -> Command<'a>
+    ensures app { app_of result ≡ command_app (codes "agree") (nothing (run agree)) }
+    ensures local { (out-Command result).has_globals ≡ false }
+{
+    Command::new(alloc, "agree")
+        .about(
+            "Prints `same` if all coordinators know the same, else `differ A B`: the first that is listed, and the first that knows something else; then the status is 5",
+        )
+        .after_help("Example: firmament agree < examples/gossip.json")
+}
+
+fn fleet<'a>(alloc: Global) -> Result<Command<'a>, OutOfMemory>
+    ensures app { IfOk result (λ c. app_of c ≡ command_app (codes "fleet") fleets) }
+    ensures local { IfOk result (λ c. (out-Command c).has_globals ≡ false) }
+{
+    let command = Command::new(alloc, "fleet")
+        .about(
+            "Runs the coordinators of a script that only tells, each in threads of its own, and lets them exchange all that they know; prints `calls C K` for each, `audit ok`, `gather L`, and what `agree` would",
+        )
+        .after_help("Example: firmament fleet --rounds 1 < examples/fleet.json");
+    Ok(command.arg(rounds(alloc))?)
+}
+
+fn follow<'a>(alloc: Global) -> Result<Command<'a>, OutOfMemory>
+    ensures app { IfOk result (λ c. app_of c ≡ command_app (codes "follow") follows) }
+    ensures local { IfOk result (λ c. (out-Command c).has_globals ≡ false) }
+{
+    let command = Command::new(alloc, "follow")
+        .about(
+            "Keeps coordinators running: reads one JSON object a line from standard input, and answers each at once, by its text and then `ok`, or by `refusal N`, before it reads the next",
+        )
+        .after_help(
+            "The first line lists the coordinators: {\"coordinators\":[1,2]}\nAll lines and their answers are described in docs/formats.md.\n\nThe status is 0 at the end of the input, 3 if the input cannot be read, and 6 if the output cannot be written.\n\nExample: firmament follow < examples/day.follow",
+        );
+    Ok(command.arg(renew_after(alloc))?)
+}
+
+fn graph<'a>(alloc: Global) -> Result<Command<'a>, OutOfMemory>
+    ensures app { IfOk result (λ c. app_of c ≡ command_app (codes "graph") (asks question.Graph)) }
+    ensures local { IfOk result (λ c. (out-Command c).has_globals ≡ false) }
+{
+    asking(
+        alloc,
+        "graph",
+        "Prints the network of what a coordinator knows, as a minimum-cost flow problem in DIMACS lines",
+        "Example: firmament graph --at 1 < examples/first.json",
+    )
+}
+
+fn pack<'a>(alloc: Global) -> Result<Command<'a>, OutOfMemory>
+    ensures app { IfOk result (λ c. app_of c ≡ command_app (codes "pack") packs) }
+    ensures local { IfOk result (λ c. (out-Command c).has_globals ≡ false) }
+{
+    let command = Command::new(alloc, "pack")
+        .about(
+            "Prints the bytes of a packet that the script cuts, in hexadecimal digits on one line",
+        )
+        .after_help("Example: firmament pack news < examples/gossip.json");
+    Ok(command.arg(name(alloc))?)
+}
+
+fn solve<'a>(alloc: Global) -> Result<Command<'a>, OutOfMemory>
+    ensures app { IfOk result (λ c. app_of c ≡ command_app (codes "solve") (asks question.Solve)) }
+    ensures local { IfOk result (λ c. (out-Command c).has_globals ≡ false) }
+{
+    asking(
+        alloc,
+        "solve",
+        "Prints a least flow of that network, its cost first, in DIMACS lines: the schedule",
+        "Example: firmament solve < examples/first.json",
+    )
+}
+
+fn plan<'a>(alloc: Global) -> Result<Command<'a>, OutOfMemory>
+    ensures app { IfOk result (λ c. app_of c ≡ command_app (codes "plan") (asks question.Plan)) }
+    ensures local { IfOk result (λ c. (out-Command c).has_globals ≡ false) }
+{
+    asking(
+        alloc,
+        "plan",
+        "Prints what the schedule of `solve` changes: `place TASK MACHINE INCARNATION` for each task that it places, then `preempt TASK ATTEMPT` for each that it takes off its machine",
+        "Example: firmament plan < examples/first.json",
+    )
+}
+
+fn unpack<'a>(alloc: Global) -> Command<'a>
+    ensures app { app_of result ≡ command_app (codes "unpack") (nothing (run unpack)) }
+    ensures local { (out-Command result).has_globals ≡ false }
+{
+    Command::new(alloc, "unpack")
+        .about(
+            "Prints the records of a packet, a line each; standard input has the packet in hexadecimal digits",
+        )
+        .after_help("Example: firmament unpack < examples/packet.hex")
+}
+
+fn why<'a>(alloc: Global) -> Result<Command<'a>, OutOfMemory>
+    ensures app { IfOk result (λ c. app_of c ≡ command_app (codes "why") whys) }
+    ensures local { IfOk result (λ c. (out-Command c).has_globals ≡ false) }
+{
+    let command = Command::new(alloc, "why")
+        .about(
+            "Says why a task waits or runs, by what a coordinator knows: what the schedule costs, and how much dearer each schedule is that runs the task on one of the cheapest machines",
+        )
+        .after_help(
+            "Example: firmament why 00000000-0000-0000-0000-000000000015 --at 1 < examples/waiting.json",
+        );
+    let named = command.arg(task(alloc))?;
+    Ok(named.arg(at(alloc))?)
+}
+
+fn winners<'a>(alloc: Global) -> Result<Command<'a>, OutOfMemory>
+    ensures app { IfOk result (λ c. app_of c ≡ command_app (codes "winners") (asks question.Winners)) }
+    ensures local { IfOk result (λ c. (out-Command c).has_globals ≡ false) }
+{
+    asking(
+        alloc,
+        "winners",
+        "Prints, for each task whose present attempt has a winner: TASK ATTEMPT COORDINATOR MACHINE INCARNATION, and held or free",
+        "Example: firmament winners < examples/held.json",
+    )
+}
+
+// A command that may be told which coordinator is asked.
+fn asking<'a>(
+    alloc: Global,
+    name: &'a str,
+    about: &'a str,
+    example: &'a str,
+) -> Result<Command<'a>, OutOfMemory>
+    ensures app { IfOk result (λ c. app_of c ≡ with_rule (new_app name.now) (number_rule (codes "at") 0 255)) }
+    ensures local { IfOk result (λ c. (out-Command c).has_globals ≡ false) }
+{
+    let command = Command::new(alloc, name).about(about).after_help(example);
+    Ok(command.arg(at(alloc))?)
+}
+
+// The name of a packet.
+fn name<'a>(alloc: Global) -> Arg<'a>
+    ensures rule { rule_of result ≡ name_rule }
+    ensures local { result.global ≡ false }
+{
+    word(
+        alloc,
+        "NAME",
+        "The name under which the script cuts the packet",
+    )
+}
+
+// The id of a task.
+fn task<'a>(alloc: Global) -> Arg<'a>
+    ensures rule { rule_of result ≡ name_rule }
+    ensures local { result.global ≡ false }
+{
+    word(alloc, "TASK", "The id of the task, as a UUID")
+}
+
+// A word that a command must have, under the name in its usage.
+fn word<'a>(alloc: Global, usage: &'a str, about: &'a str) -> Arg<'a>
+    ensures rule { rule_of result ≡ name_rule }
+    ensures local { result.global ≡ false }
+{
+    Arg::new(alloc, "name")
+        .value_name(usage)
+        .help(about)
+        .required(true)
+}
+
+// How many rounds each coordinator of a fleet runs.
+fn rounds<'a>(alloc: Global) -> Arg<'a>
+    ensures rule { rule_of result ≡ number_rule (codes "rounds") 0 1000 }
+    ensures local { result.global ≡ false }
+{
+    Arg::new(alloc, "rounds")
+        .long("rounds")
+        .value_name("N")
+        .help("How many rounds each coordinator runs, from 0 to 1000; none if it is left out")
+        .action(ArgAction::Set)
+        .value_parser(value_parser!(u32).range(0..=MOST_ROUNDS))
+}
+
+// After how many entries coordinators that are kept running are renewed.
+fn renew_after<'a>(alloc: Global) -> Arg<'a>
+    ensures rule { rule_of result ≡ number_rule (codes "renew-after") 1 most_renew_after }
+    ensures local { result.global ≡ false }
+{
+    Arg::new(alloc, "renew-after")
+        .long("renew-after")
+        .value_name("N")
+        .help(
+            "Renews all coordinators from what they know once one of them has N entries in its history, 1 to 1000000 [default: 100000]",
+        )
+        .action(ArgAction::Set)
+        .value_parser(value_parser!(u32).range(1..=MOST_RENEW_AFTER))
+}
+
+// The coordinator that is asked.
+fn at<'a>(alloc: Global) -> Arg<'a>
+    ensures rule { rule_of result ≡ number_rule (codes "at") 0 255 }
+    ensures local { result.global ≡ false }
+{
+    Arg::new(alloc, "at")
+        .long("at")
+        .value_name("N")
+        .help(
+            "The coordinator that is asked, from 0 to 255; the first of the script if it is left out",
+        )
+        .action(ArgAction::Set)
+        .value_parser(value_parser!(u8))
+}

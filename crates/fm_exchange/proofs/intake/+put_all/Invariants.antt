@@ -1,5 +1,0 @@
-use Rattle.std.specs.Prelude.{length}
-use Rattle.fm_exchange.proofs.intake.+put_all.Given as goal
-
-abbrev pub decreases-put_all : goal.decreases-put_all
-decreases-put_all g l = length l.doors.now

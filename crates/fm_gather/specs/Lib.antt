@@ -1,4 +1,0 @@
-pub mod Listings
-pub mod Names
-pub mod Sweeps
-pub mod Examples

@@ -1,0 +1,245 @@
+//! Intakes: what a coordinator's first thread does.
+ghost use Rattle.std.specs.Prelude.{◌≡◌, ◌+◌, ◌<◌, ◌^◌, ℕ, List, [], ◌∷◌, length, map, cond, vec_len, slice_get, Some, None, IsTrue, IfOk, IfErr, IfSome, OnOk, MatchOption};
+ghost use Rattle.fm_inbox.specs.Ports.{InboxSeen, after_put, after_take};
+ghost use Rattle.fm_gossip.specs.Served.{all_told, IsFirst, IsIntake, AreMerged};
+ghost use Rattle.fm_gossip.specs.Passing.{passing, passed_in};
+ghost use Rattle.fm_gossip.specs.Used.{new_port, used_ports, put_past, after_takes};
+ghost use Rattle.fm_gossip.specs.Stopping.{may_stop};
+
+use crate::halt::Halt;
+use fm_coord::entry::Range;
+use fm_delta::packet::Packet;
+use fm_fleet::door::Door;
+use fm_fleet::node::Node;
+use fm_fleet::seat::{NodeName, Seat};
+use fm_policy::keeper::NetKeeper;
+use fm_records::ids::CoordId;
+use fm_records::ops::Op;
+use fm_records::refusal::Refusal;
+use std::sync::Wait;
+
+/// What is to be told, from which others a packet comes, and a door to each inbox; the coordinator's own is at the place.
+#[derive(Drop)]
+pub(crate) struct Intake {
+    pub(crate) tells: Vec<Op>,
+    pub(crate) senders: Vec<CoordId>,
+    pub(crate) place: usize,
+    pub(crate) doors: Vec<Door>,
+}
+
+/// What an intake leaves: its seat, its doors, and why it ended early, if it did.
+#[derive(Drop)]
+pub(crate) struct Taken<L: NodeName> {
+    pub(crate) seat: Seat<L>,
+    pub(crate) doors: Vec<Door>,
+    pub(crate) refusal: Option<Refusal>,
+}
+
+/// Tells all, cuts what is then known, puts a copy to each of the others, and merges a packet from each of them. If
+/// something is refused, the fleet is stopped. If that is stopped while it waits for a packet, it ends with its refusal.
+/// NotMine with the sender of a packet that is not awaited.
+pub(crate) fn take_in<N: NetKeeper, L: NodeName, R: Wait>(
+    rt: &R,
+    node: &Node<N, L>,
+    mut seat: Seat<L>,
+    intake: Intake,
+    halt: &Halt,
+) -> Taken<L>
+    requires { intake.place < vec_len intake.doors }
+    ensures intake { result.refusal ≡ None → IsIntake intake.tells.items intake.senders.items seat result.seat }
+    ensures doors { result.refusal ≡ None → (bs : List InboxSeen) → seat.log ≡ []
+        → map (λ d. d.port) intake.doors.items ≡ map new_port bs
+        → map (λ d. d.port) result.doors.items ≡ used_ports intake.place 0 (passed_in result.seat) bs }
+    ensures number { result.seat.number ≡ seat.number }
+    ensures cause { IfSome result.refusal (λ refusal. IsTrue (may_stop refusal)) }
+{
+    let Intake {
+        tells,
+        senders,
+        place,
+        mut doors,
+    } = intake;
+    match exchange(
+        rt, node, &mut seat, &tells, senders, &mut doors, place, halt,
+    ) {
+        Ok(()) => Taken {
+            seat,
+            doors,
+            refusal: None,
+        },
+        Err(refusal) => {
+            halt.stop(rt, refusal);
+            Taken {
+                seat,
+                doors,
+                refusal: Some(refusal),
+            }
+        }
+    }
+}
+
+// Tells all, cuts, puts and merges.
+#[tactic(auto, using(crate::proofs::Stopping::call_stops, crate::proofs::Stopping::cut_full))]
+fn exchange<N: NetKeeper, L: NodeName, R: Wait>(
+    rt: &R,
+    node: &Node<N, L>,
+    seat: &mut Seat<L>,
+    tells: &[Op],
+    senders: Vec<CoordId>,
+    doors: &mut [Door],
+    place: usize,
+    halt: &Halt,
+) -> Result<(), Refusal>
+    requires { place < length doors.old }
+    ensures intake { OnOk result (IsIntake tells.now senders.items seat.old seat.new) }
+    ensures doors { OnOk result ((bs : List InboxSeen) → seat.old.log ≡ []
+        → map (λ d. d.port) doors.old ≡ map new_port bs
+        → map (λ d. d.port) doors.new ≡ used_ports place 0 (passed_in seat.new) bs) }
+    ensures number { seat.new.number ≡ seat.old.number }
+    ensures cause { IfErr result (λ refusal. IsTrue (may_stop refusal)) }
+{
+    tell_all(rt, node, seat, tells)?;
+    let packet = node.cut(rt, seat, Range::Full)?;
+    pass_on(rt, node, seat, doors, place, packet.get(), senders, halt)
+}
+
+// Tells all operations, in order.
+#[tactic(auto, using(crate::proofs::Stopping::call_stops, crate::proofs::Stopping::tell_op))]
+fn tell_all<N: NetKeeper, L: NodeName, R: Wait>(
+    rt: &R,
+    node: &Node<N, L>,
+    seat: &mut Seat<L>,
+    tells: &[Op],
+) -> Result<(), Refusal>
+    ensures told { OnOk result (seat.new ≡ all_told seat.old tells.now) }
+    ensures number { seat.new.number ≡ seat.old.number }
+    ensures cause { IfErr result (λ refusal. IsTrue (may_stop refusal)) }
+{
+    let mut rest = tells;
+    while let Some((op, further)) = rest.split_first() {
+        node.tell(rt, seat, *op)?;
+        rest = further;
+    }
+    Ok(())
+}
+
+// Puts a copy of the packet to each of the others, and merges a packet of each of them.
+fn pass_on<N: NetKeeper, L: NodeName, R: Wait>(
+    rt: &R,
+    node: &Node<N, L>,
+    seat: &mut Seat<L>,
+    doors: &mut [Door],
+    place: usize,
+    packet: &Packet,
+    senders: Vec<CoordId>,
+    halt: &Halt,
+) -> Result<(), Refusal>
+    requires { place < length doors.old }
+    ensures merged { OnOk result ((merged : AreMerged senders.items seat.old seat.new)
+        × ((bs : List InboxSeen) → map (λ d. d.port) doors.old ≡ map new_port bs
+        → map (λ d. d.port) doors.new ≡ used_ports place 0 (passing (packet.now ∷ []) merged.packets) bs)) }
+    ensures number { seat.new.number ≡ seat.old.number }
+    ensures cause { IfErr result (λ refusal. IsTrue (may_stop refusal)) }
+{
+    put_all(rt, doors, 0, place, packet)?;
+    halt.ring(rt);
+    merge_all(rt, node, seat, &mut doors[place], senders, halt)
+}
+
+// Puts a copy through each door but the one at the place `own`. The first door is at the place `at`.
+fn put_all<R: Wait>(
+    rt: &R,
+    doors: &mut [Door],
+    at: usize,
+    own: usize,
+    packet: &Packet,
+) -> Result<(), Refusal>
+    requires { at + length doors.old < 2 ^ 64 }
+    ensures put { OnOk result (map (λ d. d.port) doors.new ≡ put_past own at packet.now (map (λ d. d.port) doors.old)) }
+    ensures cause { IfErr result (λ refusal. IsTrue (may_stop refusal)) }
+{
+    let Some((door, rest)) = doors.split_first_mut() else {
+        return Ok(());
+    };
+    put_unless(rt, at == own, door, packet)?;
+    put_all(rt, rest, at + 1, own, packet)
+}
+
+// Puts a copy through the door, unless that is the member's own.
+fn put_unless<R: Wait>(
+    rt: &R,
+    is_own: bool,
+    door: &mut Door,
+    packet: &Packet,
+) -> Result<(), Refusal>
+    ensures put { OnOk result (door.new.port ≡ cond is_own door.old.port (after_put door.old.port packet.now)) }
+    ensures cause { IfErr result (λ refusal. IsTrue (may_stop refusal)) }
+{
+    if is_own {
+        return Ok(());
+    }
+    match door.put(rt, packet.copy()?) {
+        Ok(()) => Ok(()),
+        Err(fault) => Err(fault.refusal),
+    }
+}
+
+// Merges a packet of each of those that are awaited, as they come.
+#[tactic(auto, using(crate::proofs::Stopping::call_stops, crate::proofs::Stopping::merge_packet))]
+fn merge_all<N: NetKeeper, L: NodeName, R: Wait>(
+    rt: &R,
+    node: &Node<N, L>,
+    seat: &mut Seat<L>,
+    own: &mut Door,
+    mut awaited: Vec<CoordId>,
+    halt: &Halt,
+) -> Result<(), Refusal>
+    ensures merged { OnOk result ((merged : AreMerged awaited.items seat.old seat.new)
+        × (own.new.port ≡ after_takes own.old.port merged.packets)) }
+    ensures number { seat.new.number ≡ seat.old.number }
+    ensures cause { IfErr result (λ refusal. IsTrue (may_stop refusal)) }
+{
+    while !awaited.is_empty() {
+        let packet = next_packet(rt, own, halt)?;
+        let Some(place) = place_of(&awaited, &packet) else {
+            let sender = packet.sender.value();
+            return Err(Refusal::NotMine(u32::from(sender)));
+        };
+        awaited.remove(place);
+        node.merge(rt, seat, packet)?;
+    }
+    Ok(())
+}
+
+// Where the packet's sender stands among those that are awaited, if the packet is the first that it cut.
+fn place_of(awaited: &[CoordId], packet: &Packet) -> Option<usize>
+    ensures { MatchOption result
+        (IsFirst packet.now → (i : ℕ) → ¬ (slice_get awaited.now i ≡ Some packet.now.sender))
+        (λ i. IsFirst packet.now × (slice_get awaited.now i ≡ Some packet.now.sender)) }
+{
+    if packet.number != 1 {
+        return None;
+    }
+    for i in 0..awaited.len() {
+        if awaited[i].value() == packet.sender.value() {
+            return Some(i);
+        }
+    }
+    None
+}
+
+// A packet, once there is one. It sleeps until the bell rings: a packet that was put after it looked was put before the
+// ring that it waits for. Refused as the fleet, if that is stopped before.
+fn next_packet<R: Wait>(rt: &R, own: &mut Door, halt: &Halt) -> Result<Packet, Refusal>
+    ensures taken { IfOk result (λ packet. own.new.port ≡ after_take own.old.port packet) }
+    ensures cause { IfErr result (λ refusal. IsTrue (may_stop refusal)) }
+{
+    for _ in rt.forever() {
+        let rings = halt.rings(rt);
+        if let Ok(packet) = own.take(rt) {
+            return Ok(packet);
+        }
+        halt.wait(rt, rings)?;
+    }
+    unreachable!()
+}

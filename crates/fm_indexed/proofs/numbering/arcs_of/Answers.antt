@@ -1,0 +1,44 @@
+use Rattle.std.proofs.Common.{◌≡◌, ◌∙◌, [], ◌∷◌, ◌++◌, List, refl, ap, sym, subst, rules}
+use Rattle.fm_records.specs.Sets.{IsMember}
+use Rattle.fm_net.specs.declared.node.Node.{Node}
+use Rattle.fm_cycles.specs.declared.arcs.Arc.{Arc}
+use Rattle.fm_indexed.specs.Numbered.{NetArc, AreArcsOf}
+use Rattle.fm_indexed.proofs.Formed.{arcs_more, ends_stand}
+use Rattle.fm_indexed.proofs.Naming.{append_one}
+use Rattle.fm_indexed.proofs.numbering.arcs_of.Goals as goal
+
+pub place_of-from-requires-clause-stands : goal.place_of-from-requires-clause-stands
+place_of-from-requires-clause-stands c =
+    let arc : NetArc = ((c.in-Some.source, c.in-Some.target), (c.in-Some.capacity, c.in-Some.cost)) in
+    let done = c.loop-source.invariant.2.0 in
+    let split : c.args.network.now.arcs ≡ done ++ arc ∷ c.next.new.self = c.loop-source.invariant.2.1 ∙ ap (λ (arcs : List NetArc). done ++ arcs) c.in-Some.ensures.steps in
+    subst (λ (nodes : List Node). IsMember c.in-Some.source nodes) (sym c.requires.nodes) (ends_stand c.args.network.now c.known.ensures done arc c.next.new.self split).0
+
+pub place_by-to-requires-clause-stands : goal.place_by-to-requires-clause-stands
+place_by-to-requires-clause-stands c =
+    let arc : NetArc = ((c.in-Some.source, c.in-Some.target), (c.in-Some.capacity, c.in-Some.cost)) in
+    let done = c.loop-source.invariant.2.0 in
+    let split : c.args.network.now.arcs ≡ done ++ arc ∷ c.next.new.self = c.loop-source.invariant.2.1 ∙ ap (λ (arcs : List NetArc). done ++ arcs) c.in-Some.ensures.steps in
+    subst (λ (nodes : List Node). IsMember c.in-Some.target nodes) (sym c.requires.nodes) (ends_stand c.args.network.now c.known.ensures done arc c.next.new.self split).1
+
+pub loop-source-preserved : goal.loop-source-preserved
+loop-source-preserved c =
+    let arc : NetArc = ((c.in-Some.source, c.in-Some.target), (c.in-Some.capacity, c.in-Some.cost)) in
+    let a : Arc = record { from = c.place_of-from.result; to = c.place_by-to.result; capacity = c.in-Some.capacity; cost = c.in-Some.cost } in
+    let done = c.loop-source.invariant.2.0 in
+    let split : c.args.network.now.arcs ≡ done ++ arc ∷ c.next.new.self = c.loop-source.invariant.2.1 ∙ ap (λ (arcs : List NetArc). done ++ arcs) c.in-Some.ensures.steps in (
+      tt,
+      tt,
+      (
+        done ++ arc ∷ [],
+        split ∙ append_one done arc c.next.new.self,
+        subst (λ (numbers : List Arc). AreArcsOf c.args.nodes.now (done ++ arc ∷ []) numbers) (sym {A = List Arc} c.in_ok-push.ensures.items)
+            (arcs_more c.args.nodes.now done c.loop-source.arcs.items arc a c.loop-source.invariant.2.2 (record { from = c.place_of-from.ensures; to = c.place_by-to.ensures; capacity = refl; cost = refl })),
+      ),
+    )
+
+pub loop-source-init : goal.loop-source-init
+loop-source-init c =
+    let none : List NetArc = [] in
+    let whole : c.args.network.now.arcs ≡ c.into_iter-source-iterator.result = search rules in
+    (tt, tt, (none, whole, subst (λ (numbers : List Arc). AreArcsOf c.args.nodes.now none numbers) (sym {A = List Arc} c.in_ok-arcs.ensures.items) tt))

@@ -1,0 +1,69 @@
+//! The arcs and requests of a network by numbers.
+
+ghost use Rattle.std.specs.Prelude.{◌≡◌, IfOk};
+ghost use Rattle.std.specs.List.{filter_map};
+ghost use Rattle.fm_indexed.specs.Places.{ArePlacesOf};
+ghost use Rattle.fm_indexed.specs.Numbered.{AreArcsOf, bandwidth_in};
+
+use crate::places::Places;
+use crate::placing::{GUESSES, place_by, place_of};
+use fm_cycles::arcs::Arc;
+use fm_lattice::join::OutOfMemory;
+use fm_net::network::Network;
+use fm_net::node::Node;
+use std::alloc::Global;
+
+/// The nodes, in order.
+pub(crate) fn nodes_of(alloc: Global, network: &Network) -> Result<Vec<Node>, OutOfMemory>
+    ensures { IfOk result (λ nodes. nodes.items ≡ network.now.nodes) }
+{
+    let nodes = network.nodes().collect(alloc)?;
+    Ok(nodes)
+}
+
+/// The arcs by places of nodes, in the network's order.
+pub(crate) fn arcs_of(
+    alloc: Global,
+    network: &Network,
+    nodes: &[Node],
+    places: &Places,
+) -> Result<Vec<Arc>, OutOfMemory>
+    requires nodes { nodes.now ≡ network.now.nodes }
+    requires places { ArePlacesOf nodes.now places.now }
+    ensures { IfOk result (λ arcs. AreArcsOf nodes.now network.now.arcs arcs.items) }
+{
+    network.known();
+    let mut arcs = Vec::with_capacity(alloc, network.arcs_len())?;
+    let mut guesses = vec![in alloc; 0usize; GUESSES]?;
+    let mut from = 0;
+    let mut to = 0;
+    for (source, target, capacity, cost) in network.arcs() {
+        from = place_of(nodes, places, from, &source);
+        to = place_by(nodes, places, to, &mut guesses, &target);
+        arcs.push(Arc {
+            from,
+            to,
+            capacity,
+            cost,
+        })?;
+    }
+    Ok(arcs)
+}
+
+// The bandwidth of a request's node.
+fn bandwidth(node: &Node) -> Option<u32>
+    ensures { result ≡ bandwidth_in node.now }
+{
+    match node {
+        Node::Request(bandwidth) => Some(*bandwidth),
+        Node::Sink | Node::Unscheduled(_) | Node::Machine(_) | Node::Task(_) => None,
+    }
+}
+
+/// The bandwidths of the requests, in order.
+pub(crate) fn requests_of(alloc: Global, nodes: &[Node]) -> Result<Vec<u32>, OutOfMemory>
+    ensures { IfOk result (λ requests. requests.items ≡ filter_map bandwidth_in nodes.now) }
+{
+    let requests = nodes.iter().filter_map(bandwidth).collect(alloc)?;
+    Ok(requests)
+}

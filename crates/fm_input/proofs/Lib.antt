@@ -1,5 +1,0 @@
-pub mod Views
-pub mod Naming
-pub mod Spelling
-pub mod Plainly
-pub mod Examples

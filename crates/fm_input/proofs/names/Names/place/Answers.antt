@@ -1,9 +1,0 @@
-use Rattle.std.proofs.Common.{◌∙◌, ap, position}
-use Rattle.fm_input.specs.Script.{is_text}
-use Rattle.fm_input.proofs.Naming.{position-texts}
-use Rattle.fm_input.proofs.names.Names.place.Goals as goal
-
-pub returns : goal.returns
-returns c =
-    let test = is_text c.args.name.now in
-    c.get_index_of.ensures.index ∙ position-texts test c.self.inside.places.entries ∙ ap (position test) c.self.view_is

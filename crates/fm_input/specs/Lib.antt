@@ -1,4 +1,0 @@
-pub mod Json
-pub mod Script
-pub mod Texts
-pub mod Requests

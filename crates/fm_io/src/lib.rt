@@ -1,0 +1,11 @@
+//! The input and output of a program: bytes from a source, bytes to a sink, and lines of a stream, each answered in order.
+#![tactic(auto)]
+
+pub mod follow;
+pub mod input;
+pub mod lines;
+mod replies;
+pub mod responder;
+pub mod sending;
+pub mod sink;
+pub mod source;

@@ -1,0 +1,55 @@
+//! What is answered to a line.
+
+ghost use Rattle.std.specs.Prelude.{◌≡◌, IsOkUnless};
+ghost use Rattle.fm_dimacs.specs.Sending.{IsSent};
+ghost use Rattle.fm_io.specs.Replies.{accepted_reply, refusal_reply};
+
+use fm_dimacs::pieces::put_all;
+use fm_records::refusal::Refusal;
+use crate::sending::send;
+use crate::sink::Sink;
+
+/// Writes the text of an accepted line's answer, and `ok`.
+pub(crate) fn send_accepted<W: Sink>(sink: &mut W, text: &[u8]) -> Result<(), Refusal>
+    ensures sent { IsSent result (W.written sink.old) (W.written sink.new) (W.has_failed sink.old)
+        (W.has_failed sink.new) (accepted_reply text.now) }
+    ensures cause { IsOkUnless result Refusal.WriteFault }
+{
+    put_all(sink, text)?;
+    send(sink, b"ok\n")
+}
+
+/// Writes why a line was refused.
+pub(crate) fn send_refused<W: Sink>(sink: &mut W, refusal: Refusal) -> Result<(), Refusal>
+    ensures sent { IsSent result (W.written sink.old) (W.written sink.new) (W.has_failed sink.old)
+        (W.has_failed sink.new) (refusal_reply refusal) }
+    ensures cause { IsOkUnless result Refusal.WriteFault }
+{
+    send(sink, line_of(refusal).as_bytes())
+}
+
+// Why a line was refused.
+fn line_of(refusal: Refusal) -> &'static str
+    ensures { result.now ≡ refusal_reply refusal }
+{
+    match refusal {
+        Refusal::OutOfMemory => "refusal 1\n",
+        Refusal::BadOp(_) => "refusal 2\n",
+        Refusal::HistoryFull => "refusal 3\n",
+        Refusal::BadInterval => "refusal 4\n",
+        Refusal::Trimmed(_) => "refusal 5\n",
+        Refusal::BadPacket(_) => "refusal 6\n",
+        Refusal::Uncertified => "refusal 7\n",
+        Refusal::NoCoordinator => "refusal 8\n",
+        Refusal::NoPacket => "refusal 9\n",
+        Refusal::InboxFull => "refusal 10\n",
+        Refusal::InboxEmpty => "refusal 11\n",
+        Refusal::Stuck => "refusal 12\n",
+        Refusal::NotMine(_) => "refusal 13\n",
+        Refusal::VersionsSpent => "refusal 14\n",
+        Refusal::AttemptsSpent => "refusal 15\n",
+        Refusal::BadScript(_) => "refusal 16\n",
+        Refusal::WriteFault => "refusal 17\n",
+        Refusal::BadDimacs(_) => "refusal 18\n",
+    }
+}

@@ -1,0 +1,86 @@
+//! Sources of bytes.
+
+ghost use Rattle.std.specs.Prelude.{◌≡◌, ◌≤◌, ◌||◌, ℕ, List, Bool, Option, false, is_none, length, IfSome, MatchOption};
+ghost use Rattle.std.specs.Io.KnownBytes.{Keeps};
+ghost use Rattle.fm_io.specs.Sources.{Gives};
+
+use std::io::{ErrorKind, Read};
+use std::marker::Model;
+
+/// What gives bytes.
+pub trait Source {
+    /// The bytes that it will give, if they are known.
+    ghost remaining: { Self → Option (List ℕ) };
+
+    /// Whether it has failed.
+    ghost has_failed: { Self → Bool };
+
+    /// Puts its next bytes at the front of the piece, and returns how many. For a piece that is not empty, 0 is the end
+    /// of the bytes. None is a failure: then nothing was given.
+    fn get(&mut self, piece: &mut [u8]) -> Option<usize>
+        ensures within { IfSome result (λ n. n ≤ length piece.new) }
+        ensures gives { MatchOption result (Keeps (remaining self.old) (remaining self.new))
+            (λ n. Gives (remaining self.old) (remaining self.new) n piece.new) }
+        ensures fails { has_failed self.new ≡ (has_failed self.old || is_none result) };
+}
+
+/// A source over any reader. A read that was interrupted is made again.
+#[derive(Debug, Drop)]
+pub struct Input<R> {
+    reader: R,
+    failed: bool,
+}
+
+impl<R> Model for Input<R> {
+    ghost use Rattle.std.specs.Prelude.{Bool};
+
+    ghost Value = { R × Bool };
+
+    ghost view = { λ i. (i.reader, i.failed) };
+}
+
+impl<R> Input<R> {
+    /// The reader as a source that has not failed.
+    pub fn new(reader: R) -> Input<R>
+        ensures { result ≡ (reader, false) }
+    {
+        Input {
+            reader,
+            failed: false,
+        }
+    }
+}
+
+impl<R: Read> Source for Input<R> {
+    ghost remaining = { λ i. R.Read.remaining i.0 };
+
+    ghost has_failed = { λ i. i.1 };
+
+    fn get(&mut self, piece: &mut [u8]) -> Option<usize> {
+        let count = read_some(&mut self.reader, piece);
+        if count.is_none() {
+            self.failed = true;
+        }
+        count
+    }
+}
+
+// How many bytes the reader puts at the front of the piece; None if it fails. A read that was interrupted is made
+// again.
+fn read_some<R: Read>(reader: &mut R, piece: &mut [u8]) -> Option<usize>
+    ensures within { IfSome result (λ n. n ≤ length piece.new) }
+    ensures gives { MatchOption result (Keeps (R.remaining reader.old) (R.remaining reader.new))
+        (λ n. Gives (R.remaining reader.old) (R.remaining reader.new) n piece.new) }
+{
+    for _ in 0..u64::MAX {
+        match reader.read(piece) {
+            Ok(count) => return Some(count),
+            Err(error) => {
+                if error.kind() != ErrorKind::Interrupted {
+                    return None;
+                }
+            }
+        }
+    }
+    None
+}

@@ -1,4 +1,0 @@
-//! Plans of what is known.
-#![tactic(auto)]
-
-pub mod least;

@@ -1,0 +1,116 @@
+//! Solving a network, from nothing and from earlier flows.
+
+ghost use Rattle.std.specs.Prelude.{◌≡◌, ◌<◌, ◌^◌, length, IfOk};
+ghost use Rattle.fm_net.specs.Network.{net_of};
+ghost use Rattle.fm_certificate.specs.Built.{IsBuilt};
+ghost use Rattle.fm_certificate.specs.Flows.{units_in, cost_of, IsLeast};
+ghost use Rattle.fm_cycles.specs.Residual.{AreArcs};
+ghost use Rattle.fm_cycles.specs.Units.{AreCapacities, AreWithin};
+
+use fm_cycles::arcs::Arc;
+use fm_cycles::cancel::cancel;
+use fm_cycles::search::{Found, search};
+use fm_flow::cost::cost;
+use fm_flow::flow::Flow;
+use fm_flow::solve::{solve, solve_from};
+use fm_heuristics::simplex::simplex;
+use fm_heuristics::start::start;
+use fm_know::knowledge::Knowledge;
+use fm_know::laws::law_can_be;
+use fm_lattice::join::OutOfMemory;
+use fm_net::network::Network;
+use fm_indexed::numbered::Numbered;
+use fm_indexed::unscheduled::law_unscheduled;
+use fm_policy::build::build;
+use fm_records::refusal::Refusal;
+use std::alloc::Global;
+
+// More cycles than are counted.
+const MANY: usize = 1000;
+
+/// The network of what is known.
+pub(crate) fn network_of(alloc: Global, known: &Knowledge) -> Result<Network, Refusal>
+    ensures { IfOk result (λ network. IsBuilt network) }
+{
+    law_can_be(known);
+    let network = build(alloc, known)?;
+    Ok(network)
+}
+
+/// A least flow, with what it costs.
+pub(crate) fn anew(alloc: Global, network: &Network) -> Result<(Flow, u128), Refusal>
+    requires { IsBuilt network.now }
+    ensures { IfOk result (λ found. found.1 ≡ cost_of network.now (units_in found.0)) }
+{
+    let (flow, _) = solve(alloc, network)?;
+    let cost = cost(network, &flow);
+    Ok((flow, cost))
+}
+
+/// A least flow from an earlier one, with what it costs.
+pub(crate) fn from(
+    alloc: Global,
+    network: &Network,
+    earlier: &Flow,
+) -> Result<(Flow, u128), Refusal>
+    requires { IsBuilt network.now }
+    ensures { IfOk result (λ found. found.1 ≡ cost_of network.now (units_in found.0)) }
+{
+    let (flow, _) = solve_from(alloc, network, earlier)?;
+    let again = cost(network, &flow);
+    Ok((flow, again))
+}
+
+/// What a least flow from an earlier one costs.
+pub(crate) fn cost_from(alloc: Global, network: &Network, earlier: &Flow) -> Result<u128, Refusal>
+    requires { IsBuilt network.now }
+{
+    let (_, cost) = from(alloc, network, earlier)?;
+    Ok(cost)
+}
+
+/// How many cycles are cancelled after the start, at most 1,000.
+pub(crate) fn cycles_after_start(alloc: Global, network: &Network) -> Result<usize, Refusal>
+    requires { IsBuilt network.now }
+{
+    network.known();
+    law_unscheduled();
+    let numbered = Numbered::of(alloc, network)?;
+    let units = start(alloc, &numbered)?;
+    let count = cycles(alloc, numbered.places.end, &numbered.arcs, units)?;
+    Ok(count)
+}
+
+/// The result of the simplex on a network: how many cycles are cancelled after it, at most 1,000.
+pub(crate) fn cycles_after_simplex(alloc: Global, network: &Network) -> Result<usize, Refusal>
+    requires { IsBuilt network.now }
+{
+    network.known();
+    let numbered = Numbered::of(alloc, network)?;
+    let Some((units, _costs)) = simplex(alloc, &numbered)? else {
+        return Ok(MANY);
+    };
+    let count = cycles(alloc, numbered.places.end, &numbered.arcs, units)?;
+    Ok(count)
+}
+
+// How many cycles are cancelled until there is none, at most 1,000.
+fn cycles(alloc: Global, nodes: usize, arcs: &[Arc], units: Vec<u64>) -> Result<usize, OutOfMemory>
+    requires arcs { AreArcs arcs.now nodes }
+    requires few { nodes < 2 ^ 63 }
+    requires sized { length units.items ≡ length arcs.now }
+    requires within { AreWithin arcs.now units.items }
+    requires fits { AreCapacities arcs.now }
+{
+    let mut units = units;
+    for count in 0..MANY {
+        let first = vec![in alloc; 0i128; nodes]?;
+        match search(alloc, nodes, arcs, &units, first)? {
+            Found::Potentials(_) => return Ok(count),
+            Found::Cycle(cycle) => {
+                cancel(arcs, &mut units, &cycle);
+            }
+        }
+    }
+    Ok(MANY)
+}

@@ -1,0 +1,177 @@
+//! Queries of a world, and what answers them.
+
+ghost use Rattle.std.specs.Prelude.{◌≡◌, IfOk, IfErr};
+ghost use Rattle.fm_query.specs.Queries.{ForEachWorld, IsText, differs_in, IsUnanswered};
+
+use crate::agree::{agreement_text, difference};
+use crate::packets::packet_line;
+use crate::reasons::why_text;
+use crate::solution::{least_plan_text, solution_text};
+use crate::stops::stops_text;
+use crate::winners::winners_text;
+use fm_dimacs::out::Over;
+use fm_policy::keeper::NetKeeper;
+use fm_records::ids::{CoordId, TaskId};
+use fm_records::refusal::Refusal;
+use fm_world::world::World;
+use std::alloc::Global;
+
+/// What can be asked of a world of coordinators.
+#[derive(Debug, Clone, Copy, PartialEq, Eq, Drop)]
+pub enum Query {
+    /// The network of what the coordinator knows, in DIMACS lines.
+    Graph(CoordId),
+    /// A least flow of that network, its cost first, in DIMACS lines.
+    Solve(CoordId),
+    /// The plan of a least flow of that network, a line for each place and each preempt.
+    Plan(CoordId),
+    /// The winner of the present attempt of each task, by what the coordinator knows, a line each.
+    Winners(CoordId),
+    /// The entries that the coordinator has to stop, a line each.
+    Stops(CoordId),
+    /// Why the task waits or runs, by what the coordinator knows.
+    Why(CoordId, TaskId),
+    /// Whether all coordinators know the same: `same`, or `differ A B` of the first and the first that knows something
+    /// else.
+    Agree,
+    /// The packet that was cut as the one with the number, counted from 0, in hexadecimal digits.
+    Packet(usize),
+}
+
+/// What answers a query.
+#[derive(Debug, Drop)]
+pub struct Answer {
+    /// The text, each of its lines ended by a line feed.
+    pub text: Vec<u8>,
+    /// Whether two coordinators were found that do not know the same. Only `Agree` looks for them.
+    pub differs: bool,
+}
+
+/// The world's answer to the query. NoCoordinator or NoPacket if the coordinator or packet does not exist, else
+/// refused only if memory runs out. Knowledge, deltas and histories are unchanged, also after a refusal; `Graph`
+/// leaves the coordinator's network fresh. The cost is that of building the network (`Graph`, if it is stale), of
+/// solving it, or of one scan of what is known.
+pub fn ask<N: NetKeeper>(
+    alloc: Global,
+    world: &mut World<N>,
+    query: Query,
+) -> Result<Answer, Refusal>
+    ensures text { ForEachWorld world.old (λ w. IfOk result (λ a. IsText query w a.text.items)) }
+    ensures differs { ForEachWorld world.old (λ w. IfOk result (λ a. a.differs ≡ differs_in query w)) }
+    ensures err { ForEachWorld world.old (λ w. IfErr result (IsUnanswered query w)) }
+    ensures same { world.new ≡ world.old }
+{
+    let text = match query {
+        Query::Graph(at) => graph(alloc, world, at)?,
+        Query::Solve(at) => solution(alloc, world, at)?,
+        Query::Plan(at) => plan(alloc, world, at)?,
+        Query::Winners(at) => winners(alloc, world, at)?,
+        Query::Stops(at) => stops(alloc, world, at)?,
+        Query::Why(at, task) => reasons(alloc, world, at, task)?,
+        Query::Packet(number) => packet(alloc, world, number)?,
+        Query::Agree => return agreement(alloc, world),
+    };
+    Ok(Answer {
+        text,
+        differs: false,
+    })
+}
+
+// The network of what the coordinator knows.
+fn graph<N: NetKeeper>(alloc: Global, world: &mut World<N>, at: CoordId) -> Result<Vec<u8>, Refusal>
+    ensures ok { ForEachWorld world.old (λ w. IfOk result (λ text. IsText (Query.Graph at) w text.items)) }
+    ensures err { ForEachWorld world.old (λ w. IfErr result (IsUnanswered (Query.Graph at) w)) }
+    ensures same { world.new ≡ world.old }
+{
+    let mut page = Over::new(Vec::new(alloc));
+    match world.dump(at, &mut page) {
+        Ok(()) => Ok(page.into_inner()),
+        Err(Refusal::NoCoordinator) => Err(Refusal::NoCoordinator),
+        Err(_) => Err(Refusal::OutOfMemory),
+    }
+}
+
+// A least flow of that network.
+fn solution<N: NetKeeper>(alloc: Global, world: &World<N>, at: CoordId) -> Result<Vec<u8>, Refusal>
+    ensures ok { ForEachWorld world.now (λ w. IfOk result (λ text. IsText (Query.Solve at) w text.items)) }
+    ensures err { ForEachWorld world.now (λ w. IfErr result (IsUnanswered (Query.Solve at) w)) }
+{
+    match world.coordinator(at) {
+        None => Err(Refusal::NoCoordinator),
+        Some(coordinator) => solution_text(alloc, coordinator),
+    }
+}
+
+// The plan of a least flow of that network.
+fn plan<N: NetKeeper>(alloc: Global, world: &World<N>, at: CoordId) -> Result<Vec<u8>, Refusal>
+    ensures ok { ForEachWorld world.now (λ w. IfOk result (λ text. IsText (Query.Plan at) w text.items)) }
+    ensures err { ForEachWorld world.now (λ w. IfErr result (IsUnanswered (Query.Plan at) w)) }
+{
+    match world.coordinator(at) {
+        None => Err(Refusal::NoCoordinator),
+        Some(coordinator) => Ok(least_plan_text(alloc, coordinator)?.into_bytes()),
+    }
+}
+
+// What the coordinator has to stop.
+fn stops<N: NetKeeper>(alloc: Global, world: &World<N>, at: CoordId) -> Result<Vec<u8>, Refusal>
+    ensures ok { ForEachWorld world.now (λ w. IfOk result (λ text. IsText (Query.Stops at) w text.items)) }
+    ensures err { ForEachWorld world.now (λ w. IfErr result (IsUnanswered (Query.Stops at) w)) }
+{
+    match world.coordinator(at) {
+        None => Err(Refusal::NoCoordinator),
+        Some(coordinator) => Ok(stops_text(alloc, coordinator.knowledge(), at)?.into_bytes()),
+    }
+}
+
+// Why the task waits or runs, by what the coordinator knows.
+fn reasons<N: NetKeeper>(
+    alloc: Global,
+    world: &World<N>,
+    at: CoordId,
+    task: TaskId,
+) -> Result<Vec<u8>, Refusal>
+    ensures ok { ForEachWorld world.now (λ w. IfOk result (λ text. IsText (Query.Why at task) w text.items)) }
+    ensures err { ForEachWorld world.now (λ w. IfErr result (IsUnanswered (Query.Why at task) w)) }
+{
+    match world.coordinator(at) {
+        None => Err(Refusal::NoCoordinator),
+        Some(coordinator) => Ok(why_text(alloc, coordinator.knowledge(), task)?.into_bytes()),
+    }
+}
+
+// Who won, by what the coordinator knows.
+fn winners<N: NetKeeper>(alloc: Global, world: &World<N>, at: CoordId) -> Result<Vec<u8>, Refusal>
+    ensures ok { ForEachWorld world.now (λ w. IfOk result (λ text. IsText (Query.Winners at) w text.items)) }
+    ensures err { ForEachWorld world.now (λ w. IfErr result (IsUnanswered (Query.Winners at) w)) }
+{
+    match world.coordinator(at) {
+        None => Err(Refusal::NoCoordinator),
+        Some(coordinator) => Ok(winners_text(alloc, coordinator.knowledge())?.into_bytes()),
+    }
+}
+
+// The digits of the packet with the number.
+fn packet<N: NetKeeper>(alloc: Global, world: &World<N>, number: usize) -> Result<Vec<u8>, Refusal>
+    ensures ok { ForEachWorld world.now (λ w. IfOk result (λ text. IsText (Query.Packet number) w text.items)) }
+    ensures err { ForEachWorld world.now (λ w. IfErr result (IsUnanswered (Query.Packet number) w)) }
+{
+    match world.packet(number) {
+        None => Err(Refusal::NoPacket),
+        Some(packet) => Ok(packet_line(alloc, packet)?.into_bytes()),
+    }
+}
+
+// Whether all coordinators know the same.
+fn agreement<N: NetKeeper>(alloc: Global, world: &World<N>) -> Result<Answer, Refusal>
+    ensures text { ForEachWorld world.now (λ w. IfOk result (λ a. IsText Query.Agree w a.text.items)) }
+    ensures differs { ForEachWorld world.now (λ w. IfOk result (λ a. a.differs ≡ differs_in Query.Agree w)) }
+    ensures err { IfErr result (λ refusal. refusal ≡ Refusal.OutOfMemory) }
+{
+    let found = difference(world);
+    let text = agreement_text(alloc, found)?.into_bytes();
+    Ok(Answer {
+        text,
+        differs: found.is_some(),
+    })
+}

@@ -1,0 +1,93 @@
+-- Lines of a stream, and what they ask for, computed from their texts.
+use Rattle.std.proofs.Common.{◌≡◌, ℕ, List, [], ◌∷◌, codes, Option, Some, None, refl}
+use Rattle.serde_json.specs.Read.{read as read_text}
+use Rattle.serde_json.proofs.OnLiterals.{serde_json_on_literals}
+use Rattle.fm_coord.specs.declared.entry.Range.TheVariants.{Interval, Full}
+use Rattle.fm_script.specs.declared.script.Act.TheVariants as act
+use Rattle.fm_script.specs.declared.request.Topic.TheVariants as topic
+use Rattle.fm_script.specs.Json.{and_then}
+use Rattle.fm_script.specs.Requests.{Asked, Opens, Does, Cuts, News, Takes, Asks, Agrees, Renews, request_of}
+
+-- what a line asks for, given that one packet was cut before, under the name p
+abbrev asked_by : List ℕ → Option Asked
+asked_by line = and_then (read_text line) (request_of (codes "p" ∷ []))
+
+opening : asked_by (codes "{\"coordinators\":[2,64]}") ≡ Some (Opens (2 ∷ 64 ∷ []))
+unfolding serde_json_on_literals
+opening = refl
+
+opened_twice : asked_by (codes "{\"coordinators\":[2,2]}") ≡ None
+unfolding serde_json_on_literals
+opened_twice = refl
+
+step : asked_by (codes "{\"trim\":3,\"at\":255}") ≡ Some (Does (record { at = 255; act = act.Trim 3 }))
+unfolding serde_json_on_literals
+step = refl
+
+delivery : asked_by (codes "{\"at\":1,\"deliver\":\"p\"}") ≡ Some (Does (record { at = 1; act = act.Deliver 0 }))
+unfolding serde_json_on_literals
+delivery = refl
+
+cut : asked_by (codes "{\"at\":1,\"cut\":{}}") ≡ Some (Cuts 1 Full None)
+unfolding serde_json_on_literals
+cut = refl
+
+cut_under_name : asked_by (codes "{\"at\":1,\"cut\":{\"from\":0,\"to\":7,\"name\":\"q\"}}") ≡ Some (Cuts 1 (Interval 0 7) (Some (codes "q")))
+unfolding serde_json_on_literals
+cut_under_name = refl
+
+cut_under_used_name : asked_by (codes "{\"at\":1,\"cut\":{\"name\":\"p\"}}") ≡ None
+unfolding serde_json_on_literals
+cut_under_used_name = refl
+
+cut_of_no_object : asked_by (codes "{\"at\":1,\"cut\":true}") ≡ None
+unfolding serde_json_on_literals
+cut_of_no_object = refl
+
+news : asked_by (codes "{\"at\":1,\"news\":true}") ≡ Some (News 1)
+unfolding serde_json_on_literals
+news = refl
+
+no_news : asked_by (codes "{\"at\":1,\"news\":false}") ≡ None
+unfolding serde_json_on_literals
+no_news = refl
+
+packet : asked_by (codes "{\"at\":2,\"take\":\"4644\"}") ≡ Some (Takes 2 (codes "4644"))
+unfolding serde_json_on_literals
+packet = refl
+
+question : asked_by (codes "{\"at\":1,\"ask\":\"winners\"}") ≡ Some (Asks 1 topic.Winners)
+unfolding serde_json_on_literals
+question = refl
+
+agreement : asked_by (codes "{\"ask\":\"agree\"}") ≡ Some Agrees
+unfolding serde_json_on_literals
+agreement = refl
+
+reason_of_nothing : asked_by (codes "{\"at\":1,\"ask\":\"why\"}") ≡ None
+unfolding serde_json_on_literals
+reason_of_nothing = refl
+
+reason_of_no_text : asked_by (codes "{\"at\":1,\"ask\":\"why\",\"task\":17}") ≡ None
+unfolding serde_json_on_literals
+reason_of_no_text = refl
+
+no_question : asked_by (codes "{\"ask\":\"graph\"}") ≡ None
+unfolding serde_json_on_literals
+no_question = refl
+
+renewal : asked_by (codes "{\"renew\":true}") ≡ Some Renews
+unfolding serde_json_on_literals
+renewal = refl
+
+more_members : asked_by (codes "{\"at\":1,\"news\":true,\"more\":0}") ≡ None
+unfolding serde_json_on_literals
+more_members = refl
+
+no_json : asked_by (codes "{\"renew\":true") ≡ None
+unfolding serde_json_on_literals
+no_json = refl
+
+nothing : asked_by [] ≡ None
+unfolding serde_json_on_literals
+nothing = refl

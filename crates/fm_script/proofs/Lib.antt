@@ -1,0 +1,6 @@
+pub mod Views
+pub mod Naming
+pub mod Spelling
+pub mod Plainly
+pub mod Examples
+pub mod Opening

@@ -1,0 +1,5 @@
+pub mod Json
+pub mod Script
+pub mod Texts
+pub mod Requests
+pub mod Openings

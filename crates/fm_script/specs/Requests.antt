@@ -1,0 +1,131 @@
+-- What a line of a stream asks for, by the JSON value that it spells (this project's profile).
+use Rattle.std.specs.Prelude.{◌≡◌, ◌⊎◌, ℕ, List, not, cond, codes, string_bytes, Option, Some, None, is_some, option_map, IsUtf8}
+use Rattle.serde_json.specs.Data.{Data}
+use Rattle.serde_json.specs.Find.{get, as_bool, as_str, as_object}
+use Rattle.serde_json.specs.Read.{read as read_text}
+use Rattle.fm_records.specs.declared.refusal.Refusal.{Refusal}
+use Rattle.fm_records.specs.declared.refusal.Refusal.TheVariants.{OutOfMemory, BadScript}
+use Rattle.fm_records.specs.Options.{when}
+use Rattle.fm_coord.specs.declared.entry.Range.{Range}
+use Rattle.fm_coord.specs.Numbers.{AreDistinct}
+use Rattle.fm_script.specs.declared.script.Act.{Act}
+use Rattle.fm_script.specs.declared.script.Act.TheVariants as act
+use Rattle.fm_script.specs.declared.script.Step.{Step}
+use Rattle.fm_script.specs.declared.request.Topic.{Topic}
+use Rattle.fm_script.specs.declared.request.Topic.TheVariants as topic
+use Rattle.fm_script.specs.declared.request.Request.{Request}
+use Rattle.fm_script.specs.declared.request.Request.TheVariants as request
+use Rattle.fm_script.specs.Json.{and_then, number_8_at, text_at, id_at, has_size}
+use Rattle.fm_script.specs.Script.{is_text, either, range_of, is_named, step_of, coordinators_of}
+
+-- what a line asks for, with texts as the bytes that they are
+pub data Asked : Type 0 where
+  Opens : (listed : List ℕ) → Asked
+  Does : (step : Step) → Asked
+  Cuts : (at : ℕ) (range : Range) (name : Option (List ℕ)) → Asked
+  News : (at : ℕ) → Asked
+  Takes : (at : ℕ) (digits : List ℕ) → Asked
+  Asks : (at : ℕ) (topic : Topic) → Asked
+  Explains : (at task : ℕ) → Asked
+  Agrees : Asked
+  Renews : Asked
+
+abbrev pub asked_of : Request → Asked
+asked_of (request.Open listed) = Opens listed.items
+asked_of (request.Do step) = Does step
+asked_of (request.Cut at range name) = Cuts at range (option_map string_bytes name)
+asked_of (request.News at) = News at
+asked_of (request.Take at digits) = Takes at (string_bytes digits)
+asked_of (request.Ask at topic) = Asks at topic
+asked_of (request.Why at task) = Explains at task
+asked_of request.Agree = Agrees
+asked_of request.Renew = Renews
+
+-- what is asked about, by its name
+abbrev pub topic_named : List ℕ → Option Topic
+topic_named name =
+    cond (is_text name (codes "graph")) (Some topic.Graph) (
+    cond (is_text name (codes "solve")) (Some topic.Solve) (
+    cond (is_text name (codes "plan")) (Some topic.Plan) (
+    cond (is_text name (codes "winners")) (Some topic.Winners) (
+    when (is_text name (codes "stops")) topic.Stops))))
+
+-- a cut under the name that a value is, which no packet before has
+abbrev pub cut_under : List (List ℕ) → ℕ → Range → Data → Option Asked
+cut_under names at range v =
+    and_then (as_str v) (λ name.
+    when (not (is_named names name)) (Cuts at range (Some name)))
+
+-- a cut: an object with both ends of an interval or neither, and with a name that no packet before has, or with none
+abbrev pub cut_asked : List (List ℕ) → ℕ → Data → Option Asked
+cut_asked names at d =
+    and_then (when (is_some (as_object d)) d) (λ d.
+    and_then (range_of d) (λ range.
+    either (get (codes "name") d) (cut_under names at range) (Some (Cuts at range None))))
+
+-- what is asked for by true
+abbrev pub when_true : Asked → Data → Option Asked
+when_true asked d = and_then (as_bool d) (λ b. when b asked)
+
+-- a question that is not about one coordinator
+abbrev pub agree_asked : Data → Option Asked
+agree_asked d = and_then (as_str d) (λ word. when (is_text word (codes "agree")) Agrees)
+
+-- an object of one member
+abbrev pub alone_of : Data → Option Asked
+alone_of d =
+    either (get (codes "coordinators") d) (λ v. option_map Opens (coordinators_of d)) (
+    either (get (codes "renew") d) (when_true Renews) (
+    either (get (codes "ask") d) agree_asked None))
+
+-- an object of two members, the number of a coordinator and what it is asked for
+-- what is none of these is a step as in a script
+abbrev pub asked_at : List (List ℕ) → ℕ → Data → Option Asked
+asked_at names at d =
+    either (get (codes "cut") d) (cut_asked names at) (
+    either (get (codes "news") d) (when_true (News at)) (
+    either (get (codes "take") d) (λ v. option_map (Takes at) (as_str v)) (
+    either (get (codes "ask") d) (λ v. option_map (Asks at) (and_then (as_str v) topic_named)) (
+    option_map Does (step_of names d)))))
+
+-- an object of three members: the number of a coordinator that is asked why the task of the id waits or runs
+abbrev pub why_asked : Data → Option Asked
+why_asked d =
+    and_then (number_8_at (codes "at") d) (λ at.
+    and_then (text_at (codes "ask") d) (λ word.
+    and_then (when (is_text word (codes "why")) d) (λ d.
+    option_map (Explains at) (id_at (codes "task") d))))
+
+-- what a value asks for, given that packets of the names were cut before
+abbrev pub request_of : List (List ℕ) → Data → Option Asked
+request_of names d =
+    cond (has_size 1 d) (alone_of d) (
+    cond (has_size 3 d) (why_asked d) (
+    and_then (when (has_size 2 d) d) (λ d.
+    and_then (number_8_at (codes "at") d) (λ at.
+    asked_at names at d))))
+
+-- the line is JSON, and its value asks for that, given that packets of the names were cut before
+pub record Requests (names : List (List ℕ)) (line : List ℕ) (asked : Asked) : Type 0 where
+  pub value : Data
+  pub read : read_text line ≡ Some value
+  pub asks : request_of names value ≡ Some asked
+
+-- the line is no JSON, or its value asks for nothing known; or memory ran out
+abbrev pub RequestsNothing : List (List ℕ) → List ℕ → Refusal → Type 0
+RequestsNothing names line refusal =
+    (refusal ≡ OutOfMemory)
+    ⊎ ((refusal ≡ BadScript 0)
+    × ((IsUtf8 line → read_text line ≡ None)
+    ⊎ ((d : Data) × (read_text line ≡ Some d) × (request_of names d ≡ None))))
+
+-- a step cuts no packet
+abbrev pub CutsNothing : Act → Type 0
+CutsNothing (act.Cut range) = ⊥
+CutsNothing _ = Unit {0}
+
+-- coordinators with which a stream begins are distinct, and a step cuts no packet: a cut is asked for as one
+abbrev pub IsPlain : Asked → Type 0
+IsPlain (Opens listed) = AreDistinct listed
+IsPlain (Does step) = CutsNothing step.act
+IsPlain _ = Unit {0}

@@ -1,0 +1,250 @@
+-- The script that a JSON value spells (this project's profile).
+use Rattle.std.specs.Prelude.{◌≡◌, ℕ, ◌+◌, ◌==◌, ◌&&◌, nat_eq, nat_le, List, [], ◌∷◌, ◌++◌, length, map, Bool, true, false, not, cond, codes, Option, Some, None, is_some, is_none, option_map}
+use Rattle.std.specs.List.{list_any, flat_map, position_or_len}
+use Rattle.std.specs.Option.{option_to_list}
+use Rattle.std.specs.Cmp.Lexicographic.{pointwise}
+use Rattle.serde_json.specs.Data.{Data}
+use Rattle.serde_json.specs.Find.{get, as_bool, as_str}
+use Rattle.fm_records.specs.declared.ops.Op.{Op}
+use Rattle.fm_records.specs.declared.ops.Op.TheVariants as op
+use Rattle.fm_records.specs.declared.ops.Phase.{Phase}
+use Rattle.fm_records.specs.declared.ops.Phase.TheVariants as phase
+use Rattle.fm_records.specs.Ids.{is_coordinator}
+use Rattle.fm_records.specs.Options.{when, only_if}
+use Rattle.fm_coord.specs.declared.entry.Range.{Range}
+use Rattle.fm_coord.specs.declared.entry.Range.TheVariants.{Interval, Full}
+use Rattle.fm_script.specs.declared.script.Act.{Act}
+use Rattle.fm_script.specs.declared.script.Act.TheVariants as act
+use Rattle.fm_script.specs.declared.script.Step.{Step}
+use Rattle.fm_script.specs.declared.script.Tell.{Tell}
+use Rattle.fm_script.specs.Json.{and_then, whole_of, number_at, number_32_at, number_8_at, flag_at, text_at, id_at, has_size, items_at}
+
+-- the fields of each operation
+abbrev pub job_of : Data → Option Op
+job_of d =
+    and_then (id_at (codes "id") d) (λ id.
+    and_then (number_at (codes "version") d) (λ version.
+    and_then (number_8_at (codes "writer") d) (λ writer.
+    and_then (flag_at (codes "withdrawn") d) (λ withdrawn.
+    and_then (number_32_at (codes "wait") d) (λ wait.
+    and_then (number_32_at (codes "preempt") d) (λ preempt.
+    Some (op.Job id version writer withdrawn wait preempt)))))))
+
+-- all of the values, if each is there
+abbrev pub all_of : {A : Type 0} → List (Option A) → Option (List A)
+all_of [] = Some []
+all_of (o ∷ os) = and_then o (λ a. option_map (λ rest. a ∷ rest) (all_of os))
+
+-- a machine that is preferred, with its credit
+abbrev pub entry_of : Data → Option (ℕ × ℕ)
+entry_of d =
+    and_then (id_at (codes "machine") d) (λ machine.
+    and_then (number_32_at (codes "credit") d) (λ credit.
+    Some (machine, credit)))
+
+-- machines that are preferred, in the order of the list: four at most
+abbrev pub entries_of : List Data → Option (List (ℕ × ℕ))
+entries_of ds = cond (nat_le (length ds) 4) (all_of (map entry_of ds)) None
+
+-- none if the member is not there
+abbrev pub prefer_of : Data → Option (List (ℕ × ℕ))
+prefer_of d = cond (is_none (get (codes "prefer") d)) (Some []) (and_then (items_at (codes "prefer") d) entries_of)
+
+abbrev pub spec_of : Data → Option Op
+spec_of d =
+    and_then (id_at (codes "id") d) (λ id.
+    and_then (number_at (codes "version") d) (λ version.
+    and_then (number_8_at (codes "writer") d) (λ writer.
+    and_then (flag_at (codes "withdrawn") d) (λ withdrawn.
+    and_then (id_at (codes "job") d) (λ job.
+    and_then (number_32_at (codes "request") d) (λ request.
+    and_then (prefer_of d) (λ prefer.
+    Some (op.Spec id version writer withdrawn job request prefer))))))))
+
+-- the name spells the text
+abbrev pub is_text : List ℕ → List ℕ → Bool
+is_text = pointwise nat_eq
+
+-- a phase by its name
+abbrev pub phase_named : List ℕ → Option Phase
+phase_named name = cond (is_text name (codes "pending")) (Some phase.Pending) (cond (is_text name (codes "running")) (Some phase.Running) (when (is_text name (codes "done")) phase.Done))
+
+abbrev pub progress_of : Data → Option Op
+progress_of d =
+    and_then (id_at (codes "id") d) (λ id.
+    and_then (number_32_at (codes "attempt") d) (λ attempt.
+    and_then (and_then (text_at (codes "phase") d) phase_named) (λ phase.
+    Some (op.Progress id attempt phase))))
+
+abbrev pub machine_of : Data → Option Op
+machine_of d =
+    and_then (id_at (codes "id") d) (λ id.
+    and_then (number_at (codes "incarnation") d) (λ incarnation.
+    and_then (number_at (codes "version") d) (λ version.
+    and_then (number_8_at (codes "writer") d) (λ writer.
+    and_then (flag_at (codes "up") d) (λ up.
+    and_then (number_32_at (codes "slots") d) (λ slots.
+    and_then (number_32_at (codes "nic") d) (λ nic.
+    Some (op.Machine id incarnation version writer up slots nic))))))))
+
+abbrev pub report_of : Data → Option Op
+report_of d =
+    and_then (id_at (codes "id") d) (λ id.
+    and_then (number_at (codes "incarnation") d) (λ incarnation.
+    and_then (number_at (codes "number") d) (λ number.
+    and_then (number_32_at (codes "used") d) (λ used.
+    Some (op.Report id incarnation number used)))))
+
+abbrev pub propose_of : Data → Option Op
+propose_of d =
+    and_then (id_at (codes "id") d) (λ id.
+    and_then (number_32_at (codes "attempt") d) (λ attempt.
+    and_then (number_8_at (codes "coordinator") d) (λ coordinator.
+    and_then (id_at (codes "machine") d) (λ machine.
+    and_then (number_at (codes "incarnation") d) (λ incarnation.
+    Some (op.Propose id attempt coordinator machine incarnation))))))
+
+-- what the first of the members that is there spells
+abbrev pub either : {A : Type 0} → Option Data → (Data → Option A) → Option A → Option A
+either None f other = other
+either (Some d) f other = f d
+
+-- an operation: the one member of an object, named for its kind
+abbrev pub op_of : Data → Option Op
+op_of d = and_then (when (has_size 1 d) d) (λ d.
+    either (get (codes "job") d) job_of (
+    either (get (codes "spec") d) spec_of (
+    either (get (codes "progress") d) progress_of (
+    either (get (codes "machine") d) machine_of (
+    either (get (codes "report") d) report_of (
+    either (get (codes "propose") d) propose_of None))))))
+
+-- what a cut's packet comes from: an interval if both ends are named, all that is known if neither is
+abbrev pub range_between : Option Data → Option Data → Option Range
+range_between None None = Some Full
+range_between (Some from) (Some to) = and_then (whole_of from) (λ a. and_then (whole_of to) (λ b. Some (Interval a b)))
+range_between _ _ = None
+
+abbrev pub range_of : Data → Option Range
+range_of d = range_between (get (codes "from") d) (get (codes "to") d)
+
+-- the name is one of those
+abbrev pub is_named : List (List ℕ) → List ℕ → Bool
+is_named names name = list_any (is_text name) names
+
+-- a cut gives its packet a name that no packet before has
+abbrev pub cut_of : List (List ℕ) → Data → Option Act
+cut_of names d =
+    and_then (text_at (codes "name") d) (λ name.
+    and_then (range_of d) (λ range.
+    when (not (is_named names name)) (act.Cut range)))
+
+-- a delivery names a packet by its place among those before; if none has the name, the place is after them all
+abbrev pub delivery_of : List (List ℕ) → Data → Option Act
+delivery_of names d = option_map (λ name. act.Deliver (position_or_len (is_text name) names)) (as_str d)
+
+-- a round is asked for by true
+abbrev pub round_of : Data → Option Act
+round_of d = and_then (as_bool d) (λ b. when b act.Round)
+
+-- what happens in a step, given that packets of the names were cut before: the one member beside the number of its
+-- coordinator
+abbrev pub act_of : List (List ℕ) → Data → Option Act
+act_of names d =
+    either (get (codes "cut") d) (cut_of names) (
+    either (get (codes "tell") d) (λ v. option_map act.Tell (op_of v)) (
+    either (get (codes "deliver") d) (delivery_of names) (
+    either (get (codes "trim") d) (λ v. option_map act.Trim (whole_of v)) (
+    either (get (codes "round") d) round_of None))))
+
+-- a step: an object of two members, the number of its coordinator and what happens there
+abbrev pub step_of : List (List ℕ) → Data → Option Step
+step_of names d = and_then (when (has_size 2 d) d) (λ d.
+    and_then (number_8_at (codes "at") d) (λ at.
+    and_then (act_of names d) (λ act.
+    Some (record { at = at; act = act }))))
+
+-- the name that a step gives a packet, if it cuts one
+abbrev pub names_in : Data → List (List ℕ)
+names_in d = option_to_list (and_then (get (codes "cut") d) (text_at (codes "name")))
+
+-- what the values spell, one after another, given that packets of the names were cut before
+abbrev pub steps_of : List (List ℕ) → List Data → List (Option Step)
+steps_of names [] = []
+steps_of names (d ∷ ds) = step_of names d ∷ steps_of (names ++ names_in d) ds
+
+-- a coordinator's number, from 1 to 64
+abbrev pub coordinator_of : Data → Option ℕ
+coordinator_of d = only_if is_coordinator (whole_of d)
+
+-- the number is one of those listed
+abbrev pub is_listed : List ℕ → ℕ → Bool
+is_listed listed n = list_any (λ c. c == n) listed
+
+-- no number comes twice
+abbrev pub are_distinct : List ℕ → Bool
+are_distinct [] = true
+are_distinct (n ∷ ns) = not (is_listed ns n) && are_distinct ns
+
+-- coordinators: at least one number, no two of them equal
+abbrev pub are_coordinators : List ℕ → Bool
+are_coordinators [] = false
+are_coordinators (n ∷ ns) = are_distinct (n ∷ ns)
+
+-- the coordinators that the items list
+abbrev pub listed_of : List Data → Option (List ℕ)
+listed_of ds = only_if are_coordinators (all_of (map coordinator_of ds))
+
+abbrev pub coordinators_of : Data → Option (List ℕ)
+coordinators_of d = and_then (items_at (codes "coordinators") d) listed_of
+
+-- the value spells a script of these coordinators, these names of packets in the order of their cuts, and these steps
+pub record IsScriptOf (d : Data) (coordinators : List ℕ) (names : List (List ℕ)) (steps : List Step) : Type 0 where
+  pub coordinators_listed : coordinators_of d ≡ Some coordinators
+  pub names_given : option_map (flat_map names_in) (items_at (codes "steps") d) ≡ Some names
+  pub steps_listed : option_map (steps_of []) (items_at (codes "steps") d) ≡ Some (map Some steps)
+
+-- the place of the first value that is no step, the first value of all being at the place given
+abbrev pub first_strange : List (List ℕ) → ℕ → List Data → Option ℕ
+first_strange names place [] = None
+first_strange names place (d ∷ ds) = cond (is_some (step_of names d)) (first_strange (names ++ names_in d) (place + 1) ds) (Some place)
+
+-- the fault of a list of steps, 0 if there is none
+abbrev pub steps_fault : Option (List Data) → Option ℕ
+steps_fault None = Some 0
+steps_fault (Some ds) = first_strange [] 1 ds
+
+-- if a value that is no script breaks a rule: 0 for the script as a whole, and else the first step that breaks a rule
+abbrev pub script_fault : Data → Option ℕ
+script_fault d = cond (is_none (coordinators_of d)) (Some 0) (steps_fault (items_at (codes "steps") d))
+
+-- what a step tells, if it does
+abbrev pub told_by : ℕ → Act → Option Tell
+told_by at (act.Tell op) = Some (record { at = at; op = op })
+told_by at _ = None
+
+abbrev pub told_in : Step → Option Tell
+told_in step = told_by step.at step.act
+
+-- what a value tells, if it spells a step that does; no packet has a name if all steps tell
+abbrev pub tell_of : Data → Option Tell
+tell_of d = and_then (step_of [] d) told_in
+
+-- the value spells a script of these coordinators and these tells alone
+pub record AreTellsOf (d : Data) (coordinators : List ℕ) (tells : List Tell) : Type 0 where
+  pub coordinators_listed : coordinators_of d ≡ Some coordinators
+  pub tells_listed : option_map (map tell_of) (items_at (codes "steps") d) ≡ Some (map Some tells)
+
+-- the place of the first value that tells nothing, the first value of all being at the place given
+abbrev pub first_untold : ℕ → List Data → Option ℕ
+first_untold place [] = None
+first_untold place (d ∷ ds) = cond (is_some (tell_of d)) (first_untold (place + 1) ds) (Some place)
+
+abbrev pub untold_fault : Option (List Data) → Option ℕ
+untold_fault None = Some 0
+untold_fault (Some ds) = first_untold 1 ds
+
+-- where a value that is no script of tells alone breaks a rule: 0 for the whole, and else the first step that tells
+-- nothing
+abbrev pub tells_fault : Data → Option ℕ
+tells_fault d = cond (is_none (coordinators_of d)) (Some 0) (untold_fault (items_at (codes "steps") d))

@@ -1,0 +1,83 @@
+//! Steps on a world of coordinators, and their texts.
+
+ghost use Rattle.std.specs.Prelude.{◌≡◌, None, IfOk, IsOkUnless, OnErr, OnOk};
+ghost use Rattle.fm_round.specs.Schedules.{IsPlanOf};
+ghost use Rattle.fm_world.specs.declared.step.Act.TheVariants as act;
+ghost use Rattle.fm_world.specs.Worlds.{WorldOfSets, cause_of, refusal_of};
+ghost use Rattle.fm_world.specs.Stands.{WorldStandsFor};
+ghost use Rattle.fm_service.specs.Acting.{step_at, Takes, Rounds, IsCutLine, Makes, Fails};
+
+use fm_query::packets::packet_line;
+use fm_query::rounds::round_text;
+use fm_query::solution::least_plan_of;
+use fm_coord::entry::Range;
+use fm_edit::keepers::Keeper;
+use fm_records::refusal::Refusal;
+use fm_world::step::{Act, Step};
+use fm_world::world::World;
+use std::alloc::Global;
+
+/// Takes one step at the coordinator. NoCoordinator, NoPacket, or as the coordinator's call; then nothing has changed.
+pub fn take_step(world: &mut World<Keeper>, at: u8, act: Act) -> Result<(), Refusal>
+    ensures ok { Makes result world.old world.new (λ w v. Takes w (step_at at act) v) }
+    ensures err { Fails result world.old (λ w refusal. refusal ≡ refusal_of w (step_at at act)) }
+    ensures unchanged { OnErr result (world.new ≡ world.old) }
+{
+    match world.step(&Step { at, by: 0, act }) {
+        Ok(_) => Ok(()),
+        Err(refusal) => Err(refusal),
+    }
+}
+
+/// The line of the packet that the coordinator would cut of the range now. Refused as the cut would be, and also if
+/// there is no memory for the line.
+pub(crate) fn cut_line(
+    alloc: Global,
+    world: &World<Keeper>,
+    at: u8,
+    range: Range,
+) -> Result<Vec<u8>, Refusal>
+    ensures ok { (w : WorldOfSets) → WorldStandsFor world.now w
+        → IfOk result (λ text. IsCutLine w at range text.items) }
+    ensures accepted { (w : WorldOfSets) → WorldStandsFor world.now w
+        → OnOk result (cause_of w (step_at at (act.Cut range)) ≡ None) }
+    ensures err { Fails result world.now (λ w refusal. refusal ≡ refusal_of w (step_at at (act.Cut range))) }
+{
+    let Some(coordinator) = world.numbered(at) else {
+        return Err(Refusal::NoCoordinator);
+    };
+    let packet = coordinator.packet_for(range)?;
+    Ok(packet_line(alloc, packet.get())?.into_bytes())
+}
+
+/// A round at the coordinator: the plan of a least flow of its network is committed. The text has admission's answer
+/// to each entry of the plan. The history gets one entry, since there is no view. NoCoordinator, HistoryFull,
+/// OutOfMemory; then nothing has changed. The cost is that of `World::refresh_tally` and of `least_plan_of`, and of
+/// admitting the plan twice by the tally.
+pub(crate) fn round(alloc: Global, world: &mut World<Keeper>, at: u8) -> Result<Vec<u8>, Refusal>
+    ensures ok { (w : WorldOfSets) → WorldStandsFor world.old w
+        → IfOk result (λ text. (v : WorldOfSets) × Rounds w at text.items v × WorldStandsFor world.new v) }
+    ensures err { Fails result world.old (λ w refusal. refusal ≡ refusal_of w (step_at at act.View)) }
+    ensures unchanged { OnErr result (world.new ≡ world.old) }
+{
+    world.refresh_tally(at);
+    planned_round(alloc, world, at)
+}
+
+// The round, with the tally or without.
+fn planned_round(alloc: Global, world: &mut World<Keeper>, at: u8) -> Result<Vec<u8>, Refusal>
+    ensures ok { (w : WorldOfSets) → WorldStandsFor world.old w
+        → IfOk result (λ text. (v : WorldOfSets) × Rounds w at text.items v × WorldStandsFor world.new v) }
+    ensures err { Fails result world.old (λ w refusal. refusal ≡ refusal_of w (step_at at act.View)) }
+    ensures unchanged { OnErr result (world.new ≡ world.old) }
+{
+    let Some(coordinator) = world.numbered(at) else {
+        return Err(Refusal::NoCoordinator);
+    };
+    coordinator.check_room()?;
+    let plan = least_plan_of(alloc, coordinator)?;
+    let admitted = coordinator.admission(&plan)?;
+    let text = round_text(alloc, &plan, &admitted)?.into_bytes();
+    take_step(world, at, Act::Commit(plan))?;
+    Ok(text)
+}

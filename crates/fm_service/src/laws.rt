@@ -1,0 +1,35 @@
+//! What holds of streams, in whatever processes they are followed.
+
+ghost use Rattle.std.specs.Prelude.{◌≡◌, List};
+ghost use Rattle.fm_records.specs.declared.ops.Op.{Op};
+ghost use Rattle.fm_records.specs.Know.{know};
+ghost use Rattle.fm_records.specs.Sets.{HaveSameMembers};
+ghost use Rattle.fm_records.specs.Spelled.{ops};
+ghost use Rattle.fm_delta.specs.declared.packet.Packet.{Packet};
+ghost use Rattle.fm_coord.specs.Events.{Replica, Sent};
+ghost use Rattle.fm_coord.specs.Replays.{seen_packet};
+ghost use Rattle.fm_query.specs.Texts.{graph_of, winners_of};
+ghost use Rattle.fm_service.specs.Following.{StandBehind, but_behind};
+ghost use Rattle.fm_service.specs.Renewing.{renewed_replica};
+
+/// Coordinators that received the same operations, told or in packets, in any order and number of times, have one
+/// text for their networks and one for their winners, whatever processes they run in.
+pub fn law_same_answers()
+    ensures graphs { (a b : Replica) → HaveSameMembers a.taken b.taken → graph_of a ≡ graph_of b }
+    ensures winners { (a b : Replica) → HaveSameMembers a.taken b.taken → winners_of a ≡ winners_of b }
+{}
+
+/// Which operations may stand behind packets: those that each is written out as; and, for a packet that a coordinator
+/// cut, all that the coordinator had received for it, also those that lost against others. So operations are traced
+/// from one process to another.
+pub fn law_behind()
+    ensures spelled { StandBehind (λ p. ops p.value) }
+    ensures sent { (behind : Packet → List Op) (p : Sent) → StandBehind behind
+        → StandBehind (but_behind (seen_packet p) p.set behind) }
+{}
+
+/// A renewed replica has received the same operations, so all that it tells of what it knows stays the same.
+pub fn law_renewed()
+    ensures taken { (r : Replica) → HaveSameMembers (renewed_replica r).taken r.taken }
+    ensures known { (r : Replica) → know (renewed_replica r).taken ≡ know r.taken }
+{}

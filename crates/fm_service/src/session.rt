@@ -1,0 +1,292 @@
+//! Coordinators that do what requests ask for.
+
+ghost use Rattle.std.specs.Prelude.{◌≡◌, ◌⊎◌, List, [], None, Some, OnErr, IfOk, IfErr, IsTrue, length, map, cond, nat_le, nat_lt};
+ghost use Rattle.std.specs.List.{list_any};
+ghost use Rattle.fm_coord.specs.declared.entry.Range.TheVariants as range;
+ghost use Rattle.fm_world.specs.Worlds.{WorldOfSets, refusal_of};
+ghost use Rattle.fm_world.specs.Stands.{WorldStandsFor, state_of, AllStand};
+ghost use Rattle.fm_coord.specs.Events.{Replica};
+ghost use Rattle.fm_script.specs.declared.script.Act.TheVariants as act;
+ghost use Rattle.fm_script.specs.Requests.{asked_of};
+ghost use Rattle.fm_script.specs.Requests as asked;
+ghost use Rattle.fm_service.specs.Acting.{step_at, Takes};
+ghost use Rattle.fm_service.specs.Following.{Following, at_world, number_at, is_due, query_at, fresh};
+ghost use Rattle.fm_service.specs.Renewing.{renewed_world};
+ghost use Rattle.fm_service.specs.Sessions.{SessionAt, Goes, Stops, Accepts, Rejects};
+
+use crate::acting::{cut_line, round, take_step};
+use crate::named::NamedPackets;
+use crate::renewing::renewed;
+use fm_query::packets::packet_in;
+use fm_query::query::{Answer, Query, ask};
+use fm_coord::coordinator::Coordinator;
+use fm_coord::entry::Range;
+use fm_edit::keepers::Keeper;
+use fm_script::request::{Request, Topic};
+use fm_script::requesting::read_request;
+use fm_script::script::{Act, Step};
+use fm_know::laws::law_can_be;
+use fm_records::ids::{CoordId, TaskId};
+use fm_records::refusal::Refusal;
+use fm_world::step::Act as WorldAct;
+use fm_world::world::World;
+use std::alloc::Global;
+
+/// Coordinators, the packets that they cut under a name, and for each number of a coordinator how many of its deltas
+/// were sent as news.
+#[derive(Drop)]
+pub(crate) struct Session {
+    pub(crate) alloc: Global,
+    pub(crate) world: World<Keeper>,
+    pub(crate) named: NamedPackets,
+    pub(crate) marks: [u64; 256],
+}
+
+impl Session {
+    /// The coordinators of the world, of which nothing was sent.
+    pub(crate) fn new(alloc: Global, world: World<Keeper>) -> Session
+        ensures { (w : WorldOfSets) → WorldStandsFor world w → SessionAt result (fresh w) }
+    {
+        Session {
+            alloc,
+            world,
+            named: NamedPackets::new(alloc),
+            marks: [0u64; 256],
+        }
+    }
+
+    /// Does what the line asks for, and returns its text. Then, if a history has as many entries as that, the
+    /// coordinators are renewed, if there is memory for it. A line that is refused changes nothing.
+    pub(crate) fn answer(&mut self, most: usize, line: &[u8]) -> Result<Vec<u8>, Refusal>
+        ensures ok { Accepts most result self.old self.new line.now }
+        ensures err { Rejects result self.old line.now }
+        ensures unchanged { OnErr result (self.new ≡ self.old) }
+    {
+        let request = read_request(self.alloc, line, self.named.names())?;
+        let text = self.take(request)?;
+        self.settle(most);
+        Ok(text)
+    }
+
+    // Does what is requested.
+    fn take(&mut self, request: Request) -> Result<Vec<u8>, Refusal>
+        ensures ok { Goes result self.old self.new (asked_of request) }
+        ensures err { Stops result self.old (asked_of request) }
+        ensures unchanged { OnErr result (self.new ≡ self.old) }
+    {
+        match request {
+            Request::Open(_) => Err(Refusal::BadScript(0)),
+            Request::Do(step) => self.act(step),
+            Request::Cut { at, range, name } => match name {
+                None => self.cut(at, range),
+                Some(name) => self.cut_named(at, range, &name),
+            },
+            Request::News { at } => self.news(at),
+            Request::Take { at, digits } => self.take_in(at, &digits),
+            Request::Ask { at, topic } => self.ask(at, topic),
+            Request::Why { at, task } => self.why(at, task),
+            Request::Agree => self.agree(),
+            Request::Renew => self.renew(),
+        }
+    }
+
+    // A step as in a script.
+    fn act(&mut self, step: Step) -> Result<Vec<u8>, Refusal>
+        ensures ok { Goes result self.old self.new (asked.Does step) }
+        ensures err { Stops result self.old (asked.Does step) }
+        ensures unchanged { OnErr result (self.new ≡ self.old) }
+    {
+        let Step { at, act } = step;
+        match act {
+            Act::Tell(op) => self.step(at, WorldAct::Tell(op)),
+            Act::Deliver(place) => {
+                let number = self.number_at(place);
+                self.step(at, WorldAct::Deliver(number))
+            }
+            Act::Trim(n) => self.step(at, WorldAct::Trim(n)),
+            Act::Cut(range) => self.cut(at, range),
+            Act::Round => self.round(at),
+        }
+    }
+
+    // A step of the world, without a text.
+    fn step(&mut self, at: u8, act: WorldAct) -> Result<Vec<u8>, Refusal>
+        ensures ok { (k : Following) → SessionAt self.old k → IfOk result (λ text. (text.items ≡ [])
+            × ((v : WorldOfSets) × Takes k.world (step_at at act) v × SessionAt self.new (at_world k v))) }
+        ensures err { (k : Following) → SessionAt self.old k
+            → IfErr result (λ e. e ≡ refusal_of k.world (step_at at act)) }
+        ensures unchanged { OnErr result (self.new ≡ self.old) }
+    {
+        take_step(&mut self.world, at, act)?;
+        Ok(Vec::new(self.alloc))
+    }
+
+    // The number of the packet whose name has the place, or one after those of all packets.
+    fn number_at(&self, place: usize) -> usize
+        ensures { (k : Following) → SessionAt self.now k → result ≡ number_at k place }
+    {
+        self.named
+            .number(place)
+            .unwrap_or(self.world.packet_count())
+    }
+
+    // A round.
+    fn round(&mut self, at: u8) -> Result<Vec<u8>, Refusal>
+        ensures ok { Goes result self.old self.new (asked.Does (record { at = at; act = act.Round })) }
+        ensures err { Stops result self.old (asked.Does (record { at = at; act = act.Round })) }
+        ensures unchanged { OnErr result (self.new ≡ self.old) }
+    {
+        round(self.alloc, &mut self.world, at)
+    }
+
+    // A cut whose packet has no name.
+    fn cut(&mut self, at: u8, range: Range) -> Result<Vec<u8>, Refusal>
+        ensures ok { Goes result self.old self.new (asked.Cuts at range None) }
+        ensures err { Stops result self.old (asked.Cuts at range None) }
+        ensures unchanged { OnErr result (self.new ≡ self.old) }
+    {
+        let text = cut_line(self.alloc, &self.world, at, range)?;
+        take_step(&mut self.world, at, WorldAct::Cut(range))?;
+        Ok(text)
+    }
+
+    // A cut whose packet gets the name.
+    fn cut_named(&mut self, at: u8, range: Range, name: &str) -> Result<Vec<u8>, Refusal>
+        ensures ok { Goes result self.old self.new (asked.Cuts at range (Some name.now)) }
+        ensures err { Stops result self.old (asked.Cuts at range (Some name.now)) }
+        ensures unchanged { OnErr result (self.new ≡ self.old) }
+    {
+        let text = cut_line(self.alloc, &self.world, at, range)?;
+        if !self.named.add(name, self.world.packet_count())? {
+            return Err(Refusal::BadScript(0));
+        }
+        if let Err(refusal) = take_step(&mut self.world, at, WorldAct::Cut(range)) {
+            self.named.remove_last();
+            return Err(refusal);
+        }
+        Ok(text)
+    }
+
+    // A cut of the deltas that were not sent as news, or of all that is known if some of these were trimmed.
+    fn news(&mut self, at: u8) -> Result<Vec<u8>, Refusal>
+        ensures ok { Goes result self.old self.new (asked.News at) }
+        ensures err { Stops result self.old (asked.News at) }
+        ensures unchanged { OnErr result (self.new ≡ self.old) }
+    {
+        let Some(coordinator) = self.world.numbered(at) else {
+            return Err(Refusal::NoCoordinator);
+        };
+        let mark = self.marks[usize::from(at)];
+        let end = coordinator.end();
+        let range = news_between(mark, coordinator.floor(), end);
+        let text = self.cut(at, range)?;
+        self.marks[usize::from(at)] = end;
+        Ok(text)
+    }
+
+    // Merges the packet that the digits encode.
+    fn take_in(&mut self, at: u8, digits: &str) -> Result<Vec<u8>, Refusal>
+        ensures ok { Goes result self.old self.new (asked.Takes at digits.now) }
+        ensures err { Stops result self.old (asked.Takes at digits.now) }
+        ensures unchanged { OnErr result (self.new ≡ self.old) }
+    {
+        let packet = packet_in(self.alloc, digits.as_bytes())?;
+        law_can_be(&packet.value);
+        self.world.take(at, 0, packet)?;
+        Ok(Vec::new(self.alloc))
+    }
+
+    // Answers what is asked about a coordinator.
+    fn ask(&mut self, at: u8, topic: Topic) -> Result<Vec<u8>, Refusal>
+        ensures ok { Goes result self.old self.new (asked.Asks at topic) }
+        ensures err { Stops result self.old (asked.Asks at topic) }
+        ensures unchanged { OnErr result (self.new ≡ self.old) }
+    {
+        let Some(coordinator) = self.world.numbered(at) else {
+            return Err(Refusal::NoCoordinator);
+        };
+        let query = query_at(topic, coordinator.number());
+        let Answer { text, differs: _ } = ask(self.alloc, &mut self.world, query)?;
+        Ok(text)
+    }
+
+    // Answers why a task waits or runs, by what a coordinator knows.
+    fn why(&mut self, at: u8, task: TaskId) -> Result<Vec<u8>, Refusal>
+        ensures ok { Goes result self.old self.new (asked.Explains at task) }
+        ensures err { Stops result self.old (asked.Explains at task) }
+        ensures unchanged { OnErr result (self.new ≡ self.old) }
+    {
+        let Some(coordinator) = self.world.numbered(at) else {
+            return Err(Refusal::NoCoordinator);
+        };
+        let query = Query::Why(coordinator.number(), task);
+        let Answer { text, differs: _ } = ask(self.alloc, &mut self.world, query)?;
+        Ok(text)
+    }
+
+    // Answers whether all coordinators know the same.
+    fn agree(&mut self) -> Result<Vec<u8>, Refusal>
+        ensures ok { Goes result self.old self.new asked.Agrees }
+        ensures err { Stops result self.old asked.Agrees }
+        ensures unchanged { OnErr result (self.new ≡ self.old) }
+    {
+        let Answer { text, differs: _ } = ask(self.alloc, &mut self.world, Query::Agree)?;
+        Ok(text)
+    }
+
+    // Renews the coordinators.
+    fn renew(&mut self) -> Result<Vec<u8>, Refusal>
+        ensures ok { Goes result self.old self.new asked.Renews }
+        ensures err { Stops result self.old asked.Renews }
+        ensures unchanged { OnErr result (self.new ≡ self.old) }
+    {
+        let world = renewed(self.alloc, &self.world)?;
+        *self = Session::new(self.alloc, world);
+        Ok(Vec::new(self.alloc))
+    }
+
+    // Renews the coordinators if a history has as many entries as that, and if there is memory for it.
+    fn settle(&mut self, most: usize)
+        ensures { (k : Following) → SessionAt self.old k
+            → (self.new ≡ self.old) ⊎ (is_due most k.world × SessionAt self.new (fresh (renewed_world k.world))) }
+    {
+        if is_due(self.world.coordinators(), most) {
+            let _ = self.renew();
+        }
+    }
+}
+
+// Whether a history has as many entries as that.
+fn is_due(coordinators: &[Coordinator<Keeper>], most: usize) -> bool
+    ensures { IsTrue result → (rs : List Replica) → AllStand (map state_of coordinators.now) rs
+        → IsTrue (list_any (λ r. nat_le most (length r.steps)) rs) }
+{
+    match coordinators.split_first() {
+        None => false,
+        Some((first, rest)) => first.history().len() >= most || is_due(rest, most),
+    }
+}
+
+// What is news: the deltas from the mark to the end, or all that is known if some of these were trimmed.
+fn news_between(mark: u64, floor: u64, end: u64) -> Range
+    ensures { result ≡ cond (nat_lt mark floor) range.Full (range.Interval mark end) }
+{
+    if mark < floor {
+        Range::Full
+    } else {
+        Range::Interval(mark, end)
+    }
+}
+
+// The query of a topic about the coordinator with the number.
+fn query_at(topic: Topic, number: CoordId) -> Query
+    ensures { result ≡ query_at topic number }
+{
+    match topic {
+        Topic::Graph => Query::Graph(number),
+        Topic::Solve => Query::Solve(number),
+        Topic::Plan => Query::Plan(number),
+        Topic::Winners => Query::Winners(number),
+        Topic::Stops => Query::Stops(number),
+    }
+}

@@ -1,5 +1,0 @@
-use Rattle.fm_ways.proofs.Feasible.{feasible}
-use Rattle.fm_ways.proofs.laws.law_feasible.Goals as goal
-
-pub returns : goal.returns
-returns c k way can_be can fit = feasible k way can_be can fit

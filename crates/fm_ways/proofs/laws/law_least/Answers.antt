@@ -1,5 +1,0 @@
-use Rattle.fm_ways.proofs.Cheapest.{cheapest_is_least}
-use Rattle.fm_ways.proofs.laws.law_least.Goals as goal
-
-pub returns : goal.returns
-returns c k way price offer can_be can fit cheap = cheapest_is_least k way price offer can_be can fit cheap

@@ -1,5 +1,0 @@
-use Rattle.fm_ways.proofs.Rounds.{is_plan}
-use Rattle.fm_ways.proofs.laws.law_plan.Goals as goal
-
-pub returns : goal.returns
-returns c = is_plan

@@ -1,5 +1,0 @@
-use Rattle.fm_ways.proofs.Going.{preempts_are}
-use Rattle.fm_ways.proofs.laws.law_preempts.Goals as goal
-
-pub returns : goal.returns
-returns c k way can_be can fit = preempts_are k way can_be can fit.may

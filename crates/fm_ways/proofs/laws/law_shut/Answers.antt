@@ -1,5 +1,0 @@
-use Rattle.fm_ways.proofs.Shut.{nothing_moves}
-use Rattle.fm_ways.proofs.laws.law_shut.Goals as goal
-
-pub returns : goal.returns
-returns c k can_be can shut = nothing_moves k can_be can shut
