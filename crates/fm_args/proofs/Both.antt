@@ -15,8 +15,8 @@ use Rattle.clap.specs.declared.error.ErrorKind.TheVariants as kind
 use Rattle.clap.specs.declared.parser.matches.ValueSource.TheVariants.{CommandLine}
 use Rattle.clap.proofs.OnLiterals.{clap_on_literals}
 use Rattle.fm_args.specs.Telling.{Telling, Text, wrong}
-use Rattle.fm_args.specs.Heard.{dashes, long, ends, ends_at, look_telling, counts, name_at, name_or_option_at, number, number_at, number_in, option_at, with_name, with_name_and_option, with_option}
-use Rattle.fm_args.specs.Parser.{name_rule, number_of, number_read, number_rule}
+use Rattle.fm_args.specs.Heard.{dashes, long, ends, ends_after, look_telling, counts, name_argument, name_or_option_at, number_option, number_argument, parsed_number, option_at, with_name, with_name_and_option, with_option}
+use Rattle.fm_args.specs.Parser.{name_rule, parsed_bits, number_read, number_rule}
 use Rattle.fm_args.proofs.Looks.{by_look, is_end, letter_in}
 use Rattle.fm_args.proofs.Digits.{is_read, taken}
 use Rattle.fm_args.proofs.Leaf.{HelpsAt, at, built_with, fails, held_at, helps_at, leaf_from, letter_of_help, passes, start}
@@ -241,7 +241,7 @@ module _ (c : Both) (b : Option Text) (rows : List Row) (pending : Option (Text 
   both_ends has t last [] = last.is_told
   both_ends has t last (w ∷ rest) =
       let p = place c b rows pending s.no_fault in
-      by_look w (λ look. comes c here (w ∷ rest) ≡ ends_at look t rest ∷ [])
+      by_look w (λ look. comes c here (w ∷ rest) ≡ ends_after look t rest ∷ [])
       (at_dashes p t last w rest) (on_long has w rest) (at_short p w rest) (at_plain p t last w rest)
 
 -- the option came first, and then the name
@@ -249,12 +249,12 @@ then_named : (z v : Text) → Settled (number_row z ∷ []) (Some (codes "name",
 unfolding clap_on_literals
 then_named z v = record { no_fault = refl; comes_to = refl }
 
-then_last : (c : Both) (z v : Text) (n : ℕ) → number_of 8 (without_minus z) ≡ Some n → IsLast (place c (Some v) (number_row z ∷ []) (Some (codes "name", v ∷ [])) (then_named z v).no_fault) (c.give v (Some n))
+then_last : (c : Both) (z v : Text) (n : ℕ) → parsed_bits 8 (without_minus z) ≡ Some n → IsLast (place c (Some v) (number_row z ∷ []) (Some (codes "name", v ∷ [])) (then_named z v).no_fault) (c.give v (Some n))
 unfolding clap_on_literals
 then_last c z v n is = record { no_positional = refl; is_told = rw (c.tells, is) refl }
 
 -- behind the option alone
-module _ (c : Both) (z : Text) (n : ℕ) (is : number_of 8 (without_minus z) ≡ Some n) (rows : List Row) (pending : Option (Text × List Text)) (s : Settled rows pending (number_row z ∷ []))
+module _ (c : Both) (z : Text) (n : ℕ) (is : parsed_bits 8 (without_minus z) ≡ Some n) (rows : List Row) (pending : Option (Text × List Text)) (s : Settled rows pending (number_row z ∷ []))
     (alone : (is_pending named_rule pending && takes_several named_rule) ≡ false) where
   abbrev there : Walk
   there = at rows pending idle 1
@@ -266,7 +266,7 @@ module _ (c : Both) (z : Text) (n : ℕ) (is : number_of 8 (without_minus z) ≡
   unfolding clap_on_literals
   no_name = rw (s.no_fault, s.comes_to) refl
 
-  name_dashes : (w : Text) (rest : List Text) → is_end w ≡ true → comes c there (w ∷ rest) ≡ name_at give dashes w rest ∷ []
+  name_dashes : (w : Text) (rest : List Text) → is_end w ≡ true → comes c there (w ∷ rest) ≡ name_argument give dashes w rest ∷ []
   unfolding clap_on_literals
   name_dashes w [] e = rw (e, s.no_fault, s.comes_to) refl
   name_dashes w (v ∷ []) e = rw (e, alone, s.no_fault, s.comes_to, c.tells, is) refl
@@ -282,7 +282,7 @@ module _ (c : Both) (z : Text) (n : ℕ) (is : number_of 8 (without_minus z) ≡
   name_behind : (rest : List Text) → comes c there rest ≡ with_name give rest ∷ []
   name_behind [] = no_name
   name_behind (w ∷ rest) =
-      by_look w (λ look. comes c there (w ∷ rest) ≡ name_at give look w rest ∷ [])
+      by_look w (λ look. comes c there (w ∷ rest) ≡ name_argument give look w rest ∷ [])
       (name_dashes w rest) (on_long c None rows pending (number_row z ∷ []) s refl w rest) (at_short (place c None rows pending s.no_fault) w rest)
       (λ flags e l f o. name_plain w rest flags e l f o ∙ both_ends c (Some w) (number_row z ∷ []) (Some (codes "name", w ∷ [])) (number_row z ∷ name_row w ∷ []) (then_named z w) refl (give w) (then_last c z w n is) rest)
 
@@ -296,42 +296,42 @@ next_settled (Some v) z good = record { no_fault = rw good refl; comes_to = refl
 own_settled : (b : Option Text) (z : Text) → Settled (behind b z) None (behind b z)
 own_settled b z = record { no_fault = refl; comes_to = refl }
 
-next_last : (c : Both) (v z : Text) (good : fits z ≡ true) (n : ℕ) → number_of 8 (without_minus z) ≡ Some n
+next_last : (c : Both) (v z : Text) (good : fits z ≡ true) (n : ℕ) → parsed_bits 8 (without_minus z) ≡ Some n
     → IsLast (place c (Some v) (before (Some v)) (Some (codes "at", z ∷ [])) (next_settled (Some v) z good).no_fault) (c.give v (Some n))
 unfolding clap_on_literals
 next_last c v z good n is = record { no_positional = refl; is_told = rw (good, c.tells, is) refl }
 
-own_last : (c : Both) (v z : Text) (n : ℕ) → number_of 8 (without_minus z) ≡ Some n
+own_last : (c : Both) (v z : Text) (n : ℕ) → parsed_bits 8 (without_minus z) ≡ Some n
     → IsLast (place c (Some v) (behind (Some v) z) None (own_settled (Some v) z).no_fault) (c.give v (Some n))
 unfolding clap_on_literals
 own_last c v z n is = record { no_positional = refl; is_told = rw (c.tells, is) refl }
 
-next_goes : (c : Both) (b : Option Text) (z : Text) (n : ℕ) → fits z ≡ true → number_of 8 (without_minus z) ≡ Some n → (rest : List Text) → comes c (next b z) rest ≡ goes c b n rest ∷ []
+next_goes : (c : Both) (b : Option Text) (z : Text) (n : ℕ) → fits z ≡ true → parsed_bits 8 (without_minus z) ≡ Some n → (rest : List Text) → comes c (next b z) rest ≡ goes c b n rest ∷ []
 unfolding clap_on_literals
 next_goes c None z n good is rest = name_behind c z n is [] (Some (codes "at", z ∷ [])) (next_settled None z good) refl rest
 next_goes c (Some v) z n good is rest = both_ends c (Some v) (before (Some v)) (Some (codes "at", z ∷ [])) (behind (Some v) z) (next_settled (Some v) z good) refl (c.give v (Some n)) (next_last c v z good n is) rest
 
-own_goes : (c : Both) (b : Option Text) (z : Text) (n : ℕ) → number_of 8 (without_minus z) ≡ Some n → (rest : List Text) → comes c (own b z) rest ≡ goes c b n rest ∷ []
+own_goes : (c : Both) (b : Option Text) (z : Text) (n : ℕ) → parsed_bits 8 (without_minus z) ≡ Some n → (rest : List Text) → comes c (own b z) rest ≡ goes c b n rest ∷ []
 unfolding clap_on_literals
 own_goes c None z n is rest = name_behind c z n is (number_row z ∷ []) None (own_settled None z) refl rest
 own_goes c (Some v) z n is rest = both_ends c (Some v) (behind (Some v) z) None (behind (Some v) z) (own_settled (Some v) z) refl (c.give v (Some n)) (own_last c v z n is) rest
 
-does_fit : (z : Text) (o : Option ℕ) → number_in 0 255 z ≡ o → fits z ≡ is_some o
+does_fit : (z : Text) (o : Option ℕ) → parsed_number 0 255 z ≡ o → fits z ≡ is_some o
 does_fit z o is = taken 0 255 z (omega arith) ∙ ap is_some is
 
-in_next_word : (c : Both) (b : Option Text) (z : Text) (rest : List Text) → comes c (next b z) rest ≡ counts (goes c b) (number_in 0 255 z) rest ∷ []
-in_next_word c b z rest = go (number_in 0 255 z) refl
+in_next_word : (c : Both) (b : Option Text) (z : Text) (rest : List Text) → comes c (next b z) rest ≡ counts (goes c b) (parsed_number 0 255 z) rest ∷ []
+in_next_word c b z rest = go (parsed_number 0 255 z) refl
   where
-    go : (o : Option ℕ) → number_in 0 255 z ≡ o → comes c (next b z) rest ≡ counts (goes c b) o rest ∷ []
+    go : (o : Option ℕ) → parsed_number 0 255 z ≡ o → comes c (next b z) rest ≡ counts (goes c b) o rest ∷ []
     go (Some n) is = next_goes c b z n (does_fit z (Some n) is) (is_read 0 255 8 z n (omega arith) is) rest
     go None is = faulty (is_unfit c b z (does_fit z None is)) rest
 
-waits_number : (c : Both) (b : Option Text) (rest : List Text) → comes c (waits b (before b)) rest ≡ number 0 255 (goes c b) None rest ∷ []
+waits_number : (c : Both) (b : Option Text) (rest : List Text) → comes c (waits b (before b)) rest ≡ number_option 0 255 (goes c b) None rest ∷ []
 waits_number c b [] = bad.at_last (is_waiting c b (before b)) (waiting.option (codes "at"))
 waits_number c b (w ∷ rest) =
     let f = is_waiting c b (before b) in
     let o = waiting.option (codes "at") in
-    by_look w (λ look. comes c (waits b (before b)) (w ∷ rest) ≡ number_at 0 255 (goes c b) look w rest ∷ [])
+    by_look w (λ look. comes c (waits b (before b)) (w ∷ rest) ≡ number_argument 0 255 (goes c b) look w rest ∷ [])
     (bad.at_dashes f o w rest) (bad.at_long f o w rest) (bad.at_short f o w rest)
     (λ flags e l s p. waits_plain c b (before b) w rest flags e l s p ∙ in_next_word c b w rest)
 
@@ -358,10 +358,10 @@ own_taken c None w rest n z e l m good = passes (shape c) c.tell (begun None) (o
 own_taken c (Some v) w rest n z e l m good = passes (shape c) c.tell (begun (Some v)) (own (Some v) z) w rest (rw (e, l, m, good) refl) (rw (e, l, m) refl)
 
 in_own_word : (c : Both) (b : Option Text) (w : Text) (rest : List Text) (n z : Text) → is_end w ≡ false → long_of w ≡ Some (n, Some z) → bytes_eq (codes "at") n ≡ true
-    → comes c (begun b) (w ∷ rest) ≡ counts (goes c b) (number_in 0 255 z) rest ∷ []
-in_own_word c b w rest n z e l m = go (number_in 0 255 z) refl
+    → comes c (begun b) (w ∷ rest) ≡ counts (goes c b) (parsed_number 0 255 z) rest ∷ []
+in_own_word c b w rest n z e l m = go (parsed_number 0 255 z) refl
   where
-    go : (o : Option ℕ) → number_in 0 255 z ≡ o → comes c (begun b) (w ∷ rest) ≡ counts (goes c b) o rest ∷ []
+    go : (o : Option ℕ) → parsed_number 0 255 z ≡ o → comes c (begun b) (w ∷ rest) ≡ counts (goes c b) o rest ∷ []
     go (Some k) is = own_taken c b w rest n z e l m (does_fit z (Some k) is) ∙ own_goes c b z k (is_read 0 255 8 z k (omega arith) is) rest
     go None is = own_fault c b w rest n z e l m (does_fit z None is)
 
@@ -372,16 +372,16 @@ option_waits c None w rest n e l m = passes (shape c) c.tell (begun None) (waits
 option_waits c (Some v) w rest n e l m = passes (shape c) c.tell (begun (Some v)) (waits (Some v) (name_row v ∷ [])) w rest (rw (e, l, m) refl) (rw (e, l, m) refl)
 
 option_named : (c : Both) (b : Option Text) (w : Text) (rest : List Text) (n : Text) (v : Option Text) → is_end w ≡ false → long_of w ≡ Some (n, v) → bytes_eq (codes "at") n ≡ true
-    → comes c (begun b) (w ∷ rest) ≡ number 0 255 (goes c b) v rest ∷ []
+    → comes c (begun b) (w ∷ rest) ≡ number_option 0 255 (goes c b) v rest ∷ []
 option_named c b w rest n None e l m = option_waits c b w rest n e l m ∙ waits_number c b rest
 option_named c b w rest n (Some z) e l m = in_own_word c b w rest n z e l m
 
 -- the option's name, or another
 by_name : (c : Both) (b : Option Text) (w : Text) (rest : List Text) (n : Text) (v : Option Text) → is_end w ≡ false → long_of w ≡ Some (n, v)
-    → comes c (begun b) (w ∷ rest) ≡ (if bytes_eq (codes "at") n then number 0 255 (goes c b) v rest else look_telling (long n v)) ∷ []
+    → comes c (begun b) (w ∷ rest) ≡ (if bytes_eq (codes "at") n then number_option 0 255 (goes c b) v rest else look_telling (long n v)) ∷ []
 by_name c b w rest n v e l = go (bytes_eq (codes "at") n) refl
   where
-    go : (k : Bool) → bytes_eq (codes "at") n ≡ k → comes c (begun b) (w ∷ rest) ≡ (if k then number 0 255 (goes c b) v rest else look_telling (long n v)) ∷ []
+    go : (k : Bool) → bytes_eq (codes "at") n ≡ k → comes c (begun b) (w ∷ rest) ≡ (if k then number_option 0 255 (goes c b) v rest else look_telling (long n v)) ∷ []
     go true m = option_named c b w rest n v e l m
     go false m = at_long (place c b [] (held_name b) (begun_no_fault b)) w rest n v e l (help_at n m)
 
@@ -404,7 +404,7 @@ none_given : (c : Both) → comes c start [] ≡ wrong ∷ []
 unfolding clap_on_literals
 none_given c = refl
 
-first_dashes : (c : Both) (w : Text) (rest : List Text) → is_end w ≡ true → comes c start (w ∷ rest) ≡ name_at (λ name. c.give name None) dashes w rest ∷ []
+first_dashes : (c : Both) (w : Text) (rest : List Text) → is_end w ≡ true → comes c start (w ∷ rest) ≡ name_argument (λ name. c.give name None) dashes w rest ∷ []
 unfolding clap_on_literals
 first_dashes c w [] e = rw e refl
 first_dashes c w (v ∷ []) e = rw (e, c.tells) refl

@@ -11,8 +11,8 @@ use Rattle.clap.proofs.WalkLemmas.{both}
 use Rattle.clap.specs.Lexer.{without_minus}
 use Rattle.clap.specs.ValueTests.{fits_i64, is_numeral, is_signed_in}
 use Rattle.fm_args.specs.Telling.{Text}
-use Rattle.fm_args.specs.Heard.{number_in}
-use Rattle.fm_args.specs.Parser.{number_of}
+use Rattle.fm_args.specs.Heard.{parsed_number}
+use Rattle.fm_args.specs.Parser.{parsed_bits}
 
 pub digits_from : (ds : List ℕ) → list_all (λ d. nat_lt (digit_value d) 10) ds ≡ true → AllDigits 10 ds
 digits_from [] e = tt
@@ -62,7 +62,7 @@ same_minus least most zero few = same_zero least most (nat_le least 0) refl
 same_minus least most (suc k) few = rw (and_false (nat_lt k (2 ^ 63)), positive k, and_false (nat_le (suc k) most), and_false (nat_le least (suc k))) refl
 
 -- the parser takes the value exactly if it spells a number in range
-pub taken : (least most : ℕ) (v : Text) → most < 2 ^ 63 → is_signed_in (pos least) (pos most) v ≡ is_some (number_in least most v)
+pub taken : (least most : ℕ) (v : Text) → most < 2 ^ 63 → is_signed_in (pos least) (pos most) v ≡ is_some (parsed_number least most v)
 taken least most v few = go (is_numeral (without_leading_sign v)) (starts_with_minus v) (value v)
   where
     go : (numeral minus : Bool) (n : ℕ) → Same least most numeral minus n
@@ -102,7 +102,7 @@ abbrev read : ℕ → Text → Option ℕ
 read bits ds = if is_numeral ds && nat_lt (digits_value 10 ds) (2 ^ bits) then Some (digits_value 10 ds) else None
 
 -- and then reads that number
-pub is_read : (least most bits : ℕ) (v : Text) (n : ℕ) → most < 2 ^ bits → number_in least most v ≡ Some n → number_of bits (without_minus v) ≡ Some n
+pub is_read : (least most bits : ℕ) (v : Text) (n : ℕ) → most < 2 ^ bits → parsed_number least most v ≡ Some n → parsed_bits bits (without_minus v) ≡ Some n
 is_read least most bits v n few is =
     let all = parts (is_numeral (without_leading_sign v)) (nat_le least (value v)) (nat_le (value v) most) (not (starts_with_minus v) || value v == 0) (value v) n is in
     let below : nat_lt (value v) (2 ^ bits) ≡ true = small (value v) most (2 ^ bits) all.1 few in
@@ -121,7 +121,7 @@ no_minus (c ∷ cs) h = go (c == 45) refl
         let no_digit : false ≡ true = (both (nat_lt 0 (length (45 ∷ cs))) (list_all (λ d. nat_lt (digit_value d) 10) (45 ∷ cs)) bad).1 in cc
 
 -- a number that is written in decimal digits is read back
-pub written : (n least most : ℕ) → least ≤ n → n ≤ most → n < 2 ^ 64 → number_in least most (decimal n) ≡ Some n
+pub written : (n least most : ℕ) → least ≤ n → n ≤ most → n < 2 ^ 64 → parsed_number least most (decimal n) ≡ Some n
 written n least most ge le few =
     let d = decimal_is_IsNumeral n few in
     let numeral : is_numeral (decimal n) ≡ true = rw (lt-ltb 0 (length (decimal n)) d.0.0, digits_back (decimal n) d.0.1) refl in

@@ -10,7 +10,7 @@ use Rattle.clap.proofs.OnLiterals.{clap_on_literals}
 use Rattle.clap.proofs.FaultLemmas.{stopped_fault}
 use Rattle.clap.proofs.WalkLemmas.{walk_stopped}
 use Rattle.fm_args.specs.Telling.{Text}
-use Rattle.fm_args.specs.Parser.{firmament, tellings, told_as, told_by, told_or}
+use Rattle.fm_args.specs.Parser.{firmament, tellings, told_as, told_of_subcommand, told_or}
 use Rattle.fm_args.proofs.Leaf.{leaf_from, start}
 
 abbrev pub all : App
@@ -50,4 +50,4 @@ enter name word rest s met turn found =
     is_at_end name (word ∷ rest) ∙ ap₂ at_end end faults ∙ stops word rest s found in
     let sub : subcommand_of firmament (name ∷ word ∷ rest) ≡ Some (rows_at s rest) =
     ap (λ (w : Walk). entered all w.stopped) end ∙ rw found refl in
-    ap₂ told_or fault (ap told_by sub)
+    ap₂ told_or fault (ap told_of_subcommand sub)

@@ -9,7 +9,7 @@ use Rattle.clap.specs.Faults.{settle_fault}
 use Rattle.clap.specs.declared.error.ErrorKind.{ErrorKind}
 use Rattle.clap.proofs.OnLiterals.{clap_on_literals}
 use Rattle.fm_args.specs.Telling.{Telling, Text, wrong}
-use Rattle.fm_args.specs.Parser.{told_at}
+use Rattle.fm_args.specs.Parser.{told_of_error}
 use Rattle.fm_args.proofs.Looks.{by_look, is_end, letter_in}
 use Rattle.fm_args.proofs.Leaf.{HasLetterOfHelp, at, built_with, held_at, leaf_from, no_command}
 
@@ -22,7 +22,7 @@ pub record Faulty : Type 0 where
   pub pending : Option (Text × List Text)
   pub kind : ErrorKind
   pub fault : settle_fault rules false (held_at rows pending) ≡ kind ∷ []
-  pub is_wrong : told_at kind ≡ wrong
+  pub is_wrong : told_of_error kind ≡ wrong
   pub letters : HasLetterOfHelp rules
   -- the argument that takes a word which is no flag, if there is one
   pub position : ℕ

@@ -8,7 +8,7 @@ use Rattle.clap.specs.Walk.{arg_by_index, idle}
 use Rattle.clap.specs.Faults.{settle_fault}
 use Rattle.clap.proofs.OnLiterals.{clap_on_literals}
 use Rattle.fm_args.specs.Telling.{Telling, Text, wrong}
-use Rattle.fm_args.specs.Heard.{dashes, long, short, ends, ends_at, look_telling}
+use Rattle.fm_args.specs.Heard.{dashes, long, short, ends, ends_after, look_telling}
 use Rattle.fm_args.proofs.Looks.{by_look, is_end, letter_in}
 use Rattle.fm_args.proofs.Leaf.{HasLetterOfHelp, HelpsAt, at, built_with, held_at, leaf_from}
 
@@ -52,7 +52,7 @@ at_short p w rest x xs c e l s o = go (104 == c) refl
     go true h = rw (e, l, s, o, p.letters c, h, p.no_fault) refl
     go false h = rw (e, l, s, o, p.letters c, h) refl
 
-pub at_dashes : (p : Place) (t : Telling) → IsLast p t → (w : Text) (rest : List Text) → is_end w ≡ true → comes p (w ∷ rest) ≡ ends_at dashes t rest ∷ []
+pub at_dashes : (p : Place) (t : Telling) → IsLast p t → (w : Text) (rest : List Text) → is_end w ≡ true → comes p (w ∷ rest) ≡ ends_after dashes t rest ∷ []
 unfolding clap_on_literals
 at_dashes p t last w [] e = rw e last.is_told
 at_dashes p t last w (v ∷ rest) e = rw (e, last.no_positional) refl
@@ -67,5 +67,5 @@ at_plain p t last w rest (Some (x ∷ xs)) e l s o = rw (e, l, s, o, last.no_pos
 -- if help alone has a long name
 pub fine : (p : Place) (t : Telling) → IsLast p t → (rest : List Text) → ((n : Text) → HelpsAt p.rules n) → comes p rest ≡ ends t rest ∷ []
 fine p t last [] k = last.is_told
-fine p t last (w ∷ rest) k = by_look w (λ look. comes p (w ∷ rest) ≡ ends_at look t rest ∷ [])
+fine p t last (w ∷ rest) k = by_look w (λ look. comes p (w ∷ rest) ≡ ends_after look t rest ∷ [])
     (at_dashes p t last w rest) (λ n v e l. at_long p w rest n v e l (k n)) (at_short p w rest) (at_plain p t last w rest)

@@ -12,7 +12,7 @@ use Rattle.fm_lattice.specs.declared.join.OutOfMemory.{OutOfMemory}
 use Rattle.fm_args.specs.declared.words.Words.{Words}
 use Rattle.fm_args.specs.Telling.{Telling, Text, help, page, told_of, wrong}
 use Rattle.fm_args.specs.Heard.{Form, ask_for_refusals, command_named, commands, telling_of_words, telling_of, look_of, look_telling}
-use Rattle.fm_args.specs.Parser.{IsOneOf, asks_for_help, begins_with_help, firmament, tellings, told_at, told_at_error}
+use Rattle.fm_args.specs.Parser.{IsOneOf, asks_for_help, begins_with_help, firmament, tellings, told_of_error, told_at_error}
 use Rattle.fm_args.proofs.Same.{flipped}
 use Rattle.fm_args.proofs.Commands.{Each, IsTold, each_told}
 use Rattle.fm_args.proofs.Others.{other, single}
@@ -92,14 +92,14 @@ taken_heard all t none h = go (begins_with_help all) refl
     go false is = is_heard all t is h
 
 -- words that it does not take
-refused_heard : (all : List Text) (k : ErrorKind) → ask_for_refusals all ≡ false → IsOneOf (told_at k) (tellings all) → told_at_error all k ≡ telling_of all
+refused_heard : (all : List Text) (k : ErrorKind) → ask_for_refusals all ≡ false → IsOneOf (told_of_error k) (tellings all) → told_at_error all k ≡ telling_of all
 refused_heard all k no_page h = go (begins_with_help all) refl
   where
     go : (b : Bool) → begins_with_help all ≡ b → told_at_error all k ≡ telling_of all
     go true is = rw is (sym (help_heard all is no_page))
-    go false is = rw is (is_heard all (told_at k) is h)
+    go false is = rw is (is_heard all (told_of_error k) is h)
 
-pub text_heard : (all : List Text) (k : ErrorKind) (r : Result Words OutOfMemory) → ask_for_refusals all ≡ false → (k ≡ kind.OutOfMemory) ⊎ IsOneOf (told_at k) (tellings all)
+pub text_heard : (all : List Text) (k : ErrorKind) (r : Result Words OutOfMemory) → ask_for_refusals all ≡ false → (k ≡ kind.OutOfMemory) ⊎ IsOneOf (told_of_error k) (tellings all)
     → IfOk r (λ w. told_of w ≡ told_at_error all k) → IfOk r (λ w. k ≢ kind.OutOfMemory) → IfOk r (λ w. told_of w ≡ telling_of all)
 text_heard all k (Err e) no_page may told other = tt
 text_heard all k (Ok w) no_page (inl memory) told other = absurd (other memory)

@@ -8,7 +8,7 @@ use Rattle.clap.specs.Simple.{filled, help_rule, new_shape}
 use Rattle.clap.specs.Walk.{Held, Waiting, Walk, arg_by_long, arg_by_short, finished, idle, option, positional, settled, subcommand_met, walked}
 use Rattle.clap.specs.Faults.{check_fault, defaults_fault, settle_fault, turn_fault, walk_fault}
 use Rattle.fm_args.specs.Telling.{Telling, Text}
-use Rattle.fm_args.specs.Parser.{told_at, told_or}
+use Rattle.fm_args.specs.Parser.{told_of_error, told_or}
 
 abbrev ended : Shape → Walk → Kinds
 ended s end = or_else (settle_fault s.rules s.args_override_self end.held)
@@ -29,7 +29,7 @@ passes s tell w after word rest turn is = ap (λ ks. told_or (or_else (or_else k
 
 -- a word at fault ends it
 pub fails : (s : Shape) (tell : List Row → Telling) (w : Walk) (word : Text) (rest : List Text) (k : ErrorKind) → turn_fault s [] w word ≡ k ∷ []
-    → leaf_from s tell w (word ∷ rest) ≡ told_at k ∷ []
+    → leaf_from s tell w (word ∷ rest) ≡ told_of_error k ∷ []
 unfolding walk_fault
 fails s tell w word rest k turn = ap (λ ks. told_or (or_else (or_else ks (walk_fault s [] (walked s.rules [] w word) rest)) (ended s (fold (walked s.rules []) (walked s.rules [] w word) rest)))
     (tell (finished s.rules (fold (walked s.rules []) (walked s.rules [] w word) rest).held))) turn

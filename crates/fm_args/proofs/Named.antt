@@ -7,7 +7,7 @@ use Rattle.clap.specs.Simple.{filled_from, help_rule}
 use Rattle.clap.specs.Walk.{Walk, idle}
 use Rattle.clap.proofs.OnLiterals.{clap_on_literals}
 use Rattle.fm_args.specs.Telling.{Telling, Text, wrong}
-use Rattle.fm_args.specs.Heard.{dashes, name_at, with_name}
+use Rattle.fm_args.specs.Heard.{dashes, name_argument, with_name}
 use Rattle.fm_args.specs.Parser.{name_rule}
 use Rattle.fm_args.proofs.Looks.{by_look, is_end, letter_in}
 use Rattle.fm_args.proofs.Leaf.{at, built_with, helps_at, leaf_from, letter_of_help, passes, start}
@@ -58,7 +58,7 @@ is_last : (c : Named) (v : Text) → IsLast (told c v) (c.give v)
 unfolding clap_on_literals
 is_last c v = record { no_positional = refl; is_told = rw c.tells refl }
 
-first_dashes : (c : Named) (w : Text) (rest : List Text) → is_end w ≡ true → comes c start (w ∷ rest) ≡ name_at c.give dashes w rest ∷ []
+first_dashes : (c : Named) (w : Text) (rest : List Text) → is_end w ≡ true → comes c start (w ∷ rest) ≡ name_argument c.give dashes w rest ∷ []
 unfolding clap_on_literals
 first_dashes c w [] e = rw e refl
 first_dashes c w (v ∷ []) e = rw (e, c.tells) refl
@@ -77,6 +77,6 @@ none_given c = refl
 
 pub takes_name : (c : Named) (rest : List Text) → comes c start rest ≡ with_name c.give rest ∷ []
 takes_name c [] = none_given c
-takes_name c (w ∷ rest) = by_look w (λ look. comes c start (w ∷ rest) ≡ name_at c.give look w rest ∷ [])
+takes_name c (w ∷ rest) = by_look w (λ look. comes c start (w ∷ rest) ≡ name_argument c.give look w rest ∷ [])
     (first_dashes c w rest) (λ n v e l. at_long (begun c) w rest n v e l (helps_at n)) (at_short (begun c) w rest)
     (λ flags e l s o. first_plain c w rest flags e l s o ∙ fine (told c w) (c.give w) (is_last c w) rest helps_at)

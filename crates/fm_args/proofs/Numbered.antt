@@ -14,8 +14,8 @@ use Rattle.clap.specs.declared.error.ErrorKind.TheVariants as kind
 use Rattle.clap.specs.declared.parser.matches.ValueSource.TheVariants.{CommandLine}
 use Rattle.clap.proofs.OnLiterals.{clap_on_literals}
 use Rattle.fm_args.specs.Telling.{Telling, Text, wrong}
-use Rattle.fm_args.specs.Heard.{long, ends, ends_at, look_telling, counts, number, number_at, number_in, option_at, with_option}
-use Rattle.fm_args.specs.Parser.{number_of, number_read, number_rule}
+use Rattle.fm_args.specs.Heard.{long, ends, ends_after, look_telling, counts, number_option, number_argument, parsed_number, option_at, with_option}
+use Rattle.fm_args.specs.Parser.{parsed_bits, number_read, number_rule}
 use Rattle.fm_args.proofs.Same.{flipped}
 use Rattle.fm_args.proofs.Looks.{by_look, is_end, letter_in}
 use Rattle.fm_args.proofs.Digits.{is_read, taken}
@@ -178,11 +178,11 @@ in_own c z = record {
   letters = letter_of_help;
 }
 
-next_is_last : (c : Numbered) (z : Text) (good : fits c z ≡ true) (n : ℕ) → number_of c.bits (without_minus z) ≡ Some n → IsLast (in_next c z good) (c.give (Some n))
+next_is_last : (c : Numbered) (z : Text) (good : fits c z ≡ true) (n : ℕ) → parsed_bits c.bits (without_minus z) ≡ Some n → IsLast (in_next c z good) (c.give (Some n))
 unfolding clap_on_literals
 next_is_last c z good n is = record { no_positional = refl; is_told = rw (c.itself, good, c.itself, c.no_help, c.tells, c.itself, is) refl }
 
-own_is_last : (c : Numbered) (z : Text) (n : ℕ) → number_of c.bits (without_minus z) ≡ Some n → IsLast (in_own c z) (c.give (Some n))
+own_is_last : (c : Numbered) (z : Text) (n : ℕ) → parsed_bits c.bits (without_minus z) ≡ Some n → IsLast (in_own c z) (c.give (Some n))
 unfolding clap_on_literals
 own_is_last c z n is = record { no_positional = refl; is_told = rw (c.itself, c.no_help, c.tells, c.itself, is) refl }
 
@@ -211,12 +211,12 @@ unfolding clap_on_literals
 own_again c z w rest n None e l m = passes (shape c) c.tell (own c z) (waits c (row c z ∷ [])) w rest (rw (e, l, m) refl) (rw (e, l, m) refl) ∙ again c z rest
 own_again c z w rest n (Some x) e l m = rw (e, l, m, c.itself) refl
 
-next_ends : (c : Numbered) (z : Text) → fits c z ≡ true → (n : ℕ) → number_of c.bits (without_minus z) ≡ Some n → (rest : List Text) → comes c (next c [] z) rest ≡ ends (c.give (Some n)) rest ∷ []
+next_ends : (c : Numbered) (z : Text) → fits c z ≡ true → (n : ℕ) → parsed_bits c.bits (without_minus z) ≡ Some n → (rest : List Text) → comes c (next c [] z) rest ≡ ends (c.give (Some n)) rest ∷ []
 next_ends c z good n is [] = (next_is_last c z good n is).is_told
 next_ends c z good n is (w ∷ rest) =
     let p = in_next c z good in
     let t = c.give (Some n) in
-    by_look w (λ look. comes c (next c [] z) (w ∷ rest) ≡ ends_at look t rest ∷ [])
+    by_look w (λ look. comes c (next c [] z) (w ∷ rest) ≡ ends_after look t rest ∷ [])
     (at_dashes p t (next_is_last c z good n is) w rest) on_long (at_short p w rest) (at_plain p t (next_is_last c z good n is) w rest)
   where
     on_long : (m : Text) (v : Option Text) → is_end w ≡ false → long_of w ≡ Some (m, v) → comes c (next c [] z) (w ∷ rest) ≡ look_telling (long m v) ∷ []
@@ -226,12 +226,12 @@ next_ends c z good n is (w ∷ rest) =
         go true k = next_again c z good w rest m v e l k ∙ ap (λ t. t ∷ []) (sym (no_help_shown c m v k))
         go false k = at_long (in_next c z good) w rest m v e l (help_at c m k)
 
-own_ends : (c : Numbered) (z : Text) (n : ℕ) → number_of c.bits (without_minus z) ≡ Some n → (rest : List Text) → comes c (own c z) rest ≡ ends (c.give (Some n)) rest ∷ []
+own_ends : (c : Numbered) (z : Text) (n : ℕ) → parsed_bits c.bits (without_minus z) ≡ Some n → (rest : List Text) → comes c (own c z) rest ≡ ends (c.give (Some n)) rest ∷ []
 own_ends c z n is [] = (own_is_last c z n is).is_told
 own_ends c z n is (w ∷ rest) =
     let p = in_own c z in
     let t = c.give (Some n) in
-    by_look w (λ look. comes c (own c z) (w ∷ rest) ≡ ends_at look t rest ∷ [])
+    by_look w (λ look. comes c (own c z) (w ∷ rest) ≡ ends_after look t rest ∷ [])
     (at_dashes p t (own_is_last c z n is) w rest) on_long (at_short p w rest) (at_plain p t (own_is_last c z n is) w rest)
   where
     on_long : (m : Text) (v : Option Text) → is_end w ≡ false → long_of w ≡ Some (m, v) → comes c (own c z) (w ∷ rest) ≡ look_telling (long m v) ∷ []
@@ -243,22 +243,22 @@ own_ends c z n is (w ∷ rest) =
 
 -- ---- the number, as it is spelled
 
-does_fit : (c : Numbered) (z : Text) (o : Option ℕ) → number_in c.least c.most z ≡ o → fits c z ≡ is_some o
+does_fit : (c : Numbered) (z : Text) (o : Option ℕ) → parsed_number c.least c.most z ≡ o → fits c z ≡ is_some o
 does_fit c z o is = taken c.least c.most z c.is_small ∙ ap is_some is
 
-in_next_word : (c : Numbered) (z : Text) (rest : List Text) → comes c (next c [] z) rest ≡ counts (behind c) (number_in c.least c.most z) rest ∷ []
-in_next_word c z rest = go (number_in c.least c.most z) refl
+in_next_word : (c : Numbered) (z : Text) (rest : List Text) → comes c (next c [] z) rest ≡ counts (behind c) (parsed_number c.least c.most z) rest ∷ []
+in_next_word c z rest = go (parsed_number c.least c.most z) refl
   where
-    go : (o : Option ℕ) → number_in c.least c.most z ≡ o → comes c (next c [] z) rest ≡ counts (behind c) o rest ∷ []
+    go : (o : Option ℕ) → parsed_number c.least c.most z ≡ o → comes c (next c [] z) rest ≡ counts (behind c) o rest ∷ []
     go (Some n) is = next_ends c z (does_fit c z (Some n) is) n (is_read c.least c.most c.bits z n c.has_room is) rest
     go None is = faulty (is_unfit c z (does_fit c z None is)) rest
 
 in_own_word : (c : Numbered) (w : Text) (rest : List Text) (n z : Text) → is_end w ≡ false → long_of w ≡ Some (n, Some z) → bytes_eq c.option_name n ≡ true
-    → comes c start (w ∷ rest) ≡ counts (behind c) (number_in c.least c.most z) rest ∷ []
+    → comes c start (w ∷ rest) ≡ counts (behind c) (parsed_number c.least c.most z) rest ∷ []
 unfolding clap_on_literals
-in_own_word c w rest n z e l m = go (number_in c.least c.most z) refl
+in_own_word c w rest n z e l m = go (parsed_number c.least c.most z) refl
   where
-    go : (o : Option ℕ) → number_in c.least c.most z ≡ o → comes c start (w ∷ rest) ≡ counts (behind c) o rest ∷ []
+    go : (o : Option ℕ) → parsed_number c.least c.most z ≡ o → comes c start (w ∷ rest) ≡ counts (behind c) o rest ∷ []
     go (Some k) is =
         let good = does_fit c z (Some k) is in
         passes (shape c) c.tell start (own c z) w rest (rw (e, l, m, good) refl) (rw (e, l, m) refl) ∙ own_ends c z k (is_read c.least c.most c.bits z k c.has_room is) rest
@@ -266,12 +266,12 @@ in_own_word c w rest n z e l m = go (number_in c.least c.most z) refl
         let bad_value = does_fit c z None is in
         fails (shape c) c.tell start w rest kind.ValueValidation (rw (e, l, m, bad_value) refl)
 
-waits_number : (c : Numbered) (rest : List Text) → comes c (waits c []) rest ≡ number c.least c.most (behind c) None rest ∷ []
+waits_number : (c : Numbered) (rest : List Text) → comes c (waits c []) rest ≡ number_option c.least c.most (behind c) None rest ∷ []
 waits_number c [] = bad.at_last (is_waiting c []) (waiting.option c.option_name)
 waits_number c (w ∷ rest) =
     let f = is_waiting c [] in
     let o = waiting.option c.option_name in
-    by_look w (λ look. comes c (waits c []) (w ∷ rest) ≡ number_at c.least c.most (behind c) look w rest ∷ [])
+    by_look w (λ look. comes c (waits c []) (w ∷ rest) ≡ number_argument c.least c.most (behind c) look w rest ∷ [])
     (bad.at_dashes f o w rest) (bad.at_long f o w rest) (bad.at_short f o w rest)
     (λ flags e l s p. waits_plain c [] w rest flags e l s p ∙ in_next_word c w rest)
 
@@ -294,7 +294,7 @@ unfolding clap_on_literals
 begun_is_last c = record { no_positional = refl; is_told = rw c.tells refl }
 
 named : (c : Numbered) (w : Text) (rest : List Text) (n : Text) (v : Option Text) → is_end w ≡ false → long_of w ≡ Some (n, v) → bytes_eq c.option_name n ≡ true
-    → comes c start (w ∷ rest) ≡ number c.least c.most (behind c) v rest ∷ []
+    → comes c start (w ∷ rest) ≡ number_option c.least c.most (behind c) v rest ∷ []
 unfolding clap_on_literals
 named c w rest n None e l m = passes (shape c) c.tell start (waits c []) w rest (rw (e, l, m) refl) (rw (e, l, m) refl) ∙ waits_number c rest
 named c w rest n (Some z) e l m = in_own_word c w rest n z e l m

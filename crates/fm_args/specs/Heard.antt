@@ -34,8 +34,8 @@ look_of w = if bytes_eq w (codes "--") then dashes
 
 -- the whole number that a word spells, if it is no less than the least and no greater than the most: decimal digits,
 -- one at least, that may follow `+`; behind `-` only 0
-abbrev pub number_in : ℕ → ℕ → Text → Option ℕ
-number_in least most v =
+abbrev pub parsed_number : ℕ → ℕ → Text → Option ℕ
+parsed_number least most v =
     let digits = without_leading_sign v in
     let n = digits_value 10 digits in
     if is_numeral digits && (nat_le least n && (nat_le n most && (not (starts_with_minus v) || n == 0)))
@@ -50,25 +50,25 @@ look_telling (short c) = if 104 == c then help else wrong
 look_telling _ = wrong
 
 -- after the last argument there is nothing more, or `--` alone
-abbrev pub ends_at : Look → Telling → List Text → Telling
-ends_at dashes t [] = t
-ends_at dashes t (w ∷ rest) = wrong
-ends_at look t rest = look_telling look
+abbrev pub ends_after : Look → Telling → List Text → Telling
+ends_after dashes t [] = t
+ends_after dashes t (w ∷ rest) = wrong
+ends_after look t rest = look_telling look
 
 abbrev pub ends : Telling → List Text → Telling
 ends t [] = t
-ends t (w ∷ rest) = ends_at (look_of w) t rest
+ends t (w ∷ rest) = ends_after (look_of w) t rest
 
 -- a name: a word that is no flag; or, behind `--`, any word, which is then the last
-abbrev pub name_at : (Text → Telling) → Look → Text → List Text → Telling
-name_at give dashes w (name ∷ []) = give name
-name_at give dashes w rest = wrong
-name_at give plain w rest = ends (give w) rest
-name_at give look w rest = look_telling look
+abbrev pub name_argument : (Text → Telling) → Look → Text → List Text → Telling
+name_argument give dashes w (name ∷ []) = give name
+name_argument give dashes w rest = wrong
+name_argument give plain w rest = ends (give w) rest
+name_argument give look w rest = look_telling look
 
 abbrev pub with_name : (Text → Telling) → List Text → Telling
 with_name give [] = wrong
-with_name give (w ∷ rest) = name_at give (look_of w) w rest
+with_name give (w ∷ rest) = name_argument give (look_of w) w rest
 
 -- the number that an option was given, and what it makes of the words that follow
 abbrev pub counts : (ℕ → List Text → Telling) → Option ℕ → List Text → Telling
@@ -76,21 +76,21 @@ counts next None rest = wrong
 counts next (Some n) rest = next n rest
 
 -- a number in a word of its own, which is no flag
-abbrev pub number_at : ℕ → ℕ → (ℕ → List Text → Telling) → Look → Text → List Text → Telling
-number_at least most next plain v rest = counts next (number_in least most v) rest
-number_at least most next look v rest = wrong
+abbrev pub number_argument : ℕ → ℕ → (ℕ → List Text → Telling) → Look → Text → List Text → Telling
+number_argument least most next plain v rest = counts next (parsed_number least most v) rest
+number_argument least most next look v rest = wrong
 
 -- a number behind the `=` of its option, or else in the next word
-abbrev pub number : ℕ → ℕ → (ℕ → List Text → Telling) → Option Text → List Text → Telling
-number least most next (Some v) rest = counts next (number_in least most v) rest
-number least most next None [] = wrong
-number least most next None (v ∷ rest) = number_at least most next (look_of v) v rest
+abbrev pub number_option : ℕ → ℕ → (ℕ → List Text → Telling) → Option Text → List Text → Telling
+number_option least most next (Some v) rest = counts next (parsed_number least most v) rest
+number_option least most next None [] = wrong
+number_option least most next None (v ∷ rest) = number_argument least most next (look_of v) v rest
 
 -- an option with its number, once; or no argument
 abbrev pub option_at : Text → ℕ → ℕ → (Option ℕ → Telling) → Look → List Text → Telling
 option_at option least most give (long n v) rest =
-    if bytes_eq option n then number least most (λ k. ends (give (Some k))) v rest else look_telling (long n v)
-option_at option least most give look rest = ends_at look (give None) rest
+    if bytes_eq option n then number_option least most (λ k. ends (give (Some k))) v rest else look_telling (long n v)
+option_at option least most give look rest = ends_after look (give None) rest
 
 abbrev pub with_option : Text → ℕ → ℕ → (Option ℕ → Telling) → List Text → Telling
 with_option option least most give [] = give None
@@ -99,9 +99,9 @@ with_option option least most give (w ∷ rest) = option_at option least most gi
 -- a name, and an option with its number before or behind it, once; or the name alone
 abbrev pub name_or_option_at : Text → ℕ → ℕ → (Text → Option ℕ → Telling) → Look → Text → List Text → Telling
 name_or_option_at option least most give (long n v) w rest =
-    if bytes_eq option n then number least most (λ k. with_name (λ name. give name (Some k))) v rest else look_telling (long n v)
+    if bytes_eq option n then number_option least most (λ k. with_name (λ name. give name (Some k))) v rest else look_telling (long n v)
 name_or_option_at option least most give plain w rest = with_option option least most (give w) rest
-name_or_option_at option least most give look w rest = name_at (λ name. give name None) look w rest
+name_or_option_at option least most give look w rest = name_argument (λ name. give name None) look w rest
 
 abbrev pub with_name_and_option : Text → ℕ → ℕ → (Text → Option ℕ → Telling) → List Text → Telling
 with_name_and_option option least most give [] = wrong
@@ -113,18 +113,18 @@ with_name_and_option option least most give (w ∷ rest) = name_or_option_at opt
 -- or one name
 -- or an option `--NAME N`, where N is no less than the least and no greater than the most; or no option
 -- or one name, and such an option or none
-pub data Takes : Type 0 where
-  nothing : Telling → Takes
-  one_name : (Text → Telling) → Takes
-  one_number : Text → (least most : ℕ) → (Option ℕ → Telling) → Takes
-  name_and_number : Text → (least most : ℕ) → (Text → Option ℕ → Telling) → Takes
+pub data ArgumentKind : Type 0 where
+  nothing : Telling → ArgumentKind
+  one_name : (Text → Telling) → ArgumentKind
+  one_number : Text → (least most : ℕ) → (Option ℕ → Telling) → ArgumentKind
+  name_and_number : Text → (least most : ℕ) → (Text → Option ℕ → Telling) → ArgumentKind
 
 -- `--at N`: the question about the coordinator N, or about the first of the script
-abbrev pub asks : Question → Takes
+abbrev pub asks : Question → ArgumentKind
 asks q = one_number (codes "at") 0 255 (λ at. run (ask q at))
 
 -- `--rounds N`: a fleet for N rounds, or for none
-abbrev pub fleets : Takes
+abbrev pub fleets : ArgumentKind
 fleets = one_number (codes "rounds") 0 1000 (λ rounds. fleet (unwrap_or rounds 0))
 
 -- if no N is told: an entry takes about a kilobyte, so that a history takes some 100 MB
@@ -136,20 +136,20 @@ abbrev pub most_renew_after : ℕ
 most_renew_after = 1000000
 
 -- `--renew-after N`: coordinators that are kept running, and are renewed once a history has N entries, 1 at least
-abbrev pub follows : Takes
+abbrev pub follows : ArgumentKind
 follows = one_number (codes "renew-after") 1 most_renew_after (λ n. follow (unwrap_or n default_renew_after))
 
 -- `NAME`: the packet of the name
-abbrev pub packs : Takes
+abbrev pub packs : ArgumentKind
 packs = one_name (λ name. run (pack name))
 
 -- `TASK` and `--at N`: why the task of the id waits or runs, asked of the coordinator N, or of the first of the script
-abbrev pub whys : Takes
+abbrev pub whys : ArgumentKind
 whys = name_and_number (codes "at") 0 255 (λ name at. option_map_or (λ task. run (why task at)) (read_id name) wrong)
 
 pub record Form : Type 0 where
   pub name : Text
-  pub takes : Takes
+  pub takes : ArgumentKind
 
 -- all that there are
 abbrev pub commands : List Form
@@ -168,7 +168,7 @@ commands = record { name = codes "agree"; takes = nothing (run agree) }
 -- ---- the command line, the program's own name first
 
 -- what a command asks for by the words behind its name
-abbrev pub telling_of_words : Takes → List Text → Telling
+abbrev pub telling_of_words : ArgumentKind → List Text → Telling
 telling_of_words (nothing t) = ends t
 telling_of_words (one_name give) = with_name give
 telling_of_words (one_number option least most give) = with_option option least most give

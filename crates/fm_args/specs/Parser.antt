@@ -14,7 +14,7 @@ use Rattle.clap.specs.declared.error.ErrorKind.{ErrorKind}
 use Rattle.clap.specs.declared.error.ErrorKind.TheVariants as kind
 use Rattle.fm_args.specs.declared.words.Words.{Words}
 use Rattle.fm_args.specs.Telling.{Telling, Text, help, told_of, wrong}
-use Rattle.fm_args.specs.Heard.{Form, Takes, nothing, one_name, one_number, name_and_number, commands, telling_of, is_topic}
+use Rattle.fm_args.specs.Heard.{Form, ArgumentKind, nothing, one_name, one_number, name_and_number, commands, telling_of, is_topic}
 
 -- ---- the commands
 
@@ -29,7 +29,7 @@ number_rule option least most = record (new_rule option) {
   parser = Some (parser.Signed (pos least) (pos most));
 }
 
-abbrev pub command_app : Text → Takes → App
+abbrev pub command_app : Text → ArgumentKind → App
 command_app name (nothing t) = new_app name
 command_app name (one_name give) = with_rule (new_app name) name_rule
 command_app name (one_number option least most give) = with_rule (new_app name) (number_rule option least most)
@@ -53,19 +53,19 @@ firmament = with_commands commands
 -- ---- what is made of its matches
 
 -- the number of k bits that a text spells
-abbrev pub number_of : ℕ → Text → Option ℕ
-number_of k text =
+abbrev pub parsed_bits : ℕ → Text → Option ℕ
+parsed_bits k text =
     let ds = without_leading_plus text in
     if is_numeral ds && nat_lt (digits_value 10 ds) (2 ^ k) then Some (digits_value 10 ds) else None
 
 abbrev pub number_read : ℕ → Text → List Row → Option ℕ
-number_read k option rows = option_and_then (number_of k) (one_of option rows)
+number_read k option rows = option_and_then (parsed_bits k) (one_of option rows)
 
 -- the bits of the integer as which an option with such a most is read
 abbrev pub bits_for : ℕ → ℕ
 bits_for most = if nat_le most 255 then 8 else 32
 
-abbrev pub told_with : Takes → List Row → Telling
+abbrev pub told_with : ArgumentKind → List Row → Telling
 told_with (nothing t) rows = t
 told_with (one_name give) rows = option_map_or give (first_of (codes "name") rows) wrong
 told_with (one_number option least most give) rows = give (number_read (bits_for most) option rows)
@@ -75,15 +75,15 @@ told_with (name_and_number option least most give) rows =
 abbrev pub told_as : Text → List Row → Telling
 told_as name rows = option_map_or (λ c. told_with c.takes rows) (find (λ c. bytes_eq name c.name) commands) wrong
 
-abbrev pub told_by : Option (Text × List Row) → Telling
-told_by sub = option_map_or (λ p. told_as p.0 p.1) sub wrong
+abbrev pub told_of_subcommand : Option (Text × List Row) → Telling
+told_of_subcommand sub = option_map_or (λ p. told_as p.0 p.1) sub wrong
 
 -- ---- what is made of its errors
 
-abbrev pub told_at : ErrorKind → Telling
-told_at kind.DisplayHelp = help
-told_at kind.DisplayVersion = help
-told_at _ = wrong
+abbrev pub told_of_error : ErrorKind → Telling
+told_of_error kind.DisplayHelp = help
+told_of_error kind.DisplayVersion = help
+told_of_error _ = wrong
 
 abbrev pub begins_with_help : List Text → Bool
 begins_with_help (program ∷ first ∷ rest) = bytes_eq first (codes "help")
@@ -96,17 +96,17 @@ asks_for_help _ = false
 
 -- of words that begin with `help` the parser does not say which it is
 abbrev pub told_at_error : List Text → ErrorKind → Telling
-told_at_error all k = if begins_with_help all then (if asks_for_help all then help else wrong) else told_at k
+told_at_error all k = if begins_with_help all then (if asks_for_help all then help else wrong) else told_of_error k
 
 -- ---- what may be made of the words
 
 -- a parser that finds faults tells one of them, and else what the matches tell
 abbrev pub told_or : Kinds → Telling → List Telling
 told_or [] t = t ∷ []
-told_or (k ∷ ks) t = map told_at (k ∷ ks)
+told_or (k ∷ ks) t = map told_of_error (k ∷ ks)
 
 abbrev pub tellings : List Text → List Telling
-tellings all = told_or (fault_of firmament all) (told_by (subcommand_of firmament all))
+tellings all = told_or (fault_of firmament all) (told_of_subcommand (subcommand_of firmament all))
 
 abbrev pub IsOneOf : Telling → List Telling → Type 0
 IsOneOf t [] = ⊥

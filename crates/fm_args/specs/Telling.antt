@@ -15,12 +15,12 @@ Text = List ℕ
 -- or the packet of the name
 -- or the records of a packet
 -- or why the task of the number waits or runs, by what that coordinator knows
-pub data Asked : Type 0 where
-  ask : Question → Option ℕ → Asked
-  agree : Asked
-  pack : Text → Asked
-  unpack : Asked
-  why : ℕ → Option ℕ → Asked
+pub data ArgsModel : Type 0 where
+  ask : Question → Option ℕ → ArgsModel
+  agree : ArgsModel
+  pack : Text → ArgsModel
+  unpack : ArgsModel
+  why : ℕ → Option ℕ → ArgsModel
 
 -- what is asked for: the command's answer
 -- or a fleet that is run for so many rounds
@@ -29,23 +29,23 @@ pub data Asked : Type 0 where
 -- or the page of refusals
 -- or nothing, since the words are wrong
 pub data Telling : Type 0 where
-  run : Asked → Telling
+  run : ArgsModel → Telling
   fleet : ℕ → Telling
   follow : (renew_after : ℕ) → Telling
   help : Telling
   page : Telling
   wrong : Telling
 
-abbrev pub asked_of : Command → Asked
-asked_of (command.Ask question at) = ask question at
-asked_of command.Agree = agree
-asked_of (command.Pack name) = pack name.now
-asked_of command.Unpack = unpack
-asked_of (command.Why task at) = why task at
+abbrev pub args_model : Command → ArgsModel
+args_model (command.Ask question at) = ask question at
+args_model command.Agree = agree
+args_model (command.Pack name) = pack name.now
+args_model command.Unpack = unpack
+args_model (command.Why task at) = why task at
 
 -- what was made of the words, without its text
 abbrev pub told_of : Words → Telling
-told_of (words.Run command) = run (asked_of command)
+told_of (words.Run command) = run (args_model command)
 told_of (words.Fleet rounds) = fleet rounds
 told_of (words.Follow renew_after) = follow renew_after
 told_of (words.Help text) = help

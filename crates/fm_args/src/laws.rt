@@ -1,14 +1,14 @@
 //! Laws of what words ask for.
 
 ghost use Rattle.std.specs.Prelude.{◌≡◌, ◌≤◌, ◌<◌, ◌^◌, ◌∷◌, [], ℕ, List, None, Some, codes, decimal};
-ghost use Rattle.fm_args.specs.Heard.{telling_of, look_of, number_in, plain};
+ghost use Rattle.fm_args.specs.Heard.{telling_of, look_of, parsed_number, plain};
 ghost use Rattle.fm_records.specs.Ids.{id_text};
 ghost use Rattle.fm_args.specs.Telling.{Text, ask, fleet, follow, help, pack, page, run, why, wrong};
 ghost use Rattle.fm_args.specs.declared.words.Question.TheVariants.{Graph, Plan, Solve, Winners};
 
 /// A number in range that is written in decimal digits, as the program itself writes numbers, is read as that number.
 pub fn law_number()
-    ensures { (n least most : ℕ) → least ≤ n → n ≤ most → n < 2 ^ 64 → number_in least most (decimal n) ≡ Some n }
+    ensures { (n least most : ℕ) → least ≤ n → n ≤ most → n < 2 ^ 64 → parsed_number least most (decimal n) ≡ Some n }
 {}
 
 /// The definition at some command lines. The program's own name may be any.

@@ -5,7 +5,7 @@ ghost use Rattle.clap.specs.Words.{first_of, found_of, kind_of, rows_of, subcomm
 ghost use Rattle.fm_args.specs.Heard.{asks, fleets, follows, packs, whys};
 ghost use Rattle.fm_records.specs.Ids.{read_id};
 ghost use Rattle.std.specs.Option.{option_map_or};
-ghost use Rattle.fm_args.specs.Parser.{number_read, told_as, told_at_error, told_by, told_with};
+ghost use Rattle.fm_args.specs.Parser.{number_read, told_as, told_at_error, told_of_subcommand, told_with};
 ghost use Rattle.fm_args.specs.Telling.{run, told_of, why, wrong};
 
 use super::help::{ask_for_help, begin_with_help};
@@ -21,7 +21,7 @@ const NO_ID: &str = "error: a task is named by its id, a UUID\n";
 
 /// The meaning of the matches of a command.
 pub fn named<'a>(alloc: Global, matches: &ArgMatches<'a>) -> Words<'a>
-    ensures { told_of result ≡ told_by (subcommand_rows_of matches.now) }
+    ensures { told_of result ≡ told_of_subcommand (subcommand_rows_of matches.now) }
 {
     match matches.subcommand() {
         Some((name, inner)) => named_as(alloc, name, inner),

@@ -17,11 +17,11 @@ use Rattle.fm_net.specs.Nodes.{node_cmp, ends_cmp}
 use Rattle.fm_net.specs.NodeOrder.{node_exact, node_total, ends_exact, ends_total}
 use Rattle.fm_net.specs.ListLaws.{has_member, member_has}
 use Rattle.fm_net.specs.Net.{Net, CanBeNet, has_node}
-use Rattle.fm_net.specs.Same.{same_node}
+use Rattle.fm_net.specs.NetworkEquality.{same_node}
 use Rattle.fm_certificate.specs.Flows.{units_in, leaving, entering, is_between}
 use Rattle.fm_certificate.specs.Certificates.{AreSmall, IsCertified}
 use Rattle.fm_certificate.specs.Totals.{Entry, source, target, units_at}
-use Rattle.fm_certificate.specs.Checks.{Arc, AreOf, Fits, FitAll, reduced_at, sends}
+use Rattle.fm_certificate.specs.Checks.{PricedArc, AreOf, IsComplementary, FitAll, reduced_at, sends}
 use Rattle.fm_certificate.proofs.Members.{member_lookup}
 use Rattle.fm_certificate.proofs.Sums.{sum_same}
 
@@ -61,28 +61,28 @@ are_of (p ∷ ps) (n ∷ ns) e small = (first_key p.0 n (keys_of ps) ns e, small
 -- Arcs beside units.
 
 module _ (potentials : List (Node × ℤ)) where
-  fit_keys : (es : List Entry) (arcs : List Arc) → FitAll potentials es arcs → keys_of es ≡ keys_of arcs
+  fit_keys : (es : List Entry) (arcs : List PricedArc) → FitAll potentials es arcs → keys_of es ≡ keys_of arcs
   fit_keys [] [] h = refl
   fit_keys [] (a ∷ arcs) h = absurd h
   fit_keys (e ∷ es) [] h = absurd h
   fit_keys (e ∷ es) (a ∷ arcs) h = let rest = fit_keys es arcs h.2 in λ i. h.0 i ∷ rest i
 
-  fit_at : (es : List Entry) (arcs : List Arc) → FitAll potentials es arcs → (k : Node × Node) (arc : ℕ × ℕ) → lookup ends_cmp k arcs ≡ Some arc → Fits (or_else 0 (lookup ends_cmp k es)) arc.0 (reduced_at potentials (k, arc))
+  fit_at : (es : List Entry) (arcs : List PricedArc) → FitAll potentials es arcs → (k : Node × Node) (arc : ℕ × ℕ) → lookup ends_cmp k arcs ≡ Some arc → IsComplementary (or_else 0 (lookup ends_cmp k es)) arc.0 (reduced_at potentials (k, arc))
   fit_at es [] h k arc found = absurd (let no : ⊥ = cc in no)
   fit_at [] (a ∷ arcs) h k arc found = absurd h
   fit_at (e ∷ es) (a ∷ arcs) h k arc found =
       let rest = fit_at es arcs h.2 k arc in
       rw h.0
-      (by_cases (ends_cmp k a.0) (λ o. cond (is_eq o) (Some a.1) (lookup ends_cmp k arcs) ≡ Some arc → Fits (or_else 0 (cond (is_eq o) (Some e.1) (lookup ends_cmp k es))) arc.0 (reduced_at potentials (k, arc)))
+      (by_cases (ends_cmp k a.0) (λ o. cond (is_eq o) (Some a.1) (lookup ends_cmp k arcs) ≡ Some arc → IsComplementary (or_else 0 (cond (is_eq o) (Some e.1) (lookup ends_cmp k es))) arc.0 (reduced_at potentials (k, arc)))
       (λ _ g. rest g)
       (λ same g.
       let key : a.0 ≡ k = sym (ends_exact k a.0 same) in
       let value : a.1 ≡ arc = cc in
-      subst (λ (b : Arc). Fits e.1 b.1.0 (reduced_at potentials b)) (λ i. (key i, value i)) h.1)
+      subst (λ (b : PricedArc). IsComplementary e.1 b.1.0 (reduced_at potentials b)) (λ i. (key i, value i)) h.1)
       (λ _ g. rest g)
       found)
 
-  fit_all : (es : List Entry) (arcs : List Arc) → keys_of es ≡ keys_of arcs → ((e : Entry) (a : Arc) → IsMember e es → IsMember a arcs → e.0 ≡ a.0 → Fits e.1 a.1.0 (reduced_at potentials a)) → FitAll potentials es arcs
+  fit_all : (es : List Entry) (arcs : List PricedArc) → keys_of es ≡ keys_of arcs → ((e : Entry) (a : PricedArc) → IsMember e es → IsMember a arcs → e.0 ≡ a.0 → IsComplementary e.1 a.1.0 (reduced_at potentials a)) → FitAll potentials es arcs
   fit_all [] [] keys fit = tt
   fit_all [] (a ∷ arcs) keys fit = no_keys a.0 (keys_of arcs) keys
   fit_all (e ∷ es) [] keys fit = no_keys e.0 (keys_of es) (sym keys)
@@ -91,14 +91,14 @@ module _ (potentials : List (Node × ℤ)) where
       (first, fit e a (inl refl) (inl refl) first, fit_all es arcs (other_keys e.0 a.0 (keys_of es) (keys_of arcs) keys) (λ d b m l. fit d b (inr m) (inr l)))
 
 -- a sum over keys
-same_sum : (h : Node × Node → ℕ) (es : List Entry) (arcs : List Arc) → keys_of es ≡ keys_of arcs → sum_by (λ (a : Arc). h a.0) arcs ≡ sum_by (λ (e : Entry). h e.0) es
+same_sum : (h : Node × Node → ℕ) (es : List Entry) (arcs : List PricedArc) → keys_of es ≡ keys_of arcs → sum_by (λ (a : PricedArc). h a.0) arcs ≡ sum_by (λ (e : Entry). h e.0) es
 same_sum h [] [] keys = refl
 same_sum h [] (a ∷ arcs) keys = no_keys a.0 (keys_of arcs) keys
 same_sum h (e ∷ es) [] keys = no_keys e.0 (keys_of es) (sym keys)
 same_sum h (e ∷ es) (a ∷ arcs) keys =
     let first = ap h (first_key e.0 a.0 (keys_of es) (keys_of arcs) keys) in
     let rest = same_sum h es arcs (other_keys e.0 a.0 (keys_of es) (keys_of arcs) keys) in
-    omega (arith, sum_by-cons (λ (b : Arc). h b.0) a arcs, sum_by-cons (λ (d : Entry). h d.0) e es)
+    omega (arith, sum_by-cons (λ (b : PricedArc). h b.0) a arcs, sum_by-cons (λ (d : Entry). h d.0) e es)
 
 -- what a test says of members
 all_member : (test : Node → Bool) (n : Node) (ns : List Node) → list_all test ns ≡ true → IsMember n ns → test n ≡ true
@@ -119,7 +119,7 @@ module _ (net : Net) (can : CanBeNet net) (flow : List Entry) (rises : IsRising 
   entry_units e m = ap (or_else 0) (member_lookup ends_cmp ends_total ends_exact e flow rises m)
 
   -- what the arcs have at a node is what the entries have
-  flow_sum : (end : Node × Node → Node) (n : Node) → keys_of flow ≡ keys_of net.arcs → sum_by (λ (a : Arc). cond (same_node (end a.0) n) (units_in flow a.0.0 a.0.1) 0) net.arcs ≡ units_at end flow n
+  flow_sum : (end : Node × Node → Node) (n : Node) → keys_of flow ≡ keys_of net.arcs → sum_by (λ (a : PricedArc). cond (same_node (end a.0) n) (units_in flow a.0.0 a.0.1) 0) net.arcs ≡ units_at end flow n
   flow_sum end n keys =
       same_sum (λ k. cond (same_node (end k) n) (units_in flow k.0 k.1) 0) flow net.arcs keys
       ∙ sum_same _ _ flow (λ e m. ap (λ units. cond (same_node (end e.0) n) units 0) (entry_units e m))
@@ -170,7 +170,7 @@ module _ (net : Net) (can : CanBeNet net) (flow : List Entry) (rises : IsRising 
         fit_all potentials flow net.arcs cert.arcs (λ e a m l same.
         let arc = member_lookup ends_cmp ends_total ends_exact a net.arcs can.arcs_rise l in
         let units : units_in flow a.0.0 a.0.1 ≡ e.1 = subst (λ (k : Node × Node). units_in flow k.0 k.1 ≡ e.1) same (entry_units e m) in
-        subst (λ u. Fits u a.1.0 (reduced_at potentials a)) units
+        subst (λ u. IsComplementary u a.1.0 (reduced_at potentials a)) units
         (record { within = cert.feasible.within a.0.0 a.0.1 a.1 arc; no_gain = cert.no_gain a.0.0 a.0.1 a.1 arc; no_waste = cert.no_waste a.0.0 a.0.1 a.1 arc }))
 
     balanced : (n : Node) → IsMember n net.nodes → IsTrue (is_between n) → units_at target flow n ≡ units_at source flow n

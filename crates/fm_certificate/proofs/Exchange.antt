@@ -7,7 +7,7 @@ use Rattle.fm_records.specs.Sets.{IsMember}
 use Rattle.fm_records.specs.TableLaws.{Rises}
 use Rattle.fm_net.specs.declared.node.Node.{Node}
 use Rattle.fm_net.specs.Nodes.{node_cmp}
-use Rattle.fm_net.specs.Same.{same_node}
+use Rattle.fm_net.specs.NetworkEquality.{same_node}
 use Rattle.fm_certificate.specs.Flows.{Units}
 use Rattle.fm_certificate.proofs.Sums.{sum_same, sum_none, sum_both, part, sum_part}
 

@@ -14,7 +14,7 @@ use Rattle.fm_net.specs.Nodes.{node_cmp, ends_cmp}
 use Rattle.fm_net.specs.NodeOrder.{node_exact, node_total, ends_exact, ends_total}
 use Rattle.fm_net.specs.ListLaws.{has_member, member_has}
 use Rattle.fm_net.specs.Net.{Net, CanBeNet, IsArc, IsArcKind, has_node, arc_at}
-use Rattle.fm_net.specs.Same.{same_node}
+use Rattle.fm_net.specs.NetworkEquality.{same_node}
 use Rattle.fm_certificate.proofs.Alike.{other_node}
 use Rattle.fm_certificate.specs.Flows.{Units, units_in, leaving, entering, IsFeasible, IsLeast}
 use Rattle.fm_certificate.specs.Certificates.{potential_in, reduced_cost, IsCertified}

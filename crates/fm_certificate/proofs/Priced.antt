@@ -17,7 +17,7 @@ use Rattle.fm_net.specs.Network.{is_held, is_live_of, waits_for, is_node, places
 use Rattle.fm_net.specs.NetworkLaws.{came_from, mapped_from, where_true, preferred_from, is_network_of}
 use Rattle.fm_net.specs.BoundLaws.{state_ranges}
 use Rattle.fm_certificate.specs.Flows.{Units, cost_of, IsFeasible}
-use Rattle.fm_certificate.specs.Built.{IsBuilt}
+use Rattle.fm_certificate.specs.PolicyNetwork.{IsBuilt}
 use Rattle.fm_certificate.proofs.Exchange.{Arc}
 use Rattle.fm_certificate.proofs.Least.{arc_member}
 

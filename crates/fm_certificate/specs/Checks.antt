@@ -6,8 +6,8 @@ use Rattle.fm_net.specs.declared.node.Node.TheVariants.{Sink, Unscheduled, Reque
 use Rattle.fm_certificate.specs.Certificates.{potential_in, reduced_cost}
 use Rattle.fm_certificate.specs.Totals.{Entry, source, target, units_at}
 
-abbrev pub Arc : Type 0
-Arc = (Node × Node) × (ℕ × ℕ)
+abbrev pub PricedArc : Type 0
+PricedArc = (Node × Node) × (ℕ × ℕ)
 
 -- the potentials are of these nodes, in turn, and none is beyond 2^100 in size
 abbrev pub AreOf : List (Node × ℤ) → List Node → Type 0
@@ -16,18 +16,18 @@ AreOf (e ∷ es) (n ∷ ns) = (e.0 ≡ n) × (unsigned_abs e.1 ≤ 2 ^ 100) × A
 AreOf _ _ = ⊥
 
 -- units within the capacity, where a further unit saves nothing, and neither does one less
-pub record Fits (units capacity : ℕ) (reduced : ℤ) : Type 0 where
+pub record IsComplementary (units capacity : ℕ) (reduced : ℤ) : Type 0 where
   pub within : units ≤ capacity
   pub no_gain : units < capacity → pos 0 ≤ℤ reduced
   pub no_waste : 0 < units → reduced ≤ℤ pos 0
 
-abbrev pub reduced_at : List (Node × ℤ) → Arc → ℤ
+abbrev pub reduced_at : List (Node × ℤ) → PricedArc → ℤ
 reduced_at potentials a = reduced_cost a.1.1 (potential_in potentials a.0.0) (potential_in potentials a.0.1)
 
 -- the units are of these arcs, in turn, and fit them
-abbrev pub FitAll : List (Node × ℤ) → List Entry → List Arc → Type 0
+abbrev pub FitAll : List (Node × ℤ) → List Entry → List PricedArc → Type 0
 FitAll potentials [] [] = Unit {0}
-FitAll potentials (e ∷ es) (a ∷ arcs) = (e.0 ≡ a.0) × Fits e.1 a.1.0 (reduced_at potentials a) × FitAll potentials es arcs
+FitAll potentials (e ∷ es) (a ∷ arcs) = (e.0 ≡ a.0) × IsComplementary e.1 a.1.0 (reduced_at potentials a) × FitAll potentials es arcs
 FitAll potentials _ _ = ⊥
 
 -- whether a node sends what it has to: a task one unit, and a node between tasks and sink what enters it

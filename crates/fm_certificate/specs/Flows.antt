@@ -7,7 +7,7 @@ use Rattle.fm_net.specs.declared.node.Node.{Node}
 use Rattle.fm_net.specs.declared.node.Node.TheVariants.{Sink, Unscheduled, Request, Machine, Task}
 use Rattle.fm_net.specs.Nodes.{ends_cmp}
 use Rattle.fm_net.specs.Net.{Net, has_node, arc_at}
-use Rattle.fm_net.specs.Same.{same_node}
+use Rattle.fm_net.specs.NetworkEquality.{same_node}
 
 -- a flow gives the arc from one node to another its units
 abbrev pub Units : Type 0

@@ -1,6 +1,6 @@
 pub mod Flows
 pub mod Certificates
 pub mod Totals
-pub mod Sources
+pub mod Outflow
 pub mod Checks
-pub mod Built
+pub mod PolicyNetwork

@@ -5,15 +5,15 @@ use Rattle.fm_lattice.specs.Maps.{lookup, IsRising, AreValues}
 use Rattle.fm_records.specs.Options.{or_else}
 use Rattle.fm_net.specs.declared.node.Node.{Node}
 use Rattle.fm_net.specs.Nodes.{node_cmp, ends_cmp}
-use Rattle.fm_net.specs.Same.{same_node}
+use Rattle.fm_net.specs.NetworkEquality.{same_node}
 
 -- units by the ends of their arc
 abbrev pub Entry : Type 0
 Entry = (Node × Node) × ℕ
 
 -- the entry that a walk gives
-abbrev pub entry : Node × Node × ℕ → Entry
-entry e = ((e.0, e.1), e.2)
+abbrev pub walk_entry : Node × Node × ℕ → Entry
+walk_entry e = ((e.0, e.1), e.2)
 
 abbrev pub source : Node × Node → Node
 source ends = ends.0

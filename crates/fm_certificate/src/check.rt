@@ -4,7 +4,7 @@ ghost use Rattle.std.specs.Prelude.{◌≡◌, ◌↔◌, ◌≤◌, IsTrue};
 ghost use Rattle.std.specs.List.{list_all};
 ghost use Rattle.fm_certificate.specs.Flows.{units_in, IsLeast};
 ghost use Rattle.fm_certificate.specs.Certificates.{potential_in, reduced_cost, AreSmall, IsCertified};
-ghost use Rattle.fm_certificate.specs.Checks.{Fits, FitAll, AreOf, sends};
+ghost use Rattle.fm_certificate.specs.Checks.{IsComplementary, FitAll, AreOf, sends};
 
 use crate::flow::Flow;
 use crate::potentials::Potentials;
@@ -61,7 +61,7 @@ fn reduced(potentials: &Potentials, from: &Node, to: &Node, cost: u32) -> i128
 
 // Whether the units are within the capacity, a further one saves nothing, and neither does one less.
 fn fits(units: u64, capacity: u64, reduced: i128) -> bool
-    ensures { IsTrue result ↔ Fits units capacity reduced }
+    ensures { IsTrue result ↔ IsComplementary units capacity reduced }
 {
     units <= capacity && (units == capacity || reduced >= 0) && (units == 0 || reduced <= 0)
 }

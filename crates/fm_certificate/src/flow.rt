@@ -5,11 +5,11 @@ ghost use Rattle.fm_lattice.specs.Maps.{lookup, put, keep_new, IsRising};
 ghost use Rattle.fm_net.specs.Nodes.{ends_cmp, node_cmp};
 ghost use Rattle.fm_certificate.specs.Totals.{source, target, units_at, IsTotalled};
 
-use crate::entries::Entries;
-use crate::sources::sum_from;
-use crate::totals::{change, make_room, total_of, totals_of};
+use crate::flow_iter::FlowIter;
+use crate::outflow::sum_from;
+use crate::inflow::{change, make_room, total_of, totals_of};
 use fm_lattice::join::OutOfMemory;
-use fm_lattice::rising::{set, value_at, value_near};
+use fm_lattice::sorted_vec::{insert, get, get_hinted};
 use fm_net::node::Node;
 use std::alloc::Global;
 use std::collections::BTreeMap;
@@ -69,7 +69,7 @@ impl Flow {
         ensures err { OnErr result (self.new ≡ self.old) }
     {
         make_room(&mut self.entering, to, units)?;
-        let old = set(&mut self.units, (from, to), units)?.unwrap_or(0);
+        let old = insert(&mut self.units, (from, to), units)?.unwrap_or(0);
         change(&mut self.entering, to, old, units);
         Ok(())
     }
@@ -78,7 +78,7 @@ impl Flow {
     pub fn units(&self, from: Node, to: Node) -> Option<u64>
         ensures { result ≡ lookup ends_cmp (from, to) self.now }
     {
-        value_at(&self.units, &(from, to))
+        get(&self.units, &(from, to))
     }
 
     /// As `units`, whatever place is given: if the key has that place among the flow's keys, as the arcs of a network
@@ -86,15 +86,15 @@ impl Flow {
     pub fn units_near(&self, near: usize, from: Node, to: Node) -> Option<u64>
         ensures { result ≡ lookup ends_cmp (from, to) self.now }
     {
-        value_near(&self.units, near, &(from, to))
+        get_hinted(&self.units, near, &(from, to))
     }
 
     /// The units, as (from, to, units), by (from, to).
-    pub fn iter(&self) -> Entries<'_>
+    pub fn iter(&self) -> FlowIter<'_>
         ensures all { result ≡ self.now }
         ensures fits { length self.now < 2 ^ 63 }
     {
-        Entries::of(&self.units)
+        FlowIter::of(&self.units)
     }
 
     /// What is known of every flow: its keys rise.

@@ -3,9 +3,9 @@
 
 pub mod check;
 pub mod cost;
-pub mod entries;
+pub mod flow_iter;
 pub mod flow;
 pub mod laws;
 pub mod potentials;
-mod sources;
-mod totals;
+mod outflow;
+mod inflow;

@@ -7,7 +7,7 @@ ghost use Rattle.fm_certificate.specs.Certificates.{potential_in};
 ghost use Rattle.fm_certificate.specs.Checks.{AreOf};
 
 use fm_lattice::join::OutOfMemory;
-use fm_lattice::rising::{set, value_at};
+use fm_lattice::sorted_vec::{insert, get};
 use fm_net::network::Network;
 use fm_net::node::Node;
 use std::alloc::Global;
@@ -59,7 +59,7 @@ impl Potentials {
         ensures ok { OnOk result (self.new ≡ put node_cmp keep_new node potential self.old) }
         ensures err { OnErr result (self.new ≡ self.old) }
     {
-        set(&mut self.values, node, potential)?;
+        insert(&mut self.values, node, potential)?;
         Ok(())
     }
 
@@ -67,7 +67,7 @@ impl Potentials {
     pub fn at(&self, node: &Node) -> Option<i128>
         ensures { result ≡ lookup node_cmp node.now self.now }
     {
-        value_at(&self.values, node)
+        get(&self.values, node)
     }
 
     /// The node's potential; 0 if it has none. O(log n).

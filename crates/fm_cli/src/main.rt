@@ -5,7 +5,7 @@ use fm_dimacs::out::Over;
 use fm_records::refusal::Refusal;
 use fm_serve::ending::Ending;
 use fm_serve::fault::Fault;
-use fm_serve::progress::Progress;
+use fm_serve::progress::RunProgress;
 use fm_serve::serve::serve;
 use fm_serve::watch::serve_watched;
 use fm_io::source::Input;
@@ -25,7 +25,7 @@ fn main(rt: HostRuntime) -> ExitCode {
                 serve_watched(&rt, alloc, &words, source, sink).0
             } else {
                 let (mut source, mut sink) = (source, sink);
-                serve(&rt, alloc, &Progress::new(), &words, &mut source, &mut sink)
+                serve(&rt, alloc, &RunProgress::new(), &words, &mut source, &mut sink)
             }
         }
         (Ok(_), Err(_)) => Ending::Stopped(Fault::from(Refusal::OutOfMemory)),

@@ -6,8 +6,8 @@ use Rattle.fm_records.specs.declared.ops.Field.TheVariants.{Writer}
 use Rattle.fm_records.specs.declared.refusal.Refusal.{Refusal}
 use Rattle.fm_records.specs.declared.refusal.Refusal.TheVariants.{BadOp, HistoryFull, BadInterval, Trimmed}
 use Rattle.fm_records.specs.Know.{know}
-use Rattle.fm_round.specs.declared.parts.Plan.{Plan}
-use Rattle.fm_round.specs.declared.parts.Answer.TheVariants.{Accepted}
+use Rattle.fm_round.specs.declared.plan.Plan.{Plan}
+use Rattle.fm_round.specs.declared.plan.Answer.TheVariants.{Accepted}
 use Rattle.fm_round.specs.Admission.{told}
 use Rattle.fm_coord.specs.declared.entry.Call.{Call}
 use Rattle.fm_coord.specs.declared.entry.Call.TheVariants as call
@@ -17,7 +17,7 @@ use Rattle.fm_coord.specs.declared.entry.Range.TheVariants.{Interval, Full}
 use Rattle.fm_coord.specs.Events.{Replica, opening, packet_of, admitted_by}
 use Rattle.fm_coord.specs.Causes.{cause, bounds_of}
 use Rattle.fm_coord.specs.Replays.{seen_packet, replay, IsLegal}
-use Rattle.fm_coord.specs.States.{entry}
+use Rattle.fm_coord.specs.States.{history_entry}
 
 abbrev job : Op
 job = op.Job 1 1 1 false 500 800
@@ -29,7 +29,7 @@ abbrev task : Op
 task = op.Spec 17 1 1 false 1 100 []
 
 abbrev tells : Op → Entry
-tells o = entry 0 (call.Tell o) reply.Nothing
+tells o = history_entry 0 (call.Tell o) reply.Nothing
 
 -- three tells, at a limit
 abbrev three : List Entry
@@ -52,7 +52,7 @@ kept = refl
 cut_of_two : packet_of (after_three 10) (Interval 1 3) ≡ record { sender = 1; number = 1; set = machine ∷ task ∷ [] }
 cut_of_two = refl
 
-next_cut : packet_of (replay (after_three 10) (entry 0 (call.Cut Full) (reply.Packet (seen_packet (packet_of (after_three 10) Full))) ∷ [])) (Interval 0 1) ≡ record { sender = 1; number = 2; set = job ∷ [] }
+next_cut : packet_of (replay (after_three 10) (history_entry 0 (call.Cut Full) (reply.Packet (seen_packet (packet_of (after_three 10) Full))) ∷ [])) (Interval 0 1) ≡ record { sender = 1; number = 2; set = job ∷ [] }
 next_cut = refl
 
 -- an empty interval at the end is cut; one that runs backwards or beyond the end is not
@@ -67,7 +67,7 @@ beyond = refl
 
 -- with the floor at 2: the interval is looked at before the floor, and the floor does not fall
 abbrev trimmed : Replica
-trimmed = replay (after_three 10) (entry 0 (call.Trim 2) reply.Nothing ∷ [])
+trimmed = replay (after_three 10) (history_entry 0 (call.Trim 2) reply.Nothing ∷ [])
 
 below : cause_at trimmed (call.Cut (Interval 1 3)) ≡ Some (Trimmed 2)
 below = refl
@@ -93,11 +93,11 @@ full_and_backwards = refl
 
 -- a view after three tells shows their count and what they come to
 
-viewed : IsLegal (opening 1 10) (three ++ entry 0 call.View (reply.Seen 3 (know (job ∷ machine ∷ task ∷ []))) ∷ [])
+viewed : IsLegal (opening 1 10) (three ++ history_entry 0 call.View (reply.Seen 3 (know (job ∷ machine ∷ task ∷ []))) ∷ [])
 viewed = (record { accepted = refl; reply = refl }, (record { accepted = refl; reply = refl }, (record { accepted = refl; reply = refl }, (record { accepted = refl; reply = refl }, tt))))
 
 -- a packet that is merged adds what its value spells out, as one set
-merged : (replay (opening 2 10) (entry 0 (call.Merge (record { sender = 1; number = 3; value = know (machine ∷ job ∷ []) })) reply.Nothing ∷ [])).buffer ≡ (job ∷ machine ∷ []) ∷ []
+merged : (replay (opening 2 10) (history_entry 0 (call.Merge (record { sender = 1; number = 3; value = know (machine ∷ job ∷ []) })) reply.Nothing ∷ [])).buffer ≡ (job ∷ machine ∷ []) ∷ []
 merged = refl
 
 -- a plan that places the task on the machine is admitted, and its proposal taken in
@@ -108,6 +108,6 @@ placed : admitted_by (after_three 10) plan ≡ record { ops = op.Propose 17 0 1 
 unfolding told
 placed = refl
 
-committed : (replay (after_three 10) (entry 0 (call.Commit plan) (reply.Admitted (record { ops = op.Propose 17 0 1 10 1 ∷ []; answers = Accepted ∷ [] })) ∷ [])).taken ≡ job ∷ machine ∷ task ∷ op.Propose 17 0 1 10 1 ∷ []
+committed : (replay (after_three 10) (history_entry 0 (call.Commit plan) (reply.Admitted (record { ops = op.Propose 17 0 1 10 1 ∷ []; answers = Accepted ∷ [] })) ∷ [])).taken ≡ job ∷ machine ∷ task ∷ op.Propose 17 0 1 10 1 ∷ []
 unfolding told
 committed = refl

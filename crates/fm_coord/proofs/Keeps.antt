@@ -2,10 +2,10 @@
 use Rattle.std.proofs.Common.{◌≡◌, ◌≤◌, ◌<◌, ℕ, ◌+◌, false, nat_le, List, [], ◌∷◌, ◌++◌, None, length, refl, sym, ap, ◌∙◌, subst, arith, length-append, rules, tests}
 use Rattle.fm_records.specs.declared.ops.Op.{Op}
 use Rattle.fm_records.specs.Know.{know}
-use Rattle.fm_records.specs.Spelled.{IsTable}
+use Rattle.fm_records.specs.OpsOfTable.{IsTable}
 use Rattle.fm_records.specs.SpelledLaws.{know_ops}
 use Rattle.fm_delta.specs.declared.packet.Packet.{Packet}
-use Rattle.fm_round.specs.declared.parts.Plan.{Plan}
+use Rattle.fm_round.specs.declared.plan.Plan.{Plan}
 use Rattle.fm_round.specs.Admission.{admission}
 use Rattle.fm_coord.specs.declared.entry.Call.{Call}
 use Rattle.fm_coord.specs.declared.entry.Call.TheVariants as call
@@ -16,8 +16,8 @@ use Rattle.fm_coord.specs.Events.{Event, Replica, opening, after_event, admitted
 use Rattle.fm_coord.specs.Events as event
 use Rattle.fm_coord.specs.Causes.{cause, Bounds}
 use Rattle.fm_coord.specs.Replays.{call_of, event_of, reply_of, after_entry, replay, IsLegal}
-use Rattle.fm_coord.specs.States.{State, new_state, entry, bounds, took, gave, let_go, with_entry, cut_packet, after, StandsFor, replay_of, IsCoordinator}
-use Rattle.fm_coord.specs.StepLaws.{no_fault, has_room, test_failed, replay_more, legal_more, many, same_bounds, packet_is, stands_after}
+use Rattle.fm_coord.specs.States.{State, new_state, history_entry, bounds, took, gave, after_trim, with_entry, cut_packet, after, StandsFor, replay_of, IsCoordinator}
+use Rattle.fm_coord.specs.StepLaws.{no_fault, second_is_none, test_failed, replay_more, legal_more, many, same_bounds, packet_is, stands_after}
 
 pub new_is : (number limit : ℕ) → IsCoordinator (new_state number limit)
 new_is number limit = record {
@@ -93,7 +93,7 @@ module _ (s : State) (e : Entry) where
 
 -- there is room for an entry if the call has no cause
 room_left : (b : Bounds) (c : Call) → cause b c ≡ None → b.entries < b.limit
-room_left b c h = below b.limit b.entries (test_failed _ _ _ (has_room _ _ h))
+room_left b c h = below b.limit b.entries (test_failed _ _ _ (second_is_none _ _ h))
 
 module _ (s : State) (is : IsCoordinator s) (e : Entry) (t : HasTable e.call) (h : cause (bounds s) e.call ≡ None) (replied : e.reply ≡ reply_of (replay_of s) (event_of e.call)) where
   abbrev start : Replica
@@ -146,26 +146,26 @@ module _ (s : State) (is : IsCoordinator s) (e : Entry) (t : HasTable e.call) (h
 -- call by call
 
 module _ (s : State) (is : IsCoordinator s) (by : ℕ) where
-  pub keeps_tell : (op : Op) → cause (bounds s) (call.Tell op) ≡ None → IsCoordinator (took s (know (op ∷ [])) (entry by (call.Tell op) reply.Nothing))
-  keeps_tell op h = keeps s is (entry by (call.Tell op) reply.Nothing) tt h refl
+  pub keeps_tell : (op : Op) → cause (bounds s) (call.Tell op) ≡ None → IsCoordinator (took s (know (op ∷ [])) (history_entry by (call.Tell op) reply.Nothing))
+  keeps_tell op h = keeps s is (history_entry by (call.Tell op) reply.Nothing) tt h refl
 
-  pub keeps_merge : (p : Packet) → IsTable p.value → cause (bounds s) (call.Merge p) ≡ None → IsCoordinator (took s p.value (entry by (call.Merge p) reply.Nothing))
-  keeps_merge p t h = keeps s is (entry by (call.Merge p) reply.Nothing) t h refl
+  pub keeps_merge : (p : Packet) → IsTable p.value → cause (bounds s) (call.Merge p) ≡ None → IsCoordinator (took s p.value (history_entry by (call.Merge p) reply.Nothing))
+  keeps_merge p t h = keeps s is (history_entry by (call.Merge p) reply.Nothing) t h refl
 
-  pub keeps_cut : (range : Range) → cause (bounds s) (call.Cut range) ≡ None → IsCoordinator (gave s (entry by (call.Cut range) (reply.Packet (cut_packet s range))))
-  keeps_cut range h = keeps s is (entry by (call.Cut range) (reply.Packet (cut_packet s range))) tt h (ap (λ (p : Packet). reply.Packet p) (packet_is s (replay_of s) is.stands range (no_fault _ _ h)))
+  pub keeps_cut : (range : Range) → cause (bounds s) (call.Cut range) ≡ None → IsCoordinator (gave s (history_entry by (call.Cut range) (reply.Packet (cut_packet s range))))
+  keeps_cut range h = keeps s is (history_entry by (call.Cut range) (reply.Packet (cut_packet s range))) tt h (ap (λ (p : Packet). reply.Packet p) (packet_is s (replay_of s) is.stands range (no_fault _ _ h)))
 
-  pub keeps_trim : (n : ℕ) → cause (bounds s) (call.Trim n) ≡ None → IsCoordinator (let_go s n (entry by (call.Trim n) reply.Nothing))
-  keeps_trim n h = keeps s is (entry by (call.Trim n) reply.Nothing) tt h refl
+  pub keeps_trim : (n : ℕ) → cause (bounds s) (call.Trim n) ≡ None → IsCoordinator (after_trim s n (history_entry by (call.Trim n) reply.Nothing))
+  keeps_trim n h = keeps s is (history_entry by (call.Trim n) reply.Nothing) tt h refl
 
-  pub keeps_view : cause (bounds s) call.View ≡ None → IsCoordinator (with_entry s (entry by call.View (reply.Seen (length s.history) s.knowledge)))
+  pub keeps_view : cause (bounds s) call.View ≡ None → IsCoordinator (with_entry s (history_entry by call.View (reply.Seen (length s.history) s.knowledge)))
   keeps_view h =
       let at = many s (replay_of s) is.stands in
       let known = is.stands.knowledge in
-      keeps s is (entry by call.View (reply.Seen (length s.history) s.knowledge)) tt h (λ i. reply.Seen (at i) (known i))
+      keeps s is (history_entry by call.View (reply.Seen (length s.history) s.knowledge)) tt h (λ i. reply.Seen (at i) (known i))
 
-  pub keeps_commit : (plan : Plan) → cause (bounds s) (call.Commit plan) ≡ None → IsCoordinator (took s (know (admission s.knowledge s.number plan).ops) (entry by (call.Commit plan) (reply.Admitted (admission s.knowledge s.number plan))))
+  pub keeps_commit : (plan : Plan) → cause (bounds s) (call.Commit plan) ≡ None → IsCoordinator (took s (know (admission s.knowledge s.number plan).ops) (history_entry by (call.Commit plan) (reply.Admitted (admission s.knowledge s.number plan))))
   keeps_commit plan h =
       let known = is.stands.knowledge in
       let number = is.stands.number in
-      keeps s is (entry by (call.Commit plan) (reply.Admitted (admission s.knowledge s.number plan))) tt h (λ i. reply.Admitted (admission (known i) (number i) plan))
+      keeps s is (history_entry by (call.Commit plan) (reply.Admitted (admission s.knowledge s.number plan))) tt h (λ i. reply.Admitted (admission (known i) (number i) plan))

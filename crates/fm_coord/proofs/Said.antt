@@ -8,8 +8,8 @@ use Rattle.fm_records.specs.declared.ops.Op.{Op}
 use Rattle.fm_records.specs.declared.refusal.Refusal.{Refusal}
 use Rattle.fm_records.specs.LookupLaws.{both_true}
 use Rattle.fm_records.specs.Ops.{op_fault}
-use Rattle.fm_records.specs.Ranges.{fits, in_range, all_in_range}
-use Rattle.fm_round.specs.declared.parts.Admitted.{Admitted}
+use Rattle.fm_records.specs.Ranges.{fields_fit, in_range, all_in_range}
+use Rattle.fm_round.specs.declared.plan.Admitted.{Admitted}
 use Rattle.fm_dimacs.specs.Sending.{AppendsPrefix, IsSent}
 use Rattle.fm_coord.specs.States.{WithKeeper}
 
@@ -18,7 +18,7 @@ pub faultless : (os : List Op) → all_in_range os ≡ true → list_all (λ op.
 faultless [] h = refl
 faultless (o ∷ os) h =
     let both = both_true (in_range o) (all_in_range os) h in
-    let here = both_true (fits o) (is_none (op_fault o)) both.0 in
+    let here = both_true (fields_fit o) (is_none (op_fault o)) both.0 in
     let rest = faultless os both.1 in
     λ i. here.1 i && rest i
 

@@ -13,14 +13,14 @@ use Rattle.fm_records.specs.Ranges.{CanBe}
 use Rattle.fm_records.specs.Joined.{table_join}
 use Rattle.fm_policy.specs.Changes.{Keys, changed_keys, changed_tasks, joined_keys}
 use Rattle.fm_policy.specs.ChangeLaws.{task_same, proposal_same}
-use Rattle.fm_policy.specs.Keeping.{TookIn}
+use Rattle.fm_policy.specs.Keeping.{FollowsAfter}
 use Rattle.fm_policy.specs.KeepingLaws.{took_on}
 use Rattle.fm_tally.specs.declared.unfinished.UnfinishedTask.{UnfinishedTask}
 use Rattle.fm_tally.specs.Unfinished.{AreUnfinished, AreBehind}
 
 -- the tasks were those of what was known before one delta, and the table is what is known with it
 abbrev pub Follow : Table → Keys → List (ℕ × UnfinishedTask) → Type 0
-Follow k pending tasks = TookIn true (λ before. AreUnfinished before tasks) k pending
+Follow k pending tasks = FollowsAfter true (λ before. AreUnfinished before tasks) k pending
 
 pub are_behind : (k : Table) (pending : Keys) (tasks : List (ℕ × UnfinishedTask)) → Follow k pending tasks → AreBehind k pending.tasks tasks
 are_behind k pending tasks t =
@@ -38,6 +38,6 @@ are_behind k pending tasks t =
 -- one more delta was told
 pub follow_on : ((k l : Table) → CanBe k → CanBe l → changed_keys (table_join k l) ≡ joined_keys (changed_keys k) (changed_keys l))
     → (o : Option (List (ℕ × UnfinishedTask))) (old keys new : Keys) (now : Table) → new ≡ joined_keys old keys
-    → TookIn true (λ k. IfSome o (Follow k old)) now keys → IfSome o (Follow now new)
+    → FollowsAfter true (λ k. IfSome o (Follow k old)) now keys → IfSome o (Follow now new)
 follow_on joins None old keys new now is t = tt
 follow_on joins (Some tasks) old keys new now is t = took_on joins (λ before. AreUnfinished before tasks) old keys new now is t

@@ -40,13 +40,13 @@ abbrev pub room_fault : Bounds → Option Refusal
 room_fault b = when (nat_le b.limit b.entries) HistoryFull
 
 -- the one if there is one, else the other
-abbrev pub first_of : {A : Type 0} → Option A → Option A → Option A
-first_of None b = b
-first_of (Some a) b = Some a
+abbrev pub first_some : {A : Type 0} → Option A → Option A → Option A
+first_some None b = b
+first_some (Some a) b = Some a
 
 -- the cause for which a call is refused, unless memory ran out: what is wrong with it, else a full history
 abbrev pub cause : Bounds → Call → Option Refusal
-cause b c = first_of (call_fault b c) (room_fault b)
+cause b c = first_some (call_fault b c) (room_fault b)
 
 -- the refusal of a call that is refused: its cause, and out of memory if it has none
 abbrev pub refusal_for : Bounds → Call → Refusal

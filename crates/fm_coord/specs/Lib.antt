@@ -4,6 +4,6 @@ pub mod Causes
 pub mod Replays
 pub mod States
 pub mod Tallied
-pub mod Answers
+pub mod Outputs
 pub mod StepLaws
-pub mod SameLaws
+pub mod StateEqualityLaws

@@ -1,7 +1,7 @@
 -- Histories, and the replicas that they replay to.
 use Rattle.std.specs.Prelude.{◌≡◌, List, [], ◌∷◌, length, None}
 use Rattle.fm_records.specs.Know.{know}
-use Rattle.fm_records.specs.Spelled.{ops}
+use Rattle.fm_records.specs.OpsOfTable.{ops}
 use Rattle.fm_delta.specs.declared.packet.Packet.{Packet}
 use Rattle.fm_coord.specs.declared.entry.Call.{Call}
 use Rattle.fm_coord.specs.declared.entry.Call.TheVariants as call
@@ -53,11 +53,11 @@ replay r [] = r
 replay r (e ∷ es) = replay (after_entry r e) es
 
 -- the entry's call has no cause of refusal, and its reply is the event's
-pub record Fits (r : Replica) (e : Entry) : Type 0 where
+pub record IsReplayed (r : Replica) (e : Entry) : Type 0 where
   pub accepted : cause (bounds_of r) e.call ≡ None
   pub reply : e.reply ≡ reply_of r (event_of e.call)
 
 -- a history is legal if each entry fits the replica that those before it replay to
 abbrev pub IsLegal : Replica → List Entry → Type 0
 IsLegal r [] = Unit {0}
-IsLegal r (e ∷ es) = Fits r e × IsLegal (after_entry r e) es
+IsLegal r (e ∷ es) = IsReplayed r e × IsLegal (after_entry r e) es

@@ -36,8 +36,8 @@ pub record WithKeeper (N : Type 0) : Type 0 where
 abbrev pub new_state : ℕ → ℕ → State
 new_state number limit = record { number = number; limit = limit; knowledge = know []; deltas = record { floor = 0; kept = [] }; cuts = 0; history = [] }
 
-abbrev pub entry : ℕ → Call → Reply → Entry
-entry by call reply = record { by = by; call = call; reply = reply }
+abbrev pub history_entry : ℕ → Call → Reply → Entry
+history_entry by call reply = record { by = by; call = call; reply = reply }
 
 -- what its refusals depend on
 abbrev pub bounds : State → Bounds
@@ -52,8 +52,8 @@ abbrev pub gave : State → Entry → State
 gave s e = record { number = s.number; limit = s.limit; knowledge = s.knowledge; deltas = s.deltas; cuts = s.cuts + 1; history = s.history ++ e ∷ [] }
 
 -- the deltas below n are dropped
-abbrev pub let_go : State → ℕ → Entry → State
-let_go s n e = record { number = s.number; limit = s.limit; knowledge = s.knowledge; deltas = with_floor s.deltas n; cuts = s.cuts; history = s.history ++ e ∷ [] }
+abbrev pub after_trim : State → ℕ → Entry → State
+after_trim s n e = record { number = s.number; limit = s.limit; knowledge = s.knowledge; deltas = with_floor s.deltas n; cuts = s.cuts; history = s.history ++ e ∷ [] }
 
 -- the entry alone is added
 abbrev pub with_entry : State → Entry → State
@@ -73,7 +73,7 @@ abbrev pub after : State → Entry → Call → State
 after s e (call.Tell op) = took s (know (op ∷ [])) e
 after s e (call.Merge packet) = took s packet.value e
 after s e (call.Cut range) = gave s e
-after s e (call.Trim n) = let_go s n e
+after s e (call.Trim n) = after_trim s n e
 after s e call.View = with_entry s e
 after s e (call.Commit plan) = took s (know (admission s.knowledge s.number plan).ops) e
 
@@ -120,7 +120,7 @@ pub record IsCoordinator (s : State) : Type 0 where
   pub cuts_within : s.cuts ≤ length s.history
 
 -- and its keeper is stale, or for what it knows; if it is said to follow, it follows what is known; and so does its tally
-pub record IsKept (s : State) (fresh : Bool) (is_for : Table → Type 0) (said : Bool) (follows : Table → Type 0) (kept : Tallied) : Type 0 where
+pub record HasKeeper (s : State) (fresh : Bool) (is_for : Table → Type 0) (said : Bool) (follows : Table → Type 0) (kept : Tallied) : Type 0 where
   pub coordinator : IsCoordinator s
   pub keeper : IsTrue fresh → is_for s.knowledge
   pub kept_up : IsTrue said → follows s.knowledge

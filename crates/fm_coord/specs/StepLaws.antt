@@ -8,7 +8,7 @@ use Rattle.fm_records.specs.Know.{know}
 use Rattle.fm_records.specs.Joined.{table_join}
 use Rattle.fm_records.specs.UnionLaws.{know_append}
 use Rattle.fm_delta.specs.Deltas.{end_of, joined_all}
-use Rattle.fm_delta.specs.DeltaLaws.{joined_union}
+use Rattle.fm_delta.specs.GroupLaws.{joined_union}
 use Rattle.fm_round.specs.Admission.{admission}
 use Rattle.fm_coord.specs.declared.entry.Call.{Call}
 use Rattle.fm_coord.specs.declared.entry.Entry.{Entry}
@@ -16,21 +16,21 @@ use Rattle.fm_coord.specs.declared.entry.Range.{Range}
 use Rattle.fm_coord.specs.declared.entry.Range.TheVariants.{Interval, Full}
 use Rattle.fm_coord.specs.Events.{Event, Replica, with_set, with_step, happens, set_of, packet_of, admitted_by}
 use Rattle.fm_coord.specs.Events as event
-use Rattle.fm_coord.specs.Causes.{Bounds, cause, call_fault, range_fault, floor_fault, room_fault, first_of, bounds_of}
-use Rattle.fm_coord.specs.Replays.{seen_packet, call_of, after_entry, replay, Fits, IsLegal}
-use Rattle.fm_coord.specs.States.{State, bounds, took, gave, let_go, with_entry, caller_and_call, step_asked, range_value, cut_packet, after, StandsFor}
+use Rattle.fm_coord.specs.Causes.{Bounds, cause, call_fault, range_fault, floor_fault, room_fault, first_some, bounds_of}
+use Rattle.fm_coord.specs.Replays.{seen_packet, call_of, after_entry, replay, IsReplayed, IsLegal}
+use Rattle.fm_coord.specs.States.{State, bounds, took, gave, after_trim, with_entry, caller_and_call, step_asked, range_value, cut_packet, after, StandsFor}
 
 some_none : {A : Type 0} {P : Type 0} (a : A) → Some a ≡ None → P
 some_none a e = absurd (let no : ⊥ = cc in no)
 
 -- if there is no cause, nothing is wrong with the call, and there is room
-pub no_fault : {A : Type 0} (a b : Option A) → first_of a b ≡ None → a ≡ None
+pub no_fault : {A : Type 0} (a b : Option A) → first_some a b ≡ None → a ≡ None
 no_fault None b h = refl
 no_fault (Some a) b h = some_none a h
 
-pub has_room : {A : Type 0} (a b : Option A) → first_of a b ≡ None → b ≡ None
-has_room None b h = h
-has_room (Some a) b h = some_none a h
+pub second_is_none : {A : Type 0} (a b : Option A) → first_some a b ≡ None → b ≡ None
+second_is_none None b h = h
+second_is_none (Some a) b h = some_none a h
 
 -- where nothing comes of a test, it failed
 pub test_failed : {A : Type 0} (b : Bool) (a : A) (o : Option A) → cond b (Some a) o ≡ None → b ≡ false
@@ -57,7 +57,7 @@ pub replay_more : (r : Replica) (es : List Entry) (e : Entry) → replay r (es +
 replay_more r [] e = refl
 replay_more r (x ∷ es) e = replay_more (after_entry r x) es e
 
-pub legal_more : (r : Replica) (es : List Entry) (e : Entry) → IsLegal r es → Fits (replay r es) e → IsLegal r (es ++ e ∷ [])
+pub legal_more : (r : Replica) (es : List Entry) (e : Entry) → IsLegal r es → IsReplayed (replay r es) e → IsLegal r (es ++ e ∷ [])
 legal_more r [] e h f = (f, tt)
 legal_more r (x ∷ es) e h f = (h.0, legal_more (after_entry r x) es e h.1 f)
 
@@ -114,7 +114,7 @@ module _ (s : State) (r : Replica) (st : StandsFor s r) where
     stands_gave : StandsFor (gave s e) (with_step (record { number = r.number; limit = r.limit; taken = r.taken; buffer = r.buffer; floor = r.floor; cuts = r.cuts + 1; steps = r.steps }) by event)
     stands_gave = record { number = st.number; limit = st.limit; knowledge = st.knowledge; deltas = st.deltas; floor = st.floor; end = st.end; cuts = ap (λ n. n + 1) st.cuts; history = asked_on }
 
-    stands_let_go : (n : ℕ) → r.floor ≤ n → n ≤ length r.buffer → StandsFor (let_go s n e) (with_step (record { number = r.number; limit = r.limit; taken = r.taken; buffer = r.buffer; floor = n; cuts = r.cuts; steps = r.steps }) by event)
+    stands_let_go : (n : ℕ) → r.floor ≤ n → n ≤ length r.buffer → StandsFor (after_trim s n e) (with_step (record { number = r.number; limit = r.limit; taken = r.taken; buffer = r.buffer; floor = n; cuts = r.cuts; steps = r.steps }) by event)
     stands_let_go n above below =
         record {
           number = st.number;
@@ -149,4 +149,4 @@ module _ (s : State) (r : Replica) (st : StandsFor s r) where
 
 -- nothing is wrong with the call, and there is room
 pub no_cause : (b : Bounds) (c : Call) → call_fault b c ≡ None → room_fault b ≡ None → cause b c ≡ None
-no_cause b c fault room = ap (λ o. first_of o (room_fault b)) fault ∙ room
+no_cause b c fault room = ap (λ o. first_some o (room_fault b)) fault ∙ room

@@ -4,10 +4,10 @@ ghost use Rattle.std.specs.Prelude.{◌≡◌, ◌⊎◌, ◌++◌, ◌∷◌, [
 ghost use Rattle.fm_coord.specs.Events.{Event, Replica};
 ghost use Rattle.fm_coord.specs.Causes.{cause, refusal_for};
 ghost use Rattle.fm_coord.specs.Replays.{call_of, reply_of};
-ghost use Rattle.fm_coord.specs.States.{bounds, entry, after, StandsFor, IsEventAt};
-ghost use Rattle.fm_coord.specs.Answers.{reply_to, answer_to};
+ghost use Rattle.fm_coord.specs.States.{bounds, history_entry, after, StandsFor, IsEventAt};
+ghost use Rattle.fm_coord.specs.Outputs.{reply_to, answer_to};
 
-use crate::answer::Answer;
+use crate::output::CallOutput;
 use crate::coordinator::Coordinator;
 use crate::entry::Call;
 use fm_lattice::join::OutOfMemory;
@@ -18,12 +18,12 @@ impl<N: NetKeeper> Coordinator<N> {
     /// Makes the call: as the method of that name, at its cost and with its result. Refused for what is wrong with
     /// the call, else with HistoryFull, else with OutOfMemory. Then nothing has changed, except that a view may have
     /// built a stale network.
-    pub fn call(&mut self, by: u32, call: Call) -> Result<Answer, Refusal>
+    pub fn call(&mut self, by: u32, call: Call) -> Result<CallOutput, Refusal>
         ensures ok { IfOk result (λ answer. self.new.state
-            ≡ after self.old.state (entry by call (reply_to answer)) call) }
+            ≡ after self.old.state (history_entry by call (reply_to answer)) call) }
         ensures answer { IfOk result (λ answer. answer ≡ answer_to self.old.state call) }
         ensures history { IfOk result (λ answer. self.new.state.history
-            ≡ self.old.state.history ++ entry by call (reply_to answer) ∷ []) }
+            ≡ self.old.state.history ++ history_entry by call (reply_to answer) ∷ []) }
         ensures within { IsOk result → cause (bounds self.old.state) call ≡ None }
         ensures event { (r : Replica) (event : Event) → StandsFor self.old.state r → call ≡ call_of event
             → OnOk result (IsEventAt r by event (reply_of r event) self.new.state) }
@@ -34,19 +34,19 @@ impl<N: NetKeeper> Coordinator<N> {
         match call {
             Call::Tell(op) => {
                 self.tell(by, op)?;
-                Ok(Answer::Done)
+                Ok(CallOutput::Done)
             }
             Call::Merge(packet) => {
                 self.merge(by, packet)?;
-                Ok(Answer::Done)
+                Ok(CallOutput::Done)
             }
-            Call::Cut(range) => Ok(Answer::Packet(self.cut(by, range)?)),
+            Call::Cut(range) => Ok(CallOutput::Packet(self.cut(by, range)?)),
             Call::Trim(n) => {
                 self.trim(by, n)?;
-                Ok(Answer::Done)
+                Ok(CallOutput::Done)
             }
-            Call::View => Ok(Answer::View(self.view(by)?)),
-            Call::Commit(plan) => Ok(Answer::Admitted(self.commit(by, plan)?)),
+            Call::View => Ok(CallOutput::View(self.view(by)?)),
+            Call::Commit(plan) => Ok(CallOutput::Admitted(self.commit(by, plan)?)),
         }
     }
 }

@@ -18,11 +18,11 @@ ghost use Rattle.fm_coord.specs.Events.{Sent, Replica, packet_of};
 ghost use Rattle.fm_coord.specs.Events as event;
 ghost use Rattle.fm_coord.specs.Causes.{cause, refusal_for, room_fault, range_fault, floor_fault};
 ghost use Rattle.fm_coord.specs.Replays.{seen_packet};
-ghost use Rattle.fm_coord.specs.States.{new_state, bounds, entry, took, gave, let_go, with_entry, cut_packet, range_value, StandsFor, IsEventAt, IsCoordinator};
+ghost use Rattle.fm_coord.specs.States.{new_state, bounds, history_entry, took, gave, after_trim, with_entry, cut_packet, range_value, StandsFor, IsEventAt, IsCoordinator};
 
 use crate::entry::{Call, Entry, Range, Reply};
 use crate::tallied::Tallied;
-use crate::view::{Look, Sight, View};
+use crate::view::{KnownAt, TallyView, View};
 use fm_delta::buffer::Buffer;
 use fm_delta::packet::Packet;
 use fm_dimacs::dump::dump;
@@ -37,7 +37,7 @@ use fm_records::ids::CoordId;
 use fm_records::ops::Op;
 use fm_records::refusal::Refusal;
 use fm_round::admission::{admit, admit_by};
-use fm_round::parts::{Admitted, Plan};
+use fm_round::plan::{Admitted, Plan};
 use fm_tally::tally::Tally;
 use std::alloc::Global;
 use std::marker::Model;
@@ -60,7 +60,7 @@ pub struct Coordinator<N: NetKeeper> {
 }
 
 impl<N: NetKeeper> Model for Coordinator<N> {
-    ghost use Rattle.fm_coord.specs.States.{WithKeeper, IsKept};
+    ghost use Rattle.fm_coord.specs.States.{WithKeeper, HasKeeper};
 
     ghost Value = { WithKeeper N };
 
@@ -76,7 +76,7 @@ impl<N: NetKeeper> Model for Coordinator<N> {
       keeper = a.keeper;
     } };
 
-    ghost invariant = { λ a. IsKept (record {
+    ghost invariant = { λ a. HasKeeper (record {
       number = a.number;
       limit = a.limit;
       knowledge = a.knowledge;
@@ -217,8 +217,8 @@ impl<N: NetKeeper> Coordinator<N> {
 
     // Takes a delta in with its entry, or does nothing.
     fn take_in(&mut self, delta: Knowledge, entry: Entry) -> Result<(), OutOfMemory>
-        requires { IsCoordinator (took self.old.state delta entry) }
-        ensures ok { OnOk result (self.new.state ≡ took self.old.state delta entry) }
+        requires { IsCoordinator (took self.old.state delta history_entry) }
+        ensures ok { OnOk result (self.new.state ≡ took self.old.state delta history_entry) }
         ensures keeper { OnOk result (N.absorbs self.old.keeper (changed_keys delta) self.new.keeper) }
         ensures err { OnErr result (self.new ≡ self.old) }
     {
@@ -242,7 +242,7 @@ impl<N: NetKeeper> Coordinator<N> {
     /// OutOfMemory; then nothing has changed.
     pub fn tell(&mut self, by: u32, op: Op) -> Result<(), Refusal>
         ensures ok { OnOk result (self.new.state
-            ≡ took self.old.state (know (op ∷ [])) (entry by (Call.Tell op) Reply.Nothing)) }
+            ≡ took self.old.state (know (op ∷ [])) (history_entry by (Call.Tell op) Reply.Nothing)) }
         ensures keeper { OnOk result (N.absorbs self.old.keeper (changed_keys (know (op ∷ []))) self.new.keeper) }
         ensures within { IsOk result → cause (bounds self.old.state) (Call.Tell op) ≡ None }
         ensures event { (r : Replica) → StandsFor self.old.state r
@@ -267,7 +267,7 @@ impl<N: NetKeeper> Coordinator<N> {
     /// records. HistoryFull, OutOfMemory; then nothing has changed.
     pub fn merge(&mut self, by: u32, mut packet: Packet) -> Result<(), Refusal>
         ensures ok { OnOk result (self.new.state
-            ≡ took self.old.state packet.value (entry by (Call.Merge packet) Reply.Nothing)) }
+            ≡ took self.old.state packet.value (history_entry by (Call.Merge packet) Reply.Nothing)) }
         ensures keeper { OnOk result (N.absorbs self.old.keeper (changed_keys packet.value) self.new.keeper) }
         ensures within { IsOk result → cause (bounds self.old.state) (Call.Merge packet) ≡ None }
         ensures event { (r : Replica) (sent : Sent) → StandsFor self.old.state r → packet ≡ seen_packet sent
@@ -293,7 +293,7 @@ impl<N: NetKeeper> Coordinator<N> {
     /// nothing has changed.
     pub fn cut(&mut self, by: u32, range: Range) -> Result<Shared<Packet>, Refusal>
         ensures ok { IfOk result (λ packet. self.new.state
-            ≡ gave self.old.state (entry by (Call.Cut range) (Reply.Packet packet))) }
+            ≡ gave self.old.state (history_entry by (Call.Cut range) (Reply.Packet packet))) }
         ensures packet { IfOk result (λ packet. packet ≡ cut_packet self.old.state range) }
         ensures keeper { self.new.keeper ≡ self.old.keeper }
         ensures within { IsOk result → cause (bounds self.old.state) (Call.Cut range) ≡ None }
@@ -374,7 +374,7 @@ impl<N: NetKeeper> Coordinator<N> {
     /// Drops the deltas below n, which then can no longer be cut. BadInterval if n is below the floor or above the
     /// end, HistoryFull, OutOfMemory; then nothing has changed.
     pub fn trim(&mut self, by: u32, n: u64) -> Result<(), Refusal>
-        ensures ok { OnOk result (self.new.state ≡ let_go self.old.state n (entry by (Call.Trim n) Reply.Nothing)) }
+        ensures ok { OnOk result (self.new.state ≡ after_trim self.old.state n (history_entry by (Call.Trim n) Reply.Nothing)) }
         ensures keeper { self.new.keeper ≡ self.old.keeper }
         ensures within { IsOk result → cause (bounds self.old.state) (Call.Trim n) ≡ None }
         ensures event { (r : Replica) → StandsFor self.old.state r
@@ -401,7 +401,7 @@ impl<N: NetKeeper> Coordinator<N> {
     /// OutOfMemory; then nothing has changed, except that a stale network may have been built.
     pub fn view(&mut self, by: u32) -> Result<View, Refusal>
         ensures ok { IfOk result (λ view. self.new.state
-            ≡ with_entry self.old.state (entry by Call.View (Reply.Seen view.at view.knowledge))) }
+            ≡ with_entry self.old.state (history_entry by Call.View (Reply.Seen view.at view.knowledge))) }
         ensures at { IfOk result (λ view. view.at ≡ length self.old.state.history) }
         ensures knowledge { IfOk result (λ view. view.knowledge ≡ self.old.state.knowledge) }
         ensures network { IfOk result (λ view. view.network ≡ net_of self.old.state.knowledge) }
@@ -427,9 +427,9 @@ impl<N: NetKeeper> Coordinator<N> {
     /// As `view`, with the tally in place of the network: a stale network stays stale. The history has the same entry.
     /// It costs what `refresh_tally` does, and sharing what is known, as a view does. The tally is shared by a pointer.
     /// HistoryFull, OutOfMemory; then nothing has changed.
-    pub fn see(&mut self, by: u32) -> Result<Sight, Refusal>
+    pub fn see(&mut self, by: u32) -> Result<TallyView, Refusal>
         ensures ok { IfOk result (λ sight. self.new.state
-            ≡ with_entry self.old.state (entry by Call.View (Reply.Seen sight.at sight.knowledge))) }
+            ≡ with_entry self.old.state (history_entry by Call.View (Reply.Seen sight.at sight.knowledge))) }
         ensures at { IfOk result (λ sight. sight.at ≡ length self.old.state.history) }
         ensures knowledge { IfOk result (λ sight. sight.knowledge ≡ self.old.state.knowledge) }
         ensures tally { IfOk result (λ sight. TallyIsFor sight.knowledge sight.tally) }
@@ -443,7 +443,7 @@ impl<N: NetKeeper> Coordinator<N> {
         self.check_room()?;
         let tally = self.fresh_tally()?;
         let look = self.look(by)?;
-        Ok(Sight {
+        Ok(TallyView {
             at: look.at,
             knowledge: look.knowledge,
             tally,
@@ -451,9 +451,9 @@ impl<N: NetKeeper> Coordinator<N> {
     }
 
     // What is known now, which the history notes as seen.
-    fn look(&mut self, by: u32) -> Result<Look, Refusal>
+    fn look(&mut self, by: u32) -> Result<KnownAt, Refusal>
         ensures ok { IfOk result (λ look. self.new.state
-            ≡ with_entry self.old.state (entry by Call.View (Reply.Seen look.at look.knowledge))) }
+            ≡ with_entry self.old.state (history_entry by Call.View (Reply.Seen look.at look.knowledge))) }
         ensures at { IfOk result (λ look. look.at ≡ length self.old.state.history) }
         ensures knowledge { IfOk result (λ look. look.knowledge ≡ self.old.state.knowledge) }
         ensures keeper { self.new.keeper ≡ self.old.keeper }
@@ -476,7 +476,7 @@ impl<N: NetKeeper> Coordinator<N> {
     }
 
     // What is known now. The coordinator and the look share it from then on.
-    fn known_now(&mut self) -> Result<Look, OutOfMemory>
+    fn known_now(&mut self) -> Result<KnownAt, OutOfMemory>
         ensures at { IfOk result (λ look. look.at ≡ length self.old.state.history) }
         ensures knowledge { IfOk result (λ look. look.knowledge ≡ self.old.state.knowledge) }
         ensures state { self.new.state ≡ self.old.state }
@@ -484,7 +484,7 @@ impl<N: NetKeeper> Coordinator<N> {
         ensures same { self.new ≡ self.old }
     {
         let knowledge = self.knowledge.share()?;
-        Ok(Look {
+        Ok(KnownAt {
             at: self.history.len(),
             knowledge: Shared::new(self.alloc, knowledge)?,
         })
@@ -530,8 +530,8 @@ impl<N: NetKeeper> Coordinator<N> {
 
     // Adds an entry alone.
     fn note(&mut self, entry: Entry) -> Result<(), OutOfMemory>
-        requires { IsCoordinator (with_entry self.old.state entry) }
-        ensures ok { OnOk result (self.new.state ≡ with_entry self.old.state entry) }
+        requires { IsCoordinator (with_entry self.old.state history_entry) }
+        ensures ok { OnOk result (self.new.state ≡ with_entry self.old.state history_entry) }
         ensures keeper { self.new.keeper ≡ self.old.keeper }
         ensures err { OnErr result (self.new.state ≡ self.old.state) }
     {
@@ -573,7 +573,7 @@ impl<N: NetKeeper> Coordinator<N> {
     /// changed.
     pub fn commit(&mut self, by: u32, plan: Plan) -> Result<Shared<Admitted>, Refusal>
         ensures ok { IfOk result (λ made. self.new.state
-            ≡ took self.old.state (know made.ops) (entry by (Call.Commit plan) (Reply.Admitted made))) }
+            ≡ took self.old.state (know made.ops) (history_entry by (Call.Commit plan) (Reply.Admitted made))) }
         ensures keeper { IfOk result
             (λ made. N.absorbs self.old.keeper (changed_keys (know made.ops)) self.new.keeper) }
         ensures admitted { IfOk result (λ a. a ≡ admission self.old.state.knowledge self.old.state.number plan) }
@@ -647,7 +647,7 @@ fn add_delta(
     requires { end_of buffer.old.deltas + 1 < 2 ^ 64 }
     ensures knowledge { OnOk result (knowledge.new ≡ table_join knowledge.old delta) }
     ensures deltas { OnOk result (buffer.new.deltas ≡ with_delta buffer.old.deltas delta) }
-    ensures history { OnOk result (history.new.items ≡ history.old.items ++ entry ∷ []) }
+    ensures history { OnOk result (history.new.items ≡ history.old.items ++ history_entry ∷ []) }
     ensures same_knowledge { OnErr result (knowledge.new ≡ knowledge.old) }
     ensures same_deltas { OnErr result (buffer.new.deltas ≡ buffer.old.deltas) }
     ensures same_history { OnErr result (history.new.items ≡ history.old.items) }

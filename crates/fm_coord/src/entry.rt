@@ -4,7 +4,7 @@ use fm_delta::packet::Packet;
 use fm_know::knowledge::Knowledge;
 use fm_lattice::shared::Shared;
 use fm_records::ops::Op;
-use fm_round::parts::{Admitted, Plan};
+use fm_round::plan::{Admitted, Plan};
 
 /// Which part of a coordinator's knowledge goes into a packet.
 #[derive(Debug, Clone, Copy, PartialEq, Eq, Drop)]

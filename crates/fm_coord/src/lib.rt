@@ -1,11 +1,11 @@
 //! One coordinator: its state, deltas and network, with the history of its calls.
 #![tactic(auto)]
 
-pub mod answer;
+pub mod output;
 mod calling;
 pub mod coordinator;
 pub mod entry;
-pub mod equal;
+pub mod entry_equality;
 pub mod laws;
 mod tallied;
 pub mod view;

@@ -2,7 +2,7 @@
 
 ghost use Rattle.std.specs.Prelude.{◌≡◌, true, IfOk, IfSome};
 ghost use Rattle.fm_records.specs.Table.{Table as Known};
-ghost use Rattle.fm_policy.specs.Keeping.{TookIn};
+ghost use Rattle.fm_policy.specs.Keeping.{FollowsAfter};
 ghost use Rattle.fm_tally.specs.Tallies.{TallyIsFor};
 ghost use Rattle.fm_tally.specs.Unfinished.{AreUnfinished};
 ghost use Rattle.fm_coord.specs.Tallied.{IsTalliedFor};
@@ -13,7 +13,7 @@ use fm_lattice::join::OutOfMemory;
 use fm_lattice::shared::Shared;
 use fm_policy::changed::Changed;
 use fm_policy::laws::law_joined_keys;
-use fm_policy::pending::Pending;
+use fm_policy::stale_keys::Pending;
 use fm_records::ids::TaskId;
 use fm_tally::sorted::Sorted;
 use fm_tally::tally::Tally;
@@ -57,7 +57,7 @@ impl Tallied {
     /// Takes in the keys of a delta. The tasks are dropped if so many changed that a walk over all of them costs less, or if memory runs
     /// out. O(m log n) for m keys.
     pub(crate) fn absorb(&mut self, alloc: Global, changed: &Changed)
-        ensures { (now : Known) → TookIn true (λ k. IsTalliedFor k self.old) now changed.now
+        ensures { (now : Known) → FollowsAfter true (λ k. IsTalliedFor k self.old) now changed.now
             → IsTalliedFor now self.new }
     {
         law_joined_keys();

@@ -15,7 +15,7 @@ pub struct View {
 
 /// The same with the tally in place of the network.
 #[derive(Drop)]
-pub struct Sight {
+pub struct TallyView {
     pub at: usize,
     pub knowledge: Shared<Knowledge>,
     pub tally: Shared<Tally>,
@@ -23,7 +23,7 @@ pub struct Sight {
 
 // The same with neither.
 #[derive(Drop)]
-pub(crate) struct Look {
+pub(crate) struct KnownAt {
     pub(crate) at: usize,
     pub(crate) knowledge: Shared<Knowledge>,
 }

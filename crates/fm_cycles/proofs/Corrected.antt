@@ -7,10 +7,10 @@ use Rattle.fm_cycles.specs.Labels.{AreLabels, IsRelaxed, IsCorrected, IsCorrecte
 use Rattle.fm_cycles.specs.Found.{costs_in}
 use Rattle.std.specs.declared.vec.Vec.{Vec}
 use Rattle.std.specs.declared.alloc.Global.{Global}
-use Rattle.fm_cycles.specs.declared.arcs.Step.{Step}
+use Rattle.fm_cycles.specs.declared.indexed_arcs.ResidualArc.{ResidualArc}
 use Rattle.fm_cycles.specs.declared.labels.Labels.{Labels}
 
-module _ (g : Steps Step) where
+module _ (g : Steps ResidualArc) where
   -- nothing is relaxed
   pub same : (labels : Labels) → IsCorrected g 0 labels labels
   same labels = record {
@@ -25,8 +25,8 @@ module _ (g : Steps Step) where
   pub moved : (turns : ℕ) (old now mid : Labels) → IsCorrected g turns old now → mid.costs ≡ now.costs → mid.parents ≡ now.parents → IsCorrected g turns old mid
   moved turns old now mid was costs parents = record {
     costs = ap (λ (cs : Vec ℤ Global). length cs.items) costs ∙ was.costs;
-    parents = ap (λ (ps : Vec (Option Step) Global). length ps.items) parents ∙ was.parents;
-    labels = λ first are. subst (λ (cs : Vec ℤ Global). AreLabels g first (costs_in cs.items) (parents_of mid)) (sym costs) (subst (λ (ps : Vec (Option Step) Global). AreLabels g first (costs_of now) (parents_in ps.items)) (sym parents) (was.labels first are));
+    parents = ap (λ (ps : Vec (Option ResidualArc) Global). length ps.items) parents ∙ was.parents;
+    labels = λ first are. subst (λ (cs : Vec ℤ Global). AreLabels g first (costs_in cs.items) (parents_of mid)) (sym costs) (subst (λ (ps : Vec (Option ResidualArc) Global). AreLabels g first (costs_of now) (parents_in ps.items)) (sym parents) (was.labels first are));
     falls = λ v. let one = was.falls v in let e = ap (λ (cs : Vec ℤ Global). costs_in cs.items v) costs in omega (arith, ints);
     low = λ bound all v. let one = was.low bound all v in let e = ap (λ (cs : Vec ℤ Global). costs_in cs.items v) costs in omega (arith, ints);
   }

@@ -7,12 +7,12 @@ use lib.Signed.{◌<ℤ◌}
 use Rattle.std.proofs.lemmas.Int.{ints}
 use Rattle.std.proofs.lemmas.Bool.{cases_lt}
 use Rattle.fm_cycles.specs.Walks.{Costs, Steps, IsWalk, walk_cost, AreBounded, ArePotentials}
-use Rattle.fm_cycles.specs.Residual.{residual, cost_by, HasRoom, AreArcs}
+use Rattle.fm_cycles.specs.Residual.{residual, cost_by, CanBeTaken, AreArcs}
 use Rattle.fm_cycles.specs.Found.{costs_in}
-use Rattle.fm_cycles.specs.Labels.{AreLabels, HasFallen, IsSwept, IsCorrectedWithin, IsAbove, costs_of, parents_of}
-use Rattle.fm_cycles.specs.Traced.{HasRoot}
-use Rattle.fm_cycles.specs.declared.arcs.Arc.{Arc}
-use Rattle.fm_cycles.specs.declared.arcs.Step.{Step}
+use Rattle.fm_cycles.specs.Labels.{AreLabels, HasFallen, IsLabelSweep, IsCorrectedWithin, IsBoundedBelow, costs_of, parents_of}
+use Rattle.fm_cycles.specs.ParentGraph.{HasRoot}
+use Rattle.fm_cycles.specs.declared.indexed_arcs.IndexedArc.{IndexedArc}
+use Rattle.fm_cycles.specs.declared.indexed_arcs.ResidualArc.{ResidualArc}
 use Rattle.fm_cycles.specs.declared.labels.Labels.{Labels}
 use Rattle.fm_cycles.proofs.Lowered.{at_most, is_walk}
 
@@ -35,24 +35,24 @@ no_items [] is = refl
 no_items (x ∷ xs) is = absurd (omega arith)
 
 -- no cost is above that of a walk of at most so many steps
-abbrev pub Reached : Steps Step → Costs → Costs → ℕ → Type 0
-Reached g first costs most = (v u : ℕ) (steps : List Step) → IsWalk g v steps u → length steps ≤ most → costs v ≤ℤ (first u +ℤ walk_cost g steps)
+abbrev pub Reached : Steps ResidualArc → Costs → Costs → ℕ → Type 0
+Reached g first costs most = (v u : ℕ) (steps : List ResidualArc) → IsWalk g v steps u → length steps ≤ most → costs v ≤ℤ (first u +ℤ walk_cost g steps)
 
-pub record IsSearching (g : Steps Step) (nodes : ℕ) (first : Costs) (labels : Labels) (sweeps : ℕ) : Type 0 where
+pub record IsSearching (g : Steps ResidualArc) (nodes : ℕ) (first : Costs) (labels : Labels) (sweeps : ℕ) : Type 0 where
   pub sized : length labels.costs.items ≡ nodes
   pub parents : length labels.parents.items ≡ nodes
   pub few : (sweeps ≡ 0) ⊎ (sweeps < nodes)
   pub grown : AreLabels g first (costs_of labels) (parents_of labels)
-  pub low : IsAbove (2 ^ 64 + nodes * 2 ^ 32) (costs_of labels)
+  pub low : IsBoundedBelow (2 ^ 64 + nodes * 2 ^ 32) (costs_of labels)
   pub high : (v : ℕ) → costs_of labels v ≤ℤ pos (2 ^ 64)
   pub reached : Reached g first (costs_of labels) sweeps
 
 -- labels that fell from the first costs in so many sweeps
-pub record IsGrown (g : Steps Step) (nodes : ℕ) (first : Costs) (labels : Labels) (sweeps : ℕ) : Type 0 where
+pub record IsGrown (g : Steps ResidualArc) (nodes : ℕ) (first : Costs) (labels : Labels) (sweeps : ℕ) : Type 0 where
   pub sized : length labels.costs.items ≡ nodes
   pub parents : length labels.parents.items ≡ nodes
   pub grown : AreLabels g first (costs_of labels) (parents_of labels)
-  pub low : IsAbove (2 ^ 97) (costs_of labels)
+  pub low : IsBoundedBelow (2 ^ 97) (costs_of labels)
   pub high : (v : ℕ) → costs_of labels v ≤ℤ pos (2 ^ 64)
   pub reached : Reached g first (costs_of labels) sweeps
 
@@ -61,18 +61,18 @@ behind_end [] v all = refl
 behind_end (c ∷ costs) zero all = absurd (omega arith)
 behind_end (c ∷ costs) (suc v) all = behind_end costs v (omega arith)
 
-module _ (arcs : List Arc) (units : List ℕ) (nodes : ℕ) (known : AreArcs arcs nodes) where
-  abbrev g : Steps Step
+module _ (arcs : List IndexedArc) (units : List ℕ) (nodes : ℕ) (known : AreArcs arcs nodes) where
+  abbrev g : Steps ResidualArc
   g = residual arcs units
 
-  low_cost : (s : Step) → g.is_open s → neg_ℤ (pos (2 ^ 32)) ≤ℤ g.cost s
+  low_cost : (s : ResidualArc) → g.is_open s → neg_ℤ (pos (2 ^ 32)) ≤ℤ g.cost s
   low_cost s can =
-      elim (slice_get arcs s.arc) as (λ o. slice_get arcs s.arc ≡ o → HasRoom o s.forward (slice_index units s.arc) → neg_ℤ (pos (2 ^ 32)) ≤ℤ cost_by o s.forward) [
+      elim (slice_get arcs s.arc) as (λ o. slice_get arcs s.arc ≡ o → CanBeTaken o s.forward (slice_index units s.arc) → neg_ℤ (pos (2 ^ 32)) ≤ℤ cost_by o s.forward) [
         | None ↦ λ _ no. absurd no
         | Some a ↦ λ is _. let cost = (known s.arc a is).2 in elim s.forward as (λ b. neg_ℤ (pos (2 ^ 32)) ≤ℤ cost_by (Some a) b) [ true ↦ omega (arith, ints) | false ↦ omega (arith, ints) ]
       ] refl can
 
-  low_walk : (v u : ℕ) (steps : List Step) → IsWalk g v steps u → neg_ℤ (pos (length steps * 2 ^ 32)) ≤ℤ walk_cost g steps
+  low_walk : (v u : ℕ) (steps : List ResidualArc) → IsWalk g v steps u → neg_ℤ (pos (length steps * 2 ^ 32)) ≤ℤ walk_cost g steps
   low_walk v u [] walk = omega (arith, ints)
   low_walk v u (s ∷ steps) walk =
       let one = low_cost s walk.0 in
@@ -99,7 +99,7 @@ module _ (arcs : List Arc) (units : List ℕ) (nodes : ℕ) (known : AreArcs arc
     ] walk few;
   }
 
-  pub above : nodes < 2 ^ 63 → (first : Costs) (labels : Labels) (sweeps : ℕ) → IsSearching g nodes first labels sweeps → IsAbove (2 ^ 96) (costs_of labels)
+  pub above : nodes < 2 ^ 63 → (first : Costs) (labels : Labels) (sweeps : ℕ) → IsSearching g nodes first labels sweeps → IsBoundedBelow (2 ^ 96) (costs_of labels)
   above few first labels sweeps st = λ v. let low = st.low v in omega (arith, ints)
 
   -- whatever the queue relaxes
@@ -113,7 +113,7 @@ module _ (arcs : List Arc) (units : List ℕ) (nodes : ℕ) (known : AreArcs arc
     reached = λ v u steps walk few. let old = st.reached v u steps walk few in let fall = more.2.falls v in omega (arith, ints);
   }
 
-  pub done : (first : Costs) (labels new : Labels) (sweeps : ℕ) → IsGrown g nodes first labels sweeps → IsSwept g labels new → HasFallen new.fell nodes (costs_of labels) (costs_of new) → new.fell ≡ None → ArePotentials g (costs_of new)
+  pub done : (first : Costs) (labels new : Labels) (sweeps : ℕ) → IsGrown g nodes first labels sweeps → IsLabelSweep g labels new → HasFallen new.fell nodes (costs_of labels) (costs_of new) → new.fell ≡ None → ArePotentials g (costs_of new)
   done first labels new sweeps st swept fallen none =
       let same : (v : ℕ) → costs_of new v ≡ costs_of labels v = subst (λ (o : Option ℕ). HasFallen o nodes (costs_of labels) (costs_of new)) none fallen in
       record {
@@ -128,7 +128,7 @@ module _ (arcs : List Arc) (units : List ℕ) (nodes : ℕ) (known : AreArcs arc
             (omega (arith, ints), omega (arith, ints));
       }
 
-  module _ (first : Costs) (labels new : Labels) (sweeps : ℕ) (st : IsGrown g nodes first labels sweeps) (swept : IsSwept g labels new) where
+  module _ (first : Costs) (labels new : Labels) (sweeps : ℕ) (st : IsGrown g nodes first labels sweeps) (swept : IsLabelSweep g labels new) where
     pub grown2 : AreLabels g first (costs_of new) (parents_of new)
     grown2 = swept.labels first st.grown
 
@@ -143,7 +143,7 @@ module _ (arcs : List Arc) (units : List ℕ) (nodes : ℕ) (known : AreArcs arc
         let same = ap (costs_of new) walk.1 in
         omega (arith, ints)
 
-    low2 : AreBounded (2 ^ 64) first → ((v : ℕ) → v < nodes → HasRoot g nodes (parents_of new) v) → length new.costs.items ≡ nodes → IsAbove (2 ^ 64 + nodes * 2 ^ 32) (costs_of new)
+    low2 : AreBounded (2 ^ 64) first → ((v : ℕ) → v < nodes → HasRoot g nodes (parents_of new) v) → length new.costs.items ≡ nodes → IsBoundedBelow (2 ^ 64 + nodes * 2 ^ 32) (costs_of new)
     low2 bounded all sized v = elim (cases_lt v nodes) [
       | inl less ↦
           let rooted = all v less in

@@ -8,9 +8,9 @@ use Rattle.std.proofs.lemmas.List.Elements.{All-nil, All-cons, All-append}
 use Rattle.std.specs.declared.vec.Vec.{Vec}
 use Rattle.std.specs.declared.alloc.Global.{Global}
 use Rattle.fm_cycles.specs.Walks.{Steps, IsNegativeCycle}
-use Rattle.fm_cycles.specs.Traced.{value_count, visit_of, IsVisited, AreBefore, AreRooted, IsWalkedBack, AreNegative, AreCyclesOf}
-use Rattle.fm_cycles.specs.declared.arcs.Step.{Step}
-use Rattle.fm_cycles.specs.declared.walk.Visit.{Visit}
+use Rattle.fm_cycles.specs.ParentGraph.{value_count, visit_of, IsVisited, AreBefore, AreRooted, IsWalkedBack, AreNegative, AreCyclesOf}
+use Rattle.fm_cycles.specs.declared.indexed_arcs.ResidualArc.{ResidualArc}
+use Rattle.fm_cycles.specs.declared.parent_graph.Visit.{Visit}
 use Rattle.fm_cycles.proofs.Counts.{marked_most}
 use Rattle.fm_cycles.proofs.Walked.{more_few}
 
@@ -26,26 +26,26 @@ none_at o is (suc n) (suc v) = none_at o is n v
 pub written : (n : ℕ) (old new : List (Option Visit)) → length new ≡ length old → n ≡ length old → take n (new ++ drop (length new) old) ≡ new
 written n old new same is = ap (λ m. take m (new ++ drop (length new) old)) (is ∙ sym same) ∙ take-append_seam new (drop (length new) old)
 
-module _ (g : Steps Step) (parents : ℕ → Option Step) (nodes : ℕ) where
-  pub record SoFar (start : ℕ) (visits : List (Option Visit)) (cycles : List (Vec Step Global)) : Type 0 where
+module _ (g : Steps ResidualArc) (parents : ℕ → Option ResidualArc) (nodes : ℕ) where
+  pub record SoFar (start : ℕ) (visits : List (Option Visit)) (cycles : List (Vec ResidualArc Global)) : Type 0 where
     pub sized : length visits ≡ nodes
     pub before : AreBefore start visits
     pub visited : (v : ℕ) → v < start → IsVisited visits v
     pub negative : AreNegative g cycles
     pub rooted : cycles ≡ [] → AreRooted g parents visits
 
-  pub begin : (visits : List (Option Visit)) (cycles : List (Vec Step Global)) → visits ≡ replicate nodes no_visit → cycles ≡ [] → SoFar 0 visits cycles
+  pub begin : (visits : List (Option Visit)) (cycles : List (Vec ResidualArc Global)) → visits ≡ replicate nodes no_visit → cycles ≡ [] → SoFar 0 visits cycles
   begin visits cycles fresh none =
       let all : (v : ℕ) → visit_of visits v ≡ None = λ v. ap (λ (xs : List (Option Visit)). visit_of xs v) fresh ∙ none_at no_visit refl nodes v in
       record {
         sized = ap (λ (xs : List (Option Visit)). length xs) fresh ∙ length-replicate nodes no_visit;
         before = λ v x there. absurd (let e = all v in let no : ⊥ = cc in no);
         visited = λ v less. absurd (omega arith);
-        negative = subst (λ (cs : List (Vec Step Global)). AreNegative g cs) (sym none) (All-nil (λ (cycle : Vec Step Global). IsNegativeCycle g cycle.items));
+        negative = subst (λ (cs : List (Vec ResidualArc Global)). AreNegative g cs) (sym none) (All-nil (λ (cycle : Vec ResidualArc Global). IsNegativeCycle g cycle.items));
         rooted = λ _ v there. absurd (there (all v));
       }
 
-  module _ (start : ℕ) (visits new : List (Option Visit)) (cycles : List (Vec Step Global)) (walk : List Step) (so_far : SoFar start visits cycles) where
+  module _ (start : ℕ) (visits new : List (Option Visit)) (cycles : List (Vec ResidualArc Global)) (walk : List ResidualArc) (so_far : SoFar start visits cycles) where
     earlier : (found : Option ℕ) → IsWalkedBack g parents start visits new walk found → (v : ℕ) → v < start + 1 → IsVisited new v
     earlier found back v less = elim (cases_lt v start) [
       | inl below ↦ back.kept v (so_far.visited v below)
@@ -61,22 +61,22 @@ module _ (g : Steps Step) (parents : ℕ → Option Step) (nodes : ℕ) where
       rooted = λ none. back.rooted refl (so_far.rooted none);
     }
 
-    pub one_cycle : (first : ℕ) → IsWalkedBack g parents start visits new walk (Some first) → (cycle : Vec Step Global) → cycle.items ≡ drop first walk → (more : List (Vec Step Global)) → more ≡ cycles ++ cycle ∷ [] → SoFar (start + 1) new more
+    pub one_cycle : (first : ℕ) → IsWalkedBack g parents start visits new walk (Some first) → (cycle : Vec ResidualArc Global) → cycle.items ≡ drop first walk → (more : List (Vec ResidualArc Global)) → more ≡ cycles ++ cycle ∷ [] → SoFar (start + 1) new more
     one_cycle first back cycle is more pushed = record {
       sized = back.sized ∙ so_far.sized;
       before = back.before;
       visited = earlier (Some first) back;
-      negative = subst (λ (cs : List (Vec Step Global)). AreNegative g cs) (sym pushed)
-          (All-append (λ (c : Vec Step Global). IsNegativeCycle g c.items) cycles (cycle ∷ []) so_far.negative
-          (All-cons (λ (c : Vec Step Global). IsNegativeCycle g c.items) cycle [] (subst (λ p. IsNegativeCycle g p) (sym is) back.closed) (All-nil (λ (c : Vec Step Global). IsNegativeCycle g c.items))));
+      negative = subst (λ (cs : List (Vec ResidualArc Global)). AreNegative g cs) (sym pushed)
+          (All-append (λ (c : Vec ResidualArc Global). IsNegativeCycle g c.items) cycles (cycle ∷ []) so_far.negative
+          (All-cons (λ (c : Vec ResidualArc Global). IsNegativeCycle g c.items) cycle [] (subst (λ p. IsNegativeCycle g p) (sym is) back.closed) (All-nil (λ (c : Vec ResidualArc Global). IsNegativeCycle g c.items))));
       rooted = λ none.
           let some = length-append cycles (cycle ∷ []) in
-          let is_more = ap (λ (cs : List (Vec Step Global)). length cs) pushed in
-          let no = ap (λ (cs : List (Vec Step Global)). length cs) none in
+          let is_more = ap (λ (cs : List (Vec ResidualArc Global)). length cs) pushed in
+          let no = ap (λ (cs : List (Vec ResidualArc Global)). length cs) none in
           absurd (omega arith);
     }
 
-  pub all : (start : ℕ) (visits : List (Option Visit)) (cycles : List (Vec Step Global)) → nodes ≤ start → SoFar start visits cycles → AreCyclesOf g parents nodes cycles
+  pub all : (start : ℕ) (visits : List (Option Visit)) (cycles : List (Vec ResidualArc Global)) → nodes ≤ start → SoFar start visits cycles → AreCyclesOf g parents nodes cycles
   all start visits cycles end so_far = record {
     negative = so_far.negative;
     rooted = λ none v less. more_few g parents (value_count visits) nodes v (let most = marked_most visits in let e = so_far.sized in omega arith) (so_far.rooted none v (so_far.visited v (omega arith)));

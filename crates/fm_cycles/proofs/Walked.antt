@@ -2,13 +2,13 @@
 use Rattle.std.proofs.Common.{◌≡◌, ◌∙◌, ap, sym, subst, refl, inl, inr, ℕ, zero, suc, ◌⊎◌, ◌+◌, ◌-◌, ◌≤◌, ◌<◌, true, false, List, [], ◌∷◌, ◌++◌, Option, Some, None, length, drop, get_or, set, length-set, length-append, length-drop, get_or-set_same, arith}
 use Rattle.std.proofs.lemmas.List.{drop-append-le}
 use Rattle.std.specs.Prelude.{slice_get, slice_index}
-use Rattle.fm_cycles.specs.Walks.{Costs, Steps, TargetsOther, AreApart, IsNegativeCycle}
-use Rattle.fm_cycles.specs.Residual.{residual, HasRoom, start_of, AreArcs}
+use Rattle.fm_cycles.specs.Walks.{Costs, Steps, TargetsOther, ShareNoNode, IsNegativeCycle}
+use Rattle.fm_cycles.specs.Residual.{residual, CanBeTaken, start_of, AreArcs}
 use Rattle.fm_cycles.specs.Labels.{AreLabels, IsWalkBack}
-use Rattle.fm_cycles.specs.Traced.{value_count, visit_of, IsVisited, AreBefore, HasRoot, AreRooted, IsClosedAt, IsWalkedBack}
-use Rattle.fm_cycles.specs.declared.walk.Visit.{Visit}
-use Rattle.fm_cycles.specs.declared.arcs.Arc.{Arc}
-use Rattle.fm_cycles.specs.declared.arcs.Step.{Step}
+use Rattle.fm_cycles.specs.ParentGraph.{value_count, visit_of, IsVisited, AreBefore, HasRoot, AreRooted, IsClosedAt, IsWalkedBack}
+use Rattle.fm_cycles.specs.declared.parent_graph.Visit.{Visit}
+use Rattle.fm_cycles.specs.declared.indexed_arcs.IndexedArc.{IndexedArc}
+use Rattle.fm_cycles.specs.declared.indexed_arcs.ResidualArc.{ResidualArc}
 use Rattle.fm_cycles.proofs.Lowered.{is_walk}
 use Rattle.fm_cycles.proofs.Counts.{marked_set, marked_most}
 
@@ -23,7 +23,7 @@ still (y ∷ ys) zero (suc i) x none = none
 still (y ∷ ys) (suc v) zero x none = none
 still (y ∷ ys) (suc v) (suc i) x none = still ys v i x none
 
-drop_at : (walk : List Step) (s : Step) → drop (length walk) (walk ++ s ∷ []) ≡ s ∷ []
+drop_at : (walk : List ResidualArc) (s : ResidualArc) → drop (length walk) (walk ++ s ∷ []) ≡ s ∷ []
 drop_at [] s = refl
 drop_at (w ∷ ws) s = drop_at ws s
 
@@ -40,12 +40,12 @@ visit_there : (o : Option Visit) → (o ≡ None → ⊥) → (x : Visit) × (o 
 visit_there None some = absurd (some refl)
 visit_there (Some x) some = (x, refl)
 
-module _ (g : Steps Step) (parents : ℕ → Option Step) where
-  back_more : (v u : ℕ) (steps : List Step) (s : Step) → IsWalkBack g parents v steps u → parents u ≡ Some s → IsWalkBack g parents v (steps ++ s ∷ []) (g.source s)
+module _ (g : Steps ResidualArc) (parents : ℕ → Option ResidualArc) where
+  back_more : (v u : ℕ) (steps : List ResidualArc) (s : ResidualArc) → IsWalkBack g parents v steps u → parents u ≡ Some s → IsWalkBack g parents v (steps ++ s ∷ []) (g.source s)
   back_more v u [] s back last = (ap parents back ∙ last, refl)
   back_more v u (t ∷ steps) s back last = (back.0, back_more (g.source t) u steps s back.1 last)
 
-  back_on : (v u w : ℕ) (steps more : List Step) → IsWalkBack g parents v steps u → IsWalkBack g parents u more w → IsWalkBack g parents v (steps ++ more) w
+  back_on : (v u w : ℕ) (steps more : List ResidualArc) → IsWalkBack g parents v steps u → IsWalkBack g parents u more w → IsWalkBack g parents v (steps ++ more) w
   back_on v u w [] more back on = subst (λ n. IsWalkBack g parents n more w) (sym back) on
   back_on v u w (s ∷ steps) more back on = (back.0, back_on (g.source s) u w steps more back.1 on)
 
@@ -54,37 +54,37 @@ module _ (g : Steps Step) (parents : ℕ → Option Step) where
   more_few few more v le rooted = record { root = rooted.root; steps = rooted.steps; back = rooted.back; none = rooted.none; few = let less = rooted.few in omega arith }
 
   -- each target of the steps is visited
-  abbrev pub AreVisited : List (Option Visit) → List Step → Type 0
+  abbrev pub AreVisited : List (Option Visit) → List ResidualArc → Type 0
   AreVisited visits [] = Unit {0}
   AreVisited visits (s ∷ ss) = (get_or visits (g.target s) None ≡ None → ⊥) × AreVisited visits ss
 
-  others_more : (t s : Step) (us : List Step) → TargetsOther g t us → (g.target t ≡ g.target s → ⊥) → TargetsOther g t (us ++ s ∷ [])
+  others_more : (t s : ResidualArc) (us : List ResidualArc) → TargetsOther g t us → (g.target t ≡ g.target s → ⊥) → TargetsOther g t (us ++ s ∷ [])
   others_more t s [] others other = (other, tt)
   others_more t s (u ∷ us) others other = (others.0, others_more t s us others.1 other)
 
-  apart_more : (visits : List (Option Visit)) (ss : List Step) (s : Step) → AreVisited visits ss → get_or visits (g.target s) None ≡ None → AreApart g ss → AreApart g (ss ++ s ∷ [])
+  apart_more : (visits : List (Option Visit)) (ss : List ResidualArc) (s : ResidualArc) → AreVisited visits ss → get_or visits (g.target s) None ≡ None → ShareNoNode g ss → ShareNoNode g (ss ++ s ∷ [])
   apart_more visits [] s seen none apart = (tt, tt)
   apart_more visits (t ∷ ts) s seen none apart =
       let other = λ (e : g.target t ≡ g.target s). seen.0 (ap (λ n. get_or visits n None) e ∙ none) in
       (others_more t s ts apart.0 other, apart_more visits ts s seen.1 none apart.1)
 
-  visited_set : (visits : List (Option Visit)) (ss : List Step) (i : ℕ) (x : Visit) → AreVisited visits ss → AreVisited (set visits i (Some x)) ss
+  visited_set : (visits : List (Option Visit)) (ss : List ResidualArc) (i : ℕ) (x : Visit) → AreVisited visits ss → AreVisited (set visits i (Some x)) ss
   visited_set visits [] i x seen = tt
   visited_set visits (s ∷ ss) i x seen = (
     λ none. seen.0 (still visits (g.target s) i x none),
     visited_set visits ss i x seen.1,
   )
 
-  visited_more : (visits : List (Option Visit)) (ss : List Step) (s : Step) → AreVisited visits ss → (get_or visits (g.target s) None ≡ None → ⊥) → AreVisited visits (ss ++ s ∷ [])
+  visited_more : (visits : List (Option Visit)) (ss : List ResidualArc) (s : ResidualArc) → AreVisited visits ss → (get_or visits (g.target s) None ≡ None → ⊥) → AreVisited visits (ss ++ s ∷ [])
   visited_more visits [] s seen one = (one, tt)
   visited_more visits (t ∷ ts) s seen one = (seen.0, visited_more visits ts s seen.1 one)
 
-  apart_drop : (i : ℕ) (ss : List Step) → AreApart g ss → AreApart g (drop i ss)
+  apart_drop : (i : ℕ) (ss : List ResidualArc) → ShareNoNode g ss → ShareNoNode g (drop i ss)
   apart_drop zero ss apart = apart
   apart_drop (suc i) [] apart = tt
   apart_drop (suc i) (s ∷ ss) apart = apart_drop i ss apart.1
 
-  cycle_of : (first costs : Costs) (v : ℕ) (steps : List Step) → AreLabels g first costs parents → IsWalkBack g parents v steps v → 0 < length steps → AreApart g steps → IsNegativeCycle g steps
+  cycle_of : (first costs : Costs) (v : ℕ) (steps : List ResidualArc) → AreLabels g first costs parents → IsWalkBack g parents v steps v → 0 < length steps → ShareNoNode g steps → IsNegativeCycle g steps
   cycle_of first costs v [] labels back some apart = absurd (omega arith)
   cycle_of first costs v (s ∷ steps) labels back some apart = record {
     node = v;
@@ -93,15 +93,15 @@ module _ (g : Steps Step) (parents : ℕ → Option Step) where
     apart = apart;
   }
 
-module _ (arcs : List Arc) (units : List ℕ) (nodes : ℕ) (parents : ℕ → Option Step) (start : ℕ) (old : List (Option Visit)) where
-  abbrev g : Steps Step
+module _ (arcs : List IndexedArc) (units : List ℕ) (nodes : ℕ) (parents : ℕ → Option ResidualArc) (start : ℕ) (old : List (Option Visit)) where
+  abbrev g : Steps ResidualArc
   g = residual arcs units
 
   abbrev here : ℕ → Visit
   here i = record { start = start; place = i }
 
   -- as the walk goes: what is visited was so before or by this walk, whose visits tell their places
-  pub record State (visits : List (Option Visit)) (walk : List Step) (node : ℕ) : Type 0 where
+  pub record State (visits : List (Option Visit)) (walk : List ResidualArc) (node : ℕ) : Type 0 where
     pub within : node < nodes
     pub sized : length visits ≡ nodes
     pub counted : value_count visits ≡ value_count old + length walk
@@ -110,31 +110,31 @@ module _ (arcs : List Arc) (units : List ℕ) (nodes : ℕ) (parents : ℕ → O
     pub kept : (v : ℕ) → IsVisited old v → IsVisited visits v
     pub begun : IsVisited visits start ⊎ (node ≡ start)
     pub seen : AreVisited g parents visits walk
-    pub apart : AreApart g walk
+    pub apart : ShareNoNode g walk
 
-  pub begin : start < nodes → length old ≡ nodes → (walk : List Step) → walk ≡ [] → State old walk start
+  pub begin : start < nodes → length old ≡ nodes → (walk : List ResidualArc) → walk ≡ [] → State old walk start
   begin within sized_old walk none = record {
     within = within;
     sized = sized_old;
-    counted = let zero_steps = ap (λ (p : List Step). length p) none in omega arith;
-    back = subst (λ (p : List Step). IsWalkBack g parents start p start) (sym none) refl;
+    counted = let zero_steps = ap (λ (p : List ResidualArc). length p) none in omega arith;
+    back = subst (λ (p : List ResidualArc). IsWalkBack g parents start p start) (sym none) refl;
     visited = λ v x there. inl there;
     kept = λ v there. there;
     begun = inr refl;
-    seen = subst (λ (p : List Step). AreVisited g parents old p) (sym none) tt;
-    apart = subst (λ (p : List Step). AreApart g p) (sym none) tt;
+    seen = subst (λ (p : List ResidualArc). AreVisited g parents old p) (sym none) tt;
+    apart = subst (λ (p : List ResidualArc). ShareNoNode g p) (sym none) tt;
   }
 
   -- if an open step comes from a node
-  source_within : AreArcs arcs nodes → (s : Step) → g.is_open s → g.source s < nodes
+  source_within : AreArcs arcs nodes → (s : ResidualArc) → g.is_open s → g.source s < nodes
   source_within known s can =
-      elim (slice_get arcs s.arc) as (λ o. slice_get arcs s.arc ≡ o → HasRoom o s.forward (slice_index units s.arc) → start_of o s.forward < nodes) [
+      elim (slice_get arcs s.arc) as (λ o. slice_get arcs s.arc ≡ o → CanBeTaken o s.forward (slice_index units s.arc) → start_of o s.forward < nodes) [
         | None ↦ λ _ no. absurd no
         | Some a ↦ λ is _. elim s.forward as (λ b. start_of (Some a) b < nodes) [ true ↦ (known s.arc a is).0 | false ↦ (known s.arc a is).1 ]
       ] refl can
 
   -- a node without a visit is visited
-  module _ (visits : List (Option Visit)) (walk : List Step) (node : ℕ) (st : State visits walk node) (new : visit_of visits node ≡ None) where
+  module _ (visits : List (Option Visit)) (walk : List ResidualArc) (node : ℕ) (st : State visits walk node) (new : visit_of visits node ≡ None) where
     abbrev visits2 : List (Option Visit)
     visits2 = set visits node (Some (here (length walk)))
 
@@ -166,8 +166,8 @@ module _ (arcs : List Arc) (units : List ℕ) (nodes : ℕ) (parents : ℕ → O
         omega arith
 
     -- the step is taken
-    module _ (known : AreArcs arcs nodes) (first costs : Costs) (labels : AreLabels g first costs parents) (s : Step) (last : parents node ≡ Some s) where
-      abbrev walk2 : List Step
+    module _ (known : AreArcs arcs nodes) (first costs : Costs) (labels : AreLabels g first costs parents) (s : ResidualArc) (last : parents node ≡ Some s) where
+      abbrev walk2 : List ResidualArc
       walk2 = walk ++ s ∷ []
 
       at : g.target s ≡ node
@@ -234,7 +234,7 @@ module _ (arcs : List Arc) (units : List ℕ) (nodes : ℕ) (parents : ℕ → O
     }
 
   -- the walk came to a visited node
-  module _ (visits : List (Option Visit)) (walk : List Step) (node : ℕ) (st : State visits walk node) (x : Visit) (there : visit_of visits node ≡ Some x) (before : AreBefore start old) where
+  module _ (visits : List (Option Visit)) (walk : List ResidualArc) (node : ℕ) (st : State visits walk node) (x : Visit) (there : visit_of visits node ≡ Some x) (before : AreBefore start old) where
     begun_here : IsVisited visits start
     begun_here = elim st.begun [
       | inl was ↦ was

@@ -3,5 +3,5 @@ pub mod Residual
 pub mod Units
 pub mod Found
 pub mod Labels
-pub mod Traced
-pub mod Sending
+pub mod ParentGraph
+pub mod Augment

@@ -6,12 +6,12 @@
 //! relaxed (Cherkassky and Goldberg, "Negative-cycle detection algorithms", 1999). Cancelling is Klein's (1967).
 #![tactic(auto)]
 
-pub mod arcs;
+pub mod indexed_arcs;
 pub mod cancel;
-pub mod confirming;
-pub mod improve;
+pub mod potentials;
+pub mod cancel_all;
 mod labels;
 pub mod lookup;
 mod queue;
-pub mod search;
-mod walk;
+pub mod cycle_search;
+mod parent_graph;

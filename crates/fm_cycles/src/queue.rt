@@ -5,12 +5,12 @@
 
 ghost use Rattle.std.specs.Prelude.{◌≡◌, ◌<◌, ◌^◌, vec_len, length, ℕ, ◌≤ℤ◌, pos, IfOk, OnOk};
 ghost use Rattle.fm_cycles.specs.Residual.{residual, AreArcs};
-ghost use Rattle.fm_cycles.specs.Labels.{costs_of, HasFirst, IsAbove, IsCorrected, IsCorrectedWithin};
-ghost use Rattle.fm_cycles.specs.Traced.{AreNegative};
+ghost use Rattle.fm_cycles.specs.Labels.{costs_of, HasFirst, IsBoundedBelow, IsCorrected, IsCorrectedWithin};
+ghost use Rattle.fm_cycles.specs.ParentGraph.{AreNegative};
 
-use crate::arcs::{Arc, Step};
+use crate::indexed_arcs::{IndexedArc, ResidualArc};
 use crate::labels::{Labels, relax};
-use crate::walk::cycles_in;
+use crate::parent_graph::cycles_in;
 use std::alloc::{AllocError, Global};
 use std::collections::VecDeque;
 
@@ -70,7 +70,7 @@ fn list(lists: &mut [Vec<usize>], node: usize, place: usize) -> Result<(), Alloc
 }
 
 // The places of the arcs at each node.
-fn arcs_at(alloc: Global, nodes: usize, arcs: &[Arc]) -> Result<Vec<Vec<usize>>, AllocError> {
+fn arcs_at(alloc: Global, nodes: usize, arcs: &[IndexedArc]) -> Result<Vec<Vec<usize>>, AllocError> {
     let mut lists: Vec<Vec<usize>> = Vec::new(alloc);
     for _ in 0..nodes {
         lists.push(Vec::new(alloc))?;
@@ -84,14 +84,14 @@ fn arcs_at(alloc: Global, nodes: usize, arcs: &[Arc]) -> Result<Vec<Vec<usize>>,
 
 // Relaxes the arcs at these places, and puts the nodes that fall into the queue.
 fn scan(
-    arcs: &[Arc],
+    arcs: &[IndexedArc],
     units: &[u64],
     places: &[usize],
     queue: &mut Queue,
     labels: &mut Labels,
 ) -> Result<(), AllocError>
     requires arcs { AreArcs arcs.now (vec_len labels.old.costs) }
-    requires low { IsAbove (2 ^ 98) (costs_of labels.old) }
+    requires low { IsBoundedBelow (2 ^ 98) (costs_of labels.old) }
     requires high { (v : ℕ) → costs_of labels.old v ≤ℤ pos (2 ^ 64) }
     requires parents { vec_len labels.old.parents ≡ vec_len labels.old.costs }
     ensures { OnOk result (IsCorrected (residual arcs.now units.now) (length places.now) labels.old labels.new) }
@@ -110,14 +110,14 @@ fn scan(
 
 // Relaxes as many arcs as there are, or a few more: those at the node that has waited longest, and so on.
 fn relax_waiting(
-    arcs: &[Arc],
+    arcs: &[IndexedArc],
     units: &[u64],
     lists: &[Vec<usize>],
     queue: &mut Queue,
     labels: &mut Labels,
 ) -> Result<(), AllocError>
     requires arcs { AreArcs arcs.now (vec_len labels.old.costs) }
-    requires low { IsAbove (2 ^ 97) (costs_of labels.old) }
+    requires low { IsBoundedBelow (2 ^ 97) (costs_of labels.old) }
     requires high { (v : ℕ) → costs_of labels.old v ≤ℤ pos (2 ^ 64) }
     requires parents { vec_len labels.old.parents ≡ vec_len labels.old.costs }
     ensures { OnOk result (IsCorrectedWithin (residual arcs.now units.now) (2 ^ 61) labels.old labels.new) }
@@ -140,20 +140,20 @@ fn relax_waiting(
 /// Does nothing before the first sweeps are done. O(arcs) in time and memory. Refused if memory runs out.
 pub(crate) fn relax_by_queue(
     alloc: Global,
-    arcs: &[Arc],
+    arcs: &[IndexedArc],
     units: &[u64],
     sweeps: usize,
     labels: &mut Labels,
-) -> Result<Vec<Vec<Step>>, AllocError>
+) -> Result<Vec<Vec<ResidualArc>>, AllocError>
     requires arcs { AreArcs arcs.now (vec_len labels.old.costs) }
     requires labels { HasFirst (residual arcs.now units.now) labels.old }
-    requires low { IsAbove (2 ^ 96) (costs_of labels.old) }
+    requires low { IsBoundedBelow (2 ^ 96) (costs_of labels.old) }
     requires high { (v : ℕ) → costs_of labels.old v ≤ℤ pos (2 ^ 64) }
     requires parents { vec_len labels.old.parents ≡ vec_len labels.old.costs }
     ensures corrected { OnOk result (IsCorrectedWithin (residual arcs.now units.now) (2 ^ 64) labels.old labels.new) }
     ensures negative { IfOk result (λ cycles. AreNegative (residual arcs.now units.now) cycles.items) }
 {
-    let none: Vec<Vec<Step>> = Vec::new(alloc);
+    let none: Vec<Vec<ResidualArc>> = Vec::new(alloc);
     if sweeps < SWEEPS_FIRST {
         return Ok(none);
     }

@@ -5,8 +5,8 @@ use Rattle.std.specs.Cmp.{IsPartialEquivalence}
 use Rattle.std.proofs.Common.{ap, eq-eqb}
 use Rattle.std.proofs.lemmas.Bool.{eqb-true}
 use Rattle.fm_records.specs.LookupLaws.{both_true}
-use Rattle.fm_records.specs.Decided.{equivalence}
-use Rattle.fm_know.specs.Same.{same_table, table_Decides}
+use Rattle.fm_records.specs.RecordEquality.{equivalence}
+use Rattle.fm_know.specs.KnowledgeEquality.{same_table, table_Decides}
 use Rattle.fm_delta.specs.declared.packet.Packet.{Packet}
 use Rattle.fm_delta.specs.Packets.{same_packet}
 

@@ -1,6 +1,6 @@
 -- Equality of packets: part by part.
 use Rattle.std.specs.Prelude.{Bool, ◌==◌, ◌&&◌}
-use Rattle.fm_know.specs.Same.{same_table}
+use Rattle.fm_know.specs.KnowledgeEquality.{same_table}
 use Rattle.fm_delta.specs.declared.packet.Packet.{Packet}
 
 -- one sender, one number, and one knowledge

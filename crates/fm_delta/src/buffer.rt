@@ -8,7 +8,7 @@ ghost use Rattle.fm_records.specs.Options.{or_else};
 ghost use Rattle.fm_records.specs.Sets.{union};
 ghost use Rattle.fm_records.specs.Know.{know};
 ghost use Rattle.fm_delta.specs.Deltas.{end_of, with_delta, with_floor, between, joined_all, cut_fault, can_trim};
-ghost use Rattle.fm_delta.specs.DeltaLaws.{IsJoinOf};
+ghost use Rattle.fm_delta.specs.GroupLaws.{IsJoinOf};
 
 use fm_know::knowledge::Knowledge;
 use fm_lattice::join::{Join, OutOfMemory};

@@ -19,7 +19,7 @@ use Rattle.fm_net.specs.NodeOrder.{node_total, node_exact, ends_total}
 use Rattle.fm_net.specs.Net.{IsArc, IsArcKind, has_node}
 use Rattle.fm_net.specs.ListLaws.{has_member, member_has}
 use Rattle.fm_dimacs.specs.Text.{id_in, arc_line}
-use Rattle.fm_dimacs.specs.Lines.{Place, Comments, Body, Allows, Leads, IsAfterLast, IsNextNode, BreaksAfter}
+use Rattle.fm_dimacs.specs.Syntax.{Place, Comments, Body, Allows, Reaches, IsAfterLast, IsNextNode, BreaksAfter}
 use Rattle.fm_dimacs.specs.Scan.{IsArcAmong, IsAfter, ids_of, numbers_at}
 use Rattle.fm_dimacs.proofs.Ids.{id_below, id_least, id_tells}
 use Rattle.fm_dimacs.proofs.Placed.{id_at}
@@ -85,11 +85,11 @@ step_sound (Body nodes (u ∷ us) arcs left) q line s h = subst (λ z. Sound (no
 step_sound (Body nodes [] arcs (suc left)) q line s h = subst (λ z. Sound (nodes_of z)) (sym h.3) s
 step_sound (Body nodes [] arcs zero) q line s h = absurd h
 
-leads_sound : (k : ℕ) (p q : Place) (text rest : List ℕ) → Sound (nodes_of p) → Leads k p text q rest → Sound (nodes_of q)
+leads_sound : (k : ℕ) (p q : Place) (text rest : List ℕ) → Sound (nodes_of p) → Reaches k p text q rest → Sound (nodes_of q)
 leads_sound zero p q text rest s h = subst (λ z. Sound (nodes_of z)) h.0 s
 leads_sound (suc k) p q text rest s h = leads_sound k h.1 q h.2 rest (step_sound p h.1 h.0 s h.4) h.5
 
-pub read_sound : (k : ℕ) (nodes : List Node) (text rest : List ℕ) → Leads k (Comments []) text (Comments nodes) rest → Sound nodes
+pub read_sound : (k : ℕ) (nodes : List Node) (text rest : List ℕ) → Reaches k (Comments []) text (Comments nodes) rest → Sound nodes
 read_sound k nodes text rest h = leads_sound k (Comments []) (Comments nodes) text rest (record { rise = tt; in_range = tt }) h
 
 -- the first node is the sink
@@ -106,7 +106,7 @@ step_first (Body nodes (u ∷ us) arcs left) q line first h = subst (λ z. (d : 
 step_first (Body nodes [] arcs (suc left)) q line first h = subst (λ z. (d : Node) → 0 < length (nodes_of z) → get_or (nodes_of z) 0 d ≡ Sink) (sym h.3) first
 step_first (Body nodes [] arcs zero) q line first h = absurd h
 
-pub leads_first : (k : ℕ) (p q : Place) (text rest : List ℕ) → ((d : Node) → 0 < length (nodes_of p) → get_or (nodes_of p) 0 d ≡ Sink) → Leads k p text q rest → (d : Node) → 0 < length (nodes_of q) → get_or (nodes_of q) 0 d ≡ Sink
+pub leads_first : (k : ℕ) (p q : Place) (text rest : List ℕ) → ((d : Node) → 0 < length (nodes_of p) → get_or (nodes_of p) 0 d ≡ Sink) → Reaches k p text q rest → (d : Node) → 0 < length (nodes_of q) → get_or (nodes_of q) 0 d ≡ Sink
 leads_first zero p q text rest first h = subst (λ z. (d : Node) → 0 < length (nodes_of z) → get_or (nodes_of z) 0 d ≡ Sink) h.0 first
 leads_first (suc k) p q text rest first h = leads_first k h.1 q h.2 rest (step_first p h.1 h.0 first h.4) h.5
 
@@ -196,11 +196,11 @@ with_others nodes others more a is =
 
 -- behind these arcs, of which one more is to come, no line of an arc stands that may
 pub arc_broken : (nodes : List Node) (arcs : List Arc) (left done lines line : ℕ) (last : Option (Node × Node)) (text rest : List ℕ) → line ≡ lines + done + 1 → done < left → last ≡ last_ends arcs
-    → Leads done (Body nodes [] [] left) text (Body nodes [] arcs (left - done)) rest
+    → Reaches done (Body nodes [] [] left) text (Body nodes [] arcs (left - done)) rest
     → ((a : Arc) (behind : List ℕ) → IsArcAmong nodes a → IsAfter last a → rest ≡ arc_line nodes a ++ behind → ⊥) → BreaksAfter lines (Body nodes [] [] left) text line
 arc_broken nodes arcs left done lines line last text rest number more is leads none =
     let one : left - done ≡ suc (left - done - 1) = omega arith in
-    let here : Leads done (Body nodes [] [] left) text (Body nodes [] arcs (suc (left - done - 1))) rest = subst (λ k. Leads done (Body nodes [] [] left) text (Body nodes [] arcs k) rest) one leads in
+    let here : Reaches done (Body nodes [] [] left) text (Body nodes [] arcs (suc (left - done - 1))) rest = subst (λ k. Reaches done (Body nodes [] [] left) text (Body nodes [] arcs k) rest) one leads in
     broken_behind lines done line (Body nodes [] [] left) (Body nodes [] arcs (suc (left - done - 1))) text rest here
     (broken_here (lines + done) line (Body nodes [] arcs (suc (left - done - 1))) rest number (record {
       no_line = λ l behind next e h. none h.0 behind (with_others nodes arcs [] h.0 h.1.0) (subst (λ ends. IsAfter ends h.0) (sym is) (after_last arcs h.0 h.1.1)) (e ∙ (λ i. h.2 i ++ behind));
@@ -209,11 +209,11 @@ arc_broken nodes arcs left done lines line last text rest number more is leads n
 
 -- one more arc
 pub arc_leads : (nodes : List Node) (arcs all : List Arc) (left done : ℕ) (last : Option (Node × Node)) (text rest behind : List ℕ) (a : Arc) → done < left → last ≡ last_ends arcs
-    → Leads done (Body nodes [] [] left) text (Body nodes [] arcs (left - done)) rest → IsArcAmong nodes a → IsAfter last a → rest ≡ arc_line nodes a ++ behind → all ≡ arcs ++ (a ∷ [])
-    → Leads (done + 1) (Body nodes [] [] left) text (Body nodes [] all (left - (done + 1))) behind
+    → Reaches done (Body nodes [] [] left) text (Body nodes [] arcs (left - done)) rest → IsArcAmong nodes a → IsAfter last a → rest ≡ arc_line nodes a ++ behind → all ≡ arcs ++ (a ∷ [])
+    → Reaches (done + 1) (Body nodes [] [] left) text (Body nodes [] all (left - (done + 1))) behind
 arc_leads nodes arcs all left done last text rest behind a more is leads arc after e whole =
     let one : left - done ≡ suc (left - (done + 1)) = omega arith in
-    let here : Leads done (Body nodes [] [] left) text (Body nodes [] arcs (suc (left - (done + 1)))) rest = subst (λ k. Leads done (Body nodes [] [] left) text (Body nodes [] arcs k) rest) one leads in
+    let here : Reaches done (Body nodes [] [] left) text (Body nodes [] arcs (suc (left - (done + 1)))) rest = subst (λ k. Reaches done (Body nodes [] [] left) text (Body nodes [] arcs k) rest) one leads in
     leads_more done (Body nodes [] [] left) (Body nodes [] arcs (suc (left - (done + 1)))) (Body nodes [] all (left - (done + 1))) text rest (arc_line nodes a) behind here e
     (a, (with_others nodes [] arcs a arc, is_after_last arcs a (subst (λ ends. IsAfter ends a) is after)), refl, ap (λ list. Body nodes [] list (left - (done + 1))) whole)
 

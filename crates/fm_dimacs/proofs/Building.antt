@@ -12,7 +12,7 @@ use Rattle.fm_net.specs.declared.node.Node.TheVariants.{Sink, Unscheduled, Reque
 use Rattle.fm_net.specs.Nodes.{node_cmp, IsInRange, IsRequestInRange}
 use Rattle.fm_net.specs.Net.{Net, CanBeNet}
 use Rattle.fm_dimacs.specs.Text.{dump_text}
-use Rattle.fm_dimacs.specs.Lines.{Comments, Body, Leads, WhyNot}
+use Rattle.fm_dimacs.specs.Syntax.{Comments, Body, Reaches, WhyNot}
 use Rattle.fm_dimacs.proofs.Arcs.{insert_last, leads_first}
 use Rattle.fm_dimacs.proofs.Lasting.{leads_on}
 use Rattle.fm_dimacs.proofs.Whole.{whole_text}
@@ -43,11 +43,11 @@ sink_first [] first some = absurd (omega arith)
 sink_first (n ∷ ns) first some = ap (λ m. m ∷ ns) (first n some)
 
 -- the first of the nodes that were read is the sink
-pub read_first : (k : ℕ) (nodes : List Node) (text rest : List ℕ) → Leads k (Comments []) text (Comments nodes) rest → 0 < length nodes → nodes ≡ Sink ∷ drop 1 nodes
+pub read_first : (k : ℕ) (nodes : List Node) (text rest : List ℕ) → Reaches k (Comments []) text (Comments nodes) rest → 0 < length nodes → nodes ≡ Sink ∷ drop 1 nodes
 read_first k nodes text rest h some = sink_first nodes (leads_first k (Comments []) (Comments nodes) text rest (λ d none. absurd (omega arith)) h) some
 
 -- a text that is read to its end is the network's
-pub read_text : (j : ℕ) (nodes : List Node) (net : Net) (text rest : List ℕ) → Leads j (Comments []) text (Comments nodes) rest → (k : ℕ) × Leads k (Comments nodes) rest (Body net.nodes [] net.arcs 0) [] → text ≡ dump_text net
+pub read_text : (j : ℕ) (nodes : List Node) (net : Net) (text rest : List ℕ) → Reaches j (Comments []) text (Comments nodes) rest → (k : ℕ) × Reaches k (Comments nodes) rest (Body net.nodes [] net.arcs 0) [] → text ≡ dump_text net
 read_text j nodes net text rest h g = whole_text (j + g.0) text net.nodes net.arcs (leads_on j g.0 (Comments []) (Comments nodes) (Body net.nodes [] net.arcs 0) text rest [] h g.1)
 
 -- a network's text is read as it, except for lack of memory

@@ -6,7 +6,7 @@ use Rattle.std.proofs.lemmas.List.{length-append}
 use Rattle.fm_net.specs.declared.node.Node.TheVariants.{Sink}
 use Rattle.fm_net.specs.Net.{sink_alone}
 use Rattle.fm_dimacs.specs.Text.{dump_text, node_line, problem_line}
-use Rattle.fm_dimacs.specs.Lines.{Place, Comments, Body, Allows, Leads, IsStuck, BreaksAt}
+use Rattle.fm_dimacs.specs.Syntax.{Place, Comments, Body, Allows, Reaches, IsMalformedAt, BreaksAt}
 use Rattle.fm_dimacs.proofs.Leading.{line_some}
 
 first_line : node_line 1 Sink ≡ codes "c 1 S\n"
@@ -23,7 +23,7 @@ unfolding digits
 sink_text = refl
 
 -- each line of it may stand where it does, and then the text ends
-sink_lines : Leads 2 (Comments []) (codes "c 1 S\np min 1 0\n") (Body (Sink ∷ []) [] [] 0) []
+sink_lines : Reaches 2 (Comments []) (codes "c 1 S\np min 1 0\n") (Body (Sink ∷ []) [] [] 0) []
 sink_lines = (
   codes "c 1 S\n",
   Comments (Sink ∷ []),
@@ -36,7 +36,7 @@ sink_lines = (
 nothing_stands : (p : Place) → (line behind : List ℕ) (next : Place) → [] ≡ line ++ behind → Allows p line next → length line ≡ 0
 nothing_stands p line behind next e h = omega (arith, ap length e, length-append line behind)
 
-nothing_after : (nodes : List _) → IsStuck (Comments nodes) []
+nothing_after : (nodes : List _) → IsMalformedAt (Comments nodes) []
 nothing_after nodes = record {
   no_line = λ line behind next e h. let none = nothing_stands (Comments nodes) line behind next e h in let some = line_some (Comments nodes) next line tt h in omega arith;
   no_end = λ h. h;

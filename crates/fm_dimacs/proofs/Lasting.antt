@@ -17,25 +17,25 @@ use Rattle.fm_net.specs.NodeOrder.{node_total, node_exact, ends_total}
 use Rattle.fm_net.specs.Net.{Net, CanBeNet, IsArc}
 use Rattle.fm_net.specs.ListLaws.{has_member, member_has}
 use Rattle.fm_dimacs.specs.Text.{node_line, problem_line, arc_line, lines_from, dump_text}
-use Rattle.fm_dimacs.specs.Lines.{Place, Comments, Body, Allows, Leads, IsAfterLast, IsNextNode, IsNextArc, unit_lines}
+use Rattle.fm_dimacs.specs.Syntax.{Place, Comments, Body, Allows, Reaches, IsAfterLast, IsNextNode, IsNextArc, unit_lines}
 use Rattle.fm_dimacs.proofs.Leading.{Arc}
 use Rattle.fm_dimacs.proofs.Whole.{text_of, body_text, dump_is}
 
 -- ---- lines behind lines
 
-pub leads_on : (j k : ℕ) (p q r : Place) (text b c : List ℕ) → Leads j p text q b → Leads k q b r c → Leads (j + k) p text r c
+pub leads_on : (j k : ℕ) (p q r : Place) (text b c : List ℕ) → Reaches j p text q b → Reaches k q b r c → Reaches (j + k) p text r c
 leads_on zero k p q r text b c h g =
     let same : k ≡ 0 + k = omega arith in
-    subst (λ m. Leads m p text r c) same (subst (λ z. Leads k z text r c) (sym h.0) (subst (λ t. Leads k q t r c) (sym h.1) g))
+    subst (λ m. Reaches m p text r c) same (subst (λ z. Reaches k z text r c) (sym h.0) (subst (λ t. Reaches k q t r c) (sym h.1) g))
 leads_on (suc j) k p q r text b c h g =
     let next : suc (j + k) ≡ suc j + k = omega arith in
-    subst (λ m. Leads m p text r c) next (h.0, h.1, h.2, h.3, h.4, leads_on j k h.1 q r h.2 b c h.5 g)
+    subst (λ m. Reaches m p text r c) next (h.0, h.1, h.2, h.3, h.4, leads_on j k h.1 q r h.2 b c h.5 g)
 
-pub leads_one : (p q : Place) (text line behind : List ℕ) → text ≡ line ++ behind → Allows p line q → Leads 1 p text q behind
+pub leads_one : (p q : Place) (text line behind : List ℕ) → text ≡ line ++ behind → Allows p line q → Reaches 1 p text q behind
 leads_one p q text line behind e h = (line, q, behind, e, h, (refl, refl))
 
 -- one more line at the end
-pub leads_more : (j : ℕ) (p q r : Place) (text b line c : List ℕ) → Leads j p text q b → b ≡ line ++ c → Allows q line r → Leads (j + 1) p text r c
+pub leads_more : (j : ℕ) (p q r : Place) (text b line c : List ℕ) → Reaches j p text q b → b ≡ line ++ c → Allows q line r → Reaches (j + 1) p text r c
 leads_more j p q r text b line c h e g = leads_on j 1 p q r text b c h (leads_one q r b line c e g)
 
 -- ---- what comes after a last one
@@ -51,15 +51,15 @@ abbrev AreNextNodes : List Node → List Node → Type 0
 AreNextNodes before [] = Unit {0}
 AreNextNodes before (n ∷ ns) = IsNextNode before n × AreNextNodes (before ++ (n ∷ [])) ns
 
-leads_nodes : (before more : List Node) (rest : List ℕ) → AreNextNodes before more → Leads (length more) (Comments before) (lines_from node_line (length before + 1) more ++ rest) (Comments (before ++ more)) rest
+leads_nodes : (before more : List Node) (rest : List ℕ) → AreNextNodes before more → Reaches (length more) (Comments before) (lines_from node_line (length before + 1) more ++ rest) (Comments (before ++ more)) rest
 leads_nodes before [] rest h = (ap Comments (sym (append-nil before)), refl)
 leads_nodes before (n ∷ ns) rest h =
     let line = node_line (length before + 1) n in
     let here = before ++ (n ∷ []) in
     let count : length here ≡ length before + 1 = length-append before (n ∷ []) in
     let later = leads_nodes here ns rest h.1 in
-    let counted = subst (λ id. Leads (length ns) (Comments here) (lines_from node_line (id + 1) ns ++ rest) (Comments (here ++ ns)) rest) count later in
-    let whole = subst (λ all. Leads (length ns) (Comments here) (lines_from node_line (length before + 1 + 1) ns ++ rest) (Comments all) rest) (append_assoc before (n ∷ []) ns) counted in
+    let counted = subst (λ id. Reaches (length ns) (Comments here) (lines_from node_line (id + 1) ns ++ rest) (Comments (here ++ ns)) rest) count later in
+    let whole = subst (λ all. Reaches (length ns) (Comments here) (lines_from node_line (length before + 1 + 1) ns ++ rest) (Comments all) rest) (append_assoc before (n ∷ []) ns) counted in
     (line, Comments here, lines_from node_line (length before + 1 + 1) ns ++ rest, append_assoc line (lines_from node_line (length before + 1 + 1) ns) rest, inl (n, h.0, refl, refl), whole)
 
 next_node : (before : List Node) (x n : Node) → node_cmp x n ≡ Less → IsInRange n → IsNextNode (before ++ (x ∷ [])) n
@@ -90,7 +90,7 @@ all_nodes (n ∷ ns) sink r in_range =
 
 -- ---- the demand and the supplies
 
-leads_units : (nodes : List Node) (units : List (List ℕ)) (arcs : List Arc) (left : ℕ) (rest : List ℕ) → Leads (length units) (Body nodes units arcs left) (text_of units ++ rest) (Body nodes [] arcs left) rest
+leads_units : (nodes : List Node) (units : List (List ℕ)) (arcs : List Arc) (left : ℕ) (rest : List ℕ) → Reaches (length units) (Body nodes units arcs left) (text_of units ++ rest) (Body nodes [] arcs left) rest
 leads_units nodes [] arcs left rest = (refl, refl)
 leads_units nodes (u ∷ us) arcs left rest = (u, Body nodes us arcs left, text_of us ++ rest, append_assoc u (text_of us) rest, (refl, refl), leads_units nodes us arcs left rest)
 
@@ -100,13 +100,13 @@ abbrev AreNextArcs : List Node → List Arc → List Arc → Type 0
 AreNextArcs nodes before [] = Unit {0}
 AreNextArcs nodes before (a ∷ more) = IsNextArc nodes before a × AreNextArcs nodes (before ++ (a ∷ [])) more
 
-leads_arcs : (nodes : List Node) (before more : List Arc) (rest : List ℕ) → AreNextArcs nodes before more → Leads (length more) (Body nodes [] before (length more)) (flat_map (arc_line nodes) more ++ rest) (Body nodes [] (before ++ more) 0) rest
+leads_arcs : (nodes : List Node) (before more : List Arc) (rest : List ℕ) → AreNextArcs nodes before more → Reaches (length more) (Body nodes [] before (length more)) (flat_map (arc_line nodes) more ++ rest) (Body nodes [] (before ++ more) 0) rest
 leads_arcs nodes before [] rest h = (ap (λ all. Body nodes [] all 0) (sym (append-nil before)), refl)
 leads_arcs nodes before (a ∷ more) rest h =
     let line = arc_line nodes a in
     let here = before ++ (a ∷ []) in
     let later = leads_arcs nodes here more rest h.1 in
-    let whole = subst (λ all. Leads (length more) (Body nodes [] here (length more)) (flat_map (arc_line nodes) more ++ rest) (Body nodes [] all 0) rest) (append_assoc before (a ∷ []) more) later in
+    let whole = subst (λ all. Reaches (length more) (Body nodes [] here (length more)) (flat_map (arc_line nodes) more ++ rest) (Body nodes [] all 0) rest) (append_assoc before (a ∷ []) more) later in
     (line, Body nodes [] here (length more), flat_map (arc_line nodes) more ++ rest, append_assoc line (flat_map (arc_line nodes) more) rest, (a, h.0, refl, refl), whole)
 
 next_arcs : (nodes : List Node) (before : List Arc) (x : Arc) (more : List Arc) → IsBelow ends_cmp x.0 more → IsRising ends_cmp more
@@ -137,7 +137,7 @@ looked_up a (e ∷ es) r h = elim h [
 -- ---- the whole
 
 pub network_leads : (net : Net) → CanBeNet net → length net.arcs < 2 ^ 64
-    → Leads (length net.nodes + (1 + (length (unit_lines net.nodes) + length net.arcs))) (Comments []) (dump_text net) (Body net.nodes [] net.arcs 0) []
+    → Reaches (length net.nodes + (1 + (length (unit_lines net.nodes) + length net.arcs))) (Comments []) (dump_text net) (Body net.nodes [] net.arcs 0) []
 network_leads net can few =
     let nodes = net.nodes in
     let arcs = net.arcs in
@@ -151,10 +151,10 @@ network_leads net can few =
     let by_problem = leads_one (Comments nodes) (Body nodes (unit_lines nodes) [] (length arcs)) (body_text nodes arcs) (problem_line (length nodes) (length arcs)) (text_of (unit_lines nodes) ++ flat_map (arc_line nodes) arcs) refl (inr (length arcs, some, few, refl, refl)) in
     let by_units = leads_units nodes (unit_lines nodes) [] (length arcs) (flat_map (arc_line nodes) arcs) in
     let last = leads_arcs nodes [] arcs [] (all_arcs nodes arcs can.arcs_rise are) in
-    let by_arcs = subst (λ t. Leads (length arcs) (Body nodes [] [] (length arcs)) t (Body nodes [] arcs 0) []) (append-nil (flat_map (arc_line nodes) arcs)) last in
+    let by_arcs = subst (λ t. Reaches (length arcs) (Body nodes [] [] (length arcs)) t (Body nodes [] arcs 0) []) (append-nil (flat_map (arc_line nodes) arcs)) last in
     let behind_problem = leads_on (length (unit_lines nodes)) (length arcs) (Body nodes (unit_lines nodes) [] (length arcs)) (Body nodes [] [] (length arcs)) (Body nodes [] arcs 0) (text_of (unit_lines nodes) ++ flat_map (arc_line nodes) arcs) (flat_map (arc_line nodes) arcs) [] by_units by_arcs in
     let behind_nodes = leads_on 1 (length (unit_lines nodes) + length arcs) (Comments nodes) (Body nodes (unit_lines nodes) [] (length arcs)) (Body nodes [] arcs 0) (body_text nodes arcs) (text_of (unit_lines nodes) ++ flat_map (arc_line nodes) arcs) [] by_problem behind_problem in
-    subst (λ t. Leads (length nodes + (1 + (length (unit_lines nodes) + length arcs))) (Comments []) t (Body nodes [] arcs 0) []) (sym (dump_is nodes arcs))
+    subst (λ t. Reaches (length nodes + (1 + (length (unit_lines nodes) + length arcs))) (Comments []) t (Body nodes [] arcs 0) []) (sym (dump_is nodes arcs))
     (leads_on (length nodes) (1 + (length (unit_lines nodes) + length arcs)) (Comments []) (Comments nodes) (Body nodes [] arcs 0) (lines_from node_line 1 nodes ++ body_text nodes arcs) (body_text nodes arcs) [] by_nodes behind_nodes)
   where
     some_nodes : (ns : List Node) → IsMember Sink ns → 0 < length ns

@@ -11,8 +11,8 @@ use Rattle.fm_net.specs.Nodes.{node_cmp, IsInRange}
 use Rattle.fm_net.specs.NodeOrder.{node_exact, node_total}
 use Rattle.fm_net.specs.Net.{IsArc}
 use Rattle.fm_net.specs.ListLaws.{member_has}
-use Rattle.fm_dimacs.specs.Text.{node_line, problem_line, is_task, demand_line, supply_line, arc_line}
-use Rattle.fm_dimacs.specs.Lines.{Place, Comments, Body, Allows, Leads, IsNextNode, with_line, supplies_from, unit_lines}
+use Rattle.fm_dimacs.specs.Text.{node_line, problem_line, is_task_node, demand_line, supply_line, arc_line}
+use Rattle.fm_dimacs.specs.Syntax.{Place, Comments, Body, Allows, Reaches, IsNextNode, with_line, supplies_from, unit_lines}
 use Rattle.fm_dimacs.specs.Scan.{ids_of, node_at, problem_at, numbers_at}
 use Rattle.fm_dimacs.proofs.Ids.{id_below, id_tells}
 use Rattle.fm_dimacs.proofs.ReadLines.{node_again, problem_again, numbers_again, numbers_line, Fit}
@@ -45,7 +45,7 @@ supplies_some id [] = tt
 supplies_some id (n ∷ ns) = with_some (supply_line id n) (supplies_from (id + 1) ns) (supplies_some (id + 1) ns)
 
 pub units_some : (nodes : List Node) → AllByRecursion IsNonEmpty (unit_lines nodes)
-units_some nodes = with_some (demand_line (count_by is_task nodes)) (supplies_from 1 nodes) (supplies_some 1 nodes)
+units_some nodes = with_some (demand_line (count_by is_task_node nodes)) (supplies_from 1 nodes) (supplies_some 1 nodes)
 
 node_line_some : (id : ℕ) (n : Node) → 0 < length (node_line id n)
 node_line_some id Sink = omega arith
@@ -174,17 +174,17 @@ one_step (Body nodes [] arcs zero) q r text k l b c s e f h g = absurd h
 -- ---- many lines
 
 pub record Onward (j k : ℕ) (q r : Place) (b c : List ℕ) : Type 0 where
-  pub leads : Leads (k - j) q b r c
+  pub leads : Reaches (k - j) q b r c
 
 -- two ways of so many lines are one, as far as both go
-pub onward : (j k : ℕ) (p q r : Place) (text b c : List ℕ) → Small p text → j ≤ k → Leads j p text q b → Leads k p text r c → Onward j k q r b c
+pub onward : (j k : ℕ) (p q r : Place) (text b c : List ℕ) → Small p text → j ≤ k → Reaches j p text q b → Reaches k p text r c → Onward j k q r b c
 onward zero k p q r text b c s le h g =
     let none : k ≡ k - 0 = omega arith in
-    record { leads = subst (λ m. Leads m q b r c) none (subst (λ z. Leads k z b r c) h.0 (subst (λ t. Leads k p t r c) h.1 g)) }
+    record { leads = subst (λ m. Reaches m q b r c) none (subst (λ z. Reaches k z b r c) h.0 (subst (λ t. Reaches k p t r c) h.1 g)) }
 onward (suc j) zero p q r text b c s le h g = absurd (omega arith)
 onward (suc j) (suc k) p q r text b c s le h g =
     let same = one_step p h.1 g.1 text h.0 g.0 h.2 g.2 s h.3 g.3 h.4 g.4 in
-    let rest : Leads k h.1 h.2 r c = subst (λ z. Leads k z h.2 r c) (sym same.place) (subst (λ t. Leads k g.1 t r c) (sym same.behind) g.5) in
+    let rest : Reaches k h.1 h.2 r c = subst (λ z. Reaches k z h.2 r c) (sym same.place) (subst (λ t. Reaches k g.1 t r c) (sym same.behind) g.5) in
     let small = next_small p h.1 h.0 h.2 (subst (Small p) h.3 s) h.4 in
     let less : k - j ≡ suc k - suc j = omega arith in
-    record { leads = subst (λ m. Leads m q b r c) less (onward j k h.1 q r h.2 b c small (omega arith) h.5 rest).leads }
+    record { leads = subst (λ m. Reaches m q b r c) less (onward j k h.1 q r h.2 b c small (omega arith) h.5 rest).leads }

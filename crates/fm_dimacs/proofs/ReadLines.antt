@@ -7,7 +7,7 @@ use Rattle.fm_net.specs.declared.node.Node.{Node}
 use Rattle.fm_net.specs.declared.node.Node.TheVariants.{Sink, Unscheduled, Request, Machine, Task}
 use Rattle.fm_net.specs.Nodes.{IsInRange}
 use Rattle.fm_dimacs.specs.Text.{node_line, problem_line}
-use Rattle.fm_dimacs.specs.Scan.{◌>>=◌, choose, after, number_at, id_at, request_at, named_at, kind_at, node_at, problem_at, numbers_at}
+use Rattle.fm_dimacs.specs.Scan.{◌>>=◌, choose, past_text, number_at, id_at, request_at, named_at, kind_at, node_at, problem_at, numbers_at}
 use Rattle.fm_dimacs.proofs.Words.{Stops, bind_some, guard_some, after_takes, after_again, number_takes, number_again, id_takes, id_again}
 
 some_is : {A : Type 0} (x y : A) → Some x ≡ Some y → x ≡ y
@@ -33,8 +33,8 @@ line_is id (Task task) = refl
 request_takes : (bytes : List ℕ) (x : Node × List ℕ) → request_at bytes ≡ Some x → codes " R " ++ bytes ≡ kind_text x.0 ++ x.1
 unfolding request_at
 request_takes bytes x e =
-    let a = bind_some (number_at bytes) (λ n. after (codes "\n") n.1 >>= λ rest. cond (nat_le n.0 1000000) (Some (Request n.0, rest)) None) x e in
-    let b = bind_some (after (codes "\n") a.0.1) (λ rest. cond (nat_le a.0.0 1000000) (Some (Request a.0.0, rest)) None) x a.2 in
+    let a = bind_some (number_at bytes) (λ n. past_text (codes "\n") n.1 >>= λ rest. cond (nat_le n.0 1000000) (Some (Request n.0, rest)) None) x e in
+    let b = bind_some (past_text (codes "\n") a.0.1) (λ rest. cond (nat_le a.0.0 1000000) (Some (Request a.0.0, rest)) None) x a.2 in
     let g = guard_some (nat_le a.0.0 1000000) (Request a.0.0, b.0) x b.2 in
     let whole : bytes ≡ (decimal a.0.0 ++ codes "\n") ++ b.0 =
     (number_takes bytes a.0 a.1).0 ∙ ap (λ t. decimal a.0.0 ++ t) (after_takes (codes "\n") a.0.1 b.0 b.1) ∙ sym (append_assoc (decimal a.0.0) (codes "\n") b.0) in
@@ -43,15 +43,15 @@ request_takes bytes x e =
 request_again : (request : ℕ) (rest : List ℕ) → request ≤ 1000000 → request_at (decimal request ++ (codes "\n" ++ rest)) ≡ Some (Request request, rest)
 unfolding request_at
 request_again request rest within =
-    ap (λ o. o >>= λ n. after (codes "\n") n.1 >>= λ r. cond (nat_le n.0 1000000) (Some (Request n.0, r)) None) (number_again request (codes "\n" ++ rest) (omega arith) refl)
+    ap (λ o. o >>= λ n. past_text (codes "\n") n.1 >>= λ r. cond (nat_le n.0 1000000) (Some (Request n.0, r)) None) (number_again request (codes "\n" ++ rest) (omega arith) refl)
     ∙ ap (λ o. o >>= λ r. cond (nat_le request 1000000) (Some (Request request, r)) None) (after_again (codes "\n") rest)
     ∙ ap (λ t. cond t (Some (Request request, rest)) None) (le-leb request 1000000 within)
 
 named_takes : (node : ℕ → Node) (bytes : List ℕ) (x : Node × List ℕ) → named_at node bytes ≡ Some x → (n : ℕ) × (x.0 ≡ node n) × (bytes ≡ (id_text n ++ codes "\n") ++ x.1)
 unfolding named_at
 named_takes node bytes x e =
-    let a = bind_some (id_at bytes) (λ n. after (codes "\n") n.1 >>= λ rest. Some (node n.0, rest)) x e in
-    let b = bind_some (after (codes "\n") a.0.1) (λ rest. Some (node a.0.0, rest)) x a.2 in
+    let a = bind_some (id_at bytes) (λ n. past_text (codes "\n") n.1 >>= λ rest. Some (node n.0, rest)) x e in
+    let b = bind_some (past_text (codes "\n") a.0.1) (λ rest. Some (node a.0.0, rest)) x a.2 in
     let is = some_is (node a.0.0, b.0) x b.2 in
     let whole : bytes ≡ (id_text a.0.0 ++ codes "\n") ++ b.0 =
     id_takes bytes a.0 a.1 ∙ ap (λ t. id_text a.0.0 ++ t) (after_takes (codes "\n") a.0.1 b.0 b.1) ∙ sym (append_assoc (id_text a.0.0) (codes "\n") b.0) in
@@ -60,7 +60,7 @@ named_takes node bytes x e =
 named_again : (node : ℕ → Node) (n : ℕ) (rest : List ℕ) → n < 2 ^ 128 → named_at node (id_text n ++ (codes "\n" ++ rest)) ≡ Some (node n, rest)
 unfolding named_at
 named_again node n rest fits =
-    ap (λ o. o >>= λ m. after (codes "\n") m.1 >>= λ r. Some (node m.0, r)) (id_again n (codes "\n" ++ rest) fits)
+    ap (λ o. o >>= λ m. past_text (codes "\n") m.1 >>= λ r. Some (node m.0, r)) (id_again n (codes "\n" ++ rest) fits)
     ∙ ap (λ o. o >>= λ r. Some (node n, r)) (after_again (codes "\n") rest)
 
 -- a choice that gave a value, by the first or by the others
@@ -69,7 +69,7 @@ chosen : {A B : Type 0} (o : Option A) (f : A → Option B) (other : Option B) (
 chosen None f other y P e first later = later e
 chosen (Some x) f other y P e first later = first x refl e
 
-named_kind : (node : ℕ → Node) (word bytes rest : List ℕ) (x : Node × List ℕ) → ((n : ℕ) → kind_text (node n) ≡ word ++ (id_text n ++ codes "\n")) → after word bytes ≡ Some rest → named_at node rest ≡ Some x → bytes ≡ kind_text x.0 ++ x.1
+named_kind : (node : ℕ → Node) (word bytes rest : List ℕ) (x : Node × List ℕ) → ((n : ℕ) → kind_text (node n) ≡ word ++ (id_text n ++ codes "\n")) → past_text word bytes ≡ Some rest → named_at node rest ≡ Some x → bytes ≡ kind_text x.0 ++ x.1
 named_kind node word bytes rest x text e f =
     let t = named_takes node rest x f in
     after_takes word bytes rest e ∙ ap (λ r. word ++ r) t.2 ∙ sym (append_assoc word (id_text t.0 ++ codes "\n") x.1) ∙ ap (λ w. w ++ x.1) (sym (text t.0)) ∙ ap (λ n. kind_text n ++ x.1) (sym t.1)
@@ -77,15 +77,15 @@ named_kind node word bytes rest x text e f =
 kind_takes : (bytes : List ℕ) (x : Node × List ℕ) → kind_at bytes ≡ Some x → bytes ≡ kind_text x.0 ++ x.1
 unfolding kind_at
 kind_takes bytes x e =
-    chosen (after (codes " S\n") bytes) (λ rest. Some (Sink, rest)) _ x (bytes ≡ kind_text x.0 ++ x.1) e
+    chosen (past_text (codes " S\n") bytes) (λ rest. Some (Sink, rest)) _ x (bytes ≡ kind_text x.0 ++ x.1) e
     (λ rest f g. after_takes (codes " S\n") bytes rest f ∙ ap (λ (y : Node × List ℕ). kind_text y.0 ++ y.1) (some_is (Sink, rest) x g))
-    (λ e2. chosen (after (codes " U ") bytes) (named_at Unscheduled) _ x (bytes ≡ kind_text x.0 ++ x.1) e2
+    (λ e2. chosen (past_text (codes " U ") bytes) (named_at Unscheduled) _ x (bytes ≡ kind_text x.0 ++ x.1) e2
     (λ rest f g. named_kind Unscheduled (codes " U ") bytes rest x (λ n. refl) f g)
-    (λ e3. chosen (after (codes " R ") bytes) request_at _ x (bytes ≡ kind_text x.0 ++ x.1) e3
+    (λ e3. chosen (past_text (codes " R ") bytes) request_at _ x (bytes ≡ kind_text x.0 ++ x.1) e3
     (λ rest f g. after_takes (codes " R ") bytes rest f ∙ request_takes rest x g)
-    (λ e4. chosen (after (codes " M ") bytes) (named_at Machine) _ x (bytes ≡ kind_text x.0 ++ x.1) e4
+    (λ e4. chosen (past_text (codes " M ") bytes) (named_at Machine) _ x (bytes ≡ kind_text x.0 ++ x.1) e4
     (λ rest f g. named_kind Machine (codes " M ") bytes rest x (λ n. refl) f g)
-    (λ e5. chosen (after (codes " T ") bytes) (named_at Task) None x (bytes ≡ kind_text x.0 ++ x.1) e5
+    (λ e5. chosen (past_text (codes " T ") bytes) (named_at Task) None x (bytes ≡ kind_text x.0 ++ x.1) e5
     (λ rest f g. named_kind Task (codes " T ") bytes rest x (λ n. refl) f g)
     (λ e6. absurd (let never : ⊥ = cc in never))))))
 
@@ -100,7 +100,7 @@ kind_again (Task task) rest fits = ap (named_at Task) (append_assoc (id_text tas
 pub node_takes : (id : ℕ) (bytes : List ℕ) (x : Node × List ℕ) → node_at id bytes ≡ Some x → bytes ≡ node_line id x.0 ++ x.1
 unfolding node_at
 node_takes id bytes x e =
-    let a = bind_some (after (codes "c ") bytes) (λ rest. number_at rest >>= λ n. cond (eqb n.0 id) (kind_at n.1) None) x e in
+    let a = bind_some (past_text (codes "c ") bytes) (λ rest. number_at rest >>= λ n. cond (eqb n.0 id) (kind_at n.1) None) x e in
     let b = bind_some (number_at a.0) (λ n. cond (eqb n.0 id) (kind_at n.1) None) x a.2 in
     elim (eqb b.0.0 id) as (λ t. eqb b.0.0 id ≡ t → cond t (kind_at b.0.1) None ≡ Some x → bytes ≡ node_line id x.0 ++ x.1) [
       | true ↦ λ same f.
@@ -137,11 +137,11 @@ five a b c d e rest = simp append_assoc
 pub problem_takes : (nodes : ℕ) (bytes : List ℕ) (x : ℕ × List ℕ) → problem_at nodes bytes ≡ Some x → (bytes ≡ problem_line nodes x.0 ++ x.1) × (x.0 < 2 ^ 64)
 unfolding problem_at
 problem_takes nodes bytes x e =
-    let a = bind_some (after (codes "p min ") bytes) (λ rest. number_at rest >>= λ n. after (codes " ") n.1 >>= λ rest. number_at rest >>= λ arcs. after (codes "\n") arcs.1 >>= λ rest. cond (eqb n.0 nodes) (Some (arcs.0, rest)) None) x e in
-    let b = bind_some (number_at a.0) (λ n. after (codes " ") n.1 >>= λ rest. number_at rest >>= λ arcs. after (codes "\n") arcs.1 >>= λ rest. cond (eqb n.0 nodes) (Some (arcs.0, rest)) None) x a.2 in
-    let c = bind_some (after (codes " ") b.0.1) (λ rest. number_at rest >>= λ arcs. after (codes "\n") arcs.1 >>= λ rest. cond (eqb b.0.0 nodes) (Some (arcs.0, rest)) None) x b.2 in
-    let d = bind_some (number_at c.0) (λ arcs. after (codes "\n") arcs.1 >>= λ rest. cond (eqb b.0.0 nodes) (Some (arcs.0, rest)) None) x c.2 in
-    let f = bind_some (after (codes "\n") d.0.1) (λ rest. cond (eqb b.0.0 nodes) (Some (d.0.0, rest)) None) x d.2 in
+    let a = bind_some (past_text (codes "p min ") bytes) (λ rest. number_at rest >>= λ n. past_text (codes " ") n.1 >>= λ rest. number_at rest >>= λ arcs. past_text (codes "\n") arcs.1 >>= λ rest. cond (eqb n.0 nodes) (Some (arcs.0, rest)) None) x e in
+    let b = bind_some (number_at a.0) (λ n. past_text (codes " ") n.1 >>= λ rest. number_at rest >>= λ arcs. past_text (codes "\n") arcs.1 >>= λ rest. cond (eqb n.0 nodes) (Some (arcs.0, rest)) None) x a.2 in
+    let c = bind_some (past_text (codes " ") b.0.1) (λ rest. number_at rest >>= λ arcs. past_text (codes "\n") arcs.1 >>= λ rest. cond (eqb b.0.0 nodes) (Some (arcs.0, rest)) None) x b.2 in
+    let d = bind_some (number_at c.0) (λ arcs. past_text (codes "\n") arcs.1 >>= λ rest. cond (eqb b.0.0 nodes) (Some (arcs.0, rest)) None) x c.2 in
+    let f = bind_some (past_text (codes "\n") d.0.1) (λ rest. cond (eqb b.0.0 nodes) (Some (d.0.0, rest)) None) x d.2 in
     let g = guard_some (eqb b.0.0 nodes) (d.0.0, f.0) x f.2 in
     let number : b.0.0 ≡ nodes = eqb-true b.0.0 nodes g.0 in
     let arcs = number_takes c.0 d.0 d.1 in
@@ -157,10 +157,10 @@ unfolding problem_at
 problem_again nodes arcs rest fits fit =
     let behind_n = codes " " ++ (decimal arcs ++ (codes "\n" ++ rest)) in
     ap (problem_at nodes) (five (codes "p min ") (decimal nodes) (codes " ") (decimal arcs) (codes "\n") rest)
-    ∙ ap (λ o. o >>= λ r. number_at r >>= λ n. after (codes " ") n.1 >>= λ r. number_at r >>= λ m. after (codes "\n") m.1 >>= λ r. cond (eqb n.0 nodes) (Some (m.0, r)) None) (after_again (codes "p min ") (decimal nodes ++ behind_n))
-    ∙ ap (λ o. o >>= λ n. after (codes " ") n.1 >>= λ r. number_at r >>= λ m. after (codes "\n") m.1 >>= λ r. cond (eqb n.0 nodes) (Some (m.0, r)) None) (number_again nodes behind_n fits refl)
-    ∙ ap (λ o. o >>= λ r. number_at r >>= λ m. after (codes "\n") m.1 >>= λ r. cond (eqb nodes nodes) (Some (m.0, r)) None) (after_again (codes " ") (decimal arcs ++ (codes "\n" ++ rest)))
-    ∙ ap (λ o. o >>= λ m. after (codes "\n") m.1 >>= λ r. cond (eqb nodes nodes) (Some (m.0, r)) None) (number_again arcs (codes "\n" ++ rest) fit refl)
+    ∙ ap (λ o. o >>= λ r. number_at r >>= λ n. past_text (codes " ") n.1 >>= λ r. number_at r >>= λ m. past_text (codes "\n") m.1 >>= λ r. cond (eqb n.0 nodes) (Some (m.0, r)) None) (after_again (codes "p min ") (decimal nodes ++ behind_n))
+    ∙ ap (λ o. o >>= λ n. past_text (codes " ") n.1 >>= λ r. number_at r >>= λ m. past_text (codes "\n") m.1 >>= λ r. cond (eqb n.0 nodes) (Some (m.0, r)) None) (number_again nodes behind_n fits refl)
+    ∙ ap (λ o. o >>= λ r. number_at r >>= λ m. past_text (codes "\n") m.1 >>= λ r. cond (eqb nodes nodes) (Some (m.0, r)) None) (after_again (codes " ") (decimal arcs ++ (codes "\n" ++ rest)))
+    ∙ ap (λ o. o >>= λ m. past_text (codes "\n") m.1 >>= λ r. cond (eqb nodes nodes) (Some (m.0, r)) None) (number_again arcs (codes "\n" ++ rest) fit refl)
     ∙ ap (λ o. o >>= λ r. cond (eqb nodes nodes) (Some (arcs, r)) None) (after_again (codes "\n") rest)
     ∙ ap (λ t. cond t (Some (arcs, rest)) None) (eq-eqb nodes nodes refl)
 
@@ -184,16 +184,16 @@ Found = Option ((ℕ × ℕ × ℕ × ℕ) × List ℕ)
 
 -- what is read behind each of the numbers
 abbrev behind_cost : ℕ → ℕ → ℕ → ℕ × List ℕ → Found
-behind_cost s t c w = after (codes "\n") w.1 >>= λ r. Some ((s, t, c, w.0), r)
+behind_cost s t c w = past_text (codes "\n") w.1 >>= λ r. Some ((s, t, c, w.0), r)
 
 abbrev behind_capacity : ℕ → ℕ → ℕ × List ℕ → Found
-behind_capacity s t c = after (codes " ") c.1 >>= λ r. number_at r >>= behind_cost s t c.0
+behind_capacity s t c = past_text (codes " ") c.1 >>= λ r. number_at r >>= behind_cost s t c.0
 
 abbrev behind_target : ℕ → ℕ × List ℕ → Found
-behind_target s t = after (codes " 0 ") t.1 >>= λ r. number_at r >>= behind_capacity s t.0
+behind_target s t = past_text (codes " 0 ") t.1 >>= λ r. number_at r >>= behind_capacity s t.0
 
 abbrev behind_source : ℕ × List ℕ → Found
-behind_source s = after (codes " ") s.1 >>= λ r. number_at r >>= behind_target s.0
+behind_source s = past_text (codes " ") s.1 >>= λ r. number_at r >>= behind_target s.0
 
 -- a word, and then a number
 pub record Wrote (word bytes : List ℕ) (f : ℕ × List ℕ → Found) (y : (ℕ × ℕ × ℕ × ℕ) × List ℕ) : Type 0 where
@@ -202,14 +202,14 @@ pub record Wrote (word bytes : List ℕ) (f : ℕ × List ℕ → Found) (y : (�
   pub fits : found.0 < 2 ^ 64
   pub rest : f found ≡ Some y
 
-number_behind : (word bytes : List ℕ) (f : ℕ × List ℕ → Found) (y : (ℕ × ℕ × ℕ × ℕ) × List ℕ) → (after word bytes >>= λ r. number_at r >>= f) ≡ Some y → Wrote word bytes f y
+number_behind : (word bytes : List ℕ) (f : ℕ × List ℕ → Found) (y : (ℕ × ℕ × ℕ × ℕ) × List ℕ) → (past_text word bytes >>= λ r. number_at r >>= f) ≡ Some y → Wrote word bytes f y
 number_behind word bytes f y e =
-    let a = bind_some (after word bytes) (λ r. number_at r >>= f) y e in
+    let a = bind_some (past_text word bytes) (λ r. number_at r >>= f) y e in
     let b = bind_some (number_at a.0) f y a.2 in
     let n = number_takes a.0 b.0 b.1 in
     record { found = b.0; text = after_takes word bytes a.0 a.1 ∙ ap (λ t. word ++ t) n.0; fits = n.1; rest = b.2 }
 
-written_behind : (word rest : List ℕ) (n : ℕ) (f : ℕ × List ℕ → Found) → n < 2 ^ 64 → Stops rest → (after word (word ++ (decimal n ++ rest)) >>= λ r. number_at r >>= f) ≡ f (n, rest)
+written_behind : (word rest : List ℕ) (n : ℕ) (f : ℕ × List ℕ → Found) → n < 2 ^ 64 → Stops rest → (past_text word (word ++ (decimal n ++ rest)) >>= λ r. number_at r >>= f) ≡ f (n, rest)
 written_behind word rest n f fits stop =
     ap (λ o. o >>= λ r. number_at r >>= f) (after_again word (decimal n ++ rest)) ∙ ap (λ o. o >>= f) (number_again n rest fits stop)
 
@@ -231,7 +231,7 @@ numbers_take bytes x e =
     let t = number_behind (codes " ") s.found.1 (behind_target s.found.0) x s.rest in
     let c = number_behind (codes " 0 ") t.found.1 (behind_capacity s.found.0 t.found.0) x t.rest in
     let w = number_behind (codes " ") c.found.1 (behind_cost s.found.0 t.found.0 c.found.0) x c.rest in
-    let n = bind_some (after (codes "\n") w.found.1) (λ r. Some ((s.found.0, t.found.0, c.found.0, w.found.0), r)) x w.rest in
+    let n = bind_some (past_text (codes "\n") w.found.1) (λ r. Some ((s.found.0, t.found.0, c.found.0, w.found.0), r)) x w.rest in
     let is = some_is ((s.found.0, t.found.0, c.found.0, w.found.0), n.0) x n.2 in
     joined s.found.0 t.found.0 c.found.0 w.found.0 bytes s.found.1 t.found.1 c.found.1 w.found.1 n.0 x s.text t.text c.text w.text (after_takes (codes "\n") w.found.1 n.0 n.1)
     is (record { source = s.fits; target = t.fits; capacity = c.fits; cost = w.fits })

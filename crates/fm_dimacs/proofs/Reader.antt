@@ -13,8 +13,8 @@ use Rattle.fm_records.specs.declared.refusal.Refusal.TheVariants.{OutOfMemory, B
 use Rattle.fm_net.specs.declared.node.Node.{Node}
 use Rattle.fm_net.specs.Nodes.{node_cmp, IsInRange}
 use Rattle.fm_dimacs.specs.Text.{node_line, problem_line, supply_line}
-use Rattle.fm_dimacs.specs.Lines.{Place, Comments, Body, Leads, IsAfterLast, IsNextNode, BreaksAfter, IsFault, with_line, supplies_from, unit_lines}
-use Rattle.fm_dimacs.specs.Scan.{Reads, after, node_at, problem_at}
+use Rattle.fm_dimacs.specs.Syntax.{Place, Comments, Body, Reaches, IsAfterLast, IsNextNode, BreaksAfter, IsFault, with_line, supplies_from, unit_lines}
+use Rattle.fm_dimacs.specs.Scan.{Reads, past_text, node_at, problem_at}
 use Rattle.fm_dimacs.proofs.Leading.{next_in_range, same_node_line, node_no_problem}
 use Rattle.fm_dimacs.proofs.Words.{after_takes, after_again}
 use Rattle.fm_dimacs.proofs.ReadLines.{node_again, node_takes, problem_again, problem_takes}
@@ -77,18 +77,18 @@ out_of_order nodes text m rest fits r e never =
     })
 
 -- a fault behind good lines
-pub fault_behind : (lines n behind : ℕ) (p q : Place) (text rest : List ℕ) (refusal : Refusal) → behind ≡ lines + n → Leads n p text q rest → IsFault behind q rest refusal → IsFault lines p text refusal
+pub fault_behind : (lines n behind : ℕ) (p q : Place) (text rest : List ℕ) (refusal : Refusal) → behind ≡ lines + n → Reaches n p text q rest → IsFault behind q rest refusal → IsFault lines p text refusal
 fault_behind lines n behind p q text rest OutOfMemory e h f = tt
 fault_behind lines n behind p q text rest (BadDimacs line) e h f = broken_behind lines n line p q text rest h (subst (λ m. BreaksAfter m q rest line) e f)
 fault_behind lines n behind p q text rest _ e h f = absurd f
 
 -- one more node
-pub node_more : (nodes items : List Node) (n : Node) (text b c : List ℕ) → items ≡ nodes ++ (n ∷ []) → Leads (length nodes) (Comments []) text (Comments nodes) b → IsNextNode nodes n → b ≡ node_line (length nodes + 1) n ++ c
-    → Leads (length items) (Comments []) text (Comments items) c
+pub node_more : (nodes items : List Node) (n : Node) (text b c : List ℕ) → items ≡ nodes ++ (n ∷ []) → Reaches (length nodes) (Comments []) text (Comments nodes) b → IsNextNode nodes n → b ≡ node_line (length nodes + 1) n ++ c
+    → Reaches (length items) (Comments []) text (Comments items) c
 node_more nodes items n text b c e h next is =
     let count : length nodes + 1 ≡ length items = omega (arith, ap length e, length-append nodes (n ∷ [])) in
     let more = leads_more (length nodes) (Comments []) (Comments nodes) (Comments items) text b (node_line (length nodes + 1) n) c h is (inl (n, next, refl, ap Comments e)) in
-    subst (λ k. Leads k (Comments []) text (Comments items) c) count more
+    subst (λ k. Reaches k (Comments []) text (Comments items) c) count more
 
 -- no problem line stands where none is read, and none may stand before any comment
 pub problem_broken : (nodes : List Node) (text : List ℕ) (line : ℕ) → line ≡ length nodes + 1 → length nodes < 2 ^ 64 → ((n : Node) (behind : List ℕ) → IsNextNode nodes n → text ≡ node_line (length nodes + 1) n ++ behind → ⊥)
@@ -102,22 +102,22 @@ problem_broken nodes text line e few never none =
       no_end = λ h. h;
     })
 
-pub problem_leads : (nodes : List Node) (text : List ℕ) (x : ℕ × List ℕ) → 0 < length nodes → problem_at (length nodes) text ≡ Some x → Leads 1 (Comments nodes) text (Body nodes (unit_lines nodes) [] x.0) x.1
+pub problem_leads : (nodes : List Node) (text : List ℕ) (x : ℕ × List ℕ) → 0 < length nodes → problem_at (length nodes) text ≡ Some x → Reaches 1 (Comments nodes) text (Body nodes (unit_lines nodes) [] x.0) x.1
 problem_leads nodes text x some e =
     let found = problem_takes (length nodes) text x e in
     leads_one (Comments nodes) (Body nodes (unit_lines nodes) [] x.0) text (problem_line (length nodes) x.0) x.1 found.0 (inr (x.0, some, found.1, refl, refl))
 
 -- ---- the demand and the supplies
 
-pub unit_leads : (line text rest : List ℕ) → (length line == 0) ≡ false → after line text ≡ Some rest → (nodes : List Node) (units : List (List ℕ)) (left : ℕ) → Leads 1 (Body nodes (with_line line units) [] left) text (Body nodes units [] left) rest
+pub unit_leads : (line text rest : List ℕ) → (length line == 0) ≡ false → past_text line text ≡ Some rest → (nodes : List Node) (units : List (List ℕ)) (left : ℕ) → Reaches 1 (Body nodes (with_line line units) [] left) text (Body nodes units [] left) rest
 unit_leads [] text rest some e nodes units left = absurd (let never : ⊥ = cc in never)
 unit_leads (b ∷ bs) text rest some e nodes units left = leads_one (Body nodes ((b ∷ bs) ∷ units) [] left) (Body nodes units [] left) text (b ∷ bs) rest (after_takes (b ∷ bs) text rest e) (refl, refl)
 
-pub unit_broken : (line text : List ℕ) (lines : ℕ) → (length line == 0) ≡ false → after line text ≡ None → (nodes : List Node) (units : List (List ℕ)) (left : ℕ) → BreaksAfter lines (Body nodes (with_line line units) [] left) text (lines + 1)
+pub unit_broken : (line text : List ℕ) (lines : ℕ) → (length line == 0) ≡ false → past_text line text ≡ None → (nodes : List Node) (units : List (List ℕ)) (left : ℕ) → BreaksAfter lines (Body nodes (with_line line units) [] left) text (lines + 1)
 unit_broken [] text lines some e nodes units left = absurd (let never : ⊥ = cc in never)
 unit_broken (b ∷ bs) text lines some e nodes units left =
     broken_here lines (lines + 1) (Body nodes ((b ∷ bs) ∷ units) [] left) text refl (record {
-      no_line = λ line behind next is h. some_none behind (sym (after_again (b ∷ bs) behind) ∙ sym (ap (after (b ∷ bs)) (is ∙ (λ i. h.0 i ++ behind))) ∙ e);
+      no_line = λ line behind next is h. some_none behind (sym (after_again (b ∷ bs) behind) ∙ sym (ap (past_text (b ∷ bs)) (is ∙ (λ i. h.0 i ++ behind))) ∙ e);
       no_end = λ h. h;
     })
 
@@ -126,7 +126,7 @@ supplies_at id i nodes n h is =
     let next : suc i ≡ i + 1 = omega arith in
     ap (supplies_from id) (drop-cons nodes i n h) ∙ (λ j. with_line (supply_line id (sym is j)) (supplies_from (id + 1) (drop (next j) nodes)))
 
-pub unit_room : (line text rest : List ℕ) → (length line == 0) ≡ false → after line text ≡ Some rest → 1 + length rest ≤ length text
+pub unit_room : (line text rest : List ℕ) → (length line == 0) ≡ false → past_text line text ≡ Some rest → 1 + length rest ≤ length text
 unit_room line text rest some e = let other = eqb-false (length line) 0 some in omega (arith, ap length (after_takes line text rest e), length-append line rest)
 
 -- a call that passes on the refusal of another

@@ -4,8 +4,8 @@ use Rattle.std.specs.Prelude.{count_by}
 use Rattle.std.specs.List.{flat_map}
 use Rattle.std.proofs.lemmas.List.{append-nil, length-append}
 use Rattle.fm_net.specs.declared.node.Node.{Node}
-use Rattle.fm_dimacs.specs.Text.{node_line, problem_line, is_task, demand_line, supply_line, arc_line, lines_from, dump_text}
-use Rattle.fm_dimacs.specs.Lines.{Place, Comments, Body, Leads, with_line, supplies_from, unit_lines}
+use Rattle.fm_dimacs.specs.Text.{node_line, problem_line, is_task_node, demand_line, supply_line, arc_line, lines_from, dump_text}
+use Rattle.fm_dimacs.specs.Syntax.{Place, Comments, Body, Reaches, with_line, supplies_from, unit_lines}
 use Rattle.fm_dimacs.proofs.Leading.{Arc}
 
 abbrev pub text_of : List (List ℕ) → List ℕ
@@ -19,8 +19,8 @@ supplies_text : (id : ℕ) (nodes : List Node) → text_of (supplies_from id nod
 supplies_text id [] = refl
 supplies_text id (n ∷ ns) = with_text (supply_line id n) (supplies_from (id + 1) ns) ∙ ap (λ t. supply_line id n ++ t) (supplies_text (id + 1) ns)
 
-pub units_text : (nodes : List Node) → text_of (unit_lines nodes) ≡ demand_line (count_by is_task nodes) ++ lines_from supply_line 1 nodes
-units_text nodes = with_text (demand_line (count_by is_task nodes)) (supplies_from 1 nodes) ∙ ap (λ t. demand_line (count_by is_task nodes) ++ t) (supplies_text 1 nodes)
+pub units_text : (nodes : List Node) → text_of (unit_lines nodes) ≡ demand_line (count_by is_task_node nodes) ++ lines_from supply_line 1 nodes
+units_text nodes = with_text (demand_line (count_by is_task_node nodes)) (supplies_from 1 nodes) ∙ ap (λ t. demand_line (count_by is_task_node nodes) ++ t) (supplies_text 1 nodes)
 
 -- what follows the comments
 abbrev pub body_text : List Node → List Arc → List ℕ
@@ -28,8 +28,8 @@ body_text nodes arcs = problem_line (length nodes) (length arcs) ++ (text_of (un
 
 pub dump_is : (nodes : List Node) (arcs : List Arc) → dump_text (record { nodes = nodes; arcs = arcs }) ≡ lines_from node_line 1 nodes ++ body_text nodes arcs
 dump_is nodes arcs =
-    let units : demand_line (count_by is_task nodes) ++ (lines_from supply_line 1 nodes ++ flat_map (arc_line nodes) arcs) ≡ text_of (unit_lines nodes) ++ flat_map (arc_line nodes) arcs =
-    sym (append_assoc (demand_line (count_by is_task nodes)) (lines_from supply_line 1 nodes) (flat_map (arc_line nodes) arcs)) ∙ ap (λ t. t ++ flat_map (arc_line nodes) arcs) (sym (units_text nodes)) in
+    let units : demand_line (count_by is_task_node nodes) ++ (lines_from supply_line 1 nodes ++ flat_map (arc_line nodes) arcs) ≡ text_of (unit_lines nodes) ++ flat_map (arc_line nodes) arcs =
+    sym (append_assoc (demand_line (count_by is_task_node nodes)) (lines_from supply_line 1 nodes) (flat_map (arc_line nodes) arcs)) ∙ ap (λ t. t ++ flat_map (arc_line nodes) arcs) (sym (units_text nodes)) in
     outer (lines_from node_line 1 nodes) (problem_line (length nodes) (length arcs)) _ _ units
   where
     outer : (a b x y : List ℕ) → x ≡ y → a ++ (b ++ x) ≡ a ++ (b ++ y)
@@ -41,7 +41,7 @@ abbrev pub Remains : Place → List ℕ → List Node → List Arc → Type 0
 Remains (Comments before) text nodes arcs = (more : List Node) × (nodes ≡ before ++ more) × (text ≡ lines_from node_line (length before + 1) more ++ body_text nodes arcs)
 Remains (Body of units before left) text nodes arcs = (more : List Arc) × (of ≡ nodes) × (arcs ≡ before ++ more) × (length more ≡ left) × (text ≡ text_of units ++ flat_map (arc_line nodes) more)
 
-pub remains : (k : ℕ) (p : Place) (text : List ℕ) (nodes : List Node) (arcs : List Arc) → Leads k p text (Body nodes [] arcs 0) [] → Remains p text nodes arcs
+pub remains : (k : ℕ) (p : Place) (text : List ℕ) (nodes : List Node) (arcs : List Arc) → Reaches k p text (Body nodes [] arcs 0) [] → Remains p text nodes arcs
 remains zero p text nodes arcs h = subst (λ z. Remains z text nodes arcs) (sym h.0) ([], refl, sym (append-nil arcs), refl, h.1)
 remains (suc k) (Comments before) text nodes arcs h =
     let rest = remains k h.1 h.2 nodes arcs h.5 in
@@ -73,7 +73,7 @@ remains (suc k) (Body of [] before (suc left)) text nodes arcs h =
 remains (suc k) (Body of [] before zero) text nodes arcs h = absurd h.4
 
 -- a text that is read to its end is the network's
-pub whole_text : (k : ℕ) (text : List ℕ) (nodes : List Node) (arcs : List Arc) → Leads k (Comments []) text (Body nodes [] arcs 0) [] → text ≡ dump_text (record { nodes = nodes; arcs = arcs })
+pub whole_text : (k : ℕ) (text : List ℕ) (nodes : List Node) (arcs : List Arc) → Reaches k (Comments []) text (Body nodes [] arcs 0) [] → text ≡ dump_text (record { nodes = nodes; arcs = arcs })
 whole_text k text nodes arcs h =
     let r = remains k (Comments []) text nodes arcs h in
     r.2 ∙ ap (λ ns. lines_from node_line 1 ns ++ body_text nodes arcs) (sym r.1) ∙ sym (dump_is nodes arcs)

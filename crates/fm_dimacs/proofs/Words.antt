@@ -12,7 +12,7 @@ use Rattle.std.proofs.lemmas.Str.{digit_value_digit}
 use Rattle.std.proofs.lemmas.Str.Parse.{digit_from_value}
 use Rattle.fm_records.specs.Ids.{read_id, id_text}
 use Rattle.fm_records.specs.IdLaws.{text_read}
-use Rattle.fm_dimacs.specs.Scan.{◌>>=◌, after, digits_from, fitting, number_at, id_at}
+use Rattle.fm_dimacs.specs.Scan.{◌>>=◌, past_text, digits_from, fitting, number_at, id_at}
 use Rattle.fm_dimacs.proofs.Digits.{grows}
 use Rattle.fm_dimacs.proofs.Uuids.{id_text_long}
 
@@ -28,13 +28,13 @@ guard_some false x y e = absurd (let never : ⊥ = cc in never)
 
 -- ---- a text
 
-pub after_takes : (text bytes rest : List ℕ) → after text bytes ≡ Some rest → bytes ≡ text ++ rest
+pub after_takes : (text bytes rest : List ℕ) → past_text text bytes ≡ Some rest → bytes ≡ text ++ rest
 after_takes text bytes rest e =
     let g = guard_some (bytes_eq (take (length text) bytes) text) (drop (length text) bytes) rest e in
     let front : take (length text) bytes ≡ text = (bytes_eq-Decides (take (length text) bytes) text).0 g.0 in
     sym (take-append-drop (length text) bytes) ∙ (λ i. front i ++ g.1 i)
 
-pub after_again : (text rest : List ℕ) → after text (text ++ rest) ≡ Some rest
+pub after_again : (text rest : List ℕ) → past_text text (text ++ rest) ≡ Some rest
 after_again text rest =
     let front : take (length text) (text ++ rest) ≡ text = take_at text rest (length text) refl in
     let same : bytes_eq (take (length text) (text ++ rest)) text ≡ true = (bytes_eq-Decides (take (length text) (text ++ rest)) text).1 front in

@@ -33,8 +33,8 @@ ReadsWithin view (Ok found) read = Reads view found read
 ReadsWithin view (Err refusal) read = refusal ≡ OutOfMemory
 
 -- the text
-abbrev pub after : List ℕ → List ℕ → Option (List ℕ)
-after text bytes = cond (bytes_eq (take (length text) bytes) text) (Some (drop (length text) bytes)) None
+abbrev pub past_text : List ℕ → List ℕ → Option (List ℕ)
+past_text text bytes = cond (bytes_eq (take (length text) bytes) text) (Some (drop (length text) bytes)) None
 
 -- the number that the digits go on to from n
 abbrev pub digits_from : ℕ → List ℕ → ℕ × List ℕ
@@ -59,54 +59,54 @@ id_at bytes = do
 unfoldable pub request_at : List ℕ → Option (Node × List ℕ)
 request_at bytes = do
   n ← number_at bytes
-  rest ← after (codes "\n") n.1
+  rest ← past_text (codes "\n") n.1
   cond (nat_le n.0 1000000) (Some (Request n.0, rest)) None
 
 -- a node's id, and the line's end
 unfoldable pub named_at : (ℕ → Node) → List ℕ → Option (Node × List ℕ)
 named_at node bytes = do
   n ← id_at bytes
-  rest ← after (codes "\n") n.1
+  rest ← past_text (codes "\n") n.1
   Some (node n.0, rest)
 
 -- a node's kind and name, and the line's end
 unfoldable pub kind_at : List ℕ → Option (Node × List ℕ)
 kind_at bytes =
-    choose (after (codes " S\n") bytes) (λ rest. Some (Sink, rest))
-    (choose (after (codes " U ") bytes) (named_at Unscheduled)
-    (choose (after (codes " R ") bytes) request_at
-    (choose (after (codes " M ") bytes) (named_at Machine)
-    (choose (after (codes " T ") bytes) (named_at Task) None))))
+    choose (past_text (codes " S\n") bytes) (λ rest. Some (Sink, rest))
+    (choose (past_text (codes " U ") bytes) (named_at Unscheduled)
+    (choose (past_text (codes " R ") bytes) request_at
+    (choose (past_text (codes " M ") bytes) (named_at Machine)
+    (choose (past_text (codes " T ") bytes) (named_at Task) None))))
 
 -- the comment of the node with the ID
 unfoldable pub node_at : ℕ → List ℕ → Option (Node × List ℕ)
 node_at id bytes = do
-  rest ← after (codes "c ") bytes
+  rest ← past_text (codes "c ") bytes
   n ← number_at rest
   cond (n.0 == id) (kind_at n.1) None
 
 -- the problem line with the number of nodes: the number of arcs
 unfoldable pub problem_at : ℕ → List ℕ → Option (ℕ × List ℕ)
 problem_at nodes bytes = do
-  rest ← after (codes "p min ") bytes
+  rest ← past_text (codes "p min ") bytes
   n ← number_at rest
-  rest ← after (codes " ") n.1
+  rest ← past_text (codes " ") n.1
   arcs ← number_at rest
-  rest ← after (codes "\n") arcs.1
+  rest ← past_text (codes "\n") arcs.1
   cond (n.0 == nodes) (Some (arcs.0, rest)) None
 
 -- an arc's line: the IDs of its ends, the capacity and the cost
 unfoldable pub numbers_at : List ℕ → Option ((ℕ × ℕ × ℕ × ℕ) × List ℕ)
 numbers_at bytes = do
-  rest ← after (codes "a ") bytes
+  rest ← past_text (codes "a ") bytes
   source ← number_at rest
-  rest ← after (codes " ") source.1
+  rest ← past_text (codes " ") source.1
   target ← number_at rest
-  rest ← after (codes " 0 ") target.1
+  rest ← past_text (codes " 0 ") target.1
   capacity ← number_at rest
-  rest ← after (codes " ") capacity.1
+  rest ← past_text (codes " ") capacity.1
   cost ← number_at rest
-  rest ← after (codes "\n") cost.1
+  rest ← past_text (codes "\n") cost.1
   Some ((source.0, target.0, capacity.0, cost.0), rest)
 
 -- an arc that a network of the nodes can have

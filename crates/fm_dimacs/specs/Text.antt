@@ -21,9 +21,9 @@ node_line id (Task task) = codes "c " ++ (decimal id ++ (codes " T " ++ (id_text
 abbrev pub problem_line : ℕ → ℕ → List ℕ
 problem_line nodes arcs = codes "p min " ++ (decimal nodes ++ (codes " " ++ (decimal arcs ++ codes "\n")))
 
-abbrev pub is_task : Node → Bool
-is_task (Task task) = true
-is_task _ = false
+abbrev pub is_task_node : Node → Bool
+is_task_node (Task task) = true
+is_task_node _ = false
 
 -- the sink takes a unit for each task; there is no line if there is no task
 abbrev pub demand_line : ℕ → List ℕ
@@ -58,6 +58,6 @@ abbrev pub dump_text : Net → List ℕ
 dump_text net =
     lines_from node_line 1 net.nodes
     ++ (problem_line (length net.nodes) (length net.arcs)
-    ++ (demand_line (count_by is_task net.nodes)
+    ++ (demand_line (count_by is_task_node net.nodes)
     ++ (lines_from supply_line 1 net.nodes
     ++ flat_map (arc_line net.nodes) net.arcs)))

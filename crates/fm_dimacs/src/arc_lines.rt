@@ -6,9 +6,9 @@ ghost use Rattle.fm_records.specs.TableLaws.{Rises};
 ghost use Rattle.fm_net.specs.declared.node.Node.{Node as NodeName};
 ghost use Rattle.fm_net.specs.Nodes.{node_cmp, ends_cmp};
 ghost use Rattle.fm_net.specs.Net.{IsArcKind, has_node};
-ghost use Rattle.fm_net.specs.Walks.{arc_entry};
+ghost use Rattle.fm_net.specs.NetworkIter.{arc_entry};
 ghost use Rattle.fm_dimacs.specs.Text.{arc_line, id_in};
-ghost use Rattle.fm_dimacs.specs.Lines.{Body, Leads, IsAfterLast, IsFault};
+ghost use Rattle.fm_dimacs.specs.Syntax.{Body, Reaches, IsAfterLast, IsFault};
 ghost use Rattle.fm_dimacs.specs.Scan.{IsArcAmong, IsAfter, ids_of};
 
 use crate::scan;
@@ -139,7 +139,7 @@ pub(crate) fn read_arcs(
     requires nodes { network.old ≡ record { nodes = nodes.now; arcs = [] } }
     requires room { lines + length text.now < 2 ^ 63 }
     ensures nodes { OnOk result (network.new ≡ record { nodes = nodes.now; arcs = network.new.arcs }) }
-    ensures ok { OnOk result (Leads left (Body nodes.now [] [] left) text.now
+    ensures ok { OnOk result (Reaches left (Body nodes.now [] [] left) text.now
         (Body nodes.now [] network.new.arcs 0) []) }
     ensures err { IfErr result (IsFault lines (Body nodes.now [] [] left) text.now) }
 {

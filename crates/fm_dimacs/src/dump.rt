@@ -5,11 +5,11 @@ ghost use Rattle.std.specs.List.{flat_map};
 ghost use Rattle.std.specs.Io.KnownBytes.{Appends};
 ghost use Rattle.fm_records.specs.TableLaws.{Rises};
 ghost use Rattle.fm_net.specs.Nodes.{node_cmp};
-ghost use Rattle.fm_net.specs.Walks.{arc_entry};
+ghost use Rattle.fm_net.specs.NetworkIter.{arc_entry};
 ghost use Rattle.fm_dimacs.specs.Sending.{AppendsPrefix, StopsBy, IsSent};
-ghost use Rattle.fm_dimacs.specs.Text.{node_line, problem_line, is_task, demand_line, supply_line, arc_line, lines_from, id_in, dump_text};
+ghost use Rattle.fm_dimacs.specs.Text.{node_line, problem_line, is_task_node, demand_line, supply_line, arc_line, lines_from, id_in, dump_text};
 
-use crate::numbers::push_number;
+use crate::decimals::push_number;
 use crate::out::Out;
 use crate::pieces::put_all;
 use fm_lattice::join::OutOfMemory;
@@ -130,7 +130,7 @@ fn put_problem<W: Out>(
 }
 
 fn is_task(node: &Node) -> bool
-    ensures { result ≡ is_task node.now }
+    ensures { result ≡ is_task_node node.now }
 {
     matches!(node, Node::Task(_))
 }
@@ -138,7 +138,7 @@ fn is_task(node: &Node) -> bool
 // Writes the sink's demand, if there is a task.
 fn put_demand<W: Out>(nodes: &[Node], line: &mut String, out: &mut W) -> Result<(), Refusal>
     ensures { IsSent result (W.written out.old) (W.written out.new) (W.has_failed out.old) (W.has_failed out.new)
-        (demand_line (count_by is_task nodes.now)) }
+        (demand_line (count_by is_task_node nodes.now)) }
 {
     line.clear();
     write_demand(line, count_tasks(nodes))?;
@@ -147,7 +147,7 @@ fn put_demand<W: Out>(nodes: &[Node], line: &mut String, out: &mut W) -> Result<
 
 // How many tasks there are.
 pub(crate) fn count_tasks(nodes: &[Node]) -> usize
-    ensures { result ≡ count_by is_task nodes.now }
+    ensures { result ≡ count_by is_task_node nodes.now }
 {
     nodes.iter().filter(|node| is_task(node)).count()
 }

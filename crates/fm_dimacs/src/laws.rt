@@ -2,7 +2,7 @@
 
 ghost use Rattle.std.specs.Prelude.{◌≡◌, ◌<◌, ◌^◌, ℕ, List, length};
 ghost use Rattle.fm_net.specs.Net.{CanBeNet, Net};
-ghost use Rattle.fm_dimacs.specs.Lines.{BreaksAt};
+ghost use Rattle.fm_dimacs.specs.Syntax.{BreaksAt};
 ghost use Rattle.fm_dimacs.specs.Text.{dump_text};
 
 /// Networks that can be are the same if their texts are, of fewer than 2^64 bytes.

@@ -5,7 +5,7 @@ mod arc_lines;
 pub mod dump;
 mod interrupted;
 pub mod laws;
-mod numbers;
+mod decimals;
 pub mod out;
 pub mod pieces;
 pub mod read;

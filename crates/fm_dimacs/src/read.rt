@@ -8,7 +8,7 @@ ghost use Rattle.fm_records.specs.TableLaws.{Rises};
 ghost use Rattle.fm_net.specs.Nodes.{IsInRange, node_cmp};
 ghost use Rattle.fm_net.specs.Net.{Net, CanBeNet};
 ghost use Rattle.fm_dimacs.specs.Text.{node_line, dump_text};
-ghost use Rattle.fm_dimacs.specs.Lines.{Comments, Body, Leads, IsNextNode, IsFault, WhyNot, with_line, supplies_from, unit_lines};
+ghost use Rattle.fm_dimacs.specs.Syntax.{Comments, Body, Reaches, IsNextNode, IsFault, WhyNot, with_line, supplies_from, unit_lines};
 
 use crate::arc_lines::read_arcs;
 use crate::dump::{count_tasks, write_demand, write_supply};
@@ -60,7 +60,7 @@ fn next_node<'a>(
 
 // The nodes of the comments, and what follows these.
 fn read_nodes(alloc: Global, text: &[u8]) -> Result<(Vec<Node>, &[u8]), Refusal>
-    ensures ok { IfOk result (λ x. Leads (length x.0.items) (Comments []) text.now (Comments x.0.items) x.1.now) }
+    ensures ok { IfOk result (λ x. Reaches (length x.0.items) (Comments []) text.now (Comments x.0.items) x.1.now) }
     ensures last { IfOk result (λ x. (n : NodeName) (behind : List ℕ) → IsNextNode x.0.items n
         → x.1.now ≡ node_line (length x.0.items + 1) n ++ behind → ⊥) }
     ensures err { IfErr result (IsFault 0 (Comments []) text.now) }
@@ -85,7 +85,7 @@ fn read_problem<'a>(nodes: &[Node], text: &'a [u8]) -> Result<(u64, &'a [u8]), R
     requires no_node { (n : NodeName) (behind : List ℕ) → IsNextNode nodes.now n
         → text.now ≡ node_line (length nodes.now + 1) n ++ behind → ⊥ }
     ensures ok { IfOk result
-        (λ x. Leads 1 (Comments nodes.now) text.now (Body nodes.now (unit_lines nodes.now) [] x.0) x.1.now) }
+        (λ x. Reaches 1 (Comments nodes.now) text.now (Body nodes.now (unit_lines nodes.now) [] x.0) x.1.now) }
     ensures err { IfErr result (IsFault (length nodes.now) (Comments nodes.now) text.now) }
 {
     if nodes.is_empty() {
@@ -101,7 +101,7 @@ fn read_problem<'a>(nodes: &[Node], text: &'a [u8]) -> Result<(u64, &'a [u8]), R
 fn read_unit<'a>(line: &[u8], lines: usize, text: &'a [u8]) -> Result<(usize, &'a [u8]), Refusal>
     requires { lines < 2 ^ 63 }
     ensures ok { IfOk result (λ x. (nodes : List NodeName) (units : List (List ℕ)) (left : ℕ)
-        → Leads x.0 (Body nodes (with_line line.now units) [] left) text.now (Body nodes units [] left) x.1.now) }
+        → Reaches x.0 (Body nodes (with_line line.now units) [] left) text.now (Body nodes units [] left) x.1.now) }
     ensures room { IfOk result (λ x. x.0 + length x.1.now ≤ length text.now) }
     ensures err { (nodes : List NodeName) (units : List (List ℕ)) (left : ℕ)
         → IfErr result (IsFault lines (Body nodes (with_line line.now units) [] left) text.now) }
@@ -124,7 +124,7 @@ fn read_supplies<'a>(
 ) -> Result<(usize, &'a [u8]), Refusal>
     requires { lines + length text.now < 2 ^ 63 }
     ensures ok { IfOk result
-        (λ x. (left : ℕ) → Leads x.0 (Body nodes.now (supplies_from 1 nodes.now) [] left) text.now
+        (λ x. (left : ℕ) → Reaches x.0 (Body nodes.now (supplies_from 1 nodes.now) [] left) text.now
         (Body nodes.now [] [] left) x.1.now) }
     ensures room { IfOk result (λ x. x.0 + length x.1.now ≤ length text.now) }
     ensures err { (left : ℕ)
@@ -151,7 +151,7 @@ fn read_units<'a>(
 ) -> Result<(usize, &'a [u8]), Refusal>
     requires { lines + length text.now < 2 ^ 63 }
     ensures ok { IfOk result
-        (λ x. (left : ℕ) → Leads x.0 (Body nodes.now (unit_lines nodes.now) [] left) text.now
+        (λ x. (left : ℕ) → Reaches x.0 (Body nodes.now (unit_lines nodes.now) [] left) text.now
         (Body nodes.now [] [] left) x.1.now) }
     ensures room { IfOk result (λ x. x.0 + length x.1.now ≤ length text.now) }
     ensures err { (left : ℕ) → IfErr result (IsFault lines (Body nodes.now (unit_lines nodes.now) [] left) text.now) }
@@ -196,7 +196,7 @@ fn read_body(alloc: Global, nodes: &[Node], text: &[u8]) -> Result<Network, Refu
     requires no_node { (n : NodeName) (behind : List ℕ) → IsNextNode nodes.now n
         → text.now ≡ node_line (length nodes.now + 1) n ++ behind → ⊥ }
     ensures ok { IfOk result
-        (λ net. (k : ℕ) × Leads k (Comments nodes.now) text.now (Body net.nodes [] net.arcs 0) []) }
+        (λ net. (k : ℕ) × Reaches k (Comments nodes.now) text.now (Body net.nodes [] net.arcs 0) []) }
     ensures err { IfErr result (IsFault (length nodes.now) (Comments nodes.now) text.now) }
 {
     let (left, rest) = read_problem(nodes, text)?;

@@ -5,14 +5,14 @@ ghost use Rattle.std.specs.List.{flat_map};
 ghost use Rattle.std.specs.Io.KnownBytes.{Appends};
 ghost use Rattle.fm_records.specs.TableLaws.{Rises};
 ghost use Rattle.fm_net.specs.Nodes.{node_cmp};
-ghost use Rattle.fm_net.specs.Walks.{arc_entry};
-ghost use Rattle.fm_certificate.specs.Built.{IsBuilt};
+ghost use Rattle.fm_net.specs.NetworkIter.{arc_entry};
+ghost use Rattle.fm_certificate.specs.PolicyNetwork.{IsBuilt};
 ghost use Rattle.fm_certificate.specs.Flows.{units_in, IsFeasible};
 ghost use Rattle.fm_dimacs.specs.Sending.{AppendsPrefix, StopsBy, IsSent};
 ghost use Rattle.fm_dimacs.specs.Solution.{cost_line, units_line, flow_line, solution_text};
 
 use crate::dump::id_near;
-use crate::numbers::push_number;
+use crate::decimals::push_number;
 use crate::out::Out;
 use crate::pieces::put_all;
 use fm_certificate::cost::cost;

@@ -17,16 +17,16 @@ use Rattle.fm_net.specs.NodeOrder.{node_exact, node_total}
 use Rattle.fm_net.specs.Net.{Net}
 use Rattle.fm_net.specs.KeptLists.{has_kept}
 use Rattle.fm_net.specs.Touched.{is_among}
-use Rattle.fm_edit.specs.declared.index.Index.{Index}
-use Rattle.fm_edit.specs.declared.memory.Memory.{Memory}
-use Rattle.fm_edit.specs.declared.touched.Touched.{Touched}
+use Rattle.fm_edit.specs.declared.task_index.TaskIndex.{TaskIndex}
+use Rattle.fm_edit.specs.declared.editor_state.EditorState.{EditorState}
+use Rattle.fm_edit.specs.declared.affected.Touched.{Touched}
 use Rattle.fm_edit.specs.Sight.{seen_in}
 use Rattle.fm_edit.specs.Index.{sum_in}
-use Rattle.fm_edit.specs.Touched.{has_touched, Grows}
-use Rattle.fm_edit.specs.Completing.{Completes, AddsSink, AddsPlaces, AddsPreferring, AddsMachines, is_request, is_machine, waiting_in}
+use Rattle.fm_edit.specs.Affected.{has_touched, AffectedGrows}
+use Rattle.fm_edit.specs.Completing.{Completes, AddsSink, AddsPlaces, AddsPreferring, AddsMachines, is_request_node, is_machine, waiting_in}
 use Rattle.fm_edit.proofs.Ranges.{less_said, below_zero}
 
-pub grows_then : (x y z : Touched) → Grows x y → Grows y z → Grows x z
+pub grows_then : (x y z : Touched) → AffectedGrows x y → AffectedGrows y z → AffectedGrows x z
 grows_then x y z p q = record { nodes = λ n h. q.nodes n (p.nodes n h); pairs = λ a b h. q.pairs a b (p.pairs a b h) }
 
 or_right : (a b : Bool) → b ≡ true → (a || b) ≡ true
@@ -75,7 +75,7 @@ some_there : (o : Option ℕ) → not (unwrap_or o 0 == 0) ≡ true → is_some 
 some_there None h = h
 some_there (Some v) h = refl
 
-waits_among : (x : Index) (q : ℕ) → not (sum_in x (Request q) == 0) ≡ true → is_among node_cmp (waiting_in x) (Request q) ≡ true
+waits_among : (x : TaskIndex) (q : ℕ) → not (sum_in x (Request q) == 0) ≡ true → is_among node_cmp (waiting_in x) (Request q) ≡ true
 waits_among x q h = among_kept q x.sums.entries (some_there (get node_cmp x.sums (Request q)) h)
 
 backwards : (ns : List Node) (n : Node) → is_among node_cmp (reverse ns) n ≡ is_among node_cmp ns n
@@ -113,12 +113,12 @@ among_last : (xs ys : List Node) (n : Node) → is_among node_cmp ys n ≡ true 
 among_last [] ys n h = h
 among_last (x ∷ xs) ys n h = or_right (is_eq (node_cmp n x)) (is_among node_cmp (xs ++ ys) n) (among_last xs ys n h)
 
-module _ (memory : Memory) (net : Net) (x0 x1 : Touched) (ns rs : List Node) where
+module _ (memory : EditorState) (net : Net) (x0 x1 : Touched) (ns rs : List Node) where
   abbrev pub needed : List Node
-  needed = reverse (waiting_in memory.index) ++ filter is_request x0.nodes.keys
+  needed = reverse (waiting_in memory.index) ++ filter is_request_node x0.nodes.keys
 
   pub completes : ns ≡ x0.nodes.keys → (IsTrue (list_any is_machine x0.nodes.keys) → rs ≡ needed)
-      → Grows x0 x1 → x1.nodes ≡ x0.nodes
+      → AffectedGrows x0 x1 → x1.nodes ≡ x0.nodes
       → ((n : Node) → is_among node_cmp ns n ≡ true → AddsSink n x1)
       → ((n : Node) → is_among node_cmp ns n ≡ true → AddsPlaces rs n x1)
       → ((n : Node) → is_among node_cmp ns n ≡ true → AddsPreferring memory.index n x1)
@@ -133,10 +133,10 @@ module _ (memory : Memory) (net : Net) (x0 x1 : Touched) (ns rs : List Node) whe
         grows = grows;
         sinks = λ n h l. sinks n (among n h) l;
         touched_places = λ q m hq hm. places (Machine m) (among (Machine m) hm) refl (Request q)
-            (listed q m hm (among_last (reverse (waiting_in memory.index)) (filter is_request x0.nodes.keys) (Request q)
-            (has_kept node_cmp node_total node_exact is_request (Request q) x0.nodes.keys ∙ hq)));
+            (listed q m hm (among_last (reverse (waiting_in memory.index)) (filter is_request_node x0.nodes.keys) (Request q)
+            (has_kept node_cmp node_total node_exact is_request_node (Request q) x0.nodes.keys ∙ hq)));
         waiting_places = λ q m w hm. places (Machine m) (among (Machine m) hm) refl (Request q)
-            (listed q m hm (among_first (reverse (waiting_in memory.index)) (filter is_request x0.nodes.keys) (Request q)
+            (listed q m hm (among_first (reverse (waiting_in memory.index)) (filter is_request_node x0.nodes.keys) (Request q)
             (backwards (waiting_in memory.index) (Request q) ∙ waits_among memory.index q w)));
         preferring = λ m t small h hm. preferring (Machine m) (among (Machine m) hm) m t refl small h;
         turned_places = λ q m hq apart there. machines (Request q) (among (Request q) hq) refl apart m there;

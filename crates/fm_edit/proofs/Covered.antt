@@ -18,11 +18,11 @@ use Rattle.fm_net.specs.Network.{is_held, is_live_of, waits_for, is_node, place_
 use Rattle.fm_net.specs.NetworkLaws.{passes_some, only_if_some, is_network_of}
 use Rattle.fm_net.specs.Touched.{Touches}
 use Rattle.fm_policy.specs.Changes.{Keys}
-use Rattle.fm_edit.specs.declared.touched.Touched.{Touched}
+use Rattle.fm_edit.specs.declared.affected.Touched.{Touched}
 use Rattle.fm_edit.specs.Dirty.{SameBeyond, has_id, dirty_task, IsDirtyMachine, job_of_task, request_of_task, prefers, MayTurn, MayDiffer}
 use Rattle.fm_edit.specs.LocalLaws.{node_same, arc_same, request_arc_same, state_same, prefers_same}
 use Rattle.fm_edit.specs.Sight.{sight_of}
-use Rattle.fm_edit.specs.Touched.{has_touched, has_pair, TouchesTask}
+use Rattle.fm_edit.specs.Affected.{has_touched, has_pair, TouchesTask}
 use Rattle.fm_edit.proofs.Completed.{both_ways}
 
 none_some : {A P : Type 0} (a : A) → is_some {T = A} None ≡ true → P

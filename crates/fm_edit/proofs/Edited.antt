@@ -10,7 +10,7 @@ use Rattle.fm_net.specs.BoundLaws.{net_can_be}
 use Rattle.fm_net.specs.Edits.{change}
 use Rattle.fm_net.specs.Touched.{Touches}
 use Rattle.fm_net.specs.TouchedLaws.{touched_is_change}
-use Rattle.fm_edit.specs.declared.memory.Memory.{Memory}
+use Rattle.fm_edit.specs.declared.editor_state.EditorState.{EditorState}
 use Rattle.fm_edit.specs.Sight.{seen_in}
 use Rattle.fm_edit.specs.Index.{sum_in}
 use Rattle.fm_edit.specs.Shown.{node_shown, arc_shown}
@@ -22,7 +22,7 @@ module _ (now : Table) (can : CanBe now) (small : length now.tasks < 2 ^ 63) whe
   pub now_can_be : CanBeNet (net_of now)
   now_can_be = net_can_be now can (omega (arith, small))
 
-  module _ (m : Memory) (remembers : Remembers now m) (net : Net) (nodes : List Node) (pairs : List (Node × Node)) where
+  module _ (m : EditorState) (remembers : Remembers now m) (net : Net) (nodes : List Node) (pairs : List (Node × Node)) where
     node_of : (n : Node) → node_shown (seen_in m.seen) (sum_in m.index) n ≡ has_node (net_of now) n
     node_of n = (λ i. node_shown (remembers.sees i) (λ z. remembers.counts.sums z i) n) ∙ node_is now n ∙ sym ((is_network_of now).each_node n)
 

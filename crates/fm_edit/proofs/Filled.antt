@@ -9,16 +9,16 @@ use Rattle.fm_records.specs.Table.{Table}
 use Rattle.fm_records.specs.Know.{know}
 use Rattle.fm_records.specs.Ranges.{CanBe}
 use Rattle.fm_records.specs.RangeLaws.{know_can_be}
-use Rattle.fm_records.specs.Spelled.{ops}
+use Rattle.fm_records.specs.OpsOfTable.{ops}
 use Rattle.fm_records.specs.SpelledLaws.{know_ops}
 use Rattle.fm_records.specs.UnionLaws.{know_append}
 use Rattle.fm_records.specs.Joined.{table_join}
 use Rattle.fm_net.specs.declared.node.Node.{Node}
 use Rattle.fm_net.specs.declared.node.Node.TheVariants.{Sink, Unscheduled, Request, Machine, Task}
 use Rattle.fm_policy.specs.Changes.{Keys, changed_keys}
-use Rattle.fm_edit.specs.declared.index.Index.{Index}
+use Rattle.fm_edit.specs.declared.task_index.TaskIndex.{TaskIndex}
 use Rattle.fm_edit.specs.Dirty.{has_id}
-use Rattle.fm_edit.specs.Index.{lists, is_listed}
+use Rattle.fm_edit.specs.Index.{lists, is_indexed}
 use Rattle.fm_edit.specs.Sight.{sight_of}
 use Rattle.fm_edit.specs.Memory.{none_out, Counts}
 use Rattle.fm_edit.proofs.Followed.{all_found, counts_on}
@@ -34,10 +34,10 @@ pub tasks_rise : (d : Table) (keys : Keys) → keys ≡ changed_keys d → Rises
 tasks_rise d keys is = subst (λ (z : Keys). Rises nat_cmp z.tasks) (sym is) (rises_rising nat_cmp nat_cmp_total nat_same (map (λ e. e.0) d.tasks ++ map (λ e. e.0.0) d.proposals))
 
 -- of nothing known no task is listed, whichever are out
-module _ (x : Index) (counts : Counts none_out (know []) x) where
+module _ (x : TaskIndex) (counts : Counts none_out (know []) x) where
   any_out : (out : ℕ → Bool) → Counts out (know []) x
   any_out out = record { listed = listed; preferred = λ m t. counts.preferred m t; sums = λ n. counts.sums n } where
-    listed : (n : Node) (t : ℕ) → lists x n t ≡ (is_listed (sight_of (know [])) n t && not (out t))
+    listed : (n : Node) (t : ℕ) → lists x n t ≡ (is_indexed (sight_of (know [])) n t && not (out t))
     listed Sink t = counts.listed Sink t
     listed (Unscheduled j) t = counts.listed (Unscheduled j) t
     listed (Request q) t = counts.listed (Request q) t

@@ -17,12 +17,12 @@ use Rattle.fm_records.specs.Orders.{attempt_cmp}
 use Rattle.fm_records.specs.TableLaws.{Rises}
 use Rattle.fm_records.specs.Table.{Table, TaskValue, MachineValue}
 use Rattle.fm_records.specs.Ranges.{CanBe, all_in_range}
-use Rattle.fm_records.specs.Spelled.{task_ops, entry_ops}
+use Rattle.fm_records.specs.OpsOfTable.{task_ops, entry_ops}
 use Rattle.fm_records.specs.RangeLaws.{task_in_range, entries_in_range}
 use Rattle.fm_records.specs.Know.{none_begun}
 use Rattle.fm_records.specs.Joined.{table_join}
 use Rattle.fm_records.specs.JoinedLaws.{table_laws}
-use Rattle.fm_records.specs.Facts.{first_of, job_of, spec_of, live_spec, attempt_of, won_spot, is_present}
+use Rattle.fm_records.specs.Facts.{head_option, job_of, spec_of, live_spec, attempt_of, won_spot, is_present}
 use Rattle.fm_net.specs.declared.node.Node.{Node}
 use Rattle.fm_net.specs.declared.node.Node.TheVariants.{Unscheduled, Request, Machine, Task}
 use Rattle.fm_net.specs.Nodes.{node_cmp, ends_cmp}
@@ -31,17 +31,17 @@ use Rattle.fm_net.specs.Network.{is_node, net_of}
 use Rattle.fm_net.specs.NetworkLaws.{passes_some, only_if_some, is_network_of}
 use Rattle.fm_net.specs.Touched.{Touches}
 use Rattle.fm_policy.specs.Changes.{Keys, changed_keys}
-use Rattle.fm_edit.specs.declared.index.Index.{Index}
-use Rattle.fm_edit.specs.declared.touched.Touched.{Touched}
+use Rattle.fm_edit.specs.declared.task_index.TaskIndex.{TaskIndex}
+use Rattle.fm_edit.specs.declared.affected.Touched.{Touched}
 use Rattle.fm_edit.specs.Dirty.{SameBeyond, AreDirtyTasks, turned_in, has_id, dirty_task, prefers, job_of_task, won_machine}
 use Rattle.fm_edit.specs.LocalLaws.{same_beyond}
 use Rattle.fm_edit.specs.Sight.{Sight, sight_of, seen_in}
-use Rattle.fm_edit.specs.declared.seen.Seen.{Seen}
+use Rattle.fm_edit.specs.declared.record_cache.RecordCache.{RecordCache}
 use Rattle.fm_edit.specs.Seeing.{values_at, turns, standing, same_standing}
 use Rattle.fm_edit.specs.Index.{lists, sum_in, ListsAtOne}
 use Rattle.fm_edit.specs.Memory.{none_out, Counts}
 use Rattle.fm_edit.specs.Shown.{node_shown}
-use Rattle.fm_edit.specs.Touched.{has_touched, Grows, Leads, TouchesTask}
+use Rattle.fm_edit.specs.Affected.{has_touched, AffectedGrows, AffectsEnd, TouchesTask}
 use Rattle.fm_edit.specs.Completing.{Completes}
 use Rattle.fm_edit.proofs.Completed.{both_ways, grows_then}
 use Rattle.fm_edit.proofs.Covered.{touches}
@@ -126,7 +126,7 @@ present_by (Some v) i = elim v.1.0 as (λ (s : Option MachineReg). (passes (λ r
 ]
 
 -- What was seen is the table, record by record.
-pub seen_as : (s : Seen) (k now : Table) → k ≡ now
+pub seen_as : (s : RecordCache) (k now : Table) → k ≡ now
     → ((q : ℕ) → get nat_cmp s.jobs q ≡ job_of k q) → ((q : ℕ) → get nat_cmp s.tasks q ≡ lookup nat_cmp q k.tasks)
     → ((q : ℕ) → get nat_cmp s.machines q ≡ lookup nat_cmp q k.machines) → ((q : ℕ) → get nat_cmp s.spots q ≡ won_spot k q)
     → seen_in s ≡ sight_of now
@@ -153,12 +153,12 @@ module _ (k : Table) (can : CanBe k) where
     | Some v ↦ λ f _. task_small t v f
   ] refl e
 
-  entries_small : (t a : ℕ) (es : List (ℕ × Spot)) (s : Spot) → all_in_range (entry_ops ((t, a), es)) ≡ true → option_map (λ w. w.1) (first_of es) ≡ Some s → t < 2 ^ 128
+  entries_small : (t a : ℕ) (es : List (ℕ × Spot)) (s : Spot) → all_in_range (entry_ops ((t, a), es)) ≡ true → option_map (λ w. w.1) (head_option es) ≡ Some s → t < 2 ^ 128
   entries_small t a [] s h f = absurd (let no : ⊥ = cc in no)
   entries_small t a (e ∷ es) s h f = ltb-true t (2 ^ 128) (both_true _ _ (both_true _ _ (both_true _ _ (both_true _ _ (both_true _ _ h).0).0).0).0).0
 
   spot_small : (t : ℕ) (s : Spot) → won_spot k t ≡ Some s → t < 2 ^ 128
-  spot_small t s e = elim (lookup attempt_cmp (t, attempt_of k t) k.proposals) as (λ o. lookup attempt_cmp (t, attempt_of k t) k.proposals ≡ o → option_map (λ w. w.1) (first_of (or_else [] o)) ≡ Some s → t < 2 ^ 128) [
+  spot_small t s e = elim (lookup attempt_cmp (t, attempt_of k t) k.proposals) as (λ o. lookup attempt_cmp (t, attempt_of k t) k.proposals ≡ o → option_map (λ w. w.1) (head_option (or_else [] o)) ≡ Some s → t < 2 ^ 128) [
     | None ↦ λ _ f. absurd (let no : ⊥ = cc in no)
     | Some es ↦ λ f g. entries_small t (attempt_of k t) es s (entries_in_range k can (t, attempt_of k t) es f) g
   ] refl e
@@ -195,8 +195,8 @@ module _ (k d after : Table) (keys : Keys) (can_k : CanBe k) (can_d : CanBe d) (
 
   pub spots_as : (t : ℕ) → has_id keys.tasks t ≡ false → won_spot after t ≡ won_spot k t
   spots_as t e =
-      ap (λ (o : Option TaskValue). option_map (λ w. w.1) (first_of (or_else [] (lookup attempt_cmp (t, (or_else none_begun (option_map (λ v. v.1) o)).attempt) after.proposals)))) (base.tasks t e)
-      ∙ ap (λ es. option_map (λ w. w.1) (first_of (or_else [] es))) (base.proposals t (attempt_of k t) e)
+      ap (λ (o : Option TaskValue). option_map (λ w. w.1) (head_option (or_else [] (lookup attempt_cmp (t, (or_else none_begun (option_map (λ v. v.1) o)).attempt) after.proposals)))) (base.tasks t e)
+      ∙ ap (λ es. option_map (λ w. w.1) (head_option (or_else [] es))) (base.proposals t (attempt_of k t) e)
 
   won_as : (t : ℕ) → has_id keys.tasks t ≡ false → won_machine after t ≡ won_machine k t
   won_as t e = ap (option_map (λ s. s.machine)) (spots_as t e)
@@ -223,7 +223,7 @@ module _ (k d after : Table) (keys : Keys) (can_k : CanBe k) (can_d : CanBe d) (
   }
 
   -- The tasks that are found through the index are all that are dirty.
-  module _ (x : Index) (counts : Counts none_out k x) (ds : List ℕ)
+  module _ (x : TaskIndex) (counts : Counts none_out k x) (ds : List ℕ)
       (told : (t : ℕ) → has_id keys.tasks t ≡ true → has_id ds t ≡ true)
       (of_jobs : (j t : ℕ) → has_id keys.jobs j ≡ true → t < 2 ^ 128 → lists x (Unscheduled j) t ≡ true → has_id ds t ≡ true)
       (of_machines : (m t : ℕ) → has_id turned m ≡ true → t < 2 ^ 128 → lists x (Machine m) t ≡ true → has_id ds t ≡ true) where
@@ -253,7 +253,7 @@ module _ (k d after : Table) (keys : Keys) (can_k : CanBe k) (can_d : CanBe d) (
         ] refl h
 
   -- And they are dirty.
-  module _ (x : Index) (counts : Counts none_out k x) where
+  module _ (x : TaskIndex) (counts : Counts none_out k x) where
     of_job : (j t : ℕ) → lists x (Unscheduled j) t ≡ true → job_of_task k t ≡ Some j
     of_job j t h = named_by (λ (s : SpecReg). s.job) (spec_of k t) j ((both_true _ _ (sym (counts.listed (Unscheduled j) t) ∙ h)).0)
 
@@ -284,17 +284,17 @@ module _ (k d after : Table) (keys : Keys) (can_k : CanBe k) (can_d : CanBe d) (
 
   -- All that was touched, and what counts in the end.
   module _ (ds : List ℕ) (all : (t : ℕ) → dirty_task k after keys turned t ≡ true → has_id ds t ≡ true) where
-    pub counts_on : (x : Index) → Counts (has_id ds) k x → Counts (has_id ds) after x
+    pub counts_on : (x : TaskIndex) → Counts (has_id ds) k x → Counts (has_id ds) after x
     counts_on = counts_stay k after keys turned beyond (has_id ds) all
 
-    leads_on : (x y : Touched) → Grows x y → (t : ℕ) (o : Option Node) → Leads x t o → Leads y t o
+    leads_on : (x y : Touched) → AffectedGrows x y → (t : ℕ) (o : Option Node) → AffectsEnd x t o → AffectsEnd y t o
     leads_on x y g t o l n e = let h = l n e in (g.nodes n h.0, g.pairs (Task t) n h.1)
 
-    touches_on : (x y : Touched) → Grows x y → (s : Sight) (t : ℕ) → TouchesTask s t x → TouchesTask s t y
+    touches_on : (x y : Touched) → AffectedGrows x y → (s : Sight) (t : ℕ) → TouchesTask s t x → TouchesTask s t y
     touches_on x y g s t h = record { node = g.nodes (Task t) h.node; job = leads_on x y g t _ h.job; request = leads_on x y g t _ h.request; holder = leads_on x y g t _ h.holder; preferred = λ m p. g.pairs (Task t) (Machine m) (h.preferred m p) }
 
-    pub all_touched : (s0 s1 : Sight) → s0 ≡ sight_of k → s1 ≡ sight_of after → (x : Index) → Counts none_out after x → (net : Net) → net ≡ net_of k
-        → (t1 t2 t3 t4 t5 : Touched) → Grows t1 t2 → Grows t2 t3 → Grows t3 t4
+    pub all_touched : (s0 s1 : Sight) → s0 ≡ sight_of k → s1 ≡ sight_of after → (x : TaskIndex) → Counts none_out after x → (net : Net) → net ≡ net_of k
+        → (t1 t2 t3 t4 t5 : Touched) → AffectedGrows t1 t2 → AffectedGrows t2 t3 → AffectedGrows t3 t4
         → ((j : ℕ) → has_id keys.jobs j ≡ true → has_touched t1 (Unscheduled j) ≡ true)
         → ((m : ℕ) → has_id keys.machines m ≡ true → has_touched t2 (Machine m) ≡ true)
         → ((t : ℕ) → has_id ds t ≡ true → TouchesTask s0 t t3)

@@ -8,7 +8,7 @@ use Rattle.fm_records.specs.Joined.{table_join}
 use Rattle.fm_net.specs.Net.{Net}
 use Rattle.fm_net.specs.Network.{net_of}
 use Rattle.fm_policy.specs.Changes.{Keys, changed_keys, joined_keys, has_no_keys}
-use Rattle.fm_policy.specs.Keeping.{TookIn}
+use Rattle.fm_policy.specs.Keeping.{FollowsAfter}
 use Rattle.fm_policy.specs.KeepingLaws.{took_on}
 use Rattle.fm_edit.specs.declared.editor.Editor.{Editor}
 use Rattle.fm_edit.specs.Editing.{is_fresh_editor, IsFor}
@@ -16,7 +16,7 @@ use Rattle.fm_edit.specs.Deferring.{was_fresh, HasNetworkOf, CanFollow}
 
 -- a delta without keys leaves the table
 unchanged : ((k d : Table) → has_no_keys (changed_keys d) ≡ true → table_join k d ≡ k) → {fresh : Bool} {is_for : Table → Type 0} {now : Table} {keys : Keys}
-    → (t : TookIn fresh is_for now keys) → has_no_keys keys ≡ true → now ≡ t.before
+    → (t : FollowsAfter fresh is_for now keys) → has_no_keys keys ≡ true → now ≡ t.before
 unchanged nothing t none = t.joined ∙ nothing t.before t.delta (ap has_no_keys (sym t.keys) ∙ none)
 
 -- a keeper that is fresh and follows a table is for it
@@ -35,7 +35,7 @@ module _ (joins : (k l : Table) → CanBe k → CanBe l → changed_keys (table_
   parts h = both_true (has_no_keys old) (has_no_keys keys) (sym (ap has_no_keys is ∙ split old keys) ∙ h)
 
   -- it still follows
-  pub follows_on : (o : Option Editor) → TookIn true (CanFollow o built net old) now keys → CanFollow o built net new now
+  pub follows_on : (o : Option Editor) → FollowsAfter true (CanFollow o built net old) now keys → CanFollow o built net new now
   follows_on (Some e) t =
       let held = t.for_before refl in
       (held.0, took_on joins (IsFor e) old keys new now is (record { before = t.before; delta = t.delta; before_can_be = t.before_can_be; delta_can_be = t.delta_can_be; for_before = λ _. held.1; joined = t.joined; keys = t.keys }))
@@ -45,7 +45,7 @@ module _ (joins : (k l : Table) → CanBe k → CanBe l → changed_keys (table_
       t.for_before refl (λ i. now_none.0 i && none.0 i) ∙ ap net_of (sym (unchanged nothing t none.1))
 
   -- what is fresh still, is for what is known
-  pub given_on : (o : Option Editor) → TookIn (was_fresh o built && has_no_keys old) (HasNetworkOf o net) now keys → IsTrue (was_fresh o built && has_no_keys new) → HasNetworkOf o net now
+  pub given_on : (o : Option Editor) → FollowsAfter (was_fresh o built && has_no_keys old) (HasNetworkOf o net) now keys → IsTrue (was_fresh o built && has_no_keys new) → HasNetworkOf o net now
   given_on o t fresh =
       let was = both_true (was_fresh o built) (has_no_keys new) fresh in
       let none = parts was.1 in

@@ -18,8 +18,8 @@ use Rattle.fm_net.specs.Net.{Net, CanBeNet, has_node}
 use Rattle.fm_net.specs.ListLaws.{has_member, passes_kept}
 use Rattle.fm_net.specs.KeptLists.{has_inserted, rises_inserted}
 use Rattle.fm_net.specs.EditLaws.{member_found, stands_removed, rises_removed, at_removed, rising_removed, at_put}
-use Rattle.fm_net.specs.Edits.{Arc, after_edit, after, joins, same_value, has_arc, gone_arcs, gone_nodes, new_nodes, new_arcs, drop_of, put_of, change}
-use Rattle.fm_edit.specs.Change.{edit_of, AreApart}
+use Rattle.fm_net.specs.Edits.{Arc, after_edit, after_edits, joins, same_value, has_arc, gone_arcs, gone_nodes, new_nodes, new_arcs, drop_of, put_of, change}
+use Rattle.fm_edit.specs.Change.{edit_of, AreDistinctEdits}
 use Rattle.fm_edit.specs.LookLaws.{each_of_both, each_mapped}
 use Rattle.fm_edit.proofs.Made.{not_both, same_itself}
 use Rattle.fm_edit.proofs.Once.{change_apart}
@@ -70,7 +70,7 @@ either_false : (a b : Bool) → (a || b) ≡ false → (a ≡ false) × (b ≡ f
 either_false true b e = absurd (let wrong : ⊥ = cc in wrong)
 either_false false b e = (refl, e)
 
-stays : (es : List Edit) (net : Net) → Rise net → (a : Node) (b : Option Node) → list_any (is_of a b) es ≡ false → says (after es net) a b ≡ says net a b
+stays : (es : List Edit) (net : Net) → Rise net → (a : Node) (b : Option Node) → list_any (is_of a b) es ≡ false → says (after_edits es net) a b ≡ says net a b
 stays [] net r a b h = refl
 stays (e ∷ es) net r a b h =
     let parts = either_false (is_of a b e) (list_any (is_of a b) es) h in
@@ -123,7 +123,7 @@ module _ (n m : Net) (p : CanBeNet n) (q : CanBeNet m) where
       (each_mapped Differs put_of (new_arcs n m) arc_comes)))
 
   -- so edits that make the change have one of it
-  made_by : (es : List Edit) → after es n ≡ m → (e : Edit) → IsMember e (change n m) → list_any (is_of (edit_of e).0 (edit_of e).1) es ≡ true
+  made_by : (es : List Edit) → after_edits es n ≡ m → (e : Edit) → IsMember e (change n m) → list_any (is_of (edit_of e).0 (edit_of e).1) es ≡ true
   unfolding Differs
   made_by es is e h = elim (list_any (is_of (edit_of e).0 (edit_of e).1) es) as (λ b. list_any (is_of (edit_of e).0 (edit_of e).1) es ≡ b → b ≡ true) [
     | true ↦ λ _. refl
@@ -164,12 +164,12 @@ left c e other (f ∷ fs) h =
           ] h
     ] refl
 
-as_many : (cs es : List Edit) → AreApart cs → ((e : Edit) → IsMember e cs → list_any (is_of (edit_of e).0 (edit_of e).1) es ≡ true) → length cs ≤ length es
+as_many : (cs es : List Edit) → AreDistinctEdits cs → ((e : Edit) → IsMember e cs → list_any (is_of (edit_of e).0 (edit_of e).1) es ≡ true) → length cs ≤ length es
 as_many [] es apart each = omega arith
 as_many (c ∷ cs) es apart each =
     let fewer = shorter c es (each c (inl refl)) in
     let rest = as_many cs (without c es) apart.1 (λ e h. left c e (apart.0 e h) es (each e (inr h))) in
     omega (arith, fewer, rest)
 
-pub none_shorter : (n m : Net) → CanBeNet n → CanBeNet m → (es : List Edit) → after es n ≡ m → length (change n m) ≤ length es
+pub none_shorter : (n m : Net) → CanBeNet n → CanBeNet m → (es : List Edit) → after_edits es n ≡ m → length (change n m) ≤ length es
 none_shorter n m p q es is = as_many (change n m) es (change_apart n m p q) (made_by n m p q es is)

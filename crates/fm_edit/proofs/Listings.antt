@@ -10,8 +10,8 @@ use Rattle.fm_records.specs.declared.records.Spot.{Spot}
 use Rattle.fm_records.specs.Options.{passes}
 use Rattle.fm_net.specs.declared.node.Node.{Node}
 use Rattle.fm_net.specs.declared.node.Node.TheVariants.{Sink, Unscheduled, Request, Machine, Task}
-use Rattle.fm_edit.specs.Index.{listed_cmp, is_listed}
-use Rattle.fm_edit.specs.Sight.{Sight, spec_in, job_node_in, spot_node_in}
+use Rattle.fm_edit.specs.Index.{listed_cmp, is_indexed}
+use Rattle.fm_edit.specs.Sight.{Sight, cached_spec, job_node_in, spot_node_in}
 use Rattle.fm_edit.proofs.Preferring.{both_equal}
 
 same_numbers : (a b : ℕ) → is_eq (nat_cmp a b) ≡ (a == b)
@@ -76,21 +76,21 @@ module _ (s : Sight) (task t : ℕ) where
   no_spot (Machine m) (Some p) h = absurd (h m refl)
   no_spot (Task u) (Some p) h = refl
 
-  nothing : (n : Node) → ((j : ℕ) → n ≡ Unscheduled j → ⊥) → ((m : ℕ) → n ≡ Machine m → ⊥) → is_listed s n t ≡ false → (at n (job_node_in s task) || at n (spot_node_in s task)) ≡ (is_eq (nat_cmp task t) && is_listed s n t)
-  nothing n a b e = (λ i. no_job n (spec_in s task) a i || no_spot n (s.spot task) b i) ∙ sym (ap (λ x. is_eq (nat_cmp task t) && x) e ∙ off (is_eq (nat_cmp task t)))
+  nothing : (n : Node) → ((j : ℕ) → n ≡ Unscheduled j → ⊥) → ((m : ℕ) → n ≡ Machine m → ⊥) → is_indexed s n t ≡ false → (at n (job_node_in s task) || at n (spot_node_in s task)) ≡ (is_eq (nat_cmp task t) && is_indexed s n t)
+  nothing n a b e = (λ i. no_job n (cached_spec s task) a i || no_spot n (s.spot task) b i) ∙ sym (ap (λ x. is_eq (nat_cmp task t) && x) e ∙ off (is_eq (nat_cmp task t)))
 
-  both : (n : Node) → (at n (job_node_in s task) || at n (spot_node_in s task)) ≡ (is_eq (nat_cmp task t) && is_listed s n t)
+  both : (n : Node) → (at n (job_node_in s task) || at n (spot_node_in s task)) ≡ (is_eq (nat_cmp task t) && is_indexed s n t)
   both (Unscheduled j) =
-      (λ i. of_job j (spec_in s task) i || no_spot (Unscheduled j) (s.spot task) (λ m e. let no : ⊥ = cc in no) i)
-      ∙ or_false (is_eq (nat_cmp task t) && passes (λ r. r.job == j) (spec_in s task))
-      ∙ of_same (λ q. passes (λ r. r.job == j) (spec_in s q)) task t
+      (λ i. of_job j (cached_spec s task) i || no_spot (Unscheduled j) (s.spot task) (λ m e. let no : ⊥ = cc in no) i)
+      ∙ or_false (is_eq (nat_cmp task t) && passes (λ r. r.job == j) (cached_spec s task))
+      ∙ of_same (λ q. passes (λ r. r.job == j) (cached_spec s q)) task t
   both (Machine m) =
-      (λ i. no_job (Machine m) (spec_in s task) (λ j e. let no : ⊥ = cc in no) i || of_spot m (s.spot task) i)
+      (λ i. no_job (Machine m) (cached_spec s task) (λ j e. let no : ⊥ = cc in no) i || of_spot m (s.spot task) i)
       ∙ of_same (λ q. passes (λ p. p.machine == m) (s.spot q)) task t
   both Sink = nothing Sink (λ j e. let no : ⊥ = cc in no) (λ m e. let no : ⊥ = cc in no) refl
   both (Request q) = nothing (Request q) (λ j e. let no : ⊥ = cc in no) (λ m e. let no : ⊥ = cc in no) refl
   both (Task u) = nothing (Task u) (λ j e. let no : ⊥ = cc in no) (λ m e. let no : ⊥ = cc in no) refl
 
-  pub listed_both : (b : Bool) (n : Node) (old mid new : Bool) → mid ≡ cond (at n (job_node_in s task)) b old → new ≡ cond (at n (spot_node_in s task)) b mid → new ≡ cond (is_eq (nat_cmp task t) && is_listed s n t) b old
+  pub listed_both : (b : Bool) (n : Node) (old mid new : Bool) → mid ≡ cond (at n (job_node_in s task)) b old → new ≡ cond (at n (spot_node_in s task)) b mid → new ≡ cond (is_eq (nat_cmp task t) && is_indexed s n t) b old
   listed_both b n old mid new e f =
       f ∙ ap (λ x. cond (at n (spot_node_in s task)) b x) e ∙ in_turn b old (at n (job_node_in s task)) (at n (spot_node_in s task)) ∙ ap (λ x. cond x b old) (both n)

@@ -18,7 +18,7 @@ use Rattle.fm_net.specs.ListLaws.{has_member, passes_kept, rises_kept}
 use Rattle.fm_net.specs.KeptLists.{rising_kept}
 use Rattle.fm_net.specs.EditLaws.{member_found}
 use Rattle.fm_net.specs.Edits.{Arc, joins, has_arc, gone_arcs, gone_nodes, new_nodes, new_arcs, drop_of, put_of, change}
-use Rattle.fm_edit.specs.Change.{edit_of, AreApart}
+use Rattle.fm_edit.specs.Change.{edit_of, AreDistinctEdits}
 use Rattle.fm_edit.specs.LookLaws.{each_of_both, each_mapped}
 use Rattle.fm_edit.proofs.Sums.{kept_member}
 
@@ -47,7 +47,7 @@ same_node a b e = ap (λ (p : Node × Option Node). p.0) e
 unlike : {P : Type 0} (n a b : Node) → ◌≡◌ {A = Node × Option Node} (n, None) (a, Some b) → P
 unlike n a b e = none_some b (ap (λ (p : Node × Option Node). p.1) e)
 
-apart_both : (xs ys : List Edit) → AreApart xs → AreApart ys → ((e : Edit) → IsMember e xs → (f : Edit) → IsMember f ys → IsOther e f) → AreApart (xs ++ ys)
+apart_both : (xs ys : List Edit) → AreDistinctEdits xs → AreDistinctEdits ys → ((e : Edit) → IsMember e xs → (f : Edit) → IsMember f ys → IsOther e f) → AreDistinctEdits (xs ++ ys)
 apart_both [] ys p q apart = q
 apart_both (x ∷ xs) ys p q apart = (each_of_both (IsOther x) xs ys p.0 (apart x (inl refl)), apart_both xs ys p.1 q (λ e h. apart e (inr h)))
 
@@ -60,7 +60,7 @@ below_node : (k n : Node) (ns : List Node) → IsBelowAll node_cmp k ns → IsMe
 below_node k n [] b h = absurd h
 below_node k n (x ∷ ns) b h = elim h [ inl is ↦ subst (λ z. node_cmp k z ≡ Less) is b.0 | inr later ↦ below_node k n ns b.1 later ]
 
-arcs_apart : (f : Arc → Edit) → ((a b : Arc) → edit_of (f b) ≡ edit_of (f a) → b.0 ≡ a.0) → (es : List Arc) → IsRising ends_cmp es → AreApart (map f es)
+arcs_apart : (f : Arc → Edit) → ((a b : Arc) → edit_of (f b) ≡ edit_of (f a) → b.0 ≡ a.0) → (es : List Arc) → IsRising ends_cmp es → AreDistinctEdits (map f es)
 arcs_apart f names [] r = tt
 arcs_apart f names (a ∷ es) r = (
   each_mapped (IsOther (f a)) f es
@@ -68,7 +68,7 @@ arcs_apart f names (a ∷ es) r = (
   arcs_apart f names es r.1,
 )
 
-nodes_apart : (f : Node → Edit) → ((a b : Node) → edit_of (f b) ≡ edit_of (f a) → b ≡ a) → (ns : List Node) → Rises node_cmp ns → AreApart (map f ns)
+nodes_apart : (f : Node → Edit) → ((a b : Node) → edit_of (f b) ≡ edit_of (f a) → b ≡ a) → (ns : List Node) → Rises node_cmp ns → AreDistinctEdits (map f ns)
 nodes_apart f names [] r = tt
 nodes_apart f names (n ∷ ns) r = (
   each_mapped (IsOther (f n)) f ns
@@ -100,7 +100,7 @@ module _ (n m : Net) (p : CanBeNet n) (q : CanBeNet m) where
       let there = has_member node_cmp node_total node_exact y m.nodes (kept_member enters y m.nodes g) in
       not_both (has_node m x) (ap (has_node m) (sym (same_node y x same)) ∙ there) (passes_kept leaves x n.nodes h)
 
-  pub change_apart : AreApart (change n m)
+  pub change_apart : AreDistinctEdits (change n m)
   change_apart =
       let dropped = gone_arcs n m in
       let left = gone_nodes n m in

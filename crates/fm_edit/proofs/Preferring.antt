@@ -9,8 +9,8 @@ use Rattle.fm_lattice.specs.Chains.{nat_same}
 use Rattle.fm_lattice.specs.Maps.{lookup}
 use Rattle.fm_records.specs.Options.{passes}
 use Rattle.fm_records.specs.PreferenceLaws.{one_more_preferred}
-use Rattle.fm_edit.specs.declared.seen.SeenTask.{SeenTask}
-use Rattle.fm_edit.specs.Sight.{Sight, IsSeenTask, live_in, prefers_in}
+use Rattle.fm_edit.specs.declared.record_cache.CachedTask.{CachedTask}
+use Rattle.fm_edit.specs.Sight.{Sight, IsSeenTask, cached_live, prefers_in}
 use Rattle.fm_edit.specs.Index.{preferred_cmp}
 use Rattle.fm_edit.proofs.Ranges.{swapped}
 
@@ -51,7 +51,7 @@ where_equal true f g same = same refl
 where_equal false f g same = refl
 
 -- a task in the lists of the machines that it prefers, by what was seen of it
-pub listed_as_seen : (b : Bool) (s : Sight) (task : ℕ) (x : SeenTask) → IsSeenTask s task x → (m t : ℕ) (among old new : Bool)
+pub listed_as_seen : (b : Bool) (s : Sight) (task : ℕ) (x : CachedTask) → IsSeenTask s task x → (m t : ℕ) (among old new : Bool)
     → among ≡ (passes (λ r. is_some (lookup nat_cmp m r.prefer)) x.live && not (passes (λ h. true) x.holder))
     → new ≡ cond (is_eq (nat_cmp task t) && among) b old
     → new ≡ cond (is_eq (nat_cmp task t) && prefers_in s m t) b old
@@ -61,5 +61,5 @@ listed_as_seen b s task x is m t among old new by_fields step =
     (where_equal (is_eq (nat_cmp task t)) among (prefers_in s m t)
     (λ j. by_fields
     ∙ ap (λ l. passes (λ r. is_some (lookup nat_cmp m r.prefer)) l && not (passes (λ h. true) x.holder)) is.live
-    ∙ ap (λ o. passes (λ r. is_some (lookup nat_cmp m r.prefer)) (live_in s task) && not (passes (λ h. true) o)) is.holder
+    ∙ ap (λ o. passes (λ r. is_some (lookup nat_cmp m r.prefer)) (cached_live s task) && not (passes (λ h. true) o)) is.holder
     ∙ ap (λ q. prefers_in s m q) (nat_same task t ((Equal-is (nat_cmp task t)).0 j))))

@@ -9,8 +9,8 @@ use Rattle.fm_records.specs.Facts.{used_of, load_of, job_of, open_state}
 use Rattle.fm_net.specs.declared.node.Node.{Node}
 use Rattle.fm_net.specs.declared.node.Node.TheVariants.{Sink, Unscheduled, Request, Machine, Task}
 use Rattle.fm_net.specs.Network.{is_live_of, waits_for, live_tasks, is_node, arc_of}
-use Rattle.fm_policy.specs.declared.facts.NodeFacts.TheVariants.{OfJob, OfRequest, OfMachine}
-use Rattle.fm_policy.specs.Facts.{facts_of, arc_between}
+use Rattle.fm_policy.specs.declared.node_facts.NodeFacts.TheVariants.{OfJob, OfRequest, OfMachine}
+use Rattle.fm_policy.specs.NodeFacts.{facts_of, arc_between}
 use Rattle.fm_policy.specs.FactsLaws as policy
 use Rattle.fm_edit.specs.LocalLaws.{counted}
 use Rattle.fm_edit.specs.Sight.{sight_of}

@@ -24,11 +24,11 @@ use Rattle.fm_net.specs.BoundLaws.{spec_ranges}
 use Rattle.fm_net.specs.ListLaws.{passes_kept}
 use Rattle.fm_net.specs.NetworkLaws.{live_entry}
 use Rattle.fm_policy.specs.Changes.{Keys}
-use Rattle.fm_edit.specs.declared.index.Index.{Index}
+use Rattle.fm_edit.specs.declared.task_index.TaskIndex.{TaskIndex}
 use Rattle.fm_edit.specs.Dirty.{SameBeyond, has_id, dirty_task}
 use Rattle.fm_edit.specs.LocalLaws.{same_kept, live_same, holder_same, spec_same, won_same, prefers_same}
 use Rattle.fm_edit.specs.Sight.{Sight, sight_of, prefers_in}
-use Rattle.fm_edit.specs.Index.{is_listed, counts_at, weight_at, amount_at, lists, lists_preferred, sum_in}
+use Rattle.fm_edit.specs.Index.{is_indexed, counts_at, weight_at, amount_at, lists, lists_preferred, sum_in}
 use Rattle.fm_edit.specs.Memory.{sum_over, also_out, Counts}
 
 nothing : (n : ℕ) → 0 + n ≡ n
@@ -211,13 +211,13 @@ on_list true true o f = sym (ap not (f refl))
 on_list true false o f = refl
 on_list false l o f = refl
 
-pub same_out : (k : Table) (x : Index) (out now : ℕ → Bool) → ((q : ℕ) → out q ≡ now q) → Counts out k x → Counts now k x
+pub same_out : (k : Table) (x : TaskIndex) (out now : ℕ → Bool) → ((q : ℕ) → out q ≡ now q) → Counts out k x → Counts now k x
 same_out k x out now h = subst (λ o. Counts o k x) (λ i q. h q i)
 
 -- What an index says of a table, when a task goes out, when one comes back, and when a delta is taken in.
-module _ (k : Table) (x y : Index) (out : ℕ → Bool) (t : ℕ) (rise : IsRising nat_cmp k.tasks) (inn : out t ≡ false) where
+module _ (k : Table) (x y : TaskIndex) (out : ℕ → Bool) (t : ℕ) (rise : IsRising nat_cmp k.tasks) (inn : out t ≡ false) where
   pub goes_out : Counts out k x
-      → ((n : Node) (q : ℕ) → lists y n q ≡ cond (is_eq (nat_cmp t q) && is_listed (sight_of k) n q) false (lists x n q))
+      → ((n : Node) (q : ℕ) → lists y n q ≡ cond (is_eq (nat_cmp t q) && is_indexed (sight_of k) n q) false (lists x n q))
       → ((m q : ℕ) → lists_preferred y m q ≡ cond (is_eq (nat_cmp t q) && prefers_in (sight_of k) m q) false (lists_preferred x m q))
       → ((n : Node) → sum_in y n ≡ sum_in x n - amount_at (sight_of k) n t)
       → Counts (also_out t out) k y
@@ -227,14 +227,14 @@ module _ (k : Table) (x y : Index) (out : ℕ → Bool) (t : ℕ) (rise : IsRisi
         preferred m q ∙ ap (λ b. cond (is_eq (nat_cmp t q) && l) false b) (c.preferred m q) ∙ off_list (is_eq (nat_cmp t q)) l (out q)
         ∙ ap (λ b. l && not (b || out q)) (either_way t q);
     listed = λ n q.
-        let l = is_listed (sight_of k) n q in
+        let l = is_indexed (sight_of k) n q in
         listed n q ∙ ap (λ b. cond (is_eq (nat_cmp t q) && l) false b) (c.listed n q) ∙ off_list (is_eq (nat_cmp t q)) l (out q)
         ∙ ap (λ b. l && not (b || out q)) (either_way t q);
     sums = λ n. let whole = out_of_sum k t n out rise inn in let was = c.sums n in let now = sums n in omega (arith, whole, was, now);
   }
 
   pub comes_back : CanBe k → length k.tasks < 2 ^ 63 → Counts (also_out t out) k x
-      → ((n : Node) (q : ℕ) → lists y n q ≡ cond (is_eq (nat_cmp t q) && is_listed (sight_of k) n q) true (lists x n q))
+      → ((n : Node) (q : ℕ) → lists y n q ≡ cond (is_eq (nat_cmp t q) && is_indexed (sight_of k) n q) true (lists x n q))
       → ((m q : ℕ) → lists_preferred y m q ≡ cond (is_eq (nat_cmp t q) && prefers_in (sight_of k) m q) true (lists_preferred x m q))
       → ((n : Node) → sum_in x n + amount_at (sight_of k) n t < 2 ^ 128 → sum_in y n ≡ sum_in x n + amount_at (sight_of k) n t)
       → Counts out k y
@@ -245,7 +245,7 @@ module _ (k : Table) (x y : Index) (out : ℕ → Bool) (t : ℕ) (rise : IsRisi
         ∙ ap (λ b. cond (is_eq (nat_cmp t q) && l) true b) (c.preferred m q ∙ ap (λ b. l && not (b || out q)) (either_way q t))
         ∙ on_list (is_eq (nat_cmp t q)) l (out q) (λ e. subst (λ z. out z ≡ false) (nat_same t q ((Equal-is (nat_cmp t q)).0 e)) inn);
     listed = λ n q.
-        let l = is_listed (sight_of k) n q in
+        let l = is_indexed (sight_of k) n q in
         listed n q
         ∙ ap (λ b. cond (is_eq (nat_cmp t q) && l) true b) (c.listed n q ∙ ap (λ b. l && not (b || out q)) (either_way q t))
         ∙ on_list (is_eq (nat_cmp t q)) l (out q) (λ e. subst (λ z. out z ≡ false) (nat_same t q ((Equal-is (nat_cmp t q)).0 e)) inn);
@@ -260,7 +260,7 @@ module _ (k after : Table) (keys : Keys) (turned : List ℕ) (same : SameBeyond 
   clean_counts (Machine m) t e = ap (λ o. passes (λ h. h == m) o) (holder_same k after keys turned same t e)
   clean_counts (Task u) t e = refl
 
-  clean_listed : (n : Node) (t : ℕ) → dirty_task k after keys turned t ≡ false → is_listed (sight_of after) n t ≡ is_listed (sight_of k) n t
+  clean_listed : (n : Node) (t : ℕ) → dirty_task k after keys turned t ≡ false → is_indexed (sight_of after) n t ≡ is_indexed (sight_of k) n t
   clean_listed Sink t e = refl
   clean_listed (Unscheduled j) t e = ap (λ o. passes (λ r. r.job == j) o) (spec_same k after keys turned same t e)
   clean_listed (Request q) t e = refl
@@ -277,9 +277,9 @@ module _ (k after : Table) (keys : Keys) (turned : List ℕ) (same : SameBeyond 
       (λ t e. ap (λ b. b && not (out t)) (clean_counts n t e))
       (λ t e. (out_of (counts_at (sight_of k) n) t e, out_of (counts_at (sight_of after) n) t e)))
 
-  lists_stay : (n : Node) (t : ℕ) → (is_listed (sight_of after) n t && not (out t)) ≡ (is_listed (sight_of k) n t && not (out t))
-  lists_stay n t = elim (dirty_task k after keys turned t) as (λ b. dirty_task k after keys turned t ≡ b → (is_listed (sight_of after) n t && not (out t)) ≡ (is_listed (sight_of k) n t && not (out t))) [
-    | true ↦ λ e. out_of (is_listed (sight_of after) n) t e ∙ sym (out_of (is_listed (sight_of k) n) t e)
+  lists_stay : (n : Node) (t : ℕ) → (is_indexed (sight_of after) n t && not (out t)) ≡ (is_indexed (sight_of k) n t && not (out t))
+  lists_stay n t = elim (dirty_task k after keys turned t) as (λ b. dirty_task k after keys turned t ≡ b → (is_indexed (sight_of after) n t && not (out t)) ≡ (is_indexed (sight_of k) n t && not (out t))) [
+    | true ↦ λ e. out_of (is_indexed (sight_of after) n) t e ∙ sym (out_of (is_indexed (sight_of k) n) t e)
     | false ↦ λ e. ap (λ b. b && not (out t)) (clean_listed n t e)
   ] refl
 
@@ -289,7 +289,7 @@ module _ (k after : Table) (keys : Keys) (turned : List ℕ) (same : SameBeyond 
     | false ↦ λ e. ap (λ b. b && not (out t)) (prefers_same k after keys turned same t e m)
   ] refl
 
-  pub counts_stay : (x : Index) → Counts out k x → Counts out after x
+  pub counts_stay : (x : TaskIndex) → Counts out k x → Counts out after x
   counts_stay x c = record { listed = λ n t. c.listed n t ∙ sym (lists_stay n t); preferred = λ m t. c.preferred m t ∙ sym (preferred_stay m t); sums = λ n. c.sums n ∙ sym (sums_stay n) }
 
 -- The steps of the loops that take tasks out and put them back.
@@ -333,9 +333,9 @@ module _ (xs : List ℕ) (i t : ℕ) (here : i < length xs) (is : t ≡ get_or x
   member_here : ((q : ℕ) → has_id (drop i xs) q ≡ true → has_id xs q ≡ true) → has_id xs t ≡ true
   member_here w = w t (subst (λ ys. has_id ys t ≡ true) (sym split) (ap (λ o. is_eq o || has_id (drop (i + 1) xs) t) (tied_itself nat_cmp_total t)))
 
-  module _ (s : Sight) (x y : Index) (k : Table) (can : CanBe k) (sees : s ≡ sight_of k) where
+  module _ (s : Sight) (x y : TaskIndex) (k : Table) (can : CanBe k) (sees : s ≡ sight_of k) where
     pub take_step : ((q : ℕ) → has_id (drop i xs) q ≡ true → has_id xs q ≡ true)
-        → ((n : Node) (q : ℕ) → lists y n q ≡ cond (is_eq (nat_cmp t q) && is_listed s n q) false (lists x n q))
+        → ((n : Node) (q : ℕ) → lists y n q ≡ cond (is_eq (nat_cmp t q) && is_indexed s n q) false (lists x n q))
         → ((m q : ℕ) → lists_preferred y m q ≡ cond (is_eq (nat_cmp t q) && prefers_in s m q) false (lists_preferred x m q))
         → ((n : Node) → sum_in y n ≡ sum_in x n - amount_at s n t)
         → Counts (λ q. has_id xs q && not (has_id (drop i xs) q)) k x → Counts (λ q. has_id xs q && not (has_id (drop (i + 1) xs) q)) k y
@@ -346,18 +346,18 @@ module _ (xs : List ℕ) (i t : ℕ) (here : i < length xs) (is : t ≡ get_or x
         (λ q. also_taken xs (drop (i + 1) xs) t q (member_here w) alone)
         (goes_out k x y out t can.table.tasks.rising inn
         (subst (λ ys. Counts (λ q. has_id xs q && not (has_id ys q)) k x) split c)
-        (subst (λ z. (n : Node) (q : ℕ) → lists y n q ≡ cond (is_eq (nat_cmp t q) && is_listed z n q) false (lists x n q)) sees listed)
+        (subst (λ z. (n : Node) (q : ℕ) → lists y n q ≡ cond (is_eq (nat_cmp t q) && is_indexed z n q) false (lists x n q)) sees listed)
         (subst (λ z. (m q : ℕ) → lists_preferred y m q ≡ cond (is_eq (nat_cmp t q) && prefers_in z m q) false (lists_preferred x m q)) sees preferred)
         (subst (λ z. (n : Node) → sum_in y n ≡ sum_in x n - amount_at z n t) sees sums))
 
     pub put_step : length k.tasks < 2 ^ 63
-        → ((n : Node) (q : ℕ) → lists y n q ≡ cond (is_eq (nat_cmp t q) && is_listed s n q) true (lists x n q))
+        → ((n : Node) (q : ℕ) → lists y n q ≡ cond (is_eq (nat_cmp t q) && is_indexed s n q) true (lists x n q))
         → ((m q : ℕ) → lists_preferred y m q ≡ cond (is_eq (nat_cmp t q) && prefers_in s m q) true (lists_preferred x m q))
         → ((n : Node) → sum_in x n + amount_at s n t < 2 ^ 128 → sum_in y n ≡ sum_in x n + amount_at s n t)
         → Counts (has_id (drop i xs)) k x → Counts (has_id (drop (i + 1) xs)) k y
     put_step small listed preferred sums c =
         comes_back k x y (has_id (drop (i + 1) xs)) t can.table.tasks.rising alone can small
         (subst (λ ys. Counts (has_id ys) k x) split c)
-        (subst (λ z. (n : Node) (q : ℕ) → lists y n q ≡ cond (is_eq (nat_cmp t q) && is_listed z n q) true (lists x n q)) sees listed)
+        (subst (λ z. (n : Node) (q : ℕ) → lists y n q ≡ cond (is_eq (nat_cmp t q) && is_indexed z n q) true (lists x n q)) sees listed)
         (subst (λ z. (m q : ℕ) → lists_preferred y m q ≡ cond (is_eq (nat_cmp t q) && prefers_in z m q) true (lists_preferred x m q)) sees preferred)
         (subst (λ z. (n : Node) → sum_in x n + amount_at z n t < 2 ^ 128 → sum_in y n ≡ sum_in x n + amount_at z n t) sees sums)

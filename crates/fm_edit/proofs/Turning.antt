@@ -7,10 +7,10 @@ use Rattle.fm_records.specs.Facts.{spec_of, holder_of}
 use Rattle.fm_net.specs.declared.node.Node.{Node}
 use Rattle.fm_net.specs.declared.node.Node.TheVariants.{Unscheduled, Request, Machine}
 use Rattle.fm_policy.specs.Changes.{Keys}
-use Rattle.fm_edit.specs.declared.touched.Touched.{Touched}
+use Rattle.fm_edit.specs.declared.affected.Touched.{Touched}
 use Rattle.fm_edit.specs.Dirty.{AreDirtyTasks, turned_in, dirty_task, job_of_task, request_of_task, EitherSays, MayTurn}
 use Rattle.fm_edit.specs.Sight.{Sight, sight_of, job_node_in, request_node_in, holder_node_in}
-use Rattle.fm_edit.specs.Touched.{has_touched, IsNodeOf, IsEnd, IsEndOf, TouchesOnlyDirty}
+use Rattle.fm_edit.specs.Affected.{has_touched, IsNodeOf, IsTaskEnd, IsEndOf, TouchesOnlyDirty}
 use Rattle.fm_edit.proofs.Completed.{both_ways}
 
 module _ (k after : Table) (keys : Keys) (ds : List ℕ) (are : AreDirtyTasks k after keys ds) where
@@ -43,7 +43,7 @@ module _ (k after : Table) (keys : Keys) (ds : List ℕ) (are : AreDirtyTasks k 
           | Some m ↦ λ f g. let is : Machine m ≡ n = cc in subst May is (inr (t, dirty, says holder_of t m f))
         ] refl e
 
-    end_may : (n : Node) → IsEnd (sight_of l) t n → May n
+    end_may : (n : Node) → IsTaskEnd (sight_of l) t n → May n
     end_may n h = elim h [
       | inl is ↦ subst May is dirty
       | inr other ↦ elim other [

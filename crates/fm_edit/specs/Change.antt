@@ -13,6 +13,6 @@ edit_of (PutNode n) = (n, None)
 edit_of (PutArc a b capacity cost) = (a, Some b)
 
 -- no two of the edits are of the same node, or of an arc with the same ends
-abbrev pub AreApart : List Edit → Type 0
-AreApart [] = Unit {0}
-AreApart (e ∷ es) = ((f : Edit) → IsMember f es → ¬ (edit_of f ≡ edit_of e)) × AreApart es
+abbrev pub AreDistinctEdits : List Edit → Type 0
+AreDistinctEdits [] = Unit {0}
+AreDistinctEdits (e ∷ es) = ((f : Edit) → IsMember f es → ¬ (edit_of f ≡ edit_of e)) × AreDistinctEdits es

@@ -7,18 +7,18 @@ use Rattle.fm_net.specs.declared.node.Node.TheVariants.{Sink, Unscheduled, Reque
 use Rattle.fm_net.specs.Nodes.{node_cmp}
 use Rattle.fm_net.specs.Net.{Net, has_node}
 use Rattle.fm_net.specs.Touched.{is_among}
-use Rattle.fm_edit.specs.declared.index.Index.{Index}
-use Rattle.fm_edit.specs.declared.memory.Memory.{Memory}
-use Rattle.fm_edit.specs.declared.touched.Touched.{Touched}
+use Rattle.fm_edit.specs.declared.task_index.TaskIndex.{TaskIndex}
+use Rattle.fm_edit.specs.declared.editor_state.EditorState.{EditorState}
+use Rattle.fm_edit.specs.declared.affected.Touched.{Touched}
 use Rattle.fm_edit.specs.Sight.{Sight, seen_in}
 use Rattle.fm_edit.specs.Index.{sum_in, lists_preferred}
 use Rattle.fm_edit.specs.Memory.{node_by}
 use Rattle.fm_edit.specs.Shown.{node_shown}
-use Rattle.fm_edit.specs.Touched.{has_touched, has_pair, Grows}
+use Rattle.fm_edit.specs.Affected.{has_touched, has_pair, AffectedGrows}
 
-abbrev pub is_request : Node → Bool
-is_request (Request q) = true
-is_request _ = false
+abbrev pub is_request_node : Node → Bool
+is_request_node (Request q) = true
+is_request_node _ = false
 
 abbrev pub is_machine : Node → Bool
 is_machine (Machine m) = true
@@ -31,15 +31,15 @@ leads_to_sink (Machine m) = true
 leads_to_sink _ = false
 
 -- the requests at which tasks wait
-abbrev pub waiting_in : Index → List Node
+abbrev pub waiting_in : TaskIndex → List Node
 waiting_in x = map (λ e. e.0) (filter (λ e. range_contains node_cmp (Included (Request 0)) (Excluded (Machine 0)) e.0) x.sums.entries)
 
 -- with the pairs of each touched machine and job with the sink, of each touched machine with each request that is touched or
 -- waits and with each task that is listed as preferring it, and of each touched request that came or went with each machine
 -- that is known
-pub record Completes (s : Sight) (index : Index) (net : Net) (old new : Touched) : Type 0 where
+pub record Completes (s : Sight) (index : TaskIndex) (net : Net) (old new : Touched) : Type 0 where
   pub nodes : new.nodes ≡ old.nodes
-  pub grows : Grows old new
+  pub grows : AffectedGrows old new
   pub sinks : (n : Node) → has_touched old n ≡ true → leads_to_sink n ≡ true → has_pair new n Sink ≡ true
   pub touched_places : (q m : ℕ) → has_touched old (Request q) ≡ true → has_touched old (Machine m) ≡ true → has_pair new (Request q) (Machine m) ≡ true
   pub waiting_places : (q m : ℕ) → node_shown s (sum_in index) (Request q) ≡ true → has_touched old (Machine m) ≡ true → has_pair new (Request q) (Machine m) ≡ true
@@ -54,8 +54,8 @@ AddsSink n new = leads_to_sink n ≡ true → has_pair new n Sink ≡ true
 abbrev pub AddsPlaces : List Node → Node → Touched → Type 0
 AddsPlaces requests n new = is_machine n ≡ true → (r : Node) → is_among node_cmp requests r ≡ true → has_pair new r n ≡ true
 
-abbrev pub AddsPreferring : Index → Node → Touched → Type 0
+abbrev pub AddsPreferring : TaskIndex → Node → Touched → Type 0
 AddsPreferring index n new = (m t : ℕ) → n ≡ Machine m → t < 2 ^ 128 → lists_preferred index m t ≡ true → has_pair new (Task t) n ≡ true
 
-abbrev pub AddsMachines : Memory → Net → Node → Touched → Type 0
-AddsMachines memory net n new = is_request n ≡ true → (has_node net n ≡ node_by memory n → ⊥) → (m : ℕ) → IsSome ((seen_in memory.seen).machine m) → has_pair new n (Machine m) ≡ true
+abbrev pub AddsMachines : EditorState → Net → Node → Touched → Type 0
+AddsMachines memory net n new = is_request_node n ≡ true → (has_node net n ≡ node_by memory n → ⊥) → (m : ℕ) → IsSome ((seen_in memory.seen).machine m) → has_pair new n (Machine m) ≡ true

@@ -5,7 +5,7 @@ use Rattle.fm_records.specs.Table.{Table}
 use Rattle.fm_net.specs.Net.{Net}
 use Rattle.fm_net.specs.Network.{net_of}
 use Rattle.fm_policy.specs.Changes.{Keys, joined_keys, has_no_keys}
-use Rattle.fm_policy.specs.Keeping.{TookIn}
+use Rattle.fm_policy.specs.Keeping.{FollowsAfter}
 use Rattle.fm_edit.specs.declared.deferred.Deferred.{Deferred}
 use Rattle.fm_edit.specs.declared.editor.Editor.{Editor}
 use Rattle.fm_edit.specs.Editing.{is_fresh_editor, IsFor}
@@ -29,7 +29,7 @@ DeferredIsFor d k = HasNetworkOf d.editor d.network k
 -- An Editor was for what was known before one delta, with which the table is what is known, and of which the keys are
 -- those that are pending. Without an Editor nothing but a fresh network has to be that of the table.
 abbrev pub CanFollow : Option Editor → Bool → Net → Keys → Table → Type 0
-CanFollow (Some e) built net pending k = IsTrue (is_fresh_editor e) × TookIn true (IsFor e) k pending
+CanFollow (Some e) built net pending k = IsTrue (is_fresh_editor e) × FollowsAfter true (IsFor e) k pending
 CanFollow None built net pending k = IsTrue (built && has_no_keys pending) → net ≡ net_of k
 
 abbrev pub DeferredFollows : Deferred → Table → Type 0

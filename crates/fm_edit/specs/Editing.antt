@@ -2,7 +2,7 @@
 use Rattle.std.specs.Prelude.{ℕ, ◌+◌, ◌-◌, ◌^◌, Bool, min}
 use Rattle.fm_records.specs.Table.{Table}
 use Rattle.fm_edit.specs.declared.editor.Editor.{Editor}
-use Rattle.fm_edit.specs.Memory.{IsAt}
+use Rattle.fm_edit.specs.Memory.{IsEditorState}
 
 abbrev pub is_fresh_editor : Editor → Bool
 is_fresh_editor e = e.fresh
@@ -13,7 +13,7 @@ taken_out e = e.memory.index.taken
 
 -- it holds the network of the table, and remembers the table
 abbrev pub IsFor : Editor → Table → Type 0
-IsFor e k = IsAt e.memory e.network k
+IsFor e k = IsEditorState e.memory e.network k
 
 -- a count of at most 2^64 - 1, with one more
 abbrev pub one_more : ℕ → ℕ

@@ -10,21 +10,21 @@ use Rattle.fm_records.specs.Facts.{request_of}
 use Rattle.fm_net.specs.declared.node.Node.{Node}
 use Rattle.fm_net.specs.declared.node.Node.TheVariants.{Unscheduled, Request, Machine}
 use Rattle.fm_net.specs.Nodes.{node_cmp}
-use Rattle.fm_edit.specs.declared.index.Index.{Index}
+use Rattle.fm_edit.specs.declared.task_index.TaskIndex.{TaskIndex}
 use Rattle.fm_edit.specs.Dirty.{has_id}
-use Rattle.fm_edit.specs.Sight.{Sight, spec_in, live_in, holder_in}
+use Rattle.fm_edit.specs.Sight.{Sight, cached_spec, cached_live, cached_holder}
 
 -- a task is listed at the job that its spec names, and at the machine that the winner of its present attempt names
-abbrev pub is_listed : Sight → Node → ℕ → Bool
-is_listed s (Unscheduled j) t = passes (λ r. r.job == j) (spec_in s t)
-is_listed s (Machine m) t = passes (λ p. p.machine == m) (s.spot t)
-is_listed s _ t = false
+abbrev pub is_indexed : Sight → Node → ℕ → Bool
+is_indexed s (Unscheduled j) t = passes (λ r. r.job == j) (cached_spec s t)
+is_indexed s (Machine m) t = passes (λ p. p.machine == m) (s.spot t)
+is_indexed s _ t = false
 
 -- a task counts at its job while it is live, at its request while it waits, and at the machine that holds it
 abbrev pub counts_at : Sight → Node → ℕ → Bool
-counts_at s (Unscheduled j) t = passes (λ r. r.job == j) (live_in s t)
-counts_at s (Request q) t = passes (λ r. r.request == q) (live_in s t) && not (passes (λ m. true) (holder_in s t))
-counts_at s (Machine m) t = passes (λ h. h == m) (holder_in s t)
+counts_at s (Unscheduled j) t = passes (λ r. r.job == j) (cached_live s t)
+counts_at s (Request q) t = passes (λ r. r.request == q) (cached_live s t) && not (passes (λ m. true) (cached_holder s t))
+counts_at s (Machine m) t = passes (λ h. h == m) (cached_holder s t)
 counts_at s _ t = false
 
 -- at a machine for its request, elsewhere for one
@@ -33,7 +33,7 @@ weight_at (Machine m) spec = request_of spec
 weight_at _ spec = 1
 
 abbrev pub amount_at : Sight → Node → ℕ → ℕ
-amount_at s n t = cond (counts_at s n t) (weight_at n (spec_in s t)) 0
+amount_at s n t = cond (counts_at s n t) (weight_at n (cached_spec s t)) 0
 
 -- the order of pairs of a key and a task: in the list of tasks by node, and by machine that they prefer
 abbrev pub pair_cmp : {K : Type 0} → (K → K → Ordering) → K × ℕ → K × ℕ → Ordering
@@ -46,15 +46,15 @@ abbrev pub preferred_cmp : ℕ × ℕ → ℕ × ℕ → Ordering
 preferred_cmp = then_cmp (on (λ p. p.0) nat_cmp) (on (λ p. p.1) nat_cmp)
 
 -- what an index says of a task at a node, and of a node
-abbrev pub lists : Index → Node → ℕ → Bool
+abbrev pub lists : TaskIndex → Node → ℕ → Bool
 lists x n t = list_any (λ p. is_eq (listed_cmp (n, t) p)) x.listed.keys
 
-abbrev pub lists_preferred : Index → ℕ → ℕ → Bool
+abbrev pub lists_preferred : TaskIndex → ℕ → ℕ → Bool
 lists_preferred x m t = list_any (λ p. is_eq (preferred_cmp (m, t) p)) x.preferred.keys
 
-abbrev pub sum_in : Index → Node → ℕ
+abbrev pub sum_in : TaskIndex → Node → ℕ
 sum_in x n = unwrap_or (get node_cmp x.sums n) 0
 
 -- the task is listed at the node of one of the ids
-abbrev pub ListsAtOne : Index → (ℕ → Node) → List ℕ → ℕ → Type 0
+abbrev pub ListsAtOne : TaskIndex → (ℕ → Node) → List ℕ → ℕ → Type 0
 ListsAtOne x node ids t = (i : ℕ) × (has_id ids i ≡ true) × (lists x (node i) t ≡ true)

@@ -16,4 +16,4 @@ pub mod Memory
 pub mod Seeing
 pub mod Shown
 pub mod Sight
-pub mod Touched
+pub mod Affected

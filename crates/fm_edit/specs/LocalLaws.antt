@@ -17,9 +17,9 @@ use Rattle.fm_records.specs.Options.{when, and_then, only_if, passes, or_else}
 use Rattle.fm_records.specs.Sets.{IsMember}
 use Rattle.fm_records.specs.Table.{Table, TaskValue}
 use Rattle.fm_records.specs.Know.{none_begun}
-use Rattle.fm_records.specs.Spelled.{IsTable}
+use Rattle.fm_records.specs.OpsOfTable.{IsTable}
 use Rattle.fm_records.specs.Joined.{table_join}
-use Rattle.fm_records.specs.Facts.{first_of, job_of, spec_of, progress_of, attempt_of, used_of, winner_of, is_done, job_stands, live_spec, is_live, open_state, is_present, won_spot, holder_of, holds, held_tasks, request_of, load_of, spare_of}
+use Rattle.fm_records.specs.Facts.{head_option, job_of, spec_of, progress_of, attempt_of, used_of, winner_of, is_done, job_stands, live_spec, is_live, open_state, is_present, won_spot, holder_of, holds, held_tasks, request_of, load_of, spare_of}
 use Rattle.fm_net.specs.declared.node.Node.{Node}
 use Rattle.fm_net.specs.declared.node.Node.TheVariants.{Sink, Unscheduled, Request, Machine, Task}
 use Rattle.fm_net.specs.ListLaws.{entry_member, member_mapped, has_member}
@@ -113,11 +113,11 @@ passed_some : (o : Option ℕ) (m : ℕ) → passes (λ h. h == m) o ≡ true �
 passed_some None m e = absurd (let no : ⊥ = cc in no)
 passed_some (Some h) m e = ap Some (eqb-true h m e)
 
-abbrev price : Bool → JobReg → ℕ × ℕ
-price held job = (1, cond held job.preempt job.wait)
+abbrev local_price : Bool → JobReg → ℕ × ℕ
+local_price held job = (1, cond held job.preempt job.wait)
 
-abbrev job_arc : Bool → Bool → Option JobReg → Option (ℕ × ℕ)
-job_arc live held o = cond live (option_map (price held) o) None
+abbrev local_job_arc : Bool → Bool → Option JobReg → Option (ℕ × ℕ)
+local_job_arc live held o = cond live (option_map (local_price held) o) None
 
 both : (a b : Bool) → a && b ≡ true → (a ≡ true) × (b ≡ true)
 both true b e = (refl, e)
@@ -170,7 +170,7 @@ module _ (k after : Table) (keys : Keys) (turned : List ℕ) (same : SameBeyond 
     pub won_same : won_spot after t ≡ won_spot k t
     won_same =
         ap (λ pr. option_map (λ w. w.1) (winner_of after t pr.attempt)) progress_same
-        ∙ ap (λ o. option_map (λ w. w.1) (first_of (or_else [] o))) (same.proposals t (attempt_of k t) (clean t e).told)
+        ∙ ap (λ o. option_map (λ w. w.1) (head_option (or_else [] o))) (same.proposals t (attempt_of k t) (clean t e).told)
 
     present_same : (s : Option Spot) → passes (has_id turned) (option_map (λ s. s.machine) s) ≡ false → only_if (is_present after) s ≡ only_if (is_present k) s
     present_same None h = refl
@@ -327,12 +327,12 @@ module _ (k after : Table) (keys : Keys) (turned : List ℕ) (same : SameBeyond 
   task_arc_same t e (Request r) h = ap (λ w. when w (1, 0)) (waits_same r t e)
   task_arc_same t e (Machine m) h = machine_arc_same t m e (λ x. h (inr x))
   task_arc_same t e (Unscheduled j) h =
-      (λ i. job_arc (passes (λ s. s.job == j) (live_same t e i)) (passes (λ m. true) (holder_same t e i)) (job_of after j))
-      ∙ elim (is_live_of k j t) as (λ b. is_live_of k j t ≡ b → job_arc b (is_held k t) (job_of after j) ≡ job_arc b (is_held k t) (job_of k j)) [
+      (λ i. local_job_arc (passes (λ s. s.job == j) (live_same t e i)) (passes (λ m. true) (holder_same t e i)) (job_of after j))
+      ∙ elim (is_live_of k j t) as (λ b. is_live_of k j t ≡ b → local_job_arc b (is_held k t) (job_of after j) ≡ local_job_arc b (is_held k t) (job_of k j)) [
         | true ↦ λ live.
             let named : job_of_task k t ≡ Some j = of_job k j t live in
             let told : has_id keys.jobs j ≡ false = ap (λ o. passes (has_id keys.jobs) o) (sym named) ∙ (clean t e).job in
-            ap (λ o. job_arc true (is_held k t) o) (same.jobs j told)
+            ap (λ o. local_job_arc true (is_held k t) o) (same.jobs j told)
         | false ↦ λ _. refl
       ] refl
   task_arc_same t e _ h = refl

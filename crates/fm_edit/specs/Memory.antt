@@ -3,14 +3,14 @@ use Rattle.std.specs.Prelude.{◌≡◌, ℕ, Bool, false, not, ◌&&◌, ◌||�
 use Rattle.std.specs.Ordering.{nat_cmp, is_eq}
 use Rattle.fm_records.specs.Table.{Table}
 use Rattle.fm_net.specs.declared.node.Node.{Node}
-use Rattle.fm_policy.specs.declared.facts.NodeFacts.{NodeFacts}
-use Rattle.fm_policy.specs.Facts.{node_of}
-use Rattle.fm_edit.specs.declared.index.Index.{Index}
-use Rattle.fm_edit.specs.declared.memory.Memory.{Memory}
+use Rattle.fm_policy.specs.declared.node_facts.NodeFacts.{NodeFacts}
+use Rattle.fm_policy.specs.NodeFacts.{node_of}
+use Rattle.fm_edit.specs.declared.task_index.TaskIndex.{TaskIndex}
+use Rattle.fm_edit.specs.declared.editor_state.EditorState.{EditorState}
 use Rattle.fm_net.specs.Net.{Net}
 use Rattle.fm_net.specs.Network.{net_of}
 use Rattle.fm_edit.specs.Sight.{sight_of, seen_in, prefers_in}
-use Rattle.fm_edit.specs.Index.{is_listed, counts_at, weight_at, lists, lists_preferred, sum_in}
+use Rattle.fm_edit.specs.Index.{is_indexed, counts_at, weight_at, lists, lists_preferred, sum_in}
 use Rattle.fm_edit.specs.Shown.{facts_shown, node_shown, arc_shown}
 use Rattle.fm_edit.specs.declared.shown.Ends.{Ends}
 
@@ -26,36 +26,36 @@ abbrev pub also_out : ℕ → (ℕ → Bool) → ℕ → Bool
 also_out t out q = is_eq (nat_cmp q t) || out q
 
 -- the tasks that are not out are listed where they are to be, and count
-pub record Counts (out : ℕ → Bool) (k : Table) (x : Index) : Type 0 where
-  pub listed : (n : Node) (t : ℕ) → lists x n t ≡ (is_listed (sight_of k) n t && not (out t))
+pub record Counts (out : ℕ → Bool) (k : Table) (x : TaskIndex) : Type 0 where
+  pub listed : (n : Node) (t : ℕ) → lists x n t ≡ (is_indexed (sight_of k) n t && not (out t))
   pub preferred : (m t : ℕ) → lists_preferred x m t ≡ (prefers_in (sight_of k) m t && not (out t))
   pub sums : (n : Node) → sum_in x n ≡ sum_over out k n
 
 -- A memory is of a table if its records are those of the table, with the spots that the winners of the present attempts
 -- name, and where all tasks of the table are listed and count.
-pub record Remembers (k : Table) (m : Memory) : Type 0 where
+pub record Remembers (k : Table) (m : EditorState) : Type 0 where
   pub sees : seen_in m.seen ≡ sight_of k
   pub counts : Counts none_out k m.index
 
 -- what a memory tells of nodes, and the nodes and arcs that follow from that
-abbrev pub facts_by : Memory → Node → NodeFacts
+abbrev pub facts_by : EditorState → Node → NodeFacts
 facts_by m = facts_shown (seen_in m.seen) (sum_in m.index)
 
-abbrev pub node_by : Memory → Node → Bool
+abbrev pub node_by : EditorState → Node → Bool
 node_by m = node_shown (seen_in m.seen) (sum_in m.index)
 
-abbrev pub arc_by : Memory → Node → Node → Option (ℕ × ℕ)
+abbrev pub arc_by : EditorState → Node → Node → Option (ℕ × ℕ)
 arc_by m = arc_shown (seen_in m.seen) (sum_in m.index)
 
 -- what was found of a node is what the memory tells of it; and so of two ends, if they were found
-abbrev pub IsKnownBy : Memory → NodeFacts → Type 0
+abbrev pub IsKnownBy : EditorState → NodeFacts → Type 0
 IsKnownBy m x = x ≡ facts_by m (node_of x)
 
-pub record AreKnownBy (m : Memory) (ends : Ends) : Type 0 where
+pub record AreKnownBy (m : EditorState) (ends : Ends) : Type 0 where
   pub from : IfSome ends.from (IsKnownBy m)
   pub to : IfSome ends.to (IsKnownBy m)
 
 -- the memory is of the table, and the network is the table's
-pub record IsAt (m : Memory) (net : Net) (k : Table) : Type 0 where
+pub record IsEditorState (m : EditorState) (net : Net) (k : Table) : Type 0 where
   pub network : net ≡ net_of k
   pub remembers : Remembers k m

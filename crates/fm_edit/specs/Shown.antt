@@ -2,10 +2,10 @@
 use Rattle.std.specs.Prelude.{ℕ, ◌-◌, ◌^◌, Bool, not, ◌==◌, Option, min, max}
 use Rattle.fm_net.specs.declared.node.Node.{Node}
 use Rattle.fm_net.specs.declared.node.Node.TheVariants.{Sink, Unscheduled, Request, Machine, Task}
-use Rattle.fm_policy.specs.declared.facts.NodeFacts.{NodeFacts}
-use Rattle.fm_policy.specs.declared.facts.NodeFacts.TheVariants.{OfSink, OfJob, OfRequest, OfMachine, OfTask}
-use Rattle.fm_policy.specs.Facts.{is_there, arc_between}
-use Rattle.fm_edit.specs.Sight.{Sight, live_in, open_in, holder_in, used_in}
+use Rattle.fm_policy.specs.declared.node_facts.NodeFacts.{NodeFacts}
+use Rattle.fm_policy.specs.declared.node_facts.NodeFacts.TheVariants.{OfSink, OfJob, OfRequest, OfMachine, OfTask}
+use Rattle.fm_policy.specs.NodeFacts.{is_there, arc_between}
+use Rattle.fm_edit.specs.Sight.{Sight, cached_live, open_in, cached_holder, used_in}
 
 module _ (s : Sight) (sum : Node → ℕ) where
   -- what is known of a node
@@ -14,7 +14,7 @@ module _ (s : Sight) (sum : Node → ℕ) where
   facts_shown (Unscheduled j) = OfJob (record { job = j; register = s.job j; live = min (sum (Unscheduled j)) (2 ^ 64 - 1) })
   facts_shown (Request r) = OfRequest (record { request = r; waits = not (sum (Request r) == 0) })
   facts_shown (Machine m) = OfMachine (record { machine = m; state = open_in s m; load = max (used_in s m) (sum (Machine m)) })
-  facts_shown (Task t) = OfTask (record { task = t; spec = live_in s t; holder = holder_in s t })
+  facts_shown (Task t) = OfTask (record { task = t; spec = cached_live s t; holder = cached_holder s t })
 
   abbrev pub node_shown : Node → Bool
   node_shown n = is_there (facts_shown n)

@@ -9,13 +9,13 @@ ghost use Rattle.fm_net.specs.Nodes.{node_cmp};
 ghost use Rattle.fm_net.specs.Touched.{is_among};
 ghost use Rattle.fm_edit.specs.Sight.{seen_in};
 ghost use Rattle.fm_edit.specs.Index.{lists_preferred};
-ghost use Rattle.fm_edit.specs.Touched.{has_pair, Grows};
-ghost use Rattle.fm_edit.specs.Completing.{Completes, AddsSink, AddsPlaces, AddsPreferring, AddsMachines, is_request, is_machine, waiting_in};
+ghost use Rattle.fm_edit.specs.Affected.{has_pair, AffectedGrows};
+ghost use Rattle.fm_edit.specs.Completing.{Completes, AddsSink, AddsPlaces, AddsPreferring, AddsMachines, is_request_node, is_machine, waiting_in};
 
-use crate::index::Index;
-use crate::memory::Memory;
-use crate::seen::Seen;
-use crate::touched::Touched;
+use crate::task_index::TaskIndex;
+use crate::editor_state::EditorState;
+use crate::record_cache::RecordCache;
+use crate::affected::Touched;
 use fm_lattice::join::OutOfMemory;
 use fm_net::network::Network;
 use fm_net::node::Node;
@@ -28,7 +28,7 @@ use std::alloc::Global;
 pub(crate) fn touch_pairs(
     alloc: Global,
     touched: &mut Touched,
-    memory: &Memory,
+    memory: &EditorState,
     network: &Network,
 ) -> Result<(), OutOfMemory>
     ensures { OnOk result
@@ -55,9 +55,9 @@ fn nodes_of(alloc: Global, touched: &Touched) -> Result<Vec<Node>, OutOfMemory>
 
 // The requests at which tasks wait, and those among the nodes, if a machine is among these: they are needed for
 // machines alone. Greater ones first: inserting before all other elements is the cheapest in an ordered set.
-fn requests_for(alloc: Global, index: &Index, nodes: &[Node]) -> Result<Vec<Node>, OutOfMemory>
+fn requests_for(alloc: Global, index: &TaskIndex, nodes: &[Node]) -> Result<Vec<Node>, OutOfMemory>
     ensures { IfOk result (λ ns. IsTrue (list_any is_machine nodes.now)
-        → ns.items ≡ reverse (waiting_in index.now) ++ filter is_request nodes.now) }
+        → ns.items ≡ reverse (waiting_in index.now) ++ filter is_request_node nodes.now) }
 {
     if !has_machine(nodes) {
         return Ok(Vec::new(alloc));
@@ -71,7 +71,7 @@ fn requests_for(alloc: Global, index: &Index, nodes: &[Node]) -> Result<Vec<Node
 
 // The requests among the nodes.
 fn requests_of(alloc: Global, nodes: &[Node]) -> Result<Vec<Node>, OutOfMemory>
-    ensures { IfOk result (λ ns. ns.items ≡ filter is_request nodes.now) }
+    ensures { IfOk result (λ ns. ns.items ≡ filter is_request_node nodes.now) }
 {
     Ok(
         nodes
@@ -83,7 +83,7 @@ fn requests_of(alloc: Global, nodes: &[Node]) -> Result<Vec<Node>, OutOfMemory>
 }
 
 fn is_request(node: &Node) -> bool
-    ensures { result ≡ is_request node.now }
+    ensures { result ≡ is_request_node node.now }
 {
     matches!(node, Node::Request(_))
 }
@@ -102,7 +102,7 @@ fn is_machine(node: &Node) -> bool
 }
 
 // The requests at which tasks wait. O(log n) for each.
-fn all_waiting(alloc: Global, index: &Index) -> Result<Vec<Node>, OutOfMemory>
+fn all_waiting(alloc: Global, index: &TaskIndex) -> Result<Vec<Node>, OutOfMemory>
     ensures { IfOk result (λ ns. ns.items ≡ waiting_in index.now) }
 {
     let first = Node::Request(0);
@@ -121,10 +121,10 @@ fn touch_nodes(
     touched: &mut Touched,
     nodes: &[Node],
     requests: &[Node],
-    memory: &Memory,
+    memory: &EditorState,
     network: &Network,
 ) -> Result<(), OutOfMemory>
-    ensures grows { OnOk result (Grows touched.old touched.new) }
+    ensures grows { OnOk result (AffectedGrows touched.old touched.new) }
     ensures same { OnOk result (touched.new.nodes ≡ touched.old.nodes) }
     ensures sinks { OnOk result ((n : NodeName) → is_among node_cmp nodes.now n ≡ true → AddsSink n touched.new) }
     ensures places { OnOk result ((n : NodeName) → is_among node_cmp nodes.now n ≡ true
@@ -145,10 +145,10 @@ fn touch_node(
     touched: &mut Touched,
     node: &Node,
     requests: &[Node],
-    memory: &Memory,
+    memory: &EditorState,
     network: &Network,
 ) -> Result<(), OutOfMemory>
-    ensures grows { OnOk result (Grows touched.old touched.new) }
+    ensures grows { OnOk result (AffectedGrows touched.old touched.new) }
     ensures same { OnOk result (touched.new.nodes ≡ touched.old.nodes) }
     ensures sink { OnOk result (AddsSink node.now touched.new) }
     ensures places { OnOk result (AddsPlaces requests.now node.now touched.new) }
@@ -172,9 +172,9 @@ fn touch_machine(
     touched: &mut Touched,
     machine: MachineId,
     requests: &[Node],
-    index: &Index,
+    index: &TaskIndex,
 ) -> Result<(), OutOfMemory>
-    ensures grows { OnOk result (Grows touched.old touched.new) }
+    ensures grows { OnOk result (AffectedGrows touched.old touched.new) }
     ensures same { OnOk result (touched.new.nodes ≡ touched.old.nodes) }
     ensures sink { OnOk result (AddsSink (NodeName.Machine machine) touched.new) }
     ensures places { OnOk result (AddsPlaces requests.now (NodeName.Machine machine) touched.new) }
@@ -187,7 +187,7 @@ fn touch_machine(
 
 // Touches the pairs of the requests and the machine.
 fn touch_places(touched: &mut Touched, requests: &[Node], machine: &Node) -> Result<(), OutOfMemory>
-    ensures grows { OnOk result (Grows touched.old touched.new) }
+    ensures grows { OnOk result (AffectedGrows touched.old touched.new) }
     ensures same { OnOk result (touched.new.nodes ≡ touched.old.nodes) }
     ensures has { OnOk result ((r : NodeName) → is_among node_cmp requests.now r ≡ true
         → has_pair touched.new r machine.now ≡ true) }
@@ -202,9 +202,9 @@ fn touch_places(touched: &mut Touched, requests: &[Node], machine: &Node) -> Res
 fn touch_preferring(
     touched: &mut Touched,
     machine: MachineId,
-    index: &Index,
+    index: &TaskIndex,
 ) -> Result<(), OutOfMemory>
-    ensures grows { OnOk result (Grows touched.old touched.new) }
+    ensures grows { OnOk result (AffectedGrows touched.old touched.new) }
     ensures same { OnOk result (touched.new.nodes ≡ touched.old.nodes) }
     ensures has { OnOk result ((t : ℕ) → t < 2 ^ 128 → lists_preferred index.now machine t ≡ true
         → has_pair touched.new (NodeName.Task t) (NodeName.Machine machine) ≡ true) }
@@ -218,8 +218,8 @@ fn touch_preferring(
 }
 
 // Touches the pairs of the request and each machine that is known, greater ones first.
-fn touch_machines(touched: &mut Touched, request: &Node, seen: &Seen) -> Result<(), OutOfMemory>
-    ensures grows { OnOk result (Grows touched.old touched.new) }
+fn touch_machines(touched: &mut Touched, request: &Node, seen: &RecordCache) -> Result<(), OutOfMemory>
+    ensures grows { OnOk result (AffectedGrows touched.old touched.new) }
     ensures same { OnOk result (touched.new.nodes ≡ touched.old.nodes) }
     ensures has { OnOk result ((m : ℕ) → is_some (get nat_cmp seen.now.machines m) ≡ true
         → has_pair touched.new request.now (NodeName.Machine m) ≡ true) }

@@ -4,7 +4,7 @@ ghost use Rattle.std.specs.Prelude.{◌≡◌, [], true, false, None, is_some, I
 ghost use Rattle.fm_records.specs.Know.{know};
 ghost use Rattle.fm_net.specs.Network.{net_of};
 ghost use Rattle.fm_policy.specs.Changes.{no_keys};
-ghost use Rattle.fm_policy.specs.Keeping.{TookIn};
+ghost use Rattle.fm_policy.specs.Keeping.{FollowsAfter};
 ghost use Rattle.fm_edit.specs.Editing.{one_more};
 ghost use Rattle.fm_edit.specs.Deferring.{is_fresh_deferred, DeferredIsFor, DeferredFollows, DeferredAbsorbs};
 
@@ -18,7 +18,7 @@ use fm_policy::build::build;
 use fm_policy::changed::Changed;
 use fm_policy::keeper::NetKeeper;
 use fm_policy::laws::{law_joined_keys, law_no_keys};
-use fm_policy::pending::Pending;
+use fm_policy::stale_keys::Pending;
 use std::alloc::Global;
 
 // An edit for one record touches an arc for each size of request, as many as a machine has. As measured, an edit of one

@@ -9,8 +9,8 @@ ghost use Rattle.fm_edit.specs.Sight.{seen_in};
 ghost use Rattle.fm_edit.specs.Seeing.{standing, standing_of, same_standing, turns};
 ghost use Rattle.fm_edit.specs.Index.{lists, ListsAtOne};
 
-use crate::index::Index;
-use crate::seen::Seen;
+use crate::task_index::TaskIndex;
+use crate::record_cache::RecordCache;
 use fm_lattice::join::OutOfMemory;
 use fm_net::node::Node;
 use fm_policy::changed::Changed;
@@ -23,7 +23,7 @@ use std::collections::BTreeSet;
 /// incarnation. O(m log n).
 pub(crate) fn turned(
     alloc: Global,
-    seen: &Seen,
+    seen: &RecordCache,
     values: &[(MachineId, Option<MachineRec>)],
 ) -> Result<Vec<MachineId>, OutOfMemory>
     ensures { IfOk result (λ ms. ms.items ≡ map (λ v. v.0) (filter
@@ -39,7 +39,7 @@ pub(crate) fn turned(
 }
 
 // Whether the machine turned.
-fn turns(seen: &Seen, machine: MachineId, now: &Option<MachineRec>) -> bool
+fn turns(seen: &RecordCache, machine: MachineId, now: &Option<MachineRec>) -> bool
     ensures { result ≡ turns ((seen_in seen.now).machine machine) now.now }
 {
     let before = match seen.machines.get(&machine) {
@@ -71,7 +71,7 @@ fn standing(known: &MachineRec) -> Option<u64>
 /// no others: ids rising. O(m log n) in these.
 pub(crate) fn dirty_tasks(
     alloc: Global,
-    index: &Index,
+    index: &TaskIndex,
     changed: &Changed,
     turned: &[MachineId],
 ) -> Result<Vec<TaskId>, OutOfMemory>
@@ -115,7 +115,7 @@ fn add_told(tasks: &mut BTreeSet<TaskId>, told: &[TaskId]) -> Result<(), OutOfMe
 // Adds the tasks that are listed at the jobs.
 fn add_of_jobs(
     tasks: &mut BTreeSet<TaskId>,
-    index: &Index,
+    index: &TaskIndex,
     jobs: &[JobId],
 ) -> Result<(), OutOfMemory>
     ensures grows { OnOk result ((t : ℕ) → has_id tasks.old.keys t ≡ true → has_id tasks.new.keys t ≡ true) }
@@ -133,7 +133,7 @@ fn add_of_jobs(
 // Adds the tasks that are listed at the machines.
 fn add_of_machines(
     tasks: &mut BTreeSet<TaskId>,
-    index: &Index,
+    index: &TaskIndex,
     machines: &[MachineId],
 ) -> Result<(), OutOfMemory>
     ensures grows { OnOk result ((t : ℕ) → has_id tasks.old.keys t ≡ true → has_id tasks.new.keys t ≡ true) }
@@ -149,7 +149,7 @@ fn add_of_machines(
 }
 
 // Adds the tasks that are listed at the node. O(log n) for each.
-fn add_listed(tasks: &mut BTreeSet<TaskId>, index: &Index, node: &Node) -> Result<(), OutOfMemory>
+fn add_listed(tasks: &mut BTreeSet<TaskId>, index: &TaskIndex, node: &Node) -> Result<(), OutOfMemory>
     ensures grows { OnOk result ((t : ℕ) → has_id tasks.old.keys t ≡ true → has_id tasks.new.keys t ≡ true) }
     ensures listed { OnOk result ((t : ℕ) → t < 2 ^ 128 → lists index.now node.now t ≡ true
         → has_id tasks.new.keys t ≡ true) }

@@ -3,21 +3,21 @@
 ghost use Rattle.std.specs.Prelude.{◌≡◌, ◌++◌, [], true, false, IsTrue, IfOk, OnOk, OnErr};
 ghost use Rattle.fm_records.specs.Know.{know};
 ghost use Rattle.fm_records.specs.Table.{Table};
-ghost use Rattle.fm_net.specs.Edits.{after, change, MayEditAll};
+ghost use Rattle.fm_net.specs.Edits.{after_edits, change, MayEditAll};
 ghost use Rattle.fm_net.specs.Network.{net_of};
-ghost use Rattle.fm_policy.specs.Keeping.{TookIn};
+ghost use Rattle.fm_policy.specs.Keeping.{FollowsAfter};
 ghost use Rattle.fm_edit.specs.Dirty.{CountsDirtyTasks};
 ghost use Rattle.fm_edit.specs.Looking.{looks_of};
 ghost use Rattle.fm_edit.specs.Editing.{is_fresh_editor, taken_out, one_more, IsFor};
 
 use crate::look::{KnowLook, Look};
-use crate::memory::Memory;
+use crate::editor_state::EditorState;
 use fm_know::knowledge::Knowledge;
 use fm_know::laws::law_can_be;
 use fm_lattice::join::OutOfMemory;
 use fm_lattice::shared::Shared;
 use fm_net::edit::Edit;
-use fm_net::making::make_all;
+use fm_net::apply::make_all;
 use fm_net::network::Network;
 use fm_policy::build::build;
 use fm_policy::changed::{Changed, changed_of};
@@ -29,7 +29,7 @@ use std::alloc::Global;
 /// what is known. It counts the edits that it made since its network was built.
 #[derive(Drop)]
 pub struct Editor {
-    memory: Memory,
+    memory: EditorState,
     network: Shared<Network>,
     fresh: bool,
     edits: u64,
@@ -43,7 +43,7 @@ impl Editor {
         ensures edits { IfOk result (λ e. e.edits ≡ 0) }
     {
         Ok(Editor {
-            memory: Memory::new(alloc),
+            memory: EditorState::new(alloc),
             network: Shared::new(alloc, Network::new(alloc)?)?,
             fresh: true,
             edits: 0,
@@ -66,7 +66,7 @@ impl Editor {
         let all = changed_of(alloc, now)?;
         let mut look = KnowLook::new(alloc, now);
         let mut editor = Editor::new(alloc)?;
-        editor.memory = Memory::of(alloc, &mut look, &all)?;
+        editor.memory = EditorState::of(alloc, &mut look, &all)?;
         editor.network = Shared::new(alloc, network)?;
         Ok(editor)
     }
@@ -100,7 +100,7 @@ pub fn edit<L: Look>(
     changed: &Changed,
 ) -> Result<Vec<Edit>, OutOfMemory>
     requires fresh { IsTrue (is_fresh_editor editor.old) }
-    requires took_in { TookIn true (IsFor editor.old) (L.table look.old) changed.now }
+    requires took_in { FollowsAfter true (IsFor editor.old) (L.table look.old) changed.now }
     ensures least { (k : Table) → IsFor editor.old k
         → IfOk result (λ edits. edits.items ≡ change (net_of k) (net_of (L.table look.old))) }
     ensures fresh { OnOk result (IsTrue (is_fresh_editor editor.new)) }
@@ -127,7 +127,7 @@ pub fn edit<L: Look>(
 // Makes the edits one after another. If the network has other owners and there are edits to make, it is copied first.
 fn make(network: &mut Shared<Network>, edits: &[Edit]) -> Result<(), OutOfMemory>
     requires { MayEditAll network.old edits.now }
-    ensures { OnOk result (network.new ≡ after edits.now network.old) }
+    ensures { OnOk result (network.new ≡ after_edits edits.now network.old) }
 {
     if edits.is_empty() {
         return Ok(());
@@ -155,13 +155,13 @@ impl NetKeeper for Editor {
         now: &Knowledge,
         changed: &Changed,
     ) -> Result<(), OutOfMemory>
-        requires { TookIn (is_fresh_editor self.old) (IsFor self.old) now.now changed.now }
+        requires { FollowsAfter (is_fresh_editor self.old) (IsFor self.old) now.now changed.now }
         ensures ok { OnOk result (IsTrue (is_fresh_editor self.new) → IsFor self.new now.now) }
         ensures follows { OnOk result (IsTrue (is_fresh_editor self.old) → IsTrue (is_fresh_editor self.new)) }
         ensures err { OnErr result (is_fresh_editor self.new ≡ false) }
         ensures stale { is_fresh_editor self.old ≡ false → is_fresh_editor self.new ≡ false }
         ensures edits { IsTrue (is_fresh_editor self.old) → OnOk result (self.new.edits ≡ one_more self.old.edits) }
-        ensures keeps_up { TookIn true (λ k. IsTrue (is_fresh_editor self.old) → IsFor self.old k) now.now changed.now
+        ensures keeps_up { FollowsAfter true (λ k. IsTrue (is_fresh_editor self.old) → IsFor self.old k) now.now changed.now
             → IsTrue (is_fresh_editor self.new) → IsFor self.new now.now }
         ensures absorbs { Unit {0} }
     {

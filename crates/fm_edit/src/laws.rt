@@ -8,13 +8,13 @@ ghost use Rattle.fm_records.specs.Joined.{table_join};
 ghost use Rattle.fm_records.specs.Facts.{live_spec, holder_of, load_of, spare_of};
 ghost use Rattle.fm_net.specs.declared.node.Node.{Node as NodeName};
 ghost use Rattle.fm_net.specs.declared.edit.Edit.{Edit as EditName};
-ghost use Rattle.fm_net.specs.Edits.{change, after as after_edits};
+ghost use Rattle.fm_net.specs.Edits.{change, after_edits as after_edits};
 ghost use Rattle.fm_net.specs.Net.{Net, CanBeNet};
 ghost use Rattle.fm_net.specs.Network.{is_node, arc_of, net_of};
 ghost use Rattle.fm_policy.specs.Changes.{Keys, changed_keys};
 ghost use Rattle.fm_edit.specs.declared.look.Key.{Key as KeyName};
 ghost use Rattle.fm_edit.specs.Dirty.{SameBeyond, dirty_task, IsDirtyMachine, MayTurn, MayDiffer, MayMake};
-ghost use Rattle.fm_edit.specs.Change.{AreApart};
+ghost use Rattle.fm_edit.specs.Change.{AreDistinctEdits};
 ghost use Rattle.fm_edit.specs.Looking.{looks_of, IsDirtyKey};
 
 /// A delta changes nothing that its keys do not name: at most its machines turn.
@@ -69,7 +69,7 @@ pub fn law_least()
 
 /// No two edits of the change from one network to another are of the same node, or of an arc with the same ends.
 pub fn law_once()
-    ensures { (n m : Net) → CanBeNet n → CanBeNet m → AreApart (change n m) }
+    ensures { (n m : Net) → CanBeNet n → CanBeNet m → AreDistinctEdits (change n m) }
 {}
 
 /// The arc of a request to a machine that is not dirty is unchanged, unless the request came or went as a node: so a

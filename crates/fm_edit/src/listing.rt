@@ -8,9 +8,9 @@ ghost use Rattle.fm_net.specs.Touched.{put_at};
 ghost use Rattle.fm_edit.specs.Memory.{node_by, arc_by, AreKnownBy};
 ghost use Rattle.fm_edit.specs.Listing.{arcs_that_go, nodes_that_go, nodes_that_come, arcs_that_come, edits_of};
 
-use crate::memory::Memory;
+use crate::editor_state::EditorState;
 use crate::shown::Ends;
-use crate::touched::Touched;
+use crate::affected::Touched;
 use fm_lattice::join::OutOfMemory;
 use fm_net::edit::Edit;
 use fm_net::network::Network;
@@ -18,7 +18,7 @@ use fm_net::node::Node;
 use std::alloc::Global;
 use std::collections::BTreeSet;
 
-impl Memory {
+impl EditorState {
     /// The edits among the touched nodes and pairs that turn the network into that of the remembered records: arcs that
     /// go, nodes that go, nodes that come, arcs that come or differ. O(log n) for each that was touched.
     pub(crate) fn list(

@@ -4,10 +4,10 @@ ghost use Rattle.std.specs.Prelude.{◌≡◌, IfSome};
 ghost use Rattle.fm_net.specs.declared.node.Node.{Node as NodeName};
 ghost use Rattle.fm_edit.specs.Memory.{facts_by, node_by, arc_by, IsKnownBy, AreKnownBy};
 
-use crate::memory::Memory;
+use crate::editor_state::EditorState;
 use fm_net::node::Node;
-use fm_policy::facts::{JobFacts, MachineFacts, NodeFacts, RequestFacts, TaskFacts};
-use fm_policy::rules::machine_load;
+use fm_policy::node_facts::{JobFacts, MachineFacts, NodeFacts, RequestFacts, TaskFacts};
+use fm_policy::prices::machine_load;
 use fm_records::ids::{JobId, MachineId, TaskId};
 
 /// What was last found of the two ends of a pair.
@@ -17,7 +17,7 @@ pub(crate) struct Ends {
     pub(crate) to: Option<NodeFacts>,
 }
 
-impl Memory {
+impl EditorState {
     /// What is known of the node. O(log n), as each call here.
     fn facts(&self, node: &Node) -> NodeFacts
         ensures { result ≡ facts_by self.now node.now }

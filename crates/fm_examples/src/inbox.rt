@@ -2,7 +2,7 @@
 
 ghost use Rattle.std.specs.Prelude.{◌≡◌, ◌⊎◌, map, All, IfErr, OnOk};
 ghost use Rattle.fm_inbox.specs.Ports.{IsPortOf, all_put, all_taken};
-ghost use Rattle.fm_inbox.specs.Rule.{SamePackets};
+ghost use Rattle.fm_inbox.specs.Conservation.{SamePackets};
 
 use fm_inbox::door::{Door, Doors};
 use fm_records::refusal::Refusal;

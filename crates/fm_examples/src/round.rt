@@ -1,7 +1,7 @@
 //! A round alone: what one planner with some knowledge would do now.
 
 ghost use Rattle.std.specs.Prelude.{◌≡◌, ℕ, IsTrue, IfOk};
-ghost use Rattle.fm_round.specs.declared.parts.Plan.{Plan as Planned};
+ghost use Rattle.fm_round.specs.declared.plan.Plan.{Plan as Planned};
 ghost use Rattle.fm_round.specs.Admission.{admission, told, got_place, is_within_nic};
 ghost use Rattle.fm_round.specs.Schedules.{IsPlanOf};
 
@@ -12,8 +12,8 @@ use fm_policy::build::build;
 use fm_records::ids::CoordId;
 use fm_records::refusal::Refusal;
 use fm_round::admission::admit;
-use fm_round::parts::Admitted;
-use fm_round::plan::plan;
+use fm_round::plan::Admitted;
+use fm_round::from_network::plan;
 use std::alloc::Global;
 
 /// What a coordinator with this knowledge would admit of the plan of a least flow of its network. No machine that

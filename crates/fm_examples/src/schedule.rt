@@ -2,7 +2,7 @@
 
 ghost use Rattle.std.specs.Prelude.{◌≡◌, ℕ, IsTrue, IfOk, IfErr};
 ghost use Rattle.fm_net.specs.declared.node.Node.{Node as NodeName};
-ghost use Rattle.fm_certificate.specs.Built.{IsBuilt};
+ghost use Rattle.fm_certificate.specs.PolicyNetwork.{IsBuilt};
 ghost use Rattle.fm_certificate.specs.Flows.{units_in, cost_of, IsLeast};
 
 use fm_certificate::check::check;

@@ -11,7 +11,7 @@ use fm_records::ops::{Op, Phase};
 use fm_records::prefer::Prefer;
 use fm_records::refusal::Refusal;
 use fm_round::listed::Listed;
-use fm_round::parts::{Place, Plan, Preempt};
+use fm_round::plan::{Place, Plan, Preempt};
 use std::alloc::Global;
 
 const JOBS: u32 = 5;

@@ -19,7 +19,7 @@ use fm_policy::keeper::NetKeeper;
 use fm_policy::rebuilder::Rebuilder;
 use fm_records::ops::Op;
 use fm_records::refusal::Refusal;
-use fm_round::parts::Plan;
+use fm_round::plan::Plan;
 use std::alloc::Global;
 
 // How many operations each is told before it lets deltas go, how many before the one by which a network may become

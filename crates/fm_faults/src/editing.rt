@@ -1,7 +1,7 @@
 //! An Editor by itself, which follows what is known.
 
 ghost use Rattle.std.specs.Prelude.{true, IsTrue, IfOk};
-ghost use Rattle.fm_policy.specs.Keeping.{TookIn};
+ghost use Rattle.fm_policy.specs.Keeping.{FollowsAfter};
 ghost use Rattle.fm_edit.specs.Editing.{is_fresh_editor, IsFor};
 
 use crate::cluster::known;
@@ -84,7 +84,7 @@ fn edits_while_seen(
     changed: &Changed,
 ) -> Result<Answered, Refusal>
     requires fresh { IsTrue (is_fresh_editor editor.old) }
-    requires took_in { TookIn true (IsFor editor.old) now.now changed.now }
+    requires took_in { FollowsAfter true (IsFor editor.old) now.now changed.now }
 {
     let seen = editor.share()?;
     let before = seen.get().copy()?;
@@ -100,7 +100,7 @@ fn edits(
     changed: &Changed,
 ) -> Result<Answered, Refusal>
     requires fresh { IsTrue (is_fresh_editor editor.old) }
-    requires took_in { TookIn true (IsFor editor.old) now.now changed.now }
+    requires took_in { FollowsAfter true (IsFor editor.old) now.now changed.now }
 {
     let mut look = KnowLook::new(memory.alloc, now);
     memory.refuse();

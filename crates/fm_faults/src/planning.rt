@@ -11,12 +11,12 @@ use crate::verdict::{Verdict, judged};
 use fm_certificate::flow::Flow;
 use fm_know::knowledge::Knowledge;
 use fm_net::network::Network;
-use fm_planner::planned::plan_of as plan_of_known;
+use fm_planner::plan_source::plan_of as plan_of_known;
 use fm_records::ids::CoordId;
 use fm_records::refusal::Refusal;
 use fm_round::admission::admit;
-use fm_round::parts::{Admitted, Plan, Stop};
-use fm_round::plan::plan;
+use fm_round::plan::{Admitted, Plan, Stop};
+use fm_round::from_network::plan;
 use fm_round::stopping::stops;
 use std::alloc::Global;
 

@@ -1,4 +1,4 @@
-pub use Rattle.fm_inbox.specs.Rule
+pub use Rattle.fm_inbox.specs.Conservation
 pub use Rattle.fm_inbox.specs.Ports
 pub mod Seats
 pub mod Rounds

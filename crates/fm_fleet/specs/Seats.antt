@@ -6,9 +6,9 @@ use Rattle.fm_coord.specs.declared.entry.Call.{Call}
 use Rattle.fm_coord.specs.declared.entry.Reply.{Reply}
 use Rattle.fm_coord.specs.declared.entry.Entry.{Entry}
 use Rattle.fm_coord.specs.Causes.{Bounds, refusal_for}
-use Rattle.fm_coord.specs.States.{State, entry}
-use Rattle.fm_coord.specs.Answers.{reply_to, answer_to}
-use Rattle.fm_coord.specs.declared.answer.Answer.{Answer}
+use Rattle.fm_coord.specs.States.{State, history_entry}
+use Rattle.fm_coord.specs.Outputs.{reply_to, answer_to}
+use Rattle.fm_coord.specs.declared.output.CallOutput.{CallOutput}
 use Rattle.fm_coord.specs.declared.entry.Reply.TheVariants as reply
 use Rattle.fm_fleet.specs.declared.seat.SeatLog.{SeatLog}
 
@@ -22,21 +22,21 @@ seen_seat number log = record { number = number; log = log }
 
 -- the seat after one more accepted call, with its answer
 abbrev pub after_call : SeatSeen → Call → Reply → SeatSeen
-after_call s call reply = seen_seat s.number (s.log ++ entry s.number call reply ∷ [])
+after_call s call reply = seen_seat s.number (s.log ++ history_entry s.number call reply ∷ [])
 
 -- a refusal that a coordinator may answer to a call: out of memory, or the call's cause at some bounds
 abbrev pub MayRefuse : Call → Refusal → Type 0
 MayRefuse call refusal = (refusal ≡ OutOfMemory) ⊎ ((b : Bounds) × (refusal ≡ refusal_for b call))
 
 -- what a call may be answered: what some coordinator answers to it that has so many entries at least
-pub record IsAnswered (least : ℕ) (call : Call) (answer : Answer) : Type 0 where
+pub record IsPossibleAnswer (least : ℕ) (call : Call) (answer : CallOutput) : Type 0 where
   pub state : State
   pub is : answer ≡ answer_to state call
   pub later : least ≤ length state.history
 
 -- such a call is answered with nothing more than that it is done
-abbrev pub IsDone : Call → Type 0
-IsDone call = (s : State) → reply_to (answer_to s call) ≡ reply.Nothing
+abbrev pub AnswersNothing : Call → Type 0
+AnswersNothing call = (s : State) → reply_to (answer_to s call) ≡ reply.Nothing
 
 -- so many seats, numbered from 1, that called nothing yet
 abbrev pub AreNew : ℕ → List SeatSeen → Type 0

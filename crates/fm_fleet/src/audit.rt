@@ -9,7 +9,7 @@ ghost use Rattle.fm_fleet.specs.Audits.{of_seat, Matches, IsListed, IsAudited, I
 use crate::closing::Closed;
 use crate::seat::SeatLog;
 use fm_coord::entry::Entry;
-use fm_coord::equal::entries;
+use fm_coord::entry_equality::entries;
 use fm_policy::keeper::NetKeeper;
 use fm_records::refusal::Refusal;
 

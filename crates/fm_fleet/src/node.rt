@@ -1,23 +1,23 @@
 //! Nodes: coordinators that threads share, each by a seat of its own.
 ghost use Rattle.std.specs.Prelude.{◌≡◌, ◌<◌, ◌≤◌, ◌+◌, [], length, vec_len, vec_capacity, IfOk, IfErr, OnOk, OnErr};
 ghost use Rattle.fm_net.specs.Network.{net_of};
-ghost use Rattle.fm_coord.specs.Answers.{reply_to};
+ghost use Rattle.fm_coord.specs.Outputs.{reply_to};
 ghost use Rattle.fm_tally.specs.Tallies.{TallyIsFor};
-ghost use Rattle.fm_fleet.specs.Seats.{after_call, MayRefuse, IsAnswered, IsDone, AreNew};
+ghost use Rattle.fm_fleet.specs.Seats.{after_call, MayRefuse, IsPossibleAnswer, AnswersNothing, AreNew};
 
 use crate::desk::Desk;
 use crate::owners::{another, listed};
 use crate::seat::{NodeName, Seat, SeatLog};
-use fm_coord::answer::Answer;
+use fm_coord::output::CallOutput;
 use fm_coord::coordinator::Coordinator;
 use fm_coord::entry::{Call, Entry, Range, Reply};
 use fm_coord::shared::Shared;
-use fm_coord::view::{Sight, View};
+use fm_coord::view::{TallyView, View};
 use fm_delta::packet::Packet;
 use fm_policy::keeper::NetKeeper;
 use fm_records::ops::Op;
 use fm_records::refusal::Refusal;
-use fm_round::parts::{Admitted, Plan};
+use fm_round::plan::{Admitted, Plan};
 use std::alloc::Global;
 use std::marker::Model;
 use std::sync::ledger::{Blank, Share};
@@ -126,9 +126,9 @@ impl<N: NetKeeper, L: NodeName> Node<N, L> {
         rt: &R,
         seat: &mut Seat<L>,
         mut call: Call,
-    ) -> Result<Answer, Refusal>
+    ) -> Result<CallOutput, Refusal>
         ensures ok { IfOk result (λ answer. seat.new ≡ after_call seat.old call (reply_to answer)) }
-        ensures answer { IfOk result (λ answer. IsAnswered (L.base + length seat.old.log) call answer) }
+        ensures answer { IfOk result (λ answer. IsPossibleAnswer (L.base + length seat.old.log) call answer) }
         ensures cause { IfErr result (λ refusal. MayRefuse call refusal) }
         ensures err { OnErr result (seat.new ≡ seat.old) }
     {
@@ -183,7 +183,7 @@ impl<N: NetKeeper, L: NodeName> Node<N, L> {
         ensures err { OnErr result (seat.new ≡ seat.old) }
     {
         match self.call(rt, seat, Call::Cut(range)) {
-            Ok(Answer::Packet(packet)) => Ok(packet),
+            Ok(CallOutput::Packet(packet)) => Ok(packet),
             Ok(_) => unreachable!(),
             Err(refusal) => Err(refusal),
         }
@@ -211,7 +211,7 @@ impl<N: NetKeeper, L: NodeName> Node<N, L> {
         ensures err { OnErr result (seat.new ≡ seat.old) }
     {
         match self.call(rt, seat, Call::View) {
-            Ok(Answer::View(view)) => Ok(view),
+            Ok(CallOutput::View(view)) => Ok(view),
             Ok(_) => unreachable!(),
             Err(refusal) => Err(refusal),
         }
@@ -219,7 +219,7 @@ impl<N: NetKeeper, L: NodeName> Node<N, L> {
 
     /// As `view`, with the tally in place of the network, as the coordinator's `see`. Refused as that, and with
     /// OutOfMemory; then the seat is unchanged.
-    pub fn see<R: Wait>(&self, rt: &R, seat: &mut Seat<L>) -> Result<Sight, Refusal>
+    pub fn see<R: Wait>(&self, rt: &R, seat: &mut Seat<L>) -> Result<TallyView, Refusal>
         ensures ok { IfOk result (λ sight. seat.new
             ≡ after_call seat.old Call.View (Reply.Seen sight.at sight.knowledge)) }
         ensures tally { IfOk result (λ sight. TallyIsFor sight.knowledge sight.tally) }
@@ -258,7 +258,7 @@ impl<N: NetKeeper, L: NodeName> Node<N, L> {
         ensures err { OnErr result (seat.new ≡ seat.old) }
     {
         match self.call(rt, seat, Call::Commit(plan)) {
-            Ok(Answer::Admitted(admitted)) => Ok(admitted),
+            Ok(CallOutput::Admitted(admitted)) => Ok(admitted),
             Ok(_) => unreachable!(),
             Err(refusal) => Err(refusal),
         }
@@ -266,7 +266,7 @@ impl<N: NetKeeper, L: NodeName> Node<N, L> {
 
     // A call that returns nothing.
     fn done<R: Wait>(&self, rt: &R, seat: &mut Seat<L>, call: Call) -> Result<(), Refusal>
-        requires { IsDone call }
+        requires { AnswersNothing call }
         ensures ok { OnOk result (seat.new ≡ after_call seat.old call Reply.Nothing) }
         ensures cause { IfErr result (λ refusal. MayRefuse call refusal) }
         ensures err { OnErr result (seat.new ≡ seat.old) }

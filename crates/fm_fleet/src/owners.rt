@@ -1,8 +1,8 @@
 //! One more owner of an answer.
 ghost use Rattle.std.specs.Prelude.{◌≡◌};
-ghost use Rattle.fm_coord.specs.Answers.{reply_to};
+ghost use Rattle.fm_coord.specs.Outputs.{reply_to};
 
-use fm_coord::answer::Answer;
+use fm_coord::output::CallOutput;
 use fm_coord::entry::Reply;
 use fm_coord::shared::Shared;
 use std::sync::Wait;
@@ -23,13 +23,13 @@ pub(crate) fn another<T: Drop, R: Wait>(rt: &R, value: &Shared<T>) -> Shared<T>
 }
 
 /// The answer as a list keeps it, with one more owner of what it holds. It waits as `another` does.
-pub fn listed<R: Wait>(rt: &R, answer: &Answer) -> Reply
+pub fn listed<R: Wait>(rt: &R, answer: &CallOutput) -> Reply
     ensures { result ≡ reply_to answer.now }
 {
     match answer {
-        Answer::Done => Reply::Nothing,
-        Answer::Packet(packet) => Reply::Packet(another(rt, packet)),
-        Answer::View(view) => Reply::Seen(view.at, another(rt, &view.knowledge)),
-        Answer::Admitted(admitted) => Reply::Admitted(another(rt, admitted)),
+        CallOutput::Done => Reply::Nothing,
+        CallOutput::Packet(packet) => Reply::Packet(another(rt, packet)),
+        CallOutput::View(view) => Reply::Seen(view.at, another(rt, &view.knowledge)),
+        CallOutput::Admitted(admitted) => Reply::Admitted(another(rt, admitted)),
     }
 }

@@ -9,10 +9,10 @@ use crate::seat::{NodeName, Seat};
 use fm_coord::shared::Shared;
 use fm_coord::view::View;
 use fm_planner::network_plan::least_plan;
-use fm_planner::planned;
+use fm_planner::plan_source;
 use fm_policy::keeper::NetKeeper;
 use fm_records::refusal::Refusal;
-use fm_round::parts::{Admitted, Plan};
+use fm_round::plan::{Admitted, Plan};
 use std::alloc::Global;
 use std::sync::Wait;
 
@@ -47,7 +47,7 @@ pub fn run_round<N: NetKeeper, L: NodeName, G: Gate, R: Wait>(
         Err(refusal) => return Err(refusal),
     };
     gate.hold();
-    let Ok(made) = planned::plan_for(alloc, sight.tally.get(), sight.knowledge.get()) else {
+    let Ok(made) = plan_source::plan_for(alloc, sight.tally.get(), sight.knowledge.get()) else {
         return Err(Refusal::OutOfMemory);
     };
     node.commit(rt, seat, made.plan)

@@ -2,4 +2,4 @@ pub use Rattle.fm_certificate.specs.Flows
 pub use Rattle.fm_certificate.specs.Certificates
 pub use Rattle.fm_certificate.specs.Totals
 pub use Rattle.fm_certificate.specs.Checks
-pub use Rattle.fm_certificate.specs.Built
+pub use Rattle.fm_certificate.specs.PolicyNetwork

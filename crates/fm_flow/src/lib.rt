@@ -5,4 +5,4 @@
 
 pub mod solve;
 
-pub use fm_certificate::{check, cost, entries, flow, laws, potentials};
+pub use fm_certificate::{check, cost, flow_iter, flow, laws, potentials};

@@ -1,7 +1,7 @@
 //! The solver.
 
 ghost use Rattle.std.specs.Prelude.{◌≡◌, IfOk, IfErr};
-ghost use Rattle.fm_certificate.specs.Built.{IsBuilt};
+ghost use Rattle.fm_certificate.specs.PolicyNetwork.{IsBuilt};
 ghost use Rattle.fm_certificate.specs.Flows.{units_in, IsLeast};
 ghost use Rattle.fm_certificate.specs.Certificates.{IsCertified};
 ghost use Rattle.fm_indexed.specs.Numbered.{IsNumbered};
@@ -10,12 +10,12 @@ use fm_certificate::flow::Flow;
 use fm_certificate::laws::law_least;
 use fm_certificate::potentials::Potentials;
 use fm_heuristics::first::first_flow;
-use fm_heuristics::start::resumed;
+use fm_heuristics::worth_first::resumed;
 use fm_lattice::join::OutOfMemory;
 use fm_net::network::Network;
 use fm_indexed::improved::improved;
-use fm_indexed::named::certified;
-use fm_indexed::numbered::Numbered;
+use fm_indexed::to_named::certified;
+use fm_indexed::indexed_network::IndexedNetwork;
 use fm_indexed::unscheduled::law_unscheduled;
 use fm_records::refusal::Refusal;
 use std::alloc::Global;
@@ -33,7 +33,7 @@ pub fn solve(alloc: Global, network: &Network) -> Result<(Flow, Potentials), Ref
     ensures least { IfOk result (λ found. IsLeast network.now (units_in found.0)) }
     ensures cause { IfErr result (λ refusal. refusal ≡ Refusal.OutOfMemory) }
 {
-    let by_number = Numbered::of(alloc, network)?;
+    let by_number = IndexedNetwork::of(alloc, network)?;
     let found = anew(alloc, network, &by_number)?;
     Ok(found)
 }
@@ -57,7 +57,7 @@ pub fn solve_from(
 {
     network.known();
     law_least();
-    let numbered = Numbered::of(alloc, network)?;
+    let numbered = IndexedNetwork::of(alloc, network)?;
     if let Some((units, values)) = resumed(alloc, network, &numbered, flow)? {
         let found = certified(alloc, network, &numbered, &units, &values)?;
         return Ok(found);
@@ -71,7 +71,7 @@ pub fn solve_from(
 fn anew(
     alloc: Global,
     network: &Network,
-    numbered: &Numbered,
+    numbered: &IndexedNetwork,
 ) -> Result<(Flow, Potentials), OutOfMemory>
     requires built { IsBuilt network.now }
     requires numbered { IsNumbered network.now numbered.now.places numbered.now.arcs.items }

@@ -7,10 +7,10 @@ use Rattle.fm_records.specs.Options.{when, or_else}
 use Rattle.fm_delta.specs.declared.packet.Packet.{Packet}
 use Rattle.fm_coord.specs.declared.entry.Range.TheVariants.{Full}
 use Rattle.fm_coord.specs.declared.entry.Call.TheVariants as call
-use Rattle.fm_coord.specs.Causes.{Bounds, first_of, refusal_for}
+use Rattle.fm_coord.specs.Causes.{Bounds, first_some, refusal_for}
 use Rattle.fm_gossip.specs.Exchanges.{StopsExchange}
 
-of_room : (full : Bool) → StopsExchange (or_else OutOfMemory (first_of None (when full HistoryFull)))
+of_room : (full : Bool) → StopsExchange (or_else OutOfMemory (first_some None (when full HistoryFull)))
 of_room true = inr refl
 of_room false = inl refl
 

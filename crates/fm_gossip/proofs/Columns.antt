@@ -7,7 +7,7 @@ use Rattle.std.proofs.lemmas.List.Elements.{All-nil, All-cons}
 use Rattle.std.proofs.lemmas.Option.{slice_get_within, slice_get-map, slice_get-get_or}
 use Rattle.std.proofs.Math.Seq.{take-append_seam}
 use Rattle.fm_delta.specs.declared.packet.Packet.{Packet}
-use Rattle.fm_inbox.specs.Rule.{weigh, SamePackets}
+use Rattle.fm_inbox.specs.Conservation.{weigh, SamePackets}
 use Rattle.fm_inbox.specs.Ports.{InboxSeen, PortSeen, IsPortOf, IsNewPortOf, after_put, all_put, all_taken}
 use Rattle.fm_inbox.proofs.Keeps.{weigh-append}
 use Rattle.fm_gossip.specs.Passing.{Passed, passing, all_sent, ArePassedOn}

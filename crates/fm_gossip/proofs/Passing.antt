@@ -8,7 +8,7 @@ use Rattle.fm_coord.specs.declared.entry.Range.TheVariants.{Full}
 use Rattle.fm_coord.specs.declared.entry.Call.TheVariants as call
 use Rattle.fm_coord.specs.declared.entry.Reply.TheVariants as reply
 use Rattle.fm_coord.specs.declared.entry.Entry.{Entry}
-use Rattle.fm_coord.specs.States.{entry}
+use Rattle.fm_coord.specs.States.{history_entry}
 use Rattle.fm_fleet.specs.Seats.{SeatSeen, after_call}
 use Rattle.fm_gossip.specs.Served.{all_told, all_merged, AreMerged}
 use Rattle.fm_gossip.specs.Passing.{merged_by, given_by, merges_in, cuts_in, passing, passed_in}
@@ -26,28 +26,28 @@ merges_last (f ∷ es) e = ap (λ z. merged_by f.call ++ z) (merges_last es e) �
 
 told_cuts : (s : SeatSeen) (ops : List Op) → cuts_in (all_told s ops).log ≡ cuts_in s.log
 told_cuts s [] = refl
-told_cuts s (op ∷ ops) = told_cuts (after_call s (call.Tell op) reply.Nothing) ops ∙ cuts_last s.log (entry s.number (call.Tell op) reply.Nothing) ∙ append-nil (cuts_in s.log)
+told_cuts s (op ∷ ops) = told_cuts (after_call s (call.Tell op) reply.Nothing) ops ∙ cuts_last s.log (history_entry s.number (call.Tell op) reply.Nothing) ∙ append-nil (cuts_in s.log)
 
 told_merges : (s : SeatSeen) (ops : List Op) → merges_in (all_told s ops).log ≡ merges_in s.log
 told_merges s [] = refl
-told_merges s (op ∷ ops) = told_merges (after_call s (call.Tell op) reply.Nothing) ops ∙ merges_last s.log (entry s.number (call.Tell op) reply.Nothing) ∙ append-nil (merges_in s.log)
+told_merges s (op ∷ ops) = told_merges (after_call s (call.Tell op) reply.Nothing) ops ∙ merges_last s.log (history_entry s.number (call.Tell op) reply.Nothing) ∙ append-nil (merges_in s.log)
 
 -- merges get
 
 merged_cuts : (s : SeatSeen) (ps : List Packet) → cuts_in (all_merged s ps).log ≡ cuts_in s.log
 merged_cuts s [] = refl
-merged_cuts s (p ∷ ps) = merged_cuts (after_call s (call.Merge p) reply.Nothing) ps ∙ cuts_last s.log (entry s.number (call.Merge p) reply.Nothing) ∙ append-nil (cuts_in s.log)
+merged_cuts s (p ∷ ps) = merged_cuts (after_call s (call.Merge p) reply.Nothing) ps ∙ cuts_last s.log (history_entry s.number (call.Merge p) reply.Nothing) ∙ append-nil (cuts_in s.log)
 
 merged_merges : (s : SeatSeen) (ps : List Packet) → merges_in (all_merged s ps).log ≡ merges_in s.log ++ ps
 merged_merges s [] = sym (append-nil (merges_in s.log))
 merged_merges s (p ∷ ps) =
-    merged_merges (after_call s (call.Merge p) reply.Nothing) ps ∙ ap (λ z. z ++ ps) (merges_last s.log (entry s.number (call.Merge p) reply.Nothing)) ∙ append_assoc (merges_in s.log) (p ∷ []) ps
+    merged_merges (after_call s (call.Merge p) reply.Nothing) ps ∙ ap (λ z. z ++ ps) (merges_last s.log (history_entry s.number (call.Merge p) reply.Nothing)) ∙ append_assoc (merges_in s.log) (p ∷ []) ps
 
 -- an intake of a new seat sends the packet that it cut, and gets those that it merged
 of_intake : (s u t : SeatSeen) (tells : List Op) (others : List ℕ) (p : Packet) (merged : AreMerged others u t) → u ≡ after_call (all_told s tells) (call.Cut Full) (reply.Packet p) → s.log ≡ [] → passed_in t ≡ passing (p ∷ []) merged.packets
 of_intake s u t tells others p merged cut empty =
     let told = all_told s tells in
-    let e = entry told.number (call.Cut Full) (reply.Packet p) in
+    let e = history_entry told.number (call.Cut Full) (reply.Packet p) in
     let sent : cuts_in u.log ≡ p ∷ [] = ap (λ (z : SeatSeen). cuts_in z.log) cut ∙ cuts_last told.log e ∙ ap (λ z. z ++ p ∷ []) (told_cuts s tells ∙ ap cuts_in empty) in
     let none : merges_in u.log ≡ [] = ap (λ (z : SeatSeen). merges_in z.log) cut ∙ merges_last told.log e ∙ append-nil (merges_in told.log) ∙ told_merges s tells ∙ ap merges_in empty in
     let cuts : cuts_in t.log ≡ p ∷ [] = ap (λ (z : SeatSeen). cuts_in z.log) merged.merges ∙ merged_cuts u merged.packets ∙ sent in

@@ -8,14 +8,14 @@ use Rattle.fm_records.specs.Table.{Table}
 use Rattle.fm_records.specs.Know.{know}
 use Rattle.fm_records.specs.Joined.{table_join}
 use Rattle.fm_records.specs.UnionLaws.{know_append}
-use Rattle.fm_records.specs.SameLaws.{know_same}
+use Rattle.fm_records.specs.SetExtensionality.{know_same}
 use Rattle.fm_coord.specs.declared.entry.Call.TheVariants as call
 use Rattle.fm_coord.specs.declared.entry.Reply.TheVariants as reply
 use Rattle.fm_coord.specs.Numbers.{AreDistinct}
-use Rattle.fm_coord.specs.States.{State, IsCoordinator, entry, took, replay_of}
+use Rattle.fm_coord.specs.States.{State, IsCoordinator, history_entry, took, replay_of}
 use Rattle.fm_world.specs.Listings.{AreCoordinators, number_in}
 use Rattle.fm_gossip.specs.Exchanges.{whole_packet, cut_off, merged_in, of_others, told_by_others, after_exchange}
-use Rattle.fm_gossip.specs.Agreement.{KnowSame}
+use Rattle.fm_gossip.specs.AfterExchange.{KnowSame}
 
 -- members of lists
 
@@ -76,7 +76,7 @@ knows_more n [] c t S h = h ∙ ap know (sym (append-nil S))
 knows_more n (s ∷ ss) c t S h =
     elim (not (s.number == n)) as (λ b. (merged_in t (cond b (whole_packet s ∷ of_others n (map whole_packet ss)) (of_others n (map whole_packet ss)))).knowledge ≡ know (S ++ cond b (taken_of s ++ of_rest n ss) (of_rest n ss))) [
       | true ↦
-          knows_more n ss c.1 (took t s.knowledge (entry 0 (call.Merge (whole_packet s)) reply.Nothing)) (S ++ taken_of s) (joined t.knowledge s.knowledge S (taken_of s) h c.0.stands.knowledge)
+          knows_more n ss c.1 (took t s.knowledge (history_entry 0 (call.Merge (whole_packet s)) reply.Nothing)) (S ++ taken_of s) (joined t.knowledge s.knowledge S (taken_of s) h c.0.stands.knowledge)
           ∙ ap know (append_assoc S (taken_of s) (of_rest n ss))
       | false ↦ knows_more n ss c.1 t S h
     ]

@@ -10,7 +10,7 @@ use Rattle.fm_coord.specs.declared.entry.Range.TheVariants.{Full}
 use Rattle.fm_coord.specs.declared.entry.Call.TheVariants as call
 use Rattle.fm_coord.specs.declared.entry.Reply.TheVariants as reply
 use Rattle.fm_fleet.specs.Seats.{SeatSeen, after_call}
-use Rattle.fm_gossip.specs.Served.{Task, task, all_told, all_merged, AreRounds, IsIntake, IsEnded, IsServed, new_seat, seat_in}
+use Rattle.fm_gossip.specs.Served.{Task, member_task, all_told, all_merged, AreRounds, IsIntake, IsEnded, IsServed, new_seat, seat_in}
 use Rattle.fm_gossip.specs.Passing.{passed_in}
 use Rattle.fm_gossip.specs.Used.{new_port, used_ports}
 use Rattle.fm_gossip.specs.Works.{WorkSeen, work, done_work, IsDone}
@@ -49,13 +49,13 @@ module _ (t : Task) (s : State) (one two : SeatSeen) (base : ℕ) (from_start : 
         no_other = ended.no_other;
       }
 
-pub served : (refusal : Option Refusal) (w : WorkSeen) (s : State) (seats some room new : List SeatSeen) (tells : List Op) (number its limit allowed : ℕ) (others : List ℕ) (rounds base place : ℕ) (ports after : List PortSeen) (none one nothing two : SeatSeen) → work (task its allowed tells others rounds) place ports ≡ w → number ≡ its → limit ≡ allowed → 0 ≡ base
+pub served : (refusal : Option Refusal) (w : WorkSeen) (s : State) (seats some room new : List SeatSeen) (tells : List Op) (number its limit allowed : ℕ) (others : List ℕ) (rounds base place : ℕ) (ports after : List PortSeen) (none one nothing two : SeatSeen) → work (member_task its allowed tells others rounds) place ports ≡ w → number ≡ its → limit ≡ allowed → 0 ≡ base
     → seats ≡ some ++ two ∷ [] → some ≡ room ++ one ∷ [] → room ≡ new → new ≡ [] → none ≡ new_seat 1 → nothing ≡ new_seat 2
     → IsIntake tells others none one → AreRounds base rounds nothing two → ((bs : List InboxSeen) → none.log ≡ [] → ports ≡ map new_port bs → after ≡ used_ports place 0 (passed_in one) bs) → IsEnded number limit seats s → IsDone w (done_work s after refusal)
 served refusal w s seats some room new tells number its limit allowed others rounds base place ports after none one nothing two is named limited from_start second_pushed first_pushed reserved empty new_one new_two intake ran used ended =
     let these : seats ≡ one ∷ two ∷ [] = second_pushed ∙ ap (λ xs. xs ++ two ∷ []) (first_pushed ∙ ap (λ xs. xs ++ one ∷ []) (reserved ∙ empty)) in
     let over : IsEnded its allowed (one ∷ two ∷ []) s = subst (λ l. IsEnded its allowed l s) these (subst (λ n. IsEnded its n seats s) limited (subst (λ n. IsEnded n limit seats s) named ended)) in
-    let t = task its allowed tells others rounds in
+    let t = member_task its allowed tells others rounds in
     let its_intake : IsIntake tells others (new_seat 1) one = subst (λ z. IsIntake tells others z one) new_one intake in
     let its_rounds : AreRounds base rounds (new_seat 2) two = subst (λ z. AreRounds base rounds z two) new_two ran in
     subst (λ u. IsDone u (done_work s after refusal)) is

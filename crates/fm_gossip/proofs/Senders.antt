@@ -15,7 +15,7 @@ use Rattle.fm_coord.specs.States.{State}
 use Rattle.fm_world.specs.Stands.{state_with}
 use Rattle.fm_world.specs.Listings.{Made, entries_at, history_in, history_at, packet_in, packets_of, IsGiven, Follows, IsWhole, AreCoordinators, number_in}
 use Rattle.fm_world.proofs.Alike.{number_stays}
-use Rattle.fm_gossip.specs.Agreement.{AreCutBySenders}
+use Rattle.fm_gossip.specs.AfterExchange.{AreCutBySenders}
 use Rattle.fm_gossip.proofs.Same.{left, right, either, mapped, of_member}
 
 -- the packets of one coordinator: each has its number for a sender, and they are numbered in order

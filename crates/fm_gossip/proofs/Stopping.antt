@@ -8,21 +8,21 @@ use Rattle.fm_records.specs.declared.ops.Op.{Op}
 use Rattle.fm_records.specs.Ops.{op_fault}
 use Rattle.fm_records.specs.Options.{when, or_else}
 use Rattle.fm_delta.specs.declared.packet.Packet.{Packet}
-use Rattle.fm_round.specs.declared.parts.Plan.{Plan}
+use Rattle.fm_round.specs.declared.plan.Plan.{Plan}
 use Rattle.fm_coord.specs.declared.entry.Call.{Call}
 use Rattle.fm_coord.specs.declared.entry.Range.TheVariants.{Full}
 use Rattle.fm_coord.specs.declared.entry.Call.TheVariants as call
-use Rattle.fm_coord.specs.Causes.{Bounds, first_of, refusal_for}
+use Rattle.fm_coord.specs.Causes.{Bounds, first_some, refusal_for}
 use Rattle.fm_fleet.specs.Seats.{SeatSeen, MayRefuse}
 use Rattle.fm_round.specs.Schedules.{IsPlanOf}
 use Rattle.fm_fleet.specs.Rounds.{IsRefusedRound}
-use Rattle.fm_gossip.specs.Stopping.{may_stop, may_be_first}
+use Rattle.fm_gossip.specs.FleetFaults.{may_stop, may_be_first}
 
-of_room : (full : Bool) → IsTrue (may_stop (or_else OutOfMemory (first_of None (when full HistoryFull))))
+of_room : (full : Bool) → IsTrue (may_stop (or_else OutOfMemory (first_some None (when full HistoryFull))))
 of_room true = refl
 of_room false = refl
 
-of_op : (fault : Option Field) (full : Bool) → IsTrue (may_stop (or_else OutOfMemory (first_of (option_map BadOp fault) (when full HistoryFull))))
+of_op : (fault : Option Field) (full : Bool) → IsTrue (may_stop (or_else OutOfMemory (first_some (option_map BadOp fault) (when full HistoryFull))))
 of_op None true = refl
 of_op None false = refl
 of_op (Some field) full = refl
@@ -62,16 +62,16 @@ pub round_number : (base : ℕ) (s t : SeatSeen) (r : Refusal) → IsRefusedRoun
 round_number base s t r (inl (same, refused)) = ap (λ (z : SeatSeen). z.number) same
 round_number base s t r (inr half) = ap (λ (z : SeatSeen). z.number) half.listed
 
-pub first_may : (a b : Option Refusal) → IsTrue (may_be_first a) → IsTrue (may_be_first b) → IsTrue (may_be_first (first_of a b))
+pub first_may : (a b : Option Refusal) → IsTrue (may_be_first a) → IsTrue (may_be_first b) → IsTrue (may_be_first (first_some a b))
 first_may None b h k = k
 first_may (Some r) b h k = h
 
 -- one of two refusals may stop a fleet, if each may
-pub first_stops : (a b : Option Refusal) → IfSome a (λ r. IsTrue (may_stop r)) → IfSome b (λ r. IsTrue (may_stop r)) → IfSome (first_of a b) (λ r. IsTrue (may_stop r))
+pub first_stops : (a b : Option Refusal) → IfSome a (λ r. IsTrue (may_stop r)) → IfSome b (λ r. IsTrue (may_stop r)) → IfSome (first_some a b) (λ r. IsTrue (may_stop r))
 first_stops None b h k = k
 first_stops (Some r) b h k = h
 
 -- neither of two is there, if not the first of them
-pub neither : (a b : Option Refusal) → first_of a b ≡ None → (a ≡ None) × (b ≡ None)
+pub neither : (a b : Option Refusal) → first_some a b ≡ None → (a ≡ None) × (b ≡ None)
 neither None b e = (refl, e)
 neither (Some r) b e = absurd (let no : ⊥ = cc in no)

@@ -6,19 +6,19 @@ use Rattle.fm_delta.specs.declared.packet.Packet.{Packet}
 use Rattle.fm_coord.specs.declared.entry.Range.TheVariants.{Full}
 use Rattle.fm_coord.specs.declared.entry.Call.TheVariants as call
 use Rattle.fm_coord.specs.declared.entry.Reply.TheVariants as reply
-use Rattle.fm_coord.specs.States.{State, entry, gave, took, cut_packet}
+use Rattle.fm_coord.specs.States.{State, history_entry, gave, took, cut_packet}
 
 -- the packet of all that a coordinator knows, and the coordinator once it was cut, by its owner
 abbrev pub whole_packet : State → Packet
 whole_packet s = cut_packet s Full
 
 abbrev pub cut_off : State → State
-cut_off s = gave s (entry 0 (call.Cut Full) (reply.Packet (whole_packet s)))
+cut_off s = gave s (history_entry 0 (call.Cut Full) (reply.Packet (whole_packet s)))
 
 -- the coordinator once it merged these packets, in order
 abbrev pub merged_in : State → List Packet → State
 merged_in s [] = s
-merged_in s (p ∷ ps) = merged_in (took s p.value (entry 0 (call.Merge p) reply.Nothing)) ps
+merged_in s (p ∷ ps) = merged_in (took s p.value (history_entry 0 (call.Merge p) reply.Nothing)) ps
 
 -- the packets that others sent
 abbrev pub of_others : ℕ → List Packet → List Packet

@@ -1,8 +1,8 @@
 pub mod Served
 pub mod Members
-pub mod Stopping
+pub mod FleetFaults
 pub mod Passing
 pub mod Used
 pub mod Works
 pub mod Exchanges
-pub mod Agreement
+pub mod AfterExchange

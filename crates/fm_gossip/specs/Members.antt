@@ -1,7 +1,7 @@
 -- What contracts see of the members of a fleet (this project's profile).
 use Rattle.std.specs.Prelude.{ℕ, ◌==◌, not, List, map, filter}
 use Rattle.fm_records.specs.declared.ops.Op.{Op}
-use Rattle.fm_gossip.specs.Served.{Task, task}
+use Rattle.fm_gossip.specs.Served.{Task, member_task}
 
 -- a coordinator's number, how many entries its history may have, and the operations that it is to be told
 pub record MemberSeen : Type 0 where
@@ -12,8 +12,8 @@ pub record MemberSeen : Type 0 where
 abbrev pub member : ℕ → ℕ → List Op → MemberSeen
 member number limit tells = record { number = number; limit = limit; tells = tells }
 
-abbrev pub number_of : MemberSeen → ℕ
-number_of m = m.number
+abbrev pub member_number : MemberSeen → ℕ
+member_number m = m.number
 
 -- the numbers but for this one, in order
 abbrev pub but_for : ℕ → List ℕ → List ℕ
@@ -21,8 +21,8 @@ but_for n ns = filter (λ k. not (k == n)) ns
 
 -- what a member is to do among members with these numbers: a packet comes from each of the others
 abbrev pub task_of : List ℕ → ℕ → MemberSeen → Task
-task_of numbers rounds m = task m.number m.limit m.tells (but_for m.number numbers) rounds
+task_of numbers rounds m = member_task m.number m.limit m.tells (but_for m.number numbers) rounds
 
 -- what each member is to do
-abbrev pub tasks_of : ℕ → List MemberSeen → List Task
-tasks_of rounds ms = map (task_of (map number_of ms) rounds) ms
+abbrev pub member_tasks : ℕ → List MemberSeen → List Task
+member_tasks rounds ms = map (task_of (map member_number ms) rounds) ms

@@ -1,7 +1,7 @@
 -- Packets that the members of a fleet pass on to one another (this project's profile).
 use Rattle.std.specs.Prelude.{◌≡◌, ℕ, List, [], ◌∷◌, ◌++◌, slice_get, Some}
 use Rattle.fm_delta.specs.declared.packet.Packet.{Packet}
-use Rattle.fm_inbox.specs.Rule.{SamePackets}
+use Rattle.fm_inbox.specs.Conservation.{SamePackets}
 use Rattle.fm_coord.specs.declared.entry.Call.{Call}
 use Rattle.fm_coord.specs.declared.entry.Call.TheVariants as call
 use Rattle.fm_coord.specs.declared.entry.Reply.{Reply}

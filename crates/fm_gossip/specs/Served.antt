@@ -3,7 +3,7 @@ use Rattle.std.specs.Prelude.{◌≡◌, ◌⊎◌, ℕ, zero, suc, List, [], �
 use Rattle.std.specs.List.Sorted.{IsPermutation}
 use Rattle.fm_records.specs.declared.ops.Op.{Op}
 use Rattle.fm_delta.specs.declared.packet.Packet.{Packet}
-use Rattle.fm_round.specs.declared.parts.Admitted.{Admitted}
+use Rattle.fm_round.specs.declared.plan.Admitted.{Admitted}
 use Rattle.fm_coord.specs.declared.entry.Entry.{Entry}
 use Rattle.fm_coord.specs.declared.entry.Range.TheVariants.{Full}
 use Rattle.fm_coord.specs.declared.entry.Call.TheVariants as call
@@ -24,8 +24,8 @@ pub record Task : Type 0 where
   pub others : List ℕ
   pub rounds : ℕ
 
-abbrev pub task : ℕ → ℕ → List Op → List ℕ → ℕ → Task
-task number limit tells others rounds = record { number = number; limit = limit; tells = tells; others = others; rounds = rounds }
+abbrev pub member_task : ℕ → ℕ → List Op → List ℕ → ℕ → Task
+member_task number limit tells others rounds = record { number = number; limit = limit; tells = tells; others = others; rounds = rounds }
 
 -- the seat once it told these operations, in order
 abbrev pub all_told : SeatSeen → List Op → SeatSeen

@@ -3,14 +3,14 @@ use Rattle.std.specs.Prelude.{◌≡◌, ℕ, ◌+◌, ◌<◌, List, [], ◌∷
 use Rattle.fm_records.specs.declared.refusal.Refusal.{Refusal}
 use Rattle.fm_inbox.specs.Ports.{InboxSeen, DoorsSeen, PortSeen}
 use Rattle.fm_coord.specs.States.{State}
-use Rattle.fm_gossip.specs.Served.{Task, task, IsServed}
+use Rattle.fm_gossip.specs.Served.{Task, member_task, IsServed}
 use Rattle.fm_gossip.specs.Members.{MemberSeen, but_for, task_of}
 use Rattle.fm_gossip.specs.Passing.{passed_at}
 use Rattle.fm_gossip.specs.Used.{new_port, used_ports}
 
 -- what a member is to do, at which place it is, and its ports, by the places of their inboxes
 pub record WorkSeen : Type 0 where
-  pub task : Task
+  pub member_task : Task
   pub place : ℕ
   pub ports : List PortSeen
 
@@ -52,7 +52,7 @@ HaveDoors (b ∷ bs) = (b.out < b.inbox.ports) × HaveDoors bs
 
 -- what a member and its links come to, and those of each
 abbrev pub linked_work : ℕ → MemberSeen → LinksSeen → WorkSeen
-linked_work rounds m l = work (task m.number m.limit m.tells l.senders rounds) l.place l.ports
+linked_work rounds m l = work (member_task m.number m.limit m.tells l.senders rounds) l.place l.ports
 
 abbrev pub linked_works : ℕ → List MemberSeen → List LinksSeen → List WorkSeen
 linked_works rounds [] ls = []

@@ -6,7 +6,7 @@ ghost use Rattle.fm_coord.specs.States.{State};
 ghost use Rattle.fm_world.specs.Stands.{state_of, number_of};
 ghost use Rattle.fm_world.specs.Listings.{AreCoordinators, Made, IsWhole};
 ghost use Rattle.fm_gossip.specs.Exchanges.{after_exchange};
-ghost use Rattle.fm_gossip.specs.Agreement.{KnowSame, AreCutBySenders};
+ghost use Rattle.fm_gossip.specs.AfterExchange.{KnowSame, AreCutBySenders};
 
 use fm_coord::coordinator::Coordinator;
 use fm_policy::keeper::NetKeeper;

@@ -4,9 +4,9 @@ ghost use Rattle.fm_inbox.specs.Ports.{InboxSeen, after_put, after_take};
 ghost use Rattle.fm_gossip.specs.Served.{all_told, IsFirst, IsIntake, AreMerged};
 ghost use Rattle.fm_gossip.specs.Passing.{passing, passed_in};
 ghost use Rattle.fm_gossip.specs.Used.{new_port, used_ports, put_past, after_takes};
-ghost use Rattle.fm_gossip.specs.Stopping.{may_stop};
+ghost use Rattle.fm_gossip.specs.FleetFaults.{may_stop};
 
-use crate::halt::Halt;
+use crate::stop_signal::StopSignal;
 use fm_coord::entry::Range;
 use fm_delta::packet::Packet;
 use fm_fleet::door::Door;
@@ -43,7 +43,7 @@ pub(crate) fn take_in<N: NetKeeper, L: NodeName, R: Wait>(
     node: &Node<N, L>,
     mut seat: Seat<L>,
     intake: Intake,
-    halt: &Halt,
+    halt: &StopSignal,
 ) -> Taken<L>
     requires { intake.place < vec_len intake.doors }
     ensures intake { result.refusal ≡ None → IsIntake intake.tells.items intake.senders.items seat result.seat }
@@ -88,7 +88,7 @@ fn exchange<N: NetKeeper, L: NodeName, R: Wait>(
     senders: Vec<CoordId>,
     doors: &mut [Door],
     place: usize,
-    halt: &Halt,
+    halt: &StopSignal,
 ) -> Result<(), Refusal>
     requires { place < length doors.old }
     ensures intake { OnOk result (IsIntake tells.now senders.items seat.old seat.new) }
@@ -132,7 +132,7 @@ fn pass_on<N: NetKeeper, L: NodeName, R: Wait>(
     place: usize,
     packet: &Packet,
     senders: Vec<CoordId>,
-    halt: &Halt,
+    halt: &StopSignal,
 ) -> Result<(), Refusal>
     requires { place < length doors.old }
     ensures merged { OnOk result ((merged : AreMerged senders.items seat.old seat.new)
@@ -192,7 +192,7 @@ fn merge_all<N: NetKeeper, L: NodeName, R: Wait>(
     seat: &mut Seat<L>,
     own: &mut Door,
     mut awaited: Vec<CoordId>,
-    halt: &Halt,
+    halt: &StopSignal,
 ) -> Result<(), Refusal>
     ensures merged { OnOk result ((merged : AreMerged awaited.items seat.old seat.new)
         × (own.new.port ≡ after_takes own.old.port merged.packets)) }
@@ -230,7 +230,7 @@ fn place_of(awaited: &[CoordId], packet: &Packet) -> Option<usize>
 
 // A packet, once there is one. It sleeps until the bell rings: a packet that was put after it looked was put before the
 // ring that it waits for. Refused as the fleet, if that is stopped before.
-fn next_packet<R: Wait>(rt: &R, own: &mut Door, halt: &Halt) -> Result<Packet, Refusal>
+fn next_packet<R: Wait>(rt: &R, own: &mut Door, halt: &StopSignal) -> Result<Packet, Refusal>
     ensures taken { IfOk result (λ packet. own.new.port ≡ after_take own.old.port packet) }
     ensures cause { IfErr result (λ refusal. IsTrue (may_stop refusal)) }
 {

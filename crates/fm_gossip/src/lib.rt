@@ -2,12 +2,12 @@
 #![tactic(auto)]
 
 pub mod agreeing;
-mod closing;
+mod member_end;
 pub mod exchange;
-pub mod fleet;
-mod halt;
+pub mod member_threads;
+mod stop_signal;
 mod intake;
 pub mod member;
-mod rounds;
+mod solver;
 mod serving;
 mod work;

@@ -7,14 +7,14 @@ ghost use Rattle.fm_fleet.specs.Seats.{AreNew, HasSeat};
 ghost use Rattle.fm_gossip.specs.Served.{IsIntake, AreRounds, new_seat, IsEnded};
 ghost use Rattle.fm_gossip.specs.Passing.{passed_in};
 ghost use Rattle.fm_gossip.specs.Used.{new_port, used_ports};
-ghost use Rattle.fm_coord.specs.Causes.{first_of};
-ghost use Rattle.fm_gossip.specs.Stopping.{may_stop};
+ghost use Rattle.fm_coord.specs.Causes.{first_some};
+ghost use Rattle.fm_gossip.specs.FleetFaults.{may_stop};
 ghost use Rattle.fm_gossip.specs.Works.{IsDoneUnless};
 
-use crate::closing::Done;
-use crate::halt::{Halt, first_of};
+use crate::member_end::MemberEnd;
+use crate::stop_signal::{StopSignal, first_of};
 use crate::intake::{Intake, Taken, take_in};
-use crate::rounds::{Ran, Rounds, run_rounds};
+use crate::solver::{Ran, Rounds, run_rounds};
 use crate::work::Work;
 use fm_coord::coordinator::Coordinator;
 use fm_fleet::audit::audit;
@@ -38,7 +38,7 @@ use std::thread::{Promise, Threads};
 #[derive(Drop)]
 pub(crate) struct Served<N: NetKeeper, G>(pub(crate) Snapshot<Work<N, G>>);
 
-impl<N: NetKeeper, G> Promise<Done<N>> for Served<N, G> {
+impl<N: NetKeeper, G> Promise<MemberEnd<N>> for Served<N, G> {
     ghost use Rattle.fm_gossip.specs.Works.{IsDoneUnless};
 
     ghost kept_by = { λ p d. IsDoneUnless p.0.value d };
@@ -51,7 +51,7 @@ pub(crate) fn serve_one<
     N: NetKeeper + Send + Drop,
     G: Gate + Send + Drop,
     R: Threads + Wait + Sync,
->(rt: &'x R, alloc: Global, work: Work<N, G>, halt: &'x Halt) -> Done<N>
+>(rt: &'x R, alloc: Global, work: Work<N, G>, halt: &'x StopSignal) -> MemberEnd<N>
     ensures { IsDoneUnless work result }
 {
     let done = serve::<Brand, N, G, R>(rt, alloc, Blank::new(2), work, halt);
@@ -68,7 +68,7 @@ fn serve<
     N: NetKeeper + Send + Drop,
     G: Gate + Send + Drop,
     R: Threads + Wait + Sync,
->(rt: &'x R, alloc: Global, blank: Blank, work: Work<N, G>, halt: &'x Halt) -> Done<N>
+>(rt: &'x R, alloc: Global, blank: Blank, work: Work<N, G>, halt: &'x StopSignal) -> MemberEnd<N>
     requires name { blank.name ≡ L.name }
     requires parts { blank.parts ≡ L.parts }
     requires seats { 2 ≡ L.parts }
@@ -102,7 +102,7 @@ fn serve<
     room.push_reserved(one);
     room.push_reserved(two);
     let (coordinator, fault) = end(node, room, number, limit);
-    Done {
+    MemberEnd {
         coordinator,
         doors,
         refusal: first_of(refusal, fault),
@@ -110,11 +110,11 @@ fn serve<
 }
 
 // What is left if memory ran out before there were threads.
-fn ended<N: NetKeeper + Drop>(coordinator: Coordinator<N>, intake: Intake) -> Done<N>
+fn ended<N: NetKeeper + Drop>(coordinator: Coordinator<N>, intake: Intake) -> MemberEnd<N>
     ensures { result.refusal ≡ Some OutOfMemory }
 {
     let Intake { doors, .. } = intake;
-    Done {
+    MemberEnd {
         coordinator,
         doors,
         refusal: Some(Refusal::OutOfMemory),
@@ -158,7 +158,7 @@ fn by_two<
     intake: Intake,
     gate: G,
     rounds: u32,
-    halt: &'x Halt,
+    halt: &'x StopSignal,
 ) -> Used<L>
     requires { intake.place < vec_len intake.doors }
     ensures intake { result.refusal ≡ None → IsIntake intake.tells.items intake.senders.items one result.one }
@@ -210,7 +210,7 @@ fn by_two<
 fn both<L: NodeName>(taken: Taken<L>, ran: Ran<L>) -> Used<L>
     ensures one { (result.one ≡ taken.seat) × (result.doors ≡ taken.doors) }
     ensures two { result.two ≡ ran.seat }
-    ensures refusal { result.refusal ≡ first_of taken.refusal ran.refusal }
+    ensures refusal { result.refusal ≡ first_some taken.refusal ran.refusal }
 {
     Used {
         one: taken.seat,

@@ -1,6 +1,6 @@
 //! What a node's thread is given.
 ghost use Rattle.std.specs.Prelude.{◌≡◌, ℕ, ◌+◌, ◌++◌, ◌<◌, ◌≤◌, length, map, vec_len, vec_capacity, IfOk, OnOk, IsOkUnless};
-ghost use Rattle.fm_gossip.specs.Members.{number_of, but_for};
+ghost use Rattle.fm_gossip.specs.Members.{member_number, but_for};
 ghost use Rattle.fm_gossip.specs.Used.{new_port};
 ghost use Rattle.fm_gossip.specs.Works.{links, links_of, HaveOut, HaveDoors, linked_work, linked_works};
 
@@ -29,13 +29,13 @@ pub(crate) struct Work<N: NetKeeper, G> {
 
 impl<N: NetKeeper, G> Model for Work<N, G> {
     ghost use Rattle.std.specs.Prelude.{◌≡◌, ◌<◌, [], map, vec_len};
-    ghost use Rattle.fm_gossip.specs.Served.{task};
+    ghost use Rattle.fm_gossip.specs.Served.{member_task};
     ghost use Rattle.fm_gossip.specs.Works.{WorkSeen, work};
 
     ghost Value = { WorkSeen };
 
     ghost view = { λ w. work
-        (task w.coordinator.state.number w.coordinator.state.limit w.intake.tells.items w.intake.senders.items w.rounds)
+        (member_task w.coordinator.state.number w.coordinator.state.limit w.intake.tells.items w.intake.senders.items w.rounds)
         w.intake.place (map (λ d. d.port) w.intake.doors.items) };
 
     ghost invariant = { λ w. (w.coordinator.state.history ≡ []) × (w.intake.place < vec_len w.intake.doors) };
@@ -67,7 +67,7 @@ pub(crate) fn link<N: NetKeeper, G>(
     members: &[Member<N, G>],
 ) -> Result<(Vec<Links>, Vec<Doors>), Refusal>
     ensures links { IfOk result (λ r. r.0.items
-        ≡ links_of (map number_of members.now) (map (λ b. b.inbox) r.1.items) 0 members.now) }
+        ≡ links_of (map member_number members.now) (map (λ b. b.inbox) r.1.items) 0 members.now) }
     ensures inboxes { IfOk result (λ r. length r.1.items ≡ length members.now) }
     ensures out { IfOk result (λ r. HaveOut (length members.now) (length members.now) r.1.items) }
     ensures err { IsOkUnless result Refusal.OutOfMemory }
@@ -143,7 +143,7 @@ fn numbers<N: NetKeeper, G>(
     alloc: Global,
     members: &[Member<N, G>],
 ) -> Result<Vec<CoordId>, Refusal>
-    ensures numbers { IfOk result (λ numbers. numbers.items ≡ map number_of members.now) }
+    ensures numbers { IfOk result (λ numbers. numbers.items ≡ map member_number members.now) }
     ensures err { IsOkUnless result Refusal.OutOfMemory }
 {
     let mut numbers = Vec::new(alloc);

@@ -1,6 +1,6 @@
 -- What does not change when the simplex works on its tree.
 use Rattle.std.specs.Prelude.{◌≡◌, vec_len}
-use Rattle.fm_heuristics.specs.declared.tree.Tree.{Tree}
+use Rattle.fm_heuristics.specs.declared.spanning_tree.Tree.{Tree}
 
 -- as many nodes, links and nodes that moved as before
 pub record KeepsSize (old new : Tree) : Type 0 where

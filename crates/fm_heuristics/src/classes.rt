@@ -2,8 +2,8 @@
 
 use crate::lenient::{part, put};
 use fm_lattice::join::OutOfMemory;
-use fm_indexed::numbered::Numbered;
-use fm_indexed::places::Kind;
+use fm_indexed::indexed_network::IndexedNetwork;
+use fm_indexed::node_ranges::NodeKind;
 use fm_indexed::sums::{inflow, sum_at};
 use std::alloc::Global;
 
@@ -70,12 +70,12 @@ pub(crate) fn settle(units: &mut [u64], choices: &[Choice], sent: u64) {
 /// Sends on to the sink what enters jobs and machines. O(arcs).
 pub(crate) fn drain(
     alloc: Global,
-    numbered: &Numbered,
+    numbered: &IndexedNetwork,
     units: &mut [u64],
 ) -> Result<(), OutOfMemory> {
     let entered = inflow(alloc, numbered, units)?;
     for (number, arc) in numbered.arcs.iter().enumerate() {
-        if let Kind::Sink = numbered.places.kind(arc.to) {
+        if let NodeKind::Sink = numbered.places.kind(arc.to) {
             let sent = u64::try_from(sum_at(&entered, arc.from));
             put(units, number, sent.unwrap_or(u64::MAX));
         }

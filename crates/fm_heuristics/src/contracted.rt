@@ -1,14 +1,14 @@
 //! The contracted network: jobs are part of the sink, the tasks of a class are supply of their place beside one link to
 //! the sink, and a lone task is a node.
 
-use crate::alike::{Alike, Loner};
+use crate::task_classes::{TaskClasses, Loner};
 use crate::classes::Class;
 use crate::link::{AMPLE, Link, Origin};
-use fm_cycles::arcs::Arc;
+use fm_cycles::indexed_arcs::IndexedArc;
 use fm_cycles::lookup::value_or;
 use fm_lattice::join::OutOfMemory;
-use fm_indexed::numbered::Numbered;
-use fm_indexed::places::Kind;
+use fm_indexed::indexed_network::IndexedNetwork;
+use fm_indexed::node_ranges::NodeKind;
 use std::alloc::Global;
 
 /// The contracted network, with units that send each supply straight to the sink, over the links that join its nodes
@@ -57,23 +57,23 @@ const LOOP: Link = Link {
 // The nodes and links so far, these in the order of what they stand for.
 #[derive(Debug, Drop)]
 struct Sketches<'a> {
-    numbered: &'a Numbered,
+    numbered: &'a IndexedNetwork,
     stubs: Vec<Stub>,
     sketches: Vec<Sketch>,
 }
 
 // The number of a request's or machine's node. Behind the last machine come lone tasks.
-fn number_of(numbered: &Numbered, place: usize) -> usize {
+fn number_of(numbered: &IndexedNetwork, place: usize) -> usize {
     place
         .saturating_sub(numbered.places.requests)
         .saturating_add(1)
 }
 
 /// The node of a place: jobs are part of the sink.
-pub(crate) fn node_of(numbered: &Numbered, place: usize) -> usize {
+pub(crate) fn node_of(numbered: &IndexedNetwork, place: usize) -> usize {
     match numbered.places.kind(place) {
-        Kind::Request(_) | Kind::Machine(_) => number_of(numbered, place),
-        Kind::Sink | Kind::Unscheduled(_) | Kind::Task(_) => 0,
+        NodeKind::Request(_) | NodeKind::Machine(_) => number_of(numbered, place),
+        NodeKind::Sink | NodeKind::Unscheduled(_) | NodeKind::Task(_) => 0,
     }
 }
 
@@ -93,7 +93,7 @@ const LEAST_STRIDE: usize = 10;
 
 impl<'a> Sketches<'a> {
     // No links yet, and no supply.
-    fn new(alloc: Global, numbered: &'a Numbered, nodes: usize) -> Result<Self, OutOfMemory> {
+    fn new(alloc: Global, numbered: &'a IndexedNetwork, nodes: usize) -> Result<Self, OutOfMemory> {
         Ok(Sketches {
             numbered,
             stubs: vec![in alloc; BARE; nodes]?,
@@ -134,7 +134,7 @@ impl<'a> Sketches<'a> {
 
     // Adds the link of an arc that leaves a request or machine. A machine that holds fewer tasks than it has slots
     // sends them to the sink.
-    fn add_arc(&mut self, number: usize, arc: &Arc) -> Result<(), OutOfMemory> {
+    fn add_arc(&mut self, number: usize, arc: &IndexedArc) -> Result<(), OutOfMemory> {
         let from = node_of(self.numbered, arc.from);
         let to = node_of(self.numbered, arc.to);
         let held = value_or(&self.stubs, from, BARE).supply;
@@ -156,7 +156,7 @@ impl<'a> Sketches<'a> {
     fn add_loner(&mut self, node: usize, loner: &Loner) -> Result<(), OutOfMemory> {
         for number in loner.first..loner.end {
             if let Some(arc) = self.numbered.arcs.get(number) {
-                let hangs = matches!(self.numbered.places.kind(arc.to), Kind::Unscheduled(_));
+                let hangs = matches!(self.numbered.places.kind(arc.to), NodeKind::Unscheduled(_));
                 let link = Link {
                     from: node,
                     to: node_of(self.numbered, arc.to),
@@ -172,7 +172,7 @@ impl<'a> Sketches<'a> {
     }
 
     // Adds the links of all classes.
-    fn add_classes(&mut self, alike: &Alike) -> Result<(), OutOfMemory> {
+    fn add_classes(&mut self, alike: &TaskClasses) -> Result<(), OutOfMemory> {
         for (number, class) in alike.classes.iter().enumerate() {
             let count = class.among(&alike.choices).len();
             self.add_class(number, class, count as u64)?;
@@ -258,8 +258,8 @@ impl Contracted {
     /// The contracted network of these tasks. O(arcs).
     pub(crate) fn of(
         alloc: Global,
-        numbered: &Numbered,
-        alike: &Alike,
+        numbered: &IndexedNetwork,
+        alike: &TaskClasses,
     ) -> Result<Self, OutOfMemory> {
         let first = number_of(numbered, numbered.places.tasks);
         let nodes = first.saturating_add(alike.loners.len());

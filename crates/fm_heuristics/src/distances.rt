@@ -5,12 +5,12 @@ ghost use Rattle.std.specs.Prelude.{◌≡◌, ◌^◌, ◌≤ℤ◌, length, If
 ghost use Rattle.fm_cycles.specs.Walks.{AreBounded};
 ghost use Rattle.fm_cycles.specs.Found.{costs_in};
 
-use crate::lanes::first_from;
+use crate::request_arcs::first_from;
 use crate::lenient::part;
-use fm_cycles::arcs::Arc;
+use fm_cycles::indexed_arcs::IndexedArc;
 use fm_cycles::lookup::value_or;
 use fm_lattice::join::OutOfMemory;
-use fm_indexed::numbered::Numbered;
+use fm_indexed::indexed_network::IndexedNetwork;
 use std::alloc::Global;
 
 // More than a path costs on which there are fewer than a million requests: an arc into a machine costs 1,000,000 at
@@ -23,12 +23,12 @@ const TURNS: usize = 64;
 // Arcs that leave nodes of one kind, with their units.
 #[derive(Debug, Clone, Copy, Drop)]
 struct Part<'a> {
-    arcs: &'a [Arc],
+    arcs: &'a [IndexedArc],
     units: &'a [u64],
 }
 
 // The arcs that leave nodes from the first place to before the end.
-fn leaving<'a>(numbered: &'a Numbered, units: &'a [u64], first: usize, end: usize) -> Part<'a> {
+fn leaving<'a>(numbered: &'a IndexedNetwork, units: &'a [u64], first: usize, end: usize) -> Part<'a> {
     let begin = first_from(numbered, first);
     let behind = first_from(numbered, end);
     Part {
@@ -89,7 +89,7 @@ fn take(part: Part<'_>, costs: &mut [i64]) {
 }
 
 // The costs from jobs, machines and tasks straight to the sink or to a job, and what the places of tasks would save.
-fn begin(alloc: Global, numbered: &Numbered, units: &[u64]) -> Result<Vec<i64>, OutOfMemory> {
+fn begin(alloc: Global, numbered: &IndexedNetwork, units: &[u64]) -> Result<Vec<i64>, OutOfMemory> {
     let places = &numbered.places;
     let mut costs = vec![in alloc; LOST; places.end]?;
     for node in 0..places.requests {
@@ -106,7 +106,7 @@ fn begin(alloc: Global, numbered: &Numbered, units: &[u64]) -> Result<Vec<i64>, 
 }
 
 // The costs from all nodes: units of requests go to machines and back, by turns, until no cost falls.
-fn costs_of(alloc: Global, numbered: &Numbered, units: &[u64]) -> Result<Vec<i64>, OutOfMemory> {
+fn costs_of(alloc: Global, numbered: &IndexedNetwork, units: &[u64]) -> Result<Vec<i64>, OutOfMemory> {
     let places = &numbered.places;
     let mut costs = begin(alloc, numbered, units)?;
     let requests = leaving(numbered, units, places.requests, places.machines);
@@ -150,7 +150,7 @@ fn turned_round(alloc: Global, nodes: usize, costs: &[i64]) -> Result<Vec<i128>,
 /// path.
 pub(crate) fn potentials_from(
     alloc: Global,
-    numbered: &Numbered,
+    numbered: &IndexedNetwork,
     units: &[u64],
 ) -> Result<Vec<i128>, OutOfMemory>
     ensures sized { IfOk result (λ potentials. length potentials.items ≡ numbered.now.places.end) }
@@ -164,7 +164,7 @@ pub(crate) fn potentials_from(
 /// As `potentials_from`, if what a unit costs from each node but the tasks is known. O(arcs).
 pub(crate) fn potentials_over(
     alloc: Global,
-    numbered: &Numbered,
+    numbered: &IndexedNetwork,
     units: &[u64],
     mut costs: Vec<i64>,
 ) -> Result<Vec<i128>, OutOfMemory>

@@ -1,11 +1,11 @@
 //! The units of an earlier flow on the arcs of a network.
 
-use fm_certificate::entries::Entries;
+use fm_certificate::flow_iter::FlowIter;
 use fm_certificate::flow::Flow;
 use fm_lattice::join::OutOfMemory;
 use fm_net::network::Network;
 use fm_net::node::Node;
-use fm_indexed::numbered::Numbered;
+use fm_indexed::indexed_network::IndexedNetwork;
 use std::alloc::Global;
 use std::cmp::Ordering;
 
@@ -13,7 +13,7 @@ use std::cmp::Ordering;
 #[derive(Drop)]
 struct Earlier<'a> {
     next: Option<(Node, Node, u64)>,
-    rest: Entries<'a>,
+    rest: FlowIter<'a>,
     left: usize,
 }
 
@@ -54,7 +54,7 @@ impl<'a> Earlier<'a> {
 pub(crate) fn given_units(
     alloc: Global,
     network: &Network,
-    numbered: &Numbered,
+    numbered: &IndexedNetwork,
     flow: &Flow,
 ) -> Result<Vec<u64>, OutOfMemory> {
     let nodes: Vec<Node> = network.nodes().collect(alloc)?;

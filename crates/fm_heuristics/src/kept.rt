@@ -1,12 +1,12 @@
 //! The paths of tasks in an earlier flow that are still complete and fit.
 
-use crate::lanes::Lanes;
+use crate::request_arcs::Lanes;
 use crate::lenient::put;
 use crate::loading::Loading;
 use fm_cycles::lookup::value_or;
 use fm_lattice::join::OutOfMemory;
-use fm_indexed::numbered::Numbered;
-use fm_indexed::places::Kind;
+use fm_indexed::indexed_network::IndexedNetwork;
+use fm_indexed::node_ranges::NodeKind;
 use fm_indexed::sums::at;
 use std::alloc::Global;
 
@@ -22,7 +22,7 @@ impl Kept {
     /// All units of the earlier flow.
     pub(crate) fn new(
         alloc: Global,
-        numbered: &Numbered,
+        numbered: &IndexedNetwork,
         given: &[u64],
     ) -> Result<Self, OutOfMemory> {
         Ok(Kept {
@@ -35,7 +35,7 @@ impl Kept {
     /// whether.
     pub(crate) fn keep(
         &mut self,
-        numbered: &Numbered,
+        numbered: &IndexedNetwork,
         lanes: &Lanes,
         loading: &mut Loading,
         place: usize,
@@ -45,8 +45,8 @@ impl Kept {
             return false;
         }
         match numbered.places.kind(place) {
-            Kind::Request(request) => self.keep_request(numbered, lanes, loading, request),
-            Kind::Machine(machine) if loading.free(machine) > 0 => {
+            NodeKind::Request(request) => self.keep_request(numbered, lanes, loading, request),
+            NodeKind::Machine(machine) if loading.free(machine) > 0 => {
                 loading.take_slots(numbered, lanes, machine, 1);
                 true
             }
@@ -57,7 +57,7 @@ impl Kept {
     // Takes up a unit of a request.
     fn keep_request(
         &mut self,
-        numbered: &Numbered,
+        numbered: &IndexedNetwork,
         lanes: &Lanes,
         loading: &mut Loading,
         request: usize,

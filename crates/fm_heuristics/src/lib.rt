@@ -5,8 +5,8 @@
 //! changed freely.
 #![tactic(auto)]
 
-mod alike;
-mod bits;
+mod task_classes;
+mod bit_rows;
 mod classes;
 mod contracted;
 mod distances;
@@ -15,15 +15,15 @@ mod given;
 mod groups;
 mod kept;
 mod knot;
-mod lanes;
+mod request_arcs;
 mod lenient;
 mod link;
 mod loading;
-mod paths;
+mod augmenting_path;
 mod pivots;
 mod pricing;
 pub mod simplex;
 mod sorting;
 mod spread;
-pub mod start;
-mod tree;
+pub mod worth_first;
+mod spanning_tree;

@@ -1,11 +1,11 @@
 //! The units that are placed so far, with what makes the next placing fast.
 
-use crate::bits::Bits;
-use crate::lanes::{Lanes, first_from, machine_at, machine_of, price_at, request_of};
+use crate::bit_rows::Bits;
+use crate::request_arcs::{Lanes, first_from, machine_at, machine_of, price_at, request_of};
 use crate::lenient::{part, put};
 use fm_cycles::lookup::value_or;
 use fm_lattice::join::OutOfMemory;
-use fm_indexed::numbered::Numbered;
+use fm_indexed::indexed_network::IndexedNetwork;
 use fm_indexed::sums::at;
 use std::alloc::Global;
 
@@ -70,7 +70,7 @@ pub(crate) struct Loading {
 }
 
 // The slots of each machine, all of them free.
-fn slots_of(alloc: Global, numbered: &Numbered) -> Result<Vec<Slots>, OutOfMemory> {
+fn slots_of(alloc: Global, numbered: &IndexedNetwork) -> Result<Vec<Slots>, OutOfMemory> {
     let mut slots = vec![in alloc; NO_SLOTS; numbered.places.machines_len()]?;
     let first = first_from(numbered, numbered.places.machines);
     let end = first_from(numbered, numbered.places.tasks);
@@ -87,7 +87,7 @@ fn slots_of(alloc: Global, numbered: &Numbered) -> Result<Vec<Slots>, OutOfMemor
 
 impl Loading {
     /// No units yet.
-    pub(crate) fn new(alloc: Global, numbered: &Numbered) -> Result<Self, OutOfMemory> {
+    pub(crate) fn new(alloc: Global, numbered: &IndexedNetwork) -> Result<Self, OutOfMemory> {
         let requests = numbered.places.requests_len();
         let machines = numbered.places.machines_len();
         Ok(Loading {
@@ -138,7 +138,7 @@ impl Loading {
     }
 
     // How many units more the arc takes.
-    fn room(&self, numbered: &Numbered, arc: usize) -> u64 {
+    fn room(&self, numbered: &IndexedNetwork, arc: usize) -> u64 {
         match numbered.arcs.get(arc) {
             Some(lane) => lane.capacity.saturating_sub(at(&self.units, arc)),
             None => 0,
@@ -146,13 +146,13 @@ impl Loading {
     }
 
     // How many units more go over the arc into free slots.
-    fn room_to_slot(&self, numbered: &Numbered, arc: usize) -> u64 {
+    fn room_to_slot(&self, numbered: &IndexedNetwork, arc: usize) -> u64 {
         let free = self.free(machine_of(numbered, arc));
         free.min(self.room(numbered, arc))
     }
 
     /// How many units more the hop takes.
-    pub(crate) fn room_of(&self, numbered: &Numbered, hop: &Hop) -> u64 {
+    pub(crate) fn room_of(&self, numbered: &IndexedNetwork, hop: &Hop) -> u64 {
         if hop.joins {
             self.room(numbered, hop.arc)
         } else {
@@ -163,7 +163,7 @@ impl Loading {
     /// The arc of a request to the cheapest machine with a free slot, if the arc has room.
     pub(crate) fn direct(
         &mut self,
-        numbered: &Numbered,
+        numbered: &IndexedNetwork,
         lanes: &Lanes,
         request: usize,
     ) -> Option<usize> {
@@ -190,7 +190,7 @@ impl Loading {
     /// The price of the slot that a request takes by an arc of its own, FAR if there is none.
     pub(crate) fn direct_price(
         &mut self,
-        numbered: &Numbered,
+        numbered: &IndexedNetwork,
         lanes: &Lanes,
         request: usize,
     ) -> i64 {
@@ -201,7 +201,7 @@ impl Loading {
     }
 
     /// Sends units over the arc of a hop.
-    pub(crate) fn shift(&mut self, numbered: &Numbered, hop: &Hop, by: u64) {
+    pub(crate) fn shift(&mut self, numbered: &IndexedNetwork, hop: &Hop, by: u64) {
         let sent = at(&self.units, hop.arc);
         let now = if hop.joins {
             sent.saturating_add(by)
@@ -219,7 +219,7 @@ impl Loading {
     /// Takes free slots of a machine.
     pub(crate) fn take_slots(
         &mut self,
-        numbered: &Numbered,
+        numbered: &IndexedNetwork,
         lanes: &Lanes,
         machine: usize,
         by: u64,
@@ -234,7 +234,7 @@ impl Loading {
     }
 
     // Marks a full machine as open to each request whose arc has room.
-    fn open_to(&mut self, numbered: &Numbered, lanes: &Lanes, machine: usize) {
+    fn open_to(&mut self, numbered: &IndexedNetwork, lanes: &Lanes, machine: usize) {
         for arc in lanes.by_machine.group(machine) {
             let open = self.room(numbered, *arc) > 0;
             self.open.set(request_of(numbered, *arc), machine, open);
@@ -244,7 +244,7 @@ impl Loading {
     /// Sends units over the hops and into free slots of the last machine, as many as fit, and returns how many.
     pub(crate) fn send(
         &mut self,
-        numbered: &Numbered,
+        numbered: &IndexedNetwork,
         lanes: &Lanes,
         hops: &[Hop],
         last: usize,

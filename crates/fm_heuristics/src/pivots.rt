@@ -6,7 +6,7 @@ ghost use Rattle.std.specs.Prelude.{◌≡◌, ◌<◌, ◌≤◌, vec_len, OnOk
 use crate::contracted::Contracted;
 use crate::link::{Link, Origin};
 use crate::pricing::Pricing;
-use crate::tree::{Stop, Tree};
+use crate::spanning_tree::{Stop, Tree};
 use std::alloc::Global;
 
 // How many links on the way up a pivot tests for being empty, before it walks the complete cycle.

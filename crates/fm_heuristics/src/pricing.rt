@@ -5,7 +5,7 @@ ghost use Rattle.std.specs.Prelude.{◌<◌, vec_len};
 use crate::groups::{Groups, count};
 use crate::lenient::part;
 use crate::link::Link;
-use crate::tree::Tree;
+use crate::spanning_tree::Tree;
 use fm_lattice::join::OutOfMemory;
 use std::alloc::Global;
 

@@ -3,14 +3,14 @@
 ghost use Rattle.std.specs.Prelude.{IfOk, IfSome};
 ghost use Rattle.fm_indexed.specs.Feasible.{IsFlowOf};
 
-use crate::alike::Alike;
+use crate::task_classes::TaskClasses;
 use crate::contracted::Contracted;
 use crate::pivots::Pivots;
 use crate::spread::{costs, spread};
-use crate::tree::{Stop, Tree};
+use crate::spanning_tree::{Stop, Tree};
 use fm_lattice::join::OutOfMemory;
-use fm_indexed::feasible::is_feasible;
-use fm_indexed::numbered::Numbered;
+use fm_indexed::feasible_units::is_feasible;
+use fm_indexed::indexed_network::IndexedNetwork;
 use std::alloc::Global;
 
 // The hardest networks known, chains of preferences and ties everywhere, take a pivot a link at most.
@@ -24,7 +24,7 @@ const PIVOTS_A_LINK: usize = 16;
 /// Ahuja, Magnanti and Orlin, "Network flows", 1993.
 pub fn simplex(
     alloc: Global,
-    numbered: &Numbered,
+    numbered: &IndexedNetwork,
 ) -> Result<Option<(Vec<u64>, Vec<i64>)>, OutOfMemory>
     ensures { IfOk result (λ found. IfSome found
         (λ r. IsFlowOf numbered.now.places numbered.now.arcs.items r.0.items)) }
@@ -36,13 +36,13 @@ pub fn simplex(
 /// As `simplex`, and ends after so many pivots, beside the first one of each node.
 pub fn simplex_within(
     alloc: Global,
-    numbered: &Numbered,
+    numbered: &IndexedNetwork,
     most: usize,
 ) -> Result<Option<(Vec<u64>, Vec<i64>)>, OutOfMemory>
     ensures { IfOk result (λ found. IfSome found
         (λ r. IsFlowOf numbered.now.places numbered.now.arcs.items r.0.items)) }
 {
-    let alike = Alike::of(alloc, numbered)?;
+    let alike = TaskClasses::of(alloc, numbered)?;
     let contracted = Contracted::of(alloc, numbered, &alike)?;
     let Some(tree) = pivoted(alloc, contracted, most)? else {
         return Ok(None);

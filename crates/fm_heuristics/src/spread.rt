@@ -1,20 +1,20 @@
 //! The units of the contracted network, distributed to the arcs of the complete one.
 
-use crate::alike::Alike;
+use crate::task_classes::TaskClasses;
 use crate::classes::{drain, settle};
 use crate::contracted::node_of;
 use crate::lenient::put;
 use crate::link::{Link, Origin};
-use crate::tree::Tree;
+use crate::spanning_tree::Tree;
 use fm_lattice::join::OutOfMemory;
-use fm_indexed::numbered::Numbered;
+use fm_indexed::indexed_network::IndexedNetwork;
 use std::alloc::Global;
 
 /// The units of the network's arcs if the links of the contracted one have these. O(arcs).
 pub(crate) fn spread(
     alloc: Global,
-    numbered: &Numbered,
-    alike: &Alike,
+    numbered: &IndexedNetwork,
+    alike: &TaskClasses,
     links: &[Link],
 ) -> Result<Vec<u64>, OutOfMemory> {
     let mut units = vec![in alloc; 0u64; numbered.arcs.len()]?;
@@ -37,7 +37,7 @@ pub(crate) fn spread(
 /// for tasks.
 pub(crate) fn costs(
     alloc: Global,
-    numbered: &Numbered,
+    numbered: &IndexedNetwork,
     tree: &Tree,
 ) -> Result<Vec<i64>, OutOfMemory> {
     let mut costs = vec![in alloc; 0i64; numbered.places.end]?;

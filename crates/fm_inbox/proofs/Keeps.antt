@@ -5,8 +5,8 @@ use lib.ListN.{get_elem?}
 use Rattle.crossbeam_queue.specs.Fifo.{Pushes, Pops, Forks, Merges, Learns}
 use Rattle.crossbeam_queue.proofs.Lists.{at_set, at_snoc}
 use Rattle.fm_delta.specs.declared.packet.Packet.{Packet}
-use Rattle.fm_inbox.specs.declared.rule.Account.{Account}
-use Rattle.fm_inbox.specs.Rule.{weigh, account, parts_of, put_of, taken_of, IsProper, IsBalanced}
+use Rattle.fm_inbox.specs.declared.conservation.Account.{Account}
+use Rattle.fm_inbox.specs.Conservation.{weigh, account, parts_in_account, put_weight, taken_of, IsProper, IsBalanced}
 
 pub weigh-append : {X : Type 0} (f : X → ℕ) (xs ys : List X) → weigh f (xs ++ ys) ≡ weigh f xs + weigh f ys
 weigh-append f [] ys = omega arith
@@ -58,16 +58,16 @@ begins = ((λ h. refl), at_all (IsProper 1) (account 1 1 [] [] ∷ []) 0 (accoun
 pub pushes : (n port : ℕ) (v : Account) (x : Packet) → 0 < v.parts → Pushes IsBalanced n port v x (λ w. w ≡ account v.parts v.whole (v.put ++ x ∷ []) v.taken)
 pushes n port v x some_part items views room b at =
     let w = account v.parts v.whole (v.put ++ x ∷ []) v.taken in
-    let same = total_set parts_of views port v w at in
+    let same = total_set parts_in_account views port v w at in
     let mine = b.1 port v at in (
       w,
       (
         (λ h.
-            let s = total_set (put_of h) views port v w at in
+            let s = total_set (put_weight h) views port v w at in
             let t = total_set (taken_of h) views port v w at in
             let p = b.0 h in
             omega (arith, s, t, p, weigh-append h v.put (x ∷ []), weigh-append h items (x ∷ []))),
-        at_all (IsProper (weigh parts_of (set views port w))) views port w
+        at_all (IsProper (weigh parts_in_account (set views port w))) views port w
             ((λ p. absurd (omega (arith, p, some_part))), λ p. mine.1 p ∙ omega (arith, same))
             (λ j u apart e. let r = b.1 j u e in (r.0, λ p. r.1 p ∙ omega (arith, same))),
       ),
@@ -77,16 +77,16 @@ pushes n port v x some_part items views room b at =
 pub pops : (port : ℕ) (v : Account) → 0 < v.parts → Pops IsBalanced port v (λ x w. w ≡ account v.parts v.whole v.put (v.taken ++ x ∷ []))
 pops port v some_part x items views b at =
     let w = account v.parts v.whole v.put (v.taken ++ x ∷ []) in
-    let same = total_set parts_of views port v w at in
+    let same = total_set parts_in_account views port v w at in
     let mine = b.1 port v at in (
       w,
       (
         (λ h.
-            let s = total_set (put_of h) views port v w at in
+            let s = total_set (put_weight h) views port v w at in
             let t = total_set (taken_of h) views port v w at in
             let p = b.0 h in
             omega (arith, s, t, p, weigh-append h v.taken (x ∷ []))),
-        at_all (IsProper (weigh parts_of (set views port w))) views port w
+        at_all (IsProper (weigh parts_in_account (set views port w))) views port w
             ((λ p. absurd (omega (arith, p, some_part))), λ p. mine.1 p ∙ omega (arith, same))
             (λ j u apart e. let r = b.1 j u e in (r.0, λ p. r.1 p ∙ omega (arith, same))),
       ),
@@ -100,15 +100,15 @@ cuts port v some_part items views b at =
     let r = account 1 v.whole [] [] in
     let vs = set views port l in
     let mine = b.1 port v at in
-    let same = total_set parts_of views port v l at in
-    let more = total_snoc parts_of vs r in
-    let n = weigh parts_of (vs ++ r ∷ []) in
+    let same = total_set parts_in_account views port v l at in
+    let more = total_snoc parts_in_account vs r in
+    let n = weigh parts_in_account (vs ++ r ∷ []) in
     let old = at_all (IsProper n) views port l ((λ p. absurd (omega (arith, p, some_part))), λ p. mine.1 (omega (arith, some_part)) ∙ omega (arith, same, more, some_part))
     (λ j u apart e. let q = b.1 j u e in (q.0, λ p. q.1 p ∙ omega (arith, same, more, some_part))) in (
       (λ h.
-          let s = total_set (put_of h) views port v l at in
+          let s = total_set (put_weight h) views port v l at in
           let t = total_set (taken_of h) views port v l at in
-          omega (arith, s, t, b.0 h, total_snoc (put_of h) vs r, total_snoc (taken_of h) vs r)),
+          omega (arith, s, t, b.0 h, total_snoc (put_weight h) vs r, total_snoc (taken_of h) vs r)),
       λ j u e. ⊎_elim (λ x. old j u x) (λ (is : r ≡ u). subst (IsProper n) is ((λ p. absurd (omega (arith, p))), λ _. mine.1 (omega (arith, some_part)) ∙ omega (arith, same, more, some_part))) (at_snoc vs r u j e),
     )
 
@@ -120,16 +120,16 @@ grows port v some_part all items views b at =
     let vs = set views port l in
     let mine = b.1 port v at in
     let is_whole = mine.1 some_part in
-    let same = total_set parts_of views port v l at in
-    let more = total_snoc parts_of vs r in
-    let n = weigh parts_of (vs ++ r ∷ []) in
-    let none = others parts_of views port v at (omega (arith, is_whole, all)) in
+    let same = total_set parts_in_account views port v l at in
+    let more = total_snoc parts_in_account vs r in
+    let n = weigh parts_in_account (vs ++ r ∷ []) in
+    let none = others parts_in_account views port v at (omega (arith, is_whole, all)) in
     let old = at_all (IsProper n) views port l ((λ p. absurd (omega (arith, p))), λ p. omega (arith, same, more, is_whole))
     (λ j u apart e. let q = b.1 j u e in (q.0, λ p. absurd (omega (arith, p, none j u apart e)))) in (
       (λ h.
-          let s = total_set (put_of h) views port v l at in
+          let s = total_set (put_weight h) views port v l at in
           let t = total_set (taken_of h) views port v l at in
-          omega (arith, s, t, b.0 h, total_snoc (put_of h) vs r, total_snoc (taken_of h) vs r)),
+          omega (arith, s, t, b.0 h, total_snoc (put_weight h) vs r, total_snoc (taken_of h) vs r)),
       λ j u e. ⊎_elim (λ x. old j u x) (λ (is : r ≡ u). subst (IsProper n) is ((λ _. (refl, refl)), λ p. absurd (omega (arith, p)))) (at_snoc vs r u j e),
     )
 
@@ -139,14 +139,14 @@ merges port v other u some_part items views b at apart at' =
     let spent = account 0 0 [] [] in
     let vs = set views port both in
     let mine = b.1 port v at in
-    let one = total_set parts_of views port v both at in
-    let two = total_set parts_of vs other u spent at' in
-    let n = weigh parts_of (set vs other spent) in
+    let one = total_set parts_in_account views port v both at in
+    let two = total_set parts_in_account vs other u spent at' in
+    let n = weigh parts_in_account (set vs other spent) in
     let now = at_all (IsProper n) views port both ((λ p. absurd (omega (arith, p, some_part))), λ p. mine.1 some_part ∙ omega (arith, one, two))
     (λ j y _ e. let q = b.1 j y e in (q.0, λ p. q.1 p ∙ omega (arith, one, two))) in (
       (λ h.
-          let s = total_set (put_of h) views port v both at in
-          let s' = total_set (put_of h) vs other u spent at' in
+          let s = total_set (put_weight h) views port v both at in
+          let s' = total_set (put_weight h) vs other u spent at' in
           let t = total_set (taken_of h) views port v both at in
           let t' = total_set (taken_of h) vs other u spent at' in
           omega (arith, s, s', t, t', b.0 h, weigh-append h v.put u.put, weigh-append h v.taken u.taken)),
@@ -157,7 +157,7 @@ merges port v other u some_part items views b at apart at' =
 pub learns : (port : ℕ) (v : Account) → 0 < v.parts → Learns IsBalanced port v (λ items. (h : Packet → ℕ) → v.whole ≤ v.parts → weigh h v.put ≡ weigh h v.taken + weigh h items)
 learns port v some_part items views b at h all =
     let mine = b.1 port v at in
-    let none = others parts_of views port v at (omega (arith, mine.1 some_part, all)) in
-    let p = sole (put_of h) views port v at (λ j u apart e. ap (weigh h) ((b.1 j u e).0 (none j u apart e)).0) in
+    let none = others parts_in_account views port v at (omega (arith, mine.1 some_part, all)) in
+    let p = sole (put_weight h) views port v at (λ j u apart e. ap (weigh h) ((b.1 j u e).0 (none j u apart e)).0) in
     let t = sole (taken_of h) views port v at (λ j u apart e. ap (weigh h) ((b.1 j u e).0 (none j u apart e)).1) in
     omega (arith, b.0 h, p, t)

@@ -5,9 +5,9 @@ use Rattle.std.proofs.lemmas.List.{get_or_append_left}
 use Rattle.fm_inbox.proofs.Keeps.{weigh-append}
 use Rattle.atomic_table.specs.Seated.{TableId}
 use Rattle.fm_delta.specs.declared.packet.Packet.{Packet}
-use Rattle.fm_inbox.specs.declared.rule.Account.{Account}
-use Rattle.fm_inbox.specs.Rule.{weigh}
-use Rattle.fm_inbox.specs.Ports.{PortSeen, seen_port, AloneHas, all_put, all_taken, put_by, taken_by}
+use Rattle.fm_inbox.specs.declared.conservation.Account.{Account}
+use Rattle.fm_inbox.specs.Conservation.{weigh}
+use Rattle.fm_inbox.specs.Ports.{PortSeen, seen_port, AloneHas, all_put, all_taken, put_by, taken_weight}
 
 pub weigh-ones : (xs : List Packet) → weigh (λ _. 1) xs ≡ length xs
 weigh-ones [] = refl
@@ -37,7 +37,7 @@ pub weigh-all_put : (h : Packet → ℕ) (ps : List PortSeen) → weigh h (all_p
 weigh-all_put h [] = refl
 weigh-all_put h (p ∷ ps) = let e = weigh-all_put h ps in omega (arith, e, weigh-append h p.put (all_put ps))
 
-pub weigh-all_taken : (h : Packet → ℕ) (ps : List PortSeen) → weigh h (all_taken ps) ≡ weigh (taken_by h) ps
+pub weigh-all_taken : (h : Packet → ℕ) (ps : List PortSeen) → weigh h (all_taken ps) ≡ weigh (taken_weight h) ps
 weigh-all_taken h [] = refl
 weigh-all_taken h (p ∷ ps) = let e = weigh-all_taken h ps in omega (arith, e, weigh-append h p.taken (all_taken ps))
 

@@ -3,8 +3,8 @@ use Rattle.std.specs.Prelude.{◌≡◌, ℕ, ◌+◌, ◌-◌, List, [], ◌∷
 use Rattle.crossbeam_queue.specs.Passes.{Pass, view}
 use Rattle.atomic_table.specs.Seated.{TableId}
 use Rattle.fm_delta.specs.declared.packet.Packet.{Packet}
-use Rattle.fm_inbox.specs.declared.rule.Account.{Account}
-use Rattle.fm_inbox.specs.Rule.{weigh}
+use Rattle.fm_inbox.specs.declared.conservation.Account.{Account}
+use Rattle.fm_inbox.specs.Conservation.{weigh}
 
 -- which inbox it is, how many ports it has, and how many packets it takes
 pub record InboxSeen : Type 0 where
@@ -70,5 +70,5 @@ all_taken (p ∷ ps) = p.taken ++ all_taken ps
 abbrev pub put_by : (Packet → ℕ) → PortSeen → ℕ
 put_by h p = weigh h p.put
 
-abbrev pub taken_by : (Packet → ℕ) → PortSeen → ℕ
-taken_by h p = weigh h p.taken
+abbrev pub taken_weight : (Packet → ℕ) → PortSeen → ℕ
+taken_weight h p = weigh h p.taken

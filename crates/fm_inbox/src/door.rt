@@ -1,7 +1,7 @@
 //! Ports that threads own together with their inbox.
 ghost use Rattle.std.specs.Prelude.{◌≡◌, ◌≢◌, ◌<◌, ◌≤◌, ◌+◌, ◌++◌, [], vec_len, vec_capacity, map, All, IfOk, IfErr, OnOk, OnErr, IsOkUnless, MatchOption};
 ghost use Rattle.std.specs.Arc.{arc_value};
-ghost use Rattle.fm_inbox.specs.Rule.{SamePackets};
+ghost use Rattle.fm_inbox.specs.Conservation.{SamePackets};
 ghost use Rattle.fm_inbox.specs.Ports.{IsPortOf, IsNewPortOf, AloneHas, after_put, after_take, all_put, all_taken};
 
 use crate::inbox::{Inbox, Port, PutFault};

@@ -2,10 +2,10 @@
 ghost use Rattle.std.specs.Prelude.{◌≡◌, ◌<◌, ◌≤◌, ◌+◌, ◌++◌, ℕ, [], vec_len, vec_capacity, IfOk, IfErr, OnOk, OnErr, IsOkUnless, All};
 ghost use Rattle.crossbeam_queue.specs.Passes.{IsPassOf, ruled_capacity};
 ghost use Rattle.fm_delta.specs.declared.packet.Packet.{Packet};
-ghost use Rattle.fm_inbox.specs.Rule.{account, weigh, put_of, taken_of, SamePackets};
-ghost use Rattle.fm_inbox.specs.Ports.{IsPortOf, IsNewPortOf, AloneHas, after_put, after_take, all_put, all_taken, put_by, taken_by, account_of, seen_inbox};
+ghost use Rattle.fm_inbox.specs.Conservation.{account, weigh, put_weight, taken_of, SamePackets};
+ghost use Rattle.fm_inbox.specs.Ports.{IsPortOf, IsNewPortOf, AloneHas, after_put, after_take, all_put, all_taken, put_by, taken_weight, account_of, seen_inbox};
 
-use crate::rule::{OneMore, OnePart, Puts, Queue, QueuePass, Takes};
+use crate::conservation::{OneMore, OnePart, Puts, Queue, QueuePass, Takes};
 use fm_delta::packet::Packet;
 use fm_records::refusal::Refusal;
 use std::alloc::Global;
@@ -219,8 +219,8 @@ fn joined(queue: &Queue, mut ports: Vec<Port>, whole: usize) -> QueuePass
         (ruled_capacity queue.now))) ports.items }
     ensures pass { IsPassOf queue.now result }
     ensures whole { ((account_of result).whole ≡ whole) × (whole ≤ (account_of result).parts) }
-    ensures sums { (h : Packet → ℕ) → (put_of h (account_of result) ≡ weigh (put_by h) ports.items)
-        × (taken_of h (account_of result) ≡ weigh (taken_by h) ports.items) }
+    ensures sums { (h : Packet → ℕ) → (put_weight h (account_of result) ≡ weigh (put_by h) ports.items)
+        × (taken_of h (account_of result) ≡ weigh (taken_weight h) ports.items) }
 {
     let mut pass = match ports.pop() {
         Some(port) => pass_of(port),
@@ -237,7 +237,7 @@ fn left<R: Wait>(rt: &R, queue: &Queue, mut pass: QueuePass, mut room: Vec<Packe
     requires pass { IsPassOf queue.now pass }
     requires whole { (0 < (account_of pass).parts) × ((account_of pass).whole ≤ (account_of pass).parts) }
     requires room { (vec_len room ≡ 0) × (room.items ≡ []) × (ruled_capacity queue.now ≤ vec_capacity room) }
-    ensures { (h : Packet → ℕ) → put_of h (account_of pass) ≡ taken_of h (account_of pass) + weigh h result.items }
+    ensures { (h : Packet → ℕ) → put_weight h (account_of pass) ≡ taken_of h (account_of pass) + weigh h result.items }
 {
     let count = queue.len_as::<Takes, R>(rt, &mut pass);
     for _i in 0..count {

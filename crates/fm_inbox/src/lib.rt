@@ -3,4 +3,4 @@
 
 pub mod door;
 pub mod inbox;
-mod rule;
+mod conservation;

@@ -18,20 +18,20 @@ use Rattle.fm_net.specs.declared.node.Node.TheVariants as node
 use Rattle.fm_net.specs.Nodes.{node_cmp, ends_cmp}
 use Rattle.fm_net.specs.NodeOrder.{node_total}
 use Rattle.fm_net.specs.Net.{Net, CanBeNet}
-use Rattle.fm_net.specs.Same.{same_node}
+use Rattle.fm_net.specs.NetworkEquality.{same_node}
 use Rattle.fm_certificate.specs.Certificates.{potential_in, IsCertified}
 use Rattle.fm_certificate.specs.Totals.{Entry, source, target, units_at}
-use Rattle.fm_certificate.specs.Checks.{AreOf, Fits, FitAll, reduced_at, sends}
+use Rattle.fm_certificate.specs.Checks.{AreOf, IsComplementary, FitAll, reduced_at, sends}
 use Rattle.fm_certificate.proofs.Certified.{certified}
-use Rattle.fm_cycles.specs.declared.arcs.Arc.{Arc}
-use Rattle.fm_cycles.specs.declared.arcs.Step.{Step}
+use Rattle.fm_cycles.specs.declared.indexed_arcs.IndexedArc.{IndexedArc}
+use Rattle.fm_cycles.specs.declared.indexed_arcs.ResidualArc.{ResidualArc}
 use Rattle.fm_cycles.specs.Walks.{AreBounded, ArePotentials}
-use Rattle.fm_cycles.specs.Residual.{residual, start_of, end_of, cost_by, HasRoom}
+use Rattle.fm_cycles.specs.Residual.{residual, start_of, head_of, cost_by, CanBeTaken}
 use Rattle.fm_cycles.specs.Found.{costs_in}
-use Rattle.fm_cycles.specs.Units.{entering, leaving, units_at as numbered_at}
-use Rattle.fm_indexed.specs.declared.places.Places.{Places}
+use Rattle.fm_cycles.specs.Units.{units_in, units_out, units_with_end as numbered_at}
+use Rattle.fm_indexed.specs.declared.node_ranges.NodeRanges.{NodeRanges}
 use Rattle.fm_indexed.specs.Numbered.{NetArc, IsArcOf, AreArcsOf, IsNumbered}
-use Rattle.fm_indexed.specs.Feasible.{Sends, IsFlowOf}
+use Rattle.fm_indexed.specs.Feasible.{IsConserved, IsFlowOf}
 use Rattle.fm_indexed.specs.Named.{named_units, named_potentials}
 use Rattle.fm_indexed.proofs.Placed.{one_place, place_of_member, earlier_less}
 use Rattle.fm_indexed.proofs.KindsAt.{kind_is, kind_there}
@@ -66,7 +66,7 @@ potential_there (m ∷ nodes) [] (suc v) n rises at = found_later n m (pos 0) (n
 potential_there (m ∷ nodes) (p ∷ values) (suc v) n rises at = found_later n m p (named_potentials nodes values) (earlier_less (m ∷ nodes) 0 (suc v) m n rises refl at (omega arith)) ∙ potential_there nodes values v n rises.1 at
 
 -- if each arc's units fit, all do
-fit_all : (potentials : List (Node × ℤ)) (arcs : List NetArc) (units : List ℕ) → length units ≡ length arcs → ((i : ℕ) (b : NetArc) → slice_get arcs i ≡ Some b → Fits (slice_index units i) b.1.0 (reduced_at potentials b)) → FitAll potentials (named_units arcs units) arcs
+fit_all : (potentials : List (Node × ℤ)) (arcs : List NetArc) (units : List ℕ) → length units ≡ length arcs → ((i : ℕ) (b : NetArc) → slice_get arcs i ≡ Some b → IsComplementary (slice_index units i) b.1.0 (reduced_at potentials b)) → FitAll potentials (named_units arcs units) arcs
 fit_all potentials [] units sized each = tt
 fit_all potentials (b ∷ arcs) [] sized each = absurd (omega arith)
 fit_all potentials (b ∷ arcs) (u ∷ units) sized each = (refl, each 0 b refl, fit_all potentials arcs units (omega arith) (λ i c at. each (suc i) c at))
@@ -83,8 +83,8 @@ module _ (end : Node × Node → Node) (n : Node) where
   no_units [] = refl
   no_units (b ∷ arcs) = let rest = no_units arcs in omega (arith, no_part b.0, sum_by-cons part (b.0, 0) (named_units arcs []))
 
-module _ (nodes : List Node) (rises : Rises node_cmp nodes) (end : Node × Node → Node) (place : Arc → ℕ) (there : (b : NetArc) (a : Arc) → IsArcOf nodes b a → slice_get nodes (place a) ≡ Some (end b.0)) (v : ℕ) (n : Node) (at : slice_get nodes v ≡ Some n) where
-  pub same_sum : (arcs : List NetArc) (numbers : List Arc) (units : List ℕ) → AreArcsOf nodes arcs numbers → units_at end (named_units arcs units) n ≡ numbered_at place numbers units v
+module _ (nodes : List Node) (rises : Rises node_cmp nodes) (end : Node × Node → Node) (place : IndexedArc → ℕ) (there : (b : NetArc) (a : IndexedArc) → IsArcOf nodes b a → slice_get nodes (place a) ≡ Some (end b.0)) (v : ℕ) (n : Node) (at : slice_get nodes v ≡ Some n) where
+  pub same_sum : (arcs : List NetArc) (numbers : List IndexedArc) (units : List ℕ) → AreArcsOf nodes arcs numbers → units_at end (named_units arcs units) n ≡ numbered_at place numbers units v
   same_sum [] [] units are = refl
   same_sum [] (a ∷ numbers) units are = absurd are
   same_sum (b ∷ arcs) [] units are = absurd are
@@ -98,7 +98,7 @@ all_pass : (test : Node → Bool) (ns : List Node) → ((n : Node) → IsMember 
 all_pass test [] h = refl
 all_pass test (n ∷ ns) h = let rest = all_pass test ns (λ k m. h k (inr m)) in let first = h n (inl refl) in rw first rest
 
-module _ (net : Net) (can : CanBeNet net) (places : Places) (numbers : List Arc) (is : IsNumbered net places numbers) (units : List ℕ) (flow : IsFlowOf places numbers units) (values : List ℤ) (fit : ArePotentials (residual numbers units) (costs_in values)) where
+module _ (net : Net) (can : CanBeNet net) (places : NodeRanges) (numbers : List IndexedArc) (is : IsNumbered net places numbers) (units : List ℕ) (flow : IsFlowOf places numbers units) (values : List ℤ) (fit : ArePotentials (residual numbers units) (costs_in values)) where
   abbrev potentials : List (Node × ℤ)
   potentials = named_potentials net.nodes values
 
@@ -108,7 +108,7 @@ module _ (net : Net) (can : CanBeNet net) (places : Places) (numbers : List Arc)
   potential_is : (v : ℕ) (n : Node) → slice_get net.nodes v ≡ Some n → potential_in potentials n ≡ costs_in values v
   potential_is v n at = potential_there net.nodes values v n can.nodes_rise at
 
-  fits : (i : ℕ) (b : NetArc) → slice_get net.arcs i ≡ Some b → Fits (slice_index units i) b.1.0 (reduced_at potentials b)
+  fits : (i : ℕ) (b : NetArc) → slice_get net.arcs i ≡ Some b → IsComplementary (slice_index units i) b.1.0 (reduced_at potentials b)
   fits i b at =
       let a = number_at_place net.nodes net.arcs numbers i b is.of_arcs at in
       let number = a.2 in
@@ -117,29 +117,29 @@ module _ (net : Net) (can : CanBeNet net) (places : Places) (numbers : List Arc)
       let to = potential_is a.0.to b.0.1 number.to in
       let cost : pos b.1.1 ≡ pos a.0.cost = ap pos (sym number.cost) in
       let capacity = number.capacity in
-      let ahead : Step = record { arc = i; forward = true } in
-      let back : Step = record { arc = i; forward = false } in
+      let ahead : ResidualArc = record { arc = i; forward = true } in
+      let back : ResidualArc = record { arc = i; forward = false } in
       let forth : slice_index units i < a.0.capacity → pos 0 ≤ℤ ((pos a.0.cost +ℤ row a.0.from) -ℤ row a.0.to) =
-      subst (λ o. HasRoom o true (slice_index units i) → pos 0 ≤ℤ ((cost_by o true +ℤ row (start_of o true)) -ℤ row (end_of o true))) a.1 (λ can_go. fit.fit ahead can_go) in
+      subst (λ o. CanBeTaken o true (slice_index units i) → pos 0 ≤ℤ ((cost_by o true +ℤ row (start_of o true)) -ℤ row (head_of o true))) a.1 (λ can_go. fit.fit ahead can_go) in
       let backwards : 0 < slice_index units i → pos 0 ≤ℤ ((neg_ℤ (pos a.0.cost) +ℤ row a.0.to) -ℤ row a.0.from) =
-      subst (λ o. HasRoom o false (slice_index units i) → pos 0 ≤ℤ ((cost_by o false +ℤ row (start_of o false)) -ℤ row (end_of o false))) a.1 (λ can_go. fit.fit back can_go) in
+      subst (λ o. CanBeTaken o false (slice_index units i) → pos 0 ≤ℤ ((cost_by o false +ℤ row (start_of o false)) -ℤ row (head_of o false))) a.1 (λ can_go. fit.fit back can_go) in
       record {
         within = let most = within_at_place numbers units i a.0 flow.sized a.1 flow.within in omega arith;
         no_gain = λ less. let h = forth (omega arith) in omega (arith, ints);
         no_waste = λ some. let h = backwards some in omega (arith, ints);
       }
 
-  enters : (v : ℕ) (n : Node) → slice_get net.nodes v ≡ Some n → units_at target (named_units net.arcs units) n ≡ entering numbers units v
+  enters : (v : ℕ) (n : Node) → slice_get net.nodes v ≡ Some n → units_at target (named_units net.arcs units) n ≡ units_in numbers units v
   enters v n at = same_sum net.nodes can.nodes_rise target (λ a. a.to) (λ b a of. of.to) v n at net.arcs numbers units is.of_arcs
 
-  leaves : (v : ℕ) (n : Node) → slice_get net.nodes v ≡ Some n → units_at source (named_units net.arcs units) n ≡ leaving numbers units v
+  leaves : (v : ℕ) (n : Node) → slice_get net.nodes v ≡ Some n → units_at source (named_units net.arcs units) n ≡ units_out numbers units v
   leaves v n at = same_sum net.nodes can.nodes_rise source (λ a. a.from) (λ b a of. of.from) v n at net.arcs numbers units is.of_arcs
 
   within_end : (v : ℕ) (n : Node) → slice_get net.nodes v ≡ Some n → v < places.end
   within_end v n at = let e = is.at_places.end in let less = slice_get_within net.nodes v n at in omega arith
 
-  sends_there : (v : ℕ) (n : Node) → slice_get net.nodes v ≡ Some n → Sends (kind_there places v n) (entering numbers units v) (leaving numbers units v)
-  sends_there v n at = subst (λ k. Sends k (entering numbers units v) (leaving numbers units v)) (kind_is net.nodes places can.nodes_rise is.at_places v n at) (flow.sends v (within_end v n at))
+  sends_there : (v : ℕ) (n : Node) → slice_get net.nodes v ≡ Some n → IsConserved (kind_there places v n) (units_in numbers units v) (units_out numbers units v)
+  sends_there v n at = subst (λ k. IsConserved k (units_in numbers units v) (units_out numbers units v)) (kind_is net.nodes places can.nodes_rise is.at_places v n at) (flow.sends v (within_end v n at))
 
   sends_at : (v : ℕ) (n : Node) → slice_get net.nodes v ≡ Some n → sends (named_units net.arcs units) n ≡ true
   sends_at v (node.Sink) at = refl

@@ -10,9 +10,9 @@ use Rattle.fm_net.specs.NodeOrder.{node_exact, node_total}
 use Rattle.fm_net.specs.ListLaws.{member_has, member_behind}
 use Rattle.fm_net.specs.Net.{Net, CanBeNet, IsArc, IsArcKind}
 use Rattle.fm_certificate.proofs.Least.{arc_member}
-use Rattle.fm_cycles.specs.declared.arcs.Arc.{Arc}
-use Rattle.fm_indexed.specs.declared.places.Places.{Places}
-use Rattle.fm_indexed.specs.Places.{is_task}
+use Rattle.fm_cycles.specs.declared.indexed_arcs.IndexedArc.{IndexedArc}
+use Rattle.fm_indexed.specs.declared.node_ranges.NodeRanges.{NodeRanges}
+use Rattle.fm_indexed.specs.NodeRanges.{is_task}
 use Rattle.fm_indexed.specs.Numbered.{NetArc, IsArcOf, AreArcsOf, IsNumbered, IsFormed}
 use Rattle.fm_indexed.proofs.Placed.{member_at}
 use Rattle.fm_indexed.proofs.KindsAt.{kind_is, kind_there}
@@ -21,28 +21,28 @@ none_there : {A P : Type 0} {x : A} → None ≡ Some x → P
 none_there e = absurd (let no : ⊥ = cc in no)
 
 -- one arc more
-pub arcs_more : (nodes : List Node) (done : List NetArc) (numbers : List Arc) (arc : NetArc) (a : Arc) → AreArcsOf nodes done numbers → IsArcOf nodes arc a → AreArcsOf nodes (done ++ arc ∷ []) (numbers ++ a ∷ [])
+pub arcs_more : (nodes : List Node) (done : List NetArc) (numbers : List IndexedArc) (arc : NetArc) (a : IndexedArc) → AreArcsOf nodes done numbers → IsArcOf nodes arc a → AreArcsOf nodes (done ++ arc ∷ []) (numbers ++ a ∷ [])
 arcs_more nodes [] [] arc a are is = (is, tt)
 arcs_more nodes [] (b ∷ numbers) arc a are is = absurd are
 arcs_more nodes (d ∷ done) [] arc a are is = absurd are
 arcs_more nodes (d ∷ done) (b ∷ numbers) arc a are is = (are.0, arcs_more nodes done numbers arc a are.1 is)
 
 -- of the arc by number at a place, which arc it is
-pub arc_at_place : (nodes : List Node) (arcs : List NetArc) (numbers : List Arc) (i : ℕ) (a : Arc) → AreArcsOf nodes arcs numbers → slice_get numbers i ≡ Some a → (b : NetArc) × (slice_get arcs i ≡ Some b) × IsArcOf nodes b a
+pub arc_at_place : (nodes : List Node) (arcs : List NetArc) (numbers : List IndexedArc) (i : ℕ) (a : IndexedArc) → AreArcsOf nodes arcs numbers → slice_get numbers i ≡ Some a → (b : NetArc) × (slice_get arcs i ≡ Some b) × IsArcOf nodes b a
 arc_at_place nodes [] [] i a are at = none_there at
 arc_at_place nodes [] (n ∷ numbers) i a are at = absurd are
 arc_at_place nodes (b ∷ arcs) [] i a are at = absurd are
-arc_at_place nodes (b ∷ arcs) (n ∷ numbers) zero a are at = let is : n ≡ a = cc in (b, refl, subst (λ (m : Arc). IsArcOf nodes b m) is are.0)
+arc_at_place nodes (b ∷ arcs) (n ∷ numbers) zero a are at = let is : n ≡ a = cc in (b, refl, subst (λ (m : IndexedArc). IsArcOf nodes b m) is are.0)
 arc_at_place nodes (b ∷ arcs) (n ∷ numbers) (suc i) a are at = arc_at_place nodes arcs numbers i a are.1 at
 
 -- and the other way round
-pub number_at_place : (nodes : List Node) (arcs : List NetArc) (numbers : List Arc) (i : ℕ) (b : NetArc) → AreArcsOf nodes arcs numbers → slice_get arcs i ≡ Some b → (a : Arc) × (slice_get numbers i ≡ Some a) × IsArcOf nodes b a
+pub number_at_place : (nodes : List Node) (arcs : List NetArc) (numbers : List IndexedArc) (i : ℕ) (b : NetArc) → AreArcsOf nodes arcs numbers → slice_get arcs i ≡ Some b → (a : IndexedArc) × (slice_get numbers i ≡ Some a) × IsArcOf nodes b a
 number_at_place nodes [] numbers i b are at = none_there at
 number_at_place nodes (c ∷ arcs) [] i b are at = absurd are
 number_at_place nodes (c ∷ arcs) (n ∷ numbers) zero b are at = let is : c ≡ b = cc in (n, refl, subst (λ (d : NetArc). IsArcOf nodes d n) is are.0)
 number_at_place nodes (c ∷ arcs) (n ∷ numbers) (suc i) b are at = number_at_place nodes arcs numbers i b are.1 at
 
-pub as_many : (nodes : List Node) (arcs : List NetArc) (numbers : List Arc) → AreArcsOf nodes arcs numbers → length numbers ≡ length arcs
+pub as_many : (nodes : List Node) (arcs : List NetArc) (numbers : List IndexedArc) → AreArcsOf nodes arcs numbers → length numbers ≡ length arcs
 as_many nodes [] [] are = refl
 as_many nodes [] (n ∷ numbers) are = absurd are
 as_many nodes (b ∷ arcs) [] are = absurd are
@@ -56,7 +56,7 @@ no_task (node.Request r) t kinds = kinds
 no_task (node.Machine q) t kinds = kinds
 no_task (node.Task s) t kinds = kinds
 
-target_kind : (places : Places) (v : ℕ) (m n : Node) → IsArcKind m n → is_task (kind_there places v n) ≡ false
+target_kind : (places : NodeRanges) (v : ℕ) (m n : Node) → IsArcKind m n → is_task (kind_there places v n) ≡ false
 target_kind places v m (node.Sink) kinds = refl
 target_kind places v m (node.Unscheduled j) kinds = refl
 target_kind places v m (node.Request r) kinds = refl
@@ -74,7 +74,7 @@ module _ (net : Net) (can : CanBeNet net) where
       let arc = is_arc_there b m in
       (member_has node_cmp node_total node_exact b.0.0 net.nodes arc.from_stands, member_has node_cmp node_total node_exact b.0.1 net.nodes arc.to_stands)
 
-  pub formed : (places : Places) (numbers : List Arc) → IsNumbered net places numbers → length net.nodes < 2 ^ 63 → IsFormed places numbers
+  pub formed : (places : NodeRanges) (numbers : List IndexedArc) → IsNumbered net places numbers → length net.nodes < 2 ^ 63 → IsFormed places numbers
   formed places numbers is few =
       let end = is.at_places.end in
       record {

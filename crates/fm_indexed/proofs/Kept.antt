@@ -1,27 +1,27 @@
 -- Units with the balances of a flow are one.
 use Rattle.std.proofs.Common.{◌≡◌, refl, ℕ, ◌+◌, true, List, length, arith}
-use Rattle.fm_cycles.specs.declared.arcs.Arc.{Arc}
-use Rattle.fm_cycles.specs.Units.{entering, leaving, AreWithin, HaveSameBalance}
-use Rattle.fm_indexed.specs.declared.places.Places.{Places}
-use Rattle.fm_indexed.specs.declared.places.Kind.{Kind}
-use Rattle.fm_indexed.specs.declared.places.Kind.TheVariants.{Sink, Unscheduled, Request, Machine, Task}
-use Rattle.fm_indexed.specs.Places.{kind_at, is_task}
+use Rattle.fm_cycles.specs.declared.indexed_arcs.IndexedArc.{IndexedArc}
+use Rattle.fm_cycles.specs.Units.{units_in, units_out, AreWithin, HaveSameBalance}
+use Rattle.fm_indexed.specs.declared.node_ranges.NodeRanges.{NodeRanges}
+use Rattle.fm_indexed.specs.declared.node_ranges.NodeKind.{NodeKind}
+use Rattle.fm_indexed.specs.declared.node_ranges.NodeKind.TheVariants.{Sink, Unscheduled, Request, Machine, Task}
+use Rattle.fm_indexed.specs.NodeRanges.{kind_at, is_task}
 use Rattle.fm_indexed.specs.Numbered.{IsFormed}
-use Rattle.fm_indexed.specs.Feasible.{Sends, IsFlowOf}
+use Rattle.fm_indexed.specs.Feasible.{IsConserved, IsFlowOf}
 use Rattle.fm_indexed.proofs.Summed.{none_enter}
 
-sends_still : (kind : Kind) (e l e2 l2 : ℕ) → (is_task kind ≡ true → (e ≡ 0) × (e2 ≡ 0)) → e2 + l ≡ e + l2 → Sends kind e l → Sends kind e2 l2
+sends_still : (kind : NodeKind) (e l e2 l2 : ℕ) → (is_task kind ≡ true → (e ≡ 0) × (e2 ≡ 0)) → e2 + l ≡ e + l2 → IsConserved kind e l → IsConserved kind e2 l2
 sends_still Sink e l e2 l2 none same sent = tt
 sends_still (Unscheduled i) e l e2 l2 none same sent = omega arith
 sends_still (Request i) e l e2 l2 none same sent = omega arith
 sends_still (Machine i) e l e2 l2 none same sent = omega arith
 sends_still (Task i) e l e2 l2 none same sent = let no = none refl in let a = no.0 in let b = no.1 in omega arith
 
-pub still_flow : (places : Places) (arcs : List Arc) (old new : List ℕ) → IsFormed places arcs → IsFlowOf places arcs old → length new ≡ length arcs → AreWithin arcs new → HaveSameBalance arcs old new → IsFlowOf places arcs new
+pub still_flow : (places : NodeRanges) (arcs : List IndexedArc) (old new : List ℕ) → IsFormed places arcs → IsFlowOf places arcs old → length new ≡ length arcs → AreWithin arcs new → HaveSameBalance arcs old new → IsFlowOf places arcs new
 still_flow places arcs old new formed flow sized within same = record {
   sized = sized;
   within = within;
-  sends = λ v less. sends_still (kind_at places v) (entering arcs old v) (leaving arcs old v) (entering arcs new v) (leaving arcs new v)
+  sends = λ v less. sends_still (kind_at places v) (units_in arcs old v) (units_out arcs old v) (units_in arcs new v) (units_out arcs new v)
       (λ task. (none_enter (λ n. is_task (kind_at places n)) arcs old v formed.targets task, none_enter (λ n. is_task (kind_at places n)) arcs new v formed.targets task))
       (same v) (flow.sends v less);
 }

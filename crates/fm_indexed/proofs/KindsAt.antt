@@ -6,21 +6,21 @@ use Rattle.fm_records.specs.TableLaws.{Rises}
 use Rattle.fm_net.specs.declared.node.Node.{Node}
 use Rattle.fm_net.specs.declared.node.Node.TheVariants as node
 use Rattle.fm_net.specs.Nodes.{node_cmp}
-use Rattle.fm_indexed.specs.declared.places.Places.{Places}
-use Rattle.fm_indexed.specs.declared.places.Kind.{Kind}
-use Rattle.fm_indexed.specs.declared.places.Kind.TheVariants.{Sink, Unscheduled, Request, Machine, Task}
-use Rattle.fm_indexed.specs.Places.{ArePlacesOf, kind_at, first_of, end_of}
+use Rattle.fm_indexed.specs.declared.node_ranges.NodeRanges.{NodeRanges}
+use Rattle.fm_indexed.specs.declared.node_ranges.NodeKind.{NodeKind}
+use Rattle.fm_indexed.specs.declared.node_ranges.NodeKind.TheVariants.{Sink, Unscheduled, Request, Machine, Task}
+use Rattle.fm_indexed.specs.NodeRanges.{ArePlacesOf, kind_at, range_start, range_end}
 use Rattle.fm_indexed.proofs.Placed.{low_before, high_behind, count_most}
 
 -- the kind of a node at a place
-abbrev pub kind_there : Places → ℕ → Node → Kind
+abbrev pub kind_there : NodeRanges → ℕ → Node → NodeKind
 kind_there places v (node.Sink) = Sink
 kind_there places v (node.Unscheduled j) = Unscheduled (v - places.jobs)
 kind_there places v (node.Request r) = Request (v - places.requests)
 kind_there places v (node.Machine m) = Machine (v - places.machines)
 kind_there places v (node.Task t) = Task (v - places.tasks)
 
-module _ (nodes : List Node) (places : Places) (rises : Rises node_cmp nodes) (are : ArePlacesOf nodes places) (v : ℕ) where
+module _ (nodes : List Node) (places : NodeRanges) (rises : Rises node_cmp nodes) (are : ArePlacesOf nodes places) (v : ℕ) where
   pub kind_is : (n : Node) → slice_get nodes v ≡ Some n → kind_at places v ≡ kind_there places v n
   kind_is (node.Sink) at =
       let a = low_before 1 nodes v (node.Sink) rises at (omega arith) in
@@ -63,9 +63,9 @@ module _ (nodes : List Node) (places : Places) (rises : Rises node_cmp nodes) (a
 
   -- a node stands among those of its kind
   pub record IsAmong (n : Node) : Type 0 where
-    pub first : first_of places n ≤ v
-    pub end : v < end_of places n
-    pub most : end_of places n ≤ places.end
+    pub first : range_start places n ≤ v
+    pub end : v < range_end places n
+    pub most : range_end places n ≤ places.end
 
   pub among : (n : Node) → slice_get nodes v ≡ Some n → IsAmong n
   among (node.Sink) at =

@@ -6,12 +6,12 @@ use Rattle.fm_lattice.specs.Maps.{IsBelow, IsRising, AreValues}
 use Rattle.fm_records.specs.TableLaws.{IsBelowAll, Rises}
 use Rattle.fm_net.specs.declared.node.Node.{Node}
 use Rattle.fm_net.specs.Nodes.{node_cmp, ends_cmp}
-use Rattle.fm_net.specs.Same.{same_node}
+use Rattle.fm_net.specs.NetworkEquality.{same_node}
 use Rattle.fm_certificate.specs.Totals.{Entry, target, units_at}
 use Rattle.fm_certificate.proofs.Alike.{other_node}
-use Rattle.fm_cycles.specs.declared.arcs.Arc.{Arc}
+use Rattle.fm_cycles.specs.declared.indexed_arcs.IndexedArc.{IndexedArc}
 use Rattle.fm_indexed.specs.Numbered.{NetArc, IsArcOf, AreArcsOf}
-use Rattle.fm_indexed.specs.Named.{named_units, named_potentials, name_at, ends_at, units_by}
+use Rattle.fm_indexed.specs.Named.{named_units, named_potentials, name_at, named_ends, units_by}
 
 pub append_one : {A : Type 0} → (xs : List A) (x : A) (ys : List A) → xs ++ x ∷ ys ≡ (xs ++ x ∷ []) ++ ys
 append_one [] x ys = refl
@@ -53,10 +53,10 @@ name_is [] v n at = none_there at
 name_is (m ∷ nodes) zero n at = cc
 name_is (m ∷ nodes) (suc v) n at = name_is nodes v n at
 
-ends_are : (nodes : List Node) (b : NetArc) (a : Arc) → IsArcOf nodes b a → ends_at nodes a ≡ b.0
+ends_are : (nodes : List Node) (b : NetArc) (a : IndexedArc) → IsArcOf nodes b a → named_ends nodes a ≡ b.0
 ends_are nodes b a is = let from = name_is nodes a.from b.0.0 is.from in let to = name_is nodes a.to b.0.1 is.to in λ i. (from i, to i)
 
-pub by_names : (nodes : List Node) (arcs : List NetArc) (numbers : List Arc) (units : List ℕ) → AreArcsOf nodes arcs numbers → units_by nodes numbers units ≡ named_units arcs units
+pub by_names : (nodes : List Node) (arcs : List NetArc) (numbers : List IndexedArc) (units : List ℕ) → AreArcsOf nodes arcs numbers → units_by nodes numbers units ≡ named_units arcs units
 by_names nodes [] [] units are = refl
 by_names nodes [] (a ∷ numbers) units are = absurd are
 by_names nodes (b ∷ arcs) [] units are = absurd are
@@ -68,10 +68,10 @@ module _ (nodes : List Node) (n : Node) (none : (v : ℕ) → slice_get nodes v 
   abbrev here : Entry → ℕ
   here e = cond (same_node (target e.0) n) e.1 0
 
-  elsewhere : (b : NetArc) (a : Arc) (u : ℕ) → IsArcOf nodes b a → here (b.0, u) ≡ 0
+  elsewhere : (b : NetArc) (a : IndexedArc) (u : ℕ) → IsArcOf nodes b a → here (b.0, u) ≡ 0
   elsewhere b a u is = let other = other_node b.0.1 n (λ e. none a.to (is.to ∙ ap (λ m. Some m) e)) in rw other refl
 
-  pub enters_none : (arcs : List NetArc) (numbers : List Arc) (units : List ℕ) → AreArcsOf nodes arcs numbers → units_at target (named_units arcs units) n ≡ 0
+  pub enters_none : (arcs : List NetArc) (numbers : List IndexedArc) (units : List ℕ) → AreArcsOf nodes arcs numbers → units_at target (named_units arcs units) n ≡ 0
   enters_none [] numbers units are = refl
   enters_none (b ∷ arcs) [] units are = absurd are
   enters_none (b ∷ arcs) (a ∷ numbers) [] are =

@@ -10,9 +10,9 @@ use Rattle.fm_net.specs.declared.node.Node.{Node}
 use Rattle.fm_net.specs.declared.node.Node.TheVariants.{Sink, Unscheduled, Request, Machine, Task}
 use Rattle.fm_net.specs.Nodes.{kind, node_cmp}
 use Rattle.fm_net.specs.NodeOrder.{node_total}
-use Rattle.fm_net.specs.Same.{same_node}
+use Rattle.fm_net.specs.NetworkEquality.{same_node}
 use Rattle.fm_certificate.proofs.Alike.{same_itself, other_node}
-use Rattle.fm_indexed.specs.Places.{count_below}
+use Rattle.fm_indexed.specs.NodeRanges.{count_below}
 
 none_there : {A P : Type 0} {x : A} → None ≡ Some x → P
 none_there e = absurd (let no : ⊥ = cc in no)

@@ -23,7 +23,7 @@ use Rattle.fm_net.specs.ListLaws.{entry_member}
 use Rattle.fm_net.specs.Net.{Net, CanBeNet, has_node, arc_at}
 use Rattle.fm_net.specs.Network.{is_live_of, is_held, live_tasks, is_node, arc_of, IsNetworkOf}
 use Rattle.fm_net.specs.NetworkLaws.{passes_some, only_if_some, where_true, live_entry}
-use Rattle.fm_net.specs.Same.{same_node, node_Decides}
+use Rattle.fm_net.specs.NetworkEquality.{same_node, node_Decides}
 use Rattle.fm_certificate.specs.Totals.{source, target}
 use Rattle.fm_certificate.proofs.Alike.{same_itself}
 use Rattle.fm_certificate.proofs.Least.{arc_member}

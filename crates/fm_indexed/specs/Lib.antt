@@ -1,5 +1,5 @@
-pub mod Ends
-pub mod Places
+pub mod ArcEnds
+pub mod NodeRanges
 pub mod Numbered
 pub mod Feasible
 pub mod Named

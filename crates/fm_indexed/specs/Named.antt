@@ -2,7 +2,7 @@
 use Rattle.std.specs.Prelude.{ℕ, ℤ, pos, List, [], ◌∷◌, cond, nat_eq, slice_index_or}
 use Rattle.fm_net.specs.declared.node.Node.{Node}
 use Rattle.fm_net.specs.declared.node.Node.TheVariants.{Sink}
-use Rattle.fm_cycles.specs.declared.arcs.Arc.{Arc}
+use Rattle.fm_cycles.specs.declared.indexed_arcs.IndexedArc.{IndexedArc}
 use Rattle.fm_indexed.specs.Numbered.{NetArc}
 
 -- the arcs with these units, in turn; 0 behind their end
@@ -22,14 +22,14 @@ abbrev pub name_at : List Node → ℕ → Node
 name_at nodes v = slice_index_or nodes v Sink
 
 -- the nodes at the ends of an arc
-abbrev pub ends_at : List Node → Arc → Node × Node
-ends_at nodes a = (name_at nodes a.from, name_at nodes a.to)
+abbrev pub named_ends : List Node → IndexedArc → Node × Node
+named_ends nodes a = (name_at nodes a.from, name_at nodes a.to)
 
 -- arcs by number with these units, in turn, by the nodes at their ends; 0 beyond the end of the units
-abbrev pub units_by : List Node → List Arc → List ℕ → List ((Node × Node) × ℕ)
+abbrev pub units_by : List Node → List IndexedArc → List ℕ → List ((Node × Node) × ℕ)
 units_by nodes [] units = []
-units_by nodes (a ∷ arcs) [] = (ends_at nodes a, 0) ∷ units_by nodes arcs []
-units_by nodes (a ∷ arcs) (u ∷ units) = (ends_at nodes a, u) ∷ units_by nodes arcs units
+units_by nodes (a ∷ arcs) [] = (named_ends nodes a, 0) ∷ units_by nodes arcs []
+units_by nodes (a ∷ arcs) (u ∷ units) = (named_ends nodes a, u) ∷ units_by nodes arcs units
 
 -- the nodes with these sums, in turn, except those whose sum is 0
 abbrev pub entered_by : List Node → List ℕ → List (Node × ℕ)

@@ -3,31 +3,31 @@ use Rattle.std.specs.Prelude.{◌≡◌, ℕ, ◌<◌, ◌^◌, List, [], ◌∷
 use Rattle.fm_net.specs.declared.node.Node.{Node}
 use Rattle.fm_net.specs.declared.node.Node.TheVariants as node
 use Rattle.fm_net.specs.Net.{Net}
-use Rattle.fm_cycles.specs.declared.arcs.Arc.{Arc}
+use Rattle.fm_cycles.specs.declared.indexed_arcs.IndexedArc.{IndexedArc}
 use Rattle.fm_cycles.specs.Residual.{AreArcs}
 use Rattle.fm_cycles.specs.Units.{AreCapacities}
-use Rattle.fm_indexed.specs.declared.places.Places.{Places}
-use Rattle.fm_indexed.specs.Places.{ArePlacesOf, kind_at, is_task}
+use Rattle.fm_indexed.specs.declared.node_ranges.NodeRanges.{NodeRanges}
+use Rattle.fm_indexed.specs.NodeRanges.{ArePlacesOf, kind_at, is_task}
 
 -- an arc of a network: its ends, its capacity and its cost
 abbrev pub NetArc : Type 0
 NetArc = (Node × Node) × (ℕ × ℕ)
 
 -- the ends are at their places, and capacity and cost are the arc's
-pub record IsArcOf (nodes : List Node) (arc : NetArc) (a : Arc) : Type 0 where
+pub record IsArcOf (nodes : List Node) (arc : NetArc) (a : IndexedArc) : Type 0 where
   pub from : slice_get nodes a.from ≡ Some arc.0.0
   pub to : slice_get nodes a.to ≡ Some arc.0.1
   pub capacity : a.capacity ≡ arc.1.0
   pub cost : a.cost ≡ arc.1.1
 
 -- one for each arc, in turn
-abbrev pub AreArcsOf : List Node → List NetArc → List Arc → Type 0
+abbrev pub AreArcsOf : List Node → List NetArc → List IndexedArc → Type 0
 AreArcsOf nodes [] [] = Unit {0}
 AreArcsOf nodes (arc ∷ arcs) (a ∷ numbers) = IsArcOf nodes arc a × AreArcsOf nodes arcs numbers
 AreArcsOf nodes _ _ = ⊥
 
 -- these are the places of the network's nodes, and these its arcs
-pub record IsNumbered (net : Net) (places : Places) (arcs : List Arc) : Type 0 where
+pub record IsNumbered (net : Net) (places : NodeRanges) (arcs : List IndexedArc) : Type 0 where
   pub at_places : ArePlacesOf net.nodes places
   pub of_arcs : AreArcsOf net.nodes net.arcs arcs
 
@@ -41,8 +41,8 @@ bandwidth_in (node.Task t) = None
 
 -- what is known of all networks by numbers: both ends of an arc are places of nodes, its numbers fit, and none leads to
 -- a task
-pub record IsFormed (places : Places) (arcs : List Arc) : Type 0 where
+pub record IsFormed (places : NodeRanges) (arcs : List IndexedArc) : Type 0 where
   pub few : places.end < 2 ^ 63
   pub ends : AreArcs arcs places.end
   pub capacities : AreCapacities arcs
-  pub targets : (i : ℕ) (a : Arc) → slice_get arcs i ≡ Some a → is_task (kind_at places a.to) ≡ false
+  pub targets : (i : ℕ) (a : IndexedArc) → slice_get arcs i ≡ Some a → is_task (kind_at places a.to) ≡ false

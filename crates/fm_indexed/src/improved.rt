@@ -6,8 +6,8 @@ ghost use Rattle.fm_cycles.specs.Residual.{residual};
 ghost use Rattle.fm_cycles.specs.Found.{costs_in};
 ghost use Rattle.fm_indexed.specs.Feasible.{IsFlowOf};
 
-use crate::numbered::Numbered;
-use fm_cycles::improve::improve_from;
+use crate::indexed_network::IndexedNetwork;
+use fm_cycles::cancel_all::cancel_negative_cycles;
 use fm_lattice::join::OutOfMemory;
 use std::alloc::Global;
 
@@ -16,7 +16,7 @@ use std::alloc::Global;
 /// If they are its potentials, they are only confirmed, in O(arcs). Refused if memory runs out, and for nothing else.
 pub fn improved(
     alloc: Global,
-    numbered: &Numbered,
+    numbered: &IndexedNetwork,
     units: Vec<u64>,
     first: Vec<i128>,
 ) -> Result<(Vec<u64>, Vec<i128>), OutOfMemory>
@@ -27,6 +27,6 @@ pub fn improved(
     ensures potentials { IfOk result
         (λ r. ArePotentials (residual numbered.now.arcs.items r.0.items) (costs_in r.1.items)) }
 {
-    let improved = improve_from(alloc, numbered.places.end, &numbered.arcs, units, first)?;
+    let improved = cancel_negative_cycles(alloc, numbered.places.end, &numbered.arcs, units, first)?;
     Ok(improved)
 }

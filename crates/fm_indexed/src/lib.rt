@@ -2,12 +2,12 @@
 //! potentials by number go back to flows and potentials of the network.
 #![tactic(auto)]
 
-pub mod feasible;
+pub mod feasible_units;
 pub mod improved;
-pub mod named;
-pub mod numbered;
+pub mod to_named;
+pub mod indexed_network;
 mod numbering;
-pub mod places;
+pub mod node_ranges;
 mod placing;
 pub mod sums;
 pub mod unscheduled;

@@ -2,12 +2,12 @@
 
 ghost use Rattle.std.specs.Prelude.{◌≡◌, IfOk};
 ghost use Rattle.std.specs.List.{filter_map};
-ghost use Rattle.fm_indexed.specs.Places.{ArePlacesOf};
+ghost use Rattle.fm_indexed.specs.NodeRanges.{ArePlacesOf};
 ghost use Rattle.fm_indexed.specs.Numbered.{AreArcsOf, bandwidth_in};
 
-use crate::places::Places;
+use crate::node_ranges::NodeRanges;
 use crate::placing::{GUESSES, place_by, place_of};
-use fm_cycles::arcs::Arc;
+use fm_cycles::indexed_arcs::IndexedArc;
 use fm_lattice::join::OutOfMemory;
 use fm_net::network::Network;
 use fm_net::node::Node;
@@ -26,8 +26,8 @@ pub(crate) fn arcs_of(
     alloc: Global,
     network: &Network,
     nodes: &[Node],
-    places: &Places,
-) -> Result<Vec<Arc>, OutOfMemory>
+    places: &NodeRanges,
+) -> Result<Vec<IndexedArc>, OutOfMemory>
     requires nodes { nodes.now ≡ network.now.nodes }
     requires places { ArePlacesOf nodes.now places.now }
     ensures { IfOk result (λ arcs. AreArcsOf nodes.now network.now.arcs arcs.items) }
@@ -40,7 +40,7 @@ pub(crate) fn arcs_of(
     for (source, target, capacity, cost) in network.arcs() {
         from = place_of(nodes, places, from, &source);
         to = place_by(nodes, places, to, &mut guesses, &target);
-        arcs.push(Arc {
+        arcs.push(IndexedArc {
             from,
             to,
             capacity,

@@ -4,9 +4,9 @@ ghost use Rattle.std.specs.Prelude.{◌≡◌, ◌↔◌, IsTrue, Some, slice_ge
 ghost use Rattle.fm_records.specs.Sets.{IsMember};
 ghost use Rattle.fm_records.specs.TableLaws.{Rises};
 ghost use Rattle.fm_net.specs.Nodes.{node_cmp};
-ghost use Rattle.fm_indexed.specs.Places.{ArePlacesOf};
+ghost use Rattle.fm_indexed.specs.NodeRanges.{ArePlacesOf};
 
-use crate::places::{Places, range_of};
+use crate::node_ranges::{NodeRanges, range_of};
 use fm_cycles::lookup::value_or;
 use fm_net::node::Node;
 
@@ -21,7 +21,7 @@ fn stands_at(nodes: &[Node], place: usize, node: &Node) -> bool
 }
 
 // The place of a node, looked for among its kind.
-fn search(nodes: &[Node], places: &Places, node: &Node) -> usize
+fn search(nodes: &[Node], places: &NodeRanges, node: &Node) -> usize
     requires rises { Rises node_cmp nodes.now }
     requires places { ArePlacesOf nodes.now places.now }
     requires stands { IsMember node.now nodes.now }
@@ -38,7 +38,7 @@ fn search(nodes: &[Node], places: &Places, node: &Node) -> usize
 }
 
 /// The place of a node, looked for at the guess, after it, and then among its kind.
-pub(crate) fn place_of(nodes: &[Node], places: &Places, guess: usize, node: &Node) -> usize
+pub(crate) fn place_of(nodes: &[Node], places: &NodeRanges, guess: usize, node: &Node) -> usize
     requires rises { Rises node_cmp nodes.now }
     requires places { ArePlacesOf nodes.now places.now }
     requires stands { IsMember node.now nodes.now }
@@ -79,7 +79,7 @@ fn slot_of(node: &Node) -> usize {
 /// is the guess from then on. Nodes share guesses, so that a guess may be wrong.
 pub(crate) fn place_by(
     nodes: &[Node],
-    places: &Places,
+    places: &NodeRanges,
     near: usize,
     guesses: &mut [usize],
     node: &Node,

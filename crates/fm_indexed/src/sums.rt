@@ -1,11 +1,11 @@
 //! What enters and leaves each node.
 
 ghost use Rattle.std.specs.Prelude.{◌≡◌, ◌<◌, ℕ, vec_len, slice_index, IfOk};
-ghost use Rattle.fm_cycles.specs.Units.{entering, leaving, units_at};
-ghost use Rattle.fm_indexed.specs.Ends.{end_of};
+ghost use Rattle.fm_cycles.specs.Units.{units_in, units_out, units_with_end};
+ghost use Rattle.fm_indexed.specs.ArcEnds.{node_at_end};
 
-use crate::numbered::Numbered;
-use fm_cycles::arcs::Arc;
+use crate::indexed_network::IndexedNetwork;
+use fm_cycles::indexed_arcs::IndexedArc;
 use fm_cycles::lookup::value_or;
 use fm_lattice::join::OutOfMemory;
 use std::alloc::Global;
@@ -32,19 +32,19 @@ pub(crate) enum End {
 }
 
 /// The units that enter each node. O(arcs).
-pub fn inflow(alloc: Global, numbered: &Numbered, units: &[u64]) -> Result<Vec<u128>, OutOfMemory>
+pub fn inflow(alloc: Global, numbered: &IndexedNetwork, units: &[u64]) -> Result<Vec<u128>, OutOfMemory>
     ensures sized { IfOk result (λ sums. vec_len sums ≡ numbered.now.places.end) }
     ensures sums { IfOk result (λ sums. (v : ℕ) → v < numbered.now.places.end
-        → slice_index sums.items v ≡ entering numbered.now.arcs.items units.now v) }
+        → slice_index sums.items v ≡ units_in numbered.now.arcs.items units.now v) }
 {
     sums_of(alloc, numbered, units, End::Target)
 }
 
 /// The units that leave each node. O(arcs).
-pub fn outflow(alloc: Global, numbered: &Numbered, units: &[u64]) -> Result<Vec<u128>, OutOfMemory>
+pub fn outflow(alloc: Global, numbered: &IndexedNetwork, units: &[u64]) -> Result<Vec<u128>, OutOfMemory>
     ensures sized { IfOk result (λ sums. vec_len sums ≡ numbered.now.places.end) }
     ensures sums { IfOk result (λ sums. (v : ℕ) → v < numbered.now.places.end
-        → slice_index sums.items v ≡ leaving numbered.now.arcs.items units.now v) }
+        → slice_index sums.items v ≡ units_out numbered.now.arcs.items units.now v) }
 {
     sums_of(alloc, numbered, units, End::Source)
 }
@@ -52,13 +52,13 @@ pub fn outflow(alloc: Global, numbered: &Numbered, units: &[u64]) -> Result<Vec<
 // The units of the arcs that have this end at each node.
 fn sums_of(
     alloc: Global,
-    numbered: &Numbered,
+    numbered: &IndexedNetwork,
     units: &[u64],
     end: End,
 ) -> Result<Vec<u128>, OutOfMemory>
     ensures sized { IfOk result (λ sums. vec_len sums ≡ numbered.now.places.end) }
     ensures sums { IfOk result (λ sums. (v : ℕ) → v < numbered.now.places.end
-        → slice_index sums.items v ≡ units_at (end_of end) numbered.now.arcs.items units.now v) }
+        → slice_index sums.items v ≡ units_with_end (node_at_end end) numbered.now.arcs.items units.now v) }
 {
     let mut sums = vec![in alloc; 0u128; numbered.places.end]?;
     for (place, arc) in numbered.arcs.iter().enumerate() {
@@ -71,8 +71,8 @@ fn sums_of(
 }
 
 // The node at this end of the arc.
-fn end_of(end: End, arc: &Arc) -> usize
-    ensures { result ≡ end_of end arc.now }
+fn end_of(end: End, arc: &IndexedArc) -> usize
+    ensures { result ≡ node_at_end end arc.now }
 {
     match end {
         End::Source => arc.from,

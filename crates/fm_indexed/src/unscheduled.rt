@@ -1,24 +1,24 @@
 //! All tasks unscheduled.
 
 ghost use Rattle.std.specs.Prelude.{◌≡◌, ◌^◌, ◌-◌, IfOk, map, min, slice_index};
-ghost use Rattle.fm_indexed.specs.Places.{kind_at};
-ghost use Rattle.fm_indexed.specs.Unscheduled.{AreFlows, all_unscheduled, unscheduled_by, waiting};
+ghost use Rattle.fm_indexed.specs.NodeRanges.{kind_at};
+ghost use Rattle.fm_indexed.specs.Unscheduled.{AreFlows, all_unscheduled, unscheduled_by, unit_on_job_arcs};
 
-use crate::numbered::Numbered;
-use crate::places::{Kind, Places};
+use crate::indexed_network::IndexedNetwork;
+use crate::node_ranges::{NodeKind, NodeRanges};
 use crate::sums::{inflow, sum_at};
-use fm_cycles::arcs::Arc;
+use fm_cycles::indexed_arcs::IndexedArc;
 use fm_lattice::join::OutOfMemory;
 use std::alloc::Global;
 
 // The units on an arc, if so many enter its source.
-fn units_on(places: &Places, arc: &Arc, entered: u64) -> u64
+fn units_on(places: &NodeRanges, arc: &IndexedArc, entered: u64) -> u64
     ensures { result ≡ unscheduled_by (kind_at places.now arc.now.to) entered }
 {
     match places.kind(arc.to) {
-        Kind::Sink => entered,
-        Kind::Unscheduled(_) => 1,
-        Kind::Request(_) | Kind::Machine(_) | Kind::Task(_) => 0,
+        NodeKind::Sink => entered,
+        NodeKind::Unscheduled(_) => 1,
+        NodeKind::Request(_) | NodeKind::Machine(_) | NodeKind::Task(_) => 0,
     }
 }
 
@@ -30,8 +30,8 @@ fn entered_at(entered: &[u128], place: usize) -> u64
 }
 
 // A unit on each arc to a job.
-fn leave(alloc: Global, numbered: &Numbered) -> Result<Vec<u64>, OutOfMemory>
-    ensures { IfOk result (λ units. units.items ≡ waiting numbered.now.places numbered.now.arcs.items) }
+fn leave(alloc: Global, numbered: &IndexedNetwork) -> Result<Vec<u64>, OutOfMemory>
+    ensures { IfOk result (λ units. units.items ≡ unit_on_job_arcs numbered.now.places numbered.now.arcs.items) }
 {
     let units = numbered
         .arcs
@@ -42,7 +42,7 @@ fn leave(alloc: Global, numbered: &Numbered) -> Result<Vec<u64>, OutOfMemory>
 }
 
 // The same, and on each arc to the sink as many as enter its source.
-fn drain(alloc: Global, numbered: &Numbered, entered: &[u128]) -> Result<Vec<u64>, OutOfMemory>
+fn drain(alloc: Global, numbered: &IndexedNetwork, entered: &[u128]) -> Result<Vec<u64>, OutOfMemory>
     ensures { IfOk result (λ units. units.items ≡ map
         (λ a. unscheduled_by (kind_at numbered.now.places a.to)
         (min (slice_index entered.now a.from) (2 ^ 64 - 1))) numbered.now.arcs.items) }
@@ -56,7 +56,7 @@ fn drain(alloc: Global, numbered: &Numbered, entered: &[u128]) -> Result<Vec<u64
 }
 
 /// A unit from each task to its job, and on to the sink. O(arcs).
-pub fn unscheduled(alloc: Global, numbered: &Numbered) -> Result<Vec<u64>, OutOfMemory>
+pub fn unscheduled(alloc: Global, numbered: &IndexedNetwork) -> Result<Vec<u64>, OutOfMemory>
     ensures { IfOk result (λ units. units.items ≡ all_unscheduled numbered.now.places numbered.now.arcs.items) }
 {
     let left = leave(alloc, numbered)?;

@@ -1,6 +1,6 @@
 pub mod Sources
 pub mod Lines
-pub mod Reads
+pub mod LineReads
 pub mod Replies
 pub mod Runs
-pub mod Examples
+pub mod LineExamples

@@ -7,16 +7,16 @@ use Rattle.fm_records.specs.declared.refusal.Refusal.TheVariants.{OutOfMemory, B
 use Rattle.fm_dimacs.specs.Sending.{AppendsPrefix}
 use Rattle.fm_io.specs.Sources.{Streams}
 use Rattle.fm_io.specs.Lines.{lines_of, IsLine, with_line_feed}
-use Rattle.fm_io.specs.Reads.{most_line}
+use Rattle.fm_io.specs.LineReads.{most_line}
 use Rattle.fm_io.specs.Replies.{refusal_reply}
 
 -- a line is refused unread: memory ran out for it, or it is too long
-abbrev pub IsUnread : List ℕ → List ℕ → Type 0
-IsUnread line text = (text ≡ refusal_reply OutOfMemory) ⊎ ((most_line < length line) × (text ≡ refusal_reply (BadScript 0)))
+abbrev pub IsSkipped : List ℕ → List ℕ → Type 0
+IsSkipped line text = (text ≡ refusal_reply OutOfMemory) ⊎ ((most_line < length line) × (text ≡ refusal_reply (BadScript 0)))
 
 -- a line is answered so, and makes new of old: it is refused unread and changes nothing, or the responder answers it
 abbrev pub IsTaken : {D : Type 0} → (D → List ℕ → List ℕ → D → Type 0) → D → List ℕ → List ℕ → D → Type 0
-IsTaken Answers old line text new = (IsUnread line text × (new ≡ old)) ⊎ Answers old line text new
+IsTaken Answers old line text new = (IsSkipped line text × (new ≡ old)) ⊎ Answers old line text new
 
 -- lines in turn: their answers one after another, each by what those before it left
 abbrev pub Run : {D : Type 0} → (D → List ℕ → List ℕ → D → Type 0) → D → List (List ℕ) → List ℕ → D → Type 0
@@ -44,9 +44,9 @@ AreFollowed (Err (BadScript n)) text lines streams = IsCutOff text lines streams
 AreFollowed (Err r) text lines streams = ⊥
 
 -- all answers went out; or the sink failed, and a prefix of them did
-abbrev pub WentOut : {T : Type 0} → Result T Refusal → List ℕ → Streams → Type 0
-WentOut (Err WriteFault) text streams = AppendsPrefix streams.old streams.new text × (streams.has_failed ≡ true)
-WentOut r text streams = Appends streams.old streams.new text × (streams.has_failed ≡ streams.had_failed)
+abbrev pub IsWritten : {T : Type 0} → Result T Refusal → List ℕ → Streams → Type 0
+IsWritten (Err WriteFault) text streams = AppendsPrefix streams.old streams.new text × (streams.has_failed ≡ true)
+IsWritten r text streams = Appends streams.old streams.new text × (streams.has_failed ≡ streams.had_failed)
 
 -- a stream was followed: what was read of it, the lines of that, and their answers, of which as much went out as is
 -- said
@@ -57,4 +57,4 @@ pub record IsFollowed {D T : Type 0} (Answers : D → List ℕ → List ℕ → 
   pub followed : AreFollowed result text lines streams
   pub answers : List ℕ
   pub run : Run Answers old lines answers new
-  pub went : WentOut result answers streams
+  pub went : IsWritten result answers streams

@@ -5,7 +5,7 @@ use Rattle.fm_records.specs.declared.refusal.Refusal.{Refusal}
 use Rattle.fm_records.specs.declared.refusal.Refusal.TheVariants.{OutOfMemory, BadScript}
 
 -- the source gave the first n bytes of the piece, and none of them only at its end or if there is no room
-pub record Gives (old new : Option (List ℕ)) (n : ℕ) (piece : List ℕ) : Type 0 where
+pub record SourceGives (old new : Option (List ℕ)) (n : ℕ) (piece : List ℕ) : Type 0 where
   pub consumed : Consumes old new (take n piece)
   pub at_end : n ≡ 0 → 0 < length piece → IsAtEnd new
 

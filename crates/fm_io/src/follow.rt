@@ -2,7 +2,7 @@
 
 ghost use Rattle.std.specs.Prelude.{ℕ, List, IsOkUnless};
 ghost use Rattle.fm_dimacs.specs.Sending.{IsSent};
-ghost use Rattle.fm_io.specs.Reads.{IsKept};
+ghost use Rattle.fm_io.specs.LineReads.{IsKeptLine};
 ghost use Rattle.fm_io.specs.Runs.{IsTaken, IsFollowed};
 
 use crate::lines::{Line, Next, next_line};
@@ -51,7 +51,7 @@ fn reply<D: Responder, W: Sink>(
     line: &[u8],
     sink: &mut W,
 ) -> Result<(), Refusal>
-    ensures taken { (whole : List ℕ) → IsKept kept whole line.now → (text : List ℕ)
+    ensures taken { (whole : List ℕ) → IsKeptLine kept whole line.now → (text : List ℕ)
         × IsTaken D.answers responder.old whole text responder.new
         × IsSent result (W.written sink.old) (W.written sink.new) (W.has_failed sink.old) (W.has_failed sink.new) text }
     ensures cause { IsOkUnless result Refusal.WriteFault }

@@ -4,7 +4,7 @@ ghost use Rattle.std.specs.Prelude.{◌≡◌, ◌⊎◌, ◌≤◌, ℕ, List, 
 ghost use Rattle.std.specs.Option.{option_to_list};
 ghost use Rattle.std.specs.Io.KnownBytes.{Consumes, IsAtEnd};
 ghost use Rattle.fm_io.specs.Lines.{IsLine};
-ghost use Rattle.fm_io.specs.Reads.{IsKept, IsNext, is_last};
+ghost use Rattle.fm_io.specs.LineReads.{IsKeptLine, IsNextLine, is_last};
 ghost use Rattle.fm_io.specs.Runs.{most_counted};
 
 use fm_records::refusal::Refusal;
@@ -41,7 +41,7 @@ pub enum Next {
 pub fn next_line<S: Source>(source: &mut S, line: &mut Vec<u8>) -> Result<Next, Refusal>
     ensures next { IfOk result (λ next. (bytes : List ℕ)
         × Consumes (S.remaining source.old) (S.remaining source.new) bytes
-        × IsNext next bytes line.new.items) }
+        × IsNextLine next bytes line.new.items) }
     ensures end { IfOk result (λ next. is_last next ≡ true → IsAtEnd (S.remaining source.new)) }
     ensures err { OnErr result ((bytes : List ℕ) × Consumes (S.remaining source.old) (S.remaining source.new) bytes
         × IsLine bytes
@@ -65,7 +65,7 @@ fn end_of(kept: Line, is_empty: bool) -> Next
     ensures last { is_last result ≡ true }
     ensures next { (bytes line : List ℕ) → IsLine bytes → (is_empty ≡ true → bytes ≡ [])
         → (is_empty ≡ false → 0 < length bytes)
-        → IsKept kept bytes line → IsNext result bytes line }
+        → IsKeptLine kept bytes line → IsNextLine result bytes line }
 {
     if is_empty {
         Next::End
@@ -76,7 +76,7 @@ fn end_of(kept: Line, is_empty: bool) -> Next
 
 // Keeps one byte more of a line, while it is not too long and there is memory.
 fn keep(kept: Line, line: &mut Vec<u8>, byte: u8) -> Line
-    ensures { (bytes : List ℕ) → IsKept kept bytes line.old.items → IsKept result (bytes ++ byte ∷ []) line.new.items }
+    ensures { (bytes : List ℕ) → IsKeptLine kept bytes line.old.items → IsKeptLine result (bytes ++ byte ∷ []) line.new.items }
 {
     match kept {
         Line::Whole => push_to(line, byte),
@@ -87,8 +87,8 @@ fn keep(kept: Line, line: &mut Vec<u8>, byte: u8) -> Line
 
 // The same of a line that is whole so far.
 fn push_to(line: &mut Vec<u8>, byte: u8) -> Line
-    ensures { (bytes : List ℕ) → IsKept Line.Whole bytes line.old.items
-        → IsKept result (bytes ++ byte ∷ []) line.new.items }
+    ensures { (bytes : List ℕ) → IsKeptLine Line.Whole bytes line.old.items
+        → IsKeptLine result (bytes ++ byte ∷ []) line.new.items }
 {
     if line.len() >= MOST_LINE {
         return Line::TooLong;

@@ -2,7 +2,7 @@
 
 ghost use Rattle.std.specs.Prelude.{◌≡◌, ◌≤◌, ◌||◌, ℕ, List, Bool, Option, false, is_none, length, IfSome, MatchOption};
 ghost use Rattle.std.specs.Io.KnownBytes.{Keeps};
-ghost use Rattle.fm_io.specs.Sources.{Gives};
+ghost use Rattle.fm_io.specs.Sources.{SourceGives};
 
 use std::io::{ErrorKind, Read};
 use std::marker::Model;
@@ -20,7 +20,7 @@ pub trait Source {
     fn get(&mut self, piece: &mut [u8]) -> Option<usize>
         ensures within { IfSome result (λ n. n ≤ length piece.new) }
         ensures gives { MatchOption result (Keeps (remaining self.old) (remaining self.new))
-            (λ n. Gives (remaining self.old) (remaining self.new) n piece.new) }
+            (λ n. SourceGives (remaining self.old) (remaining self.new) n piece.new) }
         ensures fails { has_failed self.new ≡ (has_failed self.old || is_none result) };
 }
 
@@ -70,7 +70,7 @@ impl<R: Read> Source for Input<R> {
 fn read_some<R: Read>(reader: &mut R, piece: &mut [u8]) -> Option<usize>
     ensures within { IfSome result (λ n. n ≤ length piece.new) }
     ensures gives { MatchOption result (Keeps (R.remaining reader.old) (R.remaining reader.new))
-        (λ n. Gives (R.remaining reader.old) (R.remaining reader.new) n piece.new) }
+        (λ n. SourceGives (R.remaining reader.old) (R.remaining reader.new) n piece.new) }
 {
     for _ in 0..u64::MAX {
         match reader.read(piece) {

@@ -22,8 +22,8 @@ use Rattle.fm_records.specs.Table.{Table, TaskValue, MachineValue}
 use Rattle.fm_records.specs.Know.{none_begun, know, job_in, state_in, progress_in, job, task, machine, machine_at, incarnation, state_at}
 use Rattle.fm_records.specs.LookupLaws.{lookup_job, lookup_task, lookup_machine}
 use Rattle.fm_records.specs.RangeLaws.{know_table}
-use Rattle.fm_records.specs.Spelled.{IsTable}
-use Rattle.fm_records.specs.Facts.{job_of, state_of, incarnation_of, progress_of, attempt_of}
+use Rattle.fm_records.specs.OpsOfTable.{IsTable}
+use Rattle.fm_records.specs.Facts.{job_of, machine_state, incarnation_of, progress_of, attempt_of}
 use Rattle.fm_records.specs.Joined.{table_join, task_join, machine_join}
 use Rattle.fm_know.specs.Mutators.{next_version, job_version, state_version}
 
@@ -128,7 +128,7 @@ module _ (k : Table) (form : IsTable k) where
         ∙ ap (option_join machine_join (lookup nat_cmp id k.machines)) (lookup_machine (told_op ∷ []) id ∙ one)
 
     module _ (h : next_version (state_version k id i) ≡ Some v) (below : IfSome (incarnation_of k id) (λ p. p ≤ i)) where
-      pub state_told : state_of (table_join k (know (told_op ∷ []))) id ≡ state_in id i told_op
+      pub state_told : machine_state (table_join k (know (told_op ∷ []))) id ≡ state_in id i told_op
       state_told =
           let itself : (id == id) ≡ true = eq-eqb id id refl in
           let present : (i == i) ≡ true = eq-eqb i i refl in

@@ -9,7 +9,7 @@ use Rattle.fm_records.specs.Options.{and_then, only_if, or_else, passes}
 use Rattle.fm_records.specs.Know.{none_begun}
 use Rattle.fm_records.specs.Table.{Table, TaskValue, MachineValue}
 use Rattle.fm_records.specs.Facts.{is_done, is_present, job_stands, live_spec, open_state, winner_of, holder_of}
-use Rattle.fm_know.specs.Records.{live_in, holder_in, state_in}
+use Rattle.fm_know.specs.Records.{live_in, holder_in, open_state_in}
 
 abbrev how_far : Option TaskValue → Progress
 how_far o = or_else none_begun (option_map (λ v. v.1) o)
@@ -23,5 +23,5 @@ live_found k t v found = ap (live_at k) (sym found)
 pub holder_found : (k : Table) (t : ℕ) (v : TaskValue) → lookup nat_cmp t k.tasks ≡ Some v → holder_in k t v ≡ holder_of k t
 holder_found k t v found = ap (λ o. cond (passes (λ s. true) (live_at k o)) (option_map (λ s. s.machine) (only_if (is_present k) (option_map (λ w. w.1) (winner_of k t (how_far o).attempt)))) None) (sym found)
 
-pub state_found : (k : Table) (m : ℕ) (v : MachineValue) → lookup nat_cmp m k.machines ≡ Some v → state_in v ≡ open_state k m
+pub state_found : (k : Table) (m : ℕ) (v : MachineValue) → lookup nat_cmp m k.machines ≡ Some v → open_state_in v ≡ open_state k m
 state_found k m v found = ap (λ o. only_if (λ r. r.up) (and_then (λ r. r.1.0) o)) (sym found)

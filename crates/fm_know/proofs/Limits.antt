@@ -10,11 +10,11 @@ use Rattle.fm_records.specs.declared.records.JobReg.{JobReg}
 use Rattle.fm_records.specs.declared.records.SpecReg.{SpecReg}
 use Rattle.fm_records.specs.declared.records.MachineReg.{MachineReg}
 use Rattle.fm_records.specs.Table.{Table, TaskValue, MachineValue}
-use Rattle.fm_records.specs.Spelled.{job_op, spec_op, machine_op, task_ops, machine_ops}
+use Rattle.fm_records.specs.OpsOfTable.{job_op, spec_op, machine_op, task_ops, machine_ops}
 use Rattle.fm_records.specs.Ranges.{CanBe, in_range, all_in_range}
 use Rattle.fm_records.specs.RangeLaws.{job_in_range, task_in_range, machine_in_range}
 use Rattle.fm_records.specs.Options.{and_then, only_if}
-use Rattle.fm_records.specs.Facts.{job_of, spec_of, live_spec, state_of, open_state}
+use Rattle.fm_records.specs.Facts.{job_of, spec_of, live_spec, machine_state, open_state}
 use Rattle.fm_know.specs.Limits.{JobWithin, SpecWithin, StateWithin}
 
 and_left : (a b : Bool) → a && b ≡ true → a ≡ true
@@ -58,7 +58,7 @@ module _ (k : Table) (is : CanBe k) where
   of_machine m (i, (None, r)) h = tt
   of_machine m (i, (Some s, r)) h = state_within m i s (and_left _ _ h)
 
-  state_limits : (m : ℕ) → IfSome (state_of k m) StateWithin
+  state_limits : (m : ℕ) → IfSome (machine_state k m) StateWithin
   state_limits m = elim (lookup nat_cmp m k.machines) as (λ o. lookup nat_cmp m k.machines ≡ o → IfSome (and_then (λ v. v.1.0) o) StateWithin) [ None ↦ λ _. tt | Some v ↦ λ e. of_machine m v (machine_in_range k is m v e) ] refl
 
   kept : {A : Type 0} (P : A → Type 0) (test : A → Bool) (o : Option A) → IfSome o P → IfSome (only_if test o) P
@@ -69,4 +69,4 @@ module _ (k : Table) (is : CanBe k) where
   live_limits t = kept SpecWithin _ (spec_of k t) (spec_limits t)
 
   pub open_limits : (m : ℕ) → IfSome (open_state k m) StateWithin
-  open_limits m = kept StateWithin _ (state_of k m) (state_limits m)
+  open_limits m = kept StateWithin _ (machine_state k m) (state_limits m)

@@ -7,7 +7,7 @@ use Rattle.fm_records.specs.declared.ops.Phase.TheVariants.{Pending}
 use Rattle.fm_records.specs.Options.{when, passes}
 use Rattle.fm_records.specs.Ranges.{is_count, is_attempt}
 use Rattle.fm_records.specs.Table.{Table}
-use Rattle.fm_records.specs.Facts.{job_of, state_of, incarnation_of, attempt_of}
+use Rattle.fm_records.specs.Facts.{job_of, machine_state, incarnation_of, attempt_of}
 
 -- the version after the known one, if there is a greater; 1 if none is known
 abbrev pub next_version : Option ℕ → Option ℕ
@@ -20,7 +20,7 @@ job_version k id = option_map (λ r. r.version) (job_of k id)
 
 -- the version of the machine's state, if the incarnation is the present one and its state is known
 abbrev pub state_version : Table → ℕ → ℕ → Option ℕ
-state_version k id incarnation = cond (passes (λ i. i == incarnation) (incarnation_of k id)) (option_map (λ r. r.version) (state_of k id)) None
+state_version k id incarnation = cond (passes (λ i. i == incarnation) (incarnation_of k id)) (option_map (λ r. r.version) (machine_state k id)) None
 
 -- the job at its next version
 abbrev pub next_job_op : Table → ℕ → ℕ → Bool → ℕ → ℕ → Option Op

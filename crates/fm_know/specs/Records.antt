@@ -19,5 +19,5 @@ abbrev pub holder_in : Table → ℕ → TaskValue → Option ℕ
 holder_in k t v = cond (passes (λ s. true) (live_in k v)) (placed_in k t v) None
 
 -- the state of an open machine
-abbrev pub state_in : MachineValue → Option MachineReg
-state_in v = only_if (λ r. r.up) v.1.0
+abbrev pub open_state_in : MachineValue → Option MachineReg
+open_state_in v = only_if (λ r. r.up) v.1.0

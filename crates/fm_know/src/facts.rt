@@ -5,7 +5,7 @@ ghost use Rattle.std.specs.Ordering.{nat_cmp};
 ghost use Rattle.fm_lattice.specs.Maps.{lookup};
 ghost use Rattle.fm_records.specs.Facts.{job_of, spec_of, progress_of, is_done, live_spec, is_live, job_stands, open_state, is_open, is_present, used_of, winner_of, won_spot, holder_of, held_tasks, holds, request_of, load_of, spare_of};
 ghost use Rattle.fm_know.specs.Winners.{as_winner};
-ghost use Rattle.fm_know.specs.Records.{live_in, placed_in, holder_in, state_in};
+ghost use Rattle.fm_know.specs.Records.{live_in, placed_in, holder_in, open_state_in};
 ghost use Rattle.fm_know.specs.Limits.{JobWithin, SpecWithin, StateWithin};
 
 use crate::knowledge::Knowledge;
@@ -260,7 +260,7 @@ fn live_in(known: &Knowledge, task: &TaskRec) -> Option<SpecReg>
 
 // The state of the record, if the machine is open.
 fn state_in(machine: &MachineRec) -> Option<MachineReg>
-    ensures { result ≡ state_in machine.now }
+    ensures { result ≡ open_state_in machine.now }
 {
     match &machine.1.0.0 {
         Some(state) if state.0.up => Some(state.0),

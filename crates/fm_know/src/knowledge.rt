@@ -7,7 +7,7 @@ ghost use Rattle.fm_records.specs.Joined.{table_join};
 
 use fm_lattice::join::{Join, OutOfMemory};
 use fm_lattice::map::{JoinMap, join_four};
-use fm_lattice::plain::{Max, Min};
+use fm_lattice::constructors::{Max, Min};
 use fm_records::ids::{CoordId, JobId, MachineId, TaskId};
 use fm_records::records::{JobReg, MachineRec, Spot, TaskRec};
 use std::alloc::Global;
@@ -174,7 +174,7 @@ impl Join for Knowledge {
 }
 
 impl PartialEq for Knowledge {
-    ghost use Rattle.fm_know.specs.Same.{same_table, table_equivalence};
+    ghost use Rattle.fm_know.specs.KnowledgeEquality.{same_table, table_equivalence};
 
     ghost eq = { same_table };
 

@@ -4,7 +4,7 @@ ghost use Rattle.std.specs.Prelude.{◌≡◌, List};
 ghost use Rattle.fm_records.specs.declared.ops.Op.{Op};
 ghost use Rattle.fm_records.specs.Sets.{HaveSameMembers};
 ghost use Rattle.fm_records.specs.Know.{know};
-ghost use Rattle.fm_records.specs.Spelled.{ops};
+ghost use Rattle.fm_records.specs.OpsOfTable.{ops};
 ghost use Rattle.fm_records.specs.Ranges.{CanBe};
 
 use crate::knowledge::Knowledge;

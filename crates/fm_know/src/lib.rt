@@ -6,5 +6,5 @@ pub mod facts;
 pub mod knowledge;
 pub mod laws;
 pub mod mutators;
-pub mod parts;
-pub mod told;
+pub mod from_maps;
+pub mod from_ops;

@@ -3,7 +3,7 @@
 ghost use Rattle.std.specs.Prelude.{◌≡◌, ◌≤◌, ◌∷◌, [], Some, IfOk, IfSome};
 ghost use Rattle.std.specs.Option.{ok_or};
 ghost use Rattle.fm_records.specs.Know.{know, job_in, progress_in, state_in, none_begun};
-ghost use Rattle.fm_records.specs.Facts.{job_of, progress_of, incarnation_of, state_of};
+ghost use Rattle.fm_records.specs.Facts.{job_of, progress_of, incarnation_of, machine_state};
 ghost use Rattle.fm_records.specs.Joined.{table_join};
 ghost use Rattle.fm_know.specs.Mutators.{next_version, job_version, state_version, next_job_op, next_machine_op, next_attempt_op};
 
@@ -54,7 +54,7 @@ impl Knowledge {
         ensures op { result
             ≡ ok_or (next_machine_op self.now id incarnation writer up slots nic) Refusal.VersionsSpent }
         ensures told { IfSome (incarnation_of self.now id) (λ i. i ≤ incarnation)
-            → IfOk result (λ o. state_of (table_join self.now (know (o ∷ []))) id ≡ state_in id incarnation o) }
+            → IfOk result (λ o. machine_state (table_join self.now (know (o ∷ []))) id ≡ state_in id incarnation o) }
         ensures present { IfSome (incarnation_of self.now id) (λ i. i ≤ incarnation)
             → IfOk result (λ o. incarnation_of (table_join self.now (know (o ∷ []))) id ≡ Some incarnation) }
     {

@@ -8,7 +8,7 @@ use Rattle.std.proofs.lemmas.Bool.{cases_order}
 use Rattle.std.proofs.lemmas.List.{get_or_default}
 use Rattle.fm_lattice.specs.Chains.{TellsApart}
 use Rattle.fm_lattice.specs.Maps.{IsRising}
-use Rattle.fm_lattice.specs.Places.{IsAt, IsGap}
+use Rattle.fm_lattice.specs.SortedVec.{HasKeyAt, IsInsertionIndex}
 use Rattle.fm_lattice.proofs.Places.{rising_at}
 
 pub less_of : (o : Ordering) → is_lt o ≡ true → o ≡ Less
@@ -22,7 +22,7 @@ equal_of Equal h = cc
 equal_of Greater h = absurd (let no : ⊥ = cc in no)
 
 module _ {K V : Type 0} (cmp : K → K → Ordering) (total : IsTotalOrder cmp) (same : TellsApart cmp) where
-  pub behind : (es : List (K × V)) (k : K) (last : ℕ) (pair : K × V) → IsRising cmp es → last + 1 ≡ length es → pair ≡ get_or es last pair → cmp pair.0 k ≡ Less → IsGap cmp es k (length es)
+  pub behind : (es : List (K × V)) (k : K) (last : ℕ) (pair : K × V) → IsRising cmp es → last + 1 ≡ length es → pair ≡ get_or es last pair → cmp pair.0 k ≡ Less → IsInsertionIndex cmp es k (length es)
   behind es k last pair rises is_last read less = record {
     in_range = omega arith;
     before = λ j d lt.
@@ -36,7 +36,7 @@ module _ {K V : Type 0} (cmp : K → K → Ordering) (total : IsTotalOrder cmp) 
   }
 
   -- a key that equals that of the pair at a place is there
-  pub stands_at : (es : List (K × V)) (k : K) (i : ℕ) (pair : K × V) → i < length es → pair ≡ get_or es i pair → cmp pair.0 k ≡ Equal → IsAt cmp es k i
+  pub stands_at : (es : List (K × V)) (k : K) (i : ℕ) (pair : K × V) → i < length es → pair ≡ get_or es i pair → cmp pair.0 k ≡ Equal → HasKeyAt cmp es k i
   stands_at es k i pair within read equal = record {
     in_range = within;
     has_key = λ d. ap (λ (p : K × V). cmp p.0 k) (get_or_default es i d pair within ∙ sym read) ∙ equal;

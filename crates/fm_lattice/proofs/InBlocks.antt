@@ -9,7 +9,7 @@ use Rattle.std.specs.declared.cmp.Ordering.TheVariants.{Less}
 use Rattle.fm_lattice.specs.Chains.{TellsApart, by_order, by_cases, less_greater, greater_less}
 use Rattle.fm_lattice.specs.Maps.{lookup, IsBelow, IsRising, put}
 use Rattle.fm_lattice.specs.MapLaws.{below_trans, lookup_below}
-use Rattle.fm_lattice.specs.Places.{IsAt, IsGap}
+use Rattle.fm_lattice.specs.SortedVec.{HasKeyAt, IsInsertionIndex}
 use Rattle.fm_lattice.specs.Stocks.{Stock}
 use Rattle.fm_lattice.specs.Blocks.{pairs_of, BeginsWith, AreHeaded, IsAbove, IsBlockOf}
 use Rattle.fm_lattice.proofs.Places.{below_at}
@@ -131,7 +131,7 @@ module _ {K V : Type 0} (cmp : K → K → Ordering) (total : IsTotalOrder cmp) 
     above_block [] bs i d h r lt = tt
     above_block (x ∷ es) bs i d h r lt = (below_at cmp total same x.0 bs i d (below_blocks x.0 bs h (below_back x.0 es (pairs_of bs) r.0)) lt, above_block es bs i d h r.1 lt)
 
-    pub block_at : (bs : List (K × Stock (K × V))) (k : K) (i : ℕ) → AreHeaded bs → IsRising cmp (pairs_of bs) → IsAt cmp bs k i → IsBlockOf cmp k bs i
+    pub block_at : (bs : List (K × Stock (K × V))) (k : K) (i : ℕ) → AreHeaded bs → IsRising cmp (pairs_of bs) → HasKeyAt cmp bs k i → IsBlockOf cmp k bs i
     block_at [] k i h r at = absurd (omega (arith, at.in_range))
     block_at (c ∷ bs) k zero h r at = subst (λ z. IsBelow cmp z (pairs_of bs)) (same c.0 k (at.has_key c)) (first_apart c.0 c.1.items (pairs_of bs) h.0 r)
     block_at (c ∷ bs) k (suc i) h r at =
@@ -140,7 +140,7 @@ module _ {K V : Type 0} (cmp : K → K → Ordering) (total : IsTotalOrder cmp) 
           block_at bs k i h.1 (rising_back c.1.items (pairs_of bs) r) (record { in_range = inside; has_key = λ d. at.has_key d }),
         )
 
-    pub block_before : (bs : List (K × Stock (K × V))) (k : K) (i : ℕ) → AreHeaded bs → IsRising cmp (pairs_of bs) → IsGap cmp bs k (suc i) → IsBlockOf cmp k bs i
+    pub block_before : (bs : List (K × Stock (K × V))) (k : K) (i : ℕ) → AreHeaded bs → IsRising cmp (pairs_of bs) → IsInsertionIndex cmp bs k (suc i) → IsBlockOf cmp k bs i
     block_before [] k i h r gap = absurd (omega (arith, gap.in_range))
     block_before (c ∷ bs) k zero h r gap = below_all k bs h.1 (rising_back c.1.items (pairs_of bs) r) (λ d lt. greater_less cmp total (get_or bs 0 d).0 k (gap.after 1 d (omega arith) (omega arith)))
     block_before (c ∷ bs) k (suc i) h r gap =
@@ -149,7 +149,7 @@ module _ {K V : Type 0} (cmp : K → K → Ordering) (total : IsTotalOrder cmp) 
           block_before bs k i h.1 (rising_back c.1.items (pairs_of bs) r) (record { in_range = omega (arith, gap.in_range); before = λ j d lt. gap.before (suc j) d (omega arith); after = λ j d le lt. gap.after (suc j) d (omega arith) (omega arith) }),
         )
 
-    pub block_first : (bs : List (K × Stock (K × V))) (k : K) → AreHeaded bs → IsRising cmp (pairs_of bs) → 0 < length bs → IsGap cmp bs k 0 → IsBlockOf cmp k bs 0
+    pub block_first : (bs : List (K × Stock (K × V))) (k : K) → AreHeaded bs → IsRising cmp (pairs_of bs) → 0 < length bs → IsInsertionIndex cmp bs k 0 → IsBlockOf cmp k bs 0
     block_first [] k h r some gap = absurd (omega arith)
     block_first (c ∷ bs) k h r some gap = below_back k c.1.items (pairs_of bs) (first_below k c.0 c.1.items (pairs_of bs) h.0 r (greater_less cmp total c.0 k (gap.after 0 c (omega arith) (omega arith))))
 

@@ -8,9 +8,9 @@ use Rattle.std.proofs.lemmas.Cmp.{tied_itself}
 use Rattle.fm_lattice.specs.Chains.{TellsApart, by_order, by_cases, less_greater, greater_less}
 use Rattle.fm_lattice.specs.Maps.{IsBelow, IsRising, put}
 use Rattle.fm_lattice.specs.MapLaws.{below_trans}
-use Rattle.fm_lattice.specs.Places.{IsAt, IsGap}
+use Rattle.fm_lattice.specs.SortedVec.{HasKeyAt, IsInsertionIndex}
 use Rattle.fm_lattice.specs.Stocks.{Stock}
-use Rattle.fm_lattice.specs.Blocks.{BeginsWith, BeginAbove, IsHomeOf, is_owned_home, GoesToOwned, GoToOwned}
+use Rattle.fm_lattice.specs.Blocks.{BeginsWith, BeginAbove, IsBlockFor, is_owned_home, GoesToOwned, GoToOwned}
 use Rattle.fm_lattice.proofs.Places.{below_at}
 
 not_less_equal : Equal ≡ Less → ⊥
@@ -85,13 +85,13 @@ module _ {K V : Type 0} (cmp : K → K → Ordering) (k : K) where
   owned_cut (a ∷ bs) (suc i) d b c lt key lower upper h = home_cut a.1.owned bs i d b c (omega arith) key lower upper h
 
   -- where the key goes, the block is the map's own exactly if the key goes to one that is
-  pub home_owned : (bs : List (K × Stock (K × V))) (i : ℕ) (d : K × Stock (K × V)) → IsHomeOf cmp k bs i → GoesToOwned cmp bs k → (get_or bs i d).1.owned ≡ true
+  pub home_owned : (bs : List (K × Stock (K × V))) (i : ℕ) (d : K × Stock (K × V)) → IsBlockFor cmp k bs i → GoesToOwned cmp bs k → (get_or bs i d).1.owned ≡ true
   home_owned [] i d is h = absurd is
   home_owned (b ∷ bs) zero d is h = sym (above_home b.1.owned bs is) ∙ h
   home_owned (b ∷ []) (suc i) d is h = absurd is.1
   home_owned (b ∷ c ∷ bs) (suc i) d is h = home_owned (c ∷ bs) i d is.1 (sym (passed b.1.owned c bs is.0) ∙ h)
 
-  pub owned_home : (bs : List (K × Stock (K × V))) (i : ℕ) (d c : K × Stock (K × V)) → IsHomeOf cmp k bs i → c.0 ≡ (get_or bs i d).0 → c.1.owned ≡ true → GoesToOwned cmp (set bs i c) k
+  pub owned_home : (bs : List (K × Stock (K × V))) (i : ℕ) (d c : K × Stock (K × V)) → IsBlockFor cmp k bs i → c.0 ≡ (get_or bs i d).0 → c.1.owned ≡ true → GoesToOwned cmp (set bs i c) k
   owned_home [] i d c is key own = absurd is
   owned_home (b ∷ bs) zero d c is key own = above_home c.1.owned bs is ∙ own
   owned_home (b ∷ []) (suc i) d c is key own = absurd is.1
@@ -100,7 +100,7 @@ module _ {K V : Type 0} (cmp : K → K → Ordering) (k : K) where
 
 -- The block that a search finds is the one that the key goes to.
 module _ {K V : Type 0} (cmp : K → K → Ordering) (total : IsTotalOrder cmp) (same : TellsApart cmp) where
-  at_begins : (bs : List (K × V)) (k : K) (i : ℕ) → IsRising cmp bs → IsAt cmp bs k i → BeginAbove cmp k bs → ⊥
+  at_begins : (bs : List (K × V)) (k : K) (i : ℕ) → IsRising cmp bs → HasKeyAt cmp bs k i → BeginAbove cmp k bs → ⊥
   at_begins [] k i r at above = absurd (omega (arith, at.in_range))
   at_begins (b ∷ bs) k zero r at less =
       let key : b.0 ≡ k = same b.0 k (at.has_key b) in
@@ -115,14 +115,14 @@ module _ {K V : Type 0} (cmp : K → K → Ordering) (total : IsTotalOrder cmp) 
   below_after k (b ∷ bs) each = (each 0 b (omega arith), below_after k bs (λ j d lt. each (suc j) d (omega arith)))
 
 module _ {K V : Type 0} (cmp : K → K → Ordering) (total : IsTotalOrder cmp) (same : TellsApart cmp) where
-  pub home_at : (bs : List (K × Stock (K × V))) (k : K) (i : ℕ) → IsRising cmp bs → IsAt cmp bs k i → IsHomeOf cmp k bs i
+  pub home_at : (bs : List (K × Stock (K × V))) (k : K) (i : ℕ) → IsRising cmp bs → HasKeyAt cmp bs k i → IsBlockFor cmp k bs i
   home_at [] k i r at = absurd (omega (arith, at.in_range))
   home_at (b ∷ bs) k zero r at = subst (λ z. IsBelow cmp z bs) (same b.0 k (at.has_key b)) r.0
   home_at (b ∷ bs) k (suc i) r at =
-      let rest : IsAt cmp bs k i = record { in_range = omega (arith, at.in_range); has_key = λ d. at.has_key d } in
+      let rest : HasKeyAt cmp bs k i = record { in_range = omega (arith, at.in_range); has_key = λ d. at.has_key d } in
       (at_begins cmp total same bs k i r.1 rest, home_at bs k i r.1 rest)
 
-  pub home_before : (bs : List (K × Stock (K × V))) (k : K) (i : ℕ) → IsGap cmp bs k (suc i) → IsHomeOf cmp k bs i
+  pub home_before : (bs : List (K × Stock (K × V))) (k : K) (i : ℕ) → IsInsertionIndex cmp bs k (suc i) → IsBlockFor cmp k bs i
   home_before [] k i gap = absurd (omega (arith, gap.in_range))
   home_before (b ∷ bs) k zero gap = below_after cmp total same k bs (λ j d lt. greater_less cmp total (get_or bs j d).0 k (gap.after (suc j) d (omega arith) (omega arith)))
   home_before (b ∷ []) k (suc i) gap = absurd (omega (arith, gap.in_range))
@@ -131,7 +131,7 @@ module _ {K V : Type 0} (cmp : K → K → Ordering) (total : IsTotalOrder cmp) 
     home_before (c ∷ bs) k i (record { in_range = omega (arith, gap.in_range); before = λ j d lt. gap.before (suc j) d (omega arith); after = λ j d le lt. gap.after (suc j) d (omega arith) (omega arith) }),
   )
 
-  pub home_first : (bs : List (K × Stock (K × V))) (k : K) → 0 < length bs → IsGap cmp bs k 0 → IsHomeOf cmp k bs 0
+  pub home_first : (bs : List (K × Stock (K × V))) (k : K) → 0 < length bs → IsInsertionIndex cmp bs k 0 → IsBlockFor cmp k bs 0
   home_first [] k some gap = absurd (omega arith)
   home_first (b ∷ bs) k some gap = below_after cmp total same k bs (λ j d lt. greater_less cmp total (get_or bs j d).0 k (gap.after (suc j) d (omega arith) (omega arith)))
 

@@ -10,12 +10,12 @@ use Rattle.std.specs.declared.cmp.Ordering.TheVariants.{Less}
 use Rattle.std.proofs.lemmas.Cmp.{tied_back, alike_right}
 use Rattle.fm_lattice.specs.Chains.{TellsApart, less_greater, greater_less}
 use Rattle.fm_lattice.specs.Maps.{IsBelow, IsRising, put}
-use Rattle.fm_lattice.specs.Places.{IsAt, IsGap}
+use Rattle.fm_lattice.specs.SortedVec.{HasKeyAt, IsInsertionIndex}
 use Rattle.fm_lattice.proofs.Places.{below_at}
 
 module _ {K V : Type 0} (cmp : K → K → Ordering) (total : IsTotalOrder cmp) (same : TellsApart cmp) where
   -- the pair at the key's place is the one that goes
-  pub taken_at : (es : List (K × V)) (k : K) (i : ℕ) (d : K × V) → IsRising cmp es → IsAt cmp es k i → remove es i ≡ remove_entry (is_at (cmp k)) es
+  pub taken_at : (es : List (K × V)) (k : K) (i : ℕ) (d : K × V) → IsRising cmp es → HasKeyAt cmp es k i → remove es i ≡ remove_entry (is_at (cmp k)) es
   taken_at [] k i d r at = absurd (omega (arith, at.in_range))
   taken_at (e ∷ es) k zero d r at = rw (tied_back total e.0 k (at.has_key d)) refl
   taken_at (e ∷ es) k (suc i) d r at =
@@ -31,7 +31,7 @@ module _ {K V : Type 0} (cmp : K → K → Ordering) (total : IsTotalOrder cmp) 
   rising_taken k (e ∷ es) r = elim (is_eq (cmp k e.0)) as (λ t. IsRising cmp (cond t es (e ∷ remove_entry (is_at (cmp k)) es))) [ true ↦ r.1 | false ↦ (below_taken e.0 k es r.0, rising_taken k es r.1) ]
 
   -- if the key is not there, nothing goes
-  pub taken_gap : (es : List (K × V)) (k : K) (i : ℕ) → IsGap cmp es k i → es ≡ remove_entry (is_at (cmp k)) es
+  pub taken_gap : (es : List (K × V)) (k : K) (i : ℕ) → IsInsertionIndex cmp es k i → es ≡ remove_entry (is_at (cmp k)) es
   taken_gap [] k i gap = refl
   taken_gap (e ∷ es) k zero gap = rw (greater_less cmp total e.0 k (gap.after 0 e (omega arith) (omega arith))) (ap (λ z. e ∷ z) (taken_gap es k zero (record { in_range = omega arith; before = λ j d lt. absurd (omega arith); after = λ j d le lt. gap.after (suc j) d (omega arith) (omega arith) })))
   taken_gap (e ∷ es) k (suc i) gap = rw (less_greater cmp total e.0 k (gap.before 0 e (omega arith)))

@@ -39,10 +39,10 @@ BeginAbove cmp k [] = Unit {0}
 BeginAbove cmp k (b ∷ bs) = cmp k b.0 ≡ Less
 
 -- the key goes to the block at place i: the last that does not begin above it, or the first of all
-abbrev pub IsHomeOf : {K V : Type 0} → (K → K → Ordering) → K → List (K × Stock (K × V)) → ℕ → Type 0
-IsHomeOf cmp k [] i = ⊥
-IsHomeOf cmp k (b ∷ bs) zero = IsBelow cmp k bs
-IsHomeOf cmp k (b ∷ bs) (suc i) = (BeginAbove cmp k bs → ⊥) × IsHomeOf cmp k bs i
+abbrev pub IsBlockFor : {K V : Type 0} → (K → K → Ordering) → K → List (K × Stock (K × V)) → ℕ → Type 0
+IsBlockFor cmp k [] i = ⊥
+IsBlockFor cmp k (b ∷ bs) zero = IsBelow cmp k bs
+IsBlockFor cmp k (b ∷ bs) (suc i) = (BeginAbove cmp k bs → ⊥) × IsBlockFor cmp k bs i
 
 -- whether the last block that does not begin above the key is one that the map has alone; if each begins above it:
 -- owned

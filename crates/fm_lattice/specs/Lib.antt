@@ -3,8 +3,8 @@ pub mod Joins
 pub mod PlainLaws
 pub mod Maps
 pub mod MapLaws
-pub mod Places
+pub mod SortedVec
 pub mod Stocks
-pub mod Held
+pub mod Ownership
 pub mod Blocks
-pub mod Plans
+pub mod StagedJoins

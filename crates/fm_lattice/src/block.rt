@@ -7,7 +7,7 @@ ghost use Rattle.fm_lattice.specs.Stocks.{alone};
 use crate::blocks::FULL;
 use crate::chain::Chain;
 use crate::join::{Join, OutOfMemory, copied};
-use crate::rising::set_within;
+use crate::sorted_vec::set_within;
 use std::alloc::Global;
 use std::marker::Model;
 use std::mem;
@@ -30,7 +30,7 @@ impl<K, V> Model for Block<K, V> {
 
     ghost Value = { Stock (K × V) };
 
-    ghost use Rattle.fm_lattice.specs.Held.{stock_of};
+    ghost use Rattle.fm_lattice.specs.Ownership.{stock_of};
 
     ghost view = { λ b. stock_of b.held };
 }

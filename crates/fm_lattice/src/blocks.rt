@@ -2,12 +2,12 @@
 
 ghost use Rattle.std.specs.Prelude.{◌≡◌, ◌+◌, ◌≤◌, ◌<◌, ◌++◌, ℕ, List, None, IsTrue, true, false, IfOk, OnOk, length, option_copied, slice_index_or, vec_len, vec_capacity};
 ghost use Rattle.fm_lattice.specs.Maps.{IsRising, lookup, put, keep_new};
-ghost use Rattle.fm_lattice.specs.Blocks.{pairs_of, BeginsWith, AreHeaded, IsAbove, IsBlockOf, IsHomeOf, GoesToOwned, IsOwnedAt, HasAt, TakesKey, IsSpare};
+ghost use Rattle.fm_lattice.specs.Blocks.{pairs_of, BeginsWith, AreHeaded, IsAbove, IsBlockOf, IsBlockFor, GoesToOwned, IsOwnedAt, HasAt, TakesKey, IsSpare};
 
 use crate::block::Block;
 use crate::chain::Chain;
 use crate::join::{Join, OutOfMemory};
-use crate::rising::place;
+use crate::sorted_vec::search;
 use std::alloc::Global;
 use std::cmp::Ordering;
 
@@ -43,9 +43,9 @@ pub(crate) fn block_of<K: Chain, V>(blocks: &[(K, Block<K, V>)], key: &K) -> usi
     requires headed { AreHeaded blocks.now }
     requires rising { IsRising K.cmp (pairs_of blocks.now) }
     ensures block { IsBlockOf K.cmp key.now blocks.now result }
-    ensures home { IsHomeOf K.cmp key.now blocks.now result }
+    ensures home { IsBlockFor K.cmp key.now blocks.now result }
 {
-    match place(blocks, key) {
+    match search(blocks, key) {
         Ok(at) => at,
         Err(0) => 0,
         Err(at) => at - 1,
@@ -69,7 +69,7 @@ pub(crate) fn value_in<'a, K: Chain, V>(pairs: &'a [(K, V)], key: &K) -> Option<
     requires { IsRising K.cmp pairs.now }
     ensures { option_copied result ≡ lookup K.cmp key.now pairs.now }
 {
-    match place(pairs, key) {
+    match search(pairs, key) {
         Ok(at) => Some(&pairs[at].1),
         Err(_) => None,
     }

@@ -4,12 +4,12 @@
 mod block;
 mod blocks;
 pub mod chain;
-mod filling;
+mod split_budget;
 pub mod join;
 pub mod map;
 mod merging;
 mod pairs;
-pub mod plain;
-mod plan;
-pub mod rising;
+pub mod constructors;
+mod staged_join;
+pub mod sorted_vec;
 pub mod shared;

@@ -10,7 +10,7 @@ use crate::chain::Chain;
 use crate::join::{Join, OutOfMemory};
 use crate::merging::{append, are_same, counted, is_below, joined_at, merged};
 pub use crate::pairs::Pairs;
-use crate::plan::{carry_out, plan_join};
+use crate::staged_join::{carry_out, plan_join};
 use std::alloc::Global;
 use std::marker::Model;
 

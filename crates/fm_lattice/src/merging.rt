@@ -9,7 +9,7 @@ use crate::blocks::{
     FULL, LEAST, block_of, comes_last, own_block, take_room, value_at, value_in, write,
 };
 use crate::chain::Chain;
-use crate::filling::Filling;
+use crate::split_budget::SplitBudget;
 use crate::join::{Join, OutOfMemory, copied, equal};
 use crate::pairs::Pairs;
 use std::alloc::Global;
@@ -218,7 +218,7 @@ pub(crate) fn changes<K: Chain, V: Join>(
 {
     let alloc = *left.allocator();
     let mut changes = Vec::with_capacity(alloc, count)?;
-    let mut filling = Filling::new();
+    let mut filling = SplitBudget::new();
     let mut rest = Pairs::of(right);
     'rest: while let Some(pair) = rest.first() {
         let change = change_at(alloc, left, pair, &mut filling)?;
@@ -232,7 +232,7 @@ fn change_at<K: Chain, V: Join>(
     alloc: Global,
     left: &mut Vec<(K, Block<K, V>)>,
     pair: &(K, V),
-    filling: &mut Filling,
+    filling: &mut SplitBudget,
 ) -> Result<((K, V), Vec<(K, V)>), OutOfMemory>
     requires some { 0 < vec_len left.old }
     requires headed { AreHeaded left.old.items }
@@ -253,7 +253,7 @@ fn change_at<K: Chain, V: Join>(
 }
 
 // For how many pairs the key is to find a spare block.
-fn spare_for<K: Chain, V: Join>(left: &[(K, Block<K, V>)], key: &K, filling: &mut Filling) -> usize
+fn spare_for<K: Chain, V: Join>(left: &[(K, Block<K, V>)], key: &K, filling: &mut SplitBudget) -> usize
     requires some { 0 < length left.now }
     requires headed { AreHeaded left.now }
     requires rises { IsRising K.cmp (pairs_of left.now) }

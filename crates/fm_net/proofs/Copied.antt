@@ -5,7 +5,7 @@ use Rattle.std.specs.List.{AllZip}
 use Rattle.std.specs.declared.cmp.Ordering.{Ordering}
 use Rattle.std.proofs.lemmas.List.Elements.{same_from_all_zip}
 use Rattle.slab.specs.Slab.{Slab, get, IsSlotClone, IsSlabClone}
-use Rattle.fm_net.specs.Cells.{pairs_in, AreInCells, AreKept, IsPlainClone}
+use Rattle.fm_net.specs.Cells.{pairs_in_cells, AreInCells, AreKept, IsPlainClone}
 
 module _ {T : Type 0} (R : T → T → Type 0) (plain : IsPlainClone R) where
   slot_same : (x y : Option T) → IsSlotClone R x y → y ≡ x
@@ -30,5 +30,5 @@ module _ {K V : Type 0} (cmp : K → K → Ordering) (cells copy : Slab (K × V)
     no_more = ap (count_by is_some) slots ∙ a.no_more ∙ sym (ap length is);
   }
 
-  pub shown_same : pairs_in (get copy) fs ≡ pairs_in (get cells) es
-  shown_same = λ i. pairs_in (λ key. slice_index_or (slots i) key None) (is i)
+  pub shown_same : pairs_in_cells (get copy) fs ≡ pairs_in_cells (get cells) es
+  shown_same = λ i. pairs_in_cells (λ key. slice_index_or (slots i) key None) (is i)

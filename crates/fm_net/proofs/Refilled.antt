@@ -7,7 +7,7 @@ use Rattle.std.specs.Cmp.{IsTotalOrder}
 use Rattle.std.specs.declared.cmp.Ordering.{Ordering}
 use Rattle.fm_lattice.specs.Chains.{TellsApart, by_order, by_cases}
 use Rattle.fm_lattice.specs.Maps.{lookup, put, keep_new, IsRising}
-use Rattle.fm_net.specs.Cells.{pairs_in, EachHasCell, AreInCells}
+use Rattle.fm_net.specs.Cells.{pairs_in_cells, EachHasCell, AreInCells}
 use Rattle.fm_net.proofs.Shown.{CellIs, Found, found, no_other, still, shown_still, less_not, greater_not, no_place, place_is, no_some, value_in, shown_at, put_in_cells, put_shown}
 
 -- the key's cell is filled again
@@ -25,18 +25,18 @@ module _ {K V : Type 0} (cmp : K → K → Ordering) (total : IsTotalOrder cmp) 
       (λ _ l g. ((c.0.0, u.others x.1 (greater_not cmp total at new p u.others k f x c.0.0 c.0.1 l) ∙ c.0.1), rest g))
       refl h
 
-  shown_refilled : (es : List (K × ℕ)) → IsRising cmp es → EachHasCell at es → lookup cmp k es ≡ Some p → pairs_in new (insert_entry cmp es k p) ≡ put cmp keep_new k v (pairs_in at es)
+  shown_refilled : (es : List (K × ℕ)) → IsRising cmp es → EachHasCell at es → lookup cmp k es ≡ Some p → pairs_in_cells new (insert_entry cmp es k p) ≡ put cmp keep_new k v (pairs_in_cells at es)
   shown_refilled [] r c h = no_place p h
   shown_refilled (x ∷ es) r c h =
       let rest = shown_refilled es r.1 c.1 in
-      rw c.0.1 (by_cases (cmp k x.0) (λ o. cmp k x.0 ≡ o → cond (is_eq o) (Some x.1) (lookup cmp k es) ≡ Some p → pairs_in new
+      rw c.0.1 (by_cases (cmp k x.0) (λ o. cmp k x.0 ≡ o → cond (is_eq o) (Some x.1) (lookup cmp k es) ≡ Some p → pairs_in_cells new
       (match_ordering o ((k, p) ∷ x ∷ es) ((x.0, p) ∷ es) (x ∷ insert_entry cmp es k p)) ≡ by_order o
-      ((k, v) ∷ (x.0, c.0.0) ∷ pairs_in at es) ((x.0, v) ∷ pairs_in at es) ((x.0, c.0.0) ∷ put cmp keep_new k v (pairs_in at es)))
+      ((k, v) ∷ (x.0, c.0.0) ∷ pairs_in_cells at es) ((x.0, v) ∷ pairs_in_cells at es) ((x.0, c.0.0) ∷ put cmp keep_new k v (pairs_in_cells at es)))
       (λ _ l g. less_not cmp total at new p u.others k f x es r l g)
       (λ _ t g.
       let is = same k x.0 t in
       let here = place_is x.1 p g in
-      rw (u.changed, shown_still cmp total at new p u.others es (no_other cmp total at p x.0 c.0.0 es (ap at (sym here) ∙ c.0.1) r.0 c.1)) (λ i. (is i, v) ∷ pairs_in at es))
+      rw (u.changed, shown_still cmp total at new p u.others es (no_other cmp total at p x.0 c.0.0 es (ap at (sym here) ∙ c.0.1) r.0 c.1)) (λ i. (is i, v) ∷ pairs_in_cells at es))
       (λ _ l g. rw (u.others x.1 (greater_not cmp total at new p u.others k f x c.0.0 c.0.1 l), c.0.1, rest g) refl)
       refl h)
 
@@ -46,7 +46,7 @@ module _ {K V : Type 0} (cmp : K → K → Ordering) (total : IsTotalOrder cmp) 
   Told o = p ≡ unwrap_or o next
 
   -- what stood there is what the key had
-  pub stood_told : option_map (λ e. e.1) (at p) ≡ lookup cmp k (pairs_in at es)
+  pub stood_told : option_map (λ e. e.1) (at p) ≡ lookup cmp k (pairs_in_cells at es)
   stood_told =
       elim (lookup cmp k es) as (λ o. Told o → option_map (λ (e : K × V). e.1) (at p) ≡ value_in at o) [
         | None ↦ λ is. ap (option_map (λ (e : K × V). e.1)) (ap at is ∙ empty)
@@ -91,13 +91,13 @@ module _ {K V : Type 0} (cmp : K → K → Ordering) (total : IsTotalOrder cmp) 
               }
         ] refl told
 
-    pub shown_told : pairs_in new after ≡ put cmp keep_new k v (pairs_in at es)
+    pub shown_told : pairs_in_cells new after ≡ put cmp keep_new k v (pairs_in_cells at es)
     shown_told =
-        elim (lookup cmp k es) as (λ o. lookup cmp k es ≡ o → Told o → pairs_in new after ≡ put cmp keep_new k v (pairs_in at es)) [
+        elim (lookup cmp k es) as (λ o. lookup cmp k es ≡ o → Told o → pairs_in_cells new after ≡ put cmp keep_new k v (pairs_in_cells at es)) [
           | None ↦ λ _ to. put_shown cmp total same at new p k v es after a u (ap at to ∙ empty) is
           | Some q ↦ λ was to.
               let here : lookup cmp k es ≡ Some p = was ∙ ap Some (sym to) in
-              ap (pairs_in new) is ∙ shown_refilled cmp total same at new p k v u (found cmp total at k p es a.cells here) es a.rising a.cells here
+              ap (pairs_in_cells new) is ∙ shown_refilled cmp total same at new p k v u (found cmp total at k p es a.cells here) es a.rising a.cells here
         ] refl told
 
 -- a cell that was emptied and is filled

@@ -11,7 +11,7 @@ use Rattle.std.specs.declared.cmp.Ordering.TheVariants.{Less, Equal, Greater}
 use Rattle.std.proofs.lemmas.Cmp.{tied_itself}
 use Rattle.fm_lattice.specs.Chains.{TellsApart, by_order, by_cases}
 use Rattle.fm_lattice.specs.Maps.{lookup, put, keep_new, IsBelow, IsRising}
-use Rattle.fm_net.specs.Cells.{pairs_in, EachHasCell, AreInCells}
+use Rattle.fm_net.specs.Cells.{pairs_in_cells, EachHasCell, AreInCells}
 
 module _ {K : Type 0} (cmp : K → K → Ordering) where
   below : (k : K) (es : List (K × ℕ)) → AllByRecursion (λ q. cmp k q ≡ Less) (keys_of es) → IsBelow cmp k es
@@ -82,18 +82,18 @@ module _ {K V : Type 0} (cmp : K → K → Ordering) (total : IsTotalOrder cmp) 
     no_other at p k v es e b.1 c.1,
   )
 
-  pub shown_at : (at : ℕ → Option (K × V)) (k : K) (es : List (K × ℕ)) → EachHasCell at es → lookup cmp k (pairs_in at es) ≡ value_in at (lookup cmp k es)
+  pub shown_at : (at : ℕ → Option (K × V)) (k : K) (es : List (K × ℕ)) → EachHasCell at es → lookup cmp k (pairs_in_cells at es) ≡ value_in at (lookup cmp k es)
   shown_at at k [] c = refl
   shown_at at k (x ∷ es) c =
       let rest = shown_at at k es c.1 in
-      rw c.0.1 (by_cases (cmp k x.0) (λ o. cond (is_eq o) (Some c.0.0) (lookup cmp k (pairs_in at es)) ≡ value_in at (cond (is_eq o) (Some x.1) (lookup cmp k es)))
+      rw c.0.1 (by_cases (cmp k x.0) (λ o. cond (is_eq o) (Some c.0.0) (lookup cmp k (pairs_in_cells at es)) ≡ value_in at (cond (is_eq o) (Some x.1) (lookup cmp k es)))
       (λ _. rest) (λ _. rw c.0.1 refl) (λ _. rest))
 
-  pub is_shown : (at : ℕ → Option (K × V)) (k : K) (es : List (K × ℕ)) → EachHasCell at es → is_some (lookup cmp k es) ≡ is_some (lookup cmp k (pairs_in at es))
+  pub is_shown : (at : ℕ → Option (K × V)) (k : K) (es : List (K × ℕ)) → EachHasCell at es → is_some (lookup cmp k es) ≡ is_some (lookup cmp k (pairs_in_cells at es))
   is_shown at k [] c = refl
   is_shown at k (x ∷ es) c =
       let rest = is_shown at k es c.1 in
-      rw c.0.1 (elim (is_eq (cmp k x.0)) as (λ b. is_some (cond b (Some x.1) (lookup cmp k es)) ≡ is_some (cond b (Some c.0.0) (lookup cmp k (pairs_in at es)))) [ true ↦ refl | false ↦ rest ])
+      rw c.0.1 (elim (is_eq (cmp k x.0)) as (λ b. is_some (cond b (Some x.1) (lookup cmp k es)) ≡ is_some (cond b (Some c.0.0) (lookup cmp k (pairs_in_cells at es)))) [ true ↦ refl | false ↦ rest ])
 
   -- the cell at the place that is found has the key
   pub record Found (at : ℕ → Option (K × V)) (k : K) (p : ℕ) : Type 0 where
@@ -112,24 +112,24 @@ module _ {K V : Type 0} (cmp : K → K → Ordering) (total : IsTotalOrder cmp) 
       (λ _ _ h. rest h)
       refl e
 
-  pub length_shown : (at : ℕ → Option (K × V)) (es : List (K × ℕ)) → EachHasCell at es → length (pairs_in at es) ≡ length es
+  pub length_shown : (at : ℕ → Option (K × V)) (es : List (K × ℕ)) → EachHasCell at es → length (pairs_in_cells at es) ≡ length es
   length_shown at [] c = refl
   length_shown at (x ∷ es) c = rw c.0.1 (let rest = length_shown at es c.1 in omega arith)
 
-  below_shown : (at : ℕ → Option (K × V)) (k : K) (es : List (K × ℕ)) → EachHasCell at es → IsBelow cmp k es → IsBelow cmp k (pairs_in at es)
+  below_shown : (at : ℕ → Option (K × V)) (k : K) (es : List (K × ℕ)) → EachHasCell at es → IsBelow cmp k es → IsBelow cmp k (pairs_in_cells at es)
   below_shown at k [] c b = tt
   below_shown at k (x ∷ es) c b = rw c.0.1 (b.0, below_shown at k es c.1 b.1)
 
-  pub rising_shown : (at : ℕ → Option (K × V)) (es : List (K × ℕ)) → EachHasCell at es → IsRising cmp es → IsRising cmp (pairs_in at es)
+  pub rising_shown : (at : ℕ → Option (K × V)) (es : List (K × ℕ)) → EachHasCell at es → IsRising cmp es → IsRising cmp (pairs_in_cells at es)
   rising_shown at [] c r = tt
   rising_shown at (x ∷ es) c r = rw c.0.1 (below_shown at x.0 es c.1 r.0, rising_shown at es c.1 r.1)
 
   -- if the key is not found there is nothing to remove
-  pub shown_absent : (at : ℕ → Option (K × V)) (k : K) (es : List (K × ℕ)) → EachHasCell at es → lookup cmp k es ≡ None → remove_entry (is_at (cmp k)) (pairs_in at es) ≡ pairs_in at es
+  pub shown_absent : (at : ℕ → Option (K × V)) (k : K) (es : List (K × ℕ)) → EachHasCell at es → lookup cmp k es ≡ None → remove_entry (is_at (cmp k)) (pairs_in_cells at es) ≡ pairs_in_cells at es
   shown_absent at k [] c e = refl
   shown_absent at k (x ∷ es) c e =
       let rest = shown_absent at k es c.1 in
-      rw c.0.1 (elim (is_eq (cmp k x.0)) as (λ b. cond b (Some x.1) (lookup cmp k es) ≡ None → cond b (pairs_in at es) ((x.0, c.0.0) ∷ remove_entry (is_at (cmp k)) (pairs_in at es)) ≡ (x.0, c.0.0) ∷ pairs_in at es) [
+      rw c.0.1 (elim (is_eq (cmp k x.0)) as (λ b. cond b (Some x.1) (lookup cmp k es) ≡ None → cond b (pairs_in_cells at es) ((x.0, c.0.0) ∷ remove_entry (is_at (cmp k)) (pairs_in_cells at es)) ≡ (x.0, c.0.0) ∷ pairs_in_cells at es) [
         | true ↦ λ h. no_place x.1 (sym h)
         | false ↦ λ h. ap (λ z. (x.0, c.0.0) ∷ z) (rest h)
       ] e)
@@ -140,7 +140,7 @@ module _ {K V : Type 0} (cmp : K → K → Ordering) (total : IsTotalOrder cmp) 
     still [] n c = tt
     still (x ∷ es) n c = ((c.0.0, others x.1 n.0 ∙ c.0.1), still es n.1 c.1)
 
-    pub shown_still : (es : List (K × ℕ)) → IsNoPlace p es → pairs_in new es ≡ pairs_in at es
+    pub shown_still : (es : List (K × ℕ)) → IsNoPlace p es → pairs_in_cells new es ≡ pairs_in_cells at es
     shown_still [] n = refl
     shown_still (x ∷ es) n = rw (others x.1 n.0, shown_still es n.1) refl
 
@@ -158,16 +158,16 @@ module _ {K V : Type 0} (cmp : K → K → Ordering) (total : IsTotalOrder cmp) 
           (λ t. let is = same k x.0 t in ((v, filled ∙ (λ i. Some (is i, v))), tail))
           (λ _. ((c.0.0, here), rest))
 
-      pub shown_put : (es : List (K × ℕ)) → EachHasCell at es → pairs_in new (insert_entry cmp es k p) ≡ put cmp keep_new k v (pairs_in at es)
+      pub shown_put : (es : List (K × ℕ)) → EachHasCell at es → pairs_in_cells new (insert_entry cmp es k p) ≡ put cmp keep_new k v (pairs_in_cells at es)
       shown_put [] c = rw filled refl
       shown_put (x ∷ es) c =
           let rest = shown_put es c.1 in
           let none = no_key at p (x ∷ es) vacant c in
-          let tail : pairs_in new es ≡ pairs_in at es = shown_still es none.1 in
+          let tail : pairs_in_cells new es ≡ pairs_in_cells at es = shown_still es none.1 in
           let here : new x.1 ≡ Some (x.0, c.0.0) = others x.1 none.0 ∙ c.0.1 in
-          rw c.0.1 (by_cases (cmp k x.0) (λ o. pairs_in new (match_ordering o ((k, p) ∷ x ∷ es) ((x.0, p) ∷ es) (x ∷ insert_entry cmp es k p)) ≡ by_order o ((k, v) ∷ (x.0, c.0.0) ∷ pairs_in at es) ((x.0, v) ∷ pairs_in at es) ((x.0, c.0.0) ∷ put cmp keep_new k v (pairs_in at es)))
+          rw c.0.1 (by_cases (cmp k x.0) (λ o. pairs_in_cells new (match_ordering o ((k, p) ∷ x ∷ es) ((x.0, p) ∷ es) (x ∷ insert_entry cmp es k p)) ≡ by_order o ((k, v) ∷ (x.0, c.0.0) ∷ pairs_in_cells at es) ((x.0, v) ∷ pairs_in_cells at es) ((x.0, c.0.0) ∷ put cmp keep_new k v (pairs_in_cells at es)))
           (λ _. rw (filled, here, tail) refl)
-          (λ t. let is = same k x.0 t in rw (filled, tail) (λ i. (is i, v) ∷ pairs_in at es))
+          (λ t. let is = same k x.0 t in rw (filled, tail) (λ i. (is i, v) ∷ pairs_in_cells at es))
           (λ _. rw (here, rest) refl))
 
     -- a key whose cell is emptied
@@ -191,11 +191,11 @@ module _ {K V : Type 0} (cmp : K → K → Ordering) (total : IsTotalOrder cmp) 
           (λ _ l g. ((c.0.0, others x.1 (greater_not x c.0.0 c.0.1 l) ∙ c.0.1), rest g))
           refl h
 
-      pub shown_emptied : (es : List (K × ℕ)) → IsRising cmp es → EachHasCell at es → lookup cmp k es ≡ Some p → pairs_in new (remove_entry (is_at (cmp k)) es) ≡ remove_entry (is_at (cmp k)) (pairs_in at es)
+      pub shown_emptied : (es : List (K × ℕ)) → IsRising cmp es → EachHasCell at es → lookup cmp k es ≡ Some p → pairs_in_cells new (remove_entry (is_at (cmp k)) es) ≡ remove_entry (is_at (cmp k)) (pairs_in_cells at es)
       shown_emptied [] r c h = no_place p h
       shown_emptied (x ∷ es) r c h =
           let rest = shown_emptied es r.1 c.1 in
-          rw c.0.1 (by_cases (cmp k x.0) (λ o. cmp k x.0 ≡ o → cond (is_eq o) (Some x.1) (lookup cmp k es) ≡ Some p → pairs_in new (cond (is_eq o) es (x ∷ remove_entry (is_at (cmp k)) es)) ≡ cond (is_eq o) (pairs_in at es) ((x.0, c.0.0) ∷ remove_entry (is_at (cmp k)) (pairs_in at es)))
+          rw c.0.1 (by_cases (cmp k x.0) (λ o. cmp k x.0 ≡ o → cond (is_eq o) (Some x.1) (lookup cmp k es) ≡ Some p → pairs_in_cells new (cond (is_eq o) es (x ∷ remove_entry (is_at (cmp k)) es)) ≡ cond (is_eq o) (pairs_in_cells at es) ((x.0, c.0.0) ∷ remove_entry (is_at (cmp k)) (pairs_in_cells at es)))
           (λ _ l g. less_not x es r l g)
           (λ _ _ g. let is = place_is x.1 p g in shown_still es (no_other at p x.0 c.0.0 es (ap at (sym is) ∙ c.0.1) r.0 c.1))
           (λ _ l g. rw (others x.1 (greater_not x c.0.0 c.0.1 l), c.0.1, rest g) refl)
@@ -213,8 +213,8 @@ module _ {K V : Type 0} (cmp : K → K → Ordering) (total : IsTotalOrder cmp) 
     cells = subst (EachHasCell new) (sym is) (cells_put cmp total at new p u.others same k v vacant u.changed es a.cells);
   }
 
-  pub put_shown : pairs_in new after ≡ put cmp keep_new k v (pairs_in at es)
-  put_shown = ap (pairs_in new) is ∙ shown_put cmp total at new p u.others same k v vacant u.changed es a.cells
+  pub put_shown : pairs_in_cells new after ≡ put cmp keep_new k v (pairs_in_cells at es)
+  put_shown = ap (pairs_in_cells new) is ∙ shown_put cmp total at new p u.others same k v vacant u.changed es a.cells
 
 -- a pair was taken out of its cell and of the index
 module _ {K V : Type 0} (cmp : K → K → Ordering) (total : IsTotalOrder cmp) (at new : ℕ → Option (K × V)) (p : ℕ) (k : K) (es after : List (K × ℕ)) (a : AreInCells cmp at es) (was : lookup cmp k es ≡ Some p) where
@@ -224,16 +224,16 @@ module _ {K V : Type 0} (cmp : K → K → Ordering) (total : IsTotalOrder cmp) 
   pub stands : IsSome (at p)
   stands = rw holds.cell refl
 
-  pub value_stands : (e : K × V) → at p ≡ Some e → Some e.1 ≡ lookup cmp k (pairs_in at es)
+  pub value_stands : (e : K × V) → at p ≡ Some e → Some e.1 ≡ lookup cmp k (pairs_in_cells at es)
   value_stands e c = ap (option_map (λ z. z.1)) (sym c) ∙ ap (value_in at) (sym was) ∙ sym (shown_at cmp total at k es a.cells)
 
   module _ (u : CellIs at new p None) (is : after ≡ remove_entry (is_at (cmp k)) es) where
     pub removed_in_cells : IsRising cmp after → AreInCells cmp new after
     removed_in_cells r = record { rising = r; cells = subst (EachHasCell new) (sym is) (cells_emptied cmp total at new p u.others k holds es a.rising a.cells was) }
 
-    pub removed_shown : pairs_in new after ≡ remove_entry (is_at (cmp k)) (pairs_in at es)
-    removed_shown = ap (pairs_in new) is ∙ shown_emptied cmp total at new p u.others k holds es a.rising a.cells was
+    pub removed_shown : pairs_in_cells new after ≡ remove_entry (is_at (cmp k)) (pairs_in_cells at es)
+    removed_shown = ap (pairs_in_cells new) is ∙ shown_emptied cmp total at new p u.others k holds es a.rising a.cells was
 
 -- the key stands nowhere
-pub nothing_stands : {K V : Type 0} (cmp : K → K → Ordering) (total : IsTotalOrder cmp) (at : ℕ → Option (K × V)) (k : K) (es : List (K × ℕ)) → AreInCells cmp at es → lookup cmp k es ≡ None → None ≡ lookup cmp k (pairs_in at es)
+pub nothing_stands : {K V : Type 0} (cmp : K → K → Ordering) (total : IsTotalOrder cmp) (at : ℕ → Option (K × V)) (k : K) (es : List (K × ℕ)) → AreInCells cmp at es → lookup cmp k es ≡ None → None ≡ lookup cmp k (pairs_in_cells at es)
 nothing_stands cmp total at k es a none = ap (value_in at) (sym none) ∙ sym (shown_at cmp total at k es a.cells)

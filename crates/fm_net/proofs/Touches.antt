@@ -10,7 +10,7 @@ use Rattle.fm_net.specs.Nodes.{ends_cmp}
 use Rattle.fm_net.specs.NodeOrder.{ends_exact, ends_total}
 use Rattle.fm_net.specs.Net.{Net, IsTouched}
 use Rattle.fm_net.specs.Ends.{is_end}
-use Rattle.fm_net.specs.Same.{same_node, node_Decides}
+use Rattle.fm_net.specs.NetworkEquality.{same_node, node_Decides}
 
 abbrev Arcs : Type 0
 Arcs = List ((Node × Node) × (ℕ × ℕ))

@@ -10,8 +10,8 @@ use Rattle.fm_records.specs.declared.records.JobReg.{JobReg}
 use Rattle.fm_records.specs.declared.records.SpecReg.{SpecReg}
 use Rattle.fm_records.specs.declared.records.MachineReg.{MachineReg}
 use Rattle.fm_records.specs.Options.{when, and_then}
-use Rattle.fm_records.specs.LookupLaws.{when_true, both_true}
-use Rattle.fm_records.specs.Spelled.{spec_op, machine_op, task_ops, machine_ops}
+use Rattle.fm_records.specs.LookupLaws.{when_is_true, both_true}
+use Rattle.fm_records.specs.OpsOfTable.{spec_op, machine_op, task_ops, machine_ops}
 use Rattle.fm_records.specs.Ranges.{in_range, all_in_range, CanBe}
 use Rattle.fm_records.specs.RangeLaws.{when_value, job_in_range, task_in_range, machine_in_range}
 use Rattle.fm_records.specs.Table.{Table, TaskValue, MachineValue}
@@ -162,7 +162,7 @@ module _ (k : Table) (is : CanBe k) where
         let ranges = state_ranges m state.0 state.1 in
         within _ v state.2 ranges.slots_above (omega (arith, ranges.slots_within)) (omega arith)
     arc_within (Unscheduled j) Sink v e =
-        let some = some_count (λ x. is_live_of k j x.0) k.tasks (when_true (is_node k (Unscheduled j)) _ v e) in
+        let some = some_count (λ x. is_live_of k j x.0) k.tasks (when_is_true (is_node k (Unscheduled j)) _ v e) in
         let most = count_by-le-length (λ x. is_live_of k j x.0) k.tasks in
         within _ v (when_value (is_node k (Unscheduled j)) _ v e) some (omega arith) (omega arith)
     arc_within _ _ v e = none e

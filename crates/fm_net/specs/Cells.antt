@@ -6,8 +6,8 @@ use Rattle.slab.specs.Slab.{Slab, get, slab_len}
 use Rattle.fm_lattice.specs.Maps.{IsRising}
 
 -- the pairs in the cells, in the order of the index
-abbrev pub pairs_in : {K V : Type 0} → (ℕ → Option (K × V)) → List (K × ℕ) → List (K × V)
-pairs_in at places = filter_map (λ e. at e.1) places
+abbrev pub pairs_in_cells : {K V : Type 0} → (ℕ → Option (K × V)) → List (K × ℕ) → List (K × V)
+pairs_in_cells at places = filter_map (λ e. at e.1) places
 
 -- each place has a cell of its key
 abbrev pub EachHasCell : {K V : Type 0} → (ℕ → Option (K × V)) → List (K × ℕ) → Type 0

@@ -22,7 +22,7 @@ use Rattle.fm_net.specs.Net.{Net, has_node, arc_at, IsTouched, CanBeNet, with_no
 use Rattle.fm_net.specs.ListLaws.{same_rising, has_member, passes_kept}
 use Rattle.fm_net.specs.declared.edit.Edit.{Edit}
 use Rattle.fm_net.specs.declared.edit.Edit.TheVariants.{DropNode, PutNode}
-use Rattle.fm_net.specs.Edits.{Arc, after_edit, after, MayPutArc, MayEdit, MayEditAll, joins, same_value, has_arc, gone_arcs, gone_nodes, new_nodes, new_arcs, drop_of, put_of, change}
+use Rattle.fm_net.specs.Edits.{Arc, after_edit, after_edits, MayPutArc, MayEdit, MayEditAll, joins, same_value, has_arc, gone_arcs, gone_nodes, new_nodes, new_arcs, drop_of, put_of, change}
 use Rattle.fm_net.specs.KeptLists.{rising_kept, lookup_kept, has, has_kept, has_inserted, rises_inserted}
 
 none : {A P : Type 0} {a : A} → None ≡ Some a → P
@@ -125,20 +125,20 @@ at_put e q v arcs r = lookup_put ends_cmp ends_total ends_exact keep_new q e v a
 
 -- Edits one list after another.
 
-pub after_both : (es fs : List Edit) (net : Net) → after (es ++ fs) net ≡ after fs (after es net)
+pub after_both : (es fs : List Edit) (net : Net) → after_edits (es ++ fs) net ≡ after_edits fs (after_edits es net)
 after_both [] fs net = refl
 after_both (e ∷ es) fs net = after_both es fs (after_edit e net)
 
-pub may_both : (es fs : List Edit) (net : Net) → MayEditAll net es → MayEditAll (after es net) fs → MayEditAll net (es ++ fs)
+pub may_both : (es fs : List Edit) (net : Net) → MayEditAll net es → MayEditAll (after_edits es net) fs → MayEditAll net (es ++ fs)
 may_both [] fs net a b = b
 may_both (e ∷ es) fs net a b = (a.0, may_both es fs (after_edit e net) a.1 b)
 
 -- First the arcs are dropped.
 
 record Dropped (bs : List Arc) (net : Net) : Type 0 where
-  pub nodes : (after (map drop_of bs) net).nodes ≡ net.nodes
-  pub rise : IsRising ends_cmp (after (map drop_of bs) net).arcs
-  pub arcs : (q : Node × Node) → at q (after (map drop_of bs) net).arcs ≡ cond (is_some (at q bs)) None (at q net.arcs)
+  pub nodes : (after_edits (map drop_of bs) net).nodes ≡ net.nodes
+  pub rise : IsRising ends_cmp (after_edits (map drop_of bs) net).arcs
+  pub arcs : (q : Node × Node) → at q (after_edits (map drop_of bs) net).arcs ≡ cond (is_some (at q bs)) None (at q net.arcs)
   pub may : MayEditAll net (map drop_of bs)
 
 dropped_twice : (b c : Bool) (o : Option (ℕ × ℕ)) (v : ℕ × ℕ) (r : Option (ℕ × ℕ)) → is_some r ≡ c → cond c None (cond b None o) ≡ cond (is_some (cond b (Some v) r)) None o
@@ -164,9 +164,9 @@ dropped (a ∷ bs) net r =
 -- Then the nodes are dropped.
 
 record Left (ns : List Node) (net : Net) : Type 0 where
-  pub arcs : (after (map DropNode ns) net).arcs ≡ net.arcs
-  pub rise : Rises node_cmp (after (map DropNode ns) net).nodes
-  pub nodes : (q : Node) → stands (after (map DropNode ns) net).nodes q ≡ (not (stands ns q) && stands net.nodes q)
+  pub arcs : (after_edits (map DropNode ns) net).arcs ≡ net.arcs
+  pub rise : Rises node_cmp (after_edits (map DropNode ns) net).nodes
+  pub nodes : (q : Node) → stands (after_edits (map DropNode ns) net).nodes q ≡ (not (stands ns q) && stands net.nodes q)
   pub may : MayEditAll net (map DropNode ns)
 
 abbrev MayLeave : Net → List Node → Type 0
@@ -195,9 +195,9 @@ left (n ∷ ns) net r free =
 -- Then the nodes are put.
 
 record Came (ns : List Node) (net : Net) : Type 0 where
-  pub arcs : (after (map PutNode ns) net).arcs ≡ net.arcs
-  pub rise : Rises node_cmp (after (map PutNode ns) net).nodes
-  pub nodes : (q : Node) → stands (after (map PutNode ns) net).nodes q ≡ (stands ns q || stands net.nodes q)
+  pub arcs : (after_edits (map PutNode ns) net).arcs ≡ net.arcs
+  pub rise : Rises node_cmp (after_edits (map PutNode ns) net).nodes
+  pub nodes : (q : Node) → stands (after_edits (map PutNode ns) net).nodes q ≡ (stands ns q || stands net.nodes q)
   pub may : MayEditAll net (map PutNode ns)
 
 came_twice : (a b c : Bool) → (b || (a || c)) ≡ ((a || b) || c)
@@ -223,9 +223,9 @@ came (n ∷ ns) net r fine =
 -- Last the arcs are put.
 
 record Put (bs : List Arc) (net : Net) : Type 0 where
-  pub nodes : (after (map put_of bs) net).nodes ≡ net.nodes
-  pub rise : IsRising ends_cmp (after (map put_of bs) net).arcs
-  pub arcs : (q : Node × Node) → at q (after (map put_of bs) net).arcs ≡ over (at q bs) (at q net.arcs)
+  pub nodes : (after_edits (map put_of bs) net).nodes ≡ net.nodes
+  pub rise : IsRising ends_cmp (after_edits (map put_of bs) net).arcs
+  pub arcs : (q : Node × Node) → at q (after_edits (map put_of bs) net).arcs ≡ over (at q bs) (at q net.arcs)
   pub may : MayEditAll net (map put_of bs)
 
 put_twice : (e q : Node × Node) (v : ℕ × ℕ) (bs : List Arc) (o : Option (ℕ × ℕ)) → IsBelow ends_cmp e bs → over (at q bs) (cond (is_eq (ends_cmp q e)) (Some v) o) ≡ over (cond (is_eq (ends_cmp q e)) (Some v) (at q bs)) o
@@ -317,16 +317,16 @@ kept_came p (Some v) w e = ap Some (when_some (p v) v w e)
 
 module _ (n m : Net) (p : CanBeNet n) (q : CanBeNet m) where
   abbrev first : Net
-  first = after (map drop_of (gone_arcs n m)) n
+  first = after_edits (map drop_of (gone_arcs n m)) n
 
   abbrev second : Net
-  second = after (map DropNode (gone_nodes n m)) first
+  second = after_edits (map DropNode (gone_nodes n m)) first
 
   abbrev third : Net
-  third = after (map PutNode (new_nodes n m)) second
+  third = after_edits (map PutNode (new_nodes n m)) second
 
   abbrev last : Net
-  last = after (map put_of (new_arcs n m)) third
+  last = after_edits (map put_of (new_arcs n m)) third
 
   arcs_dropped : Dropped (gone_arcs n m) n
   arcs_dropped = dropped (gone_arcs n m) n p.arcs_rise
@@ -424,7 +424,7 @@ module _ (n m : Net) (p : CanBeNet n) (q : CanBeNet m) where
       let arcs : last.arcs ≡ m.arcs = same_map ends_cmp ends_total ends_exact last.arcs m.arcs arcs_put.rise q.arcs_rise at_last in
       λ i. record { nodes = nodes i; arcs = arcs i }
 
-  pub change_gives : after (change n m) n ≡ m
+  pub change_gives : after_edits (change n m) n ≡ m
   change_gives =
       after_both (map drop_of (gone_arcs n m)) _ n
       ∙ after_both (map DropNode (gone_nodes n m)) _ first

@@ -20,9 +20,9 @@ after_edit (PutNode n) net = with_node n net
 after_edit (PutArc from to capacity cost) net = with_arc from to (capacity, cost) net
 
 -- the network after the edits, one after another
-abbrev pub after : List Edit → Net → Net
-after [] net = net
-after (e ∷ es) net = after es (after_edit e net)
+abbrev pub after_edits : List Edit → Net → Net
+after_edits [] net = net
+after_edits (e ∷ es) net = after_edits es (after_edit e net)
 
 -- what the caller must ensure for an arc
 pub record MayPutArc (net : Net) (from to : Node) (capacity cost : ℕ) : Type 0 where
@@ -79,4 +79,4 @@ change n m = map drop_of (gone_arcs n m) ++ (map DropNode (gone_nodes n m) ++ (m
 
 -- the edits up to some one were made
 abbrev pub IsPartMade : Net → List Edit → Net → Type 0
-IsPartMade old edits new = (n : ℕ) × (new ≡ after (take n edits) old)
+IsPartMade old edits new = (n : ℕ) × (new ≡ after_edits (take n edits) old)

@@ -3,8 +3,8 @@ pub mod NodeOrder
 pub mod Net
 pub mod Cells
 pub mod Ordered
-pub mod Walks
-pub mod Same
+pub mod NetworkIter
+pub mod NetworkEquality
 pub mod Ends
 pub mod Network
 pub mod SetNetwork

@@ -11,11 +11,11 @@ use Rattle.fm_records.specs.declared.records.SpecReg.{SpecReg}
 use Rattle.fm_records.specs.declared.records.MachineReg.{MachineReg}
 use Rattle.fm_records.specs.Options.{when, and_then, only_if, passes}
 use Rattle.fm_records.specs.Sets.{IsMember, rising}
-use Rattle.fm_records.specs.LookupLaws.{when_true, both_true}
+use Rattle.fm_records.specs.LookupLaws.{when_is_true, both_true}
 use Rattle.fm_records.specs.RangeLaws.{inside, when_value}
 use Rattle.fm_records.specs.TableLaws.{rising_table, lookup_table, rises_rising, member_rising}
 use Rattle.fm_records.specs.Table.{Table, TaskValue, MachineValue}
-use Rattle.fm_records.specs.Facts.{spec_of, state_of, live_spec, is_live, open_state, is_open, is_present, won_spot, holder_of, holds, load_of, spare_of}
+use Rattle.fm_records.specs.Facts.{spec_of, machine_state, live_spec, is_live, open_state, is_open, is_present, won_spot, holder_of, holds, load_of, spare_of}
 use Rattle.fm_net.specs.declared.node.Node.{Node}
 use Rattle.fm_net.specs.declared.node.Node.TheVariants.{Sink, Unscheduled, Request, Machine, Task}
 use Rattle.fm_net.specs.Nodes.{node_cmp, ends_cmp}
@@ -37,7 +37,7 @@ pub only_if_some : {A : Type 0} (test : A → Bool) (o : Option A) (a : A) → o
 only_if_some test None a e = none e
 only_if_some test (Some b) a e =
     let is : b ≡ a = when_value (test b) b a e in
-    (ap Some is, ap test (sym is) ∙ when_true (test b) b a e)
+    (ap Some is, ap test (sym is) ∙ when_is_true (test b) b a e)
 
 pub came_from : {A B : Type 0} (f : A → Option B) (o : Option A) (b : B) → and_then f o ≡ Some b → (a : A) × (o ≡ Some a) × (f a ≡ Some b)
 came_from f None b e = none e
@@ -58,7 +58,7 @@ module _ (k : Table) where
 
   -- the record of an open machine
   pub open_entry : (m : ℕ) (r : MachineReg) → open_state k m ≡ Some r → (v : MachineValue) × (lookup nat_cmp m k.machines ≡ Some v) × (v.1.0 ≡ Some r)
-  open_entry m r e = came_from (λ v. v.1.0) (lookup nat_cmp m k.machines) r (only_if_some _ (state_of k m) r e).0
+  open_entry m r e = came_from (λ v. v.1.0) (lookup nat_cmp m k.machines) r (only_if_some _ (machine_state k m) r e).0
 
   task_member : (t : ℕ) (s : SpecReg) → live_spec k t ≡ Some s → (v : TaskValue) × IsMember (t, v) k.tasks × (v.0 ≡ Some s)
   task_member t s e = let f = live_entry t s e in (f.0, entry_member nat_cmp nat_same t f.0 k.tasks f.1, f.2)
@@ -144,11 +144,11 @@ module _ (k : Table) where
       let other = came_from (λ s. when (nat_le (load_of k m) s.nic) (s.nic - load_of k m)) (open_state k m) spare.0 spare.1 in
       let one : other.0 ≡ state.0 = inside other.0 state.0 (sym other.1 ∙ state.1) in
       let left : state.0.nic - load_of k m ≡ spare.0 = ap (λ (s : MachineReg). s.nic - load_of k m) (sym one) ∙ when_value _ _ spare.0 other.2 in
-      let fits : r ≤ spare.0 = leb-true r spare.0 (when_true _ _ v spare.2) in
+      let fits : r ≤ spare.0 = leb-true r spare.0 (when_is_true _ _ v spare.2) in
       record {
         state = state.0;
         opened = state.1;
-        within = subst (λ (s : MachineReg). load_of k m ≤ s.nic) one (leb-true (load_of k m) other.0.nic (when_true _ _ spare.0 other.2));
+        within = subst (λ (s : MachineReg). load_of k m ≤ s.nic) one (leb-true (load_of k m) other.0.nic (when_is_true _ _ spare.0 other.2));
         room = subst (λ n. r ≤ n) (sym left) fits;
         value = ap (λ n. (places state.0 n r, r + load_of k m)) left ∙ when_value _ _ v spare.2;
       }
@@ -172,11 +172,11 @@ module _ (k : Table) where
   -- an arc joins nodes
   pub ends_of : (a b : Node) (v : ℕ × ℕ) → arc_of k a b ≡ Some v → Ends a b
   ends_of (Task t) (Request r) v e =
-      let waits = when_true (waits_for k r t) (1, 0) v e in
+      let waits = when_is_true (waits_for k r t) (1, 0) v e in
       let s = passes_some (λ s. s.request == r) (live_spec k t) (both_true _ _ waits).0 in
       record { from = live t s.0 s.1; to = is_some_task (waits_for k r) t s.0 s.1 waits; kinds = tt }
   ends_of (Task t) (Machine m) v e = elim (is_held k t) as (λ b. cond b (when (holds k m t) (1, 0)) (and_then (λ s. preferred_arc k s m) (live_spec k t)) ≡ Some v → Ends (Task t) (Machine m)) [
-    | true ↦ λ f. held_ends t m (when_true (holds k m t) (1, 0) v f)
+    | true ↦ λ f. held_ends t m (when_is_true (holds k m t) (1, 0) v f)
     | false ↦ λ f. let w = preferred_from t m v f in record { from = live t w.0 w.1.live; to = opened m w.1.room.state w.1.room.opened; kinds = tt }
   ] e
   ends_of (Task t) (Unscheduled j) v e =
@@ -188,7 +188,7 @@ module _ (k : Table) where
       let p = room_from r m v f.1 in
       record { from = f.0; to = opened m p.state p.opened; kinds = tt }
   ends_of (Machine m) Sink v e = let s = mapped_from _ (open_state k m) v e in record { from = opened m s.0 s.1; to = refl; kinds = tt }
-  ends_of (Unscheduled j) Sink v e = record { from = when_true (is_node k (Unscheduled j)) _ v e; to = refl; kinds = tt }
+  ends_of (Unscheduled j) Sink v e = record { from = when_is_true (is_node k (Unscheduled j)) _ v e; to = refl; kinds = tt }
   ends_of _ _ v e = none e
 
   abbrev arc : Node × Node → Option (ℕ × ℕ)

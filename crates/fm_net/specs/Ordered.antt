@@ -2,15 +2,15 @@
 use Rattle.std.specs.Prelude.{List}
 use Rattle.std.specs.declared.cmp.Ordering.{Ordering}
 use Rattle.fm_lattice.specs.Maps.{IsRising}
-use Rattle.fm_net.specs.declared.ordered.Form.{Form}
-use Rattle.fm_net.specs.declared.ordered.Form.TheVariants.{Packed, Cells}
-use Rattle.fm_net.specs.declared.ordered.Rest.{Rest}
-use Rattle.fm_net.specs.declared.ordered.Rest.TheVariants as rest
+use Rattle.fm_net.specs.declared.hybrid_map.Form.{Form}
+use Rattle.fm_net.specs.declared.hybrid_map.Form.TheVariants.{Packed, Cells}
+use Rattle.fm_net.specs.declared.hybrid_map.Rest.{Rest}
+use Rattle.fm_net.specs.declared.hybrid_map.Rest.TheVariants as rest
 
 -- the pairs
-abbrev pub pairs_of : {K V : Type 0} → Form K V → List (K × V)
-pairs_of (Packed pairs) = pairs.items
-pairs_of (Cells pairs) = pairs
+abbrev pub pairs_of_form : {K V : Type 0} → Form K V → List (K × V)
+pairs_of_form (Packed pairs) = pairs.items
+pairs_of_form (Cells pairs) = pairs
 
 -- packed pairs lie by rising key; those in cells have their index
 abbrev pub IsInOrder : {K V : Type 0} → (K → K → Ordering) → Form K V → Type 0

@@ -9,7 +9,7 @@ ghost use Rattle.fm_net.specs.Net.{CanBeNet, Net};
 ghost use Rattle.fm_net.specs.Network.{IsNetworkOf, net_of};
 ghost use Rattle.fm_net.specs.SetNetwork.{IsNetworkOfSet};
 ghost use Rattle.fm_net.specs.declared.node.Node.{Node as NodeName};
-ghost use Rattle.fm_net.specs.Edits.{MayEditAll, after, change};
+ghost use Rattle.fm_net.specs.Edits.{MayEditAll, after_edits, change};
 ghost use Rattle.fm_net.specs.Touched.{Touches, touched_change};
 
 /// A network has exactly the nodes and arcs of a table if it is the one computed from the table, so a table has one.
@@ -31,7 +31,7 @@ pub fn law_can_be_net()
 /// The change from one network to another may be made on the first, edit by edit, and gives the second.
 pub fn law_change()
     ensures may { (n m : Net) → CanBeNet n → CanBeNet m → MayEditAll n (change n m) }
-    ensures gives { (n m : Net) → CanBeNet n → CanBeNet m → after (change n m) n ≡ m }
+    ensures gives { (n m : Net) → CanBeNet n → CanBeNet m → after_edits (change n m) n ≡ m }
 {}
 
 /// If the touched nodes and pairs are all that differ, the edits of these are the complete change, in its order.

@@ -1,11 +1,11 @@
 //! The network: nodes, and arcs that have a capacity and a cost.
 #![tactic(auto)]
 
-mod cells;
+mod slab_map;
 pub mod edit;
 pub mod laws;
-pub mod making;
+pub mod apply;
 pub mod network;
 pub mod node;
-mod ordered;
+mod hybrid_map;
 pub mod walks;

@@ -9,7 +9,7 @@ ghost use Rattle.std.specs.List.{list_any};
 ghost use Rattle.fm_net.specs.Ends.{is_end};
 
 use crate::node::Node;
-use crate::ordered::Ordered;
+use crate::hybrid_map::HybridMap;
 use crate::walks::{Arcs, Nodes};
 use fm_lattice::join::OutOfMemory;
 use std::alloc::{AllocError, Global};
@@ -20,8 +20,8 @@ use std::marker::Model;
 /// first new one elsewhere moves them into cells, in O(n log n), once; `scatter` does so before many edits.
 #[derive(Debug, Drop)]
 pub struct Network {
-    nodes: Ordered<Node, ()>,
-    arcs: Ordered<(Node, Node), (u64, u32)>,
+    nodes: HybridMap<Node, ()>,
+    arcs: HybridMap<(Node, Node), (u64, u32)>,
 }
 
 impl Model for Network {
@@ -40,11 +40,11 @@ impl Network {
     pub fn new(alloc: Global) -> Result<Self, OutOfMemory>
         ensures { IfOk result (λ net. net ≡ sink_alone) }
     {
-        let mut nodes = Ordered::new(alloc);
+        let mut nodes = HybridMap::new(alloc);
         nodes.put(Node::Sink, ())?;
         Ok(Network {
             nodes,
-            arcs: Ordered::new(alloc),
+            arcs: HybridMap::new(alloc),
         })
     }
 
@@ -207,7 +207,7 @@ impl Clone for Network {
 }
 
 impl PartialEq for Network {
-    ghost use Rattle.fm_net.specs.Same.{same_net, net_equivalence};
+    ghost use Rattle.fm_net.specs.NetworkEquality.{same_net, net_equivalence};
 
     ghost eq = { same_net };
 
@@ -223,7 +223,7 @@ impl PartialEq for Network {
 }
 
 // Whether an arc leaves or enters the node.
-fn touches(arcs: &Ordered<(Node, Node), (u64, u32)>, node: &Node) -> bool
+fn touches(arcs: &HybridMap<(Node, Node), (u64, u32)>, node: &Node) -> bool
     ensures { result ≡ list_any (λ arc. is_end node.now arc.0) arcs.now }
 {
     let mut rest = arcs.iter();

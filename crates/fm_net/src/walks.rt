@@ -3,10 +3,10 @@
 ghost use Rattle.std.specs.Prelude.{◌≡◌, length, ◌<◌, ◌^◌};
 ghost use Rattle.std.specs.Iterator.{YieldsFirst, YieldsFirstBy, item_count};
 ghost use Rattle.std.specs.Map.{keys_of};
-ghost use Rattle.fm_net.specs.Walks.{arc_entry};
+ghost use Rattle.fm_net.specs.NetworkIter.{arc_entry};
 
 use crate::node::Node;
-use crate::ordered::{Ordered, Pairs};
+use crate::hybrid_map::{HybridMap, Pairs};
 use std::marker::Model;
 
 /// The nodes that are left of a walk, in node order.
@@ -26,7 +26,7 @@ impl<'a> Model for Nodes<'a> {
 }
 
 impl<'a> Nodes<'a> {
-    pub(crate) fn of(nodes: &'a Ordered<Node, ()>) -> Self
+    pub(crate) fn of(nodes: &'a HybridMap<Node, ()>) -> Self
         ensures all { result ≡ keys_of nodes.now }
         ensures fits { length (keys_of nodes.now) < 2 ^ 63 }
     {
@@ -65,7 +65,7 @@ impl<'a> Model for Arcs<'a> {
 }
 
 impl<'a> Arcs<'a> {
-    pub(crate) fn of(arcs: &'a Ordered<(Node, Node), (u64, u32)>) -> Self
+    pub(crate) fn of(arcs: &'a HybridMap<(Node, Node), (u64, u32)>) -> Self
         ensures all { result ≡ arcs.now }
         ensures fits { length arcs.now < 2 ^ 63 }
     {

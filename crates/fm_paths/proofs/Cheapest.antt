@@ -15,10 +15,10 @@ use Rattle.fm_net.specs.Nodes.{number}
 use Rattle.fm_net.specs.Net.{Net, CanBeNet, arc_at}
 use Rattle.fm_net.specs.Network.{is_node, arc_of, net_of}
 use Rattle.fm_net.specs.NetworkLaws.{mapped_from, where_true, room_from, is_network_of}
-use Rattle.fm_net.specs.Same.{same_ends}
+use Rattle.fm_net.specs.NetworkEquality.{same_ends}
 use Rattle.fm_certificate.specs.Flows.{Units, IsFeasible, IsLeast}
 use Rattle.fm_certificate.proofs.Least.{shown_is_least}
-use Rattle.fm_paths.specs.Ways.{Way, ToJob, ByRequest, Straight, steps_of, steps, crossings, units_of, ways_of, Fit}
+use Rattle.fm_paths.specs.TaskPaths.{Way, ToJob, ByRequest, Straight, path_arcs_of, path_arcs, crossings, units_of, ways_of, Fit}
 use Rattle.fm_paths.specs.Prices.{first_node, cost_beyond, arc_cost, cost_from, AreCheapest}
 use Rattle.fm_paths.proofs.Crossed.{ends_Decides}
 use Rattle.fm_paths.proofs.Stands.{from_flat, from_rows}
@@ -49,7 +49,7 @@ crossed_member e (s ∷ ss) some =
     ] refl (sym parts)
 
 -- from a task a way goes to its first node
-pub task_step : (t u : ℕ) (to : Node) (w : Way) → IsMember (Task t, to) (steps_of u w) → (u ≡ t) × (first_node w ≡ to)
+pub task_step : (t u : ℕ) (to : Node) (w : Way) → IsMember (Task t, to) (path_arcs_of u w) → (u ≡ t) × (first_node w ≡ to)
 task_step t u to (ToJob j) m = elim m [
   | inl is ↦ (ap (λ (e : Node × Node). number e.0) is, ap (λ (e : Node × Node). e.1) is)
   | inr (inl is) ↦ absurd (let no : Unscheduled j ≡ Task t = ap (λ (e : Node × Node). e.0) is in let bad : ⊥ = cc in bad)
@@ -70,9 +70,9 @@ task_step t u to (Straight q) m = elim m [
 module _ (k : Table) (way : ℕ → Way) where
   goes_first : (t : ℕ) (to : Node) → 0 < units_of (ways_of k way) (Task t) to → first_node (way t) ≡ to
   goes_first t to some =
-      let w = from_flat steps (Task t, to) (ways_of k way) (crossed_member (Task t, to) (flat_map steps (ways_of k way)) some) in
+      let w = from_flat path_arcs (Task t, to) (ways_of k way) (crossed_member (Task t, to) (flat_map path_arcs (ways_of k way)) some) in
       let u = from_rows k way w.0 k.tasks w.1 in
-      let here : IsMember (Task t, to) (steps_of u.0 (way u.0)) = subst (λ (x : ℕ × Way). IsMember (Task t, to) (steps x)) (sym u.2) w.2 in
+      let here : IsMember (Task t, to) (path_arcs_of u.0 (way u.0)) = subst (λ (x : ℕ × Way). IsMember (Task t, to) (path_arcs x)) (sym u.2) w.2 in
       let both = task_step t u.0 to (way u.0) here in
       subst (λ x. first_node (way x) ≡ to) both.0 both.1
 

@@ -2,7 +2,7 @@
 use Rattle.std.proofs.Common.{◌≡◌, ◌∙◌, ap, sym, refl, ℕ, ◌+◌, ◌-◌, ◌≤◌, Bool, true, false, cond, not, ◌==◌, ◌&&◌, Some, None, IsTrue, eq-eqb, eqb-true, arith}
 use Rattle.fm_records.specs.declared.records.SpecReg.{SpecReg}
 use Rattle.fm_records.specs.declared.records.JobReg.{JobReg}
-use Rattle.fm_records.specs.LookupLaws.{both_true, when_true}
+use Rattle.fm_records.specs.LookupLaws.{both_true, when_is_true}
 use Rattle.fm_records.specs.RangeLaws.{when_value}
 use Rattle.fm_records.specs.Options.{when, and_then, passes}
 use Rattle.fm_records.specs.Table.{Table}
@@ -11,7 +11,7 @@ use Rattle.fm_net.specs.declared.node.Node.{Node}
 use Rattle.fm_net.specs.declared.node.Node.TheVariants.{Sink, Unscheduled, Request, Machine, Task}
 use Rattle.fm_net.specs.Network.{is_held, is_live_of, waits_for, preferred_arc, arc_of}
 use Rattle.fm_net.specs.NetworkLaws.{passes_some, mapped_from, where_true, came_from, ends_of}
-use Rattle.fm_paths.specs.Ways.{Way, ToJob, ByRequest, Straight, MayGo}
+use Rattle.fm_paths.specs.TaskPaths.{Way, ToJob, ByRequest, Straight, MayGo}
 use Rattle.fm_paths.specs.Prices.{first_node, cost_beyond, cost_from, AreCheapest, AreFair}
 use Rattle.fm_paths.proofs.Stands.{job_arc}
 use Rattle.fm_paths.proofs.Cheapest.{own_cost}
@@ -62,7 +62,7 @@ module _ (k : Table) where
   held_arc : (t m : ℕ) (v : ℕ × ℕ) → is_held k t ≡ true → arc_of k (Task t) (Machine m) ≡ Some v → (holder_of k t ≡ Some m) × (0 ≡ v.1)
   held_arc t m v held arc =
       let there : when (holds k m t) (1, 0) ≡ Some v = sym (ap (λ b. cond b (when (holds k m t) (1, 0)) (and_then (λ s. preferred_arc k s m) (live_spec k t))) held) ∙ arc in
-      (held_by t m (when_true _ _ v there), ap (λ (w : ℕ × ℕ). w.1) (when_value (holds k m t) (1, 0) v there))
+      (held_by t m (when_is_true _ _ v there), ap (λ (w : ℕ × ℕ). w.1) (when_value (holds k m t) (1, 0) v there))
 
   -- and of one that waits
   free_arc : (t m : ℕ) (v : ℕ × ℕ) → is_held k t ≡ false → arc_of k (Task t) (Machine m) ≡ Some v → (s : SpecReg) × (live_spec k t ≡ Some s) × (preferred_arc k s m ≡ Some v)
@@ -160,7 +160,7 @@ module _ (k : Table) (way : ℕ → Way) (price offer : ℕ → ℕ) (may : (t :
   none_cheaper t Sink v arc = no_some arc
   none_cheaper t (Task u) v arc = no_some arc
   none_cheaper t (Request r) v arc =
-      let waits = when_true (waits_for k r t) (1, 0) v arc in
+      let waits = when_is_true (waits_for k r t) (1, 0) v arc in
       omega (arith, free_request t r waits (way t) refl (may t (ends_of k (Task t) (Request r) v arc).from))
   none_cheaper t (Unscheduled j) v arc =
       let live = (ends_of k (Task t) (Unscheduled j) v arc).from in

@@ -18,10 +18,10 @@ use Rattle.fm_net.specs.ListLaws.{entry_member}
 use Rattle.fm_net.specs.Net.{CanBeNet}
 use Rattle.fm_net.specs.Network.{is_live_of, live_tasks, is_node, arc_of, net_of}
 use Rattle.fm_net.specs.NetworkLaws.{passes_some, mapped_from, where_true, live_entry, ends_of, is_network_of}
-use Rattle.fm_net.specs.Same.{same_node, same_ends}
+use Rattle.fm_net.specs.NetworkEquality.{same_node, same_ends}
 use Rattle.fm_certificate.specs.Flows.{leaving, IsFeasible}
 use Rattle.fm_certificate.proofs.Sums.{sum_same}
-use Rattle.fm_paths.specs.Ways.{Way, ToJob, ByRequest, Straight, steps_of, steps, crossings, units_of, ways_of, MayGo, goes_by, takes_slot, Fit}
+use Rattle.fm_paths.specs.TaskPaths.{Way, ToJob, ByRequest, Straight, path_arcs_of, path_arcs, crossings, units_of, ways_of, MayGo, goes_by, takes_slot, Fit}
 use Rattle.fm_paths.proofs.Single.{single, sum_flat}
 use Rattle.fm_paths.proofs.Crossed.{leaving_is}
 use Rattle.fm_paths.proofs.Kept.{out, kept}
@@ -36,17 +36,17 @@ sum_le f g (x ∷ xs) each = omega (arith, sum_le f g xs each, each x, sum_by-co
 
 -- what one way has at an arc
 
-once_from : (t u : ℕ) (w : Way) → sum_by (out (Task t)) (steps_of u w) ≡ cond (same_node (Task u) (Task t)) 1 0
+once_from : (t u : ℕ) (w : Way) → sum_by (out (Task t)) (path_arcs_of u w) ≡ cond (same_node (Task u) (Task t)) 1 0
 once_from t u (ToJob j) = omega arith
 once_from t u (ByRequest r m) = omega arith
 once_from t u (Straight m) = omega arith
 
-over_room : (r m u : ℕ) (w : Way) → crossings (steps_of u w) (Request r, Machine m) ≡ cond (goes_by r m (u, w)) 1 0
+over_room : (r m u : ℕ) (w : Way) → crossings (path_arcs_of u w) (Request r, Machine m) ≡ cond (goes_by r m (u, w)) 1 0
 over_room r m u (ToJob j) = omega arith
 over_room r m u (ByRequest q p) = omega arith
 over_room r m u (Straight p) = omega arith
 
-over_slots : (m u : ℕ) (w : Way) → crossings (steps_of u w) (Machine m, Sink) ≡ cond (takes_slot m (u, w)) 1 0
+over_slots : (m u : ℕ) (w : Way) → crossings (path_arcs_of u w) (Machine m, Sink) ≡ cond (takes_slot m (u, w)) 1 0
 over_slots m u (ToJob j) = omega arith
 over_slots m u (ByRequest q p) = elim (p == m) as (λ b. 0 + cond (b && true) 1 0 ≡ cond b 1 0) [ true ↦ refl | false ↦ refl ]
 over_slots m u (Straight p) = elim (p == m) as (λ b. 0 + cond (b && true) 1 0 ≡ cond b 1 0) [ true ↦ refl | false ↦ refl ]
@@ -57,7 +57,7 @@ is_left j (ToJob i) = i == j
 is_left j (ByRequest q p) = false
 is_left j (Straight p) = false
 
-over_job : (j u : ℕ) (w : Way) → crossings (steps_of u w) (Unscheduled j, Sink) ≡ cond (is_left j w) 1 0
+over_job : (j u : ℕ) (w : Way) → crossings (path_arcs_of u w) (Unscheduled j, Sink) ≡ cond (is_left j w) 1 0
 over_job j u (ToJob i) = elim (i == j) as (λ b. 0 + cond (b && true) 1 0 ≡ cond b 1 0) [ true ↦ refl | false ↦ refl ]
 over_job j u (ByRequest q p) = omega arith
 over_job j u (Straight p) = omega arith
@@ -73,7 +73,7 @@ module _ (k : Table) (way : ℕ → Way) (can_be : CanBe k) (can : CanBeNet (net
   ways = ways_of k way
 
   -- one way from each live task
-  one_way : (t : ℕ) → is_live k t ≡ true → sum_by (out (Task t)) (flat_map steps ways) ≡ 1
+  one_way : (t : ℕ) → is_live k t ≡ true → sum_by (out (Task t)) (flat_map path_arcs ways) ≡ 1
   one_way t live =
       let s = passes_some (λ (s : SpecReg). true) (live_spec k t) live in
       let e = live_entry k t s.0 s.1 in
@@ -85,22 +85,22 @@ module _ (k : Table) (way : ℕ → Way) (can_be : CanBe k) (can : CanBeNet (net
         | false ↦ λ _. elim (is_live k b.0) as (λ c. cond {A = ℕ} c 0 0 ≡ 0) [ true ↦ refl | false ↦ refl ]
       ] refl in
       let at_t : f here ≡ 1 = ap (λ b. cond b (cond (t == t) 1 0) 0) live ∙ ap (λ b. cond {A = ℕ} b 1 0) (eq-eqb t t refl) in
-      sum_flat (out (Task t)) steps ways
-      ∙ sum_same (λ w. sum_by (out (Task t)) (steps w)) (λ w. cond (same_node (Task w.0) (Task t)) 1 0) ways (λ w _. once_from t w.0 w.1)
+      sum_flat (out (Task t)) path_arcs ways
+      ∙ sum_same (λ w. sum_by (out (Task t)) (path_arcs w)) (λ w. cond (same_node (Task w.0) (Task t)) 1 0) ways (λ w _. once_from t w.0 w.1)
       ∙ sum_ways k way (λ w. cond (same_node (Task w.0) (Task t)) 1 0)
       ∙ single nat_cmp nat_cmp_total f k.tasks here can_be.table.tasks.rising (entry_member nat_cmp nat_same t e.0 k.tasks e.1) other
       ∙ at_t
 
   sends : (t : ℕ) → is_live k t ≡ true → leaving (net_of k) (units_of ways) (Task t) ≡ 1
-  sends t live = leaving_is (net_of k) can.arcs_rise (flat_map steps ways) (ways_stand k way fit.may) (Task t) ∙ one_way t live
+  sends t live = leaving_is (net_of k) can.arcs_rise (flat_map path_arcs ways) (ways_stand k way fit.may) (Task t) ∙ one_way t live
 
   from_task : (t : ℕ) (to : Node) → is_live k t ≡ true → units_of ways (Task t) to ≤ 1
   from_task t to live =
-      let most = sum_le (λ s. cond (same_ends s (Task t, to)) 1 0) (out (Task t)) (flat_map steps ways) (from_end t to) in
+      let most = sum_le (λ s. cond (same_ends s (Task t, to)) 1 0) (out (Task t)) (flat_map path_arcs ways) (from_end t to) in
       omega (arith, one_way t live)
 
-  counted : (e : Node × Node) (p : ℕ × Way → Bool) → ((u : ℕ) (w : Way) → crossings (steps_of u w) e ≡ cond (p (u, w)) 1 0) → crossings (flat_map steps ways) e ≡ count_by p ways
-  counted e p each = sum_flat (λ s. cond (same_ends s e) 1 0) steps ways ∙ sum_same (λ w. crossings (steps w) e) (λ w. cond (p w) 1 0) ways (λ w _. each w.0 w.1)
+  counted : (e : Node × Node) (p : ℕ × Way → Bool) → ((u : ℕ) (w : Way) → crossings (path_arcs_of u w) e ≡ cond (p (u, w)) 1 0) → crossings (flat_map path_arcs ways) e ≡ count_by p ways
+  counted e p each = sum_flat (λ s. cond (same_ends s e) 1 0) path_arcs ways ∙ sum_same (λ w. crossings (path_arcs w) e) (λ w. cond (p w) 1 0) ways (λ w _. each w.0 w.1)
 
   -- the tasks that are left at a job are live tasks of it
   left_there : (j t : ℕ) (w : Way) → MayGo k t w → cond {A = ℕ} (is_left j w) 1 0 ≤ cond (is_live_of k j t) 1 0

@@ -7,14 +7,14 @@ use Rattle.fm_records.specs.Options.{when, and_then, or_else, passes}
 use Rattle.fm_records.specs.Table.{Table}
 use Rattle.fm_records.specs.Facts.{live_spec, is_live, holder_of, holds}
 use Rattle.fm_net.specs.Network.{is_held, preferred_arc}
-use Rattle.fm_paths.specs.Ways.{Way, MayGo, Fit}
-use Rattle.fm_paths.specs.Moves.{rest_at, rest, ways_with, AreMoves, FitMoves}
+use Rattle.fm_paths.specs.TaskPaths.{Way, MayGo, Fit}
+use Rattle.fm_paths.specs.Moves.{way_at_rest, rest, ways_with, AreMoves, FitMoves}
 use Rattle.fm_paths.proofs.Rounds.{left_fit}
 use Rattle.fm_paths.proofs.Moves.{asked_count, slot_count}
 
 module _ (k : Table) where
   -- a task that does not move may stay as it is
-  rest_may : (t : ℕ) → is_live k t ≡ true → (h : Option ℕ) → holder_of k t ≡ h → MayGo k t (rest_at k t h)
+  rest_may : (t : ℕ) → is_live k t ≡ true → (h : Option ℕ) → holder_of k t ≡ h → MayGo k t (way_at_rest k t h)
   rest_may t live None e = (left_fit k).may t live
   rest_may t live (Some m) e =
       let held : is_held k t ≡ true = ap (passes (λ (x : ℕ). true)) e in

@@ -8,7 +8,7 @@ use Rattle.std.proofs.lemmas.List.Sums.{sum_by-cons}
 use Rattle.fm_lattice.specs.Chains.{nat_same}
 use Rattle.fm_lattice.specs.Maps.{IsRising}
 use Rattle.fm_records.specs.declared.records.SpecReg.{SpecReg}
-use Rattle.fm_records.specs.LookupLaws.{both_true, when_true}
+use Rattle.fm_records.specs.LookupLaws.{both_true, when_is_true}
 use Rattle.fm_records.specs.RangeLaws.{when_value}
 use Rattle.fm_records.specs.Ranges.{CanBe}
 use Rattle.fm_records.specs.Options.{when}
@@ -23,10 +23,10 @@ use Rattle.fm_net.specs.ListLaws.{entry_member, member_mapped, member_of_one}
 use Rattle.fm_net.specs.Net.{CanBeNet}
 use Rattle.fm_net.specs.Network.{arc_of, net_of}
 use Rattle.fm_net.specs.NetworkLaws.{passes_some, live_entry, is_network_of}
-use Rattle.fm_net.specs.Same.{same_ends}
-use Rattle.fm_round.specs.Planned.{Units, units_over, unscheduled_in, preempt_of, plan_of_flow}
+use Rattle.fm_net.specs.NetworkEquality.{same_ends}
+use Rattle.fm_round.specs.Planned.{ArcUnits, units_over, unscheduled_in, preempt_of, plan_of_flow}
 use Rattle.fm_round.proofs.Over.{rising_over}
-use Rattle.fm_paths.specs.Ways.{Way, ToJob, ByRequest, Straight, steps_of, steps, crossings, units_of, ways_of, MayGo}
+use Rattle.fm_paths.specs.TaskPaths.{Way, ToJob, ByRequest, Straight, path_arcs_of, path_arcs, crossings, units_of, ways_of, MayGo}
 use Rattle.fm_paths.specs.Prices.{first_node}
 use Rattle.fm_paths.specs.Plans.{is_job, going, goer, goers, preempts_of_ways}
 use Rattle.fm_paths.proofs.Crossed.{ends_Decides}
@@ -55,7 +55,7 @@ and_no true = refl
 and_no false = refl
 
 -- a way begins at its task
-first_step : (t : ℕ) (w : Way) → IsMember (Task t, first_node w) (steps_of t w)
+first_step : (t : ℕ) (w : Way) → IsMember (Task t, first_node w) (path_arcs_of t w)
 first_step t (ToJob j) = inl refl
 first_step t (ByRequest r m) = inl refl
 first_step t (Straight m) = inl refl
@@ -68,7 +68,7 @@ going_named p ((Request r, n), u) t is = no_some is
 going_named p ((Machine m, n), u) t is = no_some is
 
 going_true : (p : Node → Bool) (e : (Node × Node) × ℕ) (t : ℕ) → going p e ≡ Some t → (0 < e.1) × (p e.0.1 ≡ true)
-going_true p ((Task s, n), u) t is = let both = both_true (nat_lt 0 u) (p n) (when_true (nat_lt 0 u && p n) s t is) in (ltb-true 0 u both.0, both.1)
+going_true p ((Task s, n), u) t is = let both = both_true (nat_lt 0 u) (p n) (when_is_true (nat_lt 0 u && p n) s t is) in (ltb-true 0 u both.0, both.1)
 going_true p ((Sink, n), u) t is = no_some is
 going_true p ((Unscheduled j, n), u) t is = no_some is
 going_true p ((Request r, n), u) t is = no_some is
@@ -81,7 +81,7 @@ module _ (k : Table) (way : ℕ → Way) (can_be : CanBe k) (can : CanBeNet (net
   abbrev sent : Node → Node → ℕ
   sent = units_of (ways_of k way)
 
-  abbrev f : Units
+  abbrev f : ArcUnits
   f = units_over (net_of k) sent
 
   pub f_rises : IsRising ends_cmp f
@@ -111,13 +111,13 @@ module _ (k : Table) (way : ℕ → Way) (can_be : CanBe k) (can : CanBeNet (net
       is_found (λ (x : ℕ × TaskValue). when (is_live k x.0) (x.0, way x.0)) (t, e.0) (t, way t) k.tasks e.1 (ap (λ b. when b (t, way t)) live)
 
   first_sent : (t : ℕ) → is_live k t ≡ true → 0 < sent (Task t) (first_node (way t))
-  first_sent t live = member_crossed (Task t, first_node (way t)) (flat_map steps (ways_of k way)) (member_of_one steps (t, way t) (Task t, first_node (way t)) (ways_of k way) (way_there t live) (first_step t (way t)))
+  first_sent t live = member_crossed (Task t, first_node (way t)) (flat_map path_arcs (ways_of k way)) (member_of_one path_arcs (t, way t) (Task t, first_node (way t)) (ways_of k way) (way_there t live) (first_step t (way t)))
 
   sent_first : (t : ℕ) (to : Node) → 0 < sent (Task t) to → (first_node (way t) ≡ to) × (is_live k t ≡ true)
   sent_first t to some =
-      let w = from_flat steps (Task t, to) (ways_of k way) (crossed_member (Task t, to) (flat_map steps (ways_of k way)) some) in
+      let w = from_flat path_arcs (Task t, to) (ways_of k way) (crossed_member (Task t, to) (flat_map path_arcs (ways_of k way)) some) in
       let u = from_rows k way w.0 k.tasks w.1 in
-      let here : IsMember (Task t, to) (steps_of u.0 (way u.0)) = subst (λ (x : ℕ × Way). IsMember (Task t, to) (steps x)) (sym u.2) w.2 in
+      let here : IsMember (Task t, to) (path_arcs_of u.0 (way u.0)) = subst (λ (x : ℕ × Way). IsMember (Task t, to) (path_arcs x)) (sym u.2) w.2 in
       let both = task_step t u.0 to (way u.0) here in
       (subst (λ x. first_node (way x) ≡ to) both.0 both.1, subst (λ x. is_live k x ≡ true) both.0 u.1)
 
@@ -154,7 +154,7 @@ module _ (k : Table) (way : ℕ → Way) (can_be : CanBe k) (can : CanBeNet (net
       (λ t m.
       let e = found_from (goer k way p) t k.tasks m in
       let same = when_value (is_live k e.0.0 && p (first_node (way e.0.0))) e.0.0 t e.2 in
-      let both = both_true (is_live k e.0.0) (p (first_node (way e.0.0))) (when_true (is_live k e.0.0 && p (first_node (way e.0.0))) e.0.0 t e.2) in
+      let both = both_true (is_live k e.0.0) (p (first_node (way e.0.0))) (when_is_true (is_live k e.0.0 && p (first_node (way e.0.0))) e.0.0 t e.2) in
       let live : is_live k t ≡ true = subst (λ x. is_live k x ≡ true) same both.0 in
       let passes : p (first_node (way t)) ≡ true = subst (λ x. p (first_node (way x)) ≡ true) same both.1 in
       let arc = first_arc t live in

@@ -20,14 +20,14 @@ use Rattle.fm_net.specs.Network.{is_held, net_of}
 use Rattle.fm_net.specs.NetworkLaws.{passes_some, live_entry, held_ends}
 use Rattle.fm_certificate.proofs.Members.{member_lookup}
 use Rattle.fm_certificate.proofs.Sums.{sum_same, sum_both}
-use Rattle.fm_round.specs.declared.parts.Place.{Place}
-use Rattle.fm_round.specs.declared.parts.Preempt.{Preempt}
+use Rattle.fm_round.specs.declared.plan.Place.{Place}
+use Rattle.fm_round.specs.declared.plan.Preempt.{Preempt}
 use Rattle.fm_round.specs.Planned.{place_at, preempt_of}
 use Rattle.fm_round.specs.Schedules.{IsPlanOf}
-use Rattle.fm_paths.specs.Ways.{Way, ToJob, ByRequest, Straight, ways_of, goes_by, takes_slot, Fit}
+use Rattle.fm_paths.specs.TaskPaths.{Way, ToJob, ByRequest, Straight, ways_of, goes_by, takes_slot, Fit}
 use Rattle.fm_paths.specs.Prices.{first_node, AreFair}
 use Rattle.fm_paths.specs.Plans.{is_job, is_run, goer, place_way, places_of_ways, preempts_of_ways, InTurn}
-use Rattle.fm_paths.specs.Moves.{rest_at, rest, ways_with, AreMoves, places_of_moves, preempts_of_moves, plan_of_moves}
+use Rattle.fm_paths.specs.Moves.{way_at_rest, rest, ways_with, AreMoves, places_of_moves, preempts_of_moves, plan_of_moves}
 use Rattle.fm_paths.proofs.Stands.{sum_ways}
 use Rattle.fm_paths.proofs.Listed.{found_same, fused}
 use Rattle.fm_paths.proofs.Rounds.{is_plan}
@@ -141,7 +141,7 @@ module _ (k : Table) (moves : List (ℕ × Way)) (can_be : CanBe k) (are : AreMo
   none_held m t dead = elim (holds k m t) as (λ b. holds k m t ≡ b → b ≡ false) [ true ↦ λ e. absurd (let both : true ≡ false = sym (held_ends k t m e).from ∙ dead in let bad : ⊥ = cc in bad) | false ↦ λ _. refl ] refl
 
   -- by requests go those alone that move
-  asked_one : (r m t : ℕ) (o : Option Way) (h : Option ℕ) → cond {A = ℕ} (goes_by r m (t, or_else (rest_at k t h) o)) 1 0 ≡ part (λ w. cond (goes_by r m w) 1 0) (option_map (λ w. (t, w)) o)
+  asked_one : (r m t : ℕ) (o : Option Way) (h : Option ℕ) → cond {A = ℕ} (goes_by r m (t, or_else (way_at_rest k t h) o)) 1 0 ≡ part (λ w. cond (goes_by r m w) 1 0) (option_map (λ w. (t, w)) o)
   asked_one r m t None None = refl
   asked_one r m t None (Some p) = refl
   asked_one r m t (Some w) h = refl
@@ -160,7 +160,7 @@ module _ (k : Table) (moves : List (ℕ × Way)) (can_be : CanBe k) (are : AreMo
 
   -- a machine's slots are taken by those it holds, less those that move, and those that move to it
   slot_one : (m t : ℕ) (o : Option Way) (h : Option ℕ) (held : ℕ) → held ≡ cond (passes (λ (x : ℕ). x == m) h) 1 0 → cond
-      {A = ℕ} (takes_slot m (t, or_else (rest_at k t h) o)) 1 0 + part (λ (w : ℕ × Way). held) (option_map (λ w. (t, w)) o) ≡
+      {A = ℕ} (takes_slot m (t, or_else (way_at_rest k t h) o)) 1 0 + part (λ (w : ℕ × Way). held) (option_map (λ w. (t, w)) o) ≡
       held + part (λ w. cond (takes_slot m w) 1 0) (option_map (λ w. (t, w)) o)
   slot_one m t None None held is = omega arith
   slot_one m t None (Some p) held is = omega arith
@@ -205,11 +205,11 @@ module _ (k : Table) (moves : List (ℕ × Way)) (can_be : CanBe k) (are : AreMo
   runs t (ByRequest r m) = refl
   runs t (Straight m) = refl
 
-  rest_place : (t : ℕ) (h : Option ℕ) → holder_of k t ≡ h → place_way k t (rest_at k t h) ≡ None
+  rest_place : (t : ℕ) (h : Option ℕ) → holder_of k t ≡ h → place_way k t (way_at_rest k t h) ≡ None
   rest_place t None e = refl
   rest_place t (Some p) e = let held : is_held k t ≡ true = ap (passes (λ (m : ℕ). true)) e in ap (λ b. cond b None (place_at k t p)) held
 
-  rest_preempt : (t : ℕ) (h : Option ℕ) → holder_of k t ≡ h → cond (is_job (first_node (rest_at k t h))) (preempt_of k t) None ≡ None
+  rest_preempt : (t : ℕ) (h : Option ℕ) → holder_of k t ≡ h → cond (is_job (first_node (way_at_rest k t h))) (preempt_of k t) None ≡ None
   rest_preempt t None e = let free : is_held k t ≡ false = ap (passes (λ (m : ℕ). true)) e in ap (λ b. when b (record { task = t; attempt = attempt_of k t })) free
   rest_preempt t (Some p) e = refl
 

@@ -6,7 +6,7 @@ use Rattle.std.specs.Ordering.{nat_cmp}
 use Rattle.std.proofs.lemmas.Bool.{cases_lt}
 use Rattle.std.proofs.lemmas.List.Sums.{sum_by-cons}
 use Rattle.fm_lattice.specs.Maps.{lookup}
-use Rattle.fm_records.specs.LookupLaws.{both_true, when_true}
+use Rattle.fm_records.specs.LookupLaws.{both_true, when_is_true}
 use Rattle.fm_records.specs.RangeLaws.{when_value}
 use Rattle.fm_records.specs.Ranges.{CanBe}
 use Rattle.fm_records.specs.Options.{when, and_then, or_else}
@@ -22,10 +22,10 @@ use Rattle.fm_net.specs.Net.{CanBeNet}
 use Rattle.fm_net.specs.Network.{is_held, net_of}
 use Rattle.fm_net.specs.NetworkLaws.{is_network_of}
 use Rattle.fm_certificate.proofs.Members.{member_lookup}
-use Rattle.fm_round.specs.declared.parts.Place.{Place}
-use Rattle.fm_round.specs.Planned.{Wait, Units, units, units_over, wait_in, waits, seats, tasks_of, machines_of, machine_for, place_at, place_of, placed_in, plan_of_flow}
+use Rattle.fm_round.specs.declared.plan.Place.{Place}
+use Rattle.fm_round.specs.Planned.{Wait, ArcUnits, units, units_over, wait_in, waits, seats, tasks_of, machines_of, machine_for, place_at, place_of, place_in_plan, plan_of_flow}
 use Rattle.fm_round.proofs.Flows.{seats_counted}
-use Rattle.fm_paths.specs.Ways.{Way, ToJob, ByRequest, Straight, steps, units_of, ways_of, goes_by, Fit}
+use Rattle.fm_paths.specs.TaskPaths.{Way, ToJob, ByRequest, Straight, path_arcs, units_of, ways_of, goes_by, Fit}
 use Rattle.fm_paths.specs.Prices.{first_node}
 use Rattle.fm_paths.specs.Plans.{is_run, is_request, going, goer, goers, place_way, places_of_ways, InTurn}
 use Rattle.fm_paths.proofs.Stands.{sum_ways, ways_stand}
@@ -71,7 +71,7 @@ module _ (k : Table) (way : ℕ → Way) (can_be : CanBe k) (can : CanBeNet (net
   abbrev sent : Node → Node → ℕ
   sent = units_of (ways_of k way)
 
-  abbrev f : Units
+  abbrev f : ArcUnits
   f = units_over (net_of k) sent
 
   abbrev machine_of : ℕ → ℕ
@@ -93,7 +93,7 @@ module _ (k : Table) (way : ℕ → Way) (can_be : CanBe k) (can : CanBeNet (net
         | Some u ↦ λ e. sym (units_are k way can_be can fit.may ((from, to), u) (entry_member ends_cmp ends_exact (from, to) u f e))
         | None ↦ λ e. elim (cases_lt 0 (sent from to)) [
           | inl some ↦
-              let arc = ways_stand k way fit.may (from, to) (crossed_member (from, to) (flat_map steps (ways_of k way)) some) in
+              let arc = ways_stand k way fit.may (from, to) (crossed_member (from, to) (flat_map path_arcs (ways_of k way)) some) in
               let there = stands k way can_be can fit.may from to arc.0 (sym ((is_network_of k).each_arc from to) ∙ arc.1) in
               no_some (sym e ∙ member_lookup ends_cmp ends_total ends_exact ((from, to), sent from to) f (f_rises k way can_be can fit.may) there)
           | inr none ↦ omega arith
@@ -105,7 +105,7 @@ module _ (k : Table) (way : ℕ → Way) (can_be : CanBe k) (can : CanBeNet (net
       let e = found_from (goer k way (is_request r)) t k.tasks m in
       let test = is_live k e.0.0 && is_request r (first_node (way e.0.0)) in
       let same = when_value test e.0.0 t e.2 in
-      let both = both_true (is_live k e.0.0) (is_request r (first_node (way e.0.0))) (when_true test e.0.0 t e.2) in
+      let both = both_true (is_live k e.0.0) (is_request r (first_node (way e.0.0))) (when_is_true test e.0.0 t e.2) in
       (subst (λ x. is_live k x ≡ true) same both.0, subst (λ x. way x ≡ ByRequest r (machine_of x)) same (asks_is r (way e.0.0) both.1))
 
   counted : (r m : ℕ) (es : List (ℕ × TaskValue)) → times m (map machine_of (filter_map (goer k way (is_request r)) es)) ≡ sum_by (λ e. cond (is_live k e.0) (cond (goes_by r m (e.0, way e.0)) 1 0) 0) es
@@ -183,7 +183,7 @@ module _ (k : Table) (way : ℕ → Way) (can_be : CanBe k) (can : CanBeNet (net
   no_place t true = refl
   no_place t false = refl
 
-  placed_is : (e : (Node × Node) × ℕ) → IsMember e f → placed_in ws (seats f) k e ≡ and_then place (going is_run e)
+  placed_is : (e : (Node × Node) × ℕ) → IsMember e f → place_in_plan ws (seats f) k e ≡ and_then place (going is_run e)
   placed_is ((Task t, Request r), u) m = placed_request t r u m (nat_lt 0 u) refl
   placed_is ((Task t, Machine q), u) m = placed_machine t q u m (nat_lt 0 u) refl
   placed_is ((Task t, Sink), u) m = no_place t (nat_lt 0 u)
@@ -196,6 +196,6 @@ module _ (k : Table) (way : ℕ → Way) (can_be : CanBe k) (can : CanBeNet (net
 
   pub places_are : (plan_of_flow f k).places ≡ places_of_ways k way
   places_are =
-      found_same (placed_in ws (seats f) k) (λ e. and_then place (going is_run e)) f placed_is
+      found_same (place_in_plan ws (seats f) k) (λ e. and_then place (going is_run e)) f placed_is
       ∙ sym (fused (going is_run) place f)
       ∙ ap (filter_map place) (going_is k way can_be can fit.may is_run)

@@ -9,7 +9,7 @@ use Rattle.fm_net.specs.Net.{CanBeNet}
 use Rattle.fm_net.specs.Network.{net_of}
 use Rattle.fm_certificate.proofs.Sums.{sum_none}
 use Rattle.fm_round.specs.Schedules.{IsPlanOf}
-use Rattle.fm_paths.specs.Ways.{Way, units_of, ways_of, goes_by, takes_slot, Fit}
+use Rattle.fm_paths.specs.TaskPaths.{Way, units_of, ways_of, goes_by, takes_slot, Fit}
 use Rattle.fm_paths.specs.Prices.{AreFair}
 use Rattle.fm_paths.specs.Plans.{plan_of_ways, all_at_jobs, InTurn}
 use Rattle.fm_paths.proofs.Stands.{sum_ways}

@@ -16,7 +16,7 @@ use Rattle.fm_net.specs.declared.node.Node.{Node}
 use Rattle.fm_net.specs.declared.node.Node.TheVariants.{Request, Machine}
 use Rattle.fm_net.specs.Nodes.{node_cmp, ends_cmp}
 use Rattle.fm_net.specs.NodeOrder.{node_total}
-use Rattle.fm_round.specs.Planned.{Units, seats_in, seats, machines_of}
+use Rattle.fm_round.specs.Planned.{ArcUnits, seats_in, seats, machines_of}
 use Rattle.fm_paths.proofs.Orders.{AreFrom, NeverFalls}
 
 module _ (r : ℕ) where
@@ -53,14 +53,14 @@ module _ (r : ℕ) where
       let lt : m < n = ranked m n Less (sym less) in
       omega arith
 
-  split : (e : (Node × Node) × ℕ) (f : Units) → machines_of r (seats_in e ++ seats f) ≡ machines_of r (seats_in e) ++ machines_of r (seats f)
+  split : (e : (Node × Node) × ℕ) (f : ArcUnits) → machines_of r (seats_in e ++ seats f) ≡ machines_of r (seats_in e) ++ machines_of r (seats f)
   split e f = filter_map-append (λ s. when (s.request == r) s.machine) (seats_in e) (seats f)
 
-  behind_from : (m : ℕ) (f : Units) → IsBelow ends_cmp (Request r, Machine m) f → AreFrom m (machines_of r (seats f))
+  behind_from : (m : ℕ) (f : ArcUnits) → IsBelow ends_cmp (Request r, Machine m) f → AreFrom m (machines_of r (seats f))
   behind_from m [] below = tt
   behind_from m (e ∷ f) below = subst (AreFrom m) (sym (split e f)) (one_from m e (machines_of r (seats f)) (λ n is. beside m n (subst (λ x. ends_cmp (Request r, Machine m) x ≡ Less) is below.0)) (behind_from m f below.1))
 
-  pub seats_never_fall : (f : Units) → IsRising ends_cmp f → NeverFalls (machines_of r (seats f))
+  pub seats_never_fall : (f : ArcUnits) → IsRising ends_cmp f → NeverFalls (machines_of r (seats f))
   seats_never_fall [] rises = tt
   seats_never_fall (e ∷ f) rises = subst NeverFalls (sym (split e f)) (one_falls e (machines_of r (seats f)) (λ m is. behind_from m f (subst (λ x. IsBelow ends_cmp x f) is rises.0)) (seats_never_fall f rises.1))
 

@@ -13,10 +13,10 @@ use Rattle.fm_net.specs.Net.{CanBeNet}
 use Rattle.fm_net.specs.Network.{room_arc, preferred_arc, net_of}
 use Rattle.fm_net.specs.NetworkLaws.{passes_some, came_from, mapped_from, room_from, held_ends}
 use Rattle.fm_round.specs.Schedules.{IsPlanOf}
-use Rattle.fm_paths.specs.Ways.{ByRequest, Straight}
+use Rattle.fm_paths.specs.TaskPaths.{ByRequest, Straight}
 use Rattle.fm_paths.specs.Prices.{AreFair}
 use Rattle.fm_paths.specs.Plans.{InTurn}
-use Rattle.fm_paths.specs.Moves.{rest_at, ways_with, AreMoves, FitMoves, plan_of_moves}
+use Rattle.fm_paths.specs.Moves.{way_at_rest, ways_with, AreMoves, FitMoves, plan_of_moves}
 use Rattle.fm_paths.proofs.Moves.{moves_plan}
 use Rattle.fm_paths.proofs.FitMoves.{moves_fit}
 
@@ -42,11 +42,11 @@ module _ (k : Table) (can_be : CanBe k) (can : CanBeNet (net_of k)) (shut : (m :
       let place = mapped_from (λ (a : ℕ × ℕ). (1, a.1 - credit.0)) (room_arc k s.request m) v credit.2 in
       no_room s.request m place.0 place.1
 
-  never_asks : {P : Type 0} (t r m : ℕ) (h : Option ℕ) → rest_at k t h ≡ ByRequest r m → P
+  never_asks : {P : Type 0} (t r m : ℕ) (h : Option ℕ) → way_at_rest k t h ≡ ByRequest r m → P
   never_asks t r m None e = absurd (let no : ⊥ = cc in no)
   never_asks t r m (Some p) e = absurd (let no : ⊥ = cc in no)
 
-  never_goes : {P : Type 0} (t m : ℕ) (h : Option ℕ) → holder_of k t ≡ h → rest_at k t h ≡ Straight m → P
+  never_goes : {P : Type 0} (t m : ℕ) (h : Option ℕ) → holder_of k t ≡ h → way_at_rest k t h ≡ Straight m → P
   never_goes t m None e is = absurd (let no : ⊥ = cc in no)
   never_goes t m (Some p) e is = no_holder t p e
 

@@ -14,7 +14,7 @@ use Rattle.fm_net.specs.declared.node.Node.{Node}
 use Rattle.fm_net.specs.declared.node.Node.TheVariants.{Sink, Unscheduled, Request, Machine, Task}
 use Rattle.fm_net.specs.Network.{is_held, is_live_of, live_tasks, is_node, room_arc, arc_of, net_of}
 use Rattle.fm_net.specs.NetworkLaws.{passes_some, only_if_some, room_from, ends_of, is_network_of}
-use Rattle.fm_paths.specs.Ways.{Way, ToJob, ByRequest, Straight, steps_of, steps, ways_of, MayGo, HasArcsOf}
+use Rattle.fm_paths.specs.TaskPaths.{Way, ToJob, ByRequest, Straight, path_arcs_of, path_arcs, ways_of, MayGo, HasArcsOf}
 
 -- members of lists in turn
 
@@ -83,7 +83,7 @@ module _ (k : Table) where
   at_two : (a b s : Node × Node) → HasArc a → HasArc b → IsMember s (a ∷ b ∷ []) → HasArc s
   at_two a b s x y m = elim m [ inl is ↦ subst HasArc is x | inr later ↦ elim later [ inl is ↦ subst HasArc is y | inr none ↦ absurd none ] ]
 
-  pub step_arc : (t : ℕ) (w : Way) → MayGo k t w → (s : Node × Node) → IsMember s (steps_of t w) → HasArc s
+  pub step_arc : (t : ℕ) (w : Way) → MayGo k t w → (s : Node × Node) → IsMember s (path_arcs_of t w) → HasArc s
   step_arc t (ToJob j) may s m =
       let first = job_arc t j may in
       let ends = ends_of k (Task t) (Unscheduled j) first.0 first.1 in
@@ -103,8 +103,8 @@ module _ (k : Table) where
 
   pub ways_stand : (way : ℕ → Way) → ((t : ℕ) → IsTrue (is_live k t) → MayGo k t (way t)) → HasArcsOf (net_of k) (ways_of k way)
   ways_stand way may s m =
-      let w = from_flat steps s (ways_of k way) m in
+      let w = from_flat path_arcs s (ways_of k way) m in
       let t = from_rows k way w.0 k.tasks w.1 in
-      let here : IsMember s (steps (t.0, way t.0)) = subst (λ (x : ℕ × Way). IsMember s (steps x)) (sym t.2) w.2 in
+      let here : IsMember s (path_arcs (t.0, way t.0)) = subst (λ (x : ℕ × Way). IsMember s (path_arcs x)) (sym t.2) w.2 in
       let arc = step_arc t.0 (way t.0) (may t.0 t.1) s here in
       (arc.0, (is_network_of k).each_arc s.0 s.1 ∙ arc.1)

@@ -7,22 +7,22 @@ use Rattle.fm_records.specs.declared.records.MachineReg.{MachineReg}
 use Rattle.fm_records.specs.Options.{or_else}
 use Rattle.fm_records.specs.Table.{Table}
 use Rattle.fm_records.specs.Facts.{is_live, open_state, holder_of, holds}
-use Rattle.fm_round.specs.declared.parts.Place.{Place}
-use Rattle.fm_round.specs.declared.parts.Preempt.{Preempt}
-use Rattle.fm_round.specs.declared.parts.Plan.{Plan}
+use Rattle.fm_round.specs.declared.plan.Place.{Place}
+use Rattle.fm_round.specs.declared.plan.Preempt.{Preempt}
+use Rattle.fm_round.specs.declared.plan.Plan.{Plan}
 use Rattle.fm_round.specs.Planned.{preempt_of}
 use Rattle.fm_net.specs.Network.{room_arc}
-use Rattle.fm_paths.specs.Ways.{Way, Straight, MayGo, goes_by, takes_slot}
+use Rattle.fm_paths.specs.TaskPaths.{Way, Straight, MayGo, goes_by, takes_slot}
 use Rattle.fm_paths.specs.Prices.{first_node}
 use Rattle.fm_paths.specs.Plans.{is_job, place_way, all_at_jobs}
 
-abbrev pub rest_at : Table → ℕ → Option ℕ → Way
-rest_at k t None = all_at_jobs k t
-rest_at k t (Some m) = Straight m
+abbrev pub way_at_rest : Table → ℕ → Option ℕ → Way
+way_at_rest k t None = all_at_jobs k t
+way_at_rest k t (Some m) = Straight m
 
 -- the way of a task that does not move
 abbrev pub rest : Table → ℕ → Way
-rest k t = rest_at k t (holder_of k t)
+rest k t = way_at_rest k t (holder_of k t)
 
 -- the ways of all tasks, where these move
 abbrev pub ways_with : Table → List (ℕ × Way) → ℕ → Way

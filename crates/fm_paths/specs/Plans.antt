@@ -7,11 +7,11 @@ use Rattle.fm_records.specs.Facts.{live_spec, is_live}
 use Rattle.fm_net.specs.declared.node.Node.{Node}
 use Rattle.fm_net.specs.declared.node.Node.TheVariants.{Unscheduled, Request, Machine, Task}
 use Rattle.fm_net.specs.Network.{is_held}
-use Rattle.fm_round.specs.declared.parts.Place.{Place}
-use Rattle.fm_round.specs.declared.parts.Preempt.{Preempt}
-use Rattle.fm_round.specs.declared.parts.Plan.{Plan}
+use Rattle.fm_round.specs.declared.plan.Place.{Place}
+use Rattle.fm_round.specs.declared.plan.Preempt.{Preempt}
+use Rattle.fm_round.specs.declared.plan.Plan.{Plan}
 use Rattle.fm_round.specs.Planned.{place_at, preempt_of}
-use Rattle.fm_paths.specs.Ways.{Way, ToJob, ByRequest, Straight}
+use Rattle.fm_paths.specs.TaskPaths.{Way, ToJob, ByRequest, Straight}
 use Rattle.fm_paths.specs.Prices.{first_node}
 
 abbrev pub is_job : Node → Bool

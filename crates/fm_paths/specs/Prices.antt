@@ -10,7 +10,7 @@ use Rattle.fm_records.specs.Facts.{job_of, live_spec, open_state, holder_of, loa
 use Rattle.fm_net.specs.declared.node.Node.{Node}
 use Rattle.fm_net.specs.declared.node.Node.TheVariants.{Sink, Unscheduled, Request, Machine, Task}
 use Rattle.fm_net.specs.Network.{is_node, is_live_of, waits_for, room_arc, preferred_arc, arc_of}
-use Rattle.fm_paths.specs.Ways.{Way, ToJob, ByRequest, Straight, ways_of, goes_by, takes_slot}
+use Rattle.fm_paths.specs.TaskPaths.{Way, ToJob, ByRequest, Straight, ways_of, goes_by, takes_slot}
 
 -- the first node on a way
 abbrev pub first_node : Way → Node

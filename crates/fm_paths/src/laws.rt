@@ -15,7 +15,7 @@ ghost use Rattle.fm_round.specs.Schedules.{IsPlanOf};
 ghost use Rattle.fm_round.specs.Planned.{units_over, plan_of_flow};
 ghost use Rattle.fm_paths.specs.Plans.{preempts_of_ways, places_of_ways, plan_of_ways, all_at_jobs, InTurn};
 ghost use Rattle.fm_paths.specs.Prices.{AreCheapest, AreFair};
-ghost use Rattle.fm_paths.specs.Ways.{Way, units_of, ways_of, goes_by, takes_slot, HasArcsOf, Fit};
+ghost use Rattle.fm_paths.specs.TaskPaths.{Way, units_of, ways_of, goes_by, takes_slot, HasArcsOf, Fit};
 
 /// The units of any ways are conserved, if the network has their arcs: what enters a node between tasks and sink leaves it.
 /// Textbook: a sum of paths.

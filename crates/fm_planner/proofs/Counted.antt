@@ -14,8 +14,8 @@ use Rattle.fm_records.specs.Table.{Table}
 use Rattle.fm_records.specs.Facts.{holder_of, holds}
 use Rattle.fm_tally.specs.declared.way.Way.{Way}
 use Rattle.fm_tally.specs.declared.way.Way.TheVariants.{ToJob, ByRequest, Straight}
-use Rattle.fm_paths.specs.Ways.{goes_by, takes_slot}
-use Rattle.fm_planner.specs.Counts.{pair_of, machine_of}
+use Rattle.fm_paths.specs.TaskPaths.{goes_by, takes_slot}
+use Rattle.fm_planner.specs.Counts.{pair_of, moved_machine}
 
 -- a comparison of numbers, as a test of equality
 pub at_number : (q r : ℕ) → is_eq (nat_cmp q r) ≡ (q == r)
@@ -38,7 +38,7 @@ pair_counts r m t (ToJob j) = refl
 pair_counts r m t (ByRequest q p) = both_equal (nat_cmp q r) (nat_cmp p m) ∙ (λ i. at_number q r i && at_number p m i)
 pair_counts r m t (Straight p) = refl
 
-pub machine_counts : (m t : ℕ) (w : Way) → passes (λ (p : ℕ). is_at (nat_cmp p) m) (machine_of w) ≡ takes_slot m (t, w)
+pub machine_counts : (m t : ℕ) (w : Way) → passes (λ (p : ℕ). is_at (nat_cmp p) m) (moved_machine w) ≡ takes_slot m (t, w)
 machine_counts m t (ToJob j) = refl
 machine_counts m t (ByRequest q p) = at_number p m
 machine_counts m t (Straight p) = at_number p m

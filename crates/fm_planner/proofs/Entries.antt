@@ -12,8 +12,8 @@ use Rattle.fm_net.specs.Network.{is_held, room_arc, place_arc}
 use Rattle.fm_net.specs.NetworkLaws.{came_from, mapped_from}
 use Rattle.fm_tally.specs.declared.tally.LiveTask.{LiveTask}
 use Rattle.fm_tally.specs.declared.tally.OpenMachine.{OpenMachine}
-use Rattle.fm_tally.specs.Tallies.{has_any, task_at, machine_at}
-use Rattle.fm_planner.specs.Checks.{fits}
+use Rattle.fm_tally.specs.Tallies.{has_any, task_at, open_machine_at}
+use Rattle.fm_planner.specs.Slackness.{fitting_tasks}
 
 module _ (k : Table) where
   -- a live task of the tally
@@ -43,18 +43,18 @@ module _ (k : Table) where
   abbrev pub open_of : ℕ → MachineReg → OpenMachine
   open_of m state = record { slots = state.slots; load = load_of k m; spare = spare_of k m; held = count_by (λ e. holds k m e.0) k.tasks; requests = sum_by (λ e. request_of e.1.0) (held_tasks k m) }
 
-  pub machine_found : (m : ℕ) (y : OpenMachine) → machine_at k m ≡ Some y → (state : MachineReg) × (open_state k m ≡ Some state) × (open_of m state ≡ y)
+  pub machine_found : (m : ℕ) (y : OpenMachine) → open_machine_at k m ≡ Some y → (state : MachineReg) × (open_state k m ≡ Some state) × (open_of m state ≡ y)
   machine_found m y e = mapped_from (open_of m) (open_state k m) y e
 
-  pub open_in_tally : (m : ℕ) (state : MachineReg) → open_state k m ≡ Some state → machine_at k m ≡ Some (open_of m state)
+  pub open_in_tally : (m : ℕ) (state : MachineReg) → open_state k m ≡ Some state → open_machine_at k m ≡ Some (open_of m state)
   open_in_tally m state e = ap (option_map (open_of m)) e
 
   -- room for a request, by the tally
-  pub room_is : (r m : ℕ) (state : MachineReg) (spare : ℕ) → open_state k m ≡ Some state → spare_of k m ≡ Some spare → r ≤ spare → room_arc k r m ≡ Some (fits state.slots spare r, r + load_of k m)
+  pub room_is : (r m : ℕ) (state : MachineReg) (spare : ℕ) → open_state k m ≡ Some state → spare_of k m ≡ Some spare → r ≤ spare → room_arc k r m ≡ Some (fitting_tasks state.slots spare r, r + load_of k m)
   room_is r m state spare opened left room =
       ap (and_then (λ (s : MachineReg). and_then (place_arc k r m s) (spare_of k m))) opened
       ∙ ap (and_then (place_arc k r m state)) left
-      ∙ ap (λ b. when b (fits state.slots spare r, r + load_of k m)) (le-leb r spare room)
+      ∙ ap (λ b. when b (fitting_tasks state.slots spare r, r + load_of k m)) (le-leb r spare room)
 
   pub spare_left : (m : ℕ) (state : MachineReg) → open_state k m ≡ Some state → load_of k m ≤ state.nic → spare_of k m ≡ Some (state.nic - load_of k m)
   spare_left m state opened within =

@@ -4,7 +4,7 @@ use Rattle.fm_records.specs.Table.{Table}
 use Rattle.fm_net.specs.Net.{Net}
 use Rattle.fm_net.specs.Network.{net_of}
 use Rattle.fm_certificate.specs.Flows.{Units, IsLeast}
-use Rattle.fm_round.specs.declared.parts.Plan.{Plan}
+use Rattle.fm_round.specs.declared.plan.Plan.{Plan}
 use Rattle.fm_round.specs.Planned.{units_over, plan_of_flow}
 use Rattle.fm_round.specs.Schedules.{IsPlanOf}
 

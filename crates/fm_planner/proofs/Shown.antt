@@ -23,18 +23,18 @@ use Rattle.fm_tally.specs.declared.tally.Tally.{Tally}
 use Rattle.fm_tally.specs.Tallies.{has_any, task_at, TallyIsFor}
 use Rattle.fm_tally.specs.declared.way.Way.{Way}
 use Rattle.fm_tally.specs.declared.way.Way.TheVariants.{ToJob, ByRequest, Straight}
-use Rattle.fm_paths.specs.Ways.{MayGo, ways_of, goes_by, takes_slot}
+use Rattle.fm_paths.specs.TaskPaths.{MayGo, ways_of, goes_by, takes_slot}
 use Rattle.fm_paths.specs.Prices.{first_node, arc_cost, cost_beyond, cost_from, AreFair}
 use Rattle.fm_paths.specs.Plans.{InTurn, all_at_jobs}
-use Rattle.fm_paths.specs.Moves.{rest_at, rest, ways_with, AreMoves, FitMoves}
+use Rattle.fm_paths.specs.Moves.{way_at_rest, rest, ways_with, AreMoves, FitMoves}
 use Rattle.fm_paths.proofs.Moves.{asked_count, slot_count}
 use Rattle.fm_paths.proofs.Stands.{live_job}
 use Rattle.fm_paths.proofs.Fair.{waits_spec, not_held}
 use Rattle.fm_search.specs.declared.claim.Claim.{Claim}
-use Rattle.fm_planner.specs.declared.counts.Counts.{Counts}
+use Rattle.fm_planner.specs.declared.move_counts.Counts.{Counts}
 use Rattle.fm_search.specs.Claims.{rise_of, price_of, offer_of}
 use Rattle.fm_planner.specs.Counts.{AreCounts}
-use Rattle.fm_planner.specs.Checks.{IsFairAtRest, IsFairTask, load_in, straight_cost, own_cost, IsNoCheaper, Leaves, Asks, GoesStraight, IsFairMove, IsFairOffer, IsFairMachine, Passes, fits}
+use Rattle.fm_planner.specs.Slackness.{IsFairAtRest, IsFairTask, load_in, straight_cost, own_cost, IsNoCheaper, Leaves, Asks, GoesStraight, IsFairMove, IsFairOffer, IsFairMachine, Passes, fitting_tasks}
 use Rattle.fm_planner.proofs.Lists.{all_at, counted_member}
 use Rattle.fm_planner.proofs.Entries.{task_found, entry_of, in_tally, open_of, machine_found, open_in_tally, room_is, spare_left}
 use Rattle.fm_planner.proofs.Turns.{in_turn}
@@ -129,9 +129,9 @@ module _ (k : Table) (tally : Tally) (claim : Claim) (counts : Counts) (is_for :
             let wait = ap (λ (x : JobReg). x.wait) same in
             let pays = a.pays in
             omega (arith, price, wait, pays);
-        capacity = fits y.0.slots a.spare r;
+        capacity = fitting_tasks y.0.slots a.spare r;
         room = room_is k r m y.0 a.spare y.1 left a.room;
-        few = let number = counted.pairs r m in let few = a.few in let same = ap (λ s. fits s a.spare r) slots in omega (arith, number, few, same);
+        few = let number = counted.pairs r m in let few = a.few in let same = ap (λ s. fitting_tasks s a.spare r) slots in omega (arith, number, few, same);
         price = let price = a.price in omega (arith, load, price);
       }
 
@@ -199,10 +199,10 @@ module _ (k : Table) (tally : Tally) (claim : Claim) (counts : Counts) (is_for :
   -- the ways of those that do not move
 
   held_rests : (t m : ℕ) → holder_of k t ≡ Some m → rest k t ≡ Straight m
-  held_rests t m e = ap (rest_at k t) e
+  held_rests t m e = ap (way_at_rest k t) e
 
   free_rests : (t : ℕ) → is_held k t ≡ false → rest k t ≡ all_at_jobs k t
-  free_rests t free = elim (holder_of k t) as (λ o. passes (λ (x : ℕ). true) o ≡ false → rest_at k t o ≡ all_at_jobs k t) [ None ↦ λ _. refl | Some m ↦ λ no. both_ways refl no ] free
+  free_rests t free = elim (holder_of k t) as (λ o. passes (λ (x : ℕ). true) o ≡ false → way_at_rest k t o ≡ all_at_jobs k t) [ None ↦ λ _. refl | Some m ↦ λ no. both_ways refl no ] free
 
   way_is : (t : ℕ) (w : Way) (P : Type 0) → way t ≡ w → (lookup nat_cmp t claim.moves ≡ None → rest k t ≡ w → P) → (lookup nat_cmp t claim.moves ≡ Some w → P) → P
   way_is t w P is rests moves =
@@ -215,7 +215,7 @@ module _ (k : Table) (tally : Tally) (claim : Claim) (counts : Counts) (is_for :
   no_holder t free = elim (holder_of k t) as (λ o. passes (λ (x : ℕ). true) o ≡ false → o ≡ None) [ None ↦ λ _. refl | Some m ↦ λ no. both_ways refl no ] free
 
   never_asks : (t r m : ℕ) (P : Type 0) → rest k t ≡ ByRequest r m → P
-  never_asks t r m P = elim (holder_of k t) as (λ o. rest_at k t o ≡ ByRequest r m → P) [ None ↦ λ e. job_request e | Some p ↦ λ e. straight_request e ]
+  never_asks t r m P = elim (holder_of k t) as (λ o. way_at_rest k t o ≡ ByRequest r m → P) [ None ↦ λ e. job_request e | Some p ↦ λ e. straight_request e ]
 
   -- the moves
 

@@ -8,8 +8,8 @@ use Rattle.fm_records.specs.Table.{Table}
 use Rattle.fm_records.specs.Facts.{holds}
 use Rattle.fm_tally.specs.declared.way.Way.{Way}
 use Rattle.fm_tally.specs.declared.way.Way.TheVariants.{ToJob, ByRequest, Straight}
-use Rattle.fm_paths.specs.Ways.{goes_by, takes_slot}
-use Rattle.fm_planner.specs.declared.counts.Counts.{Counts}
+use Rattle.fm_paths.specs.TaskPaths.{goes_by, takes_slot}
+use Rattle.fm_planner.specs.declared.move_counts.Counts.{Counts}
 
 abbrev pub count_in : {K : Type 0} → (K → K → Ordering) → BTreeMap K ℕ → K → ℕ
 count_in cmp counts q = unwrap_or (get cmp counts q) 0
@@ -29,10 +29,10 @@ pair_of (ToJob j) = None
 pair_of (ByRequest r m) = Some (r, m)
 pair_of (Straight m) = None
 
-abbrev pub machine_of : Way → Option ℕ
-machine_of (ToJob j) = None
-machine_of (ByRequest r m) = Some m
-machine_of (Straight m) = Some m
+abbrev pub moved_machine : Way → Option ℕ
+moved_machine (ToJob j) = None
+moved_machine (ByRequest r m) = Some m
+moved_machine (Straight m) = Some m
 
 -- the counts of the moves
 pub record AreCounts (k : Table) (moves : List (ℕ × Way)) (counts : Counts) : Type 0 where

@@ -5,9 +5,9 @@ ghost use Rattle.std.specs.Prelude.{◌≡◌, ◌≤◌, ◌<◌, ◌+◌, ◌�
 ghost use Rattle.std.specs.Ordering.{nat_cmp};
 ghost use Rattle.std.specs.BTreeMap.{get};
 ghost use Rattle.fm_search.specs.Claims.{rise_of, offer_of};
-ghost use Rattle.fm_planner.specs.Checks.{AllOf, IsFairTask, IsFairMove, IsFairMachine, IsFairOffer, IsTop, IsFairAtRest, IsPreferredFairly, IsNoCheaper, HasRoom, GoesStraight, own_cost, straight_cost, load_in, HasFairSlots, HasMoreRoom, Leaves, Asks, GoInTurn, IsNext, after_move, fits, Passes};
+ghost use Rattle.fm_planner.specs.Slackness.{AllOf, IsFairTask, IsFairMove, IsFairMachine, IsFairOffer, IsTop, IsFairAtRest, IsPreferredFairly, IsNoCheaper, HasRoom, GoesStraight, own_cost, straight_cost, load_in, HasFairSlots, HasMoreRoom, Leaves, Asks, GoInTurn, IsNext, after_move, fitting_tasks, Passes};
 
-use crate::counts::Counts;
+use crate::move_counts::Counts;
 use fm_know::knowledge::Knowledge;
 use fm_lattice::join::OutOfMemory;
 use fm_records::ids::{JobId, MachineId, TaskId};
@@ -334,7 +334,7 @@ fn price_of(rise: u64, state: &OpenMachine) -> Option<u64>
 
 // How many tasks of the request fit into slots and spare.
 fn fits(slots: u32, spare: u32, request: u32) -> u32
-    ensures { result ≡ fits slots spare request }
+    ensures { result ≡ fitting_tasks slots spare request }
 {
     if request == 0 {
         slots

@@ -3,8 +3,8 @@
 #![tactic(auto)]
 
 mod checking;
-mod counts;
-mod making;
+mod move_counts;
+mod plan_of_moves;
 pub mod network_plan;
-pub mod planned;
+pub mod plan_source;
 pub mod planner;

@@ -5,12 +5,12 @@ ghost use Rattle.fm_round.specs.Schedules.{IsPlanOf};
 ghost use Rattle.fm_tally.specs.Tallies.{TallyIsFor};
 
 use crate::checking::passes;
-use crate::counts::Counts;
-use crate::making::plan_of;
+use crate::move_counts::Counts;
+use crate::plan_of_moves::plan_of;
 use fm_know::knowledge::Knowledge;
 use fm_know::laws::law_can_be;
 use fm_lattice::join::OutOfMemory;
-use fm_round::parts::Plan;
+use fm_round::plan::Plan;
 use fm_search::search::search;
 use fm_tally::tally::Tally;
 use fm_paths::laws::law_moves;

@@ -9,7 +9,7 @@ use Rattle.std.specs.Cmp.{Equal-is}
 use Rattle.std.proofs.lemmas.Cmp.{tied_itself}
 use Rattle.fm_net.specs.Net.{Net, has_node, arc_at, are_ends}
 use Rattle.fm_net.specs.Network.{is_node, arc_of}
-use Rattle.fm_policy.specs.Building.{Stands, Leads, Adds}
+use Rattle.fm_policy.specs.Building.{Stands, HasArcTo, Adds}
 
 pub adds_nothing : (k : Table) (net : Net) → Adds k net net
 adds_nothing k net = record { part = λ p. p; grows = record { nodes = λ n s. s; arcs = λ a b l. l } }
@@ -59,5 +59,5 @@ adds_arc k old new from to arc is has arcs = record {
   };
 }
 
-pub leads_now : (old new : Net) (from to : Node) (arc : ℕ × ℕ) → HasArc old new from to arc → Leads new from to
+pub leads_now : (old new : Net) (from to : Node) (arc : ℕ × ℕ) → HasArc old new from to arc → HasArcTo new from to
 leads_now old new from to arc arcs = subst IsSome (sym (arcs from to)) (subst (λ t. IsSome (cond t (Some arc) (arc_at old from to))) (sym (same_ends from to)) refl)

@@ -8,8 +8,8 @@ use Rattle.fm_records.specs.Table.{Table}
 use Rattle.fm_records.specs.Facts.{live_spec, holder_of, is_live}
 use Rattle.fm_net.specs.BoundLaws.{spec_ranges}
 use Rattle.fm_net.specs.NetworkLaws.{mapped_from}
-use Rattle.fm_policy.specs.declared.facts.TaskFacts.{TaskFacts}
-use Rattle.fm_policy.specs.Facts.{task_facts}
+use Rattle.fm_policy.specs.declared.node_facts.TaskFacts.{TaskFacts}
+use Rattle.fm_policy.specs.NodeFacts.{task_facts}
 use Rattle.fm_policy.specs.declared.live_task.LiveTask.{LiveTask}
 use Rattle.fm_policy.specs.LiveTasks.{live_task}
 

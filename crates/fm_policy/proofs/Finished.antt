@@ -11,7 +11,7 @@ use Rattle.fm_net.specs.declared.node.Node.{Node}
 use Rattle.fm_net.specs.declared.node.Node.TheVariants.{Sink, Unscheduled, Request, Machine, Task}
 use Rattle.fm_net.specs.Net.{Net, CanBeNet, arc_at, sink_alone}
 use Rattle.fm_net.specs.Network.{IsNetworkOf, is_node, is_held, is_live_of, waits_for, preferred_arc, arc_of}
-use Rattle.fm_policy.specs.Building.{Stands, Leads, IsPart, HasWaiting, HasHolder, HasNodes, CoversJob, CoversMachine, CoversTask, CoversPlace}
+use Rattle.fm_policy.specs.Building.{Stands, HasArcTo, IsPart, HasWaiting, HasHolder, HasNodes, CoversJob, CoversMachine, CoversTask, CoversPlace}
 use Rattle.fm_policy.proofs.Parts.{spec_tested, place_needs}
 
 no_way : {A : Type 0} → false ≡ true → A
@@ -71,11 +71,11 @@ module _ (k : Table) where
         let has = subst (λ o. HasHolder k t w.0.request o net) w.3 (tasks t w.0 w.1).holder in
         subst (λ q. HasWaiting k t q net) w.2 has
 
-    has_job : (j t : ℕ) → is_live_of k j t ≡ true → Leads net (Task t) (Unscheduled j)
+    has_job : (j t : ℕ) → is_live_of k j t ≡ true → HasArcTo net (Task t) (Unscheduled j)
     has_job j t h =
         let live = spec_tested k (λ s. s.job == j) t h in
         let is = eqb-true live.0.job j live.2 in
-        subst (λ i. Leads net (Task t) (Unscheduled i)) is (tasks t live.0 live.1).unscheduled
+        subst (λ i. HasArcTo net (Task t) (Unscheduled i)) is (tasks t live.0 live.1).unscheduled
 
     module _ (can : CanBeNet net) (all_nodes : HasNodes k net) (jobs : (j : ℕ) → CoversJob k j net) (machines : (m : ℕ) → CoversMachine k m net) (places : (r : ℕ) → is_node k (Request r) ≡ true → (m : ℕ) → CoversPlace k r m net) where
       of_when : {A : Type 0} (b : Bool) (x : A) → is_some (when b x) ≡ true → b ≡ true
@@ -90,10 +90,10 @@ module _ (k : Table) where
       some_then f None h = no_way h
       some_then f (Some a) h = (a, refl)
 
-      all_arcs : (a b : Node) → is_some (arc_of k a b) ≡ true → Leads net a b
+      all_arcs : (a b : Node) → is_some (arc_of k a b) ≡ true → HasArcTo net a b
       all_arcs (Task t) (Request r) h = (has_waiting r t (of_when _ _ h)).waits
       all_arcs (Request r) (Machine m) h = places r (place_needs k r m h).0 m h
-      all_arcs (Task t) (Machine m) h = elim (is_held k t) as (λ b. is_held k t ≡ b → Leads net (Task t) (Machine m)) [
+      all_arcs (Task t) (Machine m) h = elim (is_held k t) as (λ b. is_held k t ≡ b → HasArcTo net (Task t) (Machine m)) [
         | true ↦ λ e.
             let held = held_live t m (of_when _ _ (subst (λ b. is_some (cond b (when (holds k m t) (1, 0)) (and_then (λ s. preferred_arc k s m) (live_spec k t))) ≡ true) e h)) in
             subst (λ o. HasHolder k t held.0.request o net) held.2 (tasks t held.0 held.1).holder
@@ -113,7 +113,7 @@ module _ (k : Table) where
         same_arc a b (Some v) e = part.arcs a b (all_arcs a b (ap is_some e)) ∙ e
         same_arc a b None e = elim (arc_at net a b) as (λ o. arc_at net a b ≡ o → o ≡ None) [
           | None ↦ λ _. refl
-          | Some v ↦ λ there. let leads : Leads net a b = ap is_some there in sym there ∙ part.arcs a b leads ∙ e
+          | Some v ↦ λ there. let leads : HasArcTo net a b = ap is_some there in sym there ∙ part.arcs a b leads ∙ e
         ] refl
 
         pub is_network : IsNetworkOf k net

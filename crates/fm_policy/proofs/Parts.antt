@@ -8,7 +8,7 @@ use Rattle.fm_records.specs.declared.records.SpecReg.{SpecReg}
 use Rattle.fm_records.specs.declared.records.MachineReg.{MachineReg}
 use Rattle.fm_records.specs.Options.{when, and_then, only_if, passes}
 use Rattle.fm_records.specs.Table.{Table}
-use Rattle.fm_records.specs.Facts.{job_of, spec_of, live_spec, state_of, open_state, is_open, holder_of, spare_of}
+use Rattle.fm_records.specs.Facts.{job_of, spec_of, live_spec, machine_state, open_state, is_open, holder_of, spare_of}
 use Rattle.fm_net.specs.declared.node.Node.TheVariants.{Sink, Unscheduled, Request, Machine, Task}
 use Rattle.fm_net.specs.Network.{is_node, is_held, is_live_of, waits_for, live_tasks, place_arc, room_arc, preferred_arc, arc_of}
 use Rattle.fm_policy.proofs.Listed.{HasKey, listed, some_listed}
@@ -33,7 +33,7 @@ module _ (k : Table) where
   live_listed t s e = let v = has_value (λ v. v.0) (lookup nat_cmp t k.tasks) s (was_there _ (spec_of k t) s e) in listed t k.tasks v.0 v.1
 
   pub state_listed : (m : ℕ) (s : MachineReg) → open_state k m ≡ Some s → HasKey m k.machines
-  state_listed m s e = let v = has_value (λ v. v.1.0) (lookup nat_cmp m k.machines) s (was_there _ (state_of k m) s e) in listed m k.machines v.0 v.1
+  state_listed m s e = let v = has_value (λ v. v.1.0) (lookup nat_cmp m k.machines) s (was_there _ (machine_state k m) s e) in listed m k.machines v.0 v.1
 
   -- the spec of a task that is live by a test of its spec
   pub spec_tested : (test : SpecReg → Bool) (t : ℕ) → passes test (live_spec k t) ≡ true → (s : SpecReg) × (live_spec k t ≡ Some s) × (test s ≡ true)

@@ -11,18 +11,18 @@ use Rattle.fm_net.specs.Network.{is_node, arc_of}
 abbrev pub Stands : Net → Node → Type 0
 Stands net n = IsTrue (has_node net n)
 
-abbrev pub Leads : Net → Node → Node → Type 0
-Leads net a b = IsSome (arc_at net a b)
+abbrev pub HasArcTo : Net → Node → Node → Type 0
+HasArcTo net a b = IsSome (arc_at net a b)
 
 -- each node and each arc of the network is one of the table
 pub record IsPart (k : Table) (net : Net) : Type 0 where
   pub nodes : (n : Node) → Stands net n → IsTrue (is_node k n)
-  pub arcs : (a b : Node) → Leads net a b → arc_at net a b ≡ arc_of k a b
+  pub arcs : (a b : Node) → HasArcTo net a b → arc_at net a b ≡ arc_of k a b
 
 -- what was there stays
 pub record Grows (old new : Net) : Type 0 where
   pub nodes : (n : Node) → Stands old n → Stands new n
-  pub arcs : (a b : Node) → Leads old a b → Leads new a b
+  pub arcs : (a b : Node) → HasArcTo old a b → HasArcTo new a b
 
 -- the new network has more of the table's network
 pub record Adds (k : Table) (old new : Net) : Type 0 where
@@ -31,7 +31,7 @@ pub record Adds (k : Table) (old new : Net) : Type 0 where
 
 -- an arc of the table's network joins two of its nodes, of kinds that an arc may join, and has a capacity and a cost that an arc
 -- may have
-pub record IsArcOf (k : Table) (a b : Node) (arc : ℕ × ℕ) : Type 0 where
+pub record MayHaveArc (k : Table) (a b : Node) (arc : ℕ × ℕ) : Type 0 where
   pub from : IsTrue (is_node k a)
   pub to : IsTrue (is_node k b)
   pub kinds : IsArcKind a b
@@ -52,30 +52,30 @@ HasNodes k net = (n : Node) → HasNode k n net
 -- the arcs that jobs, requests, open machines and live tasks have in the table's network
 
 abbrev pub CoversJob : Table → ℕ → Net → Type 0
-CoversJob k j net = IsTrue (is_node k (Unscheduled j)) → Leads net (Unscheduled j) Sink
+CoversJob k j net = IsTrue (is_node k (Unscheduled j)) → HasArcTo net (Unscheduled j) Sink
 
 abbrev pub CoversPlace : Table → ℕ → ℕ → Net → Type 0
-CoversPlace k r m net = IsSome (arc_of k (Request r) (Machine m)) → Leads net (Request r) (Machine m)
+CoversPlace k r m net = IsSome (arc_of k (Request r) (Machine m)) → HasArcTo net (Request r) (Machine m)
 
 abbrev pub CoversMachine : Table → ℕ → Net → Type 0
-CoversMachine k m net = IsTrue (is_open k m) → Leads net (Machine m) Sink
+CoversMachine k m net = IsTrue (is_open k m) → HasArcTo net (Machine m) Sink
 
 abbrev pub Covers : Table → Node → Node → Net → Type 0
-Covers k a b net = IsSome (arc_of k a b) → Leads net a b
+Covers k a b net = IsSome (arc_of k a b) → HasArcTo net a b
 
 abbrev pub CoversPreferred : Table → ℕ → ℕ → Net → Type 0
-CoversPreferred k t m net = IsSome (arc_of k (Task t) (Machine m)) → Leads net (Task t) (Machine m)
+CoversPreferred k t m net = IsSome (arc_of k (Task t) (Machine m)) → HasArcTo net (Task t) (Machine m)
 
 pub record HasWaiting (k : Table) (t r : ℕ) (net : Net) : Type 0 where
-  pub waits : Leads net (Task t) (Request r)
+  pub waits : HasArcTo net (Task t) (Request r)
   pub preferred : (m : ℕ) → CoversPreferred k t m net
 
 abbrev pub HasHolder : Table → ℕ → ℕ → Option ℕ → Net → Type 0
 HasHolder k t r None net = HasWaiting k t r net
-HasHolder k t r (Some m) net = Leads net (Task t) (Machine m)
+HasHolder k t r (Some m) net = HasArcTo net (Task t) (Machine m)
 
 pub record HasTask (k : Table) (t : ℕ) (spec : SpecReg) (net : Net) : Type 0 where
-  pub unscheduled : Leads net (Task t) (Unscheduled spec.job)
+  pub unscheduled : HasArcTo net (Task t) (Unscheduled spec.job)
   pub holder : HasHolder k t spec.request (holder_of k t) net
 
 abbrev pub CoversTask : Table → ℕ → Net → Type 0

@@ -13,7 +13,7 @@ use Rattle.fm_records.specs.OrderLaws.{total_attempt, same_attempt}
 use Rattle.fm_records.specs.Sets.{IsMember}
 use Rattle.fm_records.specs.TableLaws.{member_rising}
 use Rattle.fm_records.specs.Table.{Table, TaskValue}
-use Rattle.fm_records.specs.Spelled.{IsTable}
+use Rattle.fm_records.specs.OpsOfTable.{IsTable}
 use Rattle.fm_records.specs.Joined.{table_join}
 use Rattle.fm_net.specs.ListLaws.{entry_member, member_before, member_behind, member_mapped}
 use Rattle.fm_policy.specs.Changes.{changed_tasks}

@@ -12,7 +12,7 @@ use Rattle.fm_records.specs.Facts.{live_spec, holds}
 use Rattle.fm_net.specs.declared.node.Node.{Node}
 use Rattle.fm_net.specs.declared.node.Node.TheVariants.{Sink, Unscheduled, Request, Machine, Task}
 use Rattle.fm_net.specs.Network.{is_node, is_held, is_live_of, live_tasks, arc_of}
-use Rattle.fm_policy.specs.Facts.{facts_of, node_of, is_there, arc_between}
+use Rattle.fm_policy.specs.NodeFacts.{facts_of, node_of, is_there, arc_between}
 use Rattle.fm_policy.specs.RoomLaws.{room_fits}
 
 none_more : (n : ℕ) → 0 + n ≡ n

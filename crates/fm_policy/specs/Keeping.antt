@@ -7,7 +7,7 @@ use Rattle.fm_policy.specs.Changes.{Keys, changed_keys}
 
 -- a keeper, if fresh, is for what was known before a delta was taken in; with it, the table is what is known, and the keys
 -- are the delta's
-pub record TookIn (fresh : Bool) (is_for : Table → Type 0) (now : Table) (changed : Keys) : Type 0 where
+pub record FollowsAfter (fresh : Bool) (is_for : Table → Type 0) (now : Table) (changed : Keys) : Type 0 where
   pub before : Table
   pub delta : Table
   pub before_can_be : CanBe before

@@ -7,9 +7,9 @@ use Rattle.fm_records.specs.Know.{know}
 use Rattle.fm_records.specs.Joined.{table_join}
 use Rattle.fm_records.specs.JoinedLaws.{table_laws}
 use Rattle.fm_policy.specs.Changes.{Keys, no_keys, changed_keys, joined_keys}
-use Rattle.fm_policy.specs.Keeping.{TookIn}
+use Rattle.fm_policy.specs.Keeping.{FollowsAfter}
 
-pub took_none : (is_for : Table → Type 0) (k : Table) (keys : Keys) → CanBe k → keys ≡ no_keys → is_for k → TookIn true is_for k keys
+pub took_none : (is_for : Table → Type 0) (k : Table) (keys : Keys) → CanBe k → keys ≡ no_keys → is_for k → FollowsAfter true is_for k keys
 took_none is_for k keys can none here = record {
   before = k;
   delta = know [];
@@ -22,7 +22,7 @@ took_none is_for k keys can none here = record {
 
 pub took_on : ((k l : Table) → CanBe k → CanBe l → changed_keys (table_join k l) ≡ joined_keys (changed_keys k) (changed_keys l))
     → (is_for : Table → Type 0) (old keys new : Keys) (now : Table) → new ≡ joined_keys old keys
-    → TookIn true (λ k. TookIn true is_for k old) now keys → TookIn true is_for now new
+    → FollowsAfter true (λ k. FollowsAfter true is_for k old) now keys → FollowsAfter true is_for now new
 took_on joins is_for old keys new now is t =
     let u = t.for_before refl in
     record {

@@ -8,6 +8,6 @@ pub mod LiveTasks
 pub mod Rooms
 pub mod RoomLaws
 pub mod Rules
-pub mod Facts
+pub mod NodeFacts
 pub mod FactsLaws
 pub mod Surveys

@@ -6,9 +6,9 @@ use Rattle.fm_records.specs.Options.{when}
 use Rattle.fm_records.specs.Sets.{rising}
 use Rattle.fm_records.specs.Table.{Table}
 use Rattle.fm_records.specs.Facts.{is_open}
-use Rattle.fm_policy.specs.declared.facts.MachineFacts.{MachineFacts}
-use Rattle.fm_policy.specs.declared.survey.Survey.{Survey}
-use Rattle.fm_policy.specs.Facts.{machine_facts}
+use Rattle.fm_policy.specs.declared.node_facts.MachineFacts.{MachineFacts}
+use Rattle.fm_policy.specs.declared.inputs.NetworkInputs.{NetworkInputs}
+use Rattle.fm_policy.specs.NodeFacts.{machine_facts}
 use Rattle.fm_policy.specs.LiveTasks.{all_live, waiting_request}
 use Rattle.fm_policy.specs.Tallying.{IsTally}
 
@@ -20,7 +20,7 @@ open_machine k m = when (is_open k m) (machine_facts k m)
 abbrev pub all_open : Table → List MachineFacts
 all_open k = filter_map (λ e. open_machine k e.0) k.machines
 
-pub record IsSurvey (k : Table) (survey : Survey) : Type 0 where
+pub record IsSurvey (k : Table) (survey : NetworkInputs) : Type 0 where
   pub live : survey.live.items ≡ all_live k
   pub requests : survey.requests.items ≡ rising nat_cmp (filter_map waiting_request survey.live.items)
   pub tally : IsTally k survey.tallies

@@ -7,11 +7,11 @@ use Rattle.fm_records.specs.Table.{Table}
 use Rattle.fm_records.specs.Facts.{held_tasks, request_of}
 use Rattle.fm_net.specs.Network.{live_tasks}
 use Rattle.fm_policy.specs.declared.live_task.LiveTask.{LiveTask}
-use Rattle.fm_policy.specs.declared.tallies.Tallies.{Tallies}
+use Rattle.fm_policy.specs.declared.task_sums.Tallies.{Tallies}
 
 -- what the tallies say of a job, and of a machine
-abbrev pub live_in : Tallies → ℕ → ℕ
-live_in tallies j = unwrap_or (get nat_cmp tallies.live j) 0
+abbrev pub live_count : Tallies → ℕ → ℕ
+live_count tallies j = unwrap_or (get nat_cmp tallies.live j) 0
 
 abbrev pub held_in : Tallies → ℕ → ℕ
 held_in tallies m = unwrap_or (get nat_cmp tallies.held m) 0
@@ -25,5 +25,5 @@ request_on m live = cond (passes (λ h. h == m) live.holder) live.spec.request 0
 
 -- the live tasks of each job, and the requests of the tasks that each machine holds
 pub record IsTally (k : Table) (tallies : Tallies) : Type 0 where
-  pub live : (j : ℕ) → live_in tallies j ≡ live_tasks k j
+  pub live : (j : ℕ) → live_count tallies j ≡ live_tasks k j
   pub held : (m : ℕ) → held_in tallies m ≡ sum_by (λ e. request_of e.1.0) (held_tasks k m)

@@ -3,9 +3,9 @@
 ghost use Rattle.std.specs.Prelude.{◌≡◌, IfOk};
 ghost use Rattle.fm_net.specs.Network.{net_of};
 
-use crate::arcs;
+use crate::put_arcs;
 use crate::nodes::put_nodes;
-use crate::survey::Survey;
+use crate::inputs::NetworkInputs;
 use fm_know::knowledge::Knowledge;
 use fm_lattice::join::OutOfMemory;
 use fm_net::network::Network;
@@ -18,13 +18,13 @@ use std::alloc::Global;
 pub fn build(alloc: Global, knowledge: &Knowledge) -> Result<Network, OutOfMemory>
     ensures { IfOk result (λ net. net ≡ net_of knowledge.now) }
 {
-    let survey = Survey::of(alloc, knowledge)?;
+    let survey = NetworkInputs::of(alloc, knowledge)?;
     let mut network = Network::new(alloc)?;
     put_nodes(&mut network, knowledge, &survey)?;
-    arcs::put_jobs(&mut network, knowledge, &survey)?;
-    arcs::put_requests(&mut network, knowledge, &survey)?;
-    arcs::put_machines(&mut network, knowledge, &survey)?;
-    arcs::put_tasks(&mut network, knowledge, &survey)?;
+    put_arcs::put_jobs(&mut network, knowledge, &survey)?;
+    put_arcs::put_requests(&mut network, knowledge, &survey)?;
+    put_arcs::put_machines(&mut network, knowledge, &survey)?;
+    put_arcs::put_tasks(&mut network, knowledge, &survey)?;
     network.known();
     Ok(network)
 }

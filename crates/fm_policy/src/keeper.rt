@@ -5,7 +5,7 @@ ghost use Rattle.fm_records.specs.Table.{Table};
 ghost use Rattle.fm_records.specs.Ranges.{CanBe};
 ghost use Rattle.fm_net.specs.Network.{net_of};
 ghost use Rattle.fm_policy.specs.Changes.{Keys};
-ghost use Rattle.fm_policy.specs.Keeping.{TookIn};
+ghost use Rattle.fm_policy.specs.Keeping.{FollowsAfter};
 
 use crate::changed::Changed;
 use fm_know::knowledge::Knowledge;
@@ -42,11 +42,11 @@ pub trait NetKeeper: Drop {
         now: &Knowledge,
         changed: &Changed,
     ) -> Result<(), OutOfMemory>
-        requires { TookIn (fresh self.old) (is_for self.old) now.now changed.now }
+        requires { FollowsAfter (fresh self.old) (is_for self.old) now.now changed.now }
         ensures ok { OnOk result (IsTrue (fresh self.new) → is_for self.new now.now) }
         ensures err { OnErr result (fresh self.new ≡ false) }
         ensures stale { fresh self.old ≡ false → fresh self.new ≡ false }
-        ensures keeps_up { TookIn true (follows self.old) now.now changed.now → follows self.new now.now }
+        ensures keeps_up { FollowsAfter true (follows self.old) now.now changed.now → follows self.new now.now }
         ensures absorbs { absorbs self.old changed.now self.new };
 
     /// Builds the network of the knowledge, after which the keeper is fresh. If memory runs out, it is stale.

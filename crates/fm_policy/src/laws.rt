@@ -6,8 +6,8 @@ ghost use Rattle.fm_records.specs.Ranges.{CanBe};
 ghost use Rattle.fm_records.specs.Joined.{table_join};
 ghost use Rattle.fm_net.specs.declared.node.Node.{Node as NodeName};
 ghost use Rattle.fm_net.specs.Network.{is_node, arc_of};
-ghost use Rattle.fm_policy.specs.Building.{IsArcOf};
-ghost use Rattle.fm_policy.specs.Facts.{facts_of, is_there, arc_between};
+ghost use Rattle.fm_policy.specs.Building.{MayHaveArc};
+ghost use Rattle.fm_policy.specs.NodeFacts.{facts_of, is_there, arc_between};
 ghost use Rattle.fm_policy.specs.Changes.{Keys, changed_keys, joined_keys, has_no_keys};
 
 use fm_know::knowledge::Knowledge;
@@ -36,7 +36,7 @@ pub fn law_facts()
 /// Each arc joins two nodes of the network, of kinds that an arc may join. Its capacity is at least 1, and its cost at most
 /// 1,000,000,000.
 pub fn law_arcs(knowledge: &Knowledge)
-    ensures { (a b : NodeName) (arc : ℕ × ℕ) → arc_of knowledge.now a b ≡ Some arc → IsArcOf knowledge.now a b arc }
+    ensures { (a b : NodeName) (arc : ℕ × ℕ) → arc_of knowledge.now a b ≡ Some arc → MayHaveArc knowledge.now a b arc }
 {
     law_can_be(knowledge);
     // tasks in memory are fewer than 2^64

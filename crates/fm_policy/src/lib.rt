@@ -1,17 +1,17 @@
 //! The network-aware policy: the network of what is known, and keepers of it.
 #![tactic(auto)]
 
-mod arcs;
+mod put_arcs;
 pub mod build;
 pub mod changed;
-pub mod facts;
+pub mod node_facts;
 pub mod keeper;
 pub mod laws;
 mod live_task;
 mod nodes;
-pub mod pending;
+pub mod stale_keys;
 pub mod rebuilder;
 pub mod room;
-pub mod rules;
-mod survey;
-mod tallies;
+pub mod prices;
+mod inputs;
+mod task_sums;

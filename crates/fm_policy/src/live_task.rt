@@ -7,7 +7,7 @@ ghost use Rattle.fm_lattice.specs.Maps.{lookup};
 ghost use Rattle.fm_records.specs.Sets.{rising};
 ghost use Rattle.fm_policy.specs.LiveTasks.{live_task, all_live, waiting_request};
 
-use crate::facts::TaskFacts;
+use crate::node_facts::TaskFacts;
 use fm_know::knowledge::Knowledge;
 use fm_lattice::join::OutOfMemory;
 use fm_records::ids::{MachineId, TaskId};

@@ -5,8 +5,8 @@ ghost use Rattle.fm_net.specs.declared.node.Node.{Node as NodeName};
 ghost use Rattle.fm_policy.specs.Building.{Adds, HasNode, HasNodes};
 ghost use Rattle.fm_policy.specs.Surveys.{IsSurvey};
 
-use crate::facts::NodeFacts;
-use crate::survey::Survey;
+use crate::node_facts::NodeFacts;
+use crate::inputs::NetworkInputs;
 use fm_know::knowledge::Knowledge;
 use fm_know::laws::law_can_be;
 use fm_lattice::join::OutOfMemory;
@@ -18,7 +18,7 @@ use fm_records::ids::{JobId, MachineId};
 pub(crate) fn put_nodes(
     network: &mut Network,
     knowledge: &Knowledge,
-    survey: &Survey,
+    survey: &NetworkInputs,
 ) -> Result<(), OutOfMemory>
     requires survey { IsSurvey knowledge.now survey.now }
     ensures adds { OnOk result (Adds knowledge.now network.old network.new) }
@@ -36,7 +36,7 @@ pub(crate) fn put_nodes(
 fn put_jobs(
     network: &mut Network,
     knowledge: &Knowledge,
-    survey: &Survey,
+    survey: &NetworkInputs,
 ) -> Result<(), OutOfMemory>
     requires survey { IsSurvey knowledge.now survey.now }
     ensures adds { OnOk result (Adds knowledge.now network.old network.new) }
@@ -52,7 +52,7 @@ fn put_jobs(
 fn put_job(
     network: &mut Network,
     knowledge: &Knowledge,
-    survey: &Survey,
+    survey: &NetworkInputs,
     job: JobId,
 ) -> Result<(), OutOfMemory>
     requires survey { IsSurvey knowledge.now survey.now }
@@ -69,7 +69,7 @@ fn put_job(
 fn put_requests(
     network: &mut Network,
     knowledge: &Knowledge,
-    survey: &Survey,
+    survey: &NetworkInputs,
 ) -> Result<(), OutOfMemory>
     requires survey { IsSurvey knowledge.now survey.now }
     ensures adds { OnOk result (Adds knowledge.now network.old network.new) }
@@ -86,7 +86,7 @@ fn put_requests(
 fn put_machines(
     network: &mut Network,
     knowledge: &Knowledge,
-    survey: &Survey,
+    survey: &NetworkInputs,
 ) -> Result<(), OutOfMemory>
     requires survey { IsSurvey knowledge.now survey.now }
     ensures adds { OnOk result (Adds knowledge.now network.old network.new) }
@@ -102,7 +102,7 @@ fn put_machines(
 fn put_machine(
     network: &mut Network,
     knowledge: &Knowledge,
-    survey: &Survey,
+    survey: &NetworkInputs,
     machine: MachineId,
 ) -> Result<(), OutOfMemory>
     requires survey { IsSurvey knowledge.now survey.now }
@@ -119,7 +119,7 @@ fn put_machine(
 fn put_tasks(
     network: &mut Network,
     knowledge: &Knowledge,
-    survey: &Survey,
+    survey: &NetworkInputs,
 ) -> Result<(), OutOfMemory>
     requires survey { IsSurvey knowledge.now survey.now }
     ensures adds { OnOk result (Adds knowledge.now network.old network.new) }

@@ -1,7 +1,7 @@
 //! What is known, a delta, and an Editor that follows what is known.
 
 ghost use Rattle.std.specs.Prelude.{true, IsTrue};
-ghost use Rattle.fm_policy.specs.Keeping.{TookIn};
+ghost use Rattle.fm_policy.specs.Keeping.{FollowsAfter};
 ghost use Rattle.fm_edit.specs.Editing.{is_fresh_editor, IsFor};
 
 use fm_edit::editor::{Editor, edit};
@@ -96,7 +96,7 @@ fn follow(
     changed: &Changed,
 ) -> Result<Taken, Refusal>
     requires fresh { IsTrue (is_fresh_editor editor.old) }
-    requires took_in { TookIn true (IsFor editor.old) known.now changed.now }
+    requires took_in { FollowsAfter true (IsFor editor.old) known.now changed.now }
     ensures { IsTrue (is_fresh_editor editor.new) → IsFor editor.new known.now }
 {
     let mut look = KnowLook::new(alloc, known);

@@ -16,8 +16,8 @@ mod stepped;
 ghost use Rattle.std.specs.Prelude.{IfOk};
 ghost use Rattle.fm_coord.specs.Numbers.{AreDistinct};
 
-use fm_script::reading::read_script;
-use fm_script::script::{Act, Script};
+use fm_script::parse_script::read_script;
+use fm_script::script::{ScriptAct, Script};
 use fm_records::refusal::Refusal;
 use fm_io::input::read_input;
 use fm_io::source::Input;
@@ -52,13 +52,13 @@ fn edits(rt: &HostRuntime, script: &Script, is_timed: bool) -> Result<(), anyhow
 fn follow(
     rt: &HostRuntime,
     followed: &mut Followed,
-    act: Act,
+    act: ScriptAct,
     is_timed: bool,
 ) -> Result<(), anyhow::Error> {
     match act {
-        Act::Tell(op) => followed.tell(rt.alloc(), &op)?,
-        Act::Cut(_) if is_timed => timed(rt, followed)?,
-        Act::Cut(_) => shown(rt, followed)?,
+        ScriptAct::Tell(op) => followed.tell(rt.alloc(), &op)?,
+        ScriptAct::Cut(_) if is_timed => timed(rt, followed)?,
+        ScriptAct::Cut(_) => shown(rt, followed)?,
         _ => {}
     }
     Ok(())
@@ -85,10 +85,10 @@ fn looks(rt: &HostRuntime, script: &Script) -> Result<(), anyhow::Error> {
 }
 
 // After a step of the script.
-fn looked_at(rt: &HostRuntime, looked: &mut Looked, act: Act) -> Result<(), anyhow::Error> {
+fn looked_at(rt: &HostRuntime, looked: &mut Looked, act: ScriptAct) -> Result<(), anyhow::Error> {
     match act {
-        Act::Tell(op) => looked.tell(&op)?,
-        Act::Cut(_) => shown_at(rt, looked)?,
+        ScriptAct::Tell(op) => looked.tell(&op)?,
+        ScriptAct::Cut(_) => shown_at(rt, looked)?,
         _ => {}
     }
     Ok(())

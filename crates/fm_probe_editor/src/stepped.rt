@@ -3,8 +3,8 @@
 ghost use Rattle.fm_coord.specs.Numbers.{AreDistinct};
 
 use fm_edit::keepers::Keeper;
-use fm_script::script::{Act, Script, Step};
-use fm_script::world::open;
+use fm_script::script::{ScriptAct, Script, ScriptStep};
+use fm_script::initial_world::open;
 use fm_records::refusal::Refusal;
 use fm_world::step::{Act as WorldAct, Step as WorldStep};
 use fm_world::world::World;
@@ -37,8 +37,8 @@ pub(crate) fn take_first(
     Ok(())
 }
 
-fn take(world: &mut World<Keeper>, step: &Step, look: Look) -> Result<(), Refusal> {
-    if let Act::Round = step.act {
+fn take(world: &mut World<Keeper>, step: &ScriptStep, look: Look) -> Result<(), Refusal> {
+    if let ScriptAct::Round = step.act {
         if is_taken(world, step.at, look)? {
             return Ok(());
         }
@@ -64,12 +64,12 @@ fn is_taken(world: &mut World<Keeper>, at: u8, look: Look) -> Result<bool, Refus
 }
 
 // The act of a world for a script's act, of a round the view.
-fn act_of(act: Act) -> WorldAct {
+fn act_of(act: ScriptAct) -> WorldAct {
     match act {
-        Act::Tell(op) => WorldAct::Tell(op),
-        Act::Cut(range) => WorldAct::Cut(range),
-        Act::Deliver(packet) => WorldAct::Deliver(packet),
-        Act::Trim(n) => WorldAct::Trim(n),
-        Act::Round => WorldAct::View,
+        ScriptAct::Tell(op) => WorldAct::Tell(op),
+        ScriptAct::Cut(range) => WorldAct::Cut(range),
+        ScriptAct::Deliver(packet) => WorldAct::Deliver(packet),
+        ScriptAct::Trim(n) => WorldAct::Trim(n),
+        ScriptAct::Round => WorldAct::View,
     }
 }

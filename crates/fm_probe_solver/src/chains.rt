@@ -1,6 +1,6 @@
 //! Chains of machines, along which each task has to move on.
 
-ghost use Rattle.fm_certificate.specs.Built.{IsBuilt};
+ghost use Rattle.fm_certificate.specs.PolicyNetwork.{IsBuilt};
 
 use crate::cluster::Cluster;
 use crate::solving::{anew, cycles_after_simplex, network_of};

@@ -8,7 +8,7 @@ use fm_records::ops::{Op, Phase};
 use fm_records::prefer::Prefer;
 use fm_records::refusal::Refusal;
 use fm_round::admission::admit;
-use fm_round::parts::Plan;
+use fm_round::plan::Plan;
 use std::alloc::Global;
 
 /// How large a cluster is, and how dear waiting may be in it.

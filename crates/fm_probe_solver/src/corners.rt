@@ -5,7 +5,7 @@ use crate::cluster::{Cluster, Sizes, one_of, preferring};
 use crate::draw::Draw;
 use fm_records::prefer::Prefer;
 use fm_records::refusal::Refusal;
-use fm_round::parts::Plan;
+use fm_round::plan::Plan;
 use std::alloc::Global;
 
 // What costs, slots, bandwidths and requests of a cluster are drawn from. Each is below its bound.

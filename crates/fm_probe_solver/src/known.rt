@@ -1,6 +1,6 @@
 //! Small clusters whose least cost is known, solved from flows of all kinds.
 
-ghost use Rattle.fm_certificate.specs.Built.{IsBuilt};
+ghost use Rattle.fm_certificate.specs.PolicyNetwork.{IsBuilt};
 
 use crate::solving::{anew, cost_from, network_of};
 use fm_flow::flow::Flow;

@@ -6,9 +6,9 @@ ghost use Rattle.fm_tally.specs.Tallies.{TallyIsFor};
 use crate::cluster::{Cluster, Sizes};
 use crate::draw::Draw;
 use fm_know::knowledge::Knowledge;
-use fm_planner::planned::{Planned, Source, plan_for};
+use fm_planner::plan_source::{Planned, PlanSource, plan_for};
 use fm_records::refusal::Refusal;
-use fm_round::parts::Plan;
+use fm_round::plan::Plan;
 use fm_tally::tally::Tally;
 use std::alloc::Global;
 use std::time::Instant;
@@ -81,7 +81,7 @@ fn committed(rt: &HostRuntime, cluster: &mut Cluster, plan: &Plan) -> Result<u12
 #[derive(Drop)]
 struct Round {
     plan: Plan,
-    source: Source,
+    source: PlanSource,
     tallied: u128,
     planned: u128,
 }

@@ -1,6 +1,6 @@
 //! Drawn pairs of a network and an earlier flow.
 
-ghost use Rattle.fm_certificate.specs.Built.{IsBuilt};
+ghost use Rattle.fm_certificate.specs.PolicyNetwork.{IsBuilt};
 
 use crate::cluster::{Cluster, Sizes};
 use crate::draw::Draw;

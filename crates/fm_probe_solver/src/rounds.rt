@@ -6,11 +6,11 @@ use crate::draw::Draw;
 use crate::solving::{anew, network_of};
 use fm_know::knowledge::Knowledge;
 use fm_lattice::join::OutOfMemory;
-use fm_planner::planned::{Planned, Source, plan_for};
+use fm_planner::plan_source::{Planned, PlanSource, plan_for};
 use fm_records::ids::{MachineId, TaskId};
 use fm_records::prefer::Prefer;
 use fm_records::refusal::Refusal;
-use fm_round::parts::Plan;
+use fm_round::plan::Plan;
 use fm_tally::sorted::Sorted;
 use fm_tally::tally::{LiveTask, Tally};
 use std::alloc::Global;
@@ -119,9 +119,9 @@ impl Counts {
         }
     }
 
-    fn count(&mut self, source: Source, is_least: bool) {
+    fn count(&mut self, source: PlanSource, is_least: bool) {
         self.rounds = self.rounds.saturating_add(1);
-        let is_network = source == Source::Network;
+        let is_network = source == PlanSource::Network;
         self.from_network = self.from_network.saturating_add(u32::from(is_network));
         self.wrong = self.wrong.saturating_add(u32::from(!is_least));
     }

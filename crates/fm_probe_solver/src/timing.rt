@@ -1,7 +1,7 @@
 //! How long solving takes, from nothing and from earlier flows.
 
 ghost use Rattle.std.specs.Prelude.{IfOk};
-ghost use Rattle.fm_certificate.specs.Built.{IsBuilt};
+ghost use Rattle.fm_certificate.specs.PolicyNetwork.{IsBuilt};
 
 use crate::cluster::{Cluster, Sizes};
 use crate::draw::Draw;

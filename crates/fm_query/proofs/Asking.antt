@@ -7,7 +7,7 @@ use Rattle.fm_records.specs.Know.{know}
 use Rattle.fm_records.specs.Table.{Table}
 use Rattle.fm_delta.specs.declared.packet.Packet.{Packet}
 use Rattle.fm_dimacs.specs.Sending.{StopsBy}
-use Rattle.fm_round.specs.declared.parts.Plan.{Plan}
+use Rattle.fm_round.specs.declared.plan.Plan.{Plan}
 use Rattle.fm_round.specs.Schedules.{IsPlanOf}
 use Rattle.fm_coord.specs.Events.{Sent, Replica}
 use Rattle.fm_coord.specs.Replays.{seen_packet}
@@ -15,7 +15,7 @@ use Rattle.fm_coord.specs.States.{State}
 use Rattle.fm_world.specs.Worlds.{WorldOfSets, with_number}
 use Rattle.fm_world.specs.Stands.{Kept, WorldStandsFor, state_with}
 use Rattle.fm_world.proofs.Places.{Stood, stood, absent}
-use Rattle.fm_query.specs.Plans.{plan_text, IsPlanText}
+use Rattle.fm_query.specs.PlanText.{plan_text, IsPlanText}
 
 -- what holds if there is no replica holds if there is no coordinator, and what holds of a replica holds of the one
 -- that a coordinator stands for

@@ -1,8 +1,8 @@
-pub mod Winners
+pub mod WinnersText
 pub mod Unpacked
-pub mod Lines
-pub mod Plans
-pub mod Rounds
-pub mod Texts
-pub mod Reasons
+pub mod TextLines
+pub mod PlanText
+pub mod RoundText
+pub mod QueryTexts
+pub mod ReasonsText
 pub mod Queries

@@ -7,9 +7,9 @@ use Rattle.fm_world.specs.Stands.{Kept, WorldStandsFor}
 use Rattle.fm_world.specs.Worlds.{WorldOfSets, with_number}
 use Rattle.fm_query.specs.declared.query.Query.{Query}
 use Rattle.fm_query.specs.declared.query.Query.TheVariants.{Graph, Solve, Plan, Winners, Stops, Why, Agree, Packet}
-use Rattle.fm_query.specs.Plans.{IsPlanText, stops_text}
-use Rattle.fm_query.specs.Reasons.{IsReasonsText}
-use Rattle.fm_query.specs.Texts.{network_of, graph_of, winners_of, difference, agreement_text, packet_line, IsSolution}
+use Rattle.fm_query.specs.PlanText.{IsPlanText, stops_text}
+use Rattle.fm_query.specs.ReasonsText.{IsReasonsText}
+use Rattle.fm_query.specs.QueryTexts.{network_of, graph_of, winners_of, difference, agreement_text, packet_line, IsSolution}
 
 -- this holds of each world of sets that the coordinators stand for
 abbrev pub ForEachWorld : Kept → (WorldOfSets → Type 0) → Type 0

@@ -4,7 +4,7 @@ ghost use Rattle.std.specs.Prelude.{◌≡◌, List, map, string_bytes, IfOk, Is
 ghost use Rattle.fm_coord.specs.Events.{Replica};
 ghost use Rattle.fm_world.specs.Stands.{AllStand, WorldStandsFor, state_of};
 ghost use Rattle.fm_world.specs.Worlds.{WorldOfSets};
-ghost use Rattle.fm_query.specs.Texts.{difference, first_other, agreement_text};
+ghost use Rattle.fm_query.specs.QueryTexts.{difference, first_other, agreement_text};
 
 use fm_coord::coordinator::Coordinator;
 use fm_know::knowledge::Knowledge;

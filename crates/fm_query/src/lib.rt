@@ -2,13 +2,13 @@
 #![tactic(auto)]
 
 pub mod agree;
-mod lines;
-pub mod packets;
+mod text_lines;
+pub mod packet_text;
 pub mod plans;
 pub mod query;
-pub mod reasons;
-pub mod rounds;
-pub mod solution;
+pub mod reasons_text;
+pub mod round_text;
+pub mod solution_text;
 pub mod stops;
 pub mod unpack;
-pub mod winners;
+pub mod winners_text;

@@ -1,11 +1,11 @@
 //! Plans as text.
 
 ghost use Rattle.std.specs.Prelude.{◌≡◌, IfOk, IsOkUnless, string_bytes};
-ghost use Rattle.fm_query.specs.Plans.{plan_text};
+ghost use Rattle.fm_query.specs.PlanText.{plan_text};
 
-use crate::lines::{LineText, write_lines};
+use crate::text_lines::{LineText, write_lines};
 use fm_records::refusal::Refusal;
-use fm_round::parts::{Place, Plan, Preempt};
+use fm_round::plan::{Place, Plan, Preempt};
 use std::alloc::Global;
 
 /// A line `place TASK MACHINE INCARNATION` for each place, and then a line `preempt TASK ATTEMPT` for each preempt, in
@@ -21,7 +21,7 @@ pub fn plan_text(alloc: Global, plan: &Plan) -> Result<String, Refusal>
 }
 
 impl LineText for Place {
-    ghost use Rattle.fm_query.specs.Plans.{place_text};
+    ghost use Rattle.fm_query.specs.PlanText.{place_text};
 
     ghost line_text = { place_text };
 
@@ -35,7 +35,7 @@ impl LineText for Place {
 }
 
 impl LineText for Preempt {
-    ghost use Rattle.fm_query.specs.Plans.{preempt_text};
+    ghost use Rattle.fm_query.specs.PlanText.{preempt_text};
 
     ghost line_text = { preempt_text };
 

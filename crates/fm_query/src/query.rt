@@ -4,11 +4,11 @@ ghost use Rattle.std.specs.Prelude.{◌≡◌, IfOk, IfErr};
 ghost use Rattle.fm_query.specs.Queries.{ForEachWorld, IsText, differs_in, IsUnanswered};
 
 use crate::agree::{agreement_text, difference};
-use crate::packets::packet_line;
-use crate::reasons::why_text;
-use crate::solution::{least_plan_text, solution_text};
+use crate::packet_text::packet_line;
+use crate::reasons_text::why_text;
+use crate::solution_text::{least_plan_text, solution_text};
 use crate::stops::stops_text;
-use crate::winners::winners_text;
+use crate::winners_text::winners_text;
 use fm_dimacs::out::Over;
 use fm_policy::keeper::NetKeeper;
 use fm_records::ids::{CoordId, TaskId};
@@ -40,7 +40,7 @@ pub enum Query {
 
 /// What answers a query.
 #[derive(Debug, Drop)]
-pub struct Answer {
+pub struct QueryAnswer {
     /// The text, each of its lines ended by a line feed.
     pub text: Vec<u8>,
     /// Whether two coordinators were found that do not know the same. Only `Agree` looks for them.
@@ -55,7 +55,7 @@ pub fn ask<N: NetKeeper>(
     alloc: Global,
     world: &mut World<N>,
     query: Query,
-) -> Result<Answer, Refusal>
+) -> Result<QueryAnswer, Refusal>
     ensures text { ForEachWorld world.old (λ w. IfOk result (λ a. IsText query w a.text.items)) }
     ensures differs { ForEachWorld world.old (λ w. IfOk result (λ a. a.differs ≡ differs_in query w)) }
     ensures err { ForEachWorld world.old (λ w. IfErr result (IsUnanswered query w)) }
@@ -71,7 +71,7 @@ pub fn ask<N: NetKeeper>(
         Query::Packet(number) => packet(alloc, world, number)?,
         Query::Agree => return agreement(alloc, world),
     };
-    Ok(Answer {
+    Ok(QueryAnswer {
         text,
         differs: false,
     })
@@ -163,14 +163,14 @@ fn packet<N: NetKeeper>(alloc: Global, world: &World<N>, number: usize) -> Resul
 }
 
 // Whether all coordinators know the same.
-fn agreement<N: NetKeeper>(alloc: Global, world: &World<N>) -> Result<Answer, Refusal>
+fn agreement<N: NetKeeper>(alloc: Global, world: &World<N>) -> Result<QueryAnswer, Refusal>
     ensures text { ForEachWorld world.now (λ w. IfOk result (λ a. IsText Query.Agree w a.text.items)) }
     ensures differs { ForEachWorld world.now (λ w. IfOk result (λ a. a.differs ≡ differs_in Query.Agree w)) }
     ensures err { IfErr result (λ refusal. refusal ≡ Refusal.OutOfMemory) }
 {
     let found = difference(world);
     let text = agreement_text(alloc, found)?.into_bytes();
-    Ok(Answer {
+    Ok(QueryAnswer {
         text,
         differs: found.is_some(),
     })

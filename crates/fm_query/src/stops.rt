@@ -1,13 +1,13 @@
 //! What a coordinator has to stop, as text.
 
 ghost use Rattle.std.specs.Prelude.{◌≡◌, IfOk, IsOkUnless, string_bytes};
-ghost use Rattle.fm_query.specs.Plans.{stops_text};
+ghost use Rattle.fm_query.specs.PlanText.{stops_text};
 
-use crate::lines::{LineText, write_lines};
+use crate::text_lines::{LineText, write_lines};
 use fm_know::knowledge::Knowledge;
 use fm_records::ids::CoordId;
 use fm_records::refusal::Refusal;
-use fm_round::parts::Stop;
+use fm_round::plan::Stop;
 use fm_round::stopping::stops;
 use std::alloc::Global;
 
@@ -28,7 +28,7 @@ pub fn stops_text(
 }
 
 impl LineText for Stop {
-    ghost use Rattle.fm_query.specs.Plans.{stop_text};
+    ghost use Rattle.fm_query.specs.PlanText.{stop_text};
 
     ghost line_text = { stop_text };
 

@@ -10,10 +10,10 @@ use Rattle.fm_records.specs.Orders.{spec_cmp}
 use Rattle.fm_records.specs.Ops.{op_fault}
 use Rattle.fm_records.specs.Table.{Table}
 use Rattle.fm_records.specs.Know.{know, winner}
-use Rattle.fm_records.specs.Spelled.{ops, spec_op}
+use Rattle.fm_records.specs.OpsOfTable.{ops, spec_op}
 use Rattle.fm_records.specs.Ranges.{all_in_range}
 use Rattle.fm_records.specs.Joined.{table_join}
-use Rattle.fm_records.specs.Facts.{job_of, spec_of, progress_of, attempt_of, state_of, used_of, job_stands, is_live, is_open, winner_of, holder_of, held_tasks, load_of, spare_of, request_of, has_room}
+use Rattle.fm_records.specs.Facts.{job_of, spec_of, progress_of, attempt_of, machine_state, used_of, job_stands, is_live, is_open, winner_of, holder_of, held_tasks, load_of, spare_of, request_of, has_room}
 use Rattle.fm_records.specs.SetFacts.{live, holder, load, spare, room}
 
 -- ids near the greatest that there are
@@ -300,7 +300,7 @@ spec_withdrawn-load = refl
 abbrev down : List Op
 down = held ++ op.Report A 1 1 40 ∷ op.Machine A 1 2 1 false 2 1000 ∷ []
 
-down-state : state_of (know down) A ≡ Some (record { version = 2; writer = 1; up = false; slots = 2; nic = 1000 })
+down-state : machine_state (know down) A ≡ Some (record { version = 2; writer = 1; up = false; slots = 2; nic = 1000 })
 down-state = refl
 
 down-open : is_open (know down) A ≡ false

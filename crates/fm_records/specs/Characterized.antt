@@ -20,14 +20,14 @@ IsGreatestOf cmp xs None = xs ≡ []
 IsGreatestOf cmp xs (Some m) = IsGreatest cmp xs m
 
 -- m is a member of the list, and none is less
-pub record IsLeast {R : Type 0} (cmp : R → R → Ordering) (xs : List R) (m : R) : Type 0 where
+pub record IsLeastMember {R : Type 0} (cmp : R → R → Ordering) (xs : List R) (m : R) : Type 0 where
   pub is_member : IsMember m xs
   pub none_below : (x : R) → IsMember x xs → is_lt (cmp x m) ≡ false
 
 -- the least of a list, and none of an empty one
 abbrev pub IsLeastOf : {R : Type 0} → (R → R → Ordering) → List R → Option R → Type 0
 IsLeastOf cmp xs None = xs ≡ []
-IsLeastOf cmp xs (Some m) = IsLeast cmp xs m
+IsLeastOf cmp xs (Some m) = IsLeastMember cmp xs m
 
 -- the table has rising keys, and each look-up gives what the operations tell of the key
 pub record IsKnow (S : List Op) (k : Table) : Type 0 where

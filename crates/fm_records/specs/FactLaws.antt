@@ -16,11 +16,11 @@ use Rattle.fm_records.specs.Sets.{IsMember, least, with_value, table, unless_emp
 use Rattle.fm_records.specs.Orders.{spot_cmp}
 use Rattle.fm_records.specs.OrderLaws.{total_spot}
 use Rattle.fm_records.specs.Know.{none_begun, coordinator_in, spot_in, coordinator_named, spec, told_progress, progress, incarnation, state_at, report_at, state, report, task_value, machine_at, entry, winner, know}
-use Rattle.fm_records.specs.Facts.{first_of, spec_of, progress_of, incarnation_of, state_of, report_of, entries_of, winner_of}
+use Rattle.fm_records.specs.Facts.{head_option, spec_of, progress_of, incarnation_of, machine_state, report_of, entries_of, winner_of}
 use Rattle.fm_records.specs.Characterized.{IsLeastOf}
 use Rattle.fm_records.specs.SetLaws.{member_from, member_kept}
 use Rattle.fm_records.specs.GreatestLaws.{least_is}
-use Rattle.fm_records.specs.LookupLaws.{none_some, when_true, both_true, lookup_task, lookup_machine, lookup_entry, lookup_entries}
+use Rattle.fm_records.specs.LookupLaws.{none_some, when_is_true, both_true, lookup_task, lookup_machine, lookup_entry, lookup_entries}
 use Rattle.fm_records.specs.RangeLaws.{inside, when_value, least_member, all_of_some, spots_rise}
 use Rattle.fm_lattice.specs.Chains.{nat_same, by_cases, greater_less}
 use Rattle.fm_lattice.specs.Joins.{min_join}
@@ -59,7 +59,7 @@ module _ (S : List Op) where
   pub incarnation_is : (m : ℕ) → incarnation_of (know S) m ≡ incarnation S m
   incarnation_is m = ap (option_map (λ v. v.0)) (lookup_machine S m) ∙ incarnation_part m (incarnation S m)
 
-  pub state_is : (m : ℕ) → state_of (know S) m ≡ state S m
+  pub state_is : (m : ℕ) → machine_state (know S) m ≡ state S m
   state_is m = ap (and_then (λ v. v.1.0)) (lookup_machine S m) ∙ state_part m (incarnation S m)
 
   pub report_is : (m : ℕ) → report_of (know S) m ≡ report S m
@@ -70,10 +70,10 @@ or_empty [] = refl
 or_empty (x ∷ xs) = refl
 
 -- the least key that a rising list has is its first
-first_row : (xs : List (ℕ × Spot)) → IsRising nat_cmp xs → (c : ℕ) (s : Spot) → lookup nat_cmp c xs ≡ Some s → ((q : ℕ) (v : Spot) → lookup nat_cmp q xs ≡ Some v → is_lt (nat_cmp q c) ≡ false) → first_of xs ≡ option_map (λ v. (c, v)) (Some s)
+first_row : (xs : List (ℕ × Spot)) → IsRising nat_cmp xs → (c : ℕ) (s : Spot) → lookup nat_cmp c xs ≡ Some s → ((q : ℕ) (v : Spot) → lookup nat_cmp q xs ≡ Some v → is_lt (nat_cmp q c) ≡ false) → head_option xs ≡ option_map (λ v. (c, v)) (Some s)
 first_row [] r c s e h = none_some s e
 first_row (x ∷ xs) r c s e h =
-    by_cases (nat_cmp c x.0) (λ o. cond (is_eq o) (Some x.1) (lookup nat_cmp c xs) ≡ Some s → first_of (x ∷ xs) ≡ option_map (λ v. (c, v)) (Some s))
+    by_cases (nat_cmp c x.0) (λ o. cond (is_eq o) (Some x.1) (lookup nat_cmp c xs) ≡ Some s → head_option (x ∷ xs) ≡ option_map (λ v. (c, v)) (Some s))
     (λ l g. none_some s (sym (lookup_below nat_cmp nat_cmp_total nat_same c xs (below_trans nat_cmp nat_cmp_total nat_same c x.0 xs l r.0)) ∙ g))
     (λ t g. let key : x.0 ≡ c = sym (nat_same c x.0 t) in let value : x.1 ≡ s = inside x.1 s g in λ i. Some (key i, value i))
     (λ l g.
@@ -85,14 +85,14 @@ first_row (x ∷ xs) r c s e h =
 -- who proposes names a spot, and a spot is named by who proposes it
 spot_of_one : (at : ℕ × ℕ) (c : ℕ) (o : Op) → coordinator_in at o ≡ Some c → (s : Spot) × (spot_in at c o ≡ Some s)
 spot_of_one at c (op.Propose id attempt coordinator machine incarnation) e =
-    let here = when_true (id == at.0 && attempt == at.1) coordinator c e in
+    let here = when_is_true (id == at.0 && attempt == at.1) coordinator c e in
     let who = eq-eqb coordinator c (when_value (id == at.0 && attempt == at.1) coordinator c e) in
     (record { machine = machine; incarnation = incarnation }, rw (here, who) refl)
 spot_of_one at c _ e = none_some c e
 
 one_of_spot : (at : ℕ × ℕ) (c : ℕ) (o : Op) (s : Spot) → spot_in at c o ≡ Some s → coordinator_in at o ≡ Some c
 one_of_spot at c (op.Propose id attempt coordinator machine incarnation) s e =
-    let keys = both_true (id == at.0 && attempt == at.1) (coordinator == c) (when_true (id == at.0 && attempt == at.1 && coordinator == c) _ s e) in
+    let keys = both_true (id == at.0 && attempt == at.1) (coordinator == c) (when_is_true (id == at.0 && attempt == at.1 && coordinator == c) _ s e) in
     let who = eqb-true coordinator c keys.1 in
     rw keys.0 (ap Some who)
 one_of_spot at c _ s e = none_some s e
@@ -132,12 +132,12 @@ module _ (S : List Op) (at : ℕ × ℕ) where
     | Some s ↦ λ e. absurd (subst (IsMember c) none (proposed c s e))
   ] refl
 
-  winner_by : (o : Option ℕ) → IsLeastOf nat_cmp those o → first_of spots ≡ and_then (with_value (entry S at)) o
-  winner_by None none = ap first_of (same_map nat_cmp nat_cmp_total nat_same spots [] (spots_rise S at) tt (λ c. lookup_entry S at c ∙ none_entered none c))
+  winner_by : (o : Option ℕ) → IsLeastOf nat_cmp those o → head_option spots ≡ and_then (with_value (entry S at)) o
+  winner_by None none = ap head_option (same_map nat_cmp nat_cmp_total nat_same spots [] (spots_rise S at) tt (λ c. lookup_entry S at c ∙ none_entered none c))
   winner_by (Some c) is =
       let has = entered c is.is_member in
       first_row spots (spots_rise S at) c has.0 (lookup_entry S at c ∙ has.1) (λ q v e. is.none_below q (proposed q v (sym (lookup_entry S at q) ∙ e)))
       ∙ ap (option_map (λ v. (c, v))) (sym has.1)
 
   pub winner_is : winner_of (know S) at.0 at.1 ≡ winner S at
-  winner_is = ap first_of entries_are ∙ winner_by (least nat_cmp those) (least_is nat_cmp nat_cmp_total those)
+  winner_is = ap head_option entries_are ∙ winner_by (least nat_cmp those) (least_is nat_cmp nat_cmp_total those)

@@ -17,9 +17,9 @@ use Rattle.fm_records.specs.Orders.{attempt_cmp}
 use Rattle.fm_records.specs.Table.{Table, TaskValue}
 use Rattle.fm_records.specs.Know.{none_begun}
 
-abbrev pub first_of : {A : Type 0} → List A → Option A
-first_of [] = None
-first_of (x ∷ xs) = Some x
+abbrev pub head_option : {A : Type 0} → List A → Option A
+head_option [] = None
+head_option (x ∷ xs) = Some x
 
 -- the records
 abbrev pub job_of : Table → ℕ → Option JobReg
@@ -38,8 +38,8 @@ attempt_of k t = (progress_of k t).attempt
 abbrev pub incarnation_of : Table → ℕ → Option ℕ
 incarnation_of k m = option_map (λ v. v.0) (lookup nat_cmp m k.machines)
 
-abbrev pub state_of : Table → ℕ → Option MachineReg
-state_of k m = and_then (λ v. v.1.0) (lookup nat_cmp m k.machines)
+abbrev pub machine_state : Table → ℕ → Option MachineReg
+machine_state k m = and_then (λ v. v.1.0) (lookup nat_cmp m k.machines)
 
 abbrev pub report_of : Table → ℕ → Option Report
 report_of k m = and_then (λ v. v.1.1) (lookup nat_cmp m k.machines)
@@ -54,7 +54,7 @@ entries_of k at = or_else [] (lookup attempt_cmp at k.proposals)
 
 -- the winner of an attempt: the entry of the least coordinator that has one
 abbrev pub winner_of : Table → ℕ → ℕ → Option (ℕ × Spot)
-winner_of k t a = first_of (entries_of k (t, a))
+winner_of k t a = head_option (entries_of k (t, a))
 
 abbrev pub is_done : Phase → Bool
 is_done Pending = false
@@ -74,7 +74,7 @@ is_live k t = passes (λ s. true) (live_spec k t)
 
 -- the state of an open machine: known and up
 abbrev pub open_state : Table → ℕ → Option MachineReg
-open_state k m = only_if (λ r. r.up) (state_of k m)
+open_state k m = only_if (λ r. r.up) (machine_state k m)
 
 abbrev pub is_open : Table → ℕ → Bool
 is_open k m = passes (λ r. true) (open_state k m)

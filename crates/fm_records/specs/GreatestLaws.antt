@@ -7,7 +7,7 @@ use Rattle.std.specs.declared.cmp.Ordering.TheVariants.{Less, Equal, Greater}
 use Rattle.std.proofs.Common.{sym, ap, ◌∙◌, subst, inl, inr}
 use Rattle.std.proofs.lemmas.Cmp.{upto, tied_itself, tied_back}
 use Rattle.fm_records.specs.Sets.{greatest, least}
-use Rattle.fm_records.specs.Characterized.{IsGreatest, IsGreatestOf, IsLeast, IsLeastOf}
+use Rattle.fm_records.specs.Characterized.{IsGreatest, IsGreatestOf, IsLeastMember, IsLeastOf}
 use Rattle.fm_lattice.specs.Chains.{by_cases, less_greater, greater_less}
 use Rattle.fm_lattice.specs.Joins.{max_join, min_join, option_join}
 
@@ -52,9 +52,9 @@ module _ {R : Type 0} (cmp : R → R → Ordering) (total : IsTotalOrder cmp) wh
   not_below_itself : (x : R) → is_lt (cmp x x) ≡ false
   not_below_itself x = rw (tied_itself total x) refl
 
-  shorter : (x m : R) (xs : List R) → IsLeast cmp xs m → IsLeast cmp (x ∷ xs) (min_join cmp x m)
+  shorter : (x m : R) (xs : List R) → IsLeastMember cmp xs m → IsLeastMember cmp (x ∷ xs) (min_join cmp x m)
   shorter x m xs l =
-      by_cases (cmp m x) (λ o. cmp m x ≡ o → IsLeast cmp (x ∷ xs) (cond (is_lt o) m x))
+      by_cases (cmp m x) (λ o. cmp m x ≡ o → IsLeastMember cmp (x ∷ xs) (cond (is_lt o) m x))
       (λ _ e. record {
         is_member = inr l.is_member;
         none_below = λ y h. elim h [ inl is ↦ subst (λ z. is_lt (cmp z m) ≡ false) is (rw (less_greater cmp total m x e) refl) | inr later ↦ l.none_below y later ];
@@ -70,7 +70,7 @@ module _ {R : Type 0} (cmp : R → R → Ordering) (total : IsTotalOrder cmp) wh
       refl
 
   shorter_by : (x : R) (xs : List R) (o : Option R) → IsLeastOf cmp xs o → IsLeastOf cmp (x ∷ xs) (option_join (min_join cmp) (Some x) o)
-  shorter_by x xs None l = subst (λ z. IsLeast cmp (x ∷ z) x) (sym l) (record { is_member = inl refl; none_below = λ y h. elim h [ inl is ↦ subst (λ z. is_lt (cmp z x) ≡ false) is (not_below_itself x) | inr later ↦ absurd later ] })
+  shorter_by x xs None l = subst (λ z. IsLeastMember cmp (x ∷ z) x) (sym l) (record { is_member = inl refl; none_below = λ y h. elim h [ inl is ↦ subst (λ z. is_lt (cmp z x) ≡ false) is (not_below_itself x) | inr later ↦ absurd later ] })
   shorter_by x xs (Some m) l = shorter x m xs l
 
   pub least_is : (xs : List R) → IsLeastOf cmp xs (least cmp xs)

@@ -17,5 +17,5 @@ abbrev pub is_coordinator : ℕ → Bool
 is_coordinator n = nat_le 1 n && nat_le n 64
 
 -- the coordinator with the number, if there can be one
-abbrev pub coordinator : ℕ → Option ℕ
-coordinator n = when (is_coordinator n) n
+abbrev pub coordinator_id : ℕ → Option ℕ
+coordinator_id n = when (is_coordinator n) n

@@ -4,10 +4,10 @@ use Rattle.std.proofs.Common.{sym, ap, ◌∙◌, subst, inl, inr, append_assoc}
 use Rattle.fm_records.specs.Sets.{IsMember, HaveSameMembers}
 use Rattle.fm_records.specs.Table.{Table}
 use Rattle.fm_records.specs.Know.{know}
-use Rattle.fm_records.specs.Spelled.{ops}
+use Rattle.fm_records.specs.OpsOfTable.{ops}
 use Rattle.fm_records.specs.Ranges.{in_range, CanBe}
 use Rattle.fm_records.specs.Joined.{table_join}
-use Rattle.fm_records.specs.SameLaws.{know_same}
+use Rattle.fm_records.specs.SetExtensionality.{know_same}
 use Rattle.fm_records.specs.UnionLaws.{know_append}
 use Rattle.fm_records.specs.SpelledLaws.{know_ops}
 use Rattle.fm_records.specs.RangeLaws.{all_pass, know_can_be}

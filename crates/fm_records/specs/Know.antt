@@ -16,7 +16,7 @@ pub use Rattle.fm_records.specs.Options.{when}
 use Rattle.fm_records.specs.Options.{and_then, or_else}
 use Rattle.fm_records.specs.Sets.{greatest, least, with_value, table, unless_empty}
 use Rattle.fm_records.specs.Orders.{job_cmp, spec_cmp, progress_cmp, machine_cmp, report_cmp, spot_cmp, attempt_cmp}
-use Rattle.fm_records.specs.Told.{job_told, spec_told, progress_told, incarnation_told, state_told, report_told, spot_told}
+use Rattle.fm_records.specs.OpRecords.{job_told, spec_told, progress_told, incarnation_told, state_told, report_told, spot_told}
 use Rattle.fm_records.specs.Table.{Table, TaskValue, MachineValue}
 
 -- the second part of a pair whose first part passes the test

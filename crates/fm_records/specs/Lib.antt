@@ -2,13 +2,13 @@ pub mod Options
 pub mod Ids
 pub mod Preferences
 pub mod Ops
-pub mod Told
+pub mod OpRecords
 pub mod Refusals
 pub mod Sets
 pub mod Orders
 pub mod Table
 pub mod Know
-pub mod Spelled
+pub mod OpsOfTable
 pub mod Ranges
 pub mod Joined
 pub mod Facts
@@ -21,7 +21,7 @@ pub mod GreatestLaws
 pub mod TableLaws
 pub mod LookupLaws
 pub mod KnowLaws
-pub mod SameLaws
+pub mod SetExtensionality
 pub mod UnionLaws
 pub mod SpelledLaws
 pub mod RangeLaws
@@ -29,4 +29,4 @@ pub mod FactLaws
 pub mod SetFactLaws
 pub mod JoinedLaws
 pub mod IdLaws
-pub mod Decided
+pub mod RecordEquality

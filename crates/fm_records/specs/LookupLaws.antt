@@ -23,9 +23,9 @@ use Rattle.fm_records.specs.TableLaws.{some_none, lookup_table}
 pub none_some : {A B : Type 0} (a : A) → None ≡ Some a → B
 none_some a e = some_none a (sym e)
 
-pub when_true : {A : Type 0} (b : Bool) (x v : A) → when b x ≡ Some v → b ≡ true
-when_true true x v e = refl
-when_true false x v e = none_some v e
+pub when_is_true : {A : Type 0} (b : Bool) (x v : A) → when b x ≡ Some v → b ≡ true
+when_is_true true x v e = refl
+when_is_true false x v e = none_some v e
 
 pub both_true : (a b : Bool) → a && b ≡ true → (a ≡ true) × (b ≡ true)
 both_true true b e = (refl, e)
@@ -45,25 +45,25 @@ names_member f name join q says (o ∷ S) v e =
     ] refl e
 
 job_says : (j : ℕ) (o : Op) (v : JobReg) → job_in j o ≡ Some v → job_named o ≡ Some j
-job_says j (op.Job id version writer withdrawn wait preempt) v e = ap Some (eqb-true id j (when_true (id == j) _ v e))
+job_says j (op.Job id version writer withdrawn wait preempt) v e = ap Some (eqb-true id j (when_is_true (id == j) _ v e))
 job_says j _ v e = none_some v e
 
 spec_says : (t : ℕ) (o : Op) (v : SpecReg) → spec_in t o ≡ Some v → task_named o ≡ Some t
-spec_says t (op.Spec id version writer withdrawn job request prefer) v e = ap Some (eqb-true id t (when_true (id == t) _ v e))
+spec_says t (op.Spec id version writer withdrawn job request prefer) v e = ap Some (eqb-true id t (when_is_true (id == t) _ v e))
 spec_says t _ v e = none_some v e
 
 progress_says : (t : ℕ) (o : Op) (v : Progress) → progress_in t o ≡ Some v → task_named o ≡ Some t
-progress_says t (op.Progress id attempt phase) v e = ap Some (eqb-true id t (when_true (id == t) _ v e))
+progress_says t (op.Progress id attempt phase) v e = ap Some (eqb-true id t (when_is_true (id == t) _ v e))
 progress_says t _ v e = none_some v e
 
 incarnation_says : (m : ℕ) (o : Op) (v : ℕ) → incarnation_in m o ≡ Some v → machine_named o ≡ Some m
-incarnation_says m (op.Machine id incarnation version writer up slots nic) v e = ap Some (eqb-true id m (when_true (id == m) _ v e))
-incarnation_says m (op.Report id incarnation number used) v e = ap Some (eqb-true id m (when_true (id == m) _ v e))
+incarnation_says m (op.Machine id incarnation version writer up slots nic) v e = ap Some (eqb-true id m (when_is_true (id == m) _ v e))
+incarnation_says m (op.Report id incarnation number used) v e = ap Some (eqb-true id m (when_is_true (id == m) _ v e))
 incarnation_says m _ v e = none_some v e
 
 spot_names : (at : ℕ × ℕ) (c : ℕ) (o : Op) (v : Spot) → spot_in at c o ≡ Some v → (attempt_named o ≡ Some at) × (coordinator_named o ≡ Some c)
 spot_names at c (op.Propose id attempt coordinator machine incarnation) v e =
-    let all = both_true (id == at.0 && attempt == at.1) (coordinator == c) (when_true (id == at.0 && attempt == at.1 && coordinator == c) _ v e) in
+    let all = both_true (id == at.0 && attempt == at.1) (coordinator == c) (when_is_true (id == at.0 && attempt == at.1 && coordinator == c) _ v e) in
     let first = both_true (id == at.0) (attempt == at.1) all.0 in
     let p = eqb-true id at.0 first.0 in
     let q = eqb-true attempt at.1 first.1 in

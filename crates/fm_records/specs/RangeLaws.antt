@@ -27,13 +27,13 @@ use Rattle.fm_records.specs.Orders.{job_cmp, spec_cmp, progress_cmp, machine_cmp
 use Rattle.fm_records.specs.OrderLaws.{total_job, total_spec, total_progress, total_machine, total_report, total_spot, total_attempt, same_attempt}
 use Rattle.fm_records.specs.Table.{Table, TaskValue, MachineValue}
 use Rattle.fm_records.specs.Know.{job_in, spec_in, progress_in, incarnation_in, state_in, report_in, spot_in, coordinator_named, job, spec, told_progress, incarnation, state_at, report_at, task_value, machine_at, machine, entry, entries, know}
-use Rattle.fm_records.specs.Spelled.{each, job_op, job_ops, spec_op, progress_op, task_ops, machine_op, report_op, machine_ops, propose_op, entry_ops, ops, has_part, IsFull, IsTable}
-use Rattle.fm_records.specs.Ranges.{is_id, fits_row, fits, in_range, all_in_range, CanBe}
-use Rattle.fm_records.specs.Characterized.{IsGreatest, IsGreatestOf, IsLeast, IsLeastOf}
+use Rattle.fm_records.specs.OpsOfTable.{each, job_op, job_ops, spec_op, progress_op, task_ops, machine_op, report_op, machine_ops, propose_op, entry_ops, ops, has_part, IsFull, IsTable}
+use Rattle.fm_records.specs.Ranges.{is_id, fits_row, fields_fit, in_range, all_in_range, CanBe}
+use Rattle.fm_records.specs.Characterized.{IsGreatest, IsGreatestOf, IsLeastMember, IsLeastOf}
 use Rattle.fm_records.specs.SetLaws.{member_from, member_kept}
 use Rattle.fm_records.specs.GreatestLaws.{greatest_is, least_is}
 use Rattle.fm_records.specs.TableLaws.{some_none, rising_table}
-use Rattle.fm_records.specs.LookupLaws.{none_some, when_true, both_true, lookup_job, lookup_task, lookup_machine, lookup_entry, lookup_entries}
+use Rattle.fm_records.specs.LookupLaws.{none_some, when_is_true, both_true, lookup_job, lookup_task, lookup_machine, lookup_entry, lookup_entries}
 use Rattle.fm_records.specs.KnowLaws.{know_is}
 
 both_hold : (a b : Bool) → a ≡ true → b ≡ true → a && b ≡ true
@@ -97,28 +97,28 @@ module _ {K V : Type 0} (cmp : K → K → Ordering) (total : IsTotalOrder cmp) 
 
 job_spells : (j : ℕ) (o : Op) (r : JobReg) → job_in j o ≡ Some r → o ≡ job_op j r
 job_spells j (op.Job id version writer withdrawn wait preempt) r e =
-    let key = eqb-true id j (when_true (id == j) _ r e) in
+    let key = eqb-true id j (when_is_true (id == j) _ r e) in
     let value = when_value (id == j) _ r e in
     λ i. op.Job (key i) (value i).version (value i).writer (value i).withdrawn (value i).wait (value i).preempt
 job_spells j _ r e = none_some r e
 
 spec_spells : (t : ℕ) (o : Op) (r : SpecReg) → spec_in t o ≡ Some r → o ≡ spec_op t r
 spec_spells t (op.Spec id version writer withdrawn job request prefer) r e =
-    let key = eqb-true id t (when_true (id == t) _ r e) in
+    let key = eqb-true id t (when_is_true (id == t) _ r e) in
     let value = when_value (id == t) _ r e in
     λ i. op.Spec (key i) (value i).version (value i).writer (value i).withdrawn (value i).job (value i).request (value i).prefer
 spec_spells t _ r e = none_some r e
 
 progress_spells : (t : ℕ) (o : Op) (p : Progress) → progress_in t o ≡ Some p → o ≡ progress_op t p
 progress_spells t (op.Progress id attempt phase) p e =
-    let key = eqb-true id t (when_true (id == t) _ p e) in
+    let key = eqb-true id t (when_is_true (id == t) _ p e) in
     let value = when_value (id == t) _ p e in
     λ i. op.Progress (key i) (value i).attempt (value i).phase
 progress_spells t _ p e = none_some p e
 
 state_spells : (m n : ℕ) (o : Op) (r : MachineReg) → state_in m n o ≡ Some r → o ≡ machine_op m n r
 state_spells m n (op.Machine id incarnation version writer up slots nic) r e =
-    let keys = both_true (id == m) (incarnation == n) (when_true (id == m && incarnation == n) _ r e) in
+    let keys = both_true (id == m) (incarnation == n) (when_is_true (id == m && incarnation == n) _ r e) in
     let key = eqb-true id m keys.0 in
     let at = eqb-true incarnation n keys.1 in
     let value = when_value (id == m && incarnation == n) _ r e in
@@ -127,7 +127,7 @@ state_spells m n _ r e = none_some r e
 
 report_spells : (m n : ℕ) (o : Op) (r : Report) → report_in m n o ≡ Some r → o ≡ report_op m n r
 report_spells m n (op.Report id incarnation number used) r e =
-    let keys = both_true (id == m) (incarnation == n) (when_true (id == m && incarnation == n) _ r e) in
+    let keys = both_true (id == m) (incarnation == n) (when_is_true (id == m && incarnation == n) _ r e) in
     let key = eqb-true id m keys.0 in
     let at = eqb-true incarnation n keys.1 in
     let value = when_value (id == m && incarnation == n) _ r e in
@@ -136,7 +136,7 @@ report_spells m n _ r e = none_some r e
 
 spot_spells : (at : ℕ × ℕ) (c : ℕ) (o : Op) (s : Spot) → spot_in at c o ≡ Some s → o ≡ propose_op at c s
 spot_spells at c (op.Propose id attempt coordinator machine incarnation) s e =
-    let keys = both_true (id == at.0 && attempt == at.1) (coordinator == c) (when_true (id == at.0 && attempt == at.1 && coordinator == c) _ s e) in
+    let keys = both_true (id == at.0 && attempt == at.1) (coordinator == c) (when_is_true (id == at.0 && attempt == at.1 && coordinator == c) _ s e) in
     let first = both_true (id == at.0) (attempt == at.1) keys.0 in
     let task = eqb-true id at.0 first.0 in
     let number = eqb-true attempt at.1 first.1 in
@@ -149,7 +149,7 @@ pub greatest_member : {R : Type 0} (cmp : R → R → Ordering) → IsTotalOrder
 greatest_member cmp total xs r e = let g : IsGreatest cmp xs r = subst (IsGreatestOf cmp xs) e (greatest_is cmp total xs) in g.is_member
 
 pub least_member : {R : Type 0} (cmp : R → R → Ordering) → IsTotalOrder cmp → (xs : List R) (r : R) → least cmp xs ≡ Some r → IsMember r xs
-least_member cmp total xs r e = let g : IsLeast cmp xs r = subst (IsLeastOf cmp xs) e (least_is cmp total xs) in g.is_member
+least_member cmp total xs r e = let g : IsLeastMember cmp xs r = subst (IsLeastOf cmp xs) e (least_is cmp total xs) in g.is_member
 
 -- a list with a member has a join
 pub all_of_some : {R : Type 0} (join : R → R → R) (xs : List R) (x : R) → IsMember x xs → all_of join xs ≡ None → ⊥
@@ -162,7 +162,7 @@ each_passes f (Some r) h = both_hold (in_range (f r)) true (h r refl) refl
 
 id_of_spec : (t : ℕ) (s : SpecReg) → in_range (spec_op t s) ≡ true → is_id t ≡ true
 id_of_spec t s e =
-    let whole = both_true (fits (spec_op t s)) _ e in
+    let whole = both_true (fields_fit (spec_op t s)) _ e in
     let row = both_true _ (fits_row s.prefer) whole.0 in
     let ids = both_true _ (is_id s.job) row.0 in
     (both_true (is_id t) _ ids.0).0
@@ -220,11 +220,11 @@ module _ (S : List Op) (at : ℕ × ℕ) where
 -- an incarnation that is told is told by a state or a report
 part_told : (m n : ℕ) (o : Op) → incarnation_in m o ≡ Some n → ((s : MachineReg) × (state_in m n o ≡ Some s)) ⊎ ((r : Report) × (report_in m n o ≡ Some r))
 part_told m n (op.Machine id incarnation version writer up slots nic) e =
-    let is = when_true (id == m) incarnation n e in
+    let is = when_is_true (id == m) incarnation n e in
     let at = eq-eqb incarnation n (when_value (id == m) incarnation n e) in
     inl (record { version = version; writer = writer; up = up; slots = slots; nic = nic }, rw (is, at) refl)
 part_told m n (op.Report id incarnation number used) e =
-    let is = when_true (id == m) incarnation n e in
+    let is = when_is_true (id == m) incarnation n e in
     let at = eq-eqb incarnation n (when_value (id == m) incarnation n e) in
     inr (record { number = number; used = used }, rw (is, at) refl)
 part_told m n _ e = none_some n e

@@ -3,22 +3,22 @@ use Rattle.std.specs.Prelude.{ℕ}
 use Rattle.fm_records.specs.declared.refusal.Refusal.{Refusal}
 use Rattle.fm_records.specs.declared.refusal.Refusal.TheVariants as refusal
 
-abbrev pub number_of : Refusal → ℕ
-number_of refusal.OutOfMemory = 1
-number_of (refusal.BadOp f) = 2
-number_of refusal.HistoryFull = 3
-number_of refusal.BadInterval = 4
-number_of (refusal.Trimmed floor) = 5
-number_of (refusal.BadPacket place) = 6
-number_of refusal.Uncertified = 7
-number_of refusal.NoCoordinator = 8
-number_of refusal.NoPacket = 9
-number_of refusal.InboxFull = 10
-number_of refusal.InboxEmpty = 11
-number_of refusal.Stuck = 12
-number_of (refusal.NotMine seat) = 13
-number_of refusal.VersionsSpent = 14
-number_of refusal.AttemptsSpent = 15
-number_of (refusal.BadScript step) = 16
-number_of refusal.WriteFault = 17
-number_of (refusal.BadDimacs line) = 18
+abbrev pub refusal_number : Refusal → ℕ
+refusal_number refusal.OutOfMemory = 1
+refusal_number (refusal.BadOp f) = 2
+refusal_number refusal.HistoryFull = 3
+refusal_number refusal.BadInterval = 4
+refusal_number (refusal.Trimmed floor) = 5
+refusal_number (refusal.BadPacket place) = 6
+refusal_number refusal.Uncertified = 7
+refusal_number refusal.NoCoordinator = 8
+refusal_number refusal.NoPacket = 9
+refusal_number refusal.InboxFull = 10
+refusal_number refusal.InboxEmpty = 11
+refusal_number refusal.Stuck = 12
+refusal_number (refusal.NotMine seat) = 13
+refusal_number refusal.VersionsSpent = 14
+refusal_number refusal.AttemptsSpent = 15
+refusal_number (refusal.BadScript step) = 16
+refusal_number refusal.WriteFault = 17
+refusal_number (refusal.BadDimacs line) = 18

@@ -11,7 +11,7 @@ use Rattle.fm_records.specs.Sets.{with_value}
 use Rattle.fm_records.specs.Table.{TaskValue}
 use Rattle.fm_records.specs.Know.{told_progress, spec, progress, task_value, task, know}
 use Rattle.fm_records.specs.Facts.{is_done, request_of, live_spec, is_live, job_stands, open_state, is_open, is_present, won_spot, winner_of, holder_of, holds, held_tasks, used_of, load_of, spare_of, has_room}
-use Rattle.fm_records.specs.SetFacts.{stands, live, state_if_up, present, won, holder, is_held_by, tasks, tasks_held, use_reported, request_asked, load, spare, room}
+use Rattle.fm_records.specs.SetFacts.{is_active_job, live, state_if_up, present, won, holder, is_held_by, tasks, tasks_held, use_reported, request_asked, load, spare, room}
 use Rattle.fm_records.specs.LookupLaws.{none_some, lookup_job}
 use Rattle.fm_records.specs.FactLaws.{spec_part, spec_is, progress_is, incarnation_is, state_is, report_is, winner_is}
 
@@ -63,7 +63,7 @@ no_spec None b e = refl
 no_spec (Some s) b e = none_some (Some s, or_else _ b) (sym e)
 
 module _ (S : List Op) where
-  pub stands_is : (j : ℕ) → job_stands (know S) j ≡ stands S j
+  pub stands_is : (j : ℕ) → job_stands (know S) j ≡ is_active_job S j
   stands_is j = ap (passes (λ r. not r.withdrawn)) (lookup_job S j)
 
   pub live_is : (t : ℕ) → live_spec (know S) t ≡ live S t

@@ -14,12 +14,12 @@ use Rattle.fm_records.specs.Know.{task_named, job, spec, progress, incarnation, 
 use Rattle.fm_records.specs.Facts.{is_done, request_of}
 
 -- the job is told of and not withdrawn
-abbrev pub stands : List Op → ℕ → Bool
-stands S j = passes (λ r. not r.withdrawn) (job S j)
+abbrev pub is_active_job : List Op → ℕ → Bool
+is_active_job S j = passes (λ r. not r.withdrawn) (job S j)
 
 -- the spec of a live task: told and not withdrawn, of a job that stands, and not done
 abbrev pub live : List Op → ℕ → Option SpecReg
-live S t = only_if (λ s. not s.withdrawn && stands S s.job && not (is_done (progress S t).phase)) (spec S t)
+live S t = only_if (λ s. not s.withdrawn && is_active_job S s.job && not (is_done (progress S t).phase)) (spec S t)
 
 -- the state of an open machine: told at its incarnation, and up
 abbrev pub state_if_up : List Op → ℕ → Option MachineReg

@@ -28,7 +28,7 @@ use Rattle.fm_records.specs.KnowLaws.{is_know}
 use Rattle.fm_records.specs.Orders.{job_cmp, spec_cmp, progress_cmp, machine_cmp, report_cmp, spot_cmp, attempt_cmp}
 use Rattle.fm_records.specs.Table.{Table, TaskValue, MachineValue}
 use Rattle.fm_records.specs.Know.{when, job_in, spec_in, progress_in, incarnation_in, state_in, report_in, spot_in, coordinator_named, entry, entries, job, task, task_value, machine, know}
-use Rattle.fm_records.specs.Spelled.{each, job_op, job_ops, spec_op, progress_op, machine_op, report_op, propose_op, task_ops, machine_ops, entry_ops, ops, has_part, IsFull, IsTable}
+use Rattle.fm_records.specs.OpsOfTable.{each, job_op, job_ops, spec_op, progress_op, machine_op, report_op, propose_op, task_ops, machine_ops, entry_ops, ops, has_part, IsFull, IsTable}
 
 equal_tests : (a b : ℕ) → (a == b) ≡ is_eq (nat_cmp b a)
 equal_tests a b = grind (arith, nat_tests)

@@ -31,7 +31,7 @@ use Rattle.fm_records.specs.Know.{none_begun, job_in, spec_in, progress_in, inca
 use Rattle.fm_records.specs.Joined.{task_join, parts_join, machine_join, table_join}
 use Rattle.fm_records.specs.SetLaws.{all_of-append, absorbs}
 use Rattle.fm_records.specs.TableLaws.{some_none, rising_table}
-use Rattle.fm_records.specs.LookupLaws.{lookup_entry, names_member, none_some, when_true, both_true}
+use Rattle.fm_records.specs.LookupLaws.{lookup_entry, names_member, none_some, when_is_true, both_true}
 use Rattle.fm_records.specs.KnowLaws.{know_is, is_know}
 
 -- nothing is below (0, Pending)
@@ -78,14 +78,14 @@ task_both (Some a) (Some b) (Some p) (Some q) = refl
 
 state_says : (m n : ℕ) (o : Op) (v : MachineReg) → state_in m n o ≡ Some v → incarnation_in m o ≡ Some n
 state_says m n (op.Machine id incarnation version writer up slots nic) v e =
-    let both = both_true (id == m) (incarnation == n) (when_true (id == m && incarnation == n) _ v e) in
+    let both = both_true (id == m) (incarnation == n) (when_is_true (id == m && incarnation == n) _ v e) in
     let there = eqb-true incarnation n both.1 in
     rw both.0 (ap Some there)
 state_says m n _ v e = none_some v e
 
 report_says : (m n : ℕ) (o : Op) (v : Report) → report_in m n o ≡ Some v → incarnation_in m o ≡ Some n
 report_says m n (op.Report id incarnation number used) v e =
-    let both = both_true (id == m) (incarnation == n) (when_true (id == m && incarnation == n) _ v e) in
+    let both = both_true (id == m) (incarnation == n) (when_is_true (id == m && incarnation == n) _ v e) in
     let there = eqb-true incarnation n both.1 in
     rw both.0 (ap Some there)
 report_says m n _ v e = none_some v e

@@ -1,7 +1,7 @@
 //! Ids of jobs, tasks, machines and coordinators.
 
 ghost use Rattle.std.specs.Prelude.{◌≡◌, ◌≤◌, IfOk, IsOkUnless, string_bytes};
-ghost use Rattle.fm_records.specs.Ids.{read_id, id_text, coordinator};
+ghost use Rattle.fm_records.specs.Ids.{read_id, id_text, coordinator_id};
 
 use crate::refusal::Refusal;
 use fm_lattice::chain::Chain;
@@ -204,7 +204,7 @@ impl Chain for CoordId {
 impl CoordId {
     /// The coordinator with the number, which is from 1 to 64; none at other numbers.
     pub fn new(number: u8) -> Option<CoordId>
-        ensures { result ≡ coordinator number }
+        ensures { result ≡ coordinator_id number }
     {
         if number >= 1 && number <= 64 {
             Some(CoordId { number })

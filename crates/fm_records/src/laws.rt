@@ -1,4 +1,4 @@
-//! The laws of what a set of operations means. Each function does nothing: its contract is the law. `equal` and `order`
+//! The laws of what a set of operations means. Each function does nothing: its contract is the law. `record_equality` and `order`
 //! have the laws of `==` and `cmp`, whose functions do that one call.
 
 ghost use Rattle.std.specs.Prelude.{◌≡◌, ◌↔◌, ◌++◌, ℕ, List, IsTrue};
@@ -9,15 +9,15 @@ ghost use Rattle.fm_records.specs.declared.ops.Op.{Op};
 ghost use Rattle.fm_records.specs.Ids.{read_id, id_text};
 ghost use Rattle.fm_records.specs.Sets.{HaveSameMembers, greatest, least};
 ghost use Rattle.fm_records.specs.Know.{know, job, spec, progress, incarnation, state, report, entry, winner};
-ghost use Rattle.fm_records.specs.Spelled.{ops, IsTable};
+ghost use Rattle.fm_records.specs.OpsOfTable.{ops, IsTable};
 ghost use Rattle.fm_records.specs.Ranges.{all_in_range, CanBe};
 ghost use Rattle.fm_records.specs.Table.{Table};
 ghost use Rattle.fm_records.specs.Joined.{machines_join, proposals_join, table_join};
-ghost use Rattle.fm_records.specs.Facts.{job_of, spec_of, progress_of, incarnation_of, state_of, report_of, entries_of, winner_of, job_stands, live_spec, open_state, holder_of, load_of, spare_of, has_room};
-ghost use Rattle.fm_records.specs.SetFacts.{stands, live, state_if_up, holder, load, spare, room};
+ghost use Rattle.fm_records.specs.Facts.{job_of, spec_of, progress_of, incarnation_of, machine_state, report_of, entries_of, winner_of, job_stands, live_spec, open_state, holder_of, load_of, spare_of, has_room};
+ghost use Rattle.fm_records.specs.SetFacts.{is_active_job, live, state_if_up, holder, load, spare, room};
 ghost use Rattle.fm_records.specs.Characterized.{IsGreatestOf, IsLeastOf, IsKnow};
 
-pub mod equal;
+pub mod record_equality;
 pub mod order;
 
 use crate::ids::{CoordId, MachineId, TaskId};
@@ -25,7 +25,7 @@ use crate::records::{MachineRec, Spot};
 use fm_lattice::chain::Chain;
 use fm_lattice::join::{law_assoc, law_comm, law_idem};
 use fm_lattice::map::JoinMap;
-use fm_lattice::plain::Min;
+use fm_lattice::constructors::Min;
 
 /// Where coordinators would run an attempt of a task: by task and attempt, and then by coordinator.
 pub type Proposals = JoinMap<(TaskId, u32), JoinMap<CoordId, Min<Spot>>>;
@@ -55,7 +55,7 @@ pub fn law_facts()
     ensures spec { (S : List Op) (t : ℕ) → spec_of (know S) t ≡ spec S t }
     ensures progress { (S : List Op) (t : ℕ) → progress_of (know S) t ≡ progress S t }
     ensures incarnation { (S : List Op) (m : ℕ) → incarnation_of (know S) m ≡ incarnation S m }
-    ensures state { (S : List Op) (m : ℕ) → state_of (know S) m ≡ state S m }
+    ensures state { (S : List Op) (m : ℕ) → machine_state (know S) m ≡ state S m }
     ensures report { (S : List Op) (m : ℕ) → report_of (know S) m ≡ report S m }
     ensures entry { (S : List Op) (at : ℕ × ℕ) (c : ℕ) → lookup nat_cmp c (entries_of (know S) at) ≡ entry S at c }
     ensures winner { (S : List Op) (at : ℕ × ℕ) → winner_of (know S) at.0 at.1 ≡ winner S at }
@@ -63,7 +63,7 @@ pub fn law_facts()
 
 /// What is live, open and held, and what a machine has left, on the table of a set is so of the set itself.
 pub fn law_facts_of_sets()
-    ensures stands { (S : List Op) (j : ℕ) → job_stands (know S) j ≡ stands S j }
+    ensures stands { (S : List Op) (j : ℕ) → job_stands (know S) j ≡ is_active_job S j }
     ensures live { (S : List Op) (t : ℕ) → live_spec (know S) t ≡ live S t }
     ensures opened { (S : List Op) (m : ℕ) → open_state (know S) m ≡ state_if_up S m }
     ensures holder { (S : List Op) (t : ℕ) → holder_of (know S) t ≡ holder S t }

@@ -1,13 +1,13 @@
 //! Records: what is known of a job, a task or a machine.
 
 ghost use Rattle.std.specs.Prelude.{◌≡◌};
-ghost use Rattle.fm_records.specs.Told.{job_record, spec_record, progress_record, machine_record, report_record, spot_record};
+ghost use Rattle.fm_records.specs.OpRecords.{job_record, spec_record, progress_record, machine_record, report_record, spot_record};
 
 use crate::ids::{JobId, MachineId};
 use crate::ops::{Op, Phase};
 use crate::prefer::Prefer;
 use fm_lattice::chain::Chain;
-use fm_lattice::plain::{Both, Lex, Max, Opt};
+use fm_lattice::constructors::{Both, Lex, Max, Opt};
 
 /// What is known of a task: its spec, if that is known, and its progress.
 pub type TaskRec = Both<Opt<Max<SpecReg>>, Max<Progress>>;

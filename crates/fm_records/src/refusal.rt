@@ -1,7 +1,7 @@
 //! Refusals, with a number and a text each.
 
 ghost use Rattle.std.specs.Prelude.{◌≡◌};
-ghost use Rattle.fm_records.specs.Refusals.{number_of};
+ghost use Rattle.fm_records.specs.Refusals.{refusal_number};
 ghost use Rattle.fm_records.specs.declared.refusal.Refusal.TheVariants as refusal;
 
 use crate::ops::Field;
@@ -71,7 +71,7 @@ pub enum Refusal {
 impl Refusal {
     /// The number of the refusal, from 1 to 18.
     pub fn number(&self) -> u32
-        ensures { result ≡ number_of self.now }
+        ensures { result ≡ refusal_number self.now }
     {
         match self {
             Refusal::OutOfMemory => 1,

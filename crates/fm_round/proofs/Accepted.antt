@@ -8,15 +8,15 @@ use Rattle.fm_records.specs.declared.records.MachineReg.{MachineReg}
 use Rattle.fm_records.specs.declared.records.SpecReg.{SpecReg}
 use Rattle.fm_records.specs.Options.{when, and_then, only_if, passes}
 use Rattle.fm_records.specs.Table.{Table}
-use Rattle.fm_records.specs.Spelled.{IsTable}
+use Rattle.fm_records.specs.OpsOfTable.{IsTable}
 use Rattle.fm_records.specs.Facts.{spec_of, request_of, attempt_of, live_spec, is_live, holder_of, holds, held_tasks, load_of, has_room, open_state}
 use Rattle.fm_net.specs.Network.{is_held}
-use Rattle.fm_round.specs.declared.parts.Place.{Place}
-use Rattle.fm_round.specs.declared.parts.Preempt.{Preempt}
-use Rattle.fm_round.specs.declared.parts.Answer.{Answer}
-use Rattle.fm_round.specs.declared.parts.Answer.TheVariants.{Gone, Held, AttemptsSpent, Contested, NoSlot, NoRoom, Accepted}
+use Rattle.fm_round.specs.declared.plan.Place.{Place}
+use Rattle.fm_round.specs.declared.plan.Preempt.{Preempt}
+use Rattle.fm_round.specs.declared.plan.Answer.{Answer}
+use Rattle.fm_round.specs.declared.plan.Answer.TheVariants.{Gone, Held, AttemptsSpent, Contested, NoSlot, NoRoom, Accepted}
 use Rattle.fm_round.specs.Admission.{told, is_accepted, last_attempt, has_proposal, is_full, is_open_at, place_ops, place_answer, preempt_ops, preempt_answer}
-use Rattle.fm_round.specs.Holdings.{requests_of, share}
+use Rattle.fm_round.specs.MachineHoldings.{requests_of, share}
 use Rattle.fm_round.proofs.After.{live_spec_of, after_place, after_preempt, requests_after, count_after}
 
 -- a rule that does not apply

@@ -12,11 +12,11 @@ use Rattle.fm_records.specs.declared.records.SpecReg.{SpecReg}
 use Rattle.fm_records.specs.declared.records.Spot.{Spot}
 use Rattle.fm_records.specs.Options.{when, and_then, only_if, passes}
 use Rattle.fm_records.specs.Table.{Table, TaskValue}
-use Rattle.fm_records.specs.Spelled.{IsTable}
+use Rattle.fm_records.specs.OpsOfTable.{IsTable}
 use Rattle.fm_records.specs.Facts.{spec_of, progress_of, attempt_of, incarnation_of, live_spec, is_live, is_open, is_present, is_done, winner_of, holder_of, holds, held_tasks, request_of}
 use Rattle.fm_net.specs.Network.{is_held}
-use Rattle.fm_round.specs.declared.parts.Place.{Place}
-use Rattle.fm_round.specs.declared.parts.Preempt.{Preempt}
+use Rattle.fm_round.specs.declared.plan.Place.{Place}
+use Rattle.fm_round.specs.declared.plan.Preempt.{Preempt}
 use Rattle.fm_round.specs.Admission.{told, has_proposal, has_incarnation, is_open_at, place_ops, preempt_ops}
 use Rattle.fm_round.specs.Hearings.{winner_with, spot_of, winning_spot, is_spot_of}
 use Rattle.fm_round.proofs.Told.{told_more, told_table}

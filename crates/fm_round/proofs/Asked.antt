@@ -11,7 +11,7 @@ use Rattle.std.proofs.lemmas.Cmp.{tied_itself}
 use Rattle.fm_lattice.specs.Maps.{IsBelow, IsRising}
 use Rattle.fm_records.specs.Options.{when, and_then, passes}
 use Rattle.fm_records.specs.Sets.{IsMember}
-use Rattle.fm_records.specs.LookupLaws.{when_true, both_true}
+use Rattle.fm_records.specs.LookupLaws.{when_is_true, both_true}
 use Rattle.fm_records.specs.Table.{Table}
 use Rattle.fm_records.specs.Facts.{live_spec, holds}
 use Rattle.fm_net.specs.declared.node.Node.{Node}
@@ -23,8 +23,8 @@ use Rattle.fm_net.specs.Network.{is_held, waits_for, preferred_arc, arc_of, net_
 use Rattle.fm_net.specs.NetworkLaws.{came_from, is_network_of}
 use Rattle.fm_net.specs.ListLaws.{any_of, some_member, entry_member}
 use Rattle.fm_net.specs.EditLaws.{member_found}
-use Rattle.fm_round.specs.declared.planning.RequestUnit.{RequestUnit}
-use Rattle.fm_round.specs.Planned.{Units, Wait, units_over, wait_in, seats_in, unscheduled_in, waits, seats, place_at, place_of, placed_in, preempt_of, plan_of_flow}
+use Rattle.fm_round.specs.declared.from_units.RequestUnit.{RequestUnit}
+use Rattle.fm_round.specs.Planned.{ArcUnits, Wait, units_over, wait_in, seats_in, unscheduled_in, waits, seats, place_at, place_of, place_in_plan, preempt_of, plan_of_flow}
 use Rattle.fm_round.specs.Asked.{waits_by, has_request, is_asked, waiting_after, is_asked_after}
 
 abbrev NetArc : Type 0
@@ -78,7 +78,7 @@ module _ (k : Table) where
       let found = some_member (λ (a : NetArc). waits_by t a.0) (net_of k).arcs has in
       let ends = task_waits t found.0.0 found.2 in
       let arc : arc_of k (Task t) (Request ends.0) ≡ Some found.0.1 = subst (λ z. arc_of k z.0 z.1 ≡ Some found.0.1) ends.1 (in_net found.0.0 found.0.1 found.1) in
-      let waits : waits_for k ends.0 t ≡ true = when_true (waits_for k ends.0 t) (1, 0) found.0.1 arc in
+      let waits : waits_for k ends.0 t ≡ true = when_is_true (waits_for k ends.0 t) (1, 0) found.0.1 arc in
       let not_held : not true ≡ true = ap not (sym held) ∙ (both_true (passes (λ s. s.request == ends.0) (live_spec k t)) (not (is_held k t)) waits).1 in
       let no : ⊥ = cc in no
 
@@ -103,7 +103,7 @@ module _ (k : Table) (sent : Node → Node → ℕ) where
   abbrev net : Net
   net = net_of k
 
-  abbrev all : Units
+  abbrev all : ArcUnits
   all = units_over net sent
 
   nobody_waits : (e : (Node × Node) × ℕ) → is_asked net e ≡ false → wait_in e ≡ None
@@ -118,7 +118,7 @@ module _ (k : Table) (sent : Node → Node → ℕ) where
   none_leaves ((Task t, Unscheduled j), u) idle = ap (λ b. when b t) idle
   none_leaves _ idle = refl
 
-  nothing_placed : (ws : List Wait) (ss : List RequestUnit) (e : (Node × Node) × ℕ) → IsMember e all → is_asked net e ≡ false → placed_in ws ss k e ≡ None
+  nothing_placed : (ws : List Wait) (ss : List RequestUnit) (e : (Node × Node) × ℕ) → IsMember e all → is_asked net e ≡ false → place_in_plan ws ss k e ≡ None
   nothing_placed ws ss ((Task t, Request r), u) member idle = ap (and_then (place_of ws ss k)) (nobody_waits ((Task t, Request r), u) idle)
   nothing_placed ws ss ((Task t, Machine m), u) member idle =
       let found = member_over net sent net.arcs ((Task t, Machine m), u) member in
@@ -132,7 +132,7 @@ module _ (k : Table) (sent : Node → Node → ℕ) where
       let asked = filter (is_asked net) all in
       let w : waits asked ≡ waits all = filtered (is_asked net) wait_in all (λ e _. nobody_waits e) in
       let s : seats asked ≡ seats all = flattened (is_asked net) seats_in all (λ e _. no_seat e) in
-      let places : filter_map (placed_in (waits asked) (seats asked) k) asked ≡ filter_map (placed_in (waits all) (seats all) k) all = (λ i. filter_map (placed_in (w i) (s i) k) asked) ∙ filtered (is_asked net) (placed_in (waits all) (seats all) k) all (nothing_placed (waits all) (seats all)) in
+      let places : filter_map (place_in_plan (waits asked) (seats asked) k) asked ≡ filter_map (place_in_plan (waits all) (seats all) k) all = (λ i. filter_map (place_in_plan (w i) (s i) k) asked) ∙ filtered (is_asked net) (place_in_plan (waits all) (seats all) k) all (nothing_placed (waits all) (seats all)) in
       let preempts = filtered (is_asked net) unscheduled_in all (λ e _. none_leaves e) in
       λ i. record { places = places i; preempts = filter_map (preempt_of k) (preempts i) }
 

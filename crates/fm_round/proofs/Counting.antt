@@ -11,11 +11,11 @@ use Rattle.fm_lattice.specs.Chains.{nat_same}
 use Rattle.fm_records.specs.Options.{only_if, passes}
 use Rattle.fm_records.specs.Sets.{IsMember}
 use Rattle.fm_records.specs.Table.{Table, TaskValue}
-use Rattle.fm_round.specs.declared.parts.Place.{Place}
+use Rattle.fm_round.specs.declared.plan.Place.{Place}
 use Rattle.fm_records.specs.Facts.{request_of, holder_of, holds, held_tasks}
-use Rattle.fm_round.specs.declared.holdings.Holding.{Holding}
-use Rattle.fm_round.specs.declared.holdings.Holdings.{Holdings}
-use Rattle.fm_round.specs.Holdings.{is_counted, holding_of, nothing_held, requests_of, share, AreHoldings}
+use Rattle.fm_round.specs.declared.machine_holdings.Holding.{Holding}
+use Rattle.fm_round.specs.declared.machine_holdings.Holdings.{Holdings}
+use Rattle.fm_round.specs.MachineHoldings.{is_counted, holding_of, nothing_held, requests_of, share, AreCountedHoldings}
 
 itself : (t : ℕ) → is_eq (nat_cmp t t) ≡ true
 itself t = ap is_eq (tied_itself nat_cmp_total t)
@@ -129,7 +129,7 @@ module _ (k : Table) where
         tasks_fit = λ m. let a = counting.tasks_fit m in let c = tasks m in let d = at_most (n == m) 1 in omega (arith, a, c, d);
       }
 
-  pub counting_ends : (holdings : Holdings) → IsCounting k [] holdings → AreHoldings k holdings
+  pub counting_ends : (holdings : Holdings) → IsCounting k [] holdings → AreCountedHoldings k holdings
   counting_ends holdings counting = record {
     requests = λ m is. let a = counting.requests m is in omega (arith, a);
     tasks = λ m is. let a = counting.tasks m is in omega (arith, a);

@@ -6,15 +6,15 @@ use Rattle.fm_records.specs.declared.ops.Op.TheVariants as op
 use Rattle.fm_records.specs.Know.{know}
 use Rattle.fm_records.specs.Facts.{progress_of, load_of}
 use Rattle.fm_net.specs.declared.node.Node.TheVariants as node
-use Rattle.fm_round.specs.declared.parts.Place.{Place}
-use Rattle.fm_round.specs.declared.parts.Preempt.{Preempt}
-use Rattle.fm_round.specs.declared.parts.Answer.{Answer}
-use Rattle.fm_round.specs.declared.parts.Answer.TheVariants.{Gone, Held, AttemptsSpent, Contested, NoSlot, NoRoom, Accepted}
-use Rattle.fm_round.specs.declared.parts.Plan.{Plan}
-use Rattle.fm_round.specs.declared.parts.Admitted.{Admitted}
+use Rattle.fm_round.specs.declared.plan.Place.{Place}
+use Rattle.fm_round.specs.declared.plan.Preempt.{Preempt}
+use Rattle.fm_round.specs.declared.plan.Answer.{Answer}
+use Rattle.fm_round.specs.declared.plan.Answer.TheVariants.{Gone, Held, AttemptsSpent, Contested, NoSlot, NoRoom, Accepted}
+use Rattle.fm_round.specs.declared.plan.Plan.{Plan}
+use Rattle.fm_round.specs.declared.plan.Admitted.{Admitted}
 use Rattle.fm_round.specs.Admission.{told, admission}
 use Rattle.fm_round.specs.Stopping.{stops_of}
-use Rattle.fm_round.specs.Planned.{Units, plan_of_flow}
+use Rattle.fm_round.specs.Planned.{ArcUnits, plan_of_flow}
 
 abbrev J : ℕ
 J = 1
@@ -72,7 +72,7 @@ stops_of_one = refl
 abbrev tight : List Op
 tight = op.Job J 1 1 false 700 800 ∷ machine_A ∷ op.Spec t1 1 1 false J 600 [] ∷ op.Spec t2 1 1 false J 500 [] ∷ []
 
-abbrev tight_flow : Units
+abbrev tight_flow : ArcUnits
 tight_flow =
     ((node.Request 500, node.Machine A), 1) ∷ ((node.Request 600, node.Machine A), 1) ∷ ((node.Machine A, node.Sink), 2)
     ∷ ((node.Task t1, node.Request 600), 1) ∷ ((node.Task t2, node.Request 500), 1) ∷ []
@@ -93,7 +93,7 @@ swap =
 swap_load : load_of (know swap) A ≡ 100
 swap_load = refl
 
-abbrev swap_flow : Units
+abbrev swap_flow : ArcUnits
 swap_flow =
     ((node.Unscheduled J, node.Sink), 1) ∷ ((node.Request 0, node.Machine A), 1) ∷ ((node.Machine A, node.Sink), 1)
     ∷ ((node.Task t1, node.Unscheduled J), 1) ∷ ((node.Task t2, node.Request 0), 1) ∷ []
@@ -116,7 +116,7 @@ swap_progress = refl
 abbrev freed : List Op
 freed = swap ++ op.Progress t1 1 Pending ∷ []
 
-abbrev freed_flow : Units
+abbrev freed_flow : ArcUnits
 freed_flow =
     ((node.Unscheduled J, node.Sink), 1) ∷ ((node.Request 0, node.Machine A), 1) ∷ ((node.Machine A, node.Sink), 1)
     ∷ ((node.Task t1, node.Unscheduled J), 1) ∷ ((node.Task t2, node.Request 0), 1) ∷ []
@@ -132,7 +132,7 @@ freed_outcome = refl
 abbrev pair : List Op
 pair = known ++ op.Spec t2 1 1 false J 100 [] ∷ []
 
-abbrev pair_flow : Units
+abbrev pair_flow : ArcUnits
 pair_flow =
     ((node.Request 100, node.Machine A), 1) ∷ ((node.Request 100, node.Machine B), 1)
     ∷ ((node.Machine A, node.Sink), 1) ∷ ((node.Machine B, node.Sink), 1)
@@ -185,7 +185,7 @@ gone_place = refl
 abbrev straight : List Op
 straight = op.Job J 1 1 false 500 800 ∷ machine_A ∷ op.Spec t1 1 1 false J 100 ((A, 30) ∷ []) ∷ op.Spec t2 1 1 false J 100 [] ∷ []
 
-abbrev straight_flow : Units
+abbrev straight_flow : ArcUnits
 straight_flow =
     ((node.Request 100, node.Machine A), 1) ∷ ((node.Machine A, node.Sink), 2)
     ∷ ((node.Task t1, node.Machine A), 1) ∷ ((node.Task t2, node.Request 100), 1) ∷ []

@@ -16,8 +16,8 @@ use Rattle.fm_net.specs.Nodes.{ends_cmp}
 use Rattle.fm_net.specs.NodeOrder.{ends_total, ends_exact}
 use Rattle.fm_records.specs.Options.{when, or_else}
 use Rattle.fm_records.specs.Sets.{IsMember}
-use Rattle.fm_round.specs.declared.planning.RequestUnit.{RequestUnit}
-use Rattle.fm_round.specs.Planned.{Wait, Units, units, wait_in, seats_in, waits, seats, tasks_of, machines_of}
+use Rattle.fm_round.specs.declared.from_units.RequestUnit.{RequestUnit}
+use Rattle.fm_round.specs.Planned.{Wait, ArcUnits, units, wait_in, seats_in, waits, seats, tasks_of, machines_of}
 use Rattle.fm_round.proofs.Pairing.{wait_is}
 
 impossible : {A : Type 0} → 0 < 0 → A
@@ -34,17 +34,17 @@ found_ends q p tie = sym (ends_exact q p ((Equal-is (ends_cmp q p)).0 tie))
 tie_itself : (q p : Node × Node) → p ≡ q → is_eq (ends_cmp q p) ≡ true
 tie_itself q p same = subst (λ z. is_eq (ends_cmp q z) ≡ true) (sym same) (ap is_eq (tied_itself ends_total q))
 
-none_later : (q p : Node × Node) (f : Units) → p ≡ q → IsBelow ends_cmp p f → or_else 0 (lookup ends_cmp q f) ≡ 0
+none_later : (q p : Node × Node) (f : ArcUnits) → p ≡ q → IsBelow ends_cmp p f → or_else 0 (lookup ends_cmp q f) ≡ 0
 none_later q p f same below = ap (or_else 0) (lookup_below ends_cmp ends_total ends_exact q f (subst (λ z. IsBelow ends_cmp z f) same below))
 
 module _ (r t : ℕ) where
   abbrev to_request : Node × Node
   to_request = (Task t, Request r)
 
-  abbrev IsFound : Option Wait → Units → ℕ → Type 0
+  abbrev IsFound : Option Wait → ArcUnits → ℕ → Type 0
   IsFound o f n = IsMember t (tasks_of r (cons_option o (waits f))) ↔ (0 < n)
 
-  first_wait : (u : ℕ) (f : Units) → (IsMember t (tasks_of r (waits f)) → ⊥) → IsFound (wait_in (to_request, u)) f u
+  first_wait : (u : ℕ) (f : ArcUnits) → (IsMember t (tasks_of r (waits f)) → ⊥) → IsFound (wait_in (to_request, u)) f u
   first_wait u f rest =
       let w : Wait = record { request = r; task = t } in
       let own : (r == r) ≡ true = eq-eqb r r refl in
@@ -53,7 +53,7 @@ module _ (r t : ℕ) where
         | false ↦ λ e. (λ member. absurd (rest member), λ more. let none = ltb-false 0 u e in let no : ⊥ = omega (arith, none, more) in absurd no)
       ] refl
 
-  later_wait : (o : Option Wait) (f : Units) (n : ℕ) → ((w : Wait) → o ≡ Some w → w.request ≡ r → w.task ≡ t → ⊥) → (IsMember t (tasks_of r (waits f)) ↔ (0 < n)) → IsFound o f n
+  later_wait : (o : Option Wait) (f : ArcUnits) (n : ℕ) → ((w : Wait) → o ≡ Some w → w.request ≡ r → w.task ≡ t → ⊥) → (IsMember t (tasks_of r (waits f)) ↔ (0 < n)) → IsFound o f n
   later_wait None f n other rest = rest
   later_wait (Some w) f n other rest =
       elim (w.request == r) as (λ c. (w.request == r) ≡ c → IsMember t (cons_option (when c w.task) (tasks_of r (waits f))) ↔ (0 < n)) [
@@ -61,7 +61,7 @@ module _ (r t : ℕ) where
         | false ↦ λ _. rest
       ] refl
 
-  pub waits_found : (f : Units) → IsRising ends_cmp f → IsMember t (tasks_of r (waits f)) ↔ (0 < units f (Task t) (Request r))
+  pub waits_found : (f : ArcUnits) → IsRising ends_cmp f → IsMember t (tasks_of r (waits f)) ↔ (0 < units f (Task t) (Request r))
   waits_found [] rising = (λ h. absurd h, λ h. impossible h)
   waits_found (e ∷ f) rising =
       let rest = waits_found f rising.1 in
@@ -112,7 +112,7 @@ module _ (r m : ℕ) where
   own_seats : (u : ℕ) → times (machines_of r (seats_in (to_machine, u))) ≡ u
   own_seats u = all_seats (record { request = r; machine = m }) u (let a : (r == r) ≡ true = eq-eqb r r refl in let b : (m == m) ≡ true = eq-eqb m m refl in rw (a, b) refl)
 
-  pub seats_counted : (f : Units) → IsRising ends_cmp f → times (machines_of r (seats f)) ≡ units f (Request r) (Machine m)
+  pub seats_counted : (f : ArcUnits) → IsRising ends_cmp f → times (machines_of r (seats f)) ≡ units f (Request r) (Machine m)
   seats_counted [] rising = refl
   seats_counted (e ∷ f) rising =
       let rest = seats_counted f rising.1 in

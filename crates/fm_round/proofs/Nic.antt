@@ -6,15 +6,15 @@ use Rattle.fm_records.specs.declared.records.MachineReg.{MachineReg}
 use Rattle.fm_records.specs.declared.ops.Op.{Op}
 use Rattle.fm_records.specs.Options.{passes}
 use Rattle.fm_records.specs.Table.{Table}
-use Rattle.fm_records.specs.Spelled.{IsTable}
+use Rattle.fm_records.specs.OpsOfTable.{IsTable}
 use Rattle.fm_records.specs.Facts.{spec_of, request_of, open_state, used_of, load_of, holder_of}
 use Rattle.fm_net.specs.Network.{is_held}
-use Rattle.fm_round.specs.declared.parts.Place.{Place}
-use Rattle.fm_round.specs.declared.parts.Preempt.{Preempt}
-use Rattle.fm_round.specs.declared.parts.Plan.{Plan}
-use Rattle.fm_round.specs.declared.parts.Answer.{Answer}
+use Rattle.fm_round.specs.declared.plan.Place.{Place}
+use Rattle.fm_round.specs.declared.plan.Preempt.{Preempt}
+use Rattle.fm_round.specs.declared.plan.Plan.{Plan}
+use Rattle.fm_round.specs.declared.plan.Answer.{Answer}
 use Rattle.fm_round.specs.Admission.{told, is_accepted, one_entry, in_turn, place_ops, place_answer, preempt_ops, preempt_answer, admission_of_places, admission_of_preempts, admission, got_place, is_within_nic}
-use Rattle.fm_round.specs.Holdings.{requests_of, share}
+use Rattle.fm_round.specs.MachineHoldings.{requests_of, share}
 use Rattle.fm_round.proofs.Told.{told_nothing, told_more, told_table}
 use Rattle.fm_round.proofs.Keeps.{Keeps, open_kept, used_kept}
 use Rattle.fm_round.proofs.After.{live_spec_of, after_place, after_preempt}

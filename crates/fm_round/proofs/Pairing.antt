@@ -18,9 +18,9 @@ use Rattle.fm_net.specs.NodeOrder.{ends_total}
 use Rattle.fm_records.specs.Options.{when, and_then}
 use Rattle.fm_records.specs.Sets.{IsMember}
 use Rattle.fm_records.specs.Table.{Table}
-use Rattle.fm_round.specs.declared.planning.RequestUnit.{RequestUnit}
-use Rattle.fm_round.specs.Planned.{Wait, Units, wait_in, waits, tasks_of, machines_of, machine_for, place_at, place_of, placed_in}
-use Rattle.fm_round.specs.Seating.{placed_next, AreApart}
+use Rattle.fm_round.specs.declared.from_units.RequestUnit.{RequestUnit}
+use Rattle.fm_round.specs.Planned.{Wait, ArcUnits, wait_in, waits, tasks_of, machines_of, machine_for, place_at, place_of, place_in_plan}
+use Rattle.fm_round.specs.Seating.{placed_next, HasNoRepeat}
 
 -- one more
 pub mapped_more : {A B : Type 0} (f : A → Option B) (xs : List A) (x : A) → filter_map f (xs ++ x ∷ []) ≡ filter_map f xs ++ option_to_list (f x)
@@ -49,7 +49,7 @@ next_pair t u n ts [] other rest = refl
 next_pair t u n ts (m ∷ ms) other rest = ap (λ b. cond b (Some m) (lookup nat_cmp t (zip ts ms))) (other_task t u other) ∙ rest ms
 
 -- a task of a request is paired with the seat of its number
-pub paired : (w : Wait) (before after : List Wait) (ms : List ℕ) → AreApart (before ++ w ∷ after) → lookup nat_cmp w.task (zip (tasks_of w.request (before ++ w ∷ after)) ms) ≡ slice_get ms (length (tasks_of w.request before))
+pub paired : (w : Wait) (before after : List Wait) (ms : List ℕ) → HasNoRepeat (before ++ w ∷ after) → lookup nat_cmp w.task (zip (tasks_of w.request (before ++ w ∷ after)) ms) ≡ slice_get ms (length (tasks_of w.request before))
 paired w [] after ms apart =
     let own : (w.request == w.request) ≡ true = eq-eqb w.request w.request refl in
     ap (λ b. lookup nat_cmp w.task (zip (cons_option (when b w.task) (tasks_of w.request after)) ms)) own ∙ first_pair w.task (tasks_of w.request after) ms
@@ -63,16 +63,16 @@ paired w (x ∷ before) after ms apart =
       | false ↦ λ _. paired w before after ms apart.1
     ] refl
 
-module _ (left : ℕ → List ℕ) (ss : List RequestUnit) (k : Table) (before after : Units) (apart_left : (r : ℕ) → left r ≡ drop (length (tasks_of r (waits before))) (machines_of r ss)) where
+module _ (left : ℕ → List ℕ) (ss : List RequestUnit) (k : Table) (before after : ArcUnits) (apart_left : (r : ℕ) → left r ≡ drop (length (tasks_of r (waits before))) (machines_of r ss)) where
   -- the first that is left is where the task's turn brings it
-  pub placed_as : (a : (Node × Node) × ℕ) → AreApart (waits (before ++ a ∷ after)) → placed_next left k a ≡ placed_in (waits (before ++ a ∷ after)) ss k a
+  pub placed_as : (a : (Node × Node) × ℕ) → HasNoRepeat (waits (before ++ a ∷ after)) → placed_next left k a ≡ place_in_plan (waits (before ++ a ∷ after)) ss k a
   placed_as ((Task t, Request r), u) apart =
       let w : Wait = record { request = r; task = t } in
       let all = waits (before ++ ((Task t, Request r), u) ∷ after) in
       elim (nat_lt 0 u) as (λ b. nat_lt 0 u ≡ b → and_then (λ x. and_then (place_at k x.task) (slice_get (left x.request) 0)) (when b w) ≡ and_then (place_of all ss k) (when b w)) [
         | true ↦ λ e.
             let split : all ≡ waits before ++ w ∷ waits after = filter_map-append wait_in before (((Task t, Request r), u) ∷ after) ∙ ap (λ b. waits before ++ cons_option (when b w) (waits after)) e in
-            let pair = paired w (waits before) (waits after) (machines_of r ss) (subst AreApart split apart) in
+            let pair = paired w (waits before) (waits after) (machines_of r ss) (subst HasNoRepeat split apart) in
             let first = ap (λ q. slice_get q 0) (apart_left r) ∙ first_left (length (tasks_of r (waits before))) (machines_of r ss) in
             ap (and_then (place_at k t)) (first ∙ sym (ap (λ z. machine_for z ss w) split ∙ pair))
         | false ↦ λ _. refl
@@ -101,7 +101,7 @@ pub wait_is : (e : (Node × Node) × ℕ) (w : Wait) → wait_in e ≡ Some w �
 wait_is ((Task t, Request r), u) w e = ap (λ z. (Task z.task, Request z.request)) (wait_of _ (record { request = r; task = t }) w e)
 wait_is _ w e = absurd (let no : ⊥ = cc in no)
 
-not_later : (w : Wait) (q : Node × Node) (f : Units) → q ≡ (Task w.task, Request w.request) → IsBelow ends_cmp q f → IsMember w (waits f) → ⊥
+not_later : (w : Wait) (q : Node × Node) (f : ArcUnits) → q ≡ (Task w.task, Request w.request) → IsBelow ends_cmp q f → IsMember w (waits f) → ⊥
 not_later w q [] is below member = member
 not_later w q (e ∷ f) is below member =
     elim (wait_in e) as (λ o. wait_in e ≡ o → IsMember w (cons_option o (waits f)) → ⊥) [
@@ -116,10 +116,10 @@ not_later w q (e ∷ f) is below member =
       ]
     ] refl member
 
-pub waits_apart : (f : Units) → IsRising ends_cmp f → AreApart (waits f)
+pub waits_apart : (f : ArcUnits) → IsRising ends_cmp f → HasNoRepeat (waits f)
 waits_apart [] rising = tt
 waits_apart (e ∷ f) rising =
-    elim (wait_in e) as (λ o. wait_in e ≡ o → AreApart (cons_option o (waits f))) [
+    elim (wait_in e) as (λ o. wait_in e ≡ o → HasNoRepeat (cons_option o (waits f))) [
       | None ↦ λ _. waits_apart f rising.1
       | Some w ↦ λ found. (not_later w e.0 f (wait_is e w found) rising.0, waits_apart f rising.1)
     ] refl

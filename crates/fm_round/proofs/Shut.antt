@@ -11,7 +11,7 @@ use Rattle.fm_net.specs.NetworkLaws.{held_ends, mapped_from, passes_some}
 use Rattle.fm_tally.specs.declared.tally.OpenMachine.{OpenMachine}
 use Rattle.fm_tally.specs.declared.tally.Tally.{Tally}
 use Rattle.fm_tally.specs.Tallies.{TallyIsFor}
-use Rattle.fm_round.specs.Holdings.{requests_of}
+use Rattle.fm_round.specs.MachineHoldings.{requests_of}
 
 some_none : {A P : Type 0} (a : A) → Some a ≡ None → P
 some_none a e = absurd (let no : ⊥ = cc in no)

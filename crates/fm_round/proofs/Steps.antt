@@ -18,9 +18,9 @@ use Rattle.fm_records.specs.Orders.{spec_cmp, progress_cmp, phase_cmp, spot_cmp,
 use Rattle.fm_records.specs.OrderLaws.{total_attempt, same_attempt}
 use Rattle.fm_records.specs.Table.{Table, TaskValue}
 use Rattle.fm_records.specs.Know.{know, none_begun}
-use Rattle.fm_records.specs.Spelled.{IsTable}
+use Rattle.fm_records.specs.OpsOfTable.{IsTable}
 use Rattle.fm_records.specs.Joined.{task_join, spots_join, tasks_join, proposals_join}
-use Rattle.fm_records.specs.Facts.{spec_of, progress_of, attempt_of, winner_of, first_of}
+use Rattle.fm_records.specs.Facts.{spec_of, progress_of, attempt_of, winner_of, head_option}
 use Rattle.fm_round.specs.Admission.{told}
 use Rattle.fm_round.specs.Hearings.{winner_with}
 use Rattle.fm_round.proofs.Weights.{put_weighs}
@@ -104,13 +104,13 @@ module _ (k : Table) (form : IsTable k) (t a : ℕ) where
   }
 
 -- the first entry once another is put
-first_put : (c : ℕ) (s : Spot) (es : List (ℕ × Spot)) → first_of (put nat_cmp (min_join spot_cmp) c s es) ≡ Some (winner_with (first_of es) c s)
+first_put : (c : ℕ) (s : Spot) (es : List (ℕ × Spot)) → head_option (put nat_cmp (min_join spot_cmp) c s es) ≡ Some (winner_with (head_option es) c s)
 first_put c s [] = refl
 first_put c s (e ∷ es) =
-    by_cases (nat_cmp c e.0) (λ o. first_of (by_order o ((c, s) ∷ e ∷ es) ((e.0, min_join spot_cmp e.1 s) ∷ es) (e ∷ put nat_cmp (min_join spot_cmp) c s es)) ≡ Some (by_order o (c, s) (e.0, min_join spot_cmp e.1 s) e))
+    by_cases (nat_cmp c e.0) (λ o. head_option (by_order o ((c, s) ∷ e ∷ es) ((e.0, min_join spot_cmp e.1 s) ∷ es) (e ∷ put nat_cmp (min_join spot_cmp) c s es)) ≡ Some (by_order o (c, s) (e.0, min_join spot_cmp e.1 s) e))
     (λ _. refl) (λ _. refl) (λ _. refl)
 
-first_joined : (c : ℕ) (s : Spot) (o : Option (List (ℕ × Spot))) → first_of (or_else [] (option_join spots_join o (Some ((c, s) ∷ [])))) ≡ Some (winner_with (first_of (or_else [] o)) c s)
+first_joined : (c : ℕ) (s : Spot) (o : Option (List (ℕ × Spot))) → head_option (or_else [] (option_join spots_join o (Some ((c, s) ∷ [])))) ≡ Some (winner_with (head_option (or_else [] o)) c s)
 first_joined c s None = refl
 first_joined c s (Some es) = first_put c s es
 
@@ -121,7 +121,7 @@ module _ (k : Table) (form : IsTable k) (t a c : ℕ) (s : Spot) where
   pub proposed_winner : winner_of (proposed (t, a) c s k) t a ≡ Some (winner_with (winner_of k t a) c s)
   proposed_winner =
       let itself : is_eq (attempt_cmp (t, a) (t, a)) ≡ true = ap is_eq (tied_itself total_attempt (t, a)) in
-      ap (λ o. first_of (or_else [] o)) (proposed_at (t, a) ∙ ap (λ b. option_join spots_join (lookup attempt_cmp (t, a) k.proposals) (cond b (Some ((c, s) ∷ [])) None)) itself)
+      ap (λ o. head_option (or_else [] o)) (proposed_at (t, a) ∙ ap (λ b. option_join spots_join (lookup attempt_cmp (t, a) k.proposals) (cond b (Some ((c, s) ∷ [])) None)) itself)
       ∙ first_joined c s (lookup attempt_cmp (t, a) k.proposals)
 
   apart : (q b : ℕ) → (q ≡ t → ⊥) → is_eq (attempt_cmp (q, b) (t, a)) ≡ false
@@ -133,6 +133,6 @@ module _ (k : Table) (form : IsTable k) (t a c : ℕ) (s : Spot) where
     machines = refl;
     spec = λ q. refl;
     progress = λ q other. refl;
-    winner = λ q b other. ap (λ o. first_of (or_else [] o)) (proposed_at (q, b) ∙ ap (λ x. option_join spots_join (lookup attempt_cmp (q, b) k.proposals) (cond x (Some ((c, s) ∷ [])) None)) (apart q b other) ∙ join_none spots_join (lookup attempt_cmp (q, b) k.proposals));
+    winner = λ q b other. ap (λ o. head_option (or_else [] o)) (proposed_at (q, b) ∙ ap (λ x. option_join spots_join (lookup attempt_cmp (q, b) k.proposals) (cond x (Some ((c, s) ∷ [])) None)) (apart q b other) ∙ join_none spots_join (lookup attempt_cmp (q, b) k.proposals));
     weights = λ f test. refl;
   }

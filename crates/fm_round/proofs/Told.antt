@@ -4,7 +4,7 @@ use Rattle.fm_records.specs.declared.ops.Op.{Op}
 use Rattle.fm_records.specs.Table.{Table}
 use Rattle.fm_records.specs.Know.{know}
 use Rattle.fm_records.specs.Joined.{table_join}
-use Rattle.fm_records.specs.Spelled.{ops, IsTable}
+use Rattle.fm_records.specs.OpsOfTable.{ops, IsTable}
 use Rattle.fm_records.specs.UnionLaws.{know_append}
 use Rattle.fm_records.specs.SpelledLaws.{know_ops}
 use Rattle.fm_records.specs.RangeLaws.{know_table}

@@ -2,9 +2,9 @@
 use Rattle.std.proofs.Common.{◌≡◌, true, false, cond, List, [], ◌∷◌, ◌++◌, refl, sym, ◌∙◌, ap, append_assoc, append-nil}
 use Rattle.fm_records.specs.declared.ops.Op.{Op}
 use Rattle.fm_records.specs.Table.{Table}
-use Rattle.fm_records.specs.Spelled.{IsTable}
+use Rattle.fm_records.specs.OpsOfTable.{IsTable}
 use Rattle.fm_round.specs.declared.admission.Hearing.{Hearing}
-use Rattle.fm_round.specs.declared.parts.Answer.{Answer}
+use Rattle.fm_round.specs.declared.plan.Answer.{Answer}
 use Rattle.fm_round.specs.Admission.{told, is_accepted, one_entry, in_turn}
 use Rattle.fm_round.specs.Hearings.{Took}
 use Rattle.fm_round.proofs.Told.{told_nothing, told_more}

@@ -10,12 +10,12 @@ use Rattle.fm_records.specs.Know.{know}
 use Rattle.fm_records.specs.Joined.{table_join}
 use Rattle.fm_records.specs.Facts.{passes, spec_of, request_of, attempt_of, incarnation_of, open_state, winner_of, is_live, is_open, holds, held_tasks, load_of, has_room}
 use Rattle.fm_net.specs.Network.{is_held}
-use Rattle.fm_round.specs.declared.parts.Place.{Place}
-use Rattle.fm_round.specs.declared.parts.Preempt.{Preempt}
-use Rattle.fm_round.specs.declared.parts.Plan.{Plan}
-use Rattle.fm_round.specs.declared.parts.Admitted.{Admitted}
-use Rattle.fm_round.specs.declared.parts.Answer.{Answer}
-use Rattle.fm_round.specs.declared.parts.Answer.TheVariants.{Gone, Held, AttemptsSpent, Contested, NoSlot, NoRoom, Accepted}
+use Rattle.fm_round.specs.declared.plan.Place.{Place}
+use Rattle.fm_round.specs.declared.plan.Preempt.{Preempt}
+use Rattle.fm_round.specs.declared.plan.Plan.{Plan}
+use Rattle.fm_round.specs.declared.plan.Admitted.{Admitted}
+use Rattle.fm_round.specs.declared.plan.Answer.{Answer}
+use Rattle.fm_round.specs.declared.plan.Answer.TheVariants.{Gone, Held, AttemptsSpent, Contested, NoSlot, NoRoom, Accepted}
 
 -- what is known with the operations told too
 unfoldable pub told : Table → List Op → Table

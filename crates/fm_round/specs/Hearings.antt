@@ -7,12 +7,12 @@ use Rattle.fm_know.specs.declared.facts.Winner.{Winner}
 use Rattle.fm_records.specs.declared.records.Spot.{Spot}
 use Rattle.fm_records.specs.Orders.{spot_cmp}
 use Rattle.fm_records.specs.Ranges.{all_in_range}
-use Rattle.fm_records.specs.Spelled.{IsTable}
+use Rattle.fm_records.specs.OpsOfTable.{IsTable}
 use Rattle.fm_records.specs.Table.{Table}
 use Rattle.fm_records.specs.Facts.{winner_of}
 use Rattle.fm_round.specs.declared.admission.Hearing.{Hearing}
-use Rattle.fm_round.specs.declared.parts.Place.{Place}
-use Rattle.fm_round.specs.declared.parts.Admitted.{Admitted}
+use Rattle.fm_round.specs.declared.plan.Place.{Place}
+use Rattle.fm_round.specs.declared.plan.Admitted.{Admitted}
 use Rattle.fm_round.specs.Admission.{told, place_attempt}
 
 -- one entry more, or several, with these operations and answers, are dealt with
@@ -22,7 +22,7 @@ pub record Took (more : Admitted) (old new : Hearing) : Type 0 where
   pub answers : new.answers.items ≡ old.answers.items ++ more.answers
 
 -- what is known is a table, and what was added is in range
-pub record IsReady (hearing : Hearing) : Type 0 where
+pub record IsAdmissionState (hearing : Hearing) : Type 0 where
   pub table : IsTable hearing.now
   pub in_range : IsTrue (all_in_range hearing.ops.items)
 

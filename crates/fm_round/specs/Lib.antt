@@ -1,5 +1,5 @@
-pub mod Same
-pub mod SameLaws
+pub mod PlanEquality
+pub mod PlanEqualityLaws
 pub mod Admission
 pub mod Stopping
 pub mod Planned
@@ -7,4 +7,4 @@ pub mod Asked
 pub mod Schedules
 pub mod Seating
 pub mod Hearings
-pub mod Holdings
+pub mod MachineHoldings

@@ -12,21 +12,21 @@ use Rattle.fm_net.specs.declared.node.Node.TheVariants.{Unscheduled, Request, Ma
 use Rattle.fm_net.specs.Net.{Net}
 use Rattle.fm_net.specs.Nodes.{ends_cmp}
 use Rattle.fm_net.specs.Network.{is_held}
-use Rattle.fm_round.specs.declared.parts.Place.{Place}
-use Rattle.fm_round.specs.declared.parts.Preempt.{Preempt}
-use Rattle.fm_round.specs.declared.parts.Plan.{Plan}
-use Rattle.fm_round.specs.declared.planning.RequestUnit.{RequestUnit}
+use Rattle.fm_round.specs.declared.plan.Place.{Place}
+use Rattle.fm_round.specs.declared.plan.Preempt.{Preempt}
+use Rattle.fm_round.specs.declared.plan.Plan.{Plan}
+use Rattle.fm_round.specs.declared.from_units.RequestUnit.{RequestUnit}
 
 -- a flow: the units of each arc, in the order of the arcs' ends, which is by node and so by id
-abbrev pub Units : Type 0
-Units = List ((Node × Node) × ℕ)
+abbrev pub ArcUnits : Type 0
+ArcUnits = List ((Node × Node) × ℕ)
 
 -- the units that a flow gives the arcs of a network
-abbrev pub units_over : Net → (Node → Node → ℕ) → Units
+abbrev pub units_over : Net → (Node → Node → ℕ) → ArcUnits
 units_over net sent = map (λ a. (a.0, sent a.0.0 a.0.1)) net.arcs
 
 -- the units from one node to another, 0 if there is no arc
-abbrev pub units : Units → Node → Node → ℕ
+abbrev pub units : ArcUnits → Node → Node → ℕ
 units f from to = or_else 0 (lookup ends_cmp (from, to) f)
 
 -- a task with a unit to a request
@@ -48,10 +48,10 @@ abbrev pub unscheduled_in : (Node × Node) × ℕ → Option ℕ
 unscheduled_in ((Task t, Unscheduled j), u) = when (nat_lt 0 u) t
 unscheduled_in _ = None
 
-abbrev pub waits : Units → List Wait
+abbrev pub waits : ArcUnits → List Wait
 waits f = filter_map wait_in f
 
-abbrev pub seats : Units → List RequestUnit
+abbrev pub seats : ArcUnits → List RequestUnit
 seats f = flat_map seats_in f
 
 -- by id, the tasks with a unit to the request
@@ -75,18 +75,18 @@ place_of ws ss k w = and_then (place_at k w.task) (machine_for ws ss w)
 
 -- a task with a unit to its request goes where its turn brings it; one with a unit straight to a machine, which does
 -- not hold it yet, goes there, and takes no seat of its request
-abbrev pub placed_in : List Wait → List RequestUnit → Table → (Node × Node) × ℕ → Option Place
-placed_in ws ss k ((Task t, Request r), u) = and_then (place_of ws ss k) (wait_in ((Task t, Request r), u))
-placed_in ws ss k ((Task t, Machine m), u) = cond (nat_lt 0 u && not (is_held k t)) (place_at k t m) None
-placed_in ws ss k _ = None
+abbrev pub place_in_plan : List Wait → List RequestUnit → Table → (Node × Node) × ℕ → Option Place
+place_in_plan ws ss k ((Task t, Request r), u) = and_then (place_of ws ss k) (wait_in ((Task t, Request r), u))
+place_in_plan ws ss k ((Task t, Machine m), u) = cond (nat_lt 0 u && not (is_held k t)) (place_at k t m) None
+place_in_plan ws ss k _ = None
 
 -- a held task with a unit to its job is preempted at its present attempt
 abbrev pub preempt_of : Table → ℕ → Option Preempt
 preempt_of k t = when (is_held k t) (record { task = t; attempt = attempt_of k t })
 
 -- both in the order of the tasks' ids
-abbrev pub plan_of_flow : Units → Table → Plan
+abbrev pub plan_of_flow : ArcUnits → Table → Plan
 plan_of_flow f k = record {
-  places = filter_map (placed_in (waits f) (seats f) k) f;
+  places = filter_map (place_in_plan (waits f) (seats f) k) f;
   preempts = filter_map (preempt_of k) (filter_map unscheduled_in f);
 }

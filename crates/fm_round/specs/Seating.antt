@@ -9,9 +9,9 @@ use Rattle.fm_records.specs.Table.{Table}
 use Rattle.fm_net.specs.declared.node.Node.{Node}
 use Rattle.fm_net.specs.declared.node.Node.TheVariants.{Request, Machine, Task}
 use Rattle.fm_net.specs.Network.{is_held}
-use Rattle.fm_round.specs.declared.parts.Place.{Place}
+use Rattle.fm_round.specs.declared.plan.Place.{Place}
 use Rattle.fm_round.specs.Planned.{Wait, wait_in, place_at}
-use Rattle.fm_round.specs.declared.planning.Queues.{Queues}
+use Rattle.fm_round.specs.declared.from_units.Queues.{Queues}
 
 -- the machines, one for each seat
 abbrev pub queue_of : Queues → ℕ → List ℕ
@@ -24,6 +24,6 @@ placed_next left k ((Task t, Machine m), u) = cond (nat_lt 0 u && not (is_held k
 placed_next left k _ = None
 
 -- none occurs twice
-abbrev pub AreApart : List Wait → Type 0
-AreApart [] = Unit {0}
-AreApart (w ∷ ws) = (¬ IsMember w ws) × AreApart ws
+abbrev pub HasNoRepeat : List Wait → Type 0
+HasNoRepeat [] = Unit {0}
+HasNoRepeat (w ∷ ws) = (¬ IsMember w ws) × HasNoRepeat ws

@@ -7,7 +7,7 @@ use Rattle.fm_records.specs.declared.records.Spot.{Spot}
 use Rattle.fm_records.specs.Table.{Table}
 use Rattle.fm_records.specs.Options.{when, and_then}
 use Rattle.fm_records.specs.Facts.{attempt_of, holds}
-use Rattle.fm_round.specs.declared.parts.Stop.{Stop}
+use Rattle.fm_round.specs.declared.plan.Stop.{Stop}
 use Rattle.fm_round.specs.Admission.{has_incarnation}
 
 -- the attempt is the task's present one, and exactly the machine at that incarnation holds the task

@@ -4,19 +4,19 @@ ghost use Rattle.std.specs.Prelude.{◌≡◌, ℕ, ◌<◌, ◌^◌, ◌∷◌,
 ghost use Rattle.fm_records.specs.declared.ops.Op.{Op as Operation};
 ghost use Rattle.fm_records.specs.declared.ops.Phase.TheVariants.{Pending as IsPending};
 ghost use Rattle.fm_records.specs.Ranges.{in_range, all_in_range};
-ghost use Rattle.fm_records.specs.Spelled.{IsTable};
+ghost use Rattle.fm_records.specs.OpsOfTable.{IsTable};
 ghost use Rattle.fm_records.specs.Facts.{attempt_of, open_state};
 ghost use Rattle.fm_know.specs.Limits.{StateWithin};
 ghost use Rattle.fm_round.specs.Admission.{told, is_accepted, last_attempt, has_proposal, place_ops, place_answer, preempt_ops, preempt_answer, one_entry, admission_of_places, admission_of_preempts, admission, got_place, is_within_nic};
-ghost use Rattle.fm_round.specs.Hearings.{Took, IsReady};
+ghost use Rattle.fm_round.specs.Hearings.{Took, IsAdmissionState};
 ghost use Rattle.fm_records.specs.Sets.{IsMember};
-ghost use Rattle.fm_round.specs.declared.parts.Place.{Place as Entry};
-ghost use Rattle.fm_round.specs.Holdings.{is_counted, AreHoldings};
+ghost use Rattle.fm_round.specs.declared.plan.Place.{Place as Entry};
+ghost use Rattle.fm_round.specs.MachineHoldings.{is_counted, AreCountedHoldings};
 ghost use Rattle.fm_tally.specs.Tallies.{TallyIsFor};
 
-use crate::holdings::Holdings;
+use crate::machine_holdings::Holdings;
 use crate::listed::Listed;
-use crate::parts::{Admitted, Answer, Place, Plan, Preempt};
+use crate::plan::{Admitted, Answer, Place, Plan, Preempt};
 use crate::rules::{has_proposal, place_answer, preempt_answer, request_of};
 use fm_know::knowledge::Knowledge;
 use fm_lattice::join::{Join, OutOfMemory};
@@ -71,7 +71,7 @@ fn admit_with(
     coordinator: CoordId,
     plan: &Plan,
 ) -> Result<Admitted, OutOfMemory>
-    requires holdings { AreHoldings knowledge.now holdings }
+    requires holdings { AreCountedHoldings knowledge.now holdings }
     requires counted { (p : Entry) → IsMember p plan.now.places → IsTrue (is_counted holdings p.machine) }
     ensures admitted { IfOk result (λ a. a ≡ admission knowledge.now coordinator plan.now) }
     ensures in_range { IfOk result (λ a. IsTrue (all_in_range a.ops)) }
@@ -101,7 +101,7 @@ impl Hearing {
         ensures now { IfOk result (λ hearing. hearing.now ≡ knowledge.now) }
         ensures ops { IfOk result (λ hearing. hearing.ops.items ≡ []) }
         ensures answers { IfOk result (λ hearing. hearing.answers.items ≡ []) }
-        ensures ready { IfOk result IsReady }
+        ensures ready { IfOk result IsAdmissionState }
     {
         knowledge.known();
         Ok(Hearing {
@@ -129,11 +129,11 @@ impl Hearing {
         coordinator: CoordId,
         places: &[Place],
     ) -> Result<(), OutOfMemory>
-        requires ready { IsReady self.old }
-        requires holdings { AreHoldings self.old.now holdings }
+        requires ready { IsAdmissionState self.old }
+        requires holdings { AreCountedHoldings self.old.now holdings }
         requires counted { (p : Entry) → IsMember p places.now → IsTrue (is_counted holdings p.machine) }
         ensures took { OnOk result (Took (admission_of_places coordinator self.old.now places.now) self.old self.new) }
-        ensures ready { OnOk result (IsReady self.new) }
+        ensures ready { OnOk result (IsAdmissionState self.new) }
     {
         let mut holdings = holdings;
         for place in places {
@@ -144,9 +144,9 @@ impl Hearing {
 
     // Takes the preempts in their order.
     fn take_preempts(&mut self, preempts: &[Preempt]) -> Result<(), OutOfMemory>
-        requires { IsReady self.old }
+        requires { IsAdmissionState self.old }
         ensures took { OnOk result (Took (admission_of_preempts self.old.now preempts.now) self.old self.new) }
-        ensures ready { OnOk result (IsReady self.new) }
+        ensures ready { OnOk result (IsAdmissionState self.new) }
     {
         for preempt in preempts {
             self.take_preempt(preempt)?;
@@ -205,16 +205,16 @@ impl Hearing {
         coordinator: CoordId,
         place: &Place,
     ) -> Result<(), OutOfMemory>
-        requires ready { IsReady self.old }
-        requires holdings { AreHoldings self.old.now holdings.old }
+        requires ready { IsAdmissionState self.old }
+        requires holdings { AreCountedHoldings self.old.now holdings.old }
         requires counted { IsTrue (is_counted holdings.old place.now.machine) }
         requires accepted { is_accepted (place_answer coordinator self.old.now place.now) ≡ true }
         ensures now { OnOk result (self.new.now ≡ told self.old.now (place_ops coordinator self.old.now place.now)) }
         ensures ops { OnOk result (self.new.ops.items
             ≡ self.old.ops.items ++ place_ops coordinator self.old.now place.now) }
         ensures answers { self.new.answers.items ≡ self.old.answers.items }
-        ensures ready { OnOk result (IsReady self.new) }
-        ensures holdings { OnOk result (AreHoldings self.new.now holdings.new) }
+        ensures ready { OnOk result (IsAdmissionState self.new) }
+        ensures holdings { OnOk result (AreCountedHoldings self.new.now holdings.new) }
         ensures same { OnOk result ((m : ℕ) → is_counted holdings.new m ≡ is_counted holdings.old m) }
     {
         law_limits(&self.now, place.machine);
@@ -225,12 +225,12 @@ impl Hearing {
 
     // Accepts the preempt: the operation is told.
     fn accept_preempt(&mut self, preempt: &Preempt) -> Result<(), OutOfMemory>
-        requires ready { IsReady self.old }
+        requires ready { IsAdmissionState self.old }
         requires accepted { is_accepted (preempt_answer self.old.now preempt.now) ≡ true }
         ensures now { OnOk result (self.new.now ≡ told self.old.now (preempt_ops self.old.now preempt.now)) }
         ensures ops { OnOk result (self.new.ops.items ≡ self.old.ops.items ++ preempt_ops self.old.now preempt.now) }
         ensures answers { self.new.answers.items ≡ self.old.answers.items }
-        ensures ready { OnOk result (IsReady self.new) }
+        ensures ready { OnOk result (IsAdmissionState self.new) }
     {
         self.tell(pending(preempt.task, preempt.attempt + 1))
     }
@@ -242,13 +242,13 @@ impl Hearing {
         coordinator: CoordId,
         place: &Place,
     ) -> Result<(), OutOfMemory>
-        requires ready { IsReady self.old }
-        requires holdings { AreHoldings self.old.now holdings.old }
+        requires ready { IsAdmissionState self.old }
+        requires holdings { AreCountedHoldings self.old.now holdings.old }
         requires counted { IsTrue (is_counted holdings.old place.now.machine) }
         ensures took { OnOk result (Took (one_entry (place_answer coordinator self.old.now place.now)
             (place_ops coordinator self.old.now place.now)) self.old self.new) }
-        ensures ready { OnOk result (IsReady self.new) }
-        ensures holdings { OnOk result (AreHoldings self.new.now holdings.new) }
+        ensures ready { OnOk result (IsAdmissionState self.new) }
+        ensures holdings { OnOk result (AreCountedHoldings self.new.now holdings.new) }
         ensures same { OnOk result ((m : ℕ) → is_counted holdings.new m ≡ is_counted holdings.old m) }
     {
         let answer = place_answer(&self.now, holdings, coordinator, place);
@@ -261,10 +261,10 @@ impl Hearing {
 
     // Judges the preempt, and adds its operation if it is accepted.
     fn take_preempt(&mut self, preempt: &Preempt) -> Result<(), OutOfMemory>
-        requires { IsReady self.old }
+        requires { IsAdmissionState self.old }
         ensures took { OnOk result (Took (one_entry (preempt_answer self.old.now preempt.now)
             (preempt_ops self.old.now preempt.now)) self.old self.new) }
-        ensures ready { OnOk result (IsReady self.new) }
+        ensures ready { OnOk result (IsAdmissionState self.new) }
     {
         let answer = preempt_answer(&self.now, preempt);
         if !is_accepted(answer) {

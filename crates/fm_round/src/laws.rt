@@ -1,4 +1,4 @@
-//! Laws of rounds. Each function does nothing: its contract is the law. `equal` has the laws of `==`, whose functions
+//! Laws of rounds. Each function does nothing: its contract is the law. `plan_equality` has the laws of `==`, whose functions
 //! do that one call.
 
 ghost use Rattle.std.specs.Prelude.{◌≡◌, ◌↔◌, ◌<◌, ◌==◌, ◌++◌, ℕ, List, count_by};
@@ -8,12 +8,12 @@ ghost use Rattle.fm_records.specs.Sets.{IsMember};
 ghost use Rattle.fm_lattice.specs.Maps.{IsRising};
 ghost use Rattle.fm_net.specs.Nodes.{ends_cmp};
 ghost use Rattle.fm_net.specs.declared.node.Node.{Node};
-ghost use Rattle.fm_round.specs.Planned.{Units, units, waits, seats, tasks_of, machines_of};
-ghost use Rattle.fm_round.specs.declared.parts.Plan.{Plan};
+ghost use Rattle.fm_round.specs.Planned.{ArcUnits, units, waits, seats, tasks_of, machines_of};
+ghost use Rattle.fm_round.specs.declared.plan.Plan.{Plan};
 ghost use Rattle.fm_round.specs.Admission.{told, admission};
 ghost use Rattle.fm_round.specs.Stopping.{stops_of};
 
-pub mod equal;
+pub mod plan_equality;
 
 /// The table of a set, told more operations, is the table of the set with these.
 pub fn law_told()
@@ -30,8 +30,8 @@ pub fn law_sets()
 /// Of a flow in order, the plan's tasks of a request are those with a unit to it, and each machine is listed for a
 /// request as often as there are units between them.
 pub fn law_flows()
-    ensures tasks { (f : Units) (r t : ℕ) → IsRising ends_cmp f
+    ensures tasks { (f : ArcUnits) (r t : ℕ) → IsRising ends_cmp f
         → (IsMember t (tasks_of r (waits f)) ↔ (0 < units f (Node.Task t) (Node.Request r))) }
-    ensures machines { (f : Units) (r m : ℕ) → IsRising ends_cmp f
+    ensures machines { (f : ArcUnits) (r m : ℕ) → IsRising ends_cmp f
         → count_by (λ x. x == m) (machines_of r (seats f)) ≡ units f (Node.Request r) (Node.Machine m) }
 {}

@@ -2,11 +2,11 @@
 #![tactic(auto)]
 
 pub mod admission;
-mod holdings;
+mod machine_holdings;
 pub mod laws;
 pub mod listed;
-pub mod parts;
 pub mod plan;
-pub mod planning;
+pub mod from_network;
+pub mod from_units;
 mod rules;
 pub mod stopping;

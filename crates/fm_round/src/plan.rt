@@ -1,112 +1,113 @@
-//! The plan of a flow of a knowledge's network.
+//! The parts of plans, the answers to entries, and stops.
 
-ghost use Rattle.std.specs.Prelude.{◌≡◌, ◌∷◌, ◌++◌, [], cond, filter, IfOk, OnOk};
-ghost use Rattle.fm_net.specs.Network.{net_of};
-ghost use Rattle.fm_certificate.specs.Flows.{units_in, IsFeasible};
-ghost use Rattle.fm_round.specs.Planned.{units_over, plan_of_flow};
-ghost use Rattle.fm_round.specs.Asked.{is_asked, waiting_after, is_asked_after};
+ghost use Rattle.std.specs.Prelude.{◌≡◌, ◌↔◌, IsTrue, IfOk};
+ghost use Rattle.fm_round.specs.PlanEquality.{same_plan, same_admitted};
 
-use crate::parts::Plan;
-use crate::planning::plan_of;
-use fm_certificate::flow::Flow;
-use fm_know::knowledge::Knowledge;
+use crate::listed::Listed;
 use fm_lattice::join::OutOfMemory;
-use fm_net::network::Network;
-use fm_net::node::Node;
-use fm_records::ids::TaskId;
-use std::alloc::Global;
+use fm_records::ids::{MachineId, TaskId};
+use fm_records::ops::Op;
 
-/// The plan of the flow. The caller must ensure that the network is the knowledge's and that the flow is feasible.
-/// Within an aggregator of a request the i-th task by id that has a unit to it goes to the i-th machine by id, where a
-/// machine is listed as often as there are units to it, at the machine's present incarnation; a held task that has a
-/// unit to its job is preempted at its present attempt. Both in the order of the tasks' ids. A walk over the arcs, and
-/// O(log n) for each unit, except those of tasks that stay where they are held.
-pub fn plan(
-    alloc: Global,
-    network: &Network,
-    flow: &Flow,
-    knowledge: &Knowledge,
-) -> Result<Plan, OutOfMemory>
-    requires network { network.now ≡ net_of knowledge.now }
-    requires feasible { IsFeasible network.now (units_in flow.now) }
-    ensures { IfOk result (λ plan. plan ≡ plan_of_flow (units_over network.now (units_in flow.now)) knowledge.now) }
-{
-    network.known();
-    let units = asked(alloc, network, flow)?;
-    plan_of(alloc, &units, knowledge)
+/// An entry of a plan: run the task on the machine at its incarnation.
+#[derive(Debug, Clone, Copy, PartialEq, Eq, Drop)]
+pub struct Place {
+    pub task: TaskId,
+    pub machine: MachineId,
+    pub incarnation: u64,
 }
 
-// The arcs that the plan rests on, with their units. Those of an arc are looked for first where they lie in a flow of
-// exactly the network's arcs.
-fn asked(
-    alloc: Global,
-    network: &Network,
-    flow: &Flow,
-) -> Result<Vec<((Node, Node), u64)>, OutOfMemory>
-    ensures { IfOk result
-        (λ units. units.items ≡ filter (is_asked network.now) (units_over network.now (units_in flow.now))) }
-{
-    network.known();
-    let mut units = Vec::new(alloc);
-    let mut near = 0usize;
-    let mut waiting = Waiting { last: None };
-    for arc in network.arcs() {
-        let sent = flow.units_near(near, arc.0, arc.1).unwrap_or(0);
-        waiting.pass(arc.0, arc.1);
-        add_asked(&mut units, &waiting, (arc.0, arc.1), sent)?;
-        near = near.saturating_add(1);
-    }
-    Ok(units)
+/// An entry of a plan: stop the task's attempt.
+#[derive(Debug, Clone, Copy, PartialEq, Eq, Drop)]
+pub struct Preempt {
+    pub task: TaskId,
+    pub attempt: u32,
 }
 
-// Adds the arc with its units, if the plan rests on it.
-fn add_asked(
-    units: &mut Vec<((Node, Node), u64)>,
-    waiting: &Waiting,
-    ends: (Node, Node),
-    sent: u64,
-) -> Result<(), OutOfMemory>
-    ensures { OnOk result (units.new.items ≡ units.old.items
-        ++ cond (is_asked_after waiting.now.last (ends, sent)) ((ends, sent) ∷ []) []) }
-{
-    if waiting.asks(ends.0, ends.1, sent) {
-        units.push((ends, sent))?;
-    }
-    Ok(())
+/// The answer to an entry of a plan.
+#[derive(Debug, Clone, Copy, PartialEq, Eq, Drop)]
+pub enum Answer {
+    /// The task is not live, or the machine, its incarnation, or the attempt is no longer the one that is named.
+    Gone,
+    /// Some machine holds the task.
+    Held,
+    /// There is no attempt after the present one.
+    AttemptsSpent,
+    /// Another coordinator's proposals would win against it.
+    Contested,
+    /// The machine holds as many tasks as it has slots, or more.
+    NoSlot,
+    /// The machine has not the bandwidth that the task requests.
+    NoRoom,
+    /// Its operations are added.
+    Accepted,
 }
 
-// In a walk over the arcs: the task of the last arc from a task to a request. A task's arc to its request comes before
-// those to machines, and a task that a machine holds has none.
-#[derive(Drop)]
-struct Waiting {
-    last: Option<TaskId>,
+/// An entry that the coordinator has to stop.
+#[derive(Debug, Clone, Copy, PartialEq, Eq, Drop)]
+pub struct Stop {
+    pub task: TaskId,
+    pub attempt: u32,
+    pub machine: MachineId,
+    pub incarnation: u64,
 }
 
-impl Waiting {
-    // Goes on by an arc.
-    fn pass(&mut self, from: Node, to: Node)
-        ensures { self.new.last ≡ waiting_after self.old.last (from, to) }
+/// What a round asks for: tasks to run on machines, and attempts to run no longer.
+#[derive(Debug, Drop)]
+pub struct Plan {
+    pub places: Listed<Place>,
+    pub preempts: Listed<Preempt>,
+}
+
+impl Plan {
+    /// The plan again, in memory of its own. O(n).
+    pub fn copy(&self) -> Result<Plan, OutOfMemory>
+        ensures { IfOk result (λ plan. plan ≡ self.now) }
     {
-        if let Node::Task(task) = from {
-            if let Node::Request(_) = to {
-                self.last = Some(task);
-            }
-        }
+        Ok(Plan {
+            places: self.places.copy()?,
+            preempts: self.preempts.copy()?,
+        })
     }
+}
 
-    // Whether the arc has units, and is none from a held task to its machine.
-    fn asks(&self, from: Node, to: Node, sent: u64) -> bool
-        ensures { result ≡ is_asked_after self.now.last ((from, to), sent) }
+impl PartialEq for Plan {
+    ghost use Rattle.fm_round.specs.PlanEquality.{same_plan};
+    ghost use Rattle.fm_round.specs.PlanEqualityLaws.{plan_equivalence};
+
+    ghost eq = { same_plan };
+
+    ghost laws = { plan_equivalence };
+
+    /// Whether both have the same entries in the same order. O(n).
+    fn eq(&self, other: &Self) -> bool
+        ensures value { result ≡ same_plan self.now other.now }
+        ensures exact { IsTrue result ↔ (self.now ≡ other.now) }
     {
-        if sent == 0 {
-            return false;
-        }
-        let Node::Task(task) = from else {
-            return true;
-        };
-        match to {
-            Node::Machine(_) => self.last == Some(task),
-            _ => true,
-        }
+        self.places == other.places && self.preempts == other.preempts
+    }
+}
+
+/// What was admitted of a plan: the operations of the accepted entries in their order, and the answer to each entry,
+/// those to places first.
+#[derive(Debug, Drop)]
+pub struct Admitted {
+    pub ops: Listed<Op>,
+    pub answers: Listed<Answer>,
+}
+
+impl PartialEq for Admitted {
+    ghost use Rattle.fm_round.specs.PlanEquality.{same_admitted};
+    ghost use Rattle.fm_round.specs.PlanEqualityLaws.{admitted_equivalence};
+
+    ghost eq = { same_admitted };
+
+    ghost laws = { admitted_equivalence };
+
+    /// Whether both have the same operations and the same answers, in the same order. O(n).
+    fn eq(&self, other: &Self) -> bool
+        ensures value { result ≡ same_admitted self.now other.now }
+        ensures exact { IsTrue result ↔ (self.now ≡ other.now) }
+    {
+        self.ops == other.ops && self.answers == other.answers
     }
 }

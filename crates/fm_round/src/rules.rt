@@ -5,10 +5,10 @@ ghost use Rattle.fm_records.specs.Facts.{is_live, live_spec, is_open, is_present
 ghost use Rattle.fm_net.specs.Network.{is_held};
 ghost use Rattle.fm_round.specs.Admission.{told, last_attempt, has_proposal, has_incarnation, is_full, is_open_at, place_ops, place_answer, preempt_ops, preempt_answer};
 ghost use Rattle.fm_round.specs.Hearings.{winner_with, as_pair, spot_of, is_spot_of};
-ghost use Rattle.fm_round.specs.Holdings.{is_counted, AreHoldings};
+ghost use Rattle.fm_round.specs.MachineHoldings.{is_counted, AreCountedHoldings};
 
-use crate::holdings::Holdings;
-use crate::parts::{Answer, Place, Preempt};
+use crate::machine_holdings::Holdings;
+use crate::plan::{Answer, Place, Preempt};
 use crate::stopping::has_incarnation;
 use fm_know::facts::Winner;
 use fm_know::knowledge::Knowledge;
@@ -24,7 +24,7 @@ pub(crate) fn place_answer(
     coordinator: CoordId,
     place: &Place,
 ) -> Answer
-    requires holdings { AreHoldings known.now holdings.now }
+    requires holdings { AreCountedHoldings known.now holdings.now }
     requires counted { IsTrue (is_counted holdings.now place.now.machine) }
     ensures { result ≡ place_answer coordinator known.now place.now }
 {
@@ -113,7 +113,7 @@ pub(crate) fn request_of(known: &Knowledge, task: TaskId) -> u32
 
 // Whether the machine holds as many tasks as it has slots, or more.
 fn is_full(known: &Knowledge, holdings: &Holdings, machine: MachineId) -> bool
-    requires holdings { AreHoldings known.now holdings.now }
+    requires holdings { AreCountedHoldings known.now holdings.now }
     requires counted { IsTrue (is_counted holdings.now machine) }
     ensures { result ≡ is_full known.now machine }
 {
@@ -125,7 +125,7 @@ fn is_full(known: &Knowledge, holdings: &Holdings, machine: MachineId) -> bool
 
 // Whether the machine has a spare, and it is the request or more.
 fn has_room(known: &Knowledge, holdings: &Holdings, machine: MachineId, request: u32) -> bool
-    requires holdings { AreHoldings known.now holdings.now }
+    requires holdings { AreCountedHoldings known.now holdings.now }
     requires counted { IsTrue (is_counted holdings.now machine) }
     ensures { result ≡ has_room known.now machine request }
 {

@@ -3,14 +3,14 @@ use Rattle.std.proofs.Common.{◌≡◌, ℕ, List, [], ◌∷◌, codes, Option
 use Rattle.serde_json.specs.Read.{read as read_text}
 use Rattle.serde_json.proofs.OnLiterals.{serde_json_on_literals}
 use Rattle.fm_coord.specs.declared.entry.Range.TheVariants.{Interval, Full}
-use Rattle.fm_script.specs.declared.script.Act.TheVariants as act
+use Rattle.fm_script.specs.declared.script.ScriptAct.TheVariants as act
 use Rattle.fm_script.specs.declared.request.Topic.TheVariants as topic
-use Rattle.fm_script.specs.Json.{and_then}
-use Rattle.fm_script.specs.Requests.{Asked, Opens, Does, Cuts, News, Takes, Asks, Agrees, Renews, request_of}
+use Rattle.fm_script.specs.Json.{bind}
+use Rattle.fm_script.specs.Requests.{RequestModel, Opens, Does, Cuts, News, Takes, Asks, Agrees, Renews, request_from}
 
 -- what a line asks for, given that one packet was cut before, under the name p
-abbrev asked_by : List ℕ → Option Asked
-asked_by line = and_then (read_text line) (request_of (codes "p" ∷ []))
+abbrev asked_by : List ℕ → Option RequestModel
+asked_by line = bind (read_text line) (request_from (codes "p" ∷ []))
 
 opening : asked_by (codes "{\"coordinators\":[2,64]}") ≡ Some (Opens (2 ∷ 64 ∷ []))
 unfolding serde_json_on_literals

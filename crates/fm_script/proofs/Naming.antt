@@ -8,8 +8,8 @@ use Rattle.serde_json.specs.Data.{Data}
 use Rattle.serde_json.specs.Find.{as_str}
 use Rattle.fm_records.specs.Options.{when}
 use Rattle.fm_coord.specs.declared.entry.Range.{Range}
-use Rattle.fm_script.specs.declared.script.Act.TheVariants.{Cut}
-use Rattle.fm_script.specs.Json.{and_then, text_at}
+use Rattle.fm_script.specs.declared.script.ScriptAct.TheVariants.{Cut}
+use Rattle.fm_script.specs.Json.{bind, text_at}
 use Rattle.fm_script.specs.Script.{is_text, is_named, range_of, cut_of}
 use Rattle.fm_script.specs.Requests.{Cuts, cut_under}
 
@@ -90,10 +90,10 @@ texts-insert_entry k (e ∷ es) =
 pub cut_of-parts : (names : List (List ℕ)) (d : Data) (name : List ℕ) (range : Range) (placed : Bool) → Some name ≡ text_at (codes "name") d → Some range ≡ range_of d → placed ≡ is_some (position (is_text name) names) → when (not placed) (Cut range) ≡ cut_of names d
 cut_of-parts names d name range placed named ranged there =
     ap (λ b. when (not b) (Cut range)) (there ∙ is_some-position (is_text name) names)
-    ∙ (λ i. and_then (named i) (λ name. and_then (ranged i) (λ range. when (not (is_named names name)) (Cut range))))
+    ∙ (λ i. bind (named i) (λ name. bind (ranged i) (λ range. when (not (is_named names name)) (Cut range))))
 
 -- what a cut under the name that a value is comes to
 pub cut_under-parts : (names : List (List ℕ)) (at : ℕ) (range : Range) (d : Data) (name : List ℕ) (placed : Bool) → Some name ≡ as_str d → placed ≡ is_some (position (is_text name) names) → when (not placed) (Cuts at range (Some name)) ≡ cut_under names at range d
 cut_under-parts names at range d name placed named there =
     ap (λ b. when (not b) (Cuts at range (Some name))) (there ∙ is_some-position (is_text name) names)
-    ∙ ap (λ o. and_then o (λ name. when (not (is_named names name)) (Cuts at range (Some name)))) named
+    ∙ ap (λ o. bind o (λ name. when (not (is_named names name)) (Cuts at range (Some name)))) named

@@ -5,12 +5,12 @@ use Rattle.serde_json.specs.Data.{Data}
 use Rattle.serde_json.specs.Find.{get, as_bool, as_str, as_object}
 use Rattle.fm_records.specs.Options.{when}
 use Rattle.fm_coord.specs.declared.entry.Range.{Range}
-use Rattle.fm_script.specs.declared.script.Act.{Act}
-use Rattle.fm_script.specs.declared.script.Act.TheVariants as act
-use Rattle.fm_script.specs.declared.script.Step.{Step}
-use Rattle.fm_script.specs.Json.{and_then, whole_of, number_8_at, text_at, id_at, has_size, items_at}
-use Rattle.fm_script.specs.Script.{is_text, either, op_of, range_of, is_named, delivery_of, round_of, act_of, step_of, listed_of, coordinators_of}
-use Rattle.fm_script.specs.Requests.{Asked, Opens, Does, Cuts, News, Takes, Asks, Explains, Agrees, Renews, topic_named, cut_under, cut_asked, when_true, agree_asked, alone_of, asked_at, why_asked, request_of, CutsNothing, IsPlain}
+use Rattle.fm_script.specs.declared.script.ScriptAct.{ScriptAct}
+use Rattle.fm_script.specs.declared.script.ScriptAct.TheVariants as act
+use Rattle.fm_script.specs.declared.script.ScriptStep.{ScriptStep}
+use Rattle.fm_script.specs.Json.{bind, whole_number, number_8_at, text_at, id_at, has_size, items_at}
+use Rattle.fm_script.specs.Script.{is_text, either, op_of, range_of, is_named, delivery_of, round_of, act_of, script_step_of, listed_of, coordinators_of}
+use Rattle.fm_script.specs.Requests.{RequestModel, Opens, Does, Cuts, News, Takes, Asks, Explains, Agrees, Renews, topic_named, cut_under, cut_asked, when_true, agree_asked, alone_of, asked_at, why_asked, request_from, CutsNothing, IsPlain}
 use Rattle.fm_script.proofs.Spelling.{AreDistinct-listed}
 
 -- what is there, if anything is, has the property
@@ -20,11 +20,11 @@ module _ {B : Type 0} (P : B → Type 0) where
   IfSome-when true x h = h
   IfSome-when false x h = tt
 
-  IfSome-given : {A : Type 0} (o : Option A) (f : A → Option B) → ((a : A) → IfSome (f a) P) → IfSome (and_then o f) P
+  IfSome-given : {A : Type 0} (o : Option A) (f : A → Option B) → ((a : A) → IfSome (f a) P) → IfSome (bind o f) P
   IfSome-given None f each = tt
   IfSome-given (Some a) f each = each a
 
-  IfSome-given_when : {A : Type 0} (b : Bool) (a : A) (f : A → Option B) → IfSome (f a) P → IfSome (and_then (when b a) f) P
+  IfSome-given_when : {A : Type 0} (b : Bool) (a : A) (f : A → Option B) → IfSome (f a) P → IfSome (bind (when b a) f) P
   IfSome-given_when true a f h = h
   IfSome-given_when false a f h = tt
 
@@ -41,13 +41,13 @@ module _ {B : Type 0} (P : B → Type 0) where
   IfSome-either (Some d) f other each rest = each d
 
 -- the step of an act, and if the act cuts nothing
-abbrev step_with : ℕ → Act → Step
+abbrev step_with : ℕ → ScriptAct → ScriptStep
 step_with at act = record { at = at; act = act }
 
-abbrev StepCutsNothing : Step → Type 0
+abbrev StepCutsNothing : ScriptStep → Type 0
 StepCutsNothing step = CutsNothing step.act
 
-IfSome-step : (at : ℕ) (o : Option Act) → IfSome o CutsNothing → IfSome (and_then o (λ act. Some (step_with at act))) StepCutsNothing
+IfSome-step : (at : ℕ) (o : Option ScriptAct) → IfSome o CutsNothing → IfSome (bind o (λ act. Some (step_with at act))) StepCutsNothing
 IfSome-step at None h = tt
 IfSome-step at (Some act) h = h
 
@@ -61,17 +61,17 @@ act-cuts_nothing names d none =
     rw none (
     IfSome-either CutsNothing (get (codes "tell") d) (λ v. option_map act.Tell (op_of v)) _ (λ v. IfSome-map CutsNothing (op_of v) act.Tell (λ op. tt)) (
     IfSome-either CutsNothing (get (codes "deliver") d) (delivery_of names) _ (λ v. IfSome-map CutsNothing (as_str v) _ (λ name. tt)) (
-    IfSome-either CutsNothing (get (codes "trim") d) (λ v. option_map act.Trim (whole_of v)) _ (λ v. IfSome-map CutsNothing (whole_of v) act.Trim (λ n. tt)) (
+    IfSome-either CutsNothing (get (codes "trim") d) (λ v. option_map act.Trim (whole_number v)) _ (λ v. IfSome-map CutsNothing (whole_number v) act.Trim (λ n. tt)) (
     IfSome-either CutsNothing (get (codes "round") d) round_of None round-cuts_nothing tt))))
 
 -- a step of the number that an object has
-abbrev numbered_step : List (List ℕ) → Data → Option Step
-numbered_step names d = and_then (number_8_at (codes "at") d) (λ at. and_then (act_of names d) (λ act. Some (step_with at act)))
+abbrev numbered_step : List (List ℕ) → Data → Option ScriptStep
+numbered_step names d = bind (number_8_at (codes "at") d) (λ at. bind (act_of names d) (λ act. Some (step_with at act)))
 
-step-cuts_nothing : (names : List (List ℕ)) (d : Data) → get (codes "cut") d ≡ None → IfSome (step_of names d) StepCutsNothing
+step-cuts_nothing : (names : List (List ℕ)) (d : Data) → get (codes "cut") d ≡ None → IfSome (script_step_of names d) StepCutsNothing
 step-cuts_nothing names d none =
     IfSome-given_when StepCutsNothing (has_size 2 d) d (numbered_step names) (
-    IfSome-given StepCutsNothing (number_8_at (codes "at") d) (λ at. and_then (act_of names d) (λ act. Some (step_with at act))) (λ at.
+    IfSome-given StepCutsNothing (number_8_at (codes "at") d) (λ at. bind (act_of names d) (λ act. Some (step_with at act))) (λ at.
     IfSome-step at (act_of names d) (act-cuts_nothing names d none)))
 
 -- what is asked for
@@ -81,16 +81,16 @@ cut_under-plain names at range d =
     IfSome-given IsPlain (as_str d) _ (λ name. IfSome-when IsPlain (not (is_named names name)) (Cuts at range (Some name)) tt)
 
 -- a cut of the range under a name or none
-abbrev ranged_cut : List (List ℕ) → ℕ → Data → Range → Option Asked
+abbrev ranged_cut : List (List ℕ) → ℕ → Data → Range → Option RequestModel
 ranged_cut names at d range = either (get (codes "name") d) (cut_under names at range) (Some (Cuts at range None))
 
 cut_asked-plain : (names : List (List ℕ)) (at : ℕ) (d : Data) → IfSome (cut_asked names at d) IsPlain
 cut_asked-plain names at d =
-    IfSome-given_when IsPlain (is_some (as_object d)) d (λ d. and_then (range_of d) (ranged_cut names at d)) (
+    IfSome-given_when IsPlain (is_some (as_object d)) d (λ d. bind (range_of d) (ranged_cut names at d)) (
     IfSome-given IsPlain (range_of d) (ranged_cut names at d) (λ range.
     IfSome-either IsPlain (get (codes "name") d) (cut_under names at range) (Some (Cuts at range None)) (cut_under-plain names at range) tt))
 
-when_true-plain : (asked : Asked) → IsPlain asked → (d : Data) → IfSome (when_true asked d) IsPlain
+when_true-plain : (asked : RequestModel) → IsPlain asked → (d : Data) → IfSome (when_true asked d) IsPlain
 when_true-plain asked h d = IfSome-given IsPlain (as_bool d) _ (λ b. IfSome-when IsPlain b asked h)
 
 agree_asked-plain : (d : Data) → IfSome (agree_asked d) IsPlain
@@ -105,7 +105,7 @@ listed-plain ds =
 
 opens-plain : (d : Data) → IfSome (option_map Opens (coordinators_of d)) IsPlain
 opens-plain d =
-    elim (items_at (codes "coordinators") d) as (λ o. IfSome (option_map Opens (and_then o listed_of)) IsPlain) [
+    elim (items_at (codes "coordinators") d) as (λ o. IfSome (option_map Opens (bind o listed_of)) IsPlain) [
       | None ↦ tt
       | Some ds ↦ listed-plain ds
     ]
@@ -117,19 +117,19 @@ alone-plain d =
     IfSome-either IsPlain (get (codes "ask") d) agree_asked None agree_asked-plain tt))
 
 -- what is asked of a coordinator by no cut
-abbrev but_cut : List (List ℕ) → ℕ → Data → Option Asked
+abbrev but_cut : List (List ℕ) → ℕ → Data → Option RequestModel
 but_cut names at d =
     either (get (codes "news") d) (when_true (News at)) (
     either (get (codes "take") d) (λ v. option_map (Takes at) (as_str v)) (
-    either (get (codes "ask") d) (λ v. option_map (Asks at) (and_then (as_str v) topic_named)) (
-    option_map Does (step_of names d))))
+    either (get (codes "ask") d) (λ v. option_map (Asks at) (bind (as_str v) topic_named)) (
+    option_map Does (script_step_of names d))))
 
 but_cut-plain : (names : List (List ℕ)) (at : ℕ) (d : Data) → get (codes "cut") d ≡ None → IfSome (but_cut names at d) IsPlain
 but_cut-plain names at d none =
     IfSome-either IsPlain (get (codes "news") d) (when_true (News at)) _ (when_true-plain (News at) tt) (
     IfSome-either IsPlain (get (codes "take") d) (λ v. option_map (Takes at) (as_str v)) _ (λ v. IfSome-map IsPlain (as_str v) (Takes at) (λ digits. tt)) (
-    IfSome-either IsPlain (get (codes "ask") d) (λ v. option_map (Asks at) (and_then (as_str v) topic_named)) _ (λ v. IfSome-map IsPlain (and_then (as_str v) topic_named) (Asks at) (λ topic. tt)) (
-    IfSome-map_of IsPlain (step_of names d) Does (step-cuts_nothing names d none))))
+    IfSome-either IsPlain (get (codes "ask") d) (λ v. option_map (Asks at) (bind (as_str v) topic_named)) _ (λ v. IfSome-map IsPlain (bind (as_str v) topic_named) (Asks at) (λ topic. tt)) (
+    IfSome-map_of IsPlain (script_step_of names d) Does (step-cuts_nothing names d none))))
 
 asked_at-plain : (names : List (List ℕ)) (at : ℕ) (d : Data) → IfSome (asked_at names at d) IsPlain
 asked_at-plain names at d =
@@ -139,8 +139,8 @@ asked_at-plain names at d =
     ] refl
 
 -- what the coordinator is asked for whose number an object has
-abbrev numbered_asked : List (List ℕ) → Data → Option Asked
-numbered_asked names d = and_then (number_8_at (codes "at") d) (λ at. asked_at names at d)
+abbrev numbered_asked : List (List ℕ) → Data → Option RequestModel
+numbered_asked names d = bind (number_8_at (codes "at") d) (λ at. asked_at names at d)
 
 -- why a task waits or runs
 why-plain : (d : Data) → IfSome (why_asked d) IsPlain
@@ -151,15 +151,15 @@ why-plain d =
     IfSome-map IsPlain (id_at (codes "task") d) (Explains at) (λ task. tt))))
 
 -- of two members
-abbrev paired : List (List ℕ) → Data → Option Asked
-paired names d = and_then (when (has_size 2 d) d) (numbered_asked names)
+abbrev paired : List (List ℕ) → Data → Option RequestModel
+paired names d = bind (when (has_size 2 d) d) (numbered_asked names)
 
 paired-plain : (names : List (List ℕ)) (d : Data) → IfSome (paired names d) IsPlain
 paired-plain names d =
     IfSome-given_when IsPlain (has_size 2 d) d (numbered_asked names) (
     IfSome-given IsPlain (number_8_at (codes "at") d) (λ at. asked_at names at d) (λ at. asked_at-plain names at d))
 
-request-plain : (names : List (List ℕ)) (d : Data) → IfSome (request_of names d) IsPlain
+request-plain : (names : List (List ℕ)) (d : Data) → IfSome (request_from names d) IsPlain
 request-plain names d =
     elim (has_size 1 d) as (λ b. IfSome (cond b (alone_of d) (cond (has_size 3 d) (why_asked d) (paired names d))) IsPlain) [
       | true ↦ alone-plain d
@@ -167,5 +167,5 @@ request-plain names d =
     ]
 
 -- what a value asks for is plain
-pub IsPlain-asked : (names : List (List ℕ)) (d : Data) (asked : Asked) → request_of names d ≡ Some asked → IsPlain asked
+pub IsPlain-asked : (names : List (List ℕ)) (d : Data) (asked : RequestModel) → request_from names d ≡ Some asked → IsPlain asked
 IsPlain-asked names d asked e = subst (λ o. IfSome o IsPlain) e (request-plain names d)

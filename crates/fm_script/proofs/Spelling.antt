@@ -8,8 +8,8 @@ use Rattle.serde_json.specs.declared.value.Value.{Value}
 use Rattle.fm_records.specs.Options.{only_if}
 use Rattle.fm_records.specs.Sets.{IsMember}
 use Rattle.fm_coord.specs.Numbers.{AreDistinct}
-use Rattle.fm_script.specs.Json.{and_then}
-use Rattle.fm_script.specs.Script.{coordinator_of, all_of, is_listed, are_distinct, are_coordinators, listed_of}
+use Rattle.fm_script.specs.Json.{bind}
+use Rattle.fm_script.specs.Script.{coordinator_of, all_there, is_listed, are_distinct, are_coordinators, listed_of}
 
 -- numbers of a list, and one more
 
@@ -76,7 +76,7 @@ are_distinct-coordinators (n ∷ ns) h = h
 -- the coordinators that are listed are distinct
 pub AreDistinct-listed : (ds : List Data) (ns : List ℕ) → Some ns ≡ listed_of ds → AreDistinct ns
 AreDistinct-listed ds ns h =
-    elim (all_of (map coordinator_of ds)) as (λ o. Some ns ≡ only_if are_coordinators o → AreDistinct ns) [
+    elim (all_there (map coordinator_of ds)) as (λ o. Some ns ≡ only_if are_coordinators o → AreDistinct ns) [
       | None ↦ λ no. absurd (true≢false (ap is_some no))
       | Some ms ↦ elim (are_coordinators ms) as (λ b. are_coordinators ms ≡ b → Some ns ≡ cond b (Some ms) None → AreDistinct ns) [
         | true ↦ λ e same. subst AreDistinct (sym (ap (λ o. unwrap_or o ns) same)) (AreDistinct-tested ms (are_distinct-coordinators ms e))
@@ -86,24 +86,24 @@ AreDistinct-listed ds ns h =
 
 -- what the whole list comes to, if the values before the rest come to these numbers
 abbrev pub all_after : List ℕ → List Value → Option (List ℕ)
-all_after ns rest = option_map (λ more. ns ++ more) (all_of (map coordinator_of (map view rest)))
+all_after ns rest = option_map (λ more. ns ++ more) (all_there (map coordinator_of (map view rest)))
 
 -- one value more that is a coordinator's number
 pub all_after-more : (ns : List ℕ) (vs : List Value) (i : ℕ) (v : Value) (n : ℕ) → i < length vs → v ≡ get_or vs i v → coordinator_of (view v) ≡ Some n → all_after ns (drop i vs) ≡ all_after (ns ++ n ∷ []) (drop (i + 1) vs)
 all_after-more ns vs i v n h e is =
-    let rest = all_of (map coordinator_of (map view (drop (i + 1) vs))) in
+    let rest = all_there (map coordinator_of (map view (drop (i + 1) vs))) in
     ap (all_after ns) (drop_more vs i v h ∙ ap (λ w. w ∷ drop (i + 1) vs) (sym e))
-    ∙ ap (λ o. option_map (λ more. ns ++ more) (and_then o (λ a. option_map (λ more. a ∷ more) rest))) is
+    ∙ ap (λ o. option_map (λ more. ns ++ more) (bind o (λ a. option_map (λ more. a ∷ more) rest))) is
     ∙ elim rest as (λ o. option_map (λ more. ns ++ more) (option_map (λ more. n ∷ more) o) ≡ option_map (λ more. (ns ++ n ∷ []) ++ more) o) [
       | None ↦ refl
       | Some more ↦ ap Some (sym (append_assoc ns (n ∷ []) more))
     ]
 
 -- a number that comes again: no coordinators are listed
-pub listed_again : (ns : List ℕ) (vs : List Value) (i : ℕ) (v : Value) (n : ℕ) → all_of (map coordinator_of (map view vs)) ≡ all_after ns (drop i vs) → i < length vs → v ≡ get_or vs i v → coordinator_of (view v) ≡ Some n → is_listed ns n ≡ true → None ≡ listed_of (map view vs)
+pub listed_again : (ns : List ℕ) (vs : List Value) (i : ℕ) (v : Value) (n : ℕ) → all_there (map coordinator_of (map view vs)) ≡ all_after ns (drop i vs) → i < length vs → v ≡ get_or vs i v → coordinator_of (view v) ≡ Some n → is_listed ns n ≡ true → None ≡ listed_of (map view vs)
 listed_again ns vs i v n all h e is again =
     sym (ap (only_if are_coordinators) (all ∙ all_after-more ns vs i v n h e is)
-    ∙ elim (all_of (map coordinator_of (map view (drop (i + 1) vs)))) as (λ o. only_if are_coordinators (option_map (λ more. (ns ++ n ∷ []) ++ more) o) ≡ None) [
+    ∙ elim (all_there (map coordinator_of (map view (drop (i + 1) vs)))) as (λ o. only_if are_coordinators (option_map (λ more. (ns ++ n ∷ []) ++ more) o) ≡ None) [
       | None ↦ refl
       | Some more ↦ ap (λ b. cond b (Some ((ns ++ n ∷ []) ++ more)) None) (are_coordinators-again ns n more again)
     ])

@@ -6,39 +6,39 @@ use Rattle.fm_records.specs.Ids.{read_id}
 use Rattle.fm_records.specs.Options.{when, passes}
 
 -- what the function makes of the value, if there is one
-abbrev pub and_then : {A B : Type 0} → Option A → (A → Option B) → Option B
-and_then None f = None
-and_then (Some a) f = f a
+abbrev pub bind : {A B : Type 0} → Option A → (A → Option B) → Option B
+bind None f = None
+bind (Some a) f = f a
 
 -- the number, if it is below the bound
 abbrev pub below : ℕ → ℕ → Option ℕ
 below bound n = when (nat_lt n bound) n
 
 -- the whole number that a value is, of 64 bits
-abbrev pub whole_of : Data → Option ℕ
-whole_of d = and_then (as_number d) as_u64
+abbrev pub whole_number : Data → Option ℕ
+whole_number d = bind (as_number d) as_u64
 
 -- the whole number in the member of the name, and the same if it fits a type of fewer bits
 abbrev pub number_at : List ℕ → Data → Option ℕ
-number_at name d = and_then (get name d) whole_of
+number_at name d = bind (get name d) whole_number
 
 abbrev pub number_32_at : List ℕ → Data → Option ℕ
-number_32_at name d = and_then (number_at name d) (below (2 ^ 32))
+number_32_at name d = bind (number_at name d) (below (2 ^ 32))
 
 abbrev pub number_8_at : List ℕ → Data → Option ℕ
-number_8_at name d = and_then (number_at name d) (below (2 ^ 8))
+number_8_at name d = bind (number_at name d) (below (2 ^ 8))
 
 -- the truth value in the member of the name
 abbrev pub flag_at : List ℕ → Data → Option Bool
-flag_at name d = and_then (get name d) as_bool
+flag_at name d = bind (get name d) as_bool
 
 -- the text in the member of the name
 abbrev pub text_at : List ℕ → Data → Option (List ℕ)
-text_at name d = and_then (get name d) as_str
+text_at name d = bind (get name d) as_str
 
 -- the id that the text in the member of the name spells
 abbrev pub id_at : List ℕ → Data → Option ℕ
-id_at name d = and_then (text_at name d) read_id
+id_at name d = bind (text_at name d) read_id
 
 -- how many members an object has
 abbrev pub count_of : Members → ℕ
@@ -56,4 +56,4 @@ list_of (item d ds) = d ∷ list_of ds
 
 -- the items of the array in the member of the name
 abbrev pub items_at : List ℕ → Data → Option (List Data)
-items_at name d = option_map list_of (and_then (get name d) as_array)
+items_at name d = option_map list_of (bind (get name d) as_array)

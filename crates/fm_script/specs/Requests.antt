@@ -8,38 +8,38 @@ use Rattle.fm_records.specs.declared.refusal.Refusal.TheVariants.{OutOfMemory, B
 use Rattle.fm_records.specs.Options.{when}
 use Rattle.fm_coord.specs.declared.entry.Range.{Range}
 use Rattle.fm_coord.specs.Numbers.{AreDistinct}
-use Rattle.fm_script.specs.declared.script.Act.{Act}
-use Rattle.fm_script.specs.declared.script.Act.TheVariants as act
-use Rattle.fm_script.specs.declared.script.Step.{Step}
+use Rattle.fm_script.specs.declared.script.ScriptAct.{ScriptAct}
+use Rattle.fm_script.specs.declared.script.ScriptAct.TheVariants as act
+use Rattle.fm_script.specs.declared.script.ScriptStep.{ScriptStep}
 use Rattle.fm_script.specs.declared.request.Topic.{Topic}
 use Rattle.fm_script.specs.declared.request.Topic.TheVariants as topic
 use Rattle.fm_script.specs.declared.request.Request.{Request}
 use Rattle.fm_script.specs.declared.request.Request.TheVariants as request
-use Rattle.fm_script.specs.Json.{and_then, number_8_at, text_at, id_at, has_size}
-use Rattle.fm_script.specs.Script.{is_text, either, range_of, is_named, step_of, coordinators_of}
+use Rattle.fm_script.specs.Json.{bind, number_8_at, text_at, id_at, has_size}
+use Rattle.fm_script.specs.Script.{is_text, either, range_of, is_named, script_step_of, coordinators_of}
 
 -- what a line asks for, with texts as the bytes that they are
-pub data Asked : Type 0 where
-  Opens : (listed : List ℕ) → Asked
-  Does : (step : Step) → Asked
-  Cuts : (at : ℕ) (range : Range) (name : Option (List ℕ)) → Asked
-  News : (at : ℕ) → Asked
-  Takes : (at : ℕ) (digits : List ℕ) → Asked
-  Asks : (at : ℕ) (topic : Topic) → Asked
-  Explains : (at task : ℕ) → Asked
-  Agrees : Asked
-  Renews : Asked
+pub data RequestModel : Type 0 where
+  Opens : (listed : List ℕ) → RequestModel
+  Does : (step : ScriptStep) → RequestModel
+  Cuts : (at : ℕ) (range : Range) (name : Option (List ℕ)) → RequestModel
+  News : (at : ℕ) → RequestModel
+  Takes : (at : ℕ) (digits : List ℕ) → RequestModel
+  Asks : (at : ℕ) (topic : Topic) → RequestModel
+  Explains : (at task : ℕ) → RequestModel
+  Agrees : RequestModel
+  Renews : RequestModel
 
-abbrev pub asked_of : Request → Asked
-asked_of (request.Open listed) = Opens listed.items
-asked_of (request.Do step) = Does step
-asked_of (request.Cut at range name) = Cuts at range (option_map string_bytes name)
-asked_of (request.News at) = News at
-asked_of (request.Take at digits) = Takes at (string_bytes digits)
-asked_of (request.Ask at topic) = Asks at topic
-asked_of (request.Why at task) = Explains at task
-asked_of request.Agree = Agrees
-asked_of request.Renew = Renews
+abbrev pub request_model : Request → RequestModel
+request_model (request.Open listed) = Opens listed.items
+request_model (request.Do step) = Does step
+request_model (request.Cut at range name) = Cuts at range (option_map string_bytes name)
+request_model (request.News at) = News at
+request_model (request.Take at digits) = Takes at (string_bytes digits)
+request_model (request.Ask at topic) = Asks at topic
+request_model (request.Why at task) = Explains at task
+request_model request.Agree = Agrees
+request_model request.Renew = Renews
 
 -- what is asked about, by its name
 abbrev pub topic_named : List ℕ → Option Topic
@@ -51,28 +51,28 @@ topic_named name =
     when (is_text name (codes "stops")) topic.Stops))))
 
 -- a cut under the name that a value is, which no packet before has
-abbrev pub cut_under : List (List ℕ) → ℕ → Range → Data → Option Asked
+abbrev pub cut_under : List (List ℕ) → ℕ → Range → Data → Option RequestModel
 cut_under names at range v =
-    and_then (as_str v) (λ name.
+    bind (as_str v) (λ name.
     when (not (is_named names name)) (Cuts at range (Some name)))
 
 -- a cut: an object with both ends of an interval or neither, and with a name that no packet before has, or with none
-abbrev pub cut_asked : List (List ℕ) → ℕ → Data → Option Asked
+abbrev pub cut_asked : List (List ℕ) → ℕ → Data → Option RequestModel
 cut_asked names at d =
-    and_then (when (is_some (as_object d)) d) (λ d.
-    and_then (range_of d) (λ range.
+    bind (when (is_some (as_object d)) d) (λ d.
+    bind (range_of d) (λ range.
     either (get (codes "name") d) (cut_under names at range) (Some (Cuts at range None))))
 
 -- what is asked for by true
-abbrev pub when_true : Asked → Data → Option Asked
-when_true asked d = and_then (as_bool d) (λ b. when b asked)
+abbrev pub when_true : RequestModel → Data → Option RequestModel
+when_true asked d = bind (as_bool d) (λ b. when b asked)
 
 -- a question that is not about one coordinator
-abbrev pub agree_asked : Data → Option Asked
-agree_asked d = and_then (as_str d) (λ word. when (is_text word (codes "agree")) Agrees)
+abbrev pub agree_asked : Data → Option RequestModel
+agree_asked d = bind (as_str d) (λ word. when (is_text word (codes "agree")) Agrees)
 
 -- an object of one member
-abbrev pub alone_of : Data → Option Asked
+abbrev pub alone_of : Data → Option RequestModel
 alone_of d =
     either (get (codes "coordinators") d) (λ v. option_map Opens (coordinators_of d)) (
     either (get (codes "renew") d) (when_true Renews) (
@@ -80,36 +80,36 @@ alone_of d =
 
 -- an object of two members, the number of a coordinator and what it is asked for
 -- what is none of these is a step as in a script
-abbrev pub asked_at : List (List ℕ) → ℕ → Data → Option Asked
+abbrev pub asked_at : List (List ℕ) → ℕ → Data → Option RequestModel
 asked_at names at d =
     either (get (codes "cut") d) (cut_asked names at) (
     either (get (codes "news") d) (when_true (News at)) (
     either (get (codes "take") d) (λ v. option_map (Takes at) (as_str v)) (
-    either (get (codes "ask") d) (λ v. option_map (Asks at) (and_then (as_str v) topic_named)) (
-    option_map Does (step_of names d)))))
+    either (get (codes "ask") d) (λ v. option_map (Asks at) (bind (as_str v) topic_named)) (
+    option_map Does (script_step_of names d)))))
 
 -- an object of three members: the number of a coordinator that is asked why the task of the id waits or runs
-abbrev pub why_asked : Data → Option Asked
+abbrev pub why_asked : Data → Option RequestModel
 why_asked d =
-    and_then (number_8_at (codes "at") d) (λ at.
-    and_then (text_at (codes "ask") d) (λ word.
-    and_then (when (is_text word (codes "why")) d) (λ d.
+    bind (number_8_at (codes "at") d) (λ at.
+    bind (text_at (codes "ask") d) (λ word.
+    bind (when (is_text word (codes "why")) d) (λ d.
     option_map (Explains at) (id_at (codes "task") d))))
 
 -- what a value asks for, given that packets of the names were cut before
-abbrev pub request_of : List (List ℕ) → Data → Option Asked
-request_of names d =
+abbrev pub request_from : List (List ℕ) → Data → Option RequestModel
+request_from names d =
     cond (has_size 1 d) (alone_of d) (
     cond (has_size 3 d) (why_asked d) (
-    and_then (when (has_size 2 d) d) (λ d.
-    and_then (number_8_at (codes "at") d) (λ at.
+    bind (when (has_size 2 d) d) (λ d.
+    bind (number_8_at (codes "at") d) (λ at.
     asked_at names at d))))
 
 -- the line is JSON, and its value asks for that, given that packets of the names were cut before
-pub record Requests (names : List (List ℕ)) (line : List ℕ) (asked : Asked) : Type 0 where
+pub record Requests (names : List (List ℕ)) (line : List ℕ) (asked : RequestModel) : Type 0 where
   pub value : Data
   pub read : read_text line ≡ Some value
-  pub asks : request_of names value ≡ Some asked
+  pub asks : request_from names value ≡ Some asked
 
 -- the line is no JSON, or its value asks for nothing known; or memory ran out
 abbrev pub RequestsNothing : List (List ℕ) → List ℕ → Refusal → Type 0
@@ -117,15 +117,15 @@ RequestsNothing names line refusal =
     (refusal ≡ OutOfMemory)
     ⊎ ((refusal ≡ BadScript 0)
     × ((IsUtf8 line → read_text line ≡ None)
-    ⊎ ((d : Data) × (read_text line ≡ Some d) × (request_of names d ≡ None))))
+    ⊎ ((d : Data) × (read_text line ≡ Some d) × (request_from names d ≡ None))))
 
 -- a step cuts no packet
-abbrev pub CutsNothing : Act → Type 0
+abbrev pub CutsNothing : ScriptAct → Type 0
 CutsNothing (act.Cut range) = ⊥
 CutsNothing _ = Unit {0}
 
 -- coordinators with which a stream begins are distinct, and a step cuts no packet: a cut is asked for as one
-abbrev pub IsPlain : Asked → Type 0
+abbrev pub IsPlain : RequestModel → Type 0
 IsPlain (Opens listed) = AreDistinct listed
 IsPlain (Does step) = CutsNothing step.act
 IsPlain _ = Unit {0}

@@ -13,52 +13,52 @@ use Rattle.fm_records.specs.Ids.{is_coordinator}
 use Rattle.fm_records.specs.Options.{when, only_if}
 use Rattle.fm_coord.specs.declared.entry.Range.{Range}
 use Rattle.fm_coord.specs.declared.entry.Range.TheVariants.{Interval, Full}
-use Rattle.fm_script.specs.declared.script.Act.{Act}
-use Rattle.fm_script.specs.declared.script.Act.TheVariants as act
-use Rattle.fm_script.specs.declared.script.Step.{Step}
+use Rattle.fm_script.specs.declared.script.ScriptAct.{ScriptAct}
+use Rattle.fm_script.specs.declared.script.ScriptAct.TheVariants as act
+use Rattle.fm_script.specs.declared.script.ScriptStep.{ScriptStep}
 use Rattle.fm_script.specs.declared.script.Tell.{Tell}
-use Rattle.fm_script.specs.Json.{and_then, whole_of, number_at, number_32_at, number_8_at, flag_at, text_at, id_at, has_size, items_at}
+use Rattle.fm_script.specs.Json.{bind, whole_number, number_at, number_32_at, number_8_at, flag_at, text_at, id_at, has_size, items_at}
 
 -- the fields of each operation
-abbrev pub job_of : Data → Option Op
-job_of d =
-    and_then (id_at (codes "id") d) (λ id.
-    and_then (number_at (codes "version") d) (λ version.
-    and_then (number_8_at (codes "writer") d) (λ writer.
-    and_then (flag_at (codes "withdrawn") d) (λ withdrawn.
-    and_then (number_32_at (codes "wait") d) (λ wait.
-    and_then (number_32_at (codes "preempt") d) (λ preempt.
+abbrev pub job_op : Data → Option Op
+job_op d =
+    bind (id_at (codes "id") d) (λ id.
+    bind (number_at (codes "version") d) (λ version.
+    bind (number_8_at (codes "writer") d) (λ writer.
+    bind (flag_at (codes "withdrawn") d) (λ withdrawn.
+    bind (number_32_at (codes "wait") d) (λ wait.
+    bind (number_32_at (codes "preempt") d) (λ preempt.
     Some (op.Job id version writer withdrawn wait preempt)))))))
 
 -- all of the values, if each is there
-abbrev pub all_of : {A : Type 0} → List (Option A) → Option (List A)
-all_of [] = Some []
-all_of (o ∷ os) = and_then o (λ a. option_map (λ rest. a ∷ rest) (all_of os))
+abbrev pub all_there : {A : Type 0} → List (Option A) → Option (List A)
+all_there [] = Some []
+all_there (o ∷ os) = bind o (λ a. option_map (λ rest. a ∷ rest) (all_there os))
 
 -- a machine that is preferred, with its credit
-abbrev pub entry_of : Data → Option (ℕ × ℕ)
-entry_of d =
-    and_then (id_at (codes "machine") d) (λ machine.
-    and_then (number_32_at (codes "credit") d) (λ credit.
+abbrev pub preference_entry : Data → Option (ℕ × ℕ)
+preference_entry d =
+    bind (id_at (codes "machine") d) (λ machine.
+    bind (number_32_at (codes "credit") d) (λ credit.
     Some (machine, credit)))
 
 -- machines that are preferred, in the order of the list: four at most
-abbrev pub entries_of : List Data → Option (List (ℕ × ℕ))
-entries_of ds = cond (nat_le (length ds) 4) (all_of (map entry_of ds)) None
+abbrev pub preference_entries : List Data → Option (List (ℕ × ℕ))
+preference_entries ds = cond (nat_le (length ds) 4) (all_there (map preference_entry ds)) None
 
 -- none if the member is not there
 abbrev pub prefer_of : Data → Option (List (ℕ × ℕ))
-prefer_of d = cond (is_none (get (codes "prefer") d)) (Some []) (and_then (items_at (codes "prefer") d) entries_of)
+prefer_of d = cond (is_none (get (codes "prefer") d)) (Some []) (bind (items_at (codes "prefer") d) preference_entries)
 
-abbrev pub spec_of : Data → Option Op
-spec_of d =
-    and_then (id_at (codes "id") d) (λ id.
-    and_then (number_at (codes "version") d) (λ version.
-    and_then (number_8_at (codes "writer") d) (λ writer.
-    and_then (flag_at (codes "withdrawn") d) (λ withdrawn.
-    and_then (id_at (codes "job") d) (λ job.
-    and_then (number_32_at (codes "request") d) (λ request.
-    and_then (prefer_of d) (λ prefer.
+abbrev pub spec_op : Data → Option Op
+spec_op d =
+    bind (id_at (codes "id") d) (λ id.
+    bind (number_at (codes "version") d) (λ version.
+    bind (number_8_at (codes "writer") d) (λ writer.
+    bind (flag_at (codes "withdrawn") d) (λ withdrawn.
+    bind (id_at (codes "job") d) (λ job.
+    bind (number_32_at (codes "request") d) (λ request.
+    bind (prefer_of d) (λ prefer.
     Some (op.Spec id version writer withdrawn job request prefer))))))))
 
 -- the name spells the text
@@ -69,39 +69,39 @@ is_text = pointwise nat_eq
 abbrev pub phase_named : List ℕ → Option Phase
 phase_named name = cond (is_text name (codes "pending")) (Some phase.Pending) (cond (is_text name (codes "running")) (Some phase.Running) (when (is_text name (codes "done")) phase.Done))
 
-abbrev pub progress_of : Data → Option Op
-progress_of d =
-    and_then (id_at (codes "id") d) (λ id.
-    and_then (number_32_at (codes "attempt") d) (λ attempt.
-    and_then (and_then (text_at (codes "phase") d) phase_named) (λ phase.
+abbrev pub progress_op : Data → Option Op
+progress_op d =
+    bind (id_at (codes "id") d) (λ id.
+    bind (number_32_at (codes "attempt") d) (λ attempt.
+    bind (bind (text_at (codes "phase") d) phase_named) (λ phase.
     Some (op.Progress id attempt phase))))
 
-abbrev pub machine_of : Data → Option Op
-machine_of d =
-    and_then (id_at (codes "id") d) (λ id.
-    and_then (number_at (codes "incarnation") d) (λ incarnation.
-    and_then (number_at (codes "version") d) (λ version.
-    and_then (number_8_at (codes "writer") d) (λ writer.
-    and_then (flag_at (codes "up") d) (λ up.
-    and_then (number_32_at (codes "slots") d) (λ slots.
-    and_then (number_32_at (codes "nic") d) (λ nic.
+abbrev pub machine_op : Data → Option Op
+machine_op d =
+    bind (id_at (codes "id") d) (λ id.
+    bind (number_at (codes "incarnation") d) (λ incarnation.
+    bind (number_at (codes "version") d) (λ version.
+    bind (number_8_at (codes "writer") d) (λ writer.
+    bind (flag_at (codes "up") d) (λ up.
+    bind (number_32_at (codes "slots") d) (λ slots.
+    bind (number_32_at (codes "nic") d) (λ nic.
     Some (op.Machine id incarnation version writer up slots nic))))))))
 
-abbrev pub report_of : Data → Option Op
-report_of d =
-    and_then (id_at (codes "id") d) (λ id.
-    and_then (number_at (codes "incarnation") d) (λ incarnation.
-    and_then (number_at (codes "number") d) (λ number.
-    and_then (number_32_at (codes "used") d) (λ used.
+abbrev pub report_op : Data → Option Op
+report_op d =
+    bind (id_at (codes "id") d) (λ id.
+    bind (number_at (codes "incarnation") d) (λ incarnation.
+    bind (number_at (codes "number") d) (λ number.
+    bind (number_32_at (codes "used") d) (λ used.
     Some (op.Report id incarnation number used)))))
 
 abbrev pub propose_of : Data → Option Op
 propose_of d =
-    and_then (id_at (codes "id") d) (λ id.
-    and_then (number_32_at (codes "attempt") d) (λ attempt.
-    and_then (number_8_at (codes "coordinator") d) (λ coordinator.
-    and_then (id_at (codes "machine") d) (λ machine.
-    and_then (number_at (codes "incarnation") d) (λ incarnation.
+    bind (id_at (codes "id") d) (λ id.
+    bind (number_32_at (codes "attempt") d) (λ attempt.
+    bind (number_8_at (codes "coordinator") d) (λ coordinator.
+    bind (id_at (codes "machine") d) (λ machine.
+    bind (number_at (codes "incarnation") d) (λ incarnation.
     Some (op.Propose id attempt coordinator machine incarnation))))))
 
 -- what the first of the members that is there spells
@@ -111,18 +111,18 @@ either (Some d) f other = f d
 
 -- an operation: the one member of an object, named for its kind
 abbrev pub op_of : Data → Option Op
-op_of d = and_then (when (has_size 1 d) d) (λ d.
-    either (get (codes "job") d) job_of (
-    either (get (codes "spec") d) spec_of (
-    either (get (codes "progress") d) progress_of (
-    either (get (codes "machine") d) machine_of (
-    either (get (codes "report") d) report_of (
+op_of d = bind (when (has_size 1 d) d) (λ d.
+    either (get (codes "job") d) job_op (
+    either (get (codes "spec") d) spec_op (
+    either (get (codes "progress") d) progress_op (
+    either (get (codes "machine") d) machine_op (
+    either (get (codes "report") d) report_op (
     either (get (codes "propose") d) propose_of None))))))
 
 -- what a cut's packet comes from: an interval if both ends are named, all that is known if neither is
 abbrev pub range_between : Option Data → Option Data → Option Range
 range_between None None = Some Full
-range_between (Some from) (Some to) = and_then (whole_of from) (λ a. and_then (whole_of to) (λ b. Some (Interval a b)))
+range_between (Some from) (Some to) = bind (whole_number from) (λ a. bind (whole_number to) (λ b. Some (Interval a b)))
 range_between _ _ = None
 
 abbrev pub range_of : Data → Option Range
@@ -133,49 +133,49 @@ abbrev pub is_named : List (List ℕ) → List ℕ → Bool
 is_named names name = list_any (is_text name) names
 
 -- a cut gives its packet a name that no packet before has
-abbrev pub cut_of : List (List ℕ) → Data → Option Act
+abbrev pub cut_of : List (List ℕ) → Data → Option ScriptAct
 cut_of names d =
-    and_then (text_at (codes "name") d) (λ name.
-    and_then (range_of d) (λ range.
+    bind (text_at (codes "name") d) (λ name.
+    bind (range_of d) (λ range.
     when (not (is_named names name)) (act.Cut range)))
 
 -- a delivery names a packet by its place among those before; if none has the name, the place is after them all
-abbrev pub delivery_of : List (List ℕ) → Data → Option Act
+abbrev pub delivery_of : List (List ℕ) → Data → Option ScriptAct
 delivery_of names d = option_map (λ name. act.Deliver (position_or_len (is_text name) names)) (as_str d)
 
 -- a round is asked for by true
-abbrev pub round_of : Data → Option Act
-round_of d = and_then (as_bool d) (λ b. when b act.Round)
+abbrev pub round_of : Data → Option ScriptAct
+round_of d = bind (as_bool d) (λ b. when b act.Round)
 
 -- what happens in a step, given that packets of the names were cut before: the one member beside the number of its
 -- coordinator
-abbrev pub act_of : List (List ℕ) → Data → Option Act
+abbrev pub act_of : List (List ℕ) → Data → Option ScriptAct
 act_of names d =
     either (get (codes "cut") d) (cut_of names) (
     either (get (codes "tell") d) (λ v. option_map act.Tell (op_of v)) (
     either (get (codes "deliver") d) (delivery_of names) (
-    either (get (codes "trim") d) (λ v. option_map act.Trim (whole_of v)) (
+    either (get (codes "trim") d) (λ v. option_map act.Trim (whole_number v)) (
     either (get (codes "round") d) round_of None))))
 
 -- a step: an object of two members, the number of its coordinator and what happens there
-abbrev pub step_of : List (List ℕ) → Data → Option Step
-step_of names d = and_then (when (has_size 2 d) d) (λ d.
-    and_then (number_8_at (codes "at") d) (λ at.
-    and_then (act_of names d) (λ act.
+abbrev pub script_step_of : List (List ℕ) → Data → Option ScriptStep
+script_step_of names d = bind (when (has_size 2 d) d) (λ d.
+    bind (number_8_at (codes "at") d) (λ at.
+    bind (act_of names d) (λ act.
     Some (record { at = at; act = act }))))
 
 -- the name that a step gives a packet, if it cuts one
 abbrev pub names_in : Data → List (List ℕ)
-names_in d = option_to_list (and_then (get (codes "cut") d) (text_at (codes "name")))
+names_in d = option_to_list (bind (get (codes "cut") d) (text_at (codes "name")))
 
 -- what the values spell, one after another, given that packets of the names were cut before
-abbrev pub steps_of : List (List ℕ) → List Data → List (Option Step)
+abbrev pub steps_of : List (List ℕ) → List Data → List (Option ScriptStep)
 steps_of names [] = []
-steps_of names (d ∷ ds) = step_of names d ∷ steps_of (names ++ names_in d) ds
+steps_of names (d ∷ ds) = script_step_of names d ∷ steps_of (names ++ names_in d) ds
 
 -- a coordinator's number, from 1 to 64
 abbrev pub coordinator_of : Data → Option ℕ
-coordinator_of d = only_if is_coordinator (whole_of d)
+coordinator_of d = only_if is_coordinator (whole_number d)
 
 -- the number is one of those listed
 abbrev pub is_listed : List ℕ → ℕ → Bool
@@ -193,13 +193,13 @@ are_coordinators (n ∷ ns) = are_distinct (n ∷ ns)
 
 -- the coordinators that the items list
 abbrev pub listed_of : List Data → Option (List ℕ)
-listed_of ds = only_if are_coordinators (all_of (map coordinator_of ds))
+listed_of ds = only_if are_coordinators (all_there (map coordinator_of ds))
 
 abbrev pub coordinators_of : Data → Option (List ℕ)
-coordinators_of d = and_then (items_at (codes "coordinators") d) listed_of
+coordinators_of d = bind (items_at (codes "coordinators") d) listed_of
 
 -- the value spells a script of these coordinators, these names of packets in the order of their cuts, and these steps
-pub record IsScriptOf (d : Data) (coordinators : List ℕ) (names : List (List ℕ)) (steps : List Step) : Type 0 where
+pub record IsScriptOf (d : Data) (coordinators : List ℕ) (names : List (List ℕ)) (steps : List ScriptStep) : Type 0 where
   pub coordinators_listed : coordinators_of d ≡ Some coordinators
   pub names_given : option_map (flat_map names_in) (items_at (codes "steps") d) ≡ Some names
   pub steps_listed : option_map (steps_of []) (items_at (codes "steps") d) ≡ Some (map Some steps)
@@ -207,7 +207,7 @@ pub record IsScriptOf (d : Data) (coordinators : List ℕ) (names : List (List �
 -- the place of the first value that is no step, the first value of all being at the place given
 abbrev pub first_strange : List (List ℕ) → ℕ → List Data → Option ℕ
 first_strange names place [] = None
-first_strange names place (d ∷ ds) = cond (is_some (step_of names d)) (first_strange (names ++ names_in d) (place + 1) ds) (Some place)
+first_strange names place (d ∷ ds) = cond (is_some (script_step_of names d)) (first_strange (names ++ names_in d) (place + 1) ds) (Some place)
 
 -- the fault of a list of steps, 0 if there is none
 abbrev pub steps_fault : Option (List Data) → Option ℕ
@@ -219,16 +219,16 @@ abbrev pub script_fault : Data → Option ℕ
 script_fault d = cond (is_none (coordinators_of d)) (Some 0) (steps_fault (items_at (codes "steps") d))
 
 -- what a step tells, if it does
-abbrev pub told_by : ℕ → Act → Option Tell
+abbrev pub told_by : ℕ → ScriptAct → Option Tell
 told_by at (act.Tell op) = Some (record { at = at; op = op })
 told_by at _ = None
 
-abbrev pub told_in : Step → Option Tell
+abbrev pub told_in : ScriptStep → Option Tell
 told_in step = told_by step.at step.act
 
 -- what a value tells, if it spells a step that does; no packet has a name if all steps tell
 abbrev pub tell_of : Data → Option Tell
-tell_of d = and_then (step_of [] d) told_in
+tell_of d = bind (script_step_of [] d) told_in
 
 -- the value spells a script of these coordinators and these tells alone
 pub record AreTellsOf (d : Data) (coordinators : List ℕ) (tells : List Tell) : Type 0 where

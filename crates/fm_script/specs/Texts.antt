@@ -4,12 +4,12 @@ use Rattle.serde_json.specs.Data.{Data}
 use Rattle.serde_json.specs.Read.{read as read_text}
 use Rattle.fm_records.specs.declared.refusal.Refusal.{Refusal}
 use Rattle.fm_records.specs.declared.refusal.Refusal.TheVariants.{OutOfMemory, BadScript}
-use Rattle.fm_script.specs.declared.script.Step.{Step}
+use Rattle.fm_script.specs.declared.script.ScriptStep.{ScriptStep}
 use Rattle.fm_script.specs.declared.script.Tell.{Tell}
 use Rattle.fm_script.specs.Script.{IsScriptOf, script_fault, AreTellsOf, tells_fault}
 
 -- the text is JSON, and its value a script of these coordinators, names and steps
-pub record Spells (text : List ℕ) (listed : List ℕ) (names : List (List ℕ)) (steps : List Step) : Type 0 where
+pub record IsScriptText (text : List ℕ) (listed : List ℕ) (names : List (List ℕ)) (steps : List ScriptStep) : Type 0 where
   pub value : Data
   pub read : read_text text ≡ Some value
   pub script : IsScriptOf value listed names steps

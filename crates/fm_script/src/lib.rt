@@ -3,9 +3,9 @@
 
 pub mod coordinators;
 pub mod names;
-pub mod reading;
+pub mod parse_script;
 pub mod request;
-pub mod requesting;
+pub mod parse_request;
 pub mod script;
-pub mod telling;
-pub mod world;
+pub mod parse_tells;
+pub mod initial_world;

@@ -1,6 +1,6 @@
 //! What a line of a stream asks for, as data.
 
-use crate::script::Step;
+use crate::script::ScriptStep;
 use fm_coord::entry::Range;
 use fm_records::ids::{CoordId, TaskId};
 
@@ -26,7 +26,7 @@ pub enum Request {
     Open(Vec<CoordId>),
     /// What a coordinator does, as in a script: it is told an operation, takes in a packet, trims, or runs a round.
     /// It cuts nothing.
-    Do(Step),
+    Do(ScriptStep),
     /// A coordinator cuts a packet, which has the name if there is one.
     Cut {
         at: u8,

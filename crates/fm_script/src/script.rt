@@ -7,7 +7,7 @@ use fm_records::ops::Op;
 
 /// What a step does at its coordinator.
 #[derive(Debug, Clone, Copy, PartialEq, Eq, Drop)]
-pub enum Act {
+pub enum ScriptAct {
     /// The coordinator is told an operation, whose ranges are not yet checked.
     Tell(Op),
     /// It cuts a packet of the range.
@@ -23,10 +23,10 @@ pub enum Act {
 
 /// One step of a script.
 #[derive(Debug, Clone, Copy, PartialEq, Eq, Drop)]
-pub struct Step {
+pub struct ScriptStep {
     /// The number of the coordinator, which need not be one of the script's.
     pub at: u8,
-    pub act: Act,
+    pub act: ScriptAct,
 }
 
 /// A script that has been read.
@@ -36,7 +36,7 @@ pub struct Script {
     pub coordinators: Vec<CoordId>,
     /// The names of the packets, in the order of their cuts.
     pub names: Names,
-    pub steps: Vec<Step>,
+    pub steps: Vec<ScriptStep>,
 }
 
 /// A step of a script that tells a coordinator an operation.

@@ -1,10 +1,10 @@
 //! The machines of a tally while tasks are placed on them, by number, the least load first. Nothing is claimed of what is done
 //! here: a claim is checked.
 
-use crate::bits::Bits;
+use crate::bit_set::Bits;
 use crate::exits::Sought;
-use crate::numbers::Numbers;
-use crate::tree::{LEAST, Tree};
+use crate::machine_index::Numbers;
+use crate::segment_tree::{LEAST, Tree};
 use fm_lattice::join::OutOfMemory;
 use fm_records::ids::MachineId;
 

@@ -5,7 +5,7 @@ ghost use Rattle.std.specs.Ordering.{nat_cmp};
 ghost use Rattle.fm_lattice.specs.Maps.{lookup};
 ghost use Rattle.fm_search.specs.Claims.{rise_of, offer_of};
 
-use fm_lattice::rising::value_near;
+use fm_lattice::sorted_vec::get_hinted;
 use fm_records::ids::{MachineId, TaskId};
 use fm_tally::sorted::Sorted;
 use fm_tally::way::Way;
@@ -34,7 +34,7 @@ impl Claim {
     pub fn rise_near(&self, near: usize, machine: MachineId) -> u64
         ensures { result ≡ rise_of self.now machine }
     {
-        value_near(self.rises.pairs(), near, &machine).unwrap_or(0)
+        get_hinted(self.rises.pairs(), near, &machine).unwrap_or(0)
     }
 
     /// The same for the machine that holds the task of the number: O(1) if its rise stands where it may.

@@ -2,7 +2,7 @@
 //! the next slot.
 
 use crate::board::{Board, FAR, NONE};
-use crate::tree::LEAST;
+use crate::segment_tree::LEAST;
 use fm_lattice::join::OutOfMemory;
 
 /// The cheapest slot to which a request leads by itself.

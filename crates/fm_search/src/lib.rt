@@ -2,14 +2,14 @@
 //! claim checks it first.
 #![tactic(auto)]
 
-mod bits;
+mod bit_set;
 mod board;
 pub mod claim;
 mod exits;
-mod numbers;
+mod machine_index;
 mod paths;
 mod prices;
 pub mod search;
 mod setup;
-mod tree;
+mod segment_tree;
 mod waiting;

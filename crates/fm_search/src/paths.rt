@@ -2,7 +2,7 @@
 //! a task that makes room there. Any other machine is found by a query. So only requests, full machines with tasks that were
 //! placed there, and tasks with wishes are walked over.
 
-use crate::bits::{set_bit, width_of};
+use crate::bit_set::{set_bit, width_of};
 use crate::board::{Board, FAR, NONE};
 use crate::waiting::{Spot, Waiting};
 use fm_lattice::join::OutOfMemory;

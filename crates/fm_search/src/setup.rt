@@ -1,10 +1,10 @@
 //! The board of a tally, on which nothing is placed yet.
 
-use crate::bits::Bits;
+use crate::bit_set::Bits;
 use crate::board::{Board, Held, NONE, Place, open_spare};
 use crate::exits::NOT_SOUGHT;
-use crate::numbers::Numbers;
-use crate::tree::Tree;
+use crate::machine_index::Numbers;
+use crate::segment_tree::Tree;
 use fm_lattice::join::OutOfMemory;
 use fm_records::ids::MachineId;
 use fm_tally::tally::{LiveTask, OpenMachine, Tally};

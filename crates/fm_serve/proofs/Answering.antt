@@ -3,7 +3,7 @@ use Rattle.std.proofs.Common.{◌≡◌, ◌⊎◌, ℕ, List, Bool, true, false
 use Rattle.fm_world.specs.Worlds.{WorldOfSets}
 use Rattle.fm_query.specs.declared.query.Query.{Query}
 use Rattle.fm_query.specs.Queries.{differs_in}
-use Rattle.fm_args.specs.Telling.{Asked, ask, agree, pack, unpack, run, why}
+use Rattle.fm_args.specs.Telling.{ArgsModel, ask, agree, pack, unpack, run, why}
 use Rattle.fm_serve.specs.declared.fault.Fault.{Fault}
 use Rattle.fm_serve.specs.declared.ending.Ending.{Ending}
 use Rattle.fm_serve.specs.declared.ending.Ending.TheVariants.{Done, Differ, Wrong, Stopped}
@@ -22,7 +22,7 @@ answers_well : (q : Option Query) (w : WorldOfSets) (ending : Ending) (output : 
 answers_well None w ending output h = absurd h
 answers_well (Some q) w ending output h = by_difference (differs_in q w) ending h.0
 
-wants_well : (c : Asked) (text : List ℕ) (ending : Ending) (output : List ℕ) → Wants c text ending output → EndsWell ending
+wants_well : (c : ArgsModel) (text : List ℕ) (ending : Ending) (output : List ℕ) → Wants c text ending output → EndsWell ending
 wants_well (ask q at) text ending output h = answers_well h.query h.world ending output h.answered
 wants_well agree text ending output h = answers_well h.query h.world ending output h.answered
 wants_well (pack name) text ending output h = answers_well h.query h.world ending output h.answered
@@ -34,7 +34,7 @@ stopped_not fault (inl e) = cc
 stopped_not fault (inr e) = cc
 
 -- what a command wants is what the program answers
-pub settled : (c : Asked) (text : List ℕ) (ending : Ending) (output : List ℕ) → Wants c text ending output → Responds (run c) text ending output
+pub settled : (c : ArgsModel) (text : List ℕ) (ending : Ending) (output : List ℕ) → Wants c text ending output → Responds (run c) text ending output
 settled c text Done output h = h
 settled c text Differ output h = h
 settled c text (Wrong said) output h = h

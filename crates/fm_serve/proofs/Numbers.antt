@@ -3,11 +3,11 @@ use Rattle.std.proofs.Common.{◌≡◌, ℕ, List, [], ◌∷◌, map, refl, ap
 use Rattle.fm_delta.specs.declared.packet.Packet.{Packet}
 use Rattle.fm_coord.specs.declared.entry.Call.TheVariants as call
 use Rattle.fm_coord.specs.declared.entry.Reply.TheVariants as reply
-use Rattle.fm_coord.specs.States.{State, WithKeeper, entry, took}
+use Rattle.fm_coord.specs.States.{State, WithKeeper, history_entry, took}
 use Rattle.fm_world.specs.Stands.{state_of, number_of}
 use Rattle.fm_world.specs.Listings.{number_in}
 use Rattle.fm_gossip.specs.Served.{AreServed}
-use Rattle.fm_gossip.specs.Members.{MemberSeen, task_of, tasks_of}
+use Rattle.fm_gossip.specs.Members.{MemberSeen, task_of, member_tasks}
 use Rattle.fm_gossip.specs.Exchanges.{whole_packet, cut_off, merged_in, of_others, told_by_others, after_exchange}
 use Rattle.fm_script.specs.declared.script.Tell.{Tell}
 use Rattle.fm_gossip.proofs.Numbers.{numbers_of}
@@ -29,7 +29,7 @@ closed_numbers numbers rounds listed tells ss h = served_numbers numbers rounds 
 
 merged_number : (ps : List Packet) (s : State) → (merged_in s ps).number ≡ s.number
 merged_number [] s = refl
-merged_number (p ∷ ps) s = merged_number ps (took s p.value (entry 0 (call.Merge p) reply.Nothing))
+merged_number (p ∷ ps) s = merged_number ps (took s p.value (history_entry 0 (call.Merge p) reply.Nothing))
 
 told_numbers : (ps : List Packet) (ss : List State) → map number_in (map (told_by_others ps) (map cut_off ss)) ≡ map number_in ss
 told_numbers ps [] = refl
@@ -40,9 +40,9 @@ exchanged_numbers ss = told_numbers (map whole_packet ss) ss
 
 -- so of the coordinators of a muster, before and after their exchange
 
-pub listed_before : {N : Type 0} (rounds : ℕ) (listed : List ℕ) (tells : List Tell) (closed : List (WithKeeper N)) → AreServed (tasks_of rounds (members_of listed tells)) (map state_of closed) → map number_of closed ≡ listed
+pub listed_before : {N : Type 0} (rounds : ℕ) (listed : List ℕ) (tells : List Tell) (closed : List (WithKeeper N)) → AreServed (member_tasks rounds (members_of listed tells)) (map state_of closed) → map number_of closed ≡ listed
 listed_before rounds listed tells closed served = numbers_of closed ∙ closed_numbers (map (λ m. m.number) (members_of listed tells)) rounds listed tells (map state_of closed) served
 
-pub listed_after : {N : Type 0} (rounds : ℕ) (listed : List ℕ) (tells : List Tell) (closed now : List (WithKeeper N)) → AreServed (tasks_of rounds (members_of listed tells)) (map state_of closed) → map state_of now ≡ after_exchange (map state_of closed) → map number_of now ≡ listed
+pub listed_after : {N : Type 0} (rounds : ℕ) (listed : List ℕ) (tells : List Tell) (closed now : List (WithKeeper N)) → AreServed (member_tasks rounds (members_of listed tells)) (map state_of closed) → map state_of now ≡ after_exchange (map state_of closed) → map number_of now ≡ listed
 listed_after rounds listed tells closed now served after =
     numbers_of now ∙ ap (map number_in) after ∙ exchanged_numbers (map state_of closed) ∙ closed_numbers (map (λ m. m.number) (members_of listed tells)) rounds listed tells (map state_of closed) served

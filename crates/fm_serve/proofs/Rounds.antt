@@ -1,7 +1,7 @@
 -- A round at a coordinator of a world that stands for a world of sets.
 use Rattle.std.proofs.Common.{◌≡◌, ◌⊎◌, ℕ, Option, Some, None, Result, Ok, Err, IfErr, OnOk, refl, ◌∙◌, subst, inr}
 use Rattle.fm_records.specs.declared.refusal.Refusal.{Refusal}
-use Rattle.fm_round.specs.declared.parts.Plan.{Plan}
+use Rattle.fm_round.specs.declared.plan.Plan.{Plan}
 use Rattle.fm_coord.specs.declared.view.View.{View}
 use Rattle.fm_coord.specs.States.{State}
 use Rattle.fm_world.specs.declared.step.Act.TheVariants as world
@@ -10,8 +10,8 @@ use Rattle.fm_world.specs.Stands.{Kept, WorldStandsFor, state_with, view_shown}
 use Rattle.fm_world.proofs.Places.{Stood, stood}
 use Rattle.fm_world.proofs.Runs.{if_err}
 use Rattle.fm_round.specs.Schedules.{IsPlanOf}
-use Rattle.fm_service.specs.Acting.{step_at, IsPlanAt, Takes}
-use Rattle.fm_serve.specs.Running.{Rounds, StopsAfterView}
+use Rattle.fm_service.specs.Acting.{step_at, IsPlanAt, WorldStep}
+use Rattle.fm_serve.specs.ScriptSteps.{ScriptRoundStep, StopsAfterView}
 
 -- what is shown of a coordinator is what it knows
 record IsShown (o : Option State) (view : View) : Type 0 where
@@ -35,12 +35,12 @@ module _ (k : Kept) (w : WorldOfSets) (at : ℕ) (h : WorldStandsFor k w) where
       record { replica = q.replica; there = q.at; plan_of = subst (λ t. IsPlanOf t plan) (s.knowledge ∙ q.stands.knowledge) p }
 
 module _ (w : WorldOfSets) (at : ℕ) (plan : Plan) (accepted : cause_of w (step_at at world.View) ≡ None) (planned : IsPlanAt w at plan) where
-  viewed : Takes w (step_at at world.View) (step_of w (step_at at world.View))
+  viewed : WorldStep w (step_at at world.View) (step_of w (step_at at world.View))
   viewed = record { accepted = accepted; made = refl }
 
   pub rounds : {T E : Type 0} (r : Result T E) (new : Kept)
-      → OnOk r ((v : WorldOfSets) × Takes (step_of w (step_at at world.View)) (step_at at (world.Commit plan)) v × WorldStandsFor new v)
-      → OnOk r ((v : WorldOfSets) × Rounds w at v × WorldStandsFor new v)
+      → OnOk r ((v : WorldOfSets) × WorldStep (step_of w (step_at at world.View)) (step_at at (world.Commit plan)) v × WorldStandsFor new v)
+      → OnOk r ((v : WorldOfSets) × ScriptRoundStep w at v × WorldStandsFor new v)
   rounds r new = on_ok r (λ t. (t.0, record { plan = plan; plan_at = planned; seen = _; view = viewed; commit = t.1 }, t.2))
 
   pub refuses : {T : Type 0} (r : Result T Refusal)

@@ -3,23 +3,23 @@ use Rattle.std.specs.Prelude.{◌≡◌, ◌⊎◌, ℕ, List, cond, option_map,
 use Rattle.fm_records.specs.declared.refusal.Refusal.{Refusal}
 use Rattle.fm_records.specs.declared.refusal.Refusal.TheVariants.{OutOfMemory, NoPacket}
 use Rattle.fm_world.specs.Worlds.{WorldOfSets}
-use Rattle.fm_script.specs.declared.script.Step.{Step}
+use Rattle.fm_script.specs.declared.script.ScriptStep.{ScriptStep}
 use Rattle.fm_script.specs.Script.{is_text}
-use Rattle.fm_script.specs.Texts.{Spells, SpellsNone}
+use Rattle.fm_script.specs.Texts.{IsScriptText, SpellsNone}
 use Rattle.fm_query.specs.declared.query.Query.{Query}
 use Rattle.fm_query.specs.declared.query.Query.TheVariants as query
 use Rattle.fm_query.specs.Queries.{IsText, differs_in, Lacks}
 use Rattle.fm_query.specs.Unpacked.{IsUnpacked, IsNotUnpacked}
 use Rattle.fm_args.specs.declared.words.Question.{Question}
 use Rattle.fm_args.specs.declared.words.Question.TheVariants as question
-use Rattle.fm_args.specs.Telling.{Asked, ask, agree, pack, unpack, why}
+use Rattle.fm_args.specs.Telling.{ArgsModel, ask, agree, pack, unpack, why}
 use Rattle.fm_serve.specs.declared.fault.Fault.{Fault}
 use Rattle.fm_serve.specs.declared.ending.Ending.{Ending}
 use Rattle.fm_serve.specs.declared.ending.Ending.TheVariants.{Done, Differ}
 use Rattle.fm_serve.specs.Faults.{fault_of, script_fault_of}
 use Rattle.fm_serve.specs.Endings.{coordinator_asked}
 use Rattle.fm_script.specs.Openings.{new_world}
-use Rattle.fm_serve.specs.Running.{Come, Stops, After}
+use Rattle.fm_serve.specs.ScriptSteps.{Come, StopsScript, After}
 
 -- the text was not read as a script, and why
 pub record IsNoScript (text : List ℕ) (fault : Fault) : Type 0 where
@@ -45,7 +45,7 @@ why_about task (Err fault) = Err fault
 
 -- the query of a command, for a script of these coordinators and names of packets: none if no packet has the name,
 -- and a fault if the coordinator that is asked is not listed
-abbrev pub query_of : Asked → List ℕ → List (List ℕ) → Result (Option Query) Fault
+abbrev pub query_of : ArgsModel → List ℕ → List (List ℕ) → Result (Option Query) Fault
 query_of (ask q at) listed names = query_about q (coordinator_asked listed at)
 query_of agree listed names = Ok (Some query.Agree)
 query_of (pack name) listed names = Ok (option_map query.Packet (position (is_text name) names))
@@ -58,11 +58,11 @@ AnswersIn None w ending output = ⊥
 AnswersIn (Some q) w ending output = (ending ≡ cond (differs_in q w) Differ Done) × IsText q w output
 
 -- the steps of the text's script led to a world that answers the command so
-pub record IsOfScript (c : Asked) (text : List ℕ) (ending : Ending) (output : List ℕ) : Type 0 where
+pub record IsOfScript (c : ArgsModel) (text : List ℕ) (ending : Ending) (output : List ℕ) : Type 0 where
   pub listed : List ℕ
   pub names : List (List ℕ)
-  pub steps : List Step
-  pub spelled : Spells text listed names steps
+  pub steps : List ScriptStep
+  pub spelled : IsScriptText text listed names steps
   pub query : Option Query
   pub asked : query_of c listed names ≡ Ok query
   pub world : WorldOfSets
@@ -70,7 +70,7 @@ pub record IsOfScript (c : Asked) (text : List ℕ) (ending : Ending) (output : 
   pub answered : AnswersIn query world ending output
 
 -- the complete output of the command for the text, and the ending; `unpack` reads no script
-abbrev pub Wants : Asked → List ℕ → Ending → List ℕ → Type 0
+abbrev pub Wants : ArgsModel → List ℕ → Ending → List ℕ → Type 0
 Wants unpack text ending output = (ending ≡ Done) × IsUnpacked text output
 Wants c text ending output = IsOfScript c text ending output
 
@@ -81,19 +81,19 @@ LacksIn (Some q) w fault = (refusal : Refusal) × Lacks q w refusal × (fault �
 
 -- the first cause why a script has no answer: the coordinator that is asked is not listed; else a step is refused; else
 -- what is asked for is not there
-abbrev pub StopsFor : Result (Option Query) Fault → List ℕ → List Step → Fault → Type 0
+abbrev pub StopsFor : Result (Option Query) Fault → List ℕ → List ScriptStep → Fault → Type 0
 StopsFor (Err unlisted) listed steps fault = fault ≡ unlisted
-StopsFor (Ok query) listed steps fault = Stops listed steps fault ⊎ After listed steps (λ w. LacksIn query w fault)
+StopsFor (Ok query) listed steps fault = StopsScript listed steps fault ⊎ After listed steps (λ w. LacksIn query w fault)
 
 -- the text spells a script that has no answer to the command
-pub record IsStopped (c : Asked) (text : List ℕ) (fault : Fault) : Type 0 where
+pub record IsScriptStopped (c : ArgsModel) (text : List ℕ) (fault : Fault) : Type 0 where
   pub listed : List ℕ
   pub names : List (List ℕ)
-  pub steps : List Step
-  pub spelled : Spells text listed names steps
+  pub steps : List ScriptStep
+  pub spelled : IsScriptText text listed names steps
   pub cause : StopsFor (query_of c listed names) listed steps fault
 
 -- why the command has no answer to the text
-abbrev pub IsRefused : Asked → List ℕ → Fault → Type 0
-IsRefused unpack text fault = (refusal : Refusal) × (fault ≡ fault_of refusal) × IsNotUnpacked text refusal
-IsRefused c text fault = (fault ≡ fault_of OutOfMemory) ⊎ (IsNoScript text fault ⊎ IsStopped c text fault)
+abbrev pub IsCommandRefused : ArgsModel → List ℕ → Fault → Type 0
+IsCommandRefused unpack text fault = (refusal : Refusal) × (fault ≡ fault_of refusal) × IsNotUnpacked text refusal
+IsCommandRefused c text fault = (fault ≡ fault_of OutOfMemory) ⊎ (IsNoScript text fault ⊎ IsScriptStopped c text fault)

@@ -2,7 +2,7 @@
 use Rattle.std.specs.Prelude.{ℕ, ◌==◌, List, ◌++◌, cond, codes, decimal, Option, Some, None}
 use Rattle.fm_records.specs.declared.refusal.Refusal.{Refusal}
 use Rattle.fm_records.specs.declared.refusal.Refusal.TheVariants as refusal
-use Rattle.fm_records.specs.Refusals.{number_of}
+use Rattle.fm_records.specs.Refusals.{refusal_number}
 use Rattle.fm_serve.specs.declared.fault.Fault.{Fault}
 
 -- a fault of the step at the place, counted from 1, and one of no step
@@ -27,7 +27,7 @@ step_text None = codes "\n"
 step_text (Some place) = codes " at step " ++ (decimal place ++ codes "\n")
 
 abbrev pub fault_text : Fault → List ℕ
-fault_text f = codes "firmament: refusal " ++ (decimal (number_of f.refusal) ++ step_text f.step)
+fault_text f = codes "firmament: refusal " ++ (decimal (refusal_number f.refusal) ++ step_text f.step)
 
 -- the fault of a script that was not read: of the step that it names, if any
 abbrev pub script_fault_of : Refusal → Fault

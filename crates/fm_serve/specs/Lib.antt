@@ -1,9 +1,9 @@
 pub mod Faults
 pub mod Endings
-pub mod Running
+pub mod ScriptSteps
 pub mod Musters
 pub mod Fleets
 pub mod Refused
 pub mod Answers
 pub mod Responses
-pub mod Served
+pub mod Output

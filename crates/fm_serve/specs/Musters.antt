@@ -9,17 +9,17 @@ use Rattle.fm_coord.specs.States.{State}
 use Rattle.fm_world.specs.declared.step.Step.{Step}
 use Rattle.fm_world.specs.Listings.{IsWholeRun}
 use Rattle.fm_gossip.specs.Served.{AreServed}
-use Rattle.fm_gossip.specs.Stopping.{may_stop}
-use Rattle.fm_gossip.specs.Members.{MemberSeen, member, tasks_of}
+use Rattle.fm_gossip.specs.FleetFaults.{may_stop}
+use Rattle.fm_gossip.specs.Members.{MemberSeen, member, member_tasks}
 use Rattle.fm_gossip.specs.Passing.{passed_at, ArePassedOn}
 use Rattle.fm_gossip.specs.Exchanges.{after_exchange}
-use Rattle.fm_gossip.specs.Agreement.{KnowSame, AreCutBySenders}
+use Rattle.fm_gossip.specs.AfterExchange.{KnowSame, AreCutBySenders}
 use Rattle.fm_script.specs.declared.script.Tell.{Tell}
 use Rattle.fm_script.specs.Script.{is_listed}
 use Rattle.fm_script.specs.Openings.{history_limit}
 use Rattle.fm_serve.specs.declared.counts.Calls.{Calls}
 use Rattle.fm_serve.specs.declared.counts.Counts.{Counts}
-use Rattle.fm_serve.specs.declared.muster.Stop.{Stop}
+use Rattle.fm_serve.specs.declared.muster.FleetFault.{FleetFault}
 
 -- what the coordinator with the number is told, in order
 abbrev pub told_at : ℕ → List Tell → List Op
@@ -35,12 +35,12 @@ abbrev pub tell_fault : List ℕ → Tell → Option Refusal
 tell_fault listed t = cond (is_listed listed t.at) (option_map BadOp (op_fault t.op)) (Some NoCoordinator)
 
 -- a refusal names its place; if there is none, what comes later counts
-abbrev pub named_or : ℕ → Option Refusal → Option Stop → Option Stop
+abbrev pub named_or : ℕ → Option Refusal → Option FleetFault → Option FleetFault
 named_or place None later = later
 named_or place (Some refusal) later = Some (record { refusal = refusal; step = Some place })
 
 -- the first tell that is refused, the first of all being at the place given
-abbrev pub first_refused : List ℕ → ℕ → List Tell → Option Stop
+abbrev pub first_refused : List ℕ → ℕ → List Tell → Option FleetFault
 first_refused listed place [] = None
 first_refused listed place (t ∷ ts) = named_or place (tell_fault listed t) (first_refused listed (place + 1) ts)
 
@@ -52,7 +52,7 @@ calls_of s = record { coordinator = s.number; count = length s.history }
 pub record IsMustered (listed : List ℕ) (tells : List Tell) (rounds : ℕ) (c : Counts) : Type 0 where
   -- the coordinators when they were closed: each did what it was to do
   pub closed : List State
-  pub served : AreServed (tasks_of rounds (members_of listed tells)) closed
+  pub served : AreServed (member_tasks rounds (members_of listed tells)) closed
   -- each of the others merged once what an intake cut, and nothing else
   pub passed_on : ArePassedOn (map passed_at closed)
   pub calls : c.calls.items ≡ map calls_of closed
@@ -65,7 +65,7 @@ pub record IsMustered (listed : List ℕ) (tells : List Tell) (rounds : ℕ) (c 
   pub know_same : KnowSame (after_exchange closed)
 
 -- why nothing was counted: the first tell that is refused; or none is, and no step is named
-abbrev pub IsStopped : List ℕ → List Tell → Stop → Type 0
+abbrev pub IsStopped : List ℕ → List Tell → FleetFault → Type 0
 IsStopped listed tells stop = (first_refused listed 1 tells ≡ Some stop) ⊎ ((first_refused listed 1 tells ≡ None) × (stop.step ≡ None))
 
 -- why a fleet is not counted: it was stopped, or its histories are not one list of steps

@@ -3,7 +3,7 @@ use Rattle.std.specs.Prelude.{ℕ, ◌+◌, ◌-◌, List, [], ◌∷◌, ◌++�
 use Rattle.fm_records.specs.declared.ops.Field.TheVariants.{Writer}
 use Rattle.fm_records.specs.declared.refusal.Refusal.{Refusal}
 use Rattle.fm_records.specs.declared.refusal.Refusal.TheVariants.{OutOfMemory, BadOp, HistoryFull, BadInterval, Trimmed, BadPacket, Uncertified, NoCoordinator, NoPacket, InboxFull, InboxEmpty, Stuck, NotMine, VersionsSpent, AttemptsSpent, BadScript, WriteFault, BadDimacs}
-use Rattle.fm_records.specs.Refusals.{number_of}
+use Rattle.fm_records.specs.Refusals.{refusal_number}
 use Rattle.fm_serve.specs.Faults.{status_of}
 
 -- a number below 10 as its digit: the digits begin at 48
@@ -16,7 +16,7 @@ in_two n = cond (nat_lt n 10) (codes " " ++ digit n) (codes "1" ++ digit (n - 10
 
 -- a line: the number of a refusal, the status that the program then ends with, and the cause
 abbrev pub refusal_line : Refusal → List ℕ → List ℕ
-refusal_line r cause = in_two (number_of r) ++ (codes "  " ++ (digit (status_of r) ++ (codes "       " ++ (cause ++ codes "\n"))))
+refusal_line r cause = in_two (refusal_number r) ++ (codes "  " ++ (digit (status_of r) ++ (codes "       " ++ (cause ++ codes "\n"))))
 
 -- the page: how a refusal is said, and the refusals by their numbers, whatever they carry
 abbrev pub refusals_text : List ℕ

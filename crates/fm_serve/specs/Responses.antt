@@ -7,13 +7,13 @@ use Rattle.fm_serve.specs.declared.ending.Ending.TheVariants.{Done, Wrong, Stopp
 use Rattle.fm_serve.specs.Faults.{fault_of}
 use Rattle.fm_serve.specs.Fleets.{IsCounted, IsNotCounted}
 use Rattle.fm_serve.specs.Refused.{refusals_text}
-use Rattle.fm_serve.specs.Answers.{Wants, IsRefused}
+use Rattle.fm_serve.specs.Answers.{Wants, IsCommandRefused}
 
 -- the ending and the complete output: a command's answer, or why it has none; a fleet's counts, or why it has none;
 -- nothing for a stream, whose lines are answered one by one; some text of help; the page of refusals, or memory ran out
 -- for it; or the words are wrong, with something to say of them. A run that is stopped has no output
 abbrev pub Responds : Telling → List ℕ → Ending → List ℕ → Type 0
-Responds (run c) text (Stopped fault) output = IsRefused c text fault × (output ≡ [])
+Responds (run c) text (Stopped fault) output = IsCommandRefused c text fault × (output ≡ [])
 Responds (run c) text ending output = Wants c text ending output
 Responds (fleet rounds) text (Stopped fault) output = IsNotCounted text fault × (output ≡ [])
 Responds (fleet rounds) text ending output = (ending ≡ Done) × IsCounted rounds text output

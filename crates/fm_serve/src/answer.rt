@@ -3,24 +3,24 @@
 ghost use Rattle.std.specs.Prelude.{◌≡◌, ◌⊎◌, cond, Ok, IfOk, IfErr, Some};
 ghost use Rattle.fm_coord.specs.Numbers.{AreDistinct};
 ghost use Rattle.fm_query.specs.Queries.{ForEachWorld};
-ghost use Rattle.fm_script.specs.Texts.{Spells};
+ghost use Rattle.fm_script.specs.Texts.{IsScriptText};
 ghost use Rattle.fm_records.specs.declared.refusal.Refusal.TheVariants as refused;
-ghost use Rattle.fm_args.specs.Telling.{asked_of};
+ghost use Rattle.fm_args.specs.Telling.{args_model};
 ghost use Rattle.fm_args.specs.Telling as told;
 ghost use Rattle.fm_serve.specs.declared.ending.Ending.TheVariants as ending;
-ghost use Rattle.fm_serve.specs.Answers.{IsNoScript, AnswersIn, LacksIn, IsOfScript, IsStopped, Wants, IsRefused, query_at, query_of};
+ghost use Rattle.fm_serve.specs.Answers.{IsNoScript, AnswersIn, LacksIn, IsOfScript, IsScriptStopped, Wants, IsCommandRefused, query_at, query_of};
 ghost use Rattle.fm_serve.specs.Endings.{coordinator_asked};
 ghost use Rattle.fm_serve.specs.Faults.{fault_of};
 
 use crate::ending::Ending;
 use crate::fault::Fault;
-use crate::progress::Progress;
+use crate::progress::RunProgress;
 use crate::respond::Answered;
 use crate::run::run;
 use fm_query::query::{Query, ask};
 use fm_query::unpack::unpack;
 use fm_edit::keepers::Keeper;
-use fm_script::reading::read_script;
+use fm_script::parse_script::read_script;
 use fm_script::script::Script;
 use fm_records::ids::{CoordId, TaskId};
 use fm_records::refusal::Refusal;
@@ -32,12 +32,12 @@ use std::alloc::Global;
 /// for is at fault, the first of these, or if memory runs out.
 pub fn answer(
     alloc: Global,
-    progress: &Progress,
+    progress: &RunProgress,
     command: Command,
     text: &[u8],
 ) -> Result<Answered, Fault>
-    ensures ok { IfOk result (λ a. Wants (asked_of command.entry) text.now a.ending a.output.items) }
-    ensures err { IfErr result (λ fault. IsRefused (asked_of command.entry) text.now fault) }
+    ensures ok { IfOk result (λ a. Wants (args_model command.entry) text.now a.ending a.output.items) }
+    ensures err { IfErr result (λ fault. IsCommandRefused (args_model command.entry) text.now fault) }
 {
     match command {
         Command::Unpack => unpacked(alloc, text),
@@ -50,7 +50,7 @@ pub fn answer(
 // The lines of the packet that the text spells.
 fn unpacked(alloc: Global, text: &[u8]) -> Result<Answered, Fault>
     ensures ok { IfOk result (λ a. Wants told.unpack text.now a.ending a.output.items) }
-    ensures err { IfErr result (λ fault. IsRefused told.unpack text.now fault) }
+    ensures err { IfErr result (λ fault. IsCommandRefused told.unpack text.now fault) }
 {
     match unpack(alloc, text) {
         Ok(lines) => Ok(Answered {
@@ -64,13 +64,13 @@ fn unpacked(alloc: Global, text: &[u8]) -> Result<Answered, Fault>
 // What the script's world answers once its steps ran.
 fn answer_script(
     alloc: Global,
-    progress: &Progress,
+    progress: &RunProgress,
     command: Command,
     text: &[u8],
 ) -> Result<Answered, Fault>
-    ensures ok { IfOk result (λ a. IsOfScript (asked_of command.entry) text.now a.ending a.output.items) }
+    ensures ok { IfOk result (λ a. IsOfScript (args_model command.entry) text.now a.ending a.output.items) }
     ensures err { IfErr result (λ fault. (fault ≡ fault_of refused.OutOfMemory)
-        ⊎ (IsNoScript text.now fault ⊎ IsStopped (asked_of command.entry) text.now fault)) }
+        ⊎ (IsNoScript text.now fault ⊎ IsScriptStopped (args_model command.entry) text.now fault)) }
 {
     let script = match script_in(alloc, text) {
         Ok(script) => script,
@@ -119,7 +119,7 @@ fn ending_of(differs: bool) -> Ending
 // The query of the command: none if no packet has the name. NoCoordinator if the coordinator that is asked is not
 // listed.
 fn query_of(command: Command, script: &Script) -> Result<Option<Query>, Fault>
-    ensures { result ≡ query_of (asked_of command.entry) script.now.coordinators.items script.now.names }
+    ensures { result ≡ query_of (args_model command.entry) script.now.coordinators.items script.now.names }
 {
     match command {
         Command::Ask { question, at } => match asked(&script.coordinators, at) {
@@ -154,7 +154,7 @@ fn query_at(question: Question, at: CoordId) -> Query
 // The script that the text spells.
 fn script_in(alloc: Global, text: &[u8]) -> Result<Script, Fault>
     ensures distinct { IfOk result (λ script. AreDistinct script.coordinators.items) }
-    ensures spelled { IfOk result (λ s. Spells text.now s.coordinators.items s.names s.steps.items) }
+    ensures spelled { IfOk result (λ s. IsScriptText text.now s.coordinators.items s.names s.steps.items) }
     ensures unread { IfErr result (λ fault. IsNoScript text.now fault) }
 {
     match read_script(alloc, text) {

@@ -6,10 +6,10 @@ ghost use Rattle.fm_script.specs.Texts.{SpellsTells};
 ghost use Rattle.fm_serve.specs.Fleets.{IsUntold, IsCounted, IsNotCounted};
 
 use crate::fault::Fault;
-use crate::progress::Progress;
+use crate::progress::RunProgress;
 use crate::muster::muster;
 use fm_script::script::Tells;
-use fm_script::telling::read_tells;
+use fm_script::parse_tells::read_tells;
 use std::alloc::Global;
 use std::sync::Wait;
 use std::thread::Threads;
@@ -19,7 +19,7 @@ use std::thread::Threads;
 pub fn count_fleet<T: Threads + Wait + Sync>(
     rt: &T,
     alloc: Global,
-    progress: &Progress,
+    progress: &RunProgress,
     rounds: u32,
     text: &[u8],
 ) -> Result<String, Fault>

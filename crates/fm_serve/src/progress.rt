@@ -7,16 +7,16 @@ use std::sync::atomic::{AtomicBool, AtomicU64, Ordering};
 /// thread may read: no contract says more of it, and nothing that is answered turns on it. Its `Display` says what
 /// was counted.
 #[derive(Drop)]
-pub struct Progress {
+pub struct RunProgress {
     done: AtomicU64,
     is_fleet: AtomicBool,
     is_hidden: AtomicBool,
 }
 
-impl Progress {
+impl RunProgress {
     /// Nothing is done.
-    pub fn new() -> Progress {
-        Progress {
+    pub fn new() -> RunProgress {
+        RunProgress {
             done: AtomicU64::new(0),
             is_fleet: AtomicBool::new(false),
             is_hidden: AtomicBool::new(false),
@@ -50,7 +50,7 @@ impl Progress {
     }
 }
 
-impl fmt::Display for Progress {
+impl fmt::Display for RunProgress {
     fn fmt<W: fmt::Write>(&self, f: &mut fmt::Formatter<W>) -> fmt::Result {
         let done = self.done.load(Ordering::SeqCst);
         let things = if self.is_fleet() { "rounds" } else { "steps" };

@@ -1,7 +1,7 @@
 //! What the program answers to its words and its input.
 
 ghost use Rattle.std.specs.Prelude.{◌≡◌, []};
-ghost use Rattle.fm_args.specs.Telling.{asked_of, told_of, Telling};
+ghost use Rattle.fm_args.specs.Telling.{args_model, told_of, Telling};
 ghost use Rattle.fm_args.specs.Telling as told;
 ghost use Rattle.fm_serve.specs.declared.ending.Ending.TheVariants as ending;
 ghost use Rattle.fm_serve.specs.Responses.{Responds};
@@ -10,7 +10,7 @@ use crate::answer::answer;
 use crate::ending::Ending;
 use crate::fault::Fault;
 use crate::fleet::count_fleet;
-use crate::progress::Progress;
+use crate::progress::RunProgress;
 use crate::refusals::REFUSALS;
 use fm_records::refusal::Refusal;
 use fm_args::words::{Command, Words};
@@ -46,7 +46,7 @@ impl Answered {
 pub fn respond<T: Threads + Wait + Sync>(
     rt: &T,
     alloc: Global,
-    progress: &Progress,
+    progress: &RunProgress,
     words: Words,
     text: &[u8],
 ) -> Answered
@@ -72,8 +72,8 @@ pub fn respond<T: Threads + Wait + Sync>(
 }
 
 // What a command answers to the text.
-fn run_command(alloc: Global, progress: &Progress, command: Command, text: &[u8]) -> Answered
-    ensures { Responds (told.run (asked_of command.entry)) text.now result.ending result.output.items }
+fn run_command(alloc: Global, progress: &RunProgress, command: Command, text: &[u8]) -> Answered
+    ensures { Responds (told.run (args_model command.entry)) text.now result.ending result.output.items }
 {
     match answer(alloc, progress, command, text) {
         Ok(answered) => answered,
@@ -85,7 +85,7 @@ fn run_command(alloc: Global, progress: &Progress, command: Command, text: &[u8]
 fn run_fleet<T: Threads + Wait + Sync>(
     rt: &T,
     alloc: Global,
-    progress: &Progress,
+    progress: &RunProgress,
     rounds: u32,
     text: &[u8],
 ) -> Answered

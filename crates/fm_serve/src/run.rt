@@ -5,17 +5,17 @@ ghost use Rattle.fm_world.specs.declared.step.Act.TheVariants as world_act;
 ghost use Rattle.fm_coord.specs.Numbers.{AreDistinct};
 ghost use Rattle.fm_world.specs.Worlds.{WorldOfSets, refusal_of};
 ghost use Rattle.fm_world.specs.Stands.{WorldStandsFor};
-ghost use Rattle.fm_script.specs.declared.script.Act.TheVariants as script_act;
-ghost use Rattle.fm_service.specs.Acting.{Makes, Fails};
-ghost use Rattle.fm_serve.specs.Running.{Acts, Come, Refuses, StopsIn, Stops, IsRun};
+ghost use Rattle.fm_script.specs.declared.script.ScriptAct.TheVariants as script_act;
+ghost use Rattle.fm_service.specs.Acting.{Makes, EnsuresErr};
+ghost use Rattle.fm_serve.specs.ScriptSteps.{ScriptActStep, Come, Refuses, StopsIn, StopsScript, IsRun};
 
 use crate::fault::Fault;
-use crate::progress::Progress;
+use crate::progress::RunProgress;
 use fm_edit::keepers::Keeper;
 use fm_service::acting::take_step;
-use fm_script::script::{Act, Script, Step};
-use fm_script::world::open;
-use fm_planner::planned::plan_for;
+use fm_script::script::{ScriptAct, Script, ScriptStep};
+use fm_script::initial_world::open;
+use fm_planner::plan_source::plan_for;
 use fm_records::refusal::Refusal;
 use fm_world::step::Act as WorldAct;
 use fm_world::world::World;
@@ -25,10 +25,10 @@ use std::alloc::Global;
 /// not listed, by NoPacket if no packet of the name was cut, else as the coordinator's call, and a round also if
 /// memory runs out for its plan. Else it is refused only if memory runs out. The caller must ensure that no two
 /// coordinators have one number.
-pub fn run(alloc: Global, progress: &Progress, script: &Script) -> Result<World<Keeper>, Fault>
+pub fn run(alloc: Global, progress: &RunProgress, script: &Script) -> Result<World<Keeper>, Fault>
     requires { AreDistinct script.now.coordinators.items }
     ensures ok { IfOk result (λ world. IsRun script.now.coordinators.items script.now.steps.items world) }
-    ensures err { IfErr result (λ fault. Stops script.now.coordinators.items script.now.steps.items fault) }
+    ensures err { IfErr result (λ fault. StopsScript script.now.coordinators.items script.now.steps.items fault) }
 {
     let mut world = open(alloc, &script.coordinators)?;
     take_all(alloc, progress, &mut world, &script.steps)?;
@@ -38,12 +38,12 @@ pub fn run(alloc: Global, progress: &Progress, script: &Script) -> Result<World<
 // Takes the steps in order, up to the first that is refused, and counts them.
 fn take_all(
     alloc: Global,
-    progress: &Progress,
+    progress: &RunProgress,
     world: &mut World<Keeper>,
-    steps: &[Step],
+    steps: &[ScriptStep],
 ) -> Result<(), Fault>
     ensures ok { Makes result world.old world.new (λ w v. Come w steps.now v) }
-    ensures err { Fails result world.old (λ w fault. StopsIn w steps.now fault) }
+    ensures err { EnsuresErr result world.old (λ w fault. StopsIn w steps.now fault) }
 {
     for (place, step) in steps.iter().enumerate() {
         if let Err(refusal) = take(alloc, world, step.at, step.act) {
@@ -58,23 +58,23 @@ fn take_all(
 }
 
 // What happens in a step.
-fn take(alloc: Global, world: &mut World<Keeper>, at: u8, act: Act) -> Result<(), Refusal>
-    ensures ok { Makes result world.old world.new (λ w v. Acts w at act v) }
-    ensures err { Fails result world.old (λ w refusal. Refuses w at act refusal) }
+fn take(alloc: Global, world: &mut World<Keeper>, at: u8, act: ScriptAct) -> Result<(), Refusal>
+    ensures ok { Makes result world.old world.new (λ w v. ScriptActStep w at act v) }
+    ensures err { EnsuresErr result world.old (λ w refusal. Refuses w at act refusal) }
 {
     match act {
-        Act::Tell(op) => take_step(world, at, WorldAct::Tell(op)),
-        Act::Cut(range) => take_step(world, at, WorldAct::Cut(range)),
-        Act::Deliver(packet) => take_step(world, at, WorldAct::Deliver(packet)),
-        Act::Trim(n) => take_step(world, at, WorldAct::Trim(n)),
-        Act::Round => round(alloc, world, at),
+        ScriptAct::Tell(op) => take_step(world, at, WorldAct::Tell(op)),
+        ScriptAct::Cut(range) => take_step(world, at, WorldAct::Cut(range)),
+        ScriptAct::Deliver(packet) => take_step(world, at, WorldAct::Deliver(packet)),
+        ScriptAct::Trim(n) => take_step(world, at, WorldAct::Trim(n)),
+        ScriptAct::Round => round(alloc, world, at),
     }
 }
 
 // A round: a look at what is known with the tally, the plan by that, and the commit of the plan.
 fn round(alloc: Global, world: &mut World<Keeper>, at: u8) -> Result<(), Refusal>
-    ensures ok { Makes result world.old world.new (λ w v. Acts w at script_act.Round v) }
-    ensures err { Fails result world.old (λ w refusal. Refuses w at script_act.Round refusal) }
+    ensures ok { Makes result world.old world.new (λ w v. ScriptActStep w at script_act.Round v) }
+    ensures err { EnsuresErr result world.old (λ w refusal. Refuses w at script_act.Round refusal) }
 {
     let sight = world.see(at, 0)?;
     let planned = plan_for(alloc, sight.tally.get(), sight.knowledge.get())?;

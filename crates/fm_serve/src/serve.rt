@@ -3,11 +3,11 @@
 ghost use Rattle.std.specs.Prelude.{◌≡◌, IfOk, IfErr, map, string_bytes};
 ghost use Rattle.fm_args.specs.Heard.{telling_of};
 ghost use Rattle.fm_args.specs.Telling.{told_of};
-ghost use Rattle.fm_serve.specs.Served.{IsServed, IsStoppedReading, IsStreamed, TakesIn, WentOut, reads, renewal_of};
+ghost use Rattle.fm_serve.specs.Output.{IsRunServed, IsStoppedReading, IsStreamed, ReadsAll, IsOutputWritten, reads, renewal_of};
 
 use crate::ending::Ending;
 use crate::fault::Fault;
-use crate::progress::Progress;
+use crate::progress::RunProgress;
 use crate::respond::{Answered, respond};
 use fm_service::stream::follow_stream;
 use fm_records::refusal::Refusal;
@@ -27,12 +27,12 @@ use std::thread::Threads;
 pub fn serve<T: Threads + Wait + Sync, S: Source, W: Sink>(
     rt: &T,
     alloc: Global,
-    progress: &Progress,
+    progress: &RunProgress,
     words: &[String],
     source: &mut S,
     sink: &mut W,
 ) -> Ending
-    ensures { IsServed (telling_of (map string_bytes words.now)) (source.new ≡ source.old) result (record {
+    ensures { IsRunServed (telling_of (map string_bytes words.now)) (source.new ≡ source.old) result (record {
       given = S.remaining source.old;
       left = S.remaining source.new;
       source_failed = S.has_failed source.new;
@@ -70,7 +70,7 @@ fn renewal_of(words: &Words) -> Option<u32>
 // Follows the stream of the source's lines to its end.
 fn follow_lines<S: Source, W: Sink>(
     alloc: Global,
-    progress: &Progress,
+    progress: &RunProgress,
     renew_after: u32,
     source: &mut S,
     sink: &mut W,
@@ -95,7 +95,7 @@ fn follow_lines<S: Source, W: Sink>(
 // The input that the words ask for. If they ask for none, nothing is read.
 fn input_for<S: Source>(alloc: Global, words: &Words, source: &mut S) -> Result<Vec<u8>, Refusal>
     ensures ok { IfOk result (λ text.
-        TakesIn (reads (told_of words.now)) (source.new ≡ source.old) (S.remaining source.old) text.items) }
+        ReadsAll (reads (told_of words.now)) (source.new ≡ source.old) (S.remaining source.old) text.items) }
     ensures err { IfErr result (λ refusal. IsStoppedReading (told_of words.now) refusal
         (S.remaining source.old) (S.remaining source.new) (S.has_failed source.new)) }
 {
@@ -109,7 +109,7 @@ fn input_for<S: Source>(alloc: Global, words: &Words, source: &mut S) -> Result<
 
 // Writes the complete output, and returns how the run ends.
 fn send_out<W: Sink>(answered: Answered, sink: &mut W) -> Ending
-    ensures { WentOut answered.ending answered.output.items result
+    ensures { IsOutputWritten answered.ending answered.output.items result
         (W.written sink.old) (W.written sink.new) (W.has_failed sink.old) (W.has_failed sink.new) }
 {
     let Answered { ending, output } = answered;

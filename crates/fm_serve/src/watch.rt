@@ -3,10 +3,10 @@
 
 ghost use Rattle.std.specs.Prelude.{◌≡◌, map, string_bytes};
 ghost use Rattle.fm_args.specs.Heard.{telling_of};
-ghost use Rattle.fm_serve.specs.Served.{IsServed};
+ghost use Rattle.fm_serve.specs.Output.{IsRunServed};
 
 use crate::ending::Ending;
-use crate::progress::Progress;
+use crate::progress::RunProgress;
 use crate::serve::serve;
 use fm_dimacs::out::Out;
 use fm_io::sink::Sink;
@@ -34,7 +34,7 @@ struct Shown {
 /// The line of a run, which its watcher writes and its writer takes away.
 #[derive(Drop)]
 struct Line<'a> {
-    progress: &'a Progress,
+    progress: &'a RunProgress,
     shown: Mutex<Shown>,
     over: Condvar,
 }
@@ -48,7 +48,7 @@ pub fn serve_watched<T: Threads + Wait + Clock + Eprint + Sync, S: Source + Drop
     source: S,
     sink: W,
 ) -> (Ending, S, W)
-    ensures { IsServed (telling_of (map string_bytes words.now)) (result.1 ≡ source) result.0 (record {
+    ensures { IsRunServed (telling_of (map string_bytes words.now)) (result.1 ≡ source) result.0 (record {
       given = S.remaining source;
       left = S.remaining result.1;
       source_failed = S.has_failed result.1;
@@ -58,14 +58,14 @@ pub fn serve_watched<T: Threads + Wait + Clock + Eprint + Sync, S: Source + Drop
       has_failed = W.has_failed result.2;
     }) }
 {
-    let progress = Progress::new();
+    let progress = RunProgress::new();
     let line = Line::new(&progress);
     let line = &line;
     thread::scope(
         thread::scope_env(),
         rt,
         move |scope| -> (Ending, S, W)
-            ensures { IsServed (telling_of (map string_bytes words.entry.now)) (result.1 ≡ source) result.0 (record {
+            ensures { IsRunServed (telling_of (map string_bytes words.entry.now)) (result.1 ≡ source) result.0 (record {
               given = S.remaining source;
               left = S.remaining result.1;
               source_failed = S.has_failed result.1;
@@ -92,7 +92,7 @@ fn serve_beside<T: Threads + Wait + Eprint + Sync, S: Source, W: Sink + Drop>(
     source: &mut S,
     sink: W,
 ) -> (Ending, W)
-    ensures { IsServed (telling_of (map string_bytes words.now)) (source.new ≡ source.old) result.0 (record {
+    ensures { IsRunServed (telling_of (map string_bytes words.now)) (source.new ≡ source.old) result.0 (record {
       given = S.remaining source.old;
       left = S.remaining source.new;
       source_failed = S.has_failed source.new;
@@ -110,7 +110,7 @@ fn serve_beside<T: Threads + Wait + Eprint + Sync, S: Source, W: Sink + Drop>(
 
 impl<'a> Line<'a> {
     // The line of a run that begins.
-    fn new(progress: &'a Progress) -> Line<'a> {
+    fn new(progress: &'a RunProgress) -> Line<'a> {
         Line {
             progress,
             shown: Mutex::new(Shown {
@@ -160,7 +160,7 @@ impl<'a> Line<'a> {
 
 impl Shown {
     // Writes the line over the present one. A terminal that fails changes nothing.
-    fn write<R: Eprint>(&mut self, rt: &R, progress: &Progress) {
+    fn write<R: Eprint>(&mut self, rt: &R, progress: &RunProgress) {
         let _ = eprint!(rt; "\r{progress}\x1b[K");
         self.stands = true;
     }

@@ -6,7 +6,7 @@ use Rattle.fm_records.specs.declared.refusal.Refusal.{Refusal}
 use Rattle.fm_delta.specs.declared.packet.Packet.{Packet}
 use Rattle.fm_io.specs.Replies.{accepted_reply, refusal_reply}
 use Rattle.fm_service.specs.declared.session.Session.{Session}
-use Rattle.fm_service.specs.declared.follower.Follower.{Follower}
+use Rattle.fm_service.specs.declared.stream_service.StreamService.{StreamService}
 use Rattle.fm_service.specs.Following.{Following, StandBehind, Answers, IsRefused}
 use Rattle.fm_service.specs.Sessions.{SessionAt, Accepts, Rejects, Begins, IsIn, AnswersSo}
 
@@ -14,7 +14,7 @@ use Rattle.fm_service.specs.Sessions.{SessionAt, Accepts, Rejects, Begins, IsIn,
 abbrev Goes : ℕ → (Packet → List Op) → Option Session → List ℕ → List ℕ → Option Following → Type 0
 Goes most behind new line answer k = (next : Option Following) × Answers most behind k line answer next × IsIn new next
 
-module _ (old new : Follower) (line : List ℕ) (most : new.renew_after ≡ old.renew_after) where
+module _ (old new : StreamService) (line : List ℕ) (most : new.renew_after ≡ old.renew_after) where
   -- coordinators answer
   module _ (d e : Session) (was : old.session ≡ Some d) (is : new.session ≡ Some e) (whole : e ≡ d → new ≡ old) where
     accept : (text : Vec ℕ) → Accepts old.renew_after (Ok text) d e line → (behind : Packet → List Op) → StandBehind behind → (k : Option Following) → IsIn (Some d) k
@@ -44,7 +44,7 @@ module _ (old new : Follower) (line : List ℕ) (most : new.renew_after ≡ old.
 
     refuse : (refusal : Refusal) → IsRefused None line (refusal_reply refusal) None → new ≡ old → (behind : Packet → List Op) → (k : Option Following) → IsIn None k
         → Goes old.renew_after behind new.session line (refusal_reply refusal) k
-    refuse refusal rej same behind None here = (None, inr rej, subst (λ (x : Follower). IsIn x.session None) (sym same) (subst (λ o. IsIn o None) (sym was) tt))
+    refuse refusal rej same behind None here = (None, inr rej, subst (λ (x : StreamService). IsIn x.session None) (sym same) (subst (λ o. IsIn o None) (sym was) tt))
     refuse refusal rej same behind (Some k) here = absurd here
 
     pub by_list : (r : Result (Vec ℕ) Refusal) → Begins old.renew_after r new line → IfErr r (λ e. IsRefused None line (refusal_reply e) None) → OnErr r (new ≡ old)

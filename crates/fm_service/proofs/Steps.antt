@@ -6,8 +6,8 @@ use Rattle.fm_records.specs.declared.refusal.Refusal.{Refusal}
 use Rattle.fm_records.specs.declared.refusal.Refusal.TheVariants.{OutOfMemory, NoCoordinator}
 use Rattle.fm_records.specs.Options.{or_else}
 use Rattle.fm_delta.specs.declared.packet.Packet.{Packet}
-use Rattle.fm_round.specs.declared.parts.Plan.{Plan}
-use Rattle.fm_round.specs.declared.parts.Admitted.{Admitted}
+use Rattle.fm_round.specs.declared.plan.Plan.{Plan}
+use Rattle.fm_round.specs.declared.plan.Admitted.{Admitted}
 use Rattle.fm_round.specs.Admission.{admission}
 use Rattle.fm_round.specs.Schedules.{IsPlanOf}
 use Rattle.fm_coord.specs.declared.entry.Call.TheVariants as call
@@ -27,12 +27,12 @@ use Rattle.fm_world.specs.Stands.{Kept, WorldStandsFor, state_with}
 use Rattle.fm_world.proofs.Places.{Stood, stood, absent}
 use Rattle.fm_script.specs.declared.request.Topic.{Topic}
 use Rattle.fm_script.specs.declared.request.Topic.TheVariants as topic
-use Rattle.fm_query.specs.Texts.{line_of}
+use Rattle.fm_query.specs.QueryTexts.{line_of}
 use Rattle.fm_query.specs.declared.query.Query.TheVariants as query
 use Rattle.fm_query.specs.Queries.{IsUnanswered}
-use Rattle.fm_query.specs.Rounds.{round_text}
-use Rattle.fm_service.specs.Following.{query_at, news_since, news_of}
-use Rattle.fm_service.specs.Acting.{step_at, Takes, IsCutLine, Rounds}
+use Rattle.fm_query.specs.RoundText.{round_text}
+use Rattle.fm_service.specs.Following.{topic_query_at, news_since, news_of}
+use Rattle.fm_service.specs.Acting.{step_at, WorldStep, IsCutLine, StreamRoundStep}
 
 -- the coordinator with the number has the number
 numbered_by : (b : Bool) (x s : State) (n : ℕ) (rest : Option State) → (x.number == n) ≡ b → cond b (Some x) rest ≡ Some s → (rest ≡ Some s → s.number ≡ n) → s.number ≡ n
@@ -44,7 +44,7 @@ numbered_so [] n s e = absurd (let no : ⊥ = cc in no)
 numbered_so (x ∷ ss) n s e = numbered_by (x.number == n) x s n (state_with ss n) refl e (numbered_so ss n s)
 
 -- a question about no coordinator
-unanswered : (t : Topic) (at : ℕ) (w : WorldOfSets) → with_number w.replicas at ≡ None → IsUnanswered (query_at t at) w NoCoordinator
+unanswered : (t : Topic) (at : ℕ) (w : WorldOfSets) → with_number w.replicas at ≡ None → IsUnanswered (topic_query_at t at) w NoCoordinator
 unanswered topic.Graph at w none = inr (none, refl)
 unanswered topic.Solve at w none = inr (none, refl)
 unanswered topic.Plan at w none = inr (none, refl)
@@ -71,7 +71,7 @@ module _ (k : Kept) (w : WorldOfSets) (at : ℕ) (h : WorldStandsFor k w) where
   pub nobody_there : None ≡ state_with k.coordinators at → (a : Act) → NoCoordinator ≡ refusal_of w (step_at at a)
   nobody_there none a = ap (λ o. or_else OutOfMemory (cause_at o (event_asked w.packets a))) (sym (absent at k.coordinators w.replicas h.coordinators (sym none)))
 
-  pub nobody_asked : None ≡ state_with k.coordinators at → (t : Topic) → IsUnanswered (query_at t at) w NoCoordinator
+  pub nobody_asked : None ≡ state_with k.coordinators at → (t : Topic) → IsUnanswered (topic_query_at t at) w NoCoordinator
   nobody_asked none t = unanswered t at w (absent at k.coordinators w.replicas h.coordinators (sym none))
 
   pub nobody_explains : None ≡ state_with k.coordinators at → (task : ℕ) → IsUnanswered (query.Why at task) w NoCoordinator
@@ -112,7 +112,7 @@ module _ (k : Kept) (w : WorldOfSets) (at : ℕ) (h : WorldStandsFor k w) where
 
     -- a round
     pub round_told : (plan : Plan) (answered : Admitted) (text : List ℕ) (v : WorldOfSets) → IsPlanOf s.knowledge plan → answered ≡ admission s.knowledge s.number plan
-        → text ≡ round_text plan answered → Takes w (step_at at (act.Commit plan)) v → Rounds w at text v
+        → text ≡ round_text plan answered → WorldStep w (step_at at (act.Commit plan)) v → StreamRoundStep w at text v
     round_told plan answered text v plan_of is told commit =
         let known = here.stands.knowledge in
         let number = here.stands.number in

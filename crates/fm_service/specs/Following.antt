@@ -15,19 +15,19 @@ use Rattle.fm_world.specs.declared.step.Act.{Act as WorldAct}
 use Rattle.fm_world.specs.declared.step.Act.TheVariants as world
 use Rattle.fm_world.specs.Worlds.{WorldOfSets, with_number, cause_of, refusal_of, taken_in}
 use Rattle.fm_world.specs.Stands.{Kept, WorldStandsFor}
-use Rattle.fm_script.specs.declared.script.Act.{Act}
-use Rattle.fm_script.specs.declared.script.Act.TheVariants as act
+use Rattle.fm_script.specs.declared.script.ScriptAct.{ScriptAct}
+use Rattle.fm_script.specs.declared.script.ScriptAct.TheVariants as act
 use Rattle.fm_script.specs.declared.request.Topic.{Topic}
 use Rattle.fm_script.specs.declared.request.Topic.TheVariants as topic
 use Rattle.fm_script.specs.Script.{is_named}
-use Rattle.fm_script.specs.Requests.{Asked, Opens, Does, Cuts, News, Takes, Asks, Explains, Agrees, Renews, Requests, RequestsNothing}
+use Rattle.fm_script.specs.Requests.{RequestModel, Opens, Does, Cuts, News, Takes, Asks, Explains, Agrees, Renews, Requests, RequestsNothing}
 use Rattle.fm_query.specs.declared.query.Query.{Query}
 use Rattle.fm_query.specs.declared.query.Query.TheVariants as query
 use Rattle.fm_query.specs.Queries.{IsText, IsUnanswered}
 use Rattle.fm_query.specs.Unpacked.{IsPacketIn, IsNoPacketIn}
 use Rattle.fm_io.specs.Replies.{accepted_reply, refusal_reply}
 use Rattle.fm_script.specs.Openings.{new_world}
-use Rattle.fm_service.specs.Acting.{step_at, Rounds}
+use Rattle.fm_service.specs.Acting.{step_at, StreamRoundStep}
 use Rattle.fm_service.specs.Acting as acting
 use Rattle.fm_service.specs.Renewing.{renewed_world}
 
@@ -59,9 +59,9 @@ abbrev pub at_world : Following → WorldOfSets → Following
 at_world k w = record { named = k.named; marks = k.marks; world = w }
 
 -- the names that packets have; none before the line that lists the coordinators
-abbrev pub names_in : Option Following → List (List ℕ)
-names_in None = []
-names_in (Some k) = k.named.names
+abbrev pub cut_names_in : Option Following → List (List ℕ)
+cut_names_in None = []
+cut_names_in (Some k) = k.named.names
 
 -- what may stand behind packets from elsewhere: for each, operations whose table is what it says
 abbrev pub StandBehind : (Packet → List Op) → Type 0
@@ -76,22 +76,22 @@ abbrev pub but_behind : Packet → List Op → (Packet → List Op) → Packet �
 but_behind p S behind q = cond (same_packet q p) S (behind q)
 
 -- the number of the packet whose name has the place; if none has, a number after those of all packets
-abbrev pub number_at : Following → ℕ → ℕ
-number_at k place = unwrap_or (slice_get k.named.numbers place) (length k.world.packets)
+abbrev pub packet_number_at : Following → ℕ → ℕ
+packet_number_at k place = unwrap_or (slice_get k.named.numbers place) (length k.world.packets)
 
 -- what a step as in a script asks a coordinator for; a round is refused as a view would be
-abbrev pub asked_for : Following → Act → WorldAct
+abbrev pub asked_for : Following → ScriptAct → WorldAct
 asked_for k (act.Tell op) = world.Tell op
 asked_for k (act.Cut range) = world.Cut range
-asked_for k (act.Deliver place) = world.Deliver (number_at k place)
+asked_for k (act.Deliver place) = world.Deliver (packet_number_at k place)
 asked_for k (act.Trim n) = world.Trim n
 asked_for k act.Round = world.View
 
 -- what a step as in a script makes of the world, and its text
-abbrev pub Acts : Following → ℕ → Act → List ℕ → WorldOfSets → Type 0
-Acts k at (act.Cut range) text v = acting.Cuts k.world at range text v
-Acts k at act.Round text v = Rounds k.world at text v
-Acts k at a text v = (text ≡ []) × acting.Takes k.world (step_at at (asked_for k a)) v
+abbrev pub StreamActStep : Following → ℕ → ScriptAct → List ℕ → WorldOfSets → Type 0
+StreamActStep k at (act.Cut range) text v = acting.Cuts k.world at range text v
+StreamActStep k at act.Round text v = StreamRoundStep k.world at text v
+StreamActStep k at a text v = (text ≡ []) × acting.WorldStep k.world (step_at at (asked_for k a)) v
 
 -- the names after a cut
 abbrev pub named_by : Following → Option (List ℕ) → Named
@@ -114,34 +114,34 @@ pub record Tells (k : Following) (at : ℕ) (text : List ℕ) (j : Following) : 
   pub is : j ≡ record { named = k.named; marks = slice_set k.marks at (length replica.buffer); world = v }
 
 -- a packet from elsewhere is taken in, and makes j of k
-pub record TakesIn (behind : Packet → List Op) (k : Following) (at : ℕ) (digits : List ℕ) (j : Following) : Type 0 where
+pub record ImportStep (behind : Packet → List Op) (k : Following) (at : ℕ) (digits : List ℕ) (j : Following) : Type 0 where
   pub packet : Packet
   pub spelled : IsPacketIn digits packet
   pub accepted : cause_of k.world (step_at at (world.Take packet)) ≡ None
   pub is : j ≡ at_world k (taken_in k.world at 0 (packet_by_ops behind packet))
 
 -- the query of a topic about the coordinator with the number
-abbrev pub query_at : Topic → ℕ → Query
-query_at topic.Graph n = query.Graph n
-query_at topic.Solve n = query.Solve n
-query_at topic.Plan n = query.Plan n
-query_at topic.Winners n = query.Winners n
-query_at topic.Stops n = query.Stops n
+abbrev pub topic_query_at : Topic → ℕ → Query
+topic_query_at topic.Graph n = query.Graph n
+topic_query_at topic.Solve n = query.Solve n
+topic_query_at topic.Plan n = query.Plan n
+topic_query_at topic.Winners n = query.Winners n
+topic_query_at topic.Stops n = query.Stops n
 
 -- what a request makes of a stream that has its coordinators, and its text
-abbrev pub DoesAt : (Packet → List Op) → Following → Asked → List ℕ → Following → Type 0
+abbrev pub DoesAt : (Packet → List Op) → Following → RequestModel → List ℕ → Following → Type 0
 DoesAt behind k (Opens listed) text j = ⊥
-DoesAt behind k (Does step) text j = (v : WorldOfSets) × Acts k step.at step.act text v × (j ≡ at_world k v)
+DoesAt behind k (Does step) text j = (v : WorldOfSets) × StreamActStep k step.at step.act text v × (j ≡ at_world k v)
 DoesAt behind k (Cuts at range name) text j = (v : WorldOfSets) × acting.Cuts k.world at range text v × (j ≡ record { named = named_by k name; marks = k.marks; world = v })
 DoesAt behind k (News at) text j = Tells k at text j
-DoesAt behind k (Takes at digits) text j = (text ≡ []) × TakesIn behind k at digits j
-DoesAt behind k (Asks at topic) text j = IsText (query_at topic at) k.world text × (j ≡ k)
+DoesAt behind k (Takes at digits) text j = (text ≡ []) × ImportStep behind k at digits j
+DoesAt behind k (Asks at topic) text j = IsText (topic_query_at topic at) k.world text × (j ≡ k)
 DoesAt behind k (Explains at task) text j = IsText (query.Why at task) k.world text × (j ≡ k)
 DoesAt behind k Agrees text j = IsText query.Agree k.world text × (j ≡ k)
 DoesAt behind k Renews text j = (text ≡ []) × (j ≡ fresh (renewed_world k.world))
 
 -- the same of any stream: the first request lists the coordinators
-abbrev pub DoesIn : (Packet → List Op) → Option Following → Asked → List ℕ → Option Following → Type 0
+abbrev pub DoesIn : (Packet → List Op) → Option Following → RequestModel → List ℕ → Option Following → Type 0
 DoesIn behind None (Opens listed) text new = (text ≡ []) × (new ≡ Some (fresh (new_world listed)))
 DoesIn behind None asked text new = ⊥
 DoesIn behind (Some k) asked text new = (j : Following) × DoesAt behind k asked text j × (new ≡ Some j)
@@ -152,20 +152,20 @@ news_of mark None = Full
 news_of mark (Some r) = news_since mark r
 
 -- why a stream that has its coordinators refuses a request
-abbrev pub RefusesAt : Following → Asked → Refusal → Type 0
+abbrev pub RefusesAt : Following → RequestModel → Refusal → Type 0
 RefusesAt k (Opens listed) e = e ≡ BadScript 0
 RefusesAt k (Does step) e = e ≡ refusal_of k.world (step_at step.at (asked_for k step.act))
 RefusesAt k (Cuts at range None) e = e ≡ refusal_of k.world (step_at at (world.Cut range))
 RefusesAt k (Cuts at range (Some name)) e = (e ≡ refusal_of k.world (step_at at (world.Cut range))) ⊎ (IsTrue (is_named k.named.names name) × (e ≡ BadScript 0))
 RefusesAt k (News at) e = e ≡ refusal_of k.world (step_at at (world.Cut (news_of (mark_at k at) (with_number k.world.replicas at))))
 RefusesAt k (Takes at digits) e = IsNoPacketIn digits e ⊎ ((packet : Packet) × IsPacketIn digits packet × (e ≡ refusal_of k.world (step_at at (world.Take packet))))
-RefusesAt k (Asks at topic) e = IsUnanswered (query_at topic at) k.world e
+RefusesAt k (Asks at topic) e = IsUnanswered (topic_query_at topic at) k.world e
 RefusesAt k (Explains at task) e = IsUnanswered (query.Why at task) k.world e
 RefusesAt k Agrees e = IsUnanswered query.Agree k.world e
 RefusesAt k Renews e = e ≡ OutOfMemory
 
 -- the same of any stream: before the coordinators are listed there is no other request
-abbrev pub RefusesIn : Option Following → Asked → Refusal → Type 0
+abbrev pub RefusesIn : Option Following → RequestModel → Refusal → Type 0
 RefusesIn None (Opens listed) e = e ≡ OutOfMemory
 RefusesIn None asked e = e ≡ BadScript 0
 RefusesIn (Some k) asked e = RefusesAt k asked e
@@ -180,8 +180,8 @@ Settles most made new = (new ≡ made) ⊎ ((k : Following) × (made ≡ Some k)
 
 -- a line is accepted: what it asks for is done, and its text told
 pub record IsAccepted (most : ℕ) (behind : Packet → List Op) (old : Option Following) (line answer : List ℕ) (new : Option Following) : Type 0 where
-  pub asked : Asked
-  pub requests : Requests (names_in old) line asked
+  pub asked : RequestModel
+  pub requests : Requests (cut_names_in old) line asked
   pub text : List ℕ
   pub made : Option Following
   pub does : DoesIn behind old asked text made
@@ -191,7 +191,7 @@ pub record IsAccepted (most : ℕ) (behind : Packet → List Op) (old : Option F
 -- a line is refused: it asks for nothing, or for what is refused; nothing changes
 pub record IsRefused (old : Option Following) (line answer : List ℕ) (new : Option Following) : Type 0 where
   pub refusal : Refusal
-  pub cause : RequestsNothing (names_in old) line refusal ⊎ ((asked : Asked) × Requests (names_in old) line asked × RefusesIn old asked refusal)
+  pub cause : RequestsNothing (cut_names_in old) line refusal ⊎ ((asked : RequestModel) × Requests (cut_names_in old) line asked × RefusesIn old asked refusal)
   pub is : answer ≡ refusal_reply refusal
   pub same : new ≡ old
 
@@ -200,7 +200,7 @@ abbrev pub Answers : ℕ → (Packet → List Op) → Option Following → List 
 Answers most behind old line answer new = IsAccepted most behind old line answer new ⊎ IsRefused old line answer new
 
 -- the world, the names and the marks are those of the stream
-pub record IsAt (world : Kept) (named : Named) (marks : List ℕ) (k : Following) : Type 0 where
+pub record IsStreamState (world : Kept) (named : Named) (marks : List ℕ) (k : Following) : Type 0 where
   pub stands : WorldStandsFor world k.world
   pub named_is : named ≡ k.named
   pub marks_is : marks ≡ k.marks

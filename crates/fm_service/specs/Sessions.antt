@@ -4,24 +4,24 @@ use Rattle.std.specs.Global.{Vec}
 use Rattle.fm_records.specs.declared.ops.Op.{Op}
 use Rattle.fm_records.specs.declared.refusal.Refusal.{Refusal}
 use Rattle.fm_delta.specs.declared.packet.Packet.{Packet}
-use Rattle.fm_script.specs.Requests.{Asked}
+use Rattle.fm_script.specs.Requests.{RequestModel}
 use Rattle.fm_io.specs.Replies.{accepted_reply, refusal_reply}
 use Rattle.fm_service.specs.declared.session.Session.{Session}
-use Rattle.fm_service.specs.declared.follower.Follower.{Follower}
-use Rattle.fm_service.specs.Following.{Following, StandBehind, DoesAt, RefusesAt, IsAccepted, IsRefused, Answers, IsAt}
+use Rattle.fm_service.specs.declared.stream_service.StreamService.{StreamService}
+use Rattle.fm_service.specs.Following.{Following, StandBehind, DoesAt, RefusesAt, IsAccepted, IsRefused, Answers, IsStreamState}
 
 abbrev pub SessionAt : Session → Following → Type 0
-SessionAt d k = IsAt d.world d.named d.marks k
+SessionAt d k = IsStreamState d.world d.named d.marks k
 
 -- of a call that answers a request by a text: wherever the stream was, and whatever stands behind packets, it is where the request leads
-abbrev pub Goes : Result (Vec ℕ) Refusal → Session → Session → Asked → Type 0
+abbrev pub Goes : Result (Vec ℕ) Refusal → Session → Session → RequestModel → Type 0
 Goes result old new asked =
     (behind : Packet → List Op) → StandBehind behind → (k : Following) → SessionAt old k
     → IfOk result (λ text. (j : Following) × DoesAt behind k asked text.items j × SessionAt new j)
 
 -- of a call that refuses a request: why
-abbrev pub Stops : {T : Type 0} → Result T Refusal → Session → Asked → Type 0
-Stops result old asked = (k : Following) → SessionAt old k → IfErr result (RefusesAt k asked)
+abbrev pub StopsRequest : {T : Type 0} → Result T Refusal → Session → RequestModel → Type 0
+StopsRequest result old asked = (k : Following) → SessionAt old k → IfErr result (RefusesAt k asked)
 
 -- of a call that answers a line by a text
 abbrev pub Accepts : ℕ → Result (Vec ℕ) Refusal → Session → Session → List ℕ → Type 0
@@ -41,12 +41,12 @@ IsIn None (Some k) = ⊥
 IsIn (Some d) None = ⊥
 
 -- of a call that answers a line before which there are no coordinators
-abbrev pub Begins : ℕ → Result (Vec ℕ) Refusal → Follower → List ℕ → Type 0
+abbrev pub Begins : ℕ → Result (Vec ℕ) Refusal → StreamService → List ℕ → Type 0
 Begins most result new line =
     (behind : Packet → List Op) → IfOk result (λ text. (j : Following) × IsAccepted most behind None line (accepted_reply text.items) (Some j) × IsIn new.session (Some j))
 
 -- the answer to a line, and what it leaves: whatever stands behind packets from elsewhere, and wherever the stream is by that
-pub record AnswersSo (old : Follower) (line answer : List ℕ) (new : Follower) : Type 0 where
+pub record AnswersSo (old : StreamService) (line answer : List ℕ) (new : StreamService) : Type 0 where
   pub most : new.renew_after ≡ old.renew_after
   pub so : (behind : Packet → List Op) → StandBehind behind → (k : Option Following) → IsIn old.session k
       → (next : Option Following) × Answers old.renew_after behind k line answer next × IsIn new.session next

@@ -5,11 +5,11 @@ ghost use Rattle.fm_round.specs.Schedules.{IsPlanOf};
 ghost use Rattle.fm_world.specs.declared.step.Act.TheVariants as act;
 ghost use Rattle.fm_world.specs.Worlds.{WorldOfSets, cause_of, refusal_of};
 ghost use Rattle.fm_world.specs.Stands.{WorldStandsFor};
-ghost use Rattle.fm_service.specs.Acting.{step_at, Takes, Rounds, IsCutLine, Makes, Fails};
+ghost use Rattle.fm_service.specs.Acting.{step_at, WorldStep, StreamRoundStep, IsCutLine, Makes, EnsuresErr};
 
-use fm_query::packets::packet_line;
-use fm_query::rounds::round_text;
-use fm_query::solution::least_plan_of;
+use fm_query::packet_text::packet_line;
+use fm_query::round_text::round_text;
+use fm_query::solution_text::least_plan_of;
 use fm_coord::entry::Range;
 use fm_edit::keepers::Keeper;
 use fm_records::refusal::Refusal;
@@ -19,8 +19,8 @@ use std::alloc::Global;
 
 /// Takes one step at the coordinator. NoCoordinator, NoPacket, or as the coordinator's call; then nothing has changed.
 pub fn take_step(world: &mut World<Keeper>, at: u8, act: Act) -> Result<(), Refusal>
-    ensures ok { Makes result world.old world.new (λ w v. Takes w (step_at at act) v) }
-    ensures err { Fails result world.old (λ w refusal. refusal ≡ refusal_of w (step_at at act)) }
+    ensures ok { Makes result world.old world.new (λ w v. WorldStep w (step_at at act) v) }
+    ensures err { EnsuresErr result world.old (λ w refusal. refusal ≡ refusal_of w (step_at at act)) }
     ensures unchanged { OnErr result (world.new ≡ world.old) }
 {
     match world.step(&Step { at, by: 0, act }) {
@@ -41,7 +41,7 @@ pub(crate) fn cut_line(
         → IfOk result (λ text. IsCutLine w at range text.items) }
     ensures accepted { (w : WorldOfSets) → WorldStandsFor world.now w
         → OnOk result (cause_of w (step_at at (act.Cut range)) ≡ None) }
-    ensures err { Fails result world.now (λ w refusal. refusal ≡ refusal_of w (step_at at (act.Cut range))) }
+    ensures err { EnsuresErr result world.now (λ w refusal. refusal ≡ refusal_of w (step_at at (act.Cut range))) }
 {
     let Some(coordinator) = world.numbered(at) else {
         return Err(Refusal::NoCoordinator);
@@ -56,8 +56,8 @@ pub(crate) fn cut_line(
 /// admitting the plan twice by the tally.
 pub(crate) fn round(alloc: Global, world: &mut World<Keeper>, at: u8) -> Result<Vec<u8>, Refusal>
     ensures ok { (w : WorldOfSets) → WorldStandsFor world.old w
-        → IfOk result (λ text. (v : WorldOfSets) × Rounds w at text.items v × WorldStandsFor world.new v) }
-    ensures err { Fails result world.old (λ w refusal. refusal ≡ refusal_of w (step_at at act.View)) }
+        → IfOk result (λ text. (v : WorldOfSets) × StreamRoundStep w at text.items v × WorldStandsFor world.new v) }
+    ensures err { EnsuresErr result world.old (λ w refusal. refusal ≡ refusal_of w (step_at at act.View)) }
     ensures unchanged { OnErr result (world.new ≡ world.old) }
 {
     world.refresh_tally(at);
@@ -67,8 +67,8 @@ pub(crate) fn round(alloc: Global, world: &mut World<Keeper>, at: u8) -> Result<
 // The round, with the tally or without.
 fn planned_round(alloc: Global, world: &mut World<Keeper>, at: u8) -> Result<Vec<u8>, Refusal>
     ensures ok { (w : WorldOfSets) → WorldStandsFor world.old w
-        → IfOk result (λ text. (v : WorldOfSets) × Rounds w at text.items v × WorldStandsFor world.new v) }
-    ensures err { Fails result world.old (λ w refusal. refusal ≡ refusal_of w (step_at at act.View)) }
+        → IfOk result (λ text. (v : WorldOfSets) × StreamRoundStep w at text.items v × WorldStandsFor world.new v) }
+    ensures err { EnsuresErr result world.old (λ w refusal. refusal ≡ refusal_of w (step_at at act.View)) }
     ensures unchanged { OnErr result (world.new ≡ world.old) }
 {
     let Some(coordinator) = world.numbered(at) else {

@@ -4,11 +4,11 @@ ghost use Rattle.std.specs.Prelude.{◌≡◌, List};
 ghost use Rattle.fm_records.specs.declared.ops.Op.{Op};
 ghost use Rattle.fm_records.specs.Know.{know};
 ghost use Rattle.fm_records.specs.Sets.{HaveSameMembers};
-ghost use Rattle.fm_records.specs.Spelled.{ops};
+ghost use Rattle.fm_records.specs.OpsOfTable.{ops};
 ghost use Rattle.fm_delta.specs.declared.packet.Packet.{Packet};
 ghost use Rattle.fm_coord.specs.Events.{Replica, Sent};
 ghost use Rattle.fm_coord.specs.Replays.{seen_packet};
-ghost use Rattle.fm_query.specs.Texts.{graph_of, winners_of};
+ghost use Rattle.fm_query.specs.QueryTexts.{graph_of, winners_of};
 ghost use Rattle.fm_service.specs.Following.{StandBehind, but_behind};
 ghost use Rattle.fm_service.specs.Renewing.{renewed_replica};
 

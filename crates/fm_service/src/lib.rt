@@ -2,9 +2,9 @@
 #![tactic(auto)]
 
 pub mod acting;
-pub mod follower;
+pub mod stream_service;
 pub mod laws;
-mod named;
+mod cut_names;
 pub mod renewing;
 mod session;
 pub mod stream;

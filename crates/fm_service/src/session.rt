@@ -6,25 +6,25 @@ ghost use Rattle.fm_coord.specs.declared.entry.Range.TheVariants as range;
 ghost use Rattle.fm_world.specs.Worlds.{WorldOfSets, refusal_of};
 ghost use Rattle.fm_world.specs.Stands.{WorldStandsFor, state_of, AllStand};
 ghost use Rattle.fm_coord.specs.Events.{Replica};
-ghost use Rattle.fm_script.specs.declared.script.Act.TheVariants as act;
-ghost use Rattle.fm_script.specs.Requests.{asked_of};
+ghost use Rattle.fm_script.specs.declared.script.ScriptAct.TheVariants as act;
+ghost use Rattle.fm_script.specs.Requests.{request_model};
 ghost use Rattle.fm_script.specs.Requests as asked;
-ghost use Rattle.fm_service.specs.Acting.{step_at, Takes};
-ghost use Rattle.fm_service.specs.Following.{Following, at_world, number_at, is_due, query_at, fresh};
+ghost use Rattle.fm_service.specs.Acting.{step_at, WorldStep};
+ghost use Rattle.fm_service.specs.Following.{Following, at_world, packet_number_at, is_due, topic_query_at, fresh};
 ghost use Rattle.fm_service.specs.Renewing.{renewed_world};
-ghost use Rattle.fm_service.specs.Sessions.{SessionAt, Goes, Stops, Accepts, Rejects};
+ghost use Rattle.fm_service.specs.Sessions.{SessionAt, Goes, StopsRequest, Accepts, Rejects};
 
 use crate::acting::{cut_line, round, take_step};
-use crate::named::NamedPackets;
+use crate::cut_names::NamedPackets;
 use crate::renewing::renewed;
-use fm_query::packets::packet_in;
-use fm_query::query::{Answer, Query, ask};
+use fm_query::packet_text::packet_in;
+use fm_query::query::{QueryAnswer, Query, ask};
 use fm_coord::coordinator::Coordinator;
 use fm_coord::entry::Range;
 use fm_edit::keepers::Keeper;
 use fm_script::request::{Request, Topic};
-use fm_script::requesting::read_request;
-use fm_script::script::{Act, Step};
+use fm_script::parse_request::read_request;
+use fm_script::script::{ScriptAct, ScriptStep};
 use fm_know::laws::law_can_be;
 use fm_records::ids::{CoordId, TaskId};
 use fm_records::refusal::Refusal;
@@ -63,15 +63,15 @@ impl Session {
         ensures unchanged { OnErr result (self.new ≡ self.old) }
     {
         let request = read_request(self.alloc, line, self.named.names())?;
-        let text = self.take(request)?;
+        let text = self.execute(request)?;
         self.settle(most);
         Ok(text)
     }
 
     // Does what is requested.
-    fn take(&mut self, request: Request) -> Result<Vec<u8>, Refusal>
-        ensures ok { Goes result self.old self.new (asked_of request) }
-        ensures err { Stops result self.old (asked_of request) }
+    fn execute(&mut self, request: Request) -> Result<Vec<u8>, Refusal>
+        ensures ok { Goes result self.old self.new (request_model request) }
+        ensures err { StopsRequest result self.old (request_model request) }
         ensures unchanged { OnErr result (self.new ≡ self.old) }
     {
         match request {
@@ -91,28 +91,28 @@ impl Session {
     }
 
     // A step as in a script.
-    fn act(&mut self, step: Step) -> Result<Vec<u8>, Refusal>
+    fn act(&mut self, step: ScriptStep) -> Result<Vec<u8>, Refusal>
         ensures ok { Goes result self.old self.new (asked.Does step) }
-        ensures err { Stops result self.old (asked.Does step) }
+        ensures err { StopsRequest result self.old (asked.Does step) }
         ensures unchanged { OnErr result (self.new ≡ self.old) }
     {
-        let Step { at, act } = step;
+        let ScriptStep { at, act } = step;
         match act {
-            Act::Tell(op) => self.step(at, WorldAct::Tell(op)),
-            Act::Deliver(place) => {
+            ScriptAct::Tell(op) => self.step(at, WorldAct::Tell(op)),
+            ScriptAct::Deliver(place) => {
                 let number = self.number_at(place);
                 self.step(at, WorldAct::Deliver(number))
             }
-            Act::Trim(n) => self.step(at, WorldAct::Trim(n)),
-            Act::Cut(range) => self.cut(at, range),
-            Act::Round => self.round(at),
+            ScriptAct::Trim(n) => self.step(at, WorldAct::Trim(n)),
+            ScriptAct::Cut(range) => self.cut(at, range),
+            ScriptAct::Round => self.round(at),
         }
     }
 
     // A step of the world, without a text.
     fn step(&mut self, at: u8, act: WorldAct) -> Result<Vec<u8>, Refusal>
         ensures ok { (k : Following) → SessionAt self.old k → IfOk result (λ text. (text.items ≡ [])
-            × ((v : WorldOfSets) × Takes k.world (step_at at act) v × SessionAt self.new (at_world k v))) }
+            × ((v : WorldOfSets) × WorldStep k.world (step_at at act) v × SessionAt self.new (at_world k v))) }
         ensures err { (k : Following) → SessionAt self.old k
             → IfErr result (λ e. e ≡ refusal_of k.world (step_at at act)) }
         ensures unchanged { OnErr result (self.new ≡ self.old) }
@@ -123,7 +123,7 @@ impl Session {
 
     // The number of the packet whose name has the place, or one after those of all packets.
     fn number_at(&self, place: usize) -> usize
-        ensures { (k : Following) → SessionAt self.now k → result ≡ number_at k place }
+        ensures { (k : Following) → SessionAt self.now k → result ≡ packet_number_at k place }
     {
         self.named
             .number(place)
@@ -133,7 +133,7 @@ impl Session {
     // A round.
     fn round(&mut self, at: u8) -> Result<Vec<u8>, Refusal>
         ensures ok { Goes result self.old self.new (asked.Does (record { at = at; act = act.Round })) }
-        ensures err { Stops result self.old (asked.Does (record { at = at; act = act.Round })) }
+        ensures err { StopsRequest result self.old (asked.Does (record { at = at; act = act.Round })) }
         ensures unchanged { OnErr result (self.new ≡ self.old) }
     {
         round(self.alloc, &mut self.world, at)
@@ -142,7 +142,7 @@ impl Session {
     // A cut whose packet has no name.
     fn cut(&mut self, at: u8, range: Range) -> Result<Vec<u8>, Refusal>
         ensures ok { Goes result self.old self.new (asked.Cuts at range None) }
-        ensures err { Stops result self.old (asked.Cuts at range None) }
+        ensures err { StopsRequest result self.old (asked.Cuts at range None) }
         ensures unchanged { OnErr result (self.new ≡ self.old) }
     {
         let text = cut_line(self.alloc, &self.world, at, range)?;
@@ -153,7 +153,7 @@ impl Session {
     // A cut whose packet gets the name.
     fn cut_named(&mut self, at: u8, range: Range, name: &str) -> Result<Vec<u8>, Refusal>
         ensures ok { Goes result self.old self.new (asked.Cuts at range (Some name.now)) }
-        ensures err { Stops result self.old (asked.Cuts at range (Some name.now)) }
+        ensures err { StopsRequest result self.old (asked.Cuts at range (Some name.now)) }
         ensures unchanged { OnErr result (self.new ≡ self.old) }
     {
         let text = cut_line(self.alloc, &self.world, at, range)?;
@@ -170,7 +170,7 @@ impl Session {
     // A cut of the deltas that were not sent as news, or of all that is known if some of these were trimmed.
     fn news(&mut self, at: u8) -> Result<Vec<u8>, Refusal>
         ensures ok { Goes result self.old self.new (asked.News at) }
-        ensures err { Stops result self.old (asked.News at) }
+        ensures err { StopsRequest result self.old (asked.News at) }
         ensures unchanged { OnErr result (self.new ≡ self.old) }
     {
         let Some(coordinator) = self.world.numbered(at) else {
@@ -187,7 +187,7 @@ impl Session {
     // Merges the packet that the digits encode.
     fn take_in(&mut self, at: u8, digits: &str) -> Result<Vec<u8>, Refusal>
         ensures ok { Goes result self.old self.new (asked.Takes at digits.now) }
-        ensures err { Stops result self.old (asked.Takes at digits.now) }
+        ensures err { StopsRequest result self.old (asked.Takes at digits.now) }
         ensures unchanged { OnErr result (self.new ≡ self.old) }
     {
         let packet = packet_in(self.alloc, digits.as_bytes())?;
@@ -199,45 +199,45 @@ impl Session {
     // Answers what is asked about a coordinator.
     fn ask(&mut self, at: u8, topic: Topic) -> Result<Vec<u8>, Refusal>
         ensures ok { Goes result self.old self.new (asked.Asks at topic) }
-        ensures err { Stops result self.old (asked.Asks at topic) }
+        ensures err { StopsRequest result self.old (asked.Asks at topic) }
         ensures unchanged { OnErr result (self.new ≡ self.old) }
     {
         let Some(coordinator) = self.world.numbered(at) else {
             return Err(Refusal::NoCoordinator);
         };
         let query = query_at(topic, coordinator.number());
-        let Answer { text, differs: _ } = ask(self.alloc, &mut self.world, query)?;
+        let QueryAnswer { text, differs: _ } = ask(self.alloc, &mut self.world, query)?;
         Ok(text)
     }
 
     // Answers why a task waits or runs, by what a coordinator knows.
     fn why(&mut self, at: u8, task: TaskId) -> Result<Vec<u8>, Refusal>
         ensures ok { Goes result self.old self.new (asked.Explains at task) }
-        ensures err { Stops result self.old (asked.Explains at task) }
+        ensures err { StopsRequest result self.old (asked.Explains at task) }
         ensures unchanged { OnErr result (self.new ≡ self.old) }
     {
         let Some(coordinator) = self.world.numbered(at) else {
             return Err(Refusal::NoCoordinator);
         };
         let query = Query::Why(coordinator.number(), task);
-        let Answer { text, differs: _ } = ask(self.alloc, &mut self.world, query)?;
+        let QueryAnswer { text, differs: _ } = ask(self.alloc, &mut self.world, query)?;
         Ok(text)
     }
 
     // Answers whether all coordinators know the same.
     fn agree(&mut self) -> Result<Vec<u8>, Refusal>
         ensures ok { Goes result self.old self.new asked.Agrees }
-        ensures err { Stops result self.old asked.Agrees }
+        ensures err { StopsRequest result self.old asked.Agrees }
         ensures unchanged { OnErr result (self.new ≡ self.old) }
     {
-        let Answer { text, differs: _ } = ask(self.alloc, &mut self.world, Query::Agree)?;
+        let QueryAnswer { text, differs: _ } = ask(self.alloc, &mut self.world, Query::Agree)?;
         Ok(text)
     }
 
     // Renews the coordinators.
     fn renew(&mut self) -> Result<Vec<u8>, Refusal>
         ensures ok { Goes result self.old self.new asked.Renews }
-        ensures err { Stops result self.old asked.Renews }
+        ensures err { StopsRequest result self.old asked.Renews }
         ensures unchanged { OnErr result (self.new ≡ self.old) }
     {
         let world = renewed(self.alloc, &self.world)?;
@@ -280,7 +280,7 @@ fn news_between(mark: u64, floor: u64, end: u64) -> Range
 
 // The query of a topic about the coordinator with the number.
 fn query_at(topic: Topic, number: CoordId) -> Query
-    ensures { result ≡ query_at topic number }
+    ensures { result ≡ topic_query_at topic number }
 {
     match topic {
         Topic::Graph => Query::Graph(number),

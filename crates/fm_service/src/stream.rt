@@ -6,7 +6,7 @@ ghost use Rattle.fm_delta.specs.declared.packet.Packet.{Packet};
 ghost use Rattle.fm_io.specs.Runs.{IsFollowed};
 ghost use Rattle.fm_service.specs.Following.{Following, StandBehind, Answers};
 
-use crate::follower::Follower;
+use crate::stream_service::StreamService;
 use fm_io::follow::follow;
 use fm_records::refusal::Refusal;
 use fm_io::sink::Sink;
@@ -35,6 +35,6 @@ pub fn follow_stream<S: Source, W: Sink>(
           has_failed = W.has_failed sink.new;
         }) }
 {
-    let mut follower = Follower::new(alloc, renew_after);
+    let mut follower = StreamService::new(alloc, renew_after);
     follow(alloc, &mut follower, source, sink)
 }

@@ -13,13 +13,13 @@ use Rattle.fm_records.specs.Options.{and_then, only_if, passes, or_else, when}
 use Rattle.fm_records.specs.Know.{none_begun}
 use Rattle.fm_records.specs.Table.{Table, TaskValue, MachineValue}
 use Rattle.fm_records.specs.Facts.{is_done, job_of, job_stands, progress_of, is_present, winner_of, won_spot, holder_of, holds, request_of, held_tasks, open_state, load_of, used_of}
-use Rattle.fm_know.specs.Records.{state_in}
+use Rattle.fm_know.specs.Records.{open_state_in}
 use Rattle.fm_net.specs.NetworkLaws.{came_from, mapped_from}
 use Rattle.fm_tally.specs.declared.holdings.Holdings.{Holdings}
 use Rattle.fm_tally.specs.declared.tally.LiveTask.{LiveTask}
 use Rattle.fm_tally.specs.declared.tally.OpenMachine.{OpenMachine}
-use Rattle.fm_tally.specs.Holdings.{is_there, placed_by, nothing_on, requests_in, tasks_in, AreHoldings}
-use Rattle.fm_tally.specs.Tallies.{has_any, unfinished_spec, task_at, entry_of, task_by, requests_by, tasks_by, machine_at, left_of, open_by}
+use Rattle.fm_tally.specs.Holdings.{is_open_at, placed_by, nothing_on, requests_in, tasks_in, AreHoldings}
+use Rattle.fm_tally.specs.Tallies.{has_any, unfinished_spec, task_at, live_task_of, task_by, requests_by, tasks_by, open_machine_at, spare_left, open_by}
 use Rattle.fm_tally.specs.Unfinished.{unfinished_at}
 use Rattle.fm_tally.specs.declared.unfinished.UnfinishedTask.{UnfinishedTask}
 use Rattle.fm_tally.proofs.Held.{held_is}
@@ -28,7 +28,7 @@ inside : {A : Type 0} (a b : A) → Some a ≡ Some b → a ≡ b
 inside a b e = cc
 
 -- the machine of a spot where it is there
-placed_is : (hs : Holdings) (k : Table) → ((s : Spot) → is_there hs s ≡ is_present k s) → (o : Option Spot) → and_then (placed_by hs) o ≡ option_map (λ s. s.machine) (only_if (is_present k) o)
+placed_is : (hs : Holdings) (k : Table) → ((s : Spot) → is_open_at hs s ≡ is_present k s) → (o : Option Spot) → and_then (placed_by hs) o ≡ option_map (λ s. s.machine) (only_if (is_present k) o)
 placed_is hs k there None = refl
 placed_is hs k there (Some s) = ap (λ b. when b s.machine) (there s) ∙ elim (is_present k s) as (λ b. when b s.machine ≡ option_map (λ (s : Spot). s.machine) (when b s)) [ true ↦ refl | false ↦ refl ]
 
@@ -36,7 +36,7 @@ placed_is hs k there (Some s) = ap (λ b. when b s.machine) (there s) ∙ elim (
 abbrev open_at : ℕ → ℕ → ℕ → Option MachineReg → Option OpenMachine
 open_at load held sum o = option_map (λ (state : MachineReg). record { slots = state.slots; load = load; spare = and_then (λ (r : MachineReg). when (nat_le load r.nic) (r.nic - load)) o; held = held; requests = sum }) o
 
-opened : (a b h g r s : ℕ) (o : Option MachineReg) → a ≡ b → h ≡ g → r ≡ s → option_map (λ (state : MachineReg). record { slots = state.slots; load = a; spare = left_of state.nic a; held = h; requests = r }) o ≡ open_at b g s o
+opened : (a b h g r s : ℕ) (o : Option MachineReg) → a ≡ b → h ≡ g → r ≡ s → option_map (λ (state : MachineReg). record { slots = state.slots; load = a; spare = spare_left state.nic a; held = h; requests = r }) o ≡ open_at b g s o
 opened a b h g r s None load held sum = refl
 opened a b h g r s (Some state) load held sum = λ i. Some record { slots = state.slots; load = load i; spare = when (nat_le (load i) state.nic) (state.nic - load i); held = held i; requests = sum i }
 
@@ -84,7 +84,7 @@ module _ (k : Table) where
   won_by t p = option_map (λ s. s.machine) (only_if (is_present k) (option_map (λ w. w.1) (winner_of k t p.attempt)))
 
   -- an unfinished task
-  pub task_is : (hs : Holdings) (t : ℕ) (u : UnfinishedTask) → ((s : Spot) → is_there hs s ≡ is_present k s) → unfinished_at k t ≡ Some u
+  pub task_is : (hs : Holdings) (t : ℕ) (u : UnfinishedTask) → ((s : Spot) → is_open_at hs s ≡ is_present k s) → unfinished_at k t ≡ Some u
       → task_by k.jobs (and_then (placed_by hs) u.spot) u ≡ task_at k t
   task_is hs t u there known =
       let spot = won_spot k t in
@@ -105,7 +105,7 @@ module _ (k : Table) where
         (ap (λ h. cond (passes (λ n. n == m) h) u.request 0) none, ap (λ h. cond (passes (λ n. n == m) h) 1 0) none)
     counted (Some l) made is m =
         let holder : l.holder ≡ holder_of k t = ap (and_then (λ (l : LiveTask). l.holder)) is ∙ held_is k t in
-        let from = mapped_from (λ (job : JobReg). entry_of u job h) (only_if stands (lookup nat_cmp u.job js)) l (sym made) in
+        let from = mapped_from (λ (job : JobReg). live_task_of u job h) (only_if stands (lookup nat_cmp u.job js)) l (sym made) in
         let request : l.request ≡ u.request = ap (λ (l : LiveTask). l.request) (sym from.2) in
         (ap (λ h. cond (passes (λ n. n == m) h) l.request 0) holder ∙ ap (λ r. cond (holds k m t) r 0) request, ap (λ h. cond (passes (λ n. n == m) h) 1 0) holder)
 
@@ -125,7 +125,7 @@ module _ (k : Table) where
   up_is (Some r) = elim (r.up) as (λ b. b ≡ passes (λ (r : MachineReg). true) (when b r)) [ true ↦ refl | false ↦ refl ]
 
   module _ (hs : Holdings) (nothing : (m : ℕ) → lookup nat_cmp m hs.by_machine ≡ option_map nothing_on (lookup nat_cmp m k.machines)) where
-    pub there_is : (s : Spot) → is_there hs s ≡ is_present k s
+    pub there_is : (s : Spot) → is_open_at hs s ≡ is_present k s
     there_is s =
         ap (passes (λ h. h.is_open && h.incarnation == s.incarnation)) (nothing s.machine)
         ∙ elim (lookup nat_cmp s.machine k.machines) as (λ o. passes (λ h. h.is_open && h.incarnation == s.incarnation) (option_map nothing_on o) ≡ passes (λ (r : MachineReg). true) (only_if (λ (r : MachineReg). r.up) (and_then (λ (v : MachineValue). v.1.0) o)) && passes (λ i. i == s.incarnation) (option_map (λ (v : MachineValue). v.0) o)) [
@@ -140,13 +140,13 @@ module _ (k : Table) where
     no_tasks m = ap (λ o. or_else 0 (option_map (λ h. h.tasks) o)) (nothing m) ∙ elim (lookup nat_cmp m k.machines) as (λ o. or_else 0 (option_map (λ h. h.tasks) (option_map nothing_on o)) ≡ 0) [ None ↦ refl | Some v ↦ refl ]
 
   -- a machine with the record that is known
-  pub machine_is : (hs : Holdings) → AreHoldings k hs → (m : ℕ) (v : MachineValue) (requests tasks : ℕ) → requests ≡ requests_in hs m → tasks ≡ tasks_in hs m → lookup nat_cmp m k.machines ≡ Some v → open_by v requests tasks ≡ machine_at k m
+  pub machine_is : (hs : Holdings) → AreHoldings k hs → (m : ℕ) (v : MachineValue) (requests tasks : ℕ) → requests ≡ requests_in hs m → tasks ≡ tasks_in hs m → lookup nat_cmp m k.machines ≡ Some v → open_by v requests tasks ≡ open_machine_at k m
   machine_is hs are m v requests tasks r n found =
       let used : or_else 0 (option_map (λ (r : Report). r.used) v.1.1) ≡ used_of k m = sym (ap (λ o. or_else 0 (option_map (λ (r : Report). r.used) (and_then (λ (w : MachineValue). w.1.1) o))) found) in
       let all : requests ≡ sum_by (λ e. request_of e.1.0) (held_tasks k m) = r ∙ are.requests m in
       let load : max (or_else 0 (option_map (λ (r : Report). r.used) v.1.1)) requests ≡ load_of k m = λ i. max (used i) (all i) in
       let held : tasks ≡ count_by (λ e. holds k m e.0) k.tasks = n ∙ are.tasks m in
-      let state : open_state k m ≡ state_in v = ap (λ o. only_if (λ (r : MachineReg). r.up) (and_then (λ (w : MachineValue). w.1.0) o)) found in
+      let state : open_state k m ≡ open_state_in v = ap (λ o. only_if (λ (r : MachineReg). r.up) (and_then (λ (w : MachineValue). w.1.0) o)) found in
       let sums = sum_by (λ e. request_of e.1.0) (held_tasks k m) in
-      let here : open_by v requests tasks ≡ open_at (load_of k m) (count_by (λ e. holds k m e.0) k.tasks) sums (state_in v) = opened _ _ _ _ _ _ (state_in v) load held all in
+      let here : open_by v requests tasks ≡ open_at (load_of k m) (count_by (λ e. holds k m e.0) k.tasks) sums (open_state_in v) = opened _ _ _ _ _ _ (open_state_in v) load held all in
       here ∙ ap (open_at (load_of k m) (count_by (λ e. holds k m e.0) k.tasks) sums) (sym state)

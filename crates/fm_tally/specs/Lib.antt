@@ -2,4 +2,4 @@ pub mod Holdings
 pub mod Tallies
 pub mod Sides
 pub mod Unfinished
-pub mod Winners
+pub mod WinnerScan

@@ -7,4 +7,4 @@ pub mod sorted;
 pub mod tally;
 pub mod unfinished;
 pub mod way;
-pub mod winners;
+pub mod winner_scan;

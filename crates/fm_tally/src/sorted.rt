@@ -2,11 +2,11 @@
 
 ghost use Rattle.std.specs.Prelude.{◌≡◌, [], Some, None, IfSome, IsNone, IfOk, OnOk, OnErr};
 ghost use Rattle.fm_lattice.specs.Maps.{lookup, put, keep_new, IsRising};
-ghost use Rattle.fm_lattice.specs.Places.{IsAt};
+ghost use Rattle.fm_lattice.specs.SortedVec.{HasKeyAt};
 
 use fm_lattice::chain::Chain;
 use fm_lattice::join::OutOfMemory;
-use fm_lattice::rising::{set, value_at, value_near};
+use fm_lattice::sorted_vec::{insert, get, get_hinted};
 use std::alloc::Global;
 use std::marker::Model;
 
@@ -49,19 +49,19 @@ impl<K: Chain, V: Copy> Sorted<K, V> {
     pub fn get(&self, key: &K) -> Option<V>
         ensures { result ≡ lookup K.cmp key.now self.now }
     {
-        value_at(&self.pairs, key)
+        get(&self.pairs, key)
     }
 
     /// As `get`, and looks at the place near before it searches: if the key is there, in one comparison.
     pub(crate) fn get_near(&self, near: usize, key: &K) -> Option<V>
         ensures { result ≡ lookup K.cmp key.now self.now }
     {
-        value_near(&self.pairs, near, key)
+        get_hinted(&self.pairs, near, key)
     }
 
     /// Where the key is, if it is there. O(log n).
     pub(crate) fn place(&self, key: &K) -> Option<usize>
-        ensures found { IfSome result (IsAt K.cmp self.now key.now) }
+        ensures found { IfSome result (HasKeyAt K.cmp self.now key.now) }
         ensures absent { IsNone result → lookup K.cmp key.now self.now ≡ None }
         ensures rising { IsRising K.cmp self.now }
     {
@@ -73,7 +73,7 @@ impl<K: Chain, V: Copy> Sorted<K, V> {
 
     /// As `place`, and looks at the place near before it searches: if the key is there, in one comparison.
     pub(crate) fn place_near(&self, near: usize, key: &K) -> Option<usize>
-        ensures found { IfSome result (IsAt K.cmp self.now key.now) }
+        ensures found { IfSome result (HasKeyAt K.cmp self.now key.now) }
         ensures absent { IsNone result → lookup K.cmp key.now self.now ≡ None }
         ensures rising { IsRising K.cmp self.now }
     {
@@ -88,7 +88,7 @@ impl<K: Chain, V: Copy> Sorted<K, V> {
 
     /// The value at the key, of which the caller passes the place.
     pub(crate) fn value(&self, at: usize, key: &K) -> V
-        requires { IsAt K.cmp self.now key.now at }
+        requires { HasKeyAt K.cmp self.now key.now at }
         ensures { lookup K.cmp key.now self.now ≡ Some result }
     {
         self.pairs[at].1
@@ -96,7 +96,7 @@ impl<K: Chain, V: Copy> Sorted<K, V> {
 
     /// Replaces the value at the key, of which the caller passes the place.
     pub(crate) fn replace(&mut self, at: usize, key: K, value: V)
-        requires { IsAt K.cmp self.old key at }
+        requires { HasKeyAt K.cmp self.old key at }
         ensures { self.new ≡ put K.cmp keep_new key value self.old }
     {
         self.pairs[at].1 = value;
@@ -109,7 +109,7 @@ impl<K: Chain, V: Copy> Sorted<K, V> {
         ensures stood { IfOk result (λ old. old ≡ lookup K.cmp key self.old) }
         ensures err { OnErr result (self.new ≡ self.old) }
     {
-        set(&mut self.pairs, key, value)
+        insert(&mut self.pairs, key, value)
     }
 
     /// The pairs, by rising key.

@@ -6,9 +6,9 @@ ghost use Rattle.fm_lattice.specs.Maps.{lookup};
 ghost use Rattle.fm_records.specs.declared.records.Spot.{Spot as At};
 ghost use Rattle.fm_records.specs.Facts.{is_present};
 ghost use Rattle.fm_records.specs.Options.{and_then, or_else, only_if};
-ghost use Rattle.fm_know.specs.Records.{state_in};
-ghost use Rattle.fm_tally.specs.Holdings.{requests_in, tasks_in, share_by, placed_by, is_there, holding_nothing, nothing_on, AreHoldings};
-ghost use Rattle.fm_tally.specs.Tallies.{task_at, all_machines, left_of, entry_of, task_by, requests_by, tasks_by, open_by, TallyIsFor};
+ghost use Rattle.fm_know.specs.Records.{open_state_in};
+ghost use Rattle.fm_tally.specs.Holdings.{requests_in, tasks_in, share_by, placed_by, is_open_at, holding_nothing, nothing_on, AreHoldings};
+ghost use Rattle.fm_tally.specs.Tallies.{task_at, all_machines, spare_left, live_task_of, task_by, requests_by, tasks_by, open_by, TallyIsFor};
 ghost use Rattle.fm_tally.specs.Unfinished.{AreUnfinished};
 
 use crate::guide::{Guide, upper};
@@ -180,7 +180,7 @@ fn live_task(
     ensures requests { (m : ℕ) → requests_in holdings.new m ≡ requests_in holdings.old m + requests_by result m }
     ensures tasks { (m : ℕ) → tasks_in holdings.new m ≡ tasks_in holdings.old m + tasks_by result m }
     ensures small { (m : ℕ) → requests_by result m < 2 ^ 32 }
-    ensures there { (s : At) → is_there holdings.new s ≡ is_there holdings.old s }
+    ensures there { (s : At) → is_open_at holdings.new s ≡ is_open_at holdings.old s }
 {
     let job = standing(jobs, near.job, task.job)?;
     let holder = hold(near.machine, task.spot, task.request, holdings);
@@ -195,14 +195,14 @@ fn hold(near: usize, spot: Option<Spot>, request: u32, holdings: &mut Holdings) 
     ensures requests { (m : ℕ) → requests_in holdings.new m ≡ requests_in holdings.old m + share_by result m request }
     ensures tasks { (m : ℕ) → tasks_in holdings.new m ≡ tasks_in holdings.old m + share_by result m 1 }
     ensures small { (m : ℕ) → share_by result m request < 2 ^ 32 }
-    ensures there { (s : At) → is_there holdings.new s ≡ is_there holdings.old s }
+    ensures there { (s : At) → is_open_at holdings.new s ≡ is_open_at holdings.old s }
 {
     holdings.hold(near, spot?, request)
 }
 
 // What a plan needs of a live task of the job, which the machine holds.
 fn held_task(task: &UnfinishedTask, job: JobReg, holder: Option<MachineId>) -> LiveTask
-    ensures { result ≡ entry_of task.now job holder }
+    ensures { result ≡ live_task_of task.now job holder }
 {
     let price = match holder {
         Some(_) => job.preempt,
@@ -273,7 +273,7 @@ fn open_machine(known: &MachineRec, holding: Holding) -> Option<OpenMachine>
 
 // What the load leaves of the bandwidth; none if the load is greater.
 fn left_of(nic: u32, load: u128) -> Option<u32>
-    ensures { result ≡ left_of nic load }
+    ensures { result ≡ spare_left nic load }
 {
     if load <= u128::from(nic) {
         Some(nic - load as u32)

@@ -1,8 +1,8 @@
 use fm_lattice::join::{Join, OutOfMemory};
 use fm_lattice::map::JoinMap;
-use fm_lattice::plain::{Both, Lex, Max, Min, Opt};
+use fm_lattice::constructors::{Both, Lex, Max, Min, Opt};
 use fm_records::ids::{CoordId, JobId, MachineId, TaskId};
-use fm_records::laws::{self, equal, order};
+use fm_records::laws::{self, record_equality, order};
 use fm_records::ops::{Field, Op, Phase};
 use fm_records::prefer::Prefer;
 use fm_records::records::{JobReg, MachineRec, MachineReg, Progress, Report, SpecReg, Spot};
@@ -406,11 +406,11 @@ fn a_row_takes_four_machines(rt: HostRuntime) {
         let prefer = Prefer::new(&five[..count]).unwrap_or_default();
         assert_eq!(rt; prefer.entries(), &five[..count]);
         assert_eq!(rt; spec_preferring(&five[..count]).prefer(), prefer);
-        assert!(rt; equal::preferences(&prefer, &prefer));
+        assert!(rt; record_equality::preferences(&prefer, &prefer));
     }
     let (some, more) = (Prefer::new(&five[..1]), Prefer::new(&five[..2]));
     if let (Some(some), Some(more)) = (some, more) {
-        assert!(rt; !equal::preferences(&some, &more));
+        assert!(rt; !record_equality::preferences(&some, &more));
         assert_eq!(rt; order::preferences(&some, &more), Ordering::Less);
         assert_eq!(rt; order::preferences(&more, &some), Ordering::Greater);
     }
@@ -475,10 +475,10 @@ fn reports_and_spots_are_ordered_by_their_fields(rt: HostRuntime) {
 
 #[test]
 fn equality_tells_values_apart(rt: HostRuntime) {
-    assert!(rt; equal::ops(&job(1, 500, 800), &job(1, 500, 800)));
-    assert!(rt; !equal::ops(&job(1, 500, 800), &job(1, 500, 801)));
-    assert!(rt; equal::refusals(&Refusal::Trimmed(2), &Refusal::Trimmed(2)));
-    assert!(rt; !equal::refusals(&Refusal::Trimmed(2), &Refusal::BadPacket(2)));
+    assert!(rt; record_equality::ops(&job(1, 500, 800), &job(1, 500, 800)));
+    assert!(rt; !record_equality::ops(&job(1, 500, 800), &job(1, 500, 801)));
+    assert!(rt; record_equality::refusals(&Refusal::Trimmed(2), &Refusal::Trimmed(2)));
+    assert!(rt; !record_equality::refusals(&Refusal::Trimmed(2), &Refusal::BadPacket(2)));
 }
 
 fn is_said(alloc: Global, refusal: Refusal, number: u32, text: &str) -> Result<bool, Fail> {

@@ -18,7 +18,7 @@ use fm_records::ops::{Op, Phase};
 use fm_records::prefer::Prefer;
 use fm_records::refusal::Refusal;
 use fm_round::listed::Listed;
-use fm_round::parts::{Admitted, Answer, Place, Plan};
+use fm_round::plan::{Admitted, Answer, Place, Plan};
 use std::alloc::Global;
 
 fn job() -> Op {

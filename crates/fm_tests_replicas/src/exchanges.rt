@@ -15,7 +15,7 @@ use fm_records::ids::{CoordId, JobId, MachineId, TaskId};
 use fm_records::ops::Op;
 use fm_records::prefer::Prefer;
 use fm_round::listed::Listed;
-use fm_round::parts::{Place, Plan};
+use fm_round::plan::{Place, Plan};
 use fm_world::distinct::distinct;
 use fm_world::step::{Act, Step};
 use fm_world::world::World;

@@ -8,18 +8,18 @@ ghost use Rattle.fm_indexed.specs.Unscheduled.{all_unscheduled};
 use crate::networks::{Laid, lay, network_of};
 use crate::round::{job as known_job, knowing, machine as known_machine, spec};
 use fm_certificate::cost::cost;
-use fm_cycles::search::{Found, search};
+use fm_cycles::cycle_search::{Found, search};
 use fm_flow::solve::{solve, solve_from};
 use fm_heuristics::simplex::{simplex, simplex_within};
-use fm_heuristics::start::{resume, start};
+use fm_heuristics::worth_first::{resume, start};
 use fm_know::knowledge::Knowledge;
 use fm_know::laws::law_can_be;
 use fm_lattice::join::OutOfMemory;
 use fm_net::network::Network;
 use fm_net::node::Node;
-use fm_indexed::feasible::is_feasible;
+use fm_indexed::feasible_units::is_feasible;
 use fm_indexed::improved::improved;
-use fm_indexed::numbered::Numbered;
+use fm_indexed::indexed_network::IndexedNetwork;
 use fm_indexed::unscheduled::unscheduled;
 use fm_policy::build::build;
 use fm_records::ids::{JobId, MachineId, TaskId};
@@ -69,7 +69,7 @@ fn held(task: u128, machine: u128) -> Laid {
 }
 
 // What the units cost.
-fn total(numbered: &Numbered, units: &[u64]) -> u128 {
+fn total(numbered: &IndexedNetwork, units: &[u64]) -> u128 {
     let mut sum = 0u128;
     for (arc, sent) in numbered.arcs.iter().zip(units) {
         let part = u128::from(arc.cost).saturating_mul(u128::from(*sent));
@@ -79,7 +79,7 @@ fn total(numbered: &Numbered, units: &[u64]) -> u128 {
 }
 
 // Whether all tasks can be unscheduled.
-fn can_wait(alloc: Global, numbered: &Numbered) -> Result<bool, OutOfMemory>
+fn can_wait(alloc: Global, numbered: &IndexedNetwork) -> Result<bool, OutOfMemory>
     ensures { IfOk result
         (λ can. IsTrue can
         → IsFlowOf numbered.now.places numbered.now.arcs.items
@@ -91,7 +91,7 @@ fn can_wait(alloc: Global, numbered: &Numbered) -> Result<bool, OutOfMemory>
 }
 
 // Whether the search finds no cycle.
-fn is_least(alloc: Global, numbered: &Numbered, units: &[u64]) -> Result<bool, OutOfMemory> {
+fn is_least(alloc: Global, numbered: &IndexedNetwork, units: &[u64]) -> Result<bool, OutOfMemory> {
     let nodes = numbered.places.end;
     let first = vec![in alloc; 0i128; nodes]?;
     match search(alloc, nodes, &numbered.arcs, units, first)? {
@@ -102,7 +102,7 @@ fn is_least(alloc: Global, numbered: &Numbered, units: &[u64]) -> Result<bool, O
 
 // What the first flow costs, if it is a least flow.
 fn started(alloc: Global, network: &Network) -> Result<Option<u128>, OutOfMemory> {
-    let numbered = Numbered::of(alloc, network)?;
+    let numbered = IndexedNetwork::of(alloc, network)?;
     if !can_wait(alloc, &numbered)? {
         return Ok(None);
     }
@@ -113,7 +113,7 @@ fn started(alloc: Global, network: &Network) -> Result<Option<u128>, OutOfMemory
 
 // What the flow costs that cancelling makes of all tasks unscheduled.
 fn cancelled(alloc: Global, network: &Network) -> Result<Option<u128>, OutOfMemory> {
-    let numbered = Numbered::of(alloc, network)?;
+    let numbered = IndexedNetwork::of(alloc, network)?;
     let units = unscheduled(alloc, &numbered)?;
     if !is_feasible(alloc, &numbered, &units)? {
         return Ok(None);
@@ -310,7 +310,7 @@ fn drawn_preferring(
 
 // What the flow costs that the simplex ends at, if it is a least flow.
 fn pivoted(alloc: Global, network: &Network) -> Result<Option<u128>, OutOfMemory> {
-    let numbered = Numbered::of(alloc, network)?;
+    let numbered = IndexedNetwork::of(alloc, network)?;
     let Some((units, _costs)) = simplex(alloc, &numbered)? else {
         return Ok(None);
     };
@@ -381,7 +381,7 @@ fn chains_of_preferences_are_moved_on(rt: HostRuntime) {
 // Whether the simplex returns a flow however early it is stopped.
 fn is_stopped(alloc: Global, seed: u64) -> Result<bool, OutOfMemory> {
     let network = drawn_preferring(alloc, seed, 8, 40)?;
-    let numbered = Numbered::of(alloc, &network)?;
+    let numbered = IndexedNetwork::of(alloc, &network)?;
     for pivots in 0..30 {
         if simplex_within(alloc, &numbered, pivots)?.is_none() {
             return Ok(false);
@@ -399,7 +399,7 @@ fn a_simplex_that_is_stopped_hands_out_a_flow(rt: HostRuntime) {
 
 // Whether an earlier flow that is least is kept as it is, and one of other units comes to no other cost.
 fn is_taken_over(alloc: Global, network: &Network) -> Result<bool, OutOfMemory> {
-    let numbered = Numbered::of(alloc, network)?;
+    let numbered = IndexedNetwork::of(alloc, network)?;
     if !can_wait(alloc, &numbered)? {
         return Ok(false);
     }
@@ -428,7 +428,7 @@ fn earlier_flows_are_taken_over(rt: HostRuntime) -> Result<(), Fail> {
 // Whether a flow that places few of the tasks is taken over.
 fn is_resumed(alloc: Global) -> Result<bool, OutOfMemory> {
     let network = drawn(alloc, 1, 60, 40)?;
-    let numbered = Numbered::of(alloc, &network)?;
+    let numbered = IndexedNetwork::of(alloc, &network)?;
     let none = vec![in alloc; 0u64; numbered.arcs.len()]?;
     Ok(resume(alloc, &numbered, &none)?.is_some())
 }

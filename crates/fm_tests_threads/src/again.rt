@@ -8,7 +8,7 @@ use fm_coord::coordinator::Coordinator;
 use fm_dimacs::out::Over;
 use fm_edit::editor::Editor;
 use fm_edit::keepers::Keeper;
-use fm_gossip::fleet::run_fleet;
+use fm_gossip::member_threads::run_fleet;
 use fm_gossip::member::Member;
 use fm_fleet::round::NoGate;
 use fm_world::gather::gather;

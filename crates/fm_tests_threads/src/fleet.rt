@@ -14,7 +14,7 @@ use fm_records::ids::{CoordId, JobId, MachineId, TaskId};
 use fm_records::ops::{Field, Op, Phase};
 use fm_records::prefer::Prefer;
 use fm_records::refusal::Refusal;
-use fm_round::parts::Answer;
+use fm_round::plan::Answer;
 use std::alloc::Global;
 use std::marker::Brand;
 use std::sync::Wait;

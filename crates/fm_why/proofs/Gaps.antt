@@ -18,7 +18,7 @@ use Rattle.fm_certificate.proofs.Members.{lookup_member}
 use Rattle.fm_certificate.proofs.Exchange.{Arc, units_at}
 use Rattle.fm_certificate.proofs.Least.{arc_member, earns_alike, trade, traded, Traded, costs, from_sum, to_sum}
 use Rattle.fm_why.specs.Running.{Sends, GoesOver}
-use Rattle.fm_why.specs.Ways.{arc_cost, IsGap}
+use Rattle.fm_why.specs.MachineOptions.{cost_at, IsGap}
 
 -- sums over arcs, of which each is traded, and one or two with a gap
 module _ (rising falling : Node → ℕ) (f g : Units) where
@@ -125,7 +125,7 @@ module _ (net : Net) (flow : List ((Node × Node) × ℕ)) (potentials : List (N
         rw is.0 (omega (arith, more, mul-zero arc.1, mul-zero (rise from), mul-zero (fall to), mul-zero (rise to), mul-zero (fall from)))
   ]
 
-  cost_there : (cost : ℕ) (from to : Node) (arc : ℕ × ℕ) → Some cost ≡ arc_cost net from to → arc_at net from to ≡ Some arc → cost ≡ arc.1
+  cost_there : (cost : ℕ) (from to : Node) (arc : ℕ × ℕ) → Some cost ≡ cost_at net from to → arc_at net from to ≡ Some arc → cost ≡ arc.1
   cost_there cost from to arc there is = inside cost arc.1 (there ∙ ap (λ (o : Option (ℕ × ℕ)). option_map (λ (a : ℕ × ℕ). a.1) o) is)
 
   -- a flow with units on an arc
@@ -141,12 +141,12 @@ module _ (net : Net) (flow : List ((Node × Node) × ℕ)) (potentials : List (N
       omega (arith, earns_alike net can f g cert.feasible gg rise, earns_alike net can f g cert.feasible gg fall)
 
   -- the same of arcs that the flow is known to send units over
-  pub over_sent : (from to : Node) (cost d : ℕ) → Sends net g from to → Some cost ≡ arc_cost net from to → IsGap f at from to cost d → cost_of net f + d ≤ cost_of net g
+  pub over_sent : (from to : Node) (cost d : ℕ) → Sends net g from to → Some cost ≡ cost_at net from to → IsGap f at from to cost d → cost_of net f + d ≤ cost_of net g
   over_sent from to cost d sends there gap =
       let arc = some_of (arc_at net from to) sends.arc in
       over_one from to arc.0 d arc.1 sends.some (subst (λ c. IsGap f at from to c d) (cost_there cost from to arc.0 there arc.1) gap)
 
-  pub over_both : (t r m cost d e : ℕ) → GoesOver net t r m g → ((arc : ℕ × ℕ) → arc_at net (Task t) (Request r) ≡ Some arc → IsGap f at (Task t) (Request r) arc.1 d) → Some cost ≡ arc_cost net (Request r) (Machine m) → IsGap f at (Request r) (Machine m) cost e → cost_of net f + (d + e) ≤ cost_of net g
+  pub over_both : (t r m cost d e : ℕ) → GoesOver net t r m g → ((arc : ℕ × ℕ) → arc_at net (Task t) (Request r) ≡ Some arc → IsGap f at (Task t) (Request r) arc.1 d) → Some cost ≡ cost_at net (Request r) (Machine m) → IsGap f at (Request r) (Machine m) cost e → cost_of net f + (d + e) ≤ cost_of net g
   over_both t r m cost d e goes gap there also =
       let first = some_of (arc_at net (Task t) (Request r)) goes.0.arc in
       let second = some_of (arc_at net (Request r) (Machine m)) goes.1.arc in

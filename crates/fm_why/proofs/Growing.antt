@@ -19,17 +19,17 @@ use Rattle.fm_records.specs.Options.{when, and_then, or_else, only_if, passes}
 use Rattle.fm_records.specs.Orders.{machine_cmp, report_cmp}
 use Rattle.fm_records.specs.Table.{Table, MachineValue}
 use Rattle.fm_records.specs.Know.{know, state_in, machine, machine_at, incarnation, state_at}
-use Rattle.fm_records.specs.LookupLaws.{lookup_machine, when_true}
+use Rattle.fm_records.specs.LookupLaws.{lookup_machine, when_is_true}
 use Rattle.fm_records.specs.RangeLaws.{know_table, inside, when_value}
-use Rattle.fm_records.specs.Spelled.{IsTable}
+use Rattle.fm_records.specs.OpsOfTable.{IsTable}
 use Rattle.fm_records.specs.Joined.{machine_join}
-use Rattle.fm_records.specs.Facts.{state_of, incarnation_of, used_of, open_state, is_open, is_present, is_live, won_spot, holder_of, request_of, load_of, spare_of, has_room}
+use Rattle.fm_records.specs.Facts.{machine_state, incarnation_of, used_of, open_state, is_open, is_present, is_live, won_spot, holder_of, request_of, load_of, spare_of, has_room}
 use Rattle.fm_know.specs.Mutators.{next_version, state_version, next_machine_op}
 use Rattle.fm_know.proofs.AfterTelling.{state_told, incarnation_told}
 use Rattle.fm_net.specs.NetworkLaws.{came_from, mapped_from, only_if_some}
 use Rattle.fm_why.specs.declared.reasons.Change.{Change}
 use Rattle.fm_why.specs.declared.reasons.Change.TheVariants.{Bandwidth}
-use Rattle.fm_why.specs.Changes.{more_slots, more_bandwidth, change_op, with_op}
+use Rattle.fm_why.specs.Remedies.{more_slots, more_bandwidth, change_op, with_op}
 
 none_joined : (o : Option Report) → option_join (max_join report_cmp) o None ≡ o
 none_joined None = refl
@@ -89,7 +89,7 @@ module _ (k : Table) (form : IsTable k) (m i v writer slots nic : ℕ) (state : 
   used = ap (λ r. or_else 0 (option_map (λ (r : Report). r.used) r)) (ap (and_then (λ v. v.1.1)) (found m ∙ ap (option_join machine_join (lookup nat_cmp m k.machines)) one) ∙ report_after i register (lookup nat_cmp m k.machines) now)
 
   up_now : state.up ≡ true
-  up_now = (only_if_some (λ (r : MachineReg). r.up) (state_of k m) state opened).1
+  up_now = (only_if_some (λ (r : MachineReg). r.up) (machine_state k m) state opened).1
 
   open_after : open_state after m ≡ Some register
   open_after =
@@ -152,7 +152,7 @@ module _ (k : Table) (form : IsTable k) (m : ℕ) (change : Change) (o : Op) whe
 -- less bandwidth than what leaves just the request leaves no room for it
 shut : (load nic by less r : ℕ) → when (nat_le load (nic + by)) (nic + by - load) ≡ Some r → less < by → passes (λ s. nat_le r s) (when (nat_le load (nic + less)) (nic + less - load)) ≡ false
 shut load nic by less r e below =
-    let within = leb-true load (nic + by) (when_true _ _ r e) in
+    let within = leb-true load (nic + by) (when_is_true _ _ r e) in
     let is : nic + by - load ≡ r = when_value _ _ r e in
     elim (nat_le load (nic + less)) as (λ b. nat_le load (nic + less) ≡ b → passes (λ s. nat_le r s) (when b (nic + less - load)) ≡ false) [
       | true ↦ λ h. let also = leb-true load (nic + less) h in grind (arith, within, also, below, is)

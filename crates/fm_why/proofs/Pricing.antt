@@ -27,7 +27,7 @@ use Rattle.fm_net.specs.Network.{is_held, is_live_of, arc_of, net_of}
 use Rattle.fm_net.specs.NetworkLaws.{where_true, passes_some, came_from, open_entry, is_network_of}
 use Rattle.fm_net.specs.NodeOrder.{ends_exact, ends_total}
 use Rattle.fm_net.specs.Nodes.{ends_cmp}
-use Rattle.fm_net.specs.Same.{same_node, node_Decides}
+use Rattle.fm_net.specs.NetworkEquality.{same_node, node_Decides}
 use Rattle.fm_certificate.specs.Flows.{Units, cost_of, leaving, entering, IsFeasible, IsLeast}
 use Rattle.fm_certificate.proofs.Alike.{same_itself}
 use Rattle.fm_certificate.proofs.Exchange.{Arc}
@@ -35,7 +35,7 @@ use Rattle.fm_certificate.proofs.Least.{arc_member}
 use Rattle.fm_certificate.proofs.Members.{lookup_member}
 use Rattle.fm_why.specs.declared.reasons.Choice.{Choice}
 use Rattle.fm_why.specs.Running.{Sends, RunsOn, IsDearer}
-use Rattle.fm_why.specs.Ways.{roomy}
+use Rattle.fm_why.specs.MachineOptions.{roomy}
 use Rattle.fm_why.specs.Pricing.{StaysLeast}
 use Rattle.fm_why.specs.Reasons.{IsChoice}
 use Rattle.fm_why.proofs.Roomy.{there, arc_is, own_room, over_room, request_is}

@@ -6,7 +6,7 @@ use Rattle.std.proofs.lemmas.Bool.{eqb-true}
 use Rattle.fm_records.specs.declared.records.SpecReg.{SpecReg}
 use Rattle.fm_records.specs.declared.records.MachineReg.{MachineReg}
 use Rattle.fm_records.specs.Options.{when, and_then, passes}
-use Rattle.fm_records.specs.LookupLaws.{when_true, both_true}
+use Rattle.fm_records.specs.LookupLaws.{when_is_true, both_true}
 use Rattle.fm_records.specs.RangeLaws.{inside}
 use Rattle.fm_records.specs.Table.{Table}
 use Rattle.fm_records.specs.Facts.{live_spec, holder_of, holds, is_open, open_state, spare_of, load_of, has_room}
@@ -17,7 +17,7 @@ use Rattle.fm_net.specs.Network.{is_held, waits_for, is_node, room_arc, place_ar
 use Rattle.fm_net.specs.NetworkLaws.{where_true, Room, room_from, preferred_from, ends_of, is_network_of}
 use Rattle.fm_certificate.specs.Flows.{Units}
 use Rattle.fm_why.specs.Running.{RunsOn}
-use Rattle.fm_why.specs.Ways.{lesser, has_way, ways_of, roomy, IsOnlyRequest}
+use Rattle.fm_why.specs.MachineOptions.{lesser, has_way, machine_ways, roomy, IsOnlyRequest}
 
 pub there : {A : Type 0} (o : Option A) → IsSome o → (a : A) × (o ≡ Some a)
 there None h = absurd (let no : ⊥ = cc in no)
@@ -52,11 +52,11 @@ module _ (k : Table) where
     | inl own ↦
         let a = arc_is (Task t) (Machine m) own.arc in
         let cased : when (holds k m t) (1, 0) ≡ Some a.0 = subst (λ b. cond b (when (holds k m t) (1, 0)) (and_then (λ s. preferred_arc k s m) (live_spec k t)) ≡ Some a.0) (held_is t h e) a.1 in
-        let held : passes (λ (q : ℕ). q == m) (Some h) ≡ true = sym (ap (passes (λ (q : ℕ). q == m)) e) ∙ when_true (holds k m t) (1, 0) a.0 cased in
+        let held : passes (λ (q : ℕ). q == m) (Some h) ≡ true = sym (ap (passes (λ (q : ℕ). q == m)) e) ∙ when_is_true (holds k m t) (1, 0) a.0 cased in
         other (eqb-true h m held)
     | inr over ↦
         let a = arc_is (Task t) (Request over.0) over.1.0.arc in
-        let waits = both_true _ _ (when_true (waits_for k over.0 t) (1, 0) a.0 a.1) in
+        let waits = both_true _ _ (when_is_true (waits_for k over.0 t) (1, 0) a.0 a.1) in
         differ (not (is_held k t)) waits.1 (ap not (held_is t h e))
   ]
 
@@ -69,7 +69,7 @@ module _ (k : Table) where
     pub request_is : (r : ℕ) → IsSome (arc_at (net_of k) (Task t) (Request r)) → r ≡ spec.request
     request_is r h =
         let a = arc_is (Task t) (Request r) h in
-        let asks : passes (λ (s : SpecReg). s.request == r) (live_spec k t) ≡ true = (both_true _ _ (when_true (waits_for k r t) (1, 0) a.0 a.1)).0 in
+        let asks : passes (λ (s : SpecReg). s.request == r) (live_spec k t) ≡ true = (both_true _ _ (when_is_true (waits_for k r t) (1, 0) a.0 a.1)).0 in
         let same : (spec.request == r) ≡ true = sym (ap (passes (λ (s : SpecReg). s.request == r)) live) ∙ asks in
         sym (eqb-true spec.request r same)
 
@@ -149,5 +149,5 @@ module _ (k : Table) where
     same_kept [] = refl
     same_kept (m ∷ ms) = rw (way_is_room m) (ap (λ rest. cond (has_room k m spec.request) (m ∷ rest) rest) (same_kept ms))
 
-    pub ways_are_roomy : ways_of k (net_of k) t spec.request ≡ roomy k spec.request
+    pub ways_are_roomy : machine_ways k (net_of k) t spec.request ≡ roomy k spec.request
     ways_are_roomy = same_kept (keys_of k.machines)

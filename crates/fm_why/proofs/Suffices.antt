@@ -15,21 +15,21 @@ use Rattle.fm_net.specs.Nodes.{node_cmp, ends_cmp}
 use Rattle.fm_net.specs.NodeOrder.{node_exact, node_total, ends_exact, ends_total}
 use Rattle.fm_net.specs.ListLaws.{member_has}
 use Rattle.fm_net.specs.Net.{Net, has_node}
-use Rattle.fm_net.specs.Same.{same_node}
-use Rattle.fm_certificate.specs.Checks.{Arc, sends}
+use Rattle.fm_net.specs.NetworkEquality.{same_node}
+use Rattle.fm_certificate.specs.Checks.{PricedArc, sends}
 use Rattle.fm_certificate.specs.Flows.{units_in, leaving, entering, is_between, IsFeasible}
 use Rattle.fm_certificate.specs.Totals.{Entry, source, target, units_at}
 use Rattle.fm_certificate.proofs.Members.{member_lookup}
 use Rattle.fm_certificate.proofs.Sums.{sum_same}
-use Rattle.fm_why.specs.Examples.{AreWithin}
+use Rattle.fm_why.specs.Alternatives.{AreUnitsWithin}
 
-within_keys : (es : List Entry) (arcs : List Arc) → AreWithin es arcs → keys_of es ≡ keys_of arcs
+within_keys : (es : List Entry) (arcs : List PricedArc) → AreUnitsWithin es arcs → keys_of es ≡ keys_of arcs
 within_keys [] [] h = refl
 within_keys [] (a ∷ arcs) h = absurd h
 within_keys (e ∷ es) [] h = absurd h
 within_keys (e ∷ es) (a ∷ arcs) h = let rest = within_keys es arcs h.2 in λ i. h.0 i ∷ rest i
 
-within_at : (es : List Entry) (arcs : List Arc) → AreWithin es arcs → (k : Node × Node) (arc : ℕ × ℕ) → lookup ends_cmp k arcs ≡ Some arc → or_else 0 (lookup ends_cmp k es) ≤ arc.0
+within_at : (es : List Entry) (arcs : List PricedArc) → AreUnitsWithin es arcs → (k : Node × Node) (arc : ℕ × ℕ) → lookup ends_cmp k arcs ≡ Some arc → or_else 0 (lookup ends_cmp k es) ≤ arc.0
 within_at es [] h k arc found = absurd (let no : ⊥ = cc in no)
 within_at [] (a ∷ arcs) h k arc found = absurd h
 within_at (e ∷ es) (a ∷ arcs) h k arc found =
@@ -42,14 +42,14 @@ within_at (e ∷ es) (a ∷ arcs) h k arc found =
     found)
 
 -- a sum over keys
-same_sum : (h : Node × Node → ℕ) (es : List Entry) (arcs : List Arc) → AreWithin es arcs → sum_by (λ (a : Arc). h a.0) arcs ≡ sum_by (λ (e : Entry). h e.0) es
+same_sum : (h : Node × Node → ℕ) (es : List Entry) (arcs : List PricedArc) → AreUnitsWithin es arcs → sum_by (λ (a : PricedArc). h a.0) arcs ≡ sum_by (λ (e : Entry). h e.0) es
 same_sum h [] [] all = refl
 same_sum h [] (a ∷ arcs) all = absurd all
 same_sum h (e ∷ es) [] all = absurd all
 same_sum h (e ∷ es) (a ∷ arcs) all =
     let first = ap h all.0 in
     let rest = same_sum h es arcs all.2 in
-    omega (arith, sum_by-cons (λ (b : Arc). h b.0) a arcs, sum_by-cons (λ (d : Entry). h d.0) e es)
+    omega (arith, sum_by-cons (λ (b : PricedArc). h b.0) a arcs, sum_by-cons (λ (d : Entry). h d.0) e es)
 
 all_member : (test : Node → Bool) (n : Node) (ns : List Node) → list_all test ns ≡ true → IsMember n ns → test n ≡ true
 all_member test n [] h m = absurd m
@@ -59,13 +59,13 @@ all_member test n (k ∷ ns) h m =
       | false ↦ λ _ g. absurd (let no : ⊥ = cc in no)
     ] refl h
 
-module _ (net : Net) (flow : List Entry) (rises : IsRising ends_cmp flow) (all : AreWithin flow net.arcs) (sent : list_all (sends flow) net.nodes ≡ true) where
+module _ (net : Net) (flow : List Entry) (rises : IsRising ends_cmp flow) (all : AreUnitsWithin flow net.arcs) (sent : list_all (sends flow) net.nodes ≡ true) where
   -- the units of the flow's map are its entries
   entry_units : (e : Entry) → IsMember e flow → units_in flow e.0.0 e.0.1 ≡ e.1
   entry_units e m = ap (or_else 0) (member_lookup ends_cmp ends_total ends_exact e flow rises m)
 
   -- what the arcs have at a node is what the entries have
-  flow_sum : (end : Node × Node → Node) (n : Node) → sum_by (λ (a : Arc). cond (same_node (end a.0) n) (units_in flow a.0.0 a.0.1) 0) net.arcs ≡ units_at end flow n
+  flow_sum : (end : Node × Node → Node) (n : Node) → sum_by (λ (a : PricedArc). cond (same_node (end a.0) n) (units_in flow a.0.0 a.0.1) 0) net.arcs ≡ units_at end flow n
   flow_sum end n =
       same_sum (λ k. cond (same_node (end k) n) (units_in flow k.0 k.1) 0) flow net.arcs all
       ∙ sum_same _ _ flow (λ e m. ap (λ units. cond (same_node (end e.0) n) units 0) (entry_units e m))

@@ -1,7 +1,7 @@
 pub mod Running
-pub mod Ways
+pub mod MachineOptions
 pub mod Pricing
-pub mod Examples
-pub mod Changes
+pub mod Alternatives
+pub mod Remedies
 pub mod Schedule
 pub mod Reasons

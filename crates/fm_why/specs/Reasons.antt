@@ -11,10 +11,10 @@ use Rattle.fm_net.specs.Net.{Net}
 use Rattle.fm_net.specs.Network.{net_of}
 use Rattle.fm_certificate.specs.Flows.{Units, cost_of, IsLeast}
 use Rattle.fm_why.specs.Running.{IsDearer, IsDearerOver}
-use Rattle.fm_why.specs.Ways.{way_cost, roomy}
+use Rattle.fm_why.specs.MachineOptions.{way_cost, roomy}
 use Rattle.fm_why.specs.Pricing.{StaysLeast}
-use Rattle.fm_why.specs.Examples.{IsExampleFor}
-use Rattle.fm_why.specs.Changes.{IsRemedy}
+use Rattle.fm_why.specs.Alternatives.{IsExampleFor}
+use Rattle.fm_why.specs.Remedies.{IsRemedy}
 use Rattle.fm_why.specs.declared.reasons.TheConstants.{SHOWN}
 use Rattle.fm_why.specs.declared.reasons.Choice.{Choice}
 use Rattle.fm_why.specs.declared.reasons.Choices.{Choices}

@@ -5,7 +5,7 @@ ghost use Rattle.fm_certificate.specs.Flows.{units_in};
 ghost use Rattle.fm_certificate.specs.Certificates.{potential_in, reduced_cost, AreSmall};
 ghost use Rattle.fm_net.specs.Net.{arc_at};
 ghost use Rattle.fm_why.specs.Running.{IsDearerOver};
-ghost use Rattle.fm_why.specs.Ways.{arc_cost, IsGap};
+ghost use Rattle.fm_why.specs.MachineOptions.{cost_at, IsGap};
 ghost use Rattle.fm_why.specs.Schedule.{IsSchedule};
 
 use crate::tuning::Paths;
@@ -40,7 +40,7 @@ pub(crate) fn toll_of(
     to: &Node,
 ) -> Option<Toll>
     requires { IsSchedule network.now schedule.now }
-    ensures cost { option_map (λ e. e.cost) result ≡ arc_cost network.now from.now to.now }
+    ensures cost { option_map (λ e. e.cost) result ≡ cost_at network.now from.now to.now }
     ensures gap { IfSome result (λ e.
         IsGap (units_in schedule.now.flow) (potential_in schedule.now.potentials) from.now to.now e.cost e.more) }
     ensures fits { IfSome result (λ e. e.more < 2 ^ 110) }

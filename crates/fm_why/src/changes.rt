@@ -6,7 +6,7 @@ ghost use Rattle.fm_records.specs.Ops.{op_fault};
 ghost use Rattle.fm_records.specs.Table.{Table};
 ghost use Rattle.fm_certificate.specs.Flows.{units_in};
 ghost use Rattle.fm_why.specs.Running.{RunsOn};
-ghost use Rattle.fm_why.specs.Changes.{more_slots, more_bandwidth, change_op, with_op, RunsAt, IsTight, IsRemedy};
+ghost use Rattle.fm_why.specs.Remedies.{more_slots, more_bandwidth, change_op, with_op, RunsAt, IsTight, IsRemedy};
 
 use crate::feasible::{Aim, runs_on};
 use crate::reasons::{Change, Choice, Remedy};

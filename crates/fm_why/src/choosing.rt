@@ -5,7 +5,7 @@ ghost use Rattle.std.specs.List.{All};
 ghost use Rattle.std.specs.List.Sorted.{IsPermutation, IsNonDecreasingBy};
 ghost use Rattle.fm_net.specs.declared.node.Node.{Node as NodeName};
 ghost use Rattle.fm_why.specs.Running.{GoesOver, IsDearer, IsDearerIf};
-ghost use Rattle.fm_why.specs.Ways.{IsOnlyRequest, arc_cost, lesser, way_cost, ways_of};
+ghost use Rattle.fm_why.specs.MachineOptions.{IsOnlyRequest, cost_at, lesser, way_cost, machine_ways};
 ghost use Rattle.fm_why.specs.Schedule.{IsSchedule};
 ghost use Rattle.fm_why.specs.Reasons.{IsChoice};
 
@@ -32,7 +32,7 @@ pub(crate) fn choices_of(
     requires only { IsOnlyRequest network.now task request }
     ensures each { IfOk result (λ all. All (IsChoice network.now schedule.now.least task request) all.items) }
     ensures all { IfOk result (λ all.
-        IsPermutation (ways_of knowledge.now network.now task request) (map (λ e. e.machine) all.items)) }
+        IsPermutation (machine_ways knowledge.now network.now task request) (map (λ e. e.machine) all.items)) }
     ensures cheapest_first { IfOk result (λ all. IsNonDecreasingBy (λ e. e.dearer) all.items) }
 {
     let mut found = listed(alloc, knowledge, network, schedule, task, request)?;
@@ -52,7 +52,7 @@ fn listed(
     requires schedule { IsSchedule network.now schedule.now }
     requires only { IsOnlyRequest network.now task request }
     ensures each { IfOk result (λ all. All (IsChoice network.now schedule.now.least task request) all.items) }
-    ensures all { IfOk result (λ all. map (λ e. e.machine) all.items ≡ ways_of knowledge.now network.now task request) }
+    ensures all { IfOk result (λ all. map (λ e. e.machine) all.items ≡ machine_ways knowledge.now network.now task request) }
 {
     let mut found = Vec::new(alloc);
     for (machine, _) in knowledge.machines().iter() {
@@ -103,7 +103,7 @@ fn over_request(
 ) -> Option<Toll>
     requires { IsSchedule network.now schedule.now }
     ensures cost { option_map (λ e. e.cost) result
-        ≡ arc_cost network.now (NodeName.Request request) (NodeName.Machine machine) }
+        ≡ cost_at network.now (NodeName.Request request) (NodeName.Machine machine) }
     ensures dearer { IfSome result (λ e.
         IsDearerIf network.now schedule.now.least (GoesOver network.now task request machine) e.more) }
     ensures fits { IfSome result (λ e. e.more < 2 ^ 111) }

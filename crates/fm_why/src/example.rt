@@ -2,9 +2,9 @@
 
 ghost use Rattle.std.specs.Prelude.{◌≡◌, ◌⊎◌, Some, IfOk, IfSome, length};
 ghost use Rattle.std.specs.List.{All, filter_map, zip};
-ghost use Rattle.fm_certificate.specs.Built.{IsBuilt};
+ghost use Rattle.fm_certificate.specs.PolicyNetwork.{IsBuilt};
 ghost use Rattle.fm_certificate.specs.Flows.{units_in};
-ghost use Rattle.fm_why.specs.Examples.{IsExample, IsExampleFor, move_over, moves_between};
+ghost use Rattle.fm_why.specs.Alternatives.{IsExample, IsExampleFor, move_over, moves_between};
 
 use crate::bounds::Schedule;
 use crate::feasible::{Aim, has_units, is_feasible, runs_on};

@@ -4,7 +4,7 @@ ghost use Rattle.std.specs.Prelude.{◌≡◌, ◌↔◌, ◌<◌, IsTrue};
 ghost use Rattle.std.specs.List.{list_all};
 ghost use Rattle.fm_certificate.specs.Checks.{sends};
 ghost use Rattle.fm_certificate.specs.Flows.{units_in, IsFeasible};
-ghost use Rattle.fm_why.specs.Examples.{AreWithin};
+ghost use Rattle.fm_why.specs.Alternatives.{AreUnitsWithin};
 ghost use Rattle.fm_why.specs.Running.{Sends, RunsOn};
 
 use fm_certificate::flow::Flow;
@@ -60,7 +60,7 @@ fn sends_over(network: &Network, flow: &Flow, from: &Node, to: &Node) -> bool
 
 // Whether the flow's keys are exactly the arcs, and each arc's units are within its capacity.
 fn arcs_suffice(network: &Network, flow: &Flow) -> bool
-    ensures { IsTrue result ↔ AreWithin flow.now network.now.arcs }
+    ensures { IsTrue result ↔ AreUnitsWithin flow.now network.now.arcs }
 {
     let mut entries = flow.iter();
     for (from, to, capacity, _) in network.arcs() {

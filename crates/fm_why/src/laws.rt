@@ -9,7 +9,7 @@ ghost use Rattle.fm_records.specs.Facts.{live_spec, holder_of, is_open, has_room
 ghost use Rattle.fm_net.specs.Network.{net_of};
 ghost use Rattle.fm_certificate.specs.Flows.{Units};
 ghost use Rattle.fm_why.specs.Running.{RunsOn};
-ghost use Rattle.fm_why.specs.Changes.{change_op, with_op, IsTight};
+ghost use Rattle.fm_why.specs.Remedies.{change_op, with_op, IsTight};
 ghost use Rattle.fm_why.specs.declared.reasons.Change.{Change};
 
 /// No schedule runs a task on a machine that is not open, on one without room for its request if no machine holds it, or

@@ -4,12 +4,12 @@
 
 use fm_certificate::flow::Flow;
 use fm_certificate::potentials::Potentials;
-use fm_cycles::arcs::{Arc, Step};
+use fm_cycles::indexed_arcs::{IndexedArc, ResidualArc};
 use fm_cycles::lookup::value_or;
 use fm_lattice::join::OutOfMemory;
 use fm_net::network::Network;
 use fm_net::node::Node;
-use fm_indexed::numbered::Numbered;
+use fm_indexed::indexed_network::IndexedNetwork;
 use std::alloc::Global;
 
 // More than any path costs. A node from which no unit gets to the goal keeps it.
@@ -56,11 +56,11 @@ pub(crate) struct Shift {
 #[derive(Drop)]
 pub(crate) struct Paths {
     nodes: Vec<Node>,
-    numbered: Numbered,
+    numbered: IndexedNetwork,
     certificate: Certificate,
     goal: usize,
     costs: Vec<i128>,
-    steps: Vec<Option<Step>>,
+    steps: Vec<Option<ResidualArc>>,
 }
 
 impl Paths {
@@ -73,7 +73,7 @@ impl Paths {
         goal: &Node,
     ) -> Result<Self, OutOfMemory> {
         let nodes: Vec<Node> = network.nodes().collect(alloc)?;
-        let numbered = Numbered::of(alloc, network)?;
+        let numbered = IndexedNetwork::of(alloc, network)?;
         let certificate = certificate_of(alloc, network, flow, potentials)?;
         let goal = place_of(&nodes, goal);
         let mut costs = vec![in alloc; FAR; numbered.places.end]?;
@@ -223,10 +223,10 @@ fn place_of(nodes: &[Node], goal: &Node) -> usize {
 
 // Lowers the costs at the ends of arcs with room, and backwards of arcs with units, and returns whether one fell.
 fn settle(
-    arcs: &[Arc],
+    arcs: &[IndexedArc],
     certificate: &Certificate,
     costs: &mut [i128],
-    steps: &mut [Option<Step>],
+    steps: &mut [Option<ResidualArc>],
 ) -> bool {
     let mut falls = false;
     let mut place = 0usize;
@@ -248,7 +248,7 @@ fn settle(
 // Lowers the cost at a node to this one, notes the step if it was higher, and returns whether it was.
 fn goes_by(
     costs: &mut [i128],
-    steps: &mut [Option<Step>],
+    steps: &mut [Option<ResidualArc>],
     node: usize,
     cost: i128,
     arc: usize,
@@ -257,14 +257,14 @@ fn goes_by(
     let falls = lower(costs, node, cost);
     if falls {
         if let Some(step) = steps.get_mut(node) {
-            *step = Some(Step { arc, forward });
+            *step = Some(ResidualArc { arc, forward });
         }
     }
     falls
 }
 
 // Takes the cost of each task over the arc on which its unit is: no unit comes to a task, so that it may be as low.
-fn take(numbered: &Numbered, certificate: &Certificate, costs: &mut [i128]) {
+fn take(numbered: &IndexedNetwork, certificate: &Certificate, costs: &mut [i128]) {
     for (arc, sent) in numbered.arcs.iter().zip(&certificate.units) {
         if *sent > 0 && arc.from >= numbered.places.tasks {
             let step = reduced(arc, &certificate.values);
@@ -286,7 +286,7 @@ fn lower(costs: &mut [i128], node: usize, cost: i128) -> bool {
 }
 
 // What a further unit over the arc costs, with the potentials of its ends.
-fn reduced(arc: &Arc, values: &[i128]) -> i128 {
+fn reduced(arc: &IndexedArc, values: &[i128]) -> i128 {
     i128::from(arc.cost)
         .saturating_add(value_or(values, arc.from, 0))
         .saturating_sub(value_or(values, arc.to, 0))

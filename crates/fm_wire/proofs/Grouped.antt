@@ -15,8 +15,8 @@ use Rattle.fm_records.specs.Sets.{unless_empty}
 use Rattle.fm_records.specs.Orders.{spot_cmp, attempt_cmp}
 use Rattle.fm_records.specs.OrderLaws.{total_attempt, same_attempt}
 use Rattle.fm_records.specs.Joined.{spots_join}
-use Rattle.fm_records.specs.Spelled.{IsFull}
-use Rattle.fm_wire.specs.Grammar.{entry_cmp, entries_at, entries_of}
+use Rattle.fm_records.specs.OpsOfTable.{IsFull}
+use Rattle.fm_wire.specs.Grammar.{entry_cmp, flat_at, flat_of}
 use Rattle.fm_wire.proofs.Walks.{IsAbove, put_above}
 
 abbrev Key : Type 0
@@ -56,28 +56,28 @@ module _ {K V : Type 0} (cmp : K → K → Ordering) (total : IsTotalOrder cmp) 
 
 -- ---- the entries rise
 
-below_at : (at : ℕ × ℕ) (c : ℕ) (spots : Spots) → IsBelow nat_cmp c spots → IsBelow entry_cmp (at, c) (entries_at at spots)
+below_at : (at : ℕ × ℕ) (c : ℕ) (spots : Spots) → IsBelow nat_cmp c spots → IsBelow entry_cmp (at, c) (flat_at at spots)
 below_at at c [] b = tt
 below_at at c (s ∷ spots) b = (rw (tied_itself total_attempt at) b.0, below_at at c spots b.1)
 
-below_group : (at here : ℕ × ℕ) (c : ℕ) (spots : Spots) → attempt_cmp at here ≡ Less → IsBelow entry_cmp (at, c) (entries_at here spots)
+below_group : (at here : ℕ × ℕ) (c : ℕ) (spots : Spots) → attempt_cmp at here ≡ Less → IsBelow entry_cmp (at, c) (flat_at here spots)
 below_group at here c [] e = tt
 below_group at here c (s ∷ spots) e = (rw e refl, below_group at here c spots e)
 
-pub below_groups : (at : ℕ × ℕ) (c : ℕ) (groups : Groups) → IsBelow attempt_cmp at groups → IsBelow entry_cmp (at, c) (entries_of groups)
+pub below_groups : (at : ℕ × ℕ) (c : ℕ) (groups : Groups) → IsBelow attempt_cmp at groups → IsBelow entry_cmp (at, c) (flat_of groups)
 below_groups at c [] b = tt
-below_groups at c (g ∷ groups) b = below_both entry_cmp entry_total (at, c) (entries_at g.0 g.1) (entries_of groups) (below_group at g.0 c g.1 b.0) (below_groups at c groups b.1)
+below_groups at c (g ∷ groups) b = below_both entry_cmp entry_total (at, c) (flat_at g.0 g.1) (flat_of groups) (below_group at g.0 c g.1 b.0) (below_groups at c groups b.1)
 
-rising_group : (at : ℕ × ℕ) (spots : Spots) (groups : Groups) → IsRising nat_cmp spots → IsBelow attempt_cmp at groups → IsRising entry_cmp (entries_of groups) → IsRising entry_cmp (entries_at at spots ++ entries_of groups)
+rising_group : (at : ℕ × ℕ) (spots : Spots) (groups : Groups) → IsRising nat_cmp spots → IsBelow attempt_cmp at groups → IsRising entry_cmp (flat_of groups) → IsRising entry_cmp (flat_at at spots ++ flat_of groups)
 rising_group at [] groups r b rest = rest
 rising_group at (s ∷ spots) groups r b rest =
-    (below_both entry_cmp entry_total (at, s.0) (entries_at at spots) (entries_of groups) (below_at at s.0 spots r.0) (below_groups at s.0 groups b), rising_group at spots groups r.1 b rest)
+    (below_both entry_cmp entry_total (at, s.0) (flat_at at spots) (flat_of groups) (below_at at s.0 spots r.0) (below_groups at s.0 groups b), rising_group at spots groups r.1 b rest)
 
 -- the spots of each attempt rise
 abbrev Rise : Spots → Type 0
 Rise spots = IsRising nat_cmp spots
 
-pub entries_rise : (groups : Groups) → IsRising attempt_cmp groups → AreValues Rise groups → IsRising entry_cmp (entries_of groups)
+pub entries_rise : (groups : Groups) → IsRising attempt_cmp groups → AreValues Rise groups → IsRising entry_cmp (flat_of groups)
 entries_rise [] r v = tt
 entries_rise (g ∷ groups) r v = rising_group g.0 g.1 groups v.0 r.0 (entries_rise groups r.1 v.1)
 
@@ -107,7 +107,7 @@ then_second : (o p : Ordering) → o ≡ Equal → ordering_then o p ≡ Less �
 then_second o p e h = rw e at h
 
 -- if the attempt is that of the last group, the new coordinator comes after its coordinators
-above_in : (at here : ℕ × ℕ) (c : ℕ) (spots : Spots) → attempt_cmp here at ≡ Equal → IsAbove entry_cmp entry_total (at, c) (entries_at here spots) → IsAbove nat_cmp nat_cmp_total c spots
+above_in : (at here : ℕ × ℕ) (c : ℕ) (spots : Spots) → attempt_cmp here at ≡ Equal → IsAbove entry_cmp entry_total (at, c) (flat_at here spots) → IsAbove nat_cmp nat_cmp_total c spots
 above_in at here c [] e h = tt
 above_in at here c (s ∷ spots) e h = (then_second (attempt_cmp here at) (nat_cmp s.0 c) e h.0, above_in at here c spots e h.1)
 
@@ -128,7 +128,7 @@ no_full : IsFull [] → ⊥
 no_full f = let h = f.full in absurd cc
 
 -- a group that has an entry below the new one is not above it
-not_greater : (at here : ℕ × ℕ) (c : ℕ) (spots : Spots) → IsFull spots → attempt_cmp here at ≡ Greater → IsAbove entry_cmp entry_total (at, c) (entries_at here spots) → ⊥
+not_greater : (at here : ℕ × ℕ) (c : ℕ) (spots : Spots) → IsFull spots → attempt_cmp here at ≡ Greater → IsAbove entry_cmp entry_total (at, c) (flat_at here spots) → ⊥
 not_greater at here c [] f e h = no_full f
 not_greater at here c (s ∷ spots) f e h = less_first (attempt_cmp here at) (nat_cmp s.0 c) e h.0
 
@@ -136,7 +136,7 @@ not_greater at here c (s ∷ spots) f e h = less_first (attempt_cmp here at) (na
 abbrev pub with_entry : ℕ × ℕ → ℕ → Spot → Groups → Groups
 with_entry at c s groups = put attempt_cmp spots_join at ((c, s) ∷ []) groups
 
-entries_append : (a b : Spots) (at : ℕ × ℕ) → entries_at at (a ++ b) ≡ entries_at at a ++ entries_at at b
+entries_append : (a b : Spots) (at : ℕ × ℕ) → flat_at at (a ++ b) ≡ flat_at at a ++ flat_at at b
 entries_append [] b at = refl
 entries_append (x ∷ a) b at = ap (λ z. ((at, x.0), x.1) ∷ z) (entries_append a b at)
 
@@ -144,61 +144,61 @@ abbrev one : ℕ × ℕ → ℕ → Spot → List (Key × Spot)
 one at c s = ((at, c), s) ∷ []
 
 -- nothing comes after the group of the new entry's attempt
-last_group : (at here : ℕ × ℕ) (c : ℕ) (groups : Groups) → AreValues IsFull groups → attempt_cmp at here ≡ Equal → IsBelow attempt_cmp here groups → IsAbove entry_cmp entry_total (at, c) (entries_of groups) → groups ≡ []
+last_group : (at here : ℕ × ℕ) (c : ℕ) (groups : Groups) → AreValues IsFull groups → attempt_cmp at here ≡ Equal → IsBelow attempt_cmp here groups → IsAbove entry_cmp entry_total (at, c) (flat_of groups) → groups ≡ []
 last_group at here c [] v e b h = refl
 last_group at here c (g ∷ groups) v e b h =
     let less : attempt_cmp at g.0 ≡ Less = subst (λ z. attempt_cmp z g.0 ≡ Less) (sym (same_attempt at here e)) b.0 in
-    absurd (not_greater at g.0 c g.1 v.0 (less_greater attempt_cmp total_attempt at g.0 less) (above_front (at, c) (entries_at g.0 g.1) (entries_of groups) h))
+    absurd (not_greater at g.0 c g.1 v.0 (less_greater attempt_cmp total_attempt at g.0 less) (above_front (at, c) (flat_at g.0 g.1) (flat_of groups) h))
 
-finish : (a o : List (Key × Spot)) (groups : Groups) → groups ≡ [] → (a ++ o) ++ entries_of groups ≡ (a ++ entries_of groups) ++ o
-finish a o groups none = subst (λ z. (a ++ o) ++ entries_of z ≡ (a ++ entries_of z) ++ o) (sym none) (append-nil (a ++ o) ∙ ap (λ z. z ++ o) (sym (append-nil a)))
+finish : (a o : List (Key × Spot)) (groups : Groups) → groups ≡ [] → (a ++ o) ++ flat_of groups ≡ (a ++ flat_of groups) ++ o
+finish a o groups none = subst (λ z. (a ++ o) ++ flat_of z ≡ (a ++ flat_of z) ++ o) (sym none) (append-nil (a ++ o) ∙ ap (λ z. z ++ o) (sym (append-nil a)))
 
-pub entry_added : (at : ℕ × ℕ) (c : ℕ) (s : Spot) (groups : Groups) → IsRising attempt_cmp groups → AreValues IsFull groups → IsAbove entry_cmp entry_total (at, c) (entries_of groups)
-    → (entries_of (with_entry at c s groups) ≡ entries_of groups ++ one at c s) × AreValues IsFull (with_entry at c s groups)
+pub entry_added : (at : ℕ × ℕ) (c : ℕ) (s : Spot) (groups : Groups) → IsRising attempt_cmp groups → AreValues IsFull groups → IsAbove entry_cmp entry_total (at, c) (flat_of groups)
+    → (flat_of (with_entry at c s groups) ≡ flat_of groups ++ one at c s) × AreValues IsFull (with_entry at c s groups)
 entry_added at c s [] r v h = (refl, (record { rising = (tt, tt); full = refl }, tt))
 entry_added at c s (g ∷ groups) r v h =
-    let here = above_front (at, c) (entries_at g.0 g.1) (entries_of groups) h in
-    let later = above_back (at, c) (entries_at g.0 g.1) (entries_of groups) h in
+    let here = above_front (at, c) (flat_at g.0 g.1) (flat_of groups) h in
+    let later = above_back (at, c) (flat_at g.0 g.1) (flat_of groups) h in
     by_cases (attempt_cmp at g.0) (λ o.
     let new : Groups = by_order o ((at, (c, s) ∷ []) ∷ g ∷ groups) ((g.0, spots_join g.1 ((c, s) ∷ [])) ∷ groups) (g ∷ with_entry at c s groups) in
-    (entries_of new ≡ entries_of (g ∷ groups) ++ one at c s) × AreValues IsFull new)
+    (flat_of new ≡ flat_of (g ∷ groups) ++ one at c s) × AreValues IsFull new)
     (λ e. absurd (not_greater at g.0 c g.1 v.0 (less_greater attempt_cmp total_attempt at g.0 e) here))
     (λ e.
     let none : groups ≡ [] = last_group at g.0 c groups v.1 e r.0 later in
     let above = above_in at g.0 c g.1 (tied_back total_attempt at g.0 e) here in
     let grown : put nat_cmp (min_join spot_cmp) c s g.1 ≡ g.1 ++ (c, s) ∷ [] = put_above nat_cmp nat_cmp_total (min_join spot_cmp) c s g.1 above in
     let same : at ≡ g.0 = same_attempt at g.0 e in
-    let group : entries_at g.0 (put nat_cmp (min_join spot_cmp) c s g.1) ≡ entries_at g.0 g.1 ++ one at c s = ap (entries_at g.0) grown ∙ entries_append g.1 ((c, s) ∷ []) g.0 ∙ ap (λ z. entries_at g.0 g.1 ++ one z c s) (sym same) in
-    (ap (λ z. z ++ entries_of groups) group ∙ finish (entries_at g.0 g.1) (one at c s) groups none, (full_put c s g.1 v.0.rising above, v.1)))
+    let group : flat_at g.0 (put nat_cmp (min_join spot_cmp) c s g.1) ≡ flat_at g.0 g.1 ++ one at c s = ap (flat_at g.0) grown ∙ entries_append g.1 ((c, s) ∷ []) g.0 ∙ ap (λ z. flat_at g.0 g.1 ++ one z c s) (sym same) in
+    (ap (λ z. z ++ flat_of groups) group ∙ finish (flat_at g.0 g.1) (one at c s) groups none, (full_put c s g.1 v.0.rising above, v.1)))
     (λ e.
     let rest = entry_added at c s groups r.1 v.1 later in
-    (ap (λ z. entries_at g.0 g.1 ++ z) rest.0 ∙ sym (append_assoc (entries_at g.0 g.1) (entries_of groups) (one at c s)), (v.0, rest.1)))
+    (ap (λ z. flat_at g.0 g.1 ++ z) rest.0 ∙ sym (append_assoc (flat_at g.0 g.1) (flat_of groups) (one at c s)), (v.0, rest.1)))
 
 -- ---- the steps of the loops
 
 abbrev Listing : Type 0
 Listing = List (Key × Spot)
 
-pub group_step : (at : ℕ × ℕ) (c : ℕ) (s : Spot) (entries new all : Listing) (old left : Spots) → old ≡ (c, s) ∷ left → IsRising entry_cmp all → entries ++ entries_at at old ≡ all
-    → new ≡ put entry_cmp (min_join spot_cmp) (at, c) s entries → new ++ entries_at at left ≡ all
+pub group_step : (at : ℕ × ℕ) (c : ℕ) (s : Spot) (entries new all : Listing) (old left : Spots) → old ≡ (c, s) ∷ left → IsRising entry_cmp all → entries ++ flat_at at old ≡ all
+    → new ≡ put entry_cmp (min_join spot_cmp) (at, c) s entries → new ++ flat_at at left ≡ all
 group_step at c s entries new all old left first r so_far is =
-    let here : entries ++ ((at, c), s) ∷ entries_at at left ≡ all = ap (λ z. entries ++ entries_at at z) (sym first) ∙ so_far in
-    let above = middle_above entry_cmp entry_total entries ((at, c), s) (entries_at at left) (subst (IsRising entry_cmp) (sym here) r) in
+    let here : entries ++ ((at, c), s) ∷ flat_at at left ≡ all = ap (λ z. entries ++ flat_at at z) (sym first) ∙ so_far in
+    let above = middle_above entry_cmp entry_total entries ((at, c), s) (flat_at at left) (subst (IsRising entry_cmp) (sym here) r) in
     let added : new ≡ entries ++ one at c s = is ∙ put_above entry_cmp entry_total (min_join spot_cmp) (at, c) s entries above in
-    ap (λ z. z ++ entries_at at left) added ∙ append_assoc entries (one at c s) (entries_at at left) ∙ here
+    ap (λ z. z ++ flat_at at left) added ∙ append_assoc entries (one at c s) (flat_at at left) ∙ here
 
-pub group_fits : (at : ℕ × ℕ) (spots : Spots) (entries all : Listing) (old left : Groups) → old ≡ (at, spots) ∷ left → IsRising entry_cmp all → entries ++ entries_of old ≡ all → IsRising entry_cmp (entries ++ entries_at at spots)
+pub group_fits : (at : ℕ × ℕ) (spots : Spots) (entries all : Listing) (old left : Groups) → old ≡ (at, spots) ∷ left → IsRising entry_cmp all → entries ++ flat_of old ≡ all → IsRising entry_cmp (entries ++ flat_at at spots)
 group_fits at spots entries all old left first r so_far =
-    let here : (entries ++ entries_at at spots) ++ entries_of left ≡ all = append_assoc entries (entries_at at spots) (entries_of left) ∙ ap (λ z. entries ++ entries_of z) (sym first) ∙ so_far in
-    rising_front entry_cmp entry_total (entries ++ entries_at at spots) (entries_of left) (subst (IsRising entry_cmp) (sym here) r)
+    let here : (entries ++ flat_at at spots) ++ flat_of left ≡ all = append_assoc entries (flat_at at spots) (flat_of left) ∙ ap (λ z. entries ++ flat_of z) (sym first) ∙ so_far in
+    rising_front entry_cmp entry_total (entries ++ flat_at at spots) (flat_of left) (subst (IsRising entry_cmp) (sym here) r)
 
-pub groups_step : (at : ℕ × ℕ) (spots : Spots) (entries new all : Listing) (old left : Groups) → old ≡ (at, spots) ∷ left → entries ++ entries_of old ≡ all → new ≡ entries ++ entries_at at spots → new ++ entries_of left ≡ all
+pub groups_step : (at : ℕ × ℕ) (spots : Spots) (entries new all : Listing) (old left : Groups) → old ≡ (at, spots) ∷ left → entries ++ flat_of old ≡ all → new ≡ entries ++ flat_at at spots → new ++ flat_of left ≡ all
 groups_step at spots entries new all old left first so_far is =
-    ap (λ z. z ++ entries_of left) is ∙ append_assoc entries (entries_at at spots) (entries_of left) ∙ ap (λ z. entries ++ entries_of z) (sym first) ∙ so_far
+    ap (λ z. z ++ flat_of left) is ∙ append_assoc entries (flat_at at spots) (flat_of left) ∙ ap (λ z. entries ++ flat_of z) (sym first) ∙ so_far
 
 -- the groups of the entries so far
 pub record AreGroups (groups : Groups) (left all : Listing) : Type 0 where
-  pub so_far : entries_of groups ++ left ≡ all
+  pub so_far : flat_of groups ++ left ≡ all
   pub rising : IsRising attempt_cmp groups
   pub full : AreValues IsFull groups
 
@@ -207,14 +207,14 @@ groups_begin groups left all none is = subst (λ z. AreGroups z left all) (sym n
 
 pub entry_step : (at : ℕ × ℕ) (c : ℕ) (s : Spot) (groups new : Groups) (old left all : Listing) → old ≡ ((at, c), s) ∷ left → IsRising entry_cmp all → AreGroups groups old all → new ≡ with_entry at c s groups → AreGroups new left all
 entry_step at c s groups new old left all first r so_far is =
-    let here : entries_of groups ++ ((at, c), s) ∷ left ≡ all = ap (λ z. entries_of groups ++ z) (sym first) ∙ so_far.so_far in
-    let above = middle_above entry_cmp entry_total (entries_of groups) ((at, c), s) left (subst (IsRising entry_cmp) (sym here) r) in
+    let here : flat_of groups ++ ((at, c), s) ∷ left ≡ all = ap (λ z. flat_of groups ++ z) (sym first) ∙ so_far.so_far in
+    let above = middle_above entry_cmp entry_total (flat_of groups) ((at, c), s) left (subst (IsRising entry_cmp) (sym here) r) in
     let added = entry_added at c s groups so_far.rising so_far.full above in
     subst (λ z. AreGroups z left all) (sym is) (record {
-      so_far = ap (λ z. z ++ left) added.0 ∙ append_assoc (entries_of groups) (one at c s) left ∙ here;
+      so_far = ap (λ z. z ++ left) added.0 ∙ append_assoc (flat_of groups) (one at c s) left ∙ here;
       rising = rising_put attempt_cmp total_attempt same_attempt spots_join at ((c, s) ∷ []) groups so_far.rising;
       full = added.1;
     })
 
-pub groups_end : (groups : Groups) (left all : Listing) → left ≡ [] → AreGroups groups left all → entries_of groups ≡ all
-groups_end groups left all none h = sym (append-nil (entries_of groups)) ∙ ap (λ z. entries_of groups ++ z) (sym none) ∙ h.so_far
+pub groups_end : (groups : Groups) (left all : Listing) → left ≡ [] → AreGroups groups left all → flat_of groups ≡ all
+groups_end groups left all none h = sym (append-nil (flat_of groups)) ∙ ap (λ z. flat_of groups ++ z) (sym none) ∙ h.so_far

@@ -17,15 +17,15 @@ use Rattle.fm_records.specs.declared.records.Report.{Report}
 use Rattle.fm_records.specs.declared.records.Spot.{Spot}
 use Rattle.fm_records.specs.Ops.{op_fault}
 use Rattle.fm_records.specs.Table.{TaskValue, MachineValue}
-use Rattle.fm_records.specs.Spelled.{job_op, spec_op, progress_op, machine_op, report_op, propose_op, task_ops, machine_ops, entry_ops, has_part}
-use Rattle.fm_records.specs.Ranges.{is_id, is_count, is_attempt, fits_row, fits, in_range, all_in_range}
+use Rattle.fm_records.specs.OpsOfTable.{job_op, spec_op, progress_op, machine_op, report_op, propose_op, task_ops, machine_ops, entry_ops, has_part}
+use Rattle.fm_records.specs.Ranges.{is_id, is_count, is_attempt, fits_row, fields_fit, in_range, all_in_range}
 use Rattle.fm_records.specs.LookupLaws.{both_true}
 use Rattle.fm_records.specs.RangeLaws.{all_pass, both_pass}
 use Rattle.fm_wire.specs.Formats.{◌⨾◌, part}
 use Rattle.fm_delta.specs.declared.packet.Packet.{Packet}
 use Rattle.fm_wire.specs.declared.version.Version.{Version}
 use Rattle.fm_wire.specs.declared.version.Version.TheVariants.{Fdg1, Fdg2}
-use Rattle.fm_wire.specs.Grammar.{id, count, attempt, coordinator, flag, phase, job, spec, optional_spec, task, state, report, parts, machine, spot, entries_at, entries_of, CanSpell}
+use Rattle.fm_wire.specs.Grammar.{id, count, attempt, coordinator_field, flag, phase, job, spec, optional_spec, task, state, report, parts, machine, spot, flat_at, flat_of, CanSpell}
 use Rattle.fm_wire.proofs.Preferring.{HasPlace, prefer_in, fits_out, preference_out, place_out}
 
 -- ---- tests of fields
@@ -70,7 +70,7 @@ none_back b x f p q = ap (λ c. is_none (cond c x (Some f))) p ∙ q
 pub job_in : (j : ℕ) (r : JobReg) → in_range (job_op j r) ≡ true → id.has j × job.has r
 unfolding job
 job_in j r h =
-    let whole = both_true (fits (job_op j r)) (is_none (op_fault (job_op j r))) h in
+    let whole = both_true (fields_fit (job_op j r)) (is_none (op_fault (job_op j r))) h in
     let ids = both_true (is_id j) (is_count r.version) whole.0 in
     let a = none_then _ _ _ whole.1 in
     let b = none_then _ _ _ a.1 in
@@ -80,14 +80,14 @@ job_in j r h =
 pub job_out : (j : ℕ) (r : JobReg) → id.has j × job.has r → in_range (job_op j r) ≡ true
 unfolding job
 job_out j r h =
-    both (fits (job_op j r)) (is_none (op_fault (job_op j r)))
+    both (fields_fit (job_op j r)) (is_none (op_fault (job_op j r)))
     (both (is_id j) (is_count r.version) (is_below j (2 ^ 128) (omega arith) h.0.1) (is_below r.version (2 ^ 64) (omega arith) h.1.0.1))
     (none_back _ _ _ (is_within r.writer 1 64 h.1.1.0) (none_back _ _ _ (le-leb r.wait 1000000000 h.1.1.1.1.0.1) (none_back _ _ _ (le-leb r.preempt 1000000000 h.1.1.1.1.1.1) refl)))
 
 spec_in : (v : Version) (t : ℕ) (r : SpecReg) → HasPlace v (Some r) → in_range (spec_op t r) ≡ true → (spec v).has r
 unfolding spec
 spec_in v t r place h =
-    let whole = both_true (fits (spec_op t r)) (is_none (op_fault (spec_op t r))) h in
+    let whole = both_true (fields_fit (spec_op t r)) (is_none (op_fault (spec_op t r))) h in
     let row = both_true (is_id t && is_count r.version && is_id r.job) (fits_row r.prefer) whole.0 in
     let ids = both_true (is_id t && is_count r.version) (is_id r.job) row.0 in
     let first = both_true (is_id t) (is_count r.version) ids.0 in
@@ -99,7 +99,7 @@ spec_in v t r place h =
 spec_out : (v : Version) (t : ℕ) (r : SpecReg) → id.has t → (spec v).has r → in_range (spec_op t r) ≡ true
 unfolding spec
 spec_out v t r g h =
-    both (fits (spec_op t r)) (is_none (op_fault (spec_op t r)))
+    both (fields_fit (spec_op t r)) (is_none (op_fault (spec_op t r)))
     (both (is_id t && is_count r.version && is_id r.job) (fits_row r.prefer)
     (both (is_id t && is_count r.version) (is_id r.job) (both (is_id t) (is_count r.version) (is_below t (2 ^ 128) (omega arith) g.1) (is_below r.version (2 ^ 64) (omega arith) h.0.1)) (is_below r.job (2 ^ 128) (omega arith) h.1.1.1.0.1))
     (fits_out v r.prefer h.1.1.1.1.1))
@@ -115,13 +115,13 @@ no_place Fdg2 = tt
 
 progress_in : (t : ℕ) (p : Progress) → in_range (progress_op t p) ≡ true → id.has t × attempt.has p.attempt
 progress_in t p h =
-    let whole = both_true (fits (progress_op t p)) true h in
+    let whole = both_true (fields_fit (progress_op t p)) true h in
     let ids = both_true (is_id t) (is_attempt p.attempt) whole.0 in
     (below t (2 ^ 128) ids.0, below p.attempt (2 ^ 32) ids.1)
 
 progress_out : (t : ℕ) (p : Progress) → id.has t → attempt.has p.attempt → in_range (progress_op t p) ≡ true
 progress_out t p g h =
-    both (fits (progress_op t p)) true (both (is_id t) (is_attempt p.attempt) (is_below t (2 ^ 128) (omega arith) g.1) (is_below p.attempt (2 ^ 32) (omega arith) h.1)) refl
+    both (fields_fit (progress_op t p)) true (both (is_id t) (is_attempt p.attempt) (is_below t (2 ^ 128) (omega arith) g.1) (is_below p.attempt (2 ^ 32) (omega arith) h.1)) refl
 
 none_has : (v : Version) → (optional_spec v).has None
 unfolding optional_spec
@@ -164,7 +164,7 @@ task_place w (Some s, p) h = spec_place w s (has_some w s h.1.1)
 state_in : (m i : ℕ) (r : MachineReg) → in_range (machine_op m i r) ≡ true → id.has m × count.has i × state.has r
 unfolding state
 state_in m i r h =
-    let whole = both_true (fits (machine_op m i r)) (is_none (op_fault (machine_op m i r))) h in
+    let whole = both_true (fields_fit (machine_op m i r)) (is_none (op_fault (machine_op m i r))) h in
     let ids = both_true (is_id m && is_count i) (is_count r.version) whole.0 in
     let first = both_true (is_id m) (is_count i) ids.0 in
     let a = none_then _ _ _ whole.1 in
@@ -175,14 +175,14 @@ state_in m i r h =
 state_out : (m i : ℕ) (r : MachineReg) → id.has m → count.has i → state.has r → in_range (machine_op m i r) ≡ true
 unfolding state
 state_out m i r g k h =
-    both (fits (machine_op m i r)) (is_none (op_fault (machine_op m i r)))
+    both (fields_fit (machine_op m i r)) (is_none (op_fault (machine_op m i r)))
     (both (is_id m && is_count i) (is_count r.version) (both (is_id m) (is_count i) (is_below m (2 ^ 128) (omega arith) g.1) (is_below i (2 ^ 64) (omega arith) k.1)) (is_below r.version (2 ^ 64) (omega arith) h.0.1))
     (none_back _ _ _ (is_within r.writer 1 64 h.1.0) (none_back _ _ _ (is_within r.slots 1 1000 h.1.1.1.0) (none_back _ _ _ (le-leb r.nic 1000000 h.1.1.1.1.1) refl)))
 
 report_in : (m i : ℕ) (r : Report) → in_range (report_op m i r) ≡ true → id.has m × count.has i × report.has r
 unfolding report
 report_in m i r h =
-    let whole = both_true (fits (report_op m i r)) (is_none (op_fault (report_op m i r))) h in
+    let whole = both_true (fields_fit (report_op m i r)) (is_none (op_fault (report_op m i r))) h in
     let ids = both_true (is_id m && is_count i) (is_count r.number) whole.0 in
     let first = both_true (is_id m) (is_count i) ids.0 in
     let a = none_then _ _ _ whole.1 in
@@ -191,7 +191,7 @@ report_in m i r h =
 report_out : (m i : ℕ) (r : Report) → id.has m → count.has i → report.has r → in_range (report_op m i r) ≡ true
 unfolding report
 report_out m i r g k h =
-    both (fits (report_op m i r)) (is_none (op_fault (report_op m i r)))
+    both (fields_fit (report_op m i r)) (is_none (op_fault (report_op m i r)))
     (both (is_id m && is_count i) (is_count r.number) (both (is_id m) (is_count i) (is_below m (2 ^ 128) (omega arith) g.1) (is_below i (2 ^ 64) (omega arith) k.1)) (is_below r.number (2 ^ 64) (omega arith) h.0.1))
     (none_back _ _ _ (le-leb r.used 1000000000 h.1.1) refl)
 
@@ -223,12 +223,12 @@ abbrev Entry : Type 0
 Entry = ((ℕ × ℕ) × ℕ) × Spot
 
 abbrev HasEntry : Entry → Type 0
-HasEntry e = ((id ⨾ attempt) ⨾ coordinator).has e.0 × spot.has e.1
+HasEntry e = ((id ⨾ attempt) ⨾ coordinator_field).has e.0 × spot.has e.1
 
 entry_in : (at : ℕ × ℕ) (c : ℕ) (s : Spot) → in_range (propose_op at c s) ≡ true → HasEntry ((at, c), s)
 unfolding spot
 entry_in at c s h =
-    let whole = both_true (fits (propose_op at c s)) (is_none (op_fault (propose_op at c s))) h in
+    let whole = both_true (fields_fit (propose_op at c s)) (is_none (op_fault (propose_op at c s))) h in
     let last = both_true (is_id at.0 && is_attempt at.1 && is_id s.machine) (is_count s.incarnation) whole.0 in
     let middle = both_true (is_id at.0 && is_attempt at.1) (is_id s.machine) last.0 in
     let first = both_true (is_id at.0) (is_attempt at.1) middle.0 in
@@ -238,7 +238,7 @@ entry_in at c s h =
 entry_out : (at : ℕ × ℕ) (c : ℕ) (s : Spot) → HasEntry ((at, c), s) → in_range (propose_op at c s) ≡ true
 unfolding spot
 entry_out at c s h =
-    both (fits (propose_op at c s)) (is_none (op_fault (propose_op at c s)))
+    both (fields_fit (propose_op at c s)) (is_none (op_fault (propose_op at c s)))
     (both (is_id at.0 && is_attempt at.1 && is_id s.machine) (is_count s.incarnation)
     (both (is_id at.0 && is_attempt at.1) (is_id s.machine) (both (is_id at.0) (is_attempt at.1) (is_below at.0 (2 ^ 128) (omega arith) h.0.0.0.1) (is_below at.1 (2 ^ 32) (omega arith) h.0.0.1.1)) (is_below s.machine (2 ^ 128) (omega arith) h.1.0.1))
     (is_below s.incarnation (2 ^ 64) (omega arith) h.1.1.1))
@@ -300,11 +300,11 @@ any_values (e ∷ es) = (tt, any_values es)
 abbrev Spots : Type 0
 Spots = List (ℕ × Spot)
 
-spots_in : (at : ℕ × ℕ) (spots : Spots) → all_in_range (entry_ops (at, spots)) ≡ true → AllByRecursion HasEntry (entries_at at spots)
+spots_in : (at : ℕ × ℕ) (spots : Spots) → all_in_range (entry_ops (at, spots)) ≡ true → AllByRecursion HasEntry (flat_at at spots)
 spots_in at [] h = tt
 spots_in at (s ∷ spots) h = let t = first_passes (propose_op at s.0 s.1) (entry_ops (at, spots)) h in (entry_in at s.0 s.1 t.0, spots_in at spots t.1)
 
-spots_out : (at : ℕ × ℕ) (spots : Spots) → AllByRecursion HasEntry (entries_at at spots) → all_in_range (entry_ops (at, spots)) ≡ true
+spots_out : (at : ℕ × ℕ) (spots : Spots) → AllByRecursion HasEntry (flat_at at spots) → all_in_range (entry_ops (at, spots)) ≡ true
 spots_out at [] h = refl
 spots_out at (s ∷ spots) h = passes_first (propose_op at s.0 s.1) (entry_ops (at, spots)) (entry_out at s.0 s.1 h.0) (spots_out at spots h.1)
 
@@ -317,14 +317,14 @@ module _ {X : Type 0} (P : X → Type 0) where
   all_parts [] ys p = (tt, p)
   all_parts (x ∷ xs) ys p = let t = all_parts xs ys p.1 in ((p.0, t.0), t.1)
 
-pub entries_in : (groups : List ((ℕ × ℕ) × Spots)) → all_in_range (flat_map entry_ops groups) ≡ true → AllByRecursion HasEntry (entries_of groups)
+pub entries_in : (groups : List ((ℕ × ℕ) × Spots)) → all_in_range (flat_map entry_ops groups) ≡ true → AllByRecursion HasEntry (flat_of groups)
 entries_in [] h = tt
 entries_in (g ∷ groups) h =
     let t = both_pass in_range (entry_ops g) (flat_map entry_ops groups) h in
-    all_both HasEntry (entries_at g.0 g.1) (entries_of groups) (spots_in g.0 g.1 t.0) (entries_in groups t.1)
+    all_both HasEntry (flat_at g.0 g.1) (flat_of groups) (spots_in g.0 g.1 t.0) (entries_in groups t.1)
 
-pub entries_out : (groups : List ((ℕ × ℕ) × Spots)) → AllByRecursion HasEntry (entries_of groups) → all_in_range (flat_map entry_ops groups) ≡ true
+pub entries_out : (groups : List ((ℕ × ℕ) × Spots)) → AllByRecursion HasEntry (flat_of groups) → all_in_range (flat_map entry_ops groups) ≡ true
 entries_out [] h = refl
 entries_out (g ∷ groups) h =
-    let t = all_parts HasEntry (entries_at g.0 g.1) (entries_of groups) h in
+    let t = all_parts HasEntry (flat_at g.0 g.1) (flat_of groups) h in
     all_pass in_range (entry_ops g) (flat_map entry_ops groups) (spots_out g.0 g.1 t.0) (entries_out groups t.1)

@@ -13,7 +13,7 @@ use Rattle.std.specs.Prelude.{nat_le, ◌&&◌}
 use Rattle.std.proofs.lemmas.Bool.{ltb-false, le-ltb, leb-true, le-leb}
 use Rattle.std.proofs.lemmas.List.{take_at, drop_at, take-append-drop, length-append, length-take}
 use Rattle.fm_records.specs.LookupLaws.{both_true}
-use Rattle.fm_wire.specs.Formats.{◌>>=◌, Format, bytes_of, number_at, number, only, leading, ◌⨾◌, seen_as, part, by_tag, comes_after, key_at, record_at, records_at, with_count, records}
+use Rattle.fm_wire.specs.Formats.{◌>>=◌, Format, bytes_of, number_at, number_field, constant, leading, ◌⨾◌, seen_as, part, by_tag, comes_after, key_at, record_at, records_at, with_count, records}
 use Rattle.fm_wire.proofs.Binds.{bind_ok, guard_ok, ok_is}
 use Rattle.fm_wire.proofs.Walks.{less_is}
 use Rattle.fm_wire.proofs.Widths.{IsBytes, IsBytes-take, IsBytes-drop, IsWide, wide8, wide64}
@@ -35,7 +35,7 @@ number_ok true c x y left e = absurd cc
 number_ok false true x y left e = (refl, refl, ok_is x y e)
 number_ok false false x y left e = absurd cc
 
-pub number_lawful : (w : Width) (limit least greatest : ℕ) → IsWide w limit → greatest < limit → Lawful (number w least greatest)
+pub number_lawful : (w : Width) (limit least greatest : ℕ) → IsWide w limit → greatest < limit → Lawful (number_field w least greatest)
 unfolding number_at
 number_lawful w limit least greatest wide below = record {
   again = λ n rest has.
@@ -59,13 +59,13 @@ number_lawful w limit least greatest wide below = record {
 
 -- ---- one after the other, and seen as another type
 
-pub only_lawful : {A : Type 0} (a : A) → Lawful (only a)
+pub only_lawful : {A : Type 0} (a : A) → Lawful (constant a)
 only_lawful {A} a = record {
   again = λ b rest has. ap (λ (z : A). Ok (z, rest)) (sym has);
   takes = λ bytes b rest fits e.
       let made : A × List ℕ = (b, rest) in
       let found : A × List ℕ = (a, bytes) in
-      subst (λ (y : A × List ℕ). Took (only a) bytes y.0 y.1) (ok_is found made e) (record { whole = refl; has = refl; fits = fits });
+      subst (λ (y : A × List ℕ). Took (constant a) bytes y.0 y.1) (ok_is found made e) (record { whole = refl; has = refl; fits = fits });
 }
 
 pub leading_lawful : {A B : Type 0} (F : Format A) (G : A → Format B) → Lawful F → ((a : A) → Lawful (G a)) → Lawful (leading F G)

@@ -15,8 +15,8 @@ use Rattle.fm_records.specs.OrderLaws.{same_attempt}
 use Rattle.std.proofs.lemmas.Bool.{eqb-true, eqb-false}
 use Rattle.fm_wire.specs.declared.version.Version.{Version}
 use Rattle.fm_wire.specs.declared.version.Version.TheVariants.{Fdg1, Fdg2}
-use Rattle.fm_wire.specs.Formats.{Format, number, ◌⨾◌, part}
-use Rattle.fm_wire.specs.Grammar.{id, count, attempt, coordinator, flag, price, bandwidth, phase_from, phase, job, preferences, spec, has_of, optional_spec, task, state, report, parts_of, parts, machine, spot, entry_cmp, header, jobs, tasks, machines, entries, body, word_of, version_from, version_word, packet}
+use Rattle.fm_wire.specs.Formats.{Format, number_field, ◌⨾◌, part}
+use Rattle.fm_wire.specs.Grammar.{id, count, attempt, coordinator_field, flag, price_field, bandwidth, phase_from, phase, job, preferences, spec, has_of, optional_spec, task, state, report, parts_of, parts, machine, spot, entry_cmp, header, jobs, task_list, machines, entry_list, body, word_of, version_from, version_word, packet}
 use Rattle.fm_wire.proofs.Widths.{wide8, wide32, wide64, wide128}
 use Rattle.fm_wire.proofs.Lawful.{Lawful, number_lawful, only_lawful, leading_lawful, pair_lawful, seen_lawful, part_lawful, tagged_lawful, counted_lawful, records_lawful}
 use Rattle.fm_wire.proofs.Grouped.{entry_total}
@@ -30,20 +30,20 @@ count_lawful = number_lawful w64 (2 ^ 64) 0 (2 ^ 64 - 1) wide64 (omega arith)
 attempt_lawful : Lawful attempt
 attempt_lawful = number_lawful w32 (2 ^ 32) 0 (2 ^ 32 - 1) wide32 (omega arith)
 
-coordinator_lawful : Lawful coordinator
+coordinator_lawful : Lawful coordinator_field
 coordinator_lawful = number_lawful w8 (2 ^ 8) 1 64 wide8 (omega arith)
 
-price_lawful : Lawful price
+price_lawful : Lawful price_field
 price_lawful = number_lawful w32 (2 ^ 32) 0 1000000000 wide32 (omega arith)
 
 bandwidth_lawful : Lawful bandwidth
 bandwidth_lawful = number_lawful w32 (2 ^ 32) 0 1000000 wide32 (omega arith)
 
-slots_lawful : Lawful (number w32 1 1000)
+slots_lawful : Lawful (number_field w32 1 1000)
 slots_lawful = number_lawful w32 (2 ^ 32) 1 1000 wide32 (omega arith)
 
 flag_lawful : Lawful flag
-flag_lawful = seen_lawful (number w8 0 1) (λ n. eqb n 1) (λ b. cond b 1 0) (number_lawful w8 (2 ^ 8) 0 1 wide8 (omega arith)) back forth
+flag_lawful = seen_lawful (number_field w8 0 1) (λ n. eqb n 1) (λ b. cond b 1 0) (number_lawful w8 (2 ^ 8) 0 1 wide8 (omega arith)) back forth
   where
     back : (n : ℕ) → (0 ≤ n) × (n ≤ 1) → cond (eqb n 1) 1 0 ≡ n
     back zero h = refl
@@ -55,7 +55,7 @@ flag_lawful = seen_lawful (number w8 0 1) (λ n. eqb n 1) (λ b. cond b 1 0) (nu
     forth false = refl
 
 phase_lawful : Lawful phase
-phase_lawful = seen_lawful (number w8 0 2) phase_from phase_place (number_lawful w8 (2 ^ 8) 0 2 wide8 (omega arith)) back forth
+phase_lawful = seen_lawful (number_field w8 0 2) phase_from phase_place (number_lawful w8 (2 ^ 8) 0 2 wide8 (omega arith)) back forth
   where
     back : (n : ℕ) → (0 ≤ n) × (n ≤ 2) → phase_place (phase_from n) ≡ n
     back zero h = refl
@@ -70,18 +70,18 @@ phase_lawful = seen_lawful (number w8 0 2) phase_from phase_place (number_lawful
 
 pub job_lawful : Lawful job
 unfolding job
-job_lawful = seen_lawful (count ⨾ coordinator ⨾ flag ⨾ price ⨾ price) _ _
-    (pair_lawful count _ count_lawful (pair_lawful coordinator _ coordinator_lawful (pair_lawful flag _ flag_lawful (pair_lawful price price price_lawful price_lawful)))) (λ f _. refl) (λ r. refl)
+job_lawful = seen_lawful (count ⨾ coordinator_field ⨾ flag ⨾ price_field ⨾ price_field) _ _
+    (pair_lawful count _ count_lawful (pair_lawful coordinator_field _ coordinator_lawful (pair_lawful flag _ flag_lawful (pair_lawful price_field price_field price_lawful price_lawful)))) (λ f _. refl) (λ r. refl)
 
 preferences_lawful : (v : Version) → Lawful (preferences v)
 unfolding preferences
 preferences_lawful Fdg1 = only_lawful []
-preferences_lawful Fdg2 = counted_lawful nat_cmp nat_cmp_total nat_same id price id_lawful price_lawful w8 (2 ^ 8) 4 wide8 (omega arith)
+preferences_lawful Fdg2 = counted_lawful nat_cmp nat_cmp_total nat_same id price_field id_lawful price_lawful w8 (2 ^ 8) 4 wide8 (omega arith)
 
 pub spec_lawful : (v : Version) → Lawful (spec v)
 unfolding spec
-spec_lawful v = seen_lawful (count ⨾ coordinator ⨾ flag ⨾ id ⨾ bandwidth ⨾ preferences v) _ _
-    (pair_lawful count _ count_lawful (pair_lawful coordinator _ coordinator_lawful (pair_lawful flag _ flag_lawful (pair_lawful id _ id_lawful (pair_lawful bandwidth (preferences v) bandwidth_lawful (preferences_lawful v)))))) (λ f _. refl) (λ r. refl)
+spec_lawful v = seen_lawful (count ⨾ coordinator_field ⨾ flag ⨾ id ⨾ bandwidth ⨾ preferences v) _ _
+    (pair_lawful count _ count_lawful (pair_lawful coordinator_field _ coordinator_lawful (pair_lawful flag _ flag_lawful (pair_lawful id _ id_lawful (pair_lawful bandwidth (preferences v) bandwidth_lawful (preferences_lawful v)))))) (λ f _. refl) (λ r. refl)
 
 optional_lawful : (v : Version) → Lawful (optional_spec v)
 unfolding optional_spec
@@ -101,12 +101,12 @@ task_lawful v = seen_lawful (attempt ⨾ phase ⨾ optional_spec v) _ _
 
 pub state_lawful : Lawful state
 unfolding state
-state_lawful = seen_lawful (count ⨾ coordinator ⨾ flag ⨾ number w32 1 1000 ⨾ bandwidth) _ _
-    (pair_lawful count _ count_lawful (pair_lawful coordinator _ coordinator_lawful (pair_lawful flag _ flag_lawful (pair_lawful (number w32 1 1000) bandwidth slots_lawful bandwidth_lawful)))) (λ f _. refl) (λ r. refl)
+state_lawful = seen_lawful (count ⨾ coordinator_field ⨾ flag ⨾ number_field w32 1 1000 ⨾ bandwidth) _ _
+    (pair_lawful count _ count_lawful (pair_lawful coordinator_field _ coordinator_lawful (pair_lawful flag _ flag_lawful (pair_lawful (number_field w32 1 1000) bandwidth slots_lawful bandwidth_lawful)))) (λ f _. refl) (λ r. refl)
 
 pub report_lawful : Lawful report
 unfolding report
-report_lawful = seen_lawful (count ⨾ price) _ _ (pair_lawful count price count_lawful price_lawful) (λ f _. refl) (λ r. refl)
+report_lawful = seen_lawful (count ⨾ price_field) _ _ (pair_lawful count price_field count_lawful price_lawful) (λ f _. refl) (λ r. refl)
 
 abbrev Known : Type 0
 Known = Option MachineReg × Option Report
@@ -145,11 +145,11 @@ spot_lawful = seen_lawful (id ⨾ count) _ _ (pair_lawful id count id_lawful cou
 
 header_lawful : Lawful header
 unfolding header
-header_lawful = pair_lawful coordinator count coordinator_lawful count_lawful
+header_lawful = pair_lawful coordinator_field count coordinator_lawful count_lawful
 
 version_lawful : Lawful version_word
 unfolding version_word
-version_lawful = seen_lawful (number w32 (word_of Fdg1) (word_of Fdg2)) version_from word_of (number_lawful w32 (2 ^ 32) (word_of Fdg1) (word_of Fdg2) wide32 (omega arith)) back forth
+version_lawful = seen_lawful (number_field w32 (word_of Fdg1) (word_of Fdg2)) version_from word_of (number_lawful w32 (2 ^ 32) (word_of Fdg1) (word_of Fdg2) wide32 (omega arith)) back forth
   where
     back : (n : ℕ) → (word_of Fdg1 ≤ n) × (n ≤ word_of Fdg2) → word_of (version_from n) ≡ n
     back n h = elim (eqb n (word_of Fdg1)) as (λ b. eqb n (word_of Fdg1) ≡ b → word_of (cond b Fdg1 Fdg2) ≡ n) [
@@ -164,17 +164,17 @@ version_lawful = seen_lawful (number w32 (word_of Fdg1) (word_of Fdg2)) version_
 same_entry : TellsApart entry_cmp
 same_entry = pair_same attempt_cmp nat_cmp same_attempt nat_same
 
-entry_key : Lawful ((id ⨾ attempt) ⨾ coordinator)
-entry_key = pair_lawful (id ⨾ attempt) coordinator (pair_lawful id attempt id_lawful attempt_lawful) coordinator_lawful
+entry_key : Lawful ((id ⨾ attempt) ⨾ coordinator_field)
+entry_key = pair_lawful (id ⨾ attempt) coordinator_field (pair_lawful id attempt id_lawful attempt_lawful) coordinator_lawful
 
 pub body_lawful : (v : Version) → Lawful (body v)
 unfolding body
-body_lawful v = seen_lawful (header ⨾ jobs ⨾ tasks v ⨾ machines ⨾ entries) _ _
+body_lawful v = seen_lawful (header ⨾ jobs ⨾ task_list v ⨾ machines ⨾ entry_list) _ _
     (pair_lawful header _ header_lawful
     (pair_lawful jobs _ (records_lawful nat_cmp nat_cmp_total nat_same id job id_lawful job_lawful)
-    (pair_lawful (tasks v) _ (records_lawful nat_cmp nat_cmp_total nat_same id (task v) id_lawful (task_lawful v))
-    (pair_lawful machines entries (records_lawful nat_cmp nat_cmp_total nat_same id machine id_lawful machine_lawful)
-    (records_lawful entry_cmp entry_total same_entry ((id ⨾ attempt) ⨾ coordinator) spot entry_key spot_lawful))))) (λ f _. refl) (λ p. refl)
+    (pair_lawful (task_list v) _ (records_lawful nat_cmp nat_cmp_total nat_same id (task v) id_lawful (task_lawful v))
+    (pair_lawful machines entry_list (records_lawful nat_cmp nat_cmp_total nat_same id machine id_lawful machine_lawful)
+    (records_lawful entry_cmp entry_total same_entry ((id ⨾ attempt) ⨾ coordinator_field) spot entry_key spot_lawful))))) (λ f _. refl) (λ p. refl)
 
 pub packet_lawful : Lawful packet
 unfolding packet

@@ -10,7 +10,7 @@ use Rattle.fm_lattice.specs.Maps.{IsBelow, IsRising, IsMap}
 use Rattle.fm_records.specs.declared.records.JobReg.{JobReg}
 use Rattle.fm_records.specs.declared.records.Spot.{Spot}
 use Rattle.fm_records.specs.Orders.{attempt_cmp}
-use Rattle.fm_records.specs.Spelled.{job_op, job_ops, task_ops, machine_ops, entry_ops, IsFull}
+use Rattle.fm_records.specs.OpsOfTable.{job_op, job_ops, task_ops, machine_ops, entry_ops, IsFull}
 use Rattle.fm_records.specs.Ranges.{in_range, all_in_range, CanBe}
 use Rattle.fm_records.specs.LookupLaws.{both_true}
 use Rattle.fm_records.specs.RangeLaws.{all_pass, both_pass}
@@ -18,7 +18,7 @@ use Rattle.fm_delta.specs.declared.packet.Packet.{Packet}
 use Rattle.fm_wire.specs.Formats.{◌⨾◌, fault_place}
 use Rattle.fm_wire.specs.declared.version.Version.{Version}
 use Rattle.fm_wire.specs.declared.version.Version.TheVariants.{Fdg1, Fdg2}
-use Rattle.fm_wire.specs.Grammar.{id, attempt, coordinator, job, task, machine, spot, Listed, lists_of, entry_cmp, entries_at, entries_of, header, body, version_word, packet, spelling_in, fault, IsPacket, CanSpell, Spells, IsSpelling}
+use Rattle.fm_wire.specs.Grammar.{id, attempt, coordinator_field, job, task, machine, spot, Listed, lists_of, entry_cmp, flat_at, flat_of, header, body, version_word, packet, spelling_in, fault, IsPacket, CanSpell, Spells, IsSpelling}
 use Rattle.fm_wire.proofs.Widths.{IsBytes}
 use Rattle.fm_wire.proofs.PacketLawful.{packet_lawful}
 use Rattle.fm_wire.proofs.Grouped.{entry_total, entries_rise, full_rise, AreGroups, groups_begin, groups_end, entry_step, with_entry, below_groups}
@@ -75,14 +75,14 @@ packet_has v p is can = (version_has v, body_has v p is can)
 
 -- ---- knowledge of what the format has
 
-pub found_can_be : (v : Version) (w : Listed) (groups : Groups) → (body v).has w → entries_of groups ≡ w.entries → IsMap attempt_cmp IsFull groups → CanBe (record { jobs = w.jobs; tasks = w.tasks; machines = w.machines; proposals = groups })
+pub found_can_be : (v : Version) (w : Listed) (groups : Groups) → (body v).has w → flat_of groups ≡ w.entries → IsMap attempt_cmp IsFull groups → CanBe (record { jobs = w.jobs; tasks = w.tasks; machines = w.machines; proposals = groups })
 unfolding body header
 found_can_be v w groups has is map =
     let js = has.1.0 in
     let ts = has.1.1.0 in
     let ms = has.1.1.1.0 in
     let es = has.1.1.1.1 in
-    let fields = subst (AllByRecursion (λ (e : ((ℕ × ℕ) × ℕ) × Spot). ((id ⨾ attempt) ⨾ coordinator).has e.0 × spot.has e.1)) (sym is) es.2 in
+    let fields = subst (AllByRecursion (λ (e : ((ℕ × ℕ) × ℕ) × Spot). ((id ⨾ attempt) ⨾ coordinator_field).has e.0 × spot.has e.1)) (sym is) es.2 in
     record {
       table = record {
         jobs = record { rising = js.1; values = any_values w.jobs };
@@ -122,7 +122,7 @@ group_all : (groups : Groups) (left all : Entries) → IsRising entry_cmp all �
 group_all groups [] all r so_far = (groups, so_far)
 group_all groups (((at, c), s) ∷ left) all r so_far = group_all (with_entry at c s groups) left all r (entry_step at c s groups (with_entry at c s groups) (((at, c), s) ∷ left) left all refl r so_far refl)
 
-pub grouped : (all : Entries) → IsRising entry_cmp all → (g : Groups) × (entries_of g ≡ all) × IsMap attempt_cmp IsFull g
+pub grouped : (all : Entries) → IsRising entry_cmp all → (g : Groups) × (flat_of g ≡ all) × IsMap attempt_cmp IsFull g
 grouped all r =
     let g = group_all [] all all r (groups_begin [] all all refl refl) in
     (g.0, groups_end g.0 [] all refl g.1, record { rising = g.1.rising; values = g.1.full })
@@ -168,10 +168,10 @@ abbrev tails : {X : Type 0} → List X → List X
 tails [] = []
 tails (y ∷ ys) = ys
 
-one_split : (at : ℕ × ℕ) (x y : Spots) (a b : Entries) → ((c : ℕ) → IsBelow entry_cmp (at, c) a) → ((c : ℕ) → IsBelow entry_cmp (at, c) b) → entries_at at x ++ a ≡ entries_at at y ++ b → (x ≡ y) × (a ≡ b)
+one_split : (at : ℕ × ℕ) (x y : Spots) (a b : Entries) → ((c : ℕ) → IsBelow entry_cmp (at, c) a) → ((c : ℕ) → IsBelow entry_cmp (at, c) b) → flat_at at x ++ a ≡ flat_at at y ++ b → (x ≡ y) × (a ≡ b)
 one_split at [] [] a b p q e = (refl, e)
-one_split at [] (s ∷ y) a b p q e = absurd (not_itself (at, s.0) (pair_key at s.0 ((at, s.0), s.1) a (entries_at at y ++ b) (p s.0) e))
-one_split at (s ∷ x) [] a b p q e = absurd (not_itself (at, s.0) (pair_key at s.0 ((at, s.0), s.1) b (entries_at at x ++ a) (q s.0) (sym e)))
+one_split at [] (s ∷ y) a b p q e = absurd (not_itself (at, s.0) (pair_key at s.0 ((at, s.0), s.1) a (flat_at at y ++ b) (p s.0) e))
+one_split at (s ∷ x) [] a b p q e = absurd (not_itself (at, s.0) (pair_key at s.0 ((at, s.0), s.1) b (flat_at at x ++ a) (q s.0) (sym e)))
 one_split at (s ∷ x) (t ∷ y) a b p q e =
     let first : ((at, s.0), s.1) ≡ ((at, t.0), t.1) = ap (heads ((at, s.0), s.1)) e in
     let same : s ≡ t = λ i. ((first i).0.1, (first i).1) in
@@ -181,7 +181,7 @@ one_split at (s ∷ x) (t ∷ y) a b p q e =
 empty_full : IsFull [] → ⊥
 empty_full f = let h = f.full in absurd cc
 
-pub one_grouping : (a b : Groups) → IsMap attempt_cmp IsFull a → IsMap attempt_cmp IsFull b → entries_of a ≡ entries_of b → a ≡ b
+pub one_grouping : (a b : Groups) → IsMap attempt_cmp IsFull a → IsMap attempt_cmp IsFull b → flat_of a ≡ flat_of b → a ≡ b
 one_grouping [] [] p q e = refl
 one_grouping [] ((at, []) ∷ b) p q e = absurd (empty_full q.values.0)
 one_grouping [] ((at, s ∷ spots) ∷ b) p q e = absurd cc
@@ -191,8 +191,8 @@ one_grouping ((at, s ∷ spots) ∷ a) ((to, []) ∷ b) p q e = absurd (empty_fu
 one_grouping ((at, s ∷ spots) ∷ a) ((to, t ∷ more) ∷ b) p q e =
     let first : ((at, s.0), s.1) ≡ ((to, t.0), t.1) = ap (heads ((at, s.0), s.1)) e in
     let key : to ≡ at = λ i. (sym first i).0.0 in
-    let aligned : entries_at at (s ∷ spots) ++ entries_of a ≡ entries_at at (t ∷ more) ++ entries_of b = e ∙ ap (λ z. entries_at z (t ∷ more) ++ entries_of b) key in
-    let parts = one_split at (s ∷ spots) (t ∷ more) (entries_of a) (entries_of b) (λ c. below_groups at c a p.rising.0) (λ c. below_groups at c b (subst (λ z. IsBelow attempt_cmp z b) key q.rising.0)) aligned in
+    let aligned : flat_at at (s ∷ spots) ++ flat_of a ≡ flat_at at (t ∷ more) ++ flat_of b = e ∙ ap (λ z. flat_at z (t ∷ more) ++ flat_of b) key in
+    let parts = one_split at (s ∷ spots) (t ∷ more) (flat_of a) (flat_of b) (λ c. below_groups at c a p.rising.0) (λ c. below_groups at c b (subst (λ z. IsBelow attempt_cmp z b) key q.rising.0)) aligned in
     let rest = one_grouping a b (record { rising = p.rising.1; values = p.values.1 }) (record { rising = q.rising.1; values = q.values.1 }) parts.1 in
     λ i. (sym key i, parts.0 i) ∷ rest i
 

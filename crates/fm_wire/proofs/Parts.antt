@@ -3,28 +3,28 @@ use Rattle.std.proofs.Common.{◌≡◌, ℕ, List, [], ◌++◌, Result, Ok, Er
 use Rattle.fm_records.specs.declared.records.JobReg.{JobReg}
 use Rattle.fm_records.specs.declared.records.Spot.{Spot}
 use Rattle.fm_records.specs.Table.{TaskValue, MachineValue}
-use Rattle.fm_wire.specs.declared.fault.ReadError.{ReadError}
-use Rattle.fm_wire.specs.declared.fault.ReadError.TheVariants as errors
+use Rattle.fm_wire.specs.declared.decode_error.DecodeError.{DecodeError}
+use Rattle.fm_wire.specs.declared.decode_error.DecodeError.TheVariants as errors
 use Rattle.std.specs.Int.{w32}
 use Rattle.fm_delta.specs.declared.packet.Packet.{Packet}
 use Rattle.fm_wire.specs.declared.version.Version.{Version}
 use Rattle.fm_wire.specs.declared.version.Version.TheVariants.{Fdg2}
 use Rattle.fm_wire.specs.Formats.{Reading, ◌>>=◌, Format, bytes_of, ◌⨾◌}
-use Rattle.fm_wire.specs.Grammar.{Listed, header, jobs, tasks, machines, entries, body, word_of, version_word, packet}
-use Rattle.fm_wire.specs.Reads.{rest_of, Fails, FindsListed, Finds}
+use Rattle.fm_wire.specs.Grammar.{Listed, header, jobs, task_list, machines, entry_list, body, word_of, version_word, packet}
+use Rattle.fm_wire.specs.Decoding.{rest_of, DecodeFails, FindsListed, Finds}
 
 -- ---- spelling
 
-pub spelled_parts : (p : Listed) (z a b c d e f : List ℕ) → z ≡ [] → a ≡ z ++ bytes_of w32 (word_of Fdg2) → b ≡ a ++ header.spell (p.sender, p.number) → c ≡ b ++ jobs.spell p.jobs → d ≡ c ++ (tasks Fdg2).spell p.tasks → e ≡ d ++ machines.spell p.machines → f ≡ e ++ entries.spell p.entries
+pub spelled_parts : (p : Listed) (z a b c d e f : List ℕ) → z ≡ [] → a ≡ z ++ bytes_of w32 (word_of Fdg2) → b ≡ a ++ header.spell (p.sender, p.number) → c ≡ b ++ jobs.spell p.jobs → d ≡ c ++ (task_list Fdg2).spell p.tasks → e ≡ d ++ machines.spell p.machines → f ≡ e ++ entry_list.spell p.entries
     → f ≡ packet.spell (Fdg2, p)
 unfolding packet version_word body
 spelled_parts p z a b c d e f hz ha hb hc hd he hf =
     let w = bytes_of w32 (word_of Fdg2) in
     let h = header.spell (p.sender, p.number) in
     let j = jobs.spell p.jobs in
-    let t = (tasks Fdg2).spell p.tasks in
+    let t = (task_list Fdg2).spell p.tasks in
     let m = machines.spell p.machines in
-    let n = entries.spell p.entries in
+    let n = entry_list.spell p.entries in
     let a-is : a ≡ w = ha ∙ ap (λ x. x ++ w) hz in
     let b-is : b ≡ w ++ h = hb ∙ ap (λ x. x ++ h) a-is in
     let c-is : c ≡ (w ++ h) ++ j = hc ∙ ap (λ x. x ++ j) b-is in
@@ -47,28 +47,28 @@ then_same (Ok x) f g h = h x
 then_same (Err left) f g h = refl
 
 abbrev after_machines : List ℕ → Result (List ℕ) ℕ
-after_machines d = rest_of (entries.read d)
+after_machines d = rest_of (entry_list.read d)
 
 abbrev after_tasks : List ℕ → Result (List ℕ) ℕ
 after_tasks c = rest_of (machines.read c) >>= after_machines
 
 abbrev after_jobs : Version → List ℕ → Result (List ℕ) ℕ
-after_jobs v b = rest_of ((tasks v).read b) >>= after_tasks
+after_jobs v b = rest_of ((task_list v).read b) >>= after_tasks
 
 abbrev after_header : Version → List ℕ → Result (List ℕ) ℕ
 after_header v a = rest_of (jobs.read a) >>= after_jobs v
 
-pub body_rest : (v : Version) (bytes : List ℕ) → rest_of ((body v).read bytes) ≡ (rest_of (header.read bytes) >>= λ a. rest_of (jobs.read a) >>= λ b. rest_of ((tasks v).read b) >>= λ c. rest_of (machines.read c) >>= λ d. rest_of (entries.read d))
+pub body_rest : (v : Version) (bytes : List ℕ) → rest_of ((body v).read bytes) ≡ (rest_of (header.read bytes) >>= λ a. rest_of (jobs.read a) >>= λ b. rest_of ((task_list v).read b) >>= λ c. rest_of (machines.read c) >>= λ d. rest_of (entry_list.read d))
 unfolding body
 body_rest v bytes =
-    keeps_rest _ ((header ⨾ jobs ⨾ tasks v ⨾ machines ⨾ entries).read bytes)
-    ∙ rest_then (header.read bytes) (jobs ⨾ tasks v ⨾ machines ⨾ entries)
+    keeps_rest _ ((header ⨾ jobs ⨾ task_list v ⨾ machines ⨾ entry_list).read bytes)
+    ∙ rest_then (header.read bytes) (jobs ⨾ task_list v ⨾ machines ⨾ entry_list)
     ∙ then_same (rest_of (header.read bytes)) _ (after_header v) (λ a.
-    rest_then (jobs.read a) (tasks v ⨾ machines ⨾ entries)
+    rest_then (jobs.read a) (task_list v ⨾ machines ⨾ entry_list)
     ∙ then_same (rest_of (jobs.read a)) _ (after_jobs v) (λ b.
-    rest_then ((tasks v).read b) (machines ⨾ entries)
-    ∙ then_same (rest_of ((tasks v).read b)) _ after_tasks (λ c.
-    rest_then (machines.read c) entries)))
+    rest_then ((task_list v).read b) (machines ⨾ entry_list)
+    ∙ then_same (rest_of ((task_list v).read b)) _ after_tasks (λ c.
+    rest_then (machines.read c) entry_list)))
 
 pub packet_rest : (bytes : List ℕ) → rest_of (packet.read bytes) ≡ (version_word.read bytes >>= λ x. rest_of ((body x.0).read x.1))
 unfolding packet
@@ -104,15 +104,15 @@ pub record ReadJobs (bytes : List ℕ) (h : ℕ × ℕ) (js : JobList) (b : List
 pub record ReadTasks (v : Version) (bytes : List ℕ) (h : ℕ × ℕ) (js : JobList) (ts : TaskList) (c : List ℕ) : Type 0 where
   pub after : List ℕ
   pub before : ReadJobs bytes h js after
-  pub tasks : (tasks v).read after ≡ Ok (ts, c)
+  pub task_list : (task_list v).read after ≡ Ok (ts, c)
 
 pub record ReadMachines (v : Version) (bytes : List ℕ) (h : ℕ × ℕ) (js : JobList) (ts : TaskList) (ms : MachineList) (d : List ℕ) : Type 0 where
   pub after : List ℕ
   pub before : ReadTasks v bytes h js ts after
   pub machines : machines.read after ≡ Ok (ms, d)
 
-pub reads_body : (v : Version) (bytes : List ℕ) (h : ℕ × ℕ) (js : JobList) (ts : TaskList) (ms : MachineList) (d : List ℕ) (es : EntryList) (rest : List ℕ) → ReadMachines v bytes h js ts ms d → entries.read d ≡ Ok (es, rest)
-    → (body v).read bytes ≡ Ok (record { sender = h.0; number = h.1; jobs = js; tasks = ts; machines = ms; entries = es }, rest)
+pub reads_body : (v : Version) (bytes : List ℕ) (h : ℕ × ℕ) (js : JobList) (ts : TaskList) (ms : MachineList) (d : List ℕ) (es : EntryList) (rest : List ℕ) → ReadMachines v bytes h js ts ms d → entry_list.read d ≡ Ok (es, rest)
+    → (body v).read bytes ≡ Ok (record { sender = h.0; number = h.1; jobs = js; task_list = ts; machines = ms; entry_list = es }, rest)
 unfolding body
 reads_body v bytes h js ts ms d es rest m e =
     let t = m.before in
@@ -123,22 +123,22 @@ pub header_fails : (v : Version) (bytes : List ℕ) (left : ℕ) → header.read
 unfolding body
 header_fails v bytes left e = rw e refl
 
-pub jobs_fail : (v : Version) (e : ReadError) (bytes : List ℕ) (h : ℕ × ℕ) (a : List ℕ) → ReadHeader bytes h a → Fails e (jobs.read a) → Fails e ((body v).read bytes)
+pub jobs_fail : (v : Version) (e : DecodeError) (bytes : List ℕ) (h : ℕ × ℕ) (a : List ℕ) → ReadHeader bytes h a → DecodeFails e (jobs.read a) → DecodeFails e ((body v).read bytes)
 unfolding body
 jobs_fail v errors.Memory bytes h a r f = tt
 jobs_fail v (errors.Fault left) bytes h a r f = rw (r.header, f) refl
 
-pub tasks_fail : (v : Version) (e : ReadError) (bytes : List ℕ) (h : ℕ × ℕ) (js : JobList) (b : List ℕ) → ReadJobs bytes h js b → Fails e ((tasks v).read b) → Fails e ((body v).read bytes)
+pub tasks_fail : (v : Version) (e : DecodeError) (bytes : List ℕ) (h : ℕ × ℕ) (js : JobList) (b : List ℕ) → ReadJobs bytes h js b → DecodeFails e ((task_list v).read b) → DecodeFails e ((body v).read bytes)
 unfolding body
 tasks_fail v errors.Memory bytes h js b r f = tt
 tasks_fail v (errors.Fault left) bytes h js b r f = rw (r.before.header, r.jobs, f) refl
 
-pub machines_fail : (v : Version) (e : ReadError) (bytes : List ℕ) (h : ℕ × ℕ) (js : JobList) (ts : TaskList) (c : List ℕ) → ReadTasks v bytes h js ts c → Fails e (machines.read c) → Fails e ((body v).read bytes)
+pub machines_fail : (v : Version) (e : DecodeError) (bytes : List ℕ) (h : ℕ × ℕ) (js : JobList) (ts : TaskList) (c : List ℕ) → ReadTasks v bytes h js ts c → DecodeFails e (machines.read c) → DecodeFails e ((body v).read bytes)
 unfolding body
 machines_fail v errors.Memory bytes h js ts c r f = tt
 machines_fail v (errors.Fault left) bytes h js ts c r f = rw (r.before.before.header, r.before.jobs, r.tasks, f) refl
 
-pub entries_fail : (v : Version) (e : ReadError) (bytes : List ℕ) (h : ℕ × ℕ) (js : JobList) (ts : TaskList) (ms : MachineList) (d : List ℕ) → ReadMachines v bytes h js ts ms d → Fails e (entries.read d) → Fails e ((body v).read bytes)
+pub entries_fail : (v : Version) (e : DecodeError) (bytes : List ℕ) (h : ℕ × ℕ) (js : JobList) (ts : TaskList) (ms : MachineList) (d : List ℕ) → ReadMachines v bytes h js ts ms d → DecodeFails e (entry_list.read d) → DecodeFails e ((body v).read bytes)
 unfolding body
 entries_fail v errors.Memory bytes h js ts ms d r f = tt
 entries_fail v (errors.Fault left) bytes h js ts ms d r f = rw (r.before.before.before.header, r.before.before.jobs, r.before.tasks, r.machines, f) refl
@@ -149,7 +149,7 @@ pub version_fails : (bytes : List ℕ) (left : ℕ) → version_word.read bytes 
 unfolding packet
 version_fails bytes left e = rw e refl
 
-pub finds_packet : (r : Result Packet ReadError) (bytes : List ℕ) (v : Version) (rest : List ℕ) → version_word.read bytes ≡ Ok (v, rest) → FindsListed r ((body v).read rest) → Finds r (packet.read bytes)
+pub finds_packet : (r : Result Packet DecodeError) (bytes : List ℕ) (v : Version) (rest : List ℕ) → version_word.read bytes ≡ Ok (v, rest) → FindsListed r ((body v).read rest) → Finds r (packet.read bytes)
 unfolding packet
 finds_packet (Ok p) bytes v rest e f = (v, f.0, rw (e, f.1) refl)
 finds_packet (Err errors.Memory) bytes v rest e f = tt

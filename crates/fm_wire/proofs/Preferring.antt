@@ -17,7 +17,7 @@ use Rattle.fm_records.specs.Ranges.{is_id, fits_row}
 use Rattle.fm_records.specs.LookupLaws.{both_true}
 use Rattle.fm_wire.specs.declared.version.Version.{Version}
 use Rattle.fm_wire.specs.declared.version.Version.TheVariants.{Fdg1, Fdg2}
-use Rattle.fm_wire.specs.Grammar.{id, price, preferences, PrefersNone}
+use Rattle.fm_wire.specs.Grammar.{id, price_field, preferences, PrefersNone}
 
 abbrev Credits : Type 0
 Credits = List (ℕ × ℕ)
@@ -50,7 +50,7 @@ rising_rise (e ∷ es) r = rising_above e.0 es r.0 r.1
 -- ---- ids and credits
 
 abbrev HasCredit : ℕ × ℕ → Type 0
-HasCredit e = id.has e.0 × price.has e.1
+HasCredit e = id.has e.0 × price_field.has e.1
 
 credits_in : (es : Credits) → list_all (λ e. is_id e.0) es ≡ true → list_all (λ e. is_price e.1) es ≡ true → AllByRecursion HasCredit es
 credits_in [] p q = tt

@@ -35,16 +35,16 @@ number_at w least greatest bytes =
     else Err (length bytes)
 
 -- a field: a number of so many bits, from least to greatest
-abbrev pub number : Width → ℕ → ℕ → Format ℕ
-number w least greatest = record {
+abbrev pub number_field : Width → ℕ → ℕ → Format ℕ
+number_field w least greatest = record {
   has = λ n. (least ≤ n) × (n ≤ greatest);
   spell = bytes_of w;
   read = number_at w least greatest;
 }
 
 -- one value alone, which takes no byte
-abbrev pub only : {A : Type 0} → A → Format A
-only a = record {
+abbrev pub constant : {A : Type 0} → A → Format A
+constant a = record {
   has = λ b. b ≡ a;
   spell = λ b. [];
   read = λ bytes. Ok (a, bytes);
@@ -93,12 +93,12 @@ part true F = record {
     found ← F.read bytes
     Ok (Some found.0, found.1);
 }
-part false F = only None
+part false F = constant None
 
 -- a byte from least to greatest, which tells by what format the value follows
 abbrev pub by_tag : {A : Type 0} → ℕ → ℕ → (A → ℕ) → (ℕ → Format A) → Format A
 by_tag least greatest tag_of form = record {
-  has = λ a. (number w8 least greatest).has (tag_of a) × (form (tag_of a)).has a;
+  has = λ a. (number_field w8 least greatest).has (tag_of a) × (form (tag_of a)).has a;
   spell = λ a. bytes_of w8 (tag_of a) ++ (form (tag_of a)).spell a;
   read = λ bytes. do
     tag ← number_at w8 least greatest bytes

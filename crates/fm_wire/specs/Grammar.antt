@@ -20,51 +20,51 @@ use Rattle.fm_records.specs.Table.{TaskValue, MachineValue}
 use Rattle.fm_delta.specs.declared.packet.Packet.{Packet}
 use Rattle.fm_wire.specs.declared.version.Version.{Version}
 use Rattle.fm_wire.specs.declared.version.Version.TheVariants.{Fdg1, Fdg2}
-use Rattle.fm_wire.specs.Formats.{Format, number, only, leading, ◌⨾◌, seen_as, part, by_tag, with_count, records, fault_in}
+use Rattle.fm_wire.specs.Formats.{Format, number_field, constant, leading, ◌⨾◌, seen_as, part, by_tag, with_count, records, fault_in}
 
 -- the fields that several records have
 abbrev pub id : Format ℕ
-id = number w128 0 (2 ^ 128 - 1)
+id = number_field w128 0 (2 ^ 128 - 1)
 
 abbrev pub count : Format ℕ
-count = number w64 0 (2 ^ 64 - 1)
+count = number_field w64 0 (2 ^ 64 - 1)
 
 abbrev pub attempt : Format ℕ
-attempt = number w32 0 (2 ^ 32 - 1)
+attempt = number_field w32 0 (2 ^ 32 - 1)
 
-abbrev pub coordinator : Format ℕ
-coordinator = number w8 1 64
+abbrev pub coordinator_field : Format ℕ
+coordinator_field = number_field w8 1 64
 
 abbrev pub flag : Format Bool
-flag = seen_as (number w8 0 1) (λ n. n == 1) (λ b. cond b 1 0)
+flag = seen_as (number_field w8 0 1) (λ n. n == 1) (λ b. cond b 1 0)
 
-abbrev pub price : Format ℕ
-price = number w32 0 1000000000
+abbrev pub price_field : Format ℕ
+price_field = number_field w32 0 1000000000
 
 abbrev pub bandwidth : Format ℕ
-bandwidth = number w32 0 1000000
+bandwidth = number_field w32 0 1000000
 
 -- 0 pending, 1 running, 2 done
 abbrev pub phase_from : ℕ → Phase
 phase_from n = cond (n == 0) Pending (cond (n == 1) Running Done)
 
 abbrev pub phase : Format Phase
-phase = seen_as (number w8 0 2) phase_from phase_place
+phase = seen_as (number_field w8 0 2) phase_from phase_place
 
 -- version, writer, withdrawn, wait, preempt
 unfoldable pub job : Format JobReg
-job = seen_as (count ⨾ coordinator ⨾ flag ⨾ price ⨾ price)
+job = seen_as (count ⨾ coordinator_field ⨾ flag ⨾ price_field ⨾ price_field)
     (λ f. record { version = f.0; writer = f.1.0; withdrawn = f.1.1.0; wait = f.1.1.1.0; preempt = f.1.1.1.1 })
     (λ r. (r.version, (r.writer, (r.withdrawn, (r.wait, r.preempt)))))
 
 -- the machines that a task prefers, rising and four at most, each with its credit; in the first version there are none
 unfoldable pub preferences : Version → Format (List (ℕ × ℕ))
-preferences Fdg1 = only []
-preferences Fdg2 = with_count w8 4 nat_cmp id price
+preferences Fdg1 = constant []
+preferences Fdg2 = with_count w8 4 nat_cmp id price_field
 
 -- version, writer, withdrawn, job, request, preferences
 unfoldable pub spec : Version → Format SpecReg
-spec v = seen_as (count ⨾ coordinator ⨾ flag ⨾ id ⨾ bandwidth ⨾ preferences v)
+spec v = seen_as (count ⨾ coordinator_field ⨾ flag ⨾ id ⨾ bandwidth ⨾ preferences v)
     (λ f. record { version = f.0; writer = f.1.0; withdrawn = f.1.1.0; job = f.1.1.1.0; request = f.1.1.1.1.0; prefer = f.1.1.1.1.1 })
     (λ r. (r.version, (r.writer, (r.withdrawn, (r.job, (r.request, r.prefer))))))
 
@@ -83,13 +83,13 @@ task v = seen_as (attempt ⨾ phase ⨾ optional_spec v)
 
 -- version, writer, up, slots, nic
 unfoldable pub state : Format MachineReg
-state = seen_as (count ⨾ coordinator ⨾ flag ⨾ number w32 1 1000 ⨾ bandwidth)
+state = seen_as (count ⨾ coordinator_field ⨾ flag ⨾ number_field w32 1 1000 ⨾ bandwidth)
     (λ f. record { version = f.0; writer = f.1.0; up = f.1.1.0; slots = f.1.1.1.0; nic = f.1.1.1.1 })
     (λ r. (r.version, (r.writer, (r.up, (r.slots, r.nic)))))
 
 -- number, used
 unfoldable pub report : Format Report
-report = seen_as (count ⨾ price) (λ f. record { number = f.0; used = f.1 }) (λ r. (r.number, r.used))
+report = seen_as (count ⨾ price_field) (λ f. record { number_field = f.0; used = f.1 }) (λ r. (r.number, r.used))
 
 -- which parts follow: 1 a state, 2 a report, 3 a state and then a report
 abbrev pub parts_of : Option MachineReg × Option Report → ℕ
@@ -112,22 +112,22 @@ spot = seen_as (id ⨾ count) (λ f. record { machine = f.0; incarnation = f.1 }
 -- a packet whose proposals are in one list, each under its task, attempt and coordinator
 pub record Listed : Type 0 where
   pub sender : ℕ
-  pub number : ℕ
+  pub number_field : ℕ
   pub jobs : List (ℕ × JobReg)
-  pub tasks : List (ℕ × TaskValue)
+  pub task_list : List (ℕ × TaskValue)
   pub machines : List (ℕ × MachineValue)
-  pub entries : List (((ℕ × ℕ) × ℕ) × Spot)
+  pub entry_list : List (((ℕ × ℕ) × ℕ) × Spot)
 
 -- by task, attempt and coordinator
 abbrev pub entry_cmp : (ℕ × ℕ) × ℕ → (ℕ × ℕ) × ℕ → Ordering
 entry_cmp = then_cmp (on (λ k. k.0) attempt_cmp) (on (λ k. k.1) nat_cmp)
 
 -- the proposals for one attempt, each under its attempt and coordinator, and all proposals in one list
-abbrev pub entries_at : ℕ × ℕ → List (ℕ × Spot) → List (((ℕ × ℕ) × ℕ) × Spot)
-entries_at at spots = map (λ c. ((at, c.0), c.1)) spots
+abbrev pub flat_at : ℕ × ℕ → List (ℕ × Spot) → List (((ℕ × ℕ) × ℕ) × Spot)
+flat_at at spots = map (λ c. ((at, c.0), c.1)) spots
 
-abbrev pub entries_of : List ((ℕ × ℕ) × List (ℕ × Spot)) → List (((ℕ × ℕ) × ℕ) × Spot)
-entries_of = flat_map (λ e. entries_at e.0 e.1)
+abbrev pub flat_of : List ((ℕ × ℕ) × List (ℕ × Spot)) → List (((ℕ × ℕ) × ℕ) × Spot)
+flat_of = flat_map (λ e. flat_at e.0 e.1)
 
 abbrev pub lists_of : Packet → Listed
 lists_of p = record {
@@ -136,30 +136,30 @@ lists_of p = record {
   jobs = p.value.jobs;
   tasks = p.value.tasks;
   machines = p.value.machines;
-  entries = entries_of p.value.proposals;
+  entries = flat_of p.value.proposals;
 }
 
 -- the sender, and the number of the packet
 unfoldable pub header : Format (ℕ × ℕ)
-header = coordinator ⨾ count
+header = coordinator_field ⨾ count
 
 -- the four lists of records
 abbrev pub jobs : Format (List (ℕ × JobReg))
 jobs = records nat_cmp id job
 
-abbrev pub tasks : Version → Format (List (ℕ × TaskValue))
-tasks v = records nat_cmp id (task v)
+abbrev pub task_list : Version → Format (List (ℕ × TaskValue))
+task_list v = records nat_cmp id (task v)
 
 abbrev pub machines : Format (List (ℕ × MachineValue))
 machines = records nat_cmp id machine
 
-abbrev pub entries : Format (List (((ℕ × ℕ) × ℕ) × Spot))
-entries = records entry_cmp ((id ⨾ attempt) ⨾ coordinator) spot
+abbrev pub entry_list : Format (List (((ℕ × ℕ) × ℕ) × Spot))
+entry_list = records entry_cmp ((id ⨾ attempt) ⨾ coordinator_field) spot
 
 -- a packet as a version spells it
 unfoldable pub body : Version → Format Listed
-body v = seen_as (header ⨾ jobs ⨾ tasks v ⨾ machines ⨾ entries)
-    (λ f. record { sender = f.0.0; number = f.0.1; jobs = f.1.0; tasks = f.1.1.0; machines = f.1.1.1.0; entries = f.1.1.1.1 })
+body v = seen_as (header ⨾ jobs ⨾ task_list v ⨾ machines ⨾ entry_list)
+    (λ f. record { sender = f.0.0; number_field = f.0.1; jobs = f.1.0; task_list = f.1.1.0; machines = f.1.1.1.0; entry_list = f.1.1.1.1 })
     (λ p. ((p.sender, p.number), (p.jobs, (p.tasks, (p.machines, p.entries)))))
 
 -- the word that names a version, the four bytes "FDG1" or "FDG2", and the version that is named
@@ -172,7 +172,7 @@ version_from word = cond (word == word_of Fdg1) Fdg1 Fdg2
 
 -- a version, by its word; there is no number between the two words
 unfoldable pub version_word : Format Version
-version_word = seen_as (number w32 (word_of Fdg1) (word_of Fdg2)) version_from word_of
+version_word = seen_as (number_field w32 (word_of Fdg1) (word_of Fdg2)) version_from word_of
 
 -- a packet with its version, which tells how the packet is spelled
 unfoldable pub packet : Format (Version × Listed)
@@ -194,12 +194,12 @@ fault = fault_in packet
 -- records of each kind than 64 bits count, as any memory does
 pub record IsPacket (p : Packet) : Type 0 where
   pub sender : IsTrue (is_coordinator p.sender)
-  pub number : p.number < 2 ^ 64
+  pub number_field : p.number < 2 ^ 64
   pub value : CanBe p.value
   pub jobs : length p.value.jobs < 2 ^ 64
-  pub tasks : length p.value.tasks < 2 ^ 64
+  pub task_list : length p.value.tasks < 2 ^ 64
   pub machines : length p.value.machines < 2 ^ 64
-  pub entries : length (entries_of p.value.proposals) < 2 ^ 64
+  pub entry_list : length (flat_of p.value.proposals) < 2 ^ 64
 
 -- the spec prefers no machine
 abbrev pub PrefersNone : Option SpecReg → Type 0

@@ -2,14 +2,14 @@
 //! The definitions call an encoding a *spelling*.
 #![tactic(auto)]
 
-mod entries;
-mod fault;
+mod flat_proposals;
+mod decode_error;
 pub mod laws;
-mod maps;
-mod numbers;
+mod record_lists;
+mod number_codecs;
 mod preferences;
 pub mod reading;
-mod records;
-mod spelled;
+mod record_codecs;
+mod codec;
 mod version;
 pub mod writing;

@@ -4,11 +4,11 @@ ghost use Rattle.std.specs.Prelude.{◌≡◌, ◌≤◌, ◌++◌, None, OnOk};
 ghost use Rattle.std.specs.Ordering.{nat_cmp};
 ghost use Rattle.fm_wire.specs.declared.version.Version.TheVariants.{Fdg2};
 ghost use Rattle.fm_wire.specs.Formats.{record_at, records_at};
-ghost use Rattle.fm_wire.specs.Grammar.{id, price, preferences};
-ghost use Rattle.fm_wire.specs.Reads.{Gives};
+ghost use Rattle.fm_wire.specs.Grammar.{id, price_field, preferences};
+ghost use Rattle.fm_wire.specs.Decoding.{DecodesTo};
 
-use crate::maps::key_at;
-use crate::numbers::{put_u8, put_u32, put_u128, u8_at, u32_at};
+use crate::record_lists::key_at;
+use crate::number_codecs::{put_u8, put_u32, put_u128, u8_at, u32_at};
 use crate::version::Version;
 use fm_lattice::join::OutOfMemory;
 use fm_records::ids::MachineId;
@@ -33,7 +33,7 @@ pub(crate) fn put_preferences(out: &mut Vec<u8>, prefer: &Prefer) -> Result<(), 
 // The machines that the version spells at the front.
 #[tactic(auto, unfolding(crate::specs::Grammar::preferences))]
 pub(crate) fn preferences_at(version: Version, bytes: &[u8]) -> Result<(Prefer, &[u8]), usize>
-    ensures { Gives (λ x. (x.0, x.1.now)) result ((preferences version).read bytes.now) }
+    ensures { DecodesTo (λ x. (x.0, x.1.now)) result ((preferences version).read bytes.now) }
 {
     match version {
         Version::Fdg1 => Ok((Prefer::default(), bytes)),
@@ -47,7 +47,7 @@ pub(crate) fn preferences_at(version: Version, bytes: &[u8]) -> Result<(Prefer, 
 // So many machines with their credits, each above the one before it.
 fn entries_at(count: usize, bytes: &[u8]) -> Result<(Prefer, &[u8]), usize>
     requires { count ≤ 4 }
-    ensures { Gives (λ x. (x.0, x.1.now)) result (records_at nat_cmp id price count None bytes.now) }
+    ensures { DecodesTo (λ x. (x.0, x.1.now)) result (records_at nat_cmp id price_field count None bytes.now) }
 {
     let mut row = [(MachineId::new(0), 0); 4];
     let mut last: Option<MachineId> = None;
@@ -65,7 +65,7 @@ fn entries_at(count: usize, bytes: &[u8]) -> Result<(Prefer, &[u8]), usize>
 // The number of a machine with its credit, if it is above the last one.
 #[tactic(auto, unfolding(crate::specs::Formats::record_at))]
 fn entry_at(last: Option<MachineId>, bytes: &[u8]) -> Result<((u128, u32), &[u8]), usize>
-    ensures { Gives (λ x. (x.0, x.1.now)) result (record_at nat_cmp id price last bytes.now) }
+    ensures { DecodesTo (λ x. (x.0, x.1.now)) result (record_at nat_cmp id price_field last bytes.now) }
 {
     match key_at(last, bytes) {
         Ok((machine, rest)) => {

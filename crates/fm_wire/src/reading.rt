@@ -4,16 +4,16 @@ ghost use Rattle.std.specs.Prelude.{◌≡◌, ◌≤◌, ◌↔◌, None, IsOk,
 ghost use Rattle.fm_records.specs.Options.{or_else};
 ghost use Rattle.fm_records.specs.Ranges.{CanBe};
 ghost use Rattle.fm_wire.specs.Grammar.{header, body, version_word, packet, fault, IsPacket, Spells, IsSpelling};
-ghost use Rattle.fm_wire.specs.Reads.{Gives, Finds, FindsListed, rest_of};
+ghost use Rattle.fm_wire.specs.Decoding.{DecodesTo, Finds, FindsListed, rest_of};
 
-use crate::entries::proposals_in;
-use crate::fault::ReadError;
-use crate::maps::{map_at, rest_of_map};
-use crate::numbers::{u8_at, u32_at, u64_at};
+use crate::flat_proposals::proposals_in;
+use crate::decode_error::DecodeError;
+use crate::record_lists::{map_at, rest_of_map};
+use crate::number_codecs::{u8_at, u32_at, u64_at};
 use crate::version::{FDG1, FDG2, Version};
 use fm_delta::packet::Packet;
 use fm_know::knowledge::Knowledge;
-use fm_lattice::plain::{Max, Min};
+use fm_lattice::constructors::{Max, Min};
 use fm_records::ids::{CoordId, JobId, MachineId, TaskId};
 use fm_records::records::{JobReg, MachineRec, Spot, TaskRec};
 use fm_records::refusal::Refusal;
@@ -46,13 +46,13 @@ pub fn decode(alloc: Global, bytes: &[u8]) -> Result<Packet, Refusal>
     }
     match packet_at(alloc, bytes) {
         Ok(packet) => Ok(packet),
-        Err(ReadError::Memory) => Err(Refusal::OutOfMemory),
-        Err(ReadError::Fault(left)) => Err(Refusal::BadPacket(bytes.len().saturating_sub(left))),
+        Err(DecodeError::Memory) => Err(Refusal::OutOfMemory),
+        Err(DecodeError::Fault(left)) => Err(Refusal::BadPacket(bytes.len().saturating_sub(left))),
     }
 }
 
 // The packet at the front, in the version that the first word names.
-fn packet_at(alloc: Global, bytes: &[u8]) -> Result<Packet, ReadError>
+fn packet_at(alloc: Global, bytes: &[u8]) -> Result<Packet, DecodeError>
     ensures found { Finds result (packet.read bytes.now) }
     ensures value { IfOk result (λ p. CanBe p.value) }
 {
@@ -61,7 +61,7 @@ fn packet_at(alloc: Global, bytes: &[u8]) -> Result<Packet, ReadError>
 }
 
 // The packet that the version spells at the front.
-fn body_at(alloc: Global, version: Version, bytes: &[u8]) -> Result<Packet, ReadError>
+fn body_at(alloc: Global, version: Version, bytes: &[u8]) -> Result<Packet, DecodeError>
     ensures found { FindsListed result ((body version).read bytes.now) }
     ensures value { IfOk result (λ p. CanBe p.value) }
 {
@@ -80,7 +80,7 @@ fn body_at(alloc: Global, version: Version, bytes: &[u8]) -> Result<Packet, Read
 
 // Checks the packet at the front without allocating, and returns the bytes after it.
 fn rest_of_packet(bytes: &[u8]) -> Result<&[u8], usize>
-    ensures { Gives (λ rest. rest.now) result (rest_of (packet.read bytes.now)) }
+    ensures { DecodesTo (λ rest. rest.now) result (rest_of (packet.read bytes.now)) }
 {
     let (version, rest) = version_at(bytes)?;
     rest_of_body(version, rest)
@@ -88,7 +88,7 @@ fn rest_of_packet(bytes: &[u8]) -> Result<&[u8], usize>
 
 // Checks the packet that the version spells at the front.
 fn rest_of_body(version: Version, bytes: &[u8]) -> Result<&[u8], usize>
-    ensures { Gives (λ rest. rest.now) result (rest_of ((body version).read bytes.now)) }
+    ensures { DecodesTo (λ rest. rest.now) result (rest_of ((body version).read bytes.now)) }
 {
     let (_, rest) = header_at(bytes)?;
     let rest = rest_of_map::<JobId, Max<JobReg>>(version, rest)?;
@@ -100,7 +100,7 @@ fn rest_of_body(version: Version, bytes: &[u8]) -> Result<&[u8], usize>
 // The version that the first word names.
 #[tactic(auto, unfolding(crate::specs::Grammar::version_word))]
 fn version_at(bytes: &[u8]) -> Result<(Version, &[u8]), usize>
-    ensures { Gives (λ x. (x.0, x.1.now)) result (version_word.read bytes.now) }
+    ensures { DecodesTo (λ x. (x.0, x.1.now)) result (version_word.read bytes.now) }
 {
     let (word, rest) = u32_at(bytes, FDG1, FDG2)?;
     if word == FDG1 {
@@ -113,7 +113,7 @@ fn version_at(bytes: &[u8]) -> Result<(Version, &[u8]), usize>
 // The sender and the number at the front.
 #[tactic(auto, unfolding(crate::specs::Grammar::header))]
 fn header_at(bytes: &[u8]) -> Result<((u8, u64), &[u8]), usize>
-    ensures header { Gives (λ x. (x.0, x.1.now)) result (header.read bytes.now) }
+    ensures header { DecodesTo (λ x. (x.0, x.1.now)) result (header.read bytes.now) }
     ensures least { IfOk result (λ x. 1 ≤ x.0.0) }
     ensures greatest { IfOk result (λ x. x.0.0 ≤ 64) }
 {

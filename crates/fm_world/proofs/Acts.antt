@@ -7,10 +7,10 @@ use Rattle.fm_records.specs.declared.refusal.Refusal.{Refusal}
 use Rattle.fm_records.specs.declared.refusal.Refusal.TheVariants.{OutOfMemory}
 use Rattle.fm_records.specs.Options.{or_else}
 use Rattle.fm_records.specs.Know.{know}
-use Rattle.fm_records.specs.Spelled.{ops}
+use Rattle.fm_records.specs.OpsOfTable.{ops}
 use Rattle.fm_delta.specs.declared.packet.Packet.{Packet}
-use Rattle.fm_coord.specs.declared.answer.Answer.{Answer}
-use Rattle.fm_coord.specs.declared.answer.Answer.TheVariants as answer
+use Rattle.fm_coord.specs.declared.output.CallOutput.{CallOutput}
+use Rattle.fm_coord.specs.declared.output.CallOutput.TheVariants as answer
 use Rattle.fm_coord.specs.declared.entry.Call.{Call}
 use Rattle.fm_coord.specs.declared.entry.Call.TheVariants as call
 use Rattle.fm_coord.specs.Events.{Sent, Event, Replica}
@@ -18,7 +18,7 @@ use Rattle.fm_coord.specs.Events as event
 use Rattle.fm_coord.specs.Causes.{cause, refusal_for}
 use Rattle.fm_coord.specs.Replays.{seen_packet, call_of, reply_of}
 use Rattle.fm_coord.specs.States.{State, bounds, StandsFor, IsEventAt}
-use Rattle.fm_coord.specs.Answers.{answer_to}
+use Rattle.fm_coord.specs.Outputs.{answer_to}
 use Rattle.fm_coord.specs.StepLaws.{no_fault, same_bounds, packet_is}
 use Rattle.fm_world.specs.declared.step.Act.{Act}
 use Rattle.fm_world.specs.declared.step.Act.TheVariants as act
@@ -27,7 +27,7 @@ use Rattle.fm_world.specs.Calls.{call_asked, refusal_asked, IsSpelled}
 use Rattle.fm_world.specs.Stands.{IsActed}
 
 -- the packets after a call that was answered so
-abbrev pub kept : List Packet → Answer → List Packet
+abbrev pub kept : List Packet → CallOutput → List Packet
 kept ps answer.Done = ps
 kept ps (answer.Packet p) = ps ++ p ∷ []
 kept ps (answer.View v) = ps
@@ -88,7 +88,7 @@ module _ (s : State) (r : Replica) (st : StandsFor s r) (ps : List Packet) (sent
     refused = ap (refusal_asked (bounds s)) (asked_alike ps sent a is spelled) ∙ refused_on (event_asked sent a)
 
     -- an act whose call was accepted is the act's event
-    pub is_acted : (by : ℕ) (c : Call) (new : State) (said : Answer) → call_asked ps a ≡ Some c → cause (bounds s) c ≡ None → said ≡ answer_to s c
+    pub is_acted : (by : ℕ) (c : Call) (new : State) (said : CallOutput) → call_asked ps a ≡ Some c → cause (bounds s) c ≡ None → said ≡ answer_to s c
         → ((event : Event) → c ≡ call_of event → IsEventAt r by event (reply_of r event) new) → IsActed new (kept ps said) r sent by a
     is_acted by c new said call none answer events =
         let found = comes (event_asked sent a) c (sym (asked_alike ps sent a is spelled) ∙ call) in

@@ -7,7 +7,7 @@ use Rattle.std.proofs.lemmas.List.{map-append, drop-map, length-map, take-map}
 use Rattle.fm_records.specs.declared.ops.Op.{Op}
 use Rattle.fm_records.specs.Sets.{IsMember}
 use Rattle.fm_records.specs.Know.{know}
-use Rattle.fm_records.specs.Spelled.{ops}
+use Rattle.fm_records.specs.OpsOfTable.{ops}
 use Rattle.fm_records.specs.SpelledLaws.{know_ops}
 use Rattle.fm_records.specs.RangeLaws.{know_table}
 use Rattle.fm_records.specs.Joined.{table_join}
@@ -16,7 +16,7 @@ use Rattle.fm_delta.specs.declared.packet.Packet.{Packet}
 use Rattle.fm_delta.specs.Packets.{same_packet}
 use Rattle.fm_delta.specs.PacketLaws.{packet_Decides}
 use Rattle.fm_delta.specs.Deltas.{joined_all}
-use Rattle.fm_delta.specs.DeltaLaws.{joined_union}
+use Rattle.fm_delta.specs.GroupLaws.{joined_union}
 use Rattle.fm_round.specs.Admission.{admission}
 use Rattle.fm_coord.specs.declared.entry.Call.{Call}
 use Rattle.fm_coord.specs.declared.entry.Call.TheVariants as call
@@ -27,7 +27,7 @@ use Rattle.fm_coord.specs.declared.entry.Range.TheVariants.{Interval, Full}
 use Rattle.fm_coord.specs.Events.{Sent, Event, Replica, with_set, with_step, happens, set_of, packet_of, admitted_by}
 use Rattle.fm_coord.specs.Events as event
 use Rattle.fm_coord.specs.Causes.{cause, bounds_of}
-use Rattle.fm_coord.specs.Replays.{seen_packet, call_of, event_of, reply_of, after_entry, Fits}
+use Rattle.fm_coord.specs.Replays.{seen_packet, call_of, event_of, reply_of, after_entry, IsReplayed}
 use Rattle.fm_coord.specs.States.{State, step_asked, StandsFor}
 use Rattle.fm_world.specs.Worlds.{event_asked, cut_by}
 use Rattle.fm_world.specs.Listings.{packet_in, IsGiven, act_for}
@@ -144,7 +144,7 @@ pub record Taken (a b : Replica) (sent : List Sent) (ps : List Packet) (e : Entr
 module _ (a b : Replica) (al : Alike a b) (sent : List Sent) where
   -- the event of a call is the step's, but for a merge
   plain : (by : ℕ) (event : Event) (c : Call) (r : Reply) → call_of event ≡ c → event_of c ≡ event →
-      (act : event_asked sent (act_for (map seen_packet sent) c) ≡ Some event) → Fits b (record { by = by; call = c; reply = r }) → map
+      (act : event_asked sent (act_for (map seen_packet sent) c) ≡ Some event) → IsReplayed b (record { by = by; call = c; reply = r }) → map
       seen_packet (cut_by a (Some event)) ≡ packet_in (reply_of b event) → Taken a b sent (map seen_packet sent)
       (record { by = by; call = c; reply = r })
   plain by event c r calls events asks fits cut = record {
@@ -155,7 +155,7 @@ module _ (a b : Replica) (al : Alike a b) (sent : List Sent) where
     cut = cut ∙ sym (ap packet_in (fits.reply ∙ ap (reply_of b) events));
   }
 
-  take_one : (by : ℕ) (c : Call) (r : Reply) → Fits b (record { by = by; call = c; reply = r }) → IsGiven (map seen_packet sent) c → Taken a b sent (map seen_packet sent) (record { by = by; call = c; reply = r })
+  take_one : (by : ℕ) (c : Call) (r : Reply) → IsReplayed b (record { by = by; call = c; reply = r }) → IsGiven (map seen_packet sent) c → Taken a b sent (map seen_packet sent) (record { by = by; call = c; reply = r })
   take_one by (call.Tell op) r f g = plain by (event.Tell op) (call.Tell op) r refl refl refl f refl
   take_one by (call.Cut range) r f g = plain by (event.Cut range) (call.Cut range) r refl refl refl f (λ i. alike_packet a b al range i ∷ [])
   take_one by (call.Trim n) r f g = plain by (event.Trim n) (call.Trim n) r refl refl refl f refl
@@ -174,7 +174,7 @@ module _ (a b : Replica) (al : Alike a b) (sent : List Sent) where
         cut = sym (ap packet_in f.reply);
       }
 
-pub taken : (a b : Replica) → Alike a b → (sent : List Sent) (e : Entry) → Fits b e → IsGiven (map seen_packet sent) e.call → Taken a b sent (map seen_packet sent) e
+pub taken : (a b : Replica) → Alike a b → (sent : List Sent) (e : Entry) → IsReplayed b e → IsGiven (map seen_packet sent) e.call → Taken a b sent (map seen_packet sent) e
 taken a b al sent e f g = take_one a b al sent e.by e.call e.reply f g
 
 pub number_stays : (r : Replica) (by : ℕ) (event : Event) → r.number ≡ (happens r by event).number

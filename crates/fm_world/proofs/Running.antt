@@ -14,7 +14,7 @@ use Rattle.fm_world.specs.declared.step.Step.{Step}
 use Rattle.fm_world.specs.Worlds.{WorldOfSets, with_number, changed_at, event_asked, after_maybe, cut_by, cause_at, cause_of, sent_at, step_of, run_of, AreAccepted}
 use Rattle.fm_world.specs.Stands.{state_of, number_of, AllStand, state_with}
 use Rattle.std.specs.Prelude.{◌⊎◌}
-use Rattle.fm_world.specs.Listings.{packets_of, Made, entries_at, history_in, history_at, packet_in, IsGiven, Follows, IsWhole, AreCoordinators, number_in, opening_in, new_world, act_for, step_for, steps_for}
+use Rattle.fm_world.specs.Listings.{packets_of, Made, entries_at, history_in, history_at, packet_in, IsGiven, Follows, IsWhole, AreCoordinators, number_in, opening_in, new_world_of, act_for, step_for, steps_for}
 use Rattle.fm_world.proofs.Alike.{Alike, alike_self, alike_stands, Taken, taken, number_stays}
 
 -- a replica of the world, and the one that the entries so far come to; these entries are left
@@ -170,8 +170,8 @@ all_go ms (s ∷ ss) is distinct h =
       far k at true same = absurd (distinct.0 (subst (λ j. IsMember j (map number_in ss)) (sym (same refl)) at))
       far k at false same = refl
 
-pub whole_runs : (ss : List State) (ms : List Made) → AreCoordinators ss → AreDistinct (map number_in ss) → IsWhole ss ms → Ran ss (new_world ss) (steps_for [] ms) (packets_of ms)
+pub whole_runs : (ss : List State) (ms : List Made) → AreCoordinators ss → AreDistinct (map number_in ss) → IsWhole ss ms → Ran ss (new_world_of ss) (steps_for [] ms) (packets_of ms)
 whole_runs ss ms is distinct h =
-    runs ss distinct ms (new_world ss) [] refl
+    runs ss distinct ms (new_world_of ss) [] refl
     (all_go ms ss is distinct (λ n at. h.entries n))
     (all_known ss ms (λ n none. h.entries n ∙ ap history_in none)) h.follows

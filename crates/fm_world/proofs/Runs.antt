@@ -7,7 +7,7 @@ use Rattle.fm_records.specs.declared.refusal.Refusal.{Refusal}
 use Rattle.fm_records.specs.Know.{know}
 use Rattle.fm_records.specs.Facts.{winner_of}
 use Rattle.fm_records.specs.FactLaws.{winner_is}
-use Rattle.fm_records.specs.SameLaws.{know_same}
+use Rattle.fm_records.specs.SetExtensionality.{know_same}
 use Rattle.fm_net.specs.Network.{net_of}
 use Rattle.fm_dimacs.specs.Text.{dump_text}
 use Rattle.fm_coord.specs.Events.{Replica}
@@ -15,7 +15,7 @@ use Rattle.fm_coord.specs.States.{State, StandsFor}
 use Rattle.fm_world.specs.declared.step.Step.{Step}
 use Rattle.fm_world.specs.Worlds.{WorldOfSets, with_number, cause_of, refusal_of, step_of, run_of, AreAccepted, StopsAt}
 use Rattle.fm_world.specs.Stands.{Kept, WorldStandsFor, state_with}
-use Rattle.fm_world.specs.Agreement.{IsAt, EachKnows, SameAgree, IsDumpOf}
+use Rattle.fm_world.specs.Agreement.{IsRepresentedAt, EachKnows, SameAgree, IsDumpOf}
 use Rattle.fm_world.proofs.Places.{Stood, stood}
 
 pub run_more : (w : WorldOfSets) (ss : List Step) (s : Step) → run_of w (ss ++ s ∷ []) ≡ step_of (run_of w ss) s
@@ -44,7 +44,7 @@ pub whole : (ss : List Step) (n : ℕ) → length ss ≤ n → take n ss ≡ ss
 whole ss n h = take_all n ss h
 
 module _ (k : Kept) (w : WorldOfSets) (h : WorldStandsFor k w) where
-  stands_at : (n : ℕ) (s : State) (r : Replica) → IsAt k w n s r → StandsFor s r
+  stands_at : (n : ℕ) (s : State) (r : Replica) → IsRepresentedAt k w n s r → StandsFor s r
   stands_at n s r at =
       let q : Stood (with_number w.replicas n) s = stood n k.coordinators w.replicas h.coordinators s at.state in
       let same : q.replica ≡ r = let a = q.at in let b = at.replica in cc in

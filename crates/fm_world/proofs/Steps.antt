@@ -10,7 +10,7 @@ use Rattle.fm_delta.specs.declared.packet.Packet.{Packet}
 use Rattle.fm_net.specs.Network.{net_of}
 use Rattle.fm_coord.specs.declared.entry.Reply.TheVariants as reply
 use Rattle.fm_coord.specs.declared.view.View.{View}
-use Rattle.fm_coord.specs.declared.view.Sight.{Sight}
+use Rattle.fm_coord.specs.declared.view.TallyView.{TallyView}
 use Rattle.fm_coord.specs.Events.{Sent, Replica, opening}
 use Rattle.fm_coord.specs.Events as event
 use Rattle.fm_coord.specs.Replays.{seen_packet, replay}
@@ -97,14 +97,14 @@ pub shows : (o : Option State) (s : State) (a : Act) (result : Result (Option Vi
 shows o s a result named h = subst (λ (p : Option State). IfOk result (λ view. view ≡ view_shown p a)) (sym named) h
 
 -- and so does a look without a network
-pub sees : (o : Option State) (s : State) (result : Result Sight Refusal) → o ≡ Some s → IfOk result (λ sight. sight.at ≡ length s.history) → IfOk result (λ sight. sight.knowledge ≡ s.knowledge)
+pub sees : (o : Option State) (s : State) (result : Result TallyView Refusal) → o ≡ Some s → IfOk result (λ sight. sight.at ≡ length s.history) → IfOk result (λ sight. sight.knowledge ≡ s.knowledge)
     → IfOk result (λ sight. view_shown o act.View ≡ Some (record { at = sight.at; knowledge = sight.knowledge; network = net_of sight.knowledge }))
 sees o s (Ok sight) named at known =
     ap (λ p. view_shown p act.View) named ∙ (λ i. Some (record { at = (sym at) i; knowledge = (sym known) i; network = net_of ((sym known) i) }))
 sees o s (Err e) named at known = tt
 
 -- it is an accepted view
-pub seen_acted : (new : State) (r : Replica) (sent : List Sent) (ps : List Packet) (by : ℕ) (result : Result Sight Refusal) → ps ≡ map seen_packet sent
+pub seen_acted : (new : State) (r : Replica) (sent : List Sent) (ps : List Packet) (by : ℕ) (result : Result TallyView Refusal) → ps ≡ map seen_packet sent
     → IfOk result (λ sight. IsEventAt r by event.View (reply.Seen sight.at sight.knowledge) new) → OnOk result (IsActed new ps r sent by act.View)
 seen_acted new r sent ps by (Ok sight) is e =
     record {

@@ -4,7 +4,7 @@ use Rattle.std.proofs.lemmas.List.{map-append, drop-map}
 use Rattle.fm_records.specs.declared.refusal.Refusal.{Refusal}
 use Rattle.fm_records.specs.Table.{Table}
 use Rattle.fm_records.specs.Know.{know}
-use Rattle.fm_records.specs.Spelled.{ops}
+use Rattle.fm_records.specs.OpsOfTable.{ops}
 use Rattle.fm_records.specs.Joined.{table_join}
 use Rattle.fm_records.specs.UnionLaws.{know_append}
 use Rattle.fm_delta.specs.declared.packet.Packet.{Packet}

@@ -13,7 +13,7 @@ use Rattle.fm_coord.specs.States.{State, WithKeeper}
 use Rattle.fm_world.specs.declared.step.Step.{Step}
 use Rattle.fm_world.specs.Worlds.{run_of, AreAccepted}
 use Rattle.fm_world.specs.Stands.{state_of, number_of, state_with, WorldStandsFor}
-use Rattle.fm_world.specs.Listings.{Made, entries_at, history_in, history_at, CannotGo, IsListing, IsWhole, IsWholeRun, Halts, IsStuck, AreCoordinators, number_in, new_world, left_of, packets_of}
+use Rattle.fm_world.specs.Listings.{Made, entries_at, history_in, history_at, CannotGo, IsListing, IsWhole, IsWholeRun, Halts, IsStuck, AreCoordinators, number_in, new_world_of, left_of, packets_of}
 use Rattle.fm_world.specs.Sweeps.{AreTaken, IsSwept, AreFirstTaken, rest_at, count_left, Moves, IsVisit, AreStopped, left_at, made_at}
 use Rattle.fm_world.proofs.Growing.{swept_more, swept_listing, swept_stuck}
 use Rattle.fm_world.proofs.Maximal.{stuck_maximal}
@@ -175,11 +175,11 @@ module _ (ss : List State) (is : AreCoordinators ss) (distinct : AreDistinct (ma
         made = h.made;
         whole = all_there;
         as_steps = h.as_steps;
-        stands = subst (λ l. WorldStandsFor (record { coordinators = ss; packets = packets_of h.made }) (run_of (new_world ss) l)) (sym h.as_steps) (record { coordinators = ran.stands; packets = ran.packets });
+        stands = subst (λ l. WorldStandsFor (record { coordinators = ss; packets = packets_of h.made }) (run_of (new_world_of ss) l)) (sym h.as_steps) (record { coordinators = ran.stands; packets = ran.packets });
       }
 
-  pub whole_accepted : AreAccepted (new_world ss) steps
-  whole_accepted = subst (AreAccepted (new_world ss)) (sym h.as_steps) (whole_runs ss h.made is distinct all_there).accepted
+  pub whole_accepted : AreAccepted (new_world_of ss) steps
+  whole_accepted = subst (AreAccepted (new_world_of ss)) (sym h.as_steps) (whole_runs ss h.made is distinct all_there).accepted
 
 -- the coordinator at a place
 state_at : {N : Type 0} (cs : List (WithKeeper N)) (i : ℕ) (c : WithKeeper N) → i < length cs → c ≡ get_or cs i c → c.state ≡ get_or (map state_of cs) i c.state

@@ -12,7 +12,7 @@ use Rattle.fm_world.specs.Worlds.{WorldOfSets, with_number}
 use Rattle.fm_world.specs.Stands.{Kept, state_with}
 
 -- the coordinator with the number keeps s, if the world of sets has the replica r
-pub record IsAt (k : Kept) (w : WorldOfSets) (n : ℕ) (s : State) (r : Replica) : Type 0 where
+pub record IsRepresentedAt (k : Kept) (w : WorldOfSets) (n : ℕ) (s : State) (r : Replica) : Type 0 where
   pub state : state_with k.coordinators n ≡ Some s
   pub replica : with_number w.replicas n ≡ Some r
 
@@ -29,13 +29,13 @@ pub record Agree (s t : State) : Type 0 where
 
 -- each coordinator's knowledge is the table of what its replica received
 abbrev pub EachKnows : Kept → WorldOfSets → Type 0
-EachKnows k w = (n : ℕ) (s : State) (r : Replica) → IsAt k w n s r → Knows s r
+EachKnows k w = (n : ℕ) (s : State) (r : Replica) → IsRepresentedAt k w n s r → Knows s r
 
 -- any two coordinators whose replicas received the same operations agree, in whatever order, number of times and
 -- packets these arrived
 abbrev pub SameAgree : Kept → WorldOfSets → Type 0
 SameAgree k w =
-    (m n : ℕ) (s t : State) (a b : Replica) → IsAt k w m s a → IsAt k w n t b → HaveSameMembers a.taken b.taken → Agree s t
+    (m n : ℕ) (s t : State) (a b : Replica) → IsRepresentedAt k w m s a → IsRepresentedAt k w n t b → HaveSameMembers a.taken b.taken → Agree s t
 
 -- what was written is the text of the network of what the replica received, and nothing else; there is such a replica
 abbrev pub IsDumpOf : Option Replica → Option (List ℕ) → Option (List ℕ) → Type 0

@@ -3,7 +3,7 @@ use Rattle.std.specs.Prelude.{◌≡◌, ◌<◌, ℕ, List, Option, Some, None,
 use Rattle.fm_records.specs.declared.refusal.Refusal.{Refusal}
 use Rattle.fm_records.specs.declared.refusal.Refusal.TheVariants.{NoPacket}
 use Rattle.fm_records.specs.Know.{know}
-use Rattle.fm_records.specs.Spelled.{ops}
+use Rattle.fm_records.specs.OpsOfTable.{ops}
 use Rattle.fm_delta.specs.declared.packet.Packet.{Packet}
 use Rattle.fm_coord.specs.declared.entry.Call.{Call}
 use Rattle.fm_coord.specs.declared.entry.Call.TheVariants as call

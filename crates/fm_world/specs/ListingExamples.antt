@@ -18,17 +18,17 @@ use Rattle.fm_world.specs.Listings.{Made, entries_at, history_at, Follows, steps
 abbrev with_history : ℕ → List Entry → State
 with_history n es = record { number = n; limit = 100; knowledge = know []; deltas = record { floor = 0; kept = [] }; cuts = 0; history = es }
 
-abbrev cut_by : ℕ → Packet
-cut_by n = record { sender = n; number = 1; value = know [] }
+abbrev empty_cut_by : ℕ → Packet
+empty_cut_by n = record { sender = n; number = 1; value = know [] }
 
 abbrev told : Entry
 told = record { by = 0; call = call.Tell (op.Job 1 1 1 false 500 800); reply = reply.Nothing }
 
 abbrev cut : ℕ → Entry
-cut n = record { by = 0; call = call.Cut Full; reply = reply.Packet (cut_by n) }
+cut n = record { by = 0; call = call.Cut Full; reply = reply.Packet (empty_cut_by n) }
 
 abbrev merged : ℕ → Entry
-merged n = record { by = 0; call = call.Merge (cut_by n); reply = reply.Nothing }
+merged n = record { by = 0; call = call.Merge (empty_cut_by n); reply = reply.Nothing }
 
 abbrev made : ℕ → Entry → Made
 made n e = record { at = n; entry = e }
@@ -49,8 +49,8 @@ of_first = refl
 pub of_second : entries_at 2 whole ≡ history_at two 2
 of_second = refl
 
-pub follows : Follows [] whole
-follows = (tt, (tt, (inl refl, tt)))
+pub example_follows : Follows [] whole
+example_follows = (tt, (tt, (inl refl, tt)))
 
 pub whole_steps : steps_for [] whole ≡ step 1 (act.Tell (op.Job 1 1 1 false 500 800)) ∷ step 1 (act.Cut Full) ∷ step 2 (act.Deliver 0) ∷ []
 whole_steps = refl

@@ -117,15 +117,15 @@ abbrev pub opening_in : State → ℕ × ℕ
 opening_in s = (s.number, s.limit)
 
 -- a world to which nothing happened, of replicas with these coordinators' numbers and limits
-abbrev pub new_world : List State → WorldOfSets
-new_world ss = opening_world (map opening_in ss)
+abbrev pub new_world_of : List State → WorldOfSets
+new_world_of ss = opening_world (map opening_in ss)
 
 -- the steps are a whole listing, and lead to a world for which the coordinators stand
 pub record IsWholeRun (ss : List State) (steps : List Step) : Type 0 where
   pub made : List Made
   pub whole : IsWhole ss made
   pub as_steps : steps ≡ steps_for [] made
-  pub stands : WorldStandsFor (record { coordinators = ss; packets = packets_of made }) (run_of (new_world ss) steps)
+  pub stands : WorldStandsFor (record { coordinators = ss; packets = packets_of made }) (run_of (new_world_of ss) steps)
 
 -- the steps are a listing to which nothing can be added, and which leaves entries of exactly these coordinators, in
 -- order

@@ -4,7 +4,7 @@ ghost use Rattle.std.specs.Prelude.{◌≡◌, [], map, IfOk, IfErr, ◌⊎◌};
 ghost use Rattle.fm_coord.specs.Numbers.{AreDistinct};
 ghost use Rattle.fm_world.specs.Worlds.{AreAccepted};
 ghost use Rattle.fm_world.specs.Stands.{state_of, number_of};
-ghost use Rattle.fm_world.specs.Listings.{AreCoordinators, IsWholeRun, Halts, new_world};
+ghost use Rattle.fm_world.specs.Listings.{AreCoordinators, IsWholeRun, Halts, new_world_of};
 
 use crate::sweeping::swept;
 use fm_coord::coordinator::Coordinator;
@@ -35,7 +35,7 @@ pub fn gather<N: NetKeeper>(
 ) -> Result<Vec<Step>, GatherFault>
     requires { AreDistinct (map number_of coordinators.now) }
     ensures whole { IfOk result (λ steps. IsWholeRun (map state_of coordinators.now) steps.items) }
-    ensures accepted { IfOk result (λ steps. AreAccepted (new_world (map state_of coordinators.now)) steps.items) }
+    ensures accepted { IfOk result (λ steps. AreAccepted (new_world_of (map state_of coordinators.now)) steps.items) }
     ensures refusals { IfErr result (λ fault. (fault.refusal ≡ Refusal.OutOfMemory) ⊎ (fault.refusal ≡ Refusal.Stuck)) }
     ensures memory_left { IfErr result (λ fault. fault.refusal ≡ Refusal.OutOfMemory → fault.left.items ≡ []) }
     ensures memory_steps { IfErr result (λ fault. fault.refusal ≡ Refusal.OutOfMemory → fault.steps.items ≡ []) }

@@ -4,7 +4,7 @@ ghost use Rattle.std.specs.Prelude.{◌≡◌, ◌≤◌, [], IfOk, length, drop
 ghost use Rattle.fm_world.specs.Sweeps.{act_asked, IsOneTaken, AreFirstTaken};
 ghost use Rattle.fm_world.specs.Listings.{CannotGo};
 
-use crate::packets::Packets;
+use crate::cut_packets::Packets;
 use fm_coord::entry::{Call, Entry, Reply};
 use fm_lattice::join::OutOfMemory;
 use crate::step::{Act, Step};

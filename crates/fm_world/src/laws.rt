@@ -5,7 +5,7 @@ ghost use Rattle.fm_coord.specs.Numbers.{AreDistinct};
 ghost use Rattle.fm_coord.specs.States.{State};
 ghost use Rattle.fm_world.specs.Worlds.{run_of, AreAccepted};
 ghost use Rattle.fm_world.specs.Stands.{WorldStandsFor};
-ghost use Rattle.fm_world.specs.Listings.{Made, IsListing, IsStuck, IsMaximal, IsWhole, AreCoordinators, number_in, new_world, packets_of, steps_for, left_of};
+ghost use Rattle.fm_world.specs.Listings.{Made, IsListing, IsStuck, IsMaximal, IsWhole, AreCoordinators, number_in, new_world_of, packets_of, steps_for, left_of};
 
 /// A stuck listing is maximal, and if it leaves entries, no listing is whole. A listing that leaves none is whole.
 /// Its steps, run from a new world, are not refused, and lead to a world for which the coordinators stand.
@@ -15,8 +15,8 @@ pub fn law_listings()
         → IsWhole ss other → left_of ss ms ≡ [] }
     ensures whole { (ss : List State) (ms : List Made) → IsListing ss ms → left_of ss ms ≡ [] → IsWhole ss ms }
     ensures accepted { (ss : List State) (ms : List Made) → AreCoordinators ss → AreDistinct (map number_in ss)
-        → IsWhole ss ms → AreAccepted (new_world ss) (steps_for [] ms) }
+        → IsWhole ss ms → AreAccepted (new_world_of ss) (steps_for [] ms) }
     ensures stands { (ss : List State) (ms : List Made) → AreCoordinators ss → AreDistinct (map number_in ss)
         → IsWhole ss ms → WorldStandsFor (record { coordinators = ss; packets = packets_of ms })
-        (run_of (new_world ss) (steps_for [] ms)) }
+        (run_of (new_world_of ss) (steps_for [] ms)) }
 {}

@@ -4,7 +4,7 @@ use fm_coord::entry::Range;
 use fm_delta::packet::Packet;
 use fm_records::ops::Op;
 use fm_records::refusal::Refusal;
-use fm_round::parts::Plan;
+use fm_round::plan::Plan;
 
 /// What a step asks a coordinator for.
 #[derive(Drop)]

@@ -14,12 +14,12 @@ ghost use Rattle.fm_world.specs.Worlds.{WorldOfSets, opening_world, with_number,
 ghost use Rattle.fm_world.specs.Agreement.{EachKnows, SameAgree, IsDumpOf};
 ghost use Rattle.fm_world.specs.Stands.{state_of, number_of, opening_of, AreUnused, AllStand, WorldStandsFor, IsReached, state_with, view_shown};
 
-use crate::acting::act_at;
+use crate::dispatch::act_at;
 use crate::distinct::place_of;
 use crate::step::{Act, RunStop, Step};
 use fm_coord::coordinator::Coordinator;
 use fm_coord::shared::Shared;
-use fm_coord::view::{Sight, View};
+use fm_coord::view::{TallyView, View};
 use fm_delta::packet::Packet;
 use fm_dimacs::out::Out;
 use fm_know::laws::law_spelled;
@@ -147,7 +147,7 @@ impl<N: NetKeeper> World<N> {
     /// What the coordinator with this number knows, as a View shows it, with the tally in place of the network: a stale
     /// network stays stale. The history has the same entry. It costs what `Coordinator::see` does. NoCoordinator,
     /// HistoryFull, OutOfMemory. After a refusal nothing has changed.
-    pub fn see(&mut self, at: u8, by: u32) -> Result<Sight, Refusal>
+    pub fn see(&mut self, at: u8, by: u32) -> Result<TallyView, Refusal>
         ensures stands { (w : WorldOfSets) → WorldStandsFor self.old w
             → OnOk result (WorldStandsFor self.new (step_of w (record { at = at; by = by; act = act.View }))) }
         ensures accepted { (w : WorldOfSets) → WorldStandsFor self.old w

@@ -4,11 +4,11 @@ use Rattle.std.proofs.Math.ListN.{drop_of_length-le}
 use Rattle.std.specs.Prelude.{slice_get, slice_index}
 use Rattle.fm_cycles.specs.Residual.{residual}
 use Rattle.fm_cycles.specs.Walks.{AreOpen}
-use Rattle.fm_cycles.specs.declared.arcs.Step.{Step}
+use Rattle.fm_cycles.specs.declared.indexed_arcs.ResidualArc.{ResidualArc}
 use Rattle.fm_cycles.proofs.Cancelled.{opened_at, room_open, open_room}
 use Rattle.fm_cycles.proofs.cancel.are_open.Goals as goal
 
-abbrev none : Step
+abbrev none : ResidualArc
 none = record { arc = 0; forward = false }
 
 pub loop-step-init : goal.loop-step-init
@@ -24,7 +24,7 @@ loop-step-preserved c =
     let next : drop i steps ≡ s ∷ drop (i + 1) steps = drop-cons steps i none c.loop-step-test.true ∙ ap (λ n. s ∷ drop n steps) more in
     let some : 0 < c.room.result = let no = c.if-room-eq0.false in omega arith in
     let can : g.is_open s = room_open (slice_get c.args.arcs.now s.arc) s.forward (slice_index c.args.units.now s.arc) (let e = c.room.ensures in omega arith) in
-    λ rest. c.loop-step.invariant (subst (λ (p : List Step). AreOpen g p) (sym next) (can, rest))
+    λ rest. c.loop-step.invariant (subst (λ (p : List ResidualArc). AreOpen g p) (sym next) (can, rest))
 
 pub returns-then-room-eq0 : goal.returns-then-room-eq0
 returns-then-room-eq0 c = (
@@ -40,6 +40,6 @@ returns-then-room-eq0 c = (
 
 pub returns : goal.returns
 returns c = (
-  λ _. c.loop-step.invariant (subst (λ (p : List Step). AreOpen (residual c.args.arcs.now c.args.units.now) p) (sym (drop_of_length-le c.args.steps.now c.loop-step-test.false)) tt),
+  λ _. c.loop-step.invariant (subst (λ (p : List ResidualArc). AreOpen (residual c.args.arcs.now c.args.units.now) p) (sym (drop_of_length-le c.args.steps.now c.loop-step-test.false)) tt),
   λ _. cc,
 )

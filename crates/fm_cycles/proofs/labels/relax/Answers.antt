@@ -4,13 +4,13 @@ use Rattle.std.proofs.lemmas.Int.{ints}
 use Rattle.std.proofs.lemmas.Option.{slice_get-get_or}
 use Rattle.std.proofs.lemmas.Bool.{ltb-true, lt-ltb}
 use Rattle.fm_cycles.specs.Labels.{costs_of, HasFallen}
-use Rattle.fm_cycles.specs.declared.arcs.Arc.{Arc}
+use Rattle.fm_cycles.specs.declared.indexed_arcs.IndexedArc.{IndexedArc}
 use Rattle.fm_cycles.proofs.Lowered.{taken, above, falls}
 use Rattle.fm_cycles.proofs.labels.relax.Goals as goal
 
 pub overflow_sub-back : goal.overflow_sub-back
 overflow_sub-back c =
-    let none : Arc = record { from = 0; to = 0; capacity = 0; cost = 0 } in
+    let none : IndexedArc = record { from = 0; to = 0; capacity = 0; cost = 0 } in
     let i = c.args.place in
     let arcs = c.args.arcs.now in
     let a = get_or arcs i none in
@@ -28,7 +28,7 @@ overflow_sub-back c =
 
 pub lower-requires-2-clause-costs : goal.lower-requires-2-clause-costs
 lower-requires-2-clause-costs c =
-    let none : Arc = record { from = 0; to = 0; capacity = 0; cost = 0 } in
+    let none : IndexedArc = record { from = 0; to = 0; capacity = 0; cost = 0 } in
     let i = c.args.place in
     let arcs = c.args.arcs.now in
     let a = get_or arcs i none in
@@ -40,7 +40,7 @@ lower-requires-2-clause-costs c =
 
 pub lower-requires-2-clause-parents : goal.lower-requires-2-clause-parents
 lower-requires-2-clause-parents c =
-    let none : Arc = record { from = 0; to = 0; capacity = 0; cost = 0 } in
+    let none : IndexedArc = record { from = 0; to = 0; capacity = 0; cost = 0 } in
     let i = c.args.place in
     let arcs = c.args.arcs.now in
     let a = get_or arcs i none in
@@ -53,7 +53,7 @@ lower-requires-2-clause-parents c =
 
 pub returns-clause-relaxed : goal.returns-clause-relaxed
 returns-clause-relaxed c =
-    let none : Arc = record { from = 0; to = 0; capacity = 0; cost = 0 } in
+    let none : IndexedArc = record { from = 0; to = 0; capacity = 0; cost = 0 } in
     let i = c.args.place in
     let arcs = c.args.arcs.now in
     let a = get_or arcs i none in

@@ -1,6 +1,6 @@
 -- The line's numbers are the arc's, and tell it from all others.
 use Rattle.std.proofs.Common.{◌≡◌, [], sym, ◌∙◌, subst, arith}
-use Rattle.fm_net.specs.Walks.{arc_entry}
+use Rattle.fm_net.specs.NetworkIter.{arc_entry}
 use Rattle.fm_dimacs.specs.Scan.{IsAfter}
 use Rattle.fm_dimacs.proofs.Arcs.{no_numbers, same_numbers, arc_stands}
 use Rattle.fm_dimacs.proofs.Leading.{ids_tell}

@@ -1,7 +1,7 @@
 use Rattle.std.proofs.Common.{◌≡◌, ◌++◌, ◌∙◌, ℕ, List, [], append_assoc, length, count_by, refl, sym, subst}
 use Rattle.std.specs.List.{flat_map}
 use Rattle.fm_dimacs.specs.Sending.{IsSent}
-use Rattle.fm_dimacs.specs.Text.{node_line, problem_line, is_task, demand_line, supply_line, arc_line, lines_from}
+use Rattle.fm_dimacs.specs.Text.{node_line, problem_line, is_task_node, demand_line, supply_line, arc_line, lines_from}
 use Rattle.fm_dimacs.proofs.Sent.{appends_nothing, appends_more, sent_last, stopped_later}
 use Rattle.fm_dimacs.proofs.dump.put_text.Goals as goal
 
@@ -10,7 +10,7 @@ returns-in_err-put_nodes g c =
     let nodes = c.args.nodes.now in
     let arcs = c.args.network.now.arcs in
     let comments : List ℕ = lines_from node_line 1 nodes in
-    stopped_later _ _ _ _ _ _ _ _ _ ([]) comments (problem_line (length nodes) (length arcs) ++ (demand_line (count_by is_task nodes) ++ (lines_from supply_line 1 nodes ++ (flat_map (arc_line nodes) arcs)))) c.from_residual.ensures.1 (refl) (appends_nothing _) (refl) c.in_err-put_nodes.ensures
+    stopped_later _ _ _ _ _ _ _ _ _ ([]) comments (problem_line (length nodes) (length arcs) ++ (demand_line (count_by is_task_node nodes) ++ (lines_from supply_line 1 nodes ++ (flat_map (arc_line nodes) arcs)))) c.from_residual.ensures.1 (refl) (appends_nothing _) (refl) c.in_err-put_nodes.ensures
 
 pub returns-in_err-put_problem : goal.returns-in_err-put_problem
 returns-in_err-put_problem g c =
@@ -18,7 +18,7 @@ returns-in_err-put_problem g c =
     let arcs = c.args.network.now.arcs in
     let comments : List ℕ = lines_from node_line 1 nodes in
     let problem : List ℕ = problem_line (length nodes) (length arcs) in
-    stopped_later _ _ _ _ _ _ _ _ _ (comments) problem (demand_line (count_by is_task nodes) ++
+    stopped_later _ _ _ _ _ _ _ _ _ (comments) problem (demand_line (count_by is_task_node nodes) ++
     (lines_from supply_line 1 nodes ++ (flat_map (arc_line nodes) arcs))) c.from_residual-in_err-put_problem.ensures.1
     (refl) (c.in_ok-put_nodes.ensures.0) (c.in_ok-put_nodes.ensures.1) c.in_err-put_problem.ensures
 
@@ -28,7 +28,7 @@ returns-in_err-put_demand g c =
     let arcs = c.args.network.now.arcs in
     let comments : List ℕ = lines_from node_line 1 nodes in
     let problem : List ℕ = problem_line (length nodes) (length arcs) in
-    let demand : List ℕ = demand_line (count_by is_task nodes) in
+    let demand : List ℕ = demand_line (count_by is_task_node nodes) in
     stopped_later _ _ _ _ _ _ _ _ _ (comments ++ problem) demand (lines_from supply_line 1 nodes ++
     (flat_map (arc_line nodes) arcs)) c.from_residual-in_err-put_demand.ensures.1 (sym (append_assoc comments problem _))
     (appends_more _ _ _ comments problem c.in_ok-put_nodes.ensures.0 c.in_ok-put_problem.ensures.0)
@@ -40,7 +40,7 @@ returns-in_err-put_supplies g c =
     let arcs = c.args.network.now.arcs in
     let comments : List ℕ = lines_from node_line 1 nodes in
     let problem : List ℕ = problem_line (length nodes) (length arcs) in
-    let demand : List ℕ = demand_line (count_by is_task nodes) in
+    let demand : List ℕ = demand_line (count_by is_task_node nodes) in
     let supplies : List ℕ = lines_from supply_line 1 nodes in
     stopped_later _ _ _ _ _ _ _ _ _ ((comments ++ problem) ++ demand) supplies (flat_map (arc_line nodes) arcs)
     c.from_residual-in_err-put_supplies.ensures.1 (simp append_assoc)
@@ -55,7 +55,7 @@ returns g c =
     let arcs = c.args.network.now.arcs in
     let comments : List ℕ = lines_from node_line 1 nodes in
     let problem : List ℕ = problem_line (length nodes) (length arcs) in
-    let demand : List ℕ = demand_line (count_by is_task nodes) in
+    let demand : List ℕ = demand_line (count_by is_task_node nodes) in
     let supplies : List ℕ = lines_from supply_line 1 nodes in
     let last : List ℕ = flat_map (arc_line nodes) arcs in
     let whole : (((comments ++ problem) ++ demand) ++ supplies) ++ last ≡ comments ++ (problem ++ (demand ++ (supplies ++ last))) = simp append_assoc in

@@ -5,7 +5,7 @@ use Rattle.fm_net.specs.declared.node.Node.{Node}
 use Rattle.fm_net.specs.declared.node.Node.TheVariants.{Sink}
 use Rattle.fm_net.specs.Nodes.{node_cmp, IsInRange}
 use Rattle.fm_records.specs.TableLaws.{Rises}
-use Rattle.fm_dimacs.specs.Lines.{Comments, Body, Leads, IsFault}
+use Rattle.fm_dimacs.specs.Syntax.{Comments, Body, Reaches, IsFault}
 use Rattle.fm_dimacs.proofs.Verdict.{takes_bytes}
 use Rattle.fm_dimacs.proofs.Arcs.{read_sound}
 use Rattle.fm_dimacs.proofs.Reader.{fault_behind, fault_passed, only_passed}
@@ -52,13 +52,13 @@ pub returns-in_ok-network-in-Ok-clause-found : goal.returns-in_ok-network-in-Ok-
 returns-in_ok-network-in-Ok-clause-found c =
     let nodes = c.in-Ok.nodes.items in
     let net = c.in_ok-network-in-Ok.network in
-    let body = subst (λ (ns : List Node). (k : ℕ) × Leads k (Comments ns) c.in-Ok.rest.now (Body net.nodes [] net.arcs 0) []) c.deref.ensures.value c.in_ok-network-in-Ok.ensures.ok in
+    let body = subst (λ (ns : List Node). (k : ℕ) × Reaches k (Comments ns) c.in-Ok.rest.now (Body net.nodes [] net.arcs 0) []) c.deref.ensures.value c.in_ok-network-in-Ok.ensures.ok in
     (c.known.ensures, read_text (length nodes) nodes net c.args.text.now c.in-Ok.rest.now c.in-Ok.ensures.ok body)
 
 pub returns-in_ok-network-in-Ok-clause-only : goal.returns-in_ok-network-in-Ok-clause-only
 returns-in_ok-network-in-Ok-clause-only c = λ other can e.
     let nodes = c.in-Ok.nodes.items in
     let net = c.in_ok-network-in-Ok.network in
-    let body = subst (λ (ns : List Node). (k : ℕ) × Leads k (Comments ns) c.in-Ok.rest.now (Body net.nodes [] net.arcs 0) []) c.deref.ensures.value c.in_ok-network-in-Ok.ensures.ok in
+    let body = subst (λ (ns : List Node). (k : ℕ) × Reaches k (Comments ns) c.in-Ok.rest.now (Body net.nodes [] net.arcs 0) []) c.deref.ensures.value c.in_ok-network-in-Ok.ensures.ok in
     let text = read_text (length nodes) nodes net c.args.text.now c.in-Ok.rest.now c.in-Ok.ensures.ok body in
     only_read c.args.text.now net (omega arith) c.known.ensures text other can e

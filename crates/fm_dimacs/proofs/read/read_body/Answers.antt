@@ -1,6 +1,6 @@
 -- The problem line, the demand and the supplies, and the arcs lead on from each other.
 use Rattle.std.proofs.Common.{◌≡◌, ◌+◌, [], length, refl, sym, ap, subst, arith}
-use Rattle.fm_dimacs.specs.Lines.{Comments, Body, Leads, unit_lines}
+use Rattle.fm_dimacs.specs.Syntax.{Comments, Body, Reaches, unit_lines}
 use Rattle.fm_dimacs.proofs.Lasting.{leads_on}
 use Rattle.fm_dimacs.proofs.Reader.{fault_behind, fault_passed}
 use Rattle.fm_dimacs.proofs.read.read_body.Goals as goal
@@ -30,4 +30,4 @@ returns-clause-ok c =
     let first = leads_on 1 c.in_ok-units.units (Comments nodes) (Body nodes (unit_lines nodes) [] left) (Body nodes [] [] left) c.args.text.now c.in_ok-left.rest.now c.in_ok-units.rest.now c.in_ok-left.ensures.ok (c.in_ok-units.ensures.ok left) in
     let whole = leads_on (1 + c.in_ok-units.units) left (Comments nodes) (Body nodes [] [] left) (Body nodes [] arcs 0) c.args.text.now c.in_ok-units.rest.now [] first c.in_ok-read_arcs.ensures.ok in
     let same : nodes ≡ c.read_arcs.new.network.nodes = sym (ap (λ net. net.nodes) c.in_ok-read_arcs.ensures.nodes) in
-    (1 + c.in_ok-units.units + left, subst (λ ns. Leads (1 + c.in_ok-units.units + left) (Comments nodes) c.args.text.now (Body ns [] arcs 0) []) same whole)
+    (1 + c.in_ok-units.units + left, subst (λ ns. Reaches (1 + c.in_ok-units.units + left) (Comments nodes) c.args.text.now (Body ns [] arcs 0) []) same whole)

@@ -2,7 +2,7 @@
 use Rattle.std.proofs.Common.{◌≡◌, ◌+◌, List, ◌++◌, [], length, arith, ap, subst}
 use Rattle.fm_net.specs.declared.node.Node.{Node}
 use Rattle.fm_dimacs.specs.Text.{node_line}
-use Rattle.fm_dimacs.specs.Lines.{Comments, IsNextNode, IsFault}
+use Rattle.fm_dimacs.specs.Syntax.{Comments, IsNextNode, IsFault}
 use Rattle.fm_dimacs.proofs.Verdict.{takes_bytes}
 use Rattle.fm_dimacs.proofs.Reader.{fault_behind, node_more, some_holds}
 use Rattle.fm_dimacs.proofs.read.read_nodes.Goals as goal

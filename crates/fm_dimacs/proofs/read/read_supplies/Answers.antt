@@ -1,7 +1,7 @@
 -- A supply leads on from those before it, and is broken if it is not the next one.
 use Rattle.std.proofs.Common.{◌≡◌, ◌+◌, ◌++◌, [], drop, refl, sym, ap, subst, ◌∙◌, arith}
 use Rattle.fm_dimacs.specs.Text.{supply_line}
-use Rattle.fm_dimacs.specs.Lines.{Body, Leads, IsFault, with_line, supplies_from}
+use Rattle.fm_dimacs.specs.Syntax.{Body, Reaches, IsFault, with_line, supplies_from}
 use Rattle.fm_dimacs.proofs.Lasting.{leads_on}
 use Rattle.fm_dimacs.proofs.Reader.{supplies_at, fault_behind, fault_passed}
 use Rattle.fm_dimacs.proofs.read.read_supplies.Goals as goal
@@ -32,7 +32,7 @@ loop-i-preserved c =
     let here : with_line c.as_bytes.result.now units ≡ supplies_from (i + 1) (drop i nodes) = ap (λ l. with_line l units) line ∙ sym (supplies_at (i + 1) i nodes c.index-nodes-i.result c.loop-i-test.true c.index-nodes-i.is) in
     record {
       leads = λ left.
-          let next = subst (λ us. Leads c.in_ok-more.more (Body nodes us [] left) rest (Body nodes units [] left) c.in_ok-more.behind.now) here (c.in_ok-more.ensures.ok nodes units left) in
+          let next = subst (λ us. Reaches c.in_ok-more.more (Body nodes us [] left) rest (Body nodes units [] left) c.in_ok-more.behind.now) here (c.in_ok-more.ensures.ok nodes units left) in
           leads_on c.loop-i.count c.in_ok-more.more (Body nodes (supplies_from 1 nodes) [] left) (Body nodes (supplies_from (i + 1) (drop i nodes)) [] left) (Body nodes units [] left) text rest c.in_ok-more.behind.now (c.loop-i.invariant.leads left) next;
       room = omega (arith, c.in_ok-more.ensures.room, c.loop-i.invariant.room);
     }

@@ -1,5 +1,5 @@
 use Rattle.std.proofs.Common.{◌≡◌, ◌∙◌, ap, sym, subst}
-use Rattle.fm_net.specs.Edits.{after, change, MayEditAll}
+use Rattle.fm_net.specs.Edits.{after_edits, change, MayEditAll}
 use Rattle.fm_net.specs.EditLaws.{change_may, change_gives}
 use Rattle.fm_net.specs.Net.{Net}
 use Rattle.fm_net.specs.Network.{net_of}
@@ -39,6 +39,6 @@ returns-clause-given g c =
     let told = c.in_ok-touched.ensures in
     let edits : c.in_ok-edits.edits.items ≡ change net (net_of now) = c.in_ok-edits.ensures ∙ edits_are now can told.small c.follow.new.self told.remembers net c.in_ok-touched.touched.nodes.keys c.in_ok-touched.touched.pairs.keys c.known.ensures told.touches in
     record {
-      network = c.in_ok-make.ensures ∙ ap (after c.as_slice.result.now) (sym c.get-network.ensures) ∙ ap (λ es. after es net) (c.as_slice.ensures.value ∙ edits) ∙ change_gives net (net_of now) c.known.ensures (now_can_be now can told.small);
+      network = c.in_ok-make.ensures ∙ ap (after_edits c.as_slice.result.now) (sym c.get-network.ensures) ∙ ap (λ es. after_edits es net) (c.as_slice.ensures.value ∙ edits) ∙ change_gives net (net_of now) c.known.ensures (now_can_be now can told.small);
       remembers = told.remembers;
     }

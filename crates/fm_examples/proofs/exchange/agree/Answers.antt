@@ -1,5 +1,5 @@
 use Rattle.std.proofs.Common.{sym, subst}
-use Rattle.fm_gossip.specs.Agreement.{KnowSame}
+use Rattle.fm_gossip.specs.AfterExchange.{KnowSame}
 use Rattle.fm_examples.proofs.exchange.agree.Goals as goal
 
 pub returns-clause-same : goal.returns-clause-same

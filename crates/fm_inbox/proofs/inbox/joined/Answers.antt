@@ -1,6 +1,6 @@
 use Rattle.std.proofs.Common.{arith, ap, ◌∙◌}
-use Rattle.fm_inbox.specs.declared.rule.Account.{Account}
-use Rattle.fm_inbox.specs.Ports.{PortSeen, account_of, IsPortOf, seen_inbox, put_by, taken_by}
+use Rattle.fm_inbox.specs.declared.conservation.Account.{Account}
+use Rattle.fm_inbox.specs.Ports.{PortSeen, account_of, IsPortOf, seen_inbox, put_by, taken_weight}
 use Rattle.crossbeam_queue.specs.Passes.{ruled_capacity}
 use Rattle.fm_inbox.proofs.Keeps.{merges, weigh-append}
 use Rattle.fm_inbox.proofs.Rest.{weigh-last, all-last}
@@ -18,7 +18,7 @@ loop-port-init c =
       rw v (omega arith),
       rw v (omega (arith, c.in-Some.ensures.len, c.requires.some.1)),
       a.0,
-      λ h. rw v (omega (arith, weigh-last (put_by h) _ _ port e), omega (arith, weigh-last (taken_by h) _ _ port e)),
+      λ h. rw v (omega (arith, weigh-last (put_by h) _ _ port e), omega (arith, weigh-last (taken_weight h) _ _ port e)),
     )
 
 pub absorb-requires-clause-rule : goal.absorb-requires-clause-rule
@@ -39,5 +39,5 @@ loop-port-preserved c =
       rw w (omega (arith, inv.2)),
       rw (w, v) (omega (arith, c.in-Some-pop.ensures.len, inv.3)),
       a.0,
-      λ h. rw (w, v) (omega (arith, weigh-last (put_by h) _ _ port e, (inv.5 h).0, weigh-append h (account_of c.loop-port.pass).put port.put), omega (arith, weigh-last (taken_by h) _ _ port e, (inv.5 h).1, weigh-append h (account_of c.loop-port.pass).taken port.taken)),
+      λ h. rw (w, v) (omega (arith, weigh-last (put_by h) _ _ port e, (inv.5 h).0, weigh-append h (account_of c.loop-port.pass).put port.put), omega (arith, weigh-last (taken_weight h) _ _ port e, (inv.5 h).1, weigh-append h (account_of c.loop-port.pass).taken port.taken)),
     )

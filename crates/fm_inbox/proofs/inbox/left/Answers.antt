@@ -1,6 +1,6 @@
 use Rattle.std.proofs.Common.{◌∷◌, [], arith, ap, ◌∙◌, length-append}
-use Rattle.fm_inbox.specs.declared.rule.Account.{Account}
-use Rattle.fm_inbox.specs.Rule.{weigh}
+use Rattle.fm_inbox.specs.declared.conservation.Account.{Account}
+use Rattle.fm_inbox.specs.Conservation.{weigh}
 use Rattle.fm_inbox.specs.Ports.{account_of}
 use Rattle.fm_inbox.proofs.Keeps.{pops, learns, weigh-append}
 use Rattle.fm_inbox.proofs.Rest.{weigh-none, counted}

@@ -1,7 +1,7 @@
 use Rattle.std.proofs.Common.{◌≡◌, ◌∙◌, [], ◌∷◌, ◌++◌, List, refl, ap, sym, subst, rules}
 use Rattle.fm_records.specs.Sets.{IsMember}
 use Rattle.fm_net.specs.declared.node.Node.{Node}
-use Rattle.fm_cycles.specs.declared.arcs.Arc.{Arc}
+use Rattle.fm_cycles.specs.declared.indexed_arcs.IndexedArc.{IndexedArc}
 use Rattle.fm_indexed.specs.Numbered.{NetArc, AreArcsOf}
 use Rattle.fm_indexed.proofs.Formed.{arcs_more, ends_stand}
 use Rattle.fm_indexed.proofs.Naming.{append_one}
@@ -24,7 +24,7 @@ place_by-to-requires-clause-stands c =
 pub loop-source-preserved : goal.loop-source-preserved
 loop-source-preserved c =
     let arc : NetArc = ((c.in-Some.source, c.in-Some.target), (c.in-Some.capacity, c.in-Some.cost)) in
-    let a : Arc = record { from = c.place_of-from.result; to = c.place_by-to.result; capacity = c.in-Some.capacity; cost = c.in-Some.cost } in
+    let a : IndexedArc = record { from = c.place_of-from.result; to = c.place_by-to.result; capacity = c.in-Some.capacity; cost = c.in-Some.cost } in
     let done = c.loop-source.invariant.2.0 in
     let split : c.args.network.now.arcs ≡ done ++ arc ∷ c.next.new.self = c.loop-source.invariant.2.1 ∙ ap (λ (arcs : List NetArc). done ++ arcs) c.in-Some.ensures.steps in (
       tt,
@@ -32,7 +32,7 @@ loop-source-preserved c =
       (
         done ++ arc ∷ [],
         split ∙ append_one done arc c.next.new.self,
-        subst (λ (numbers : List Arc). AreArcsOf c.args.nodes.now (done ++ arc ∷ []) numbers) (sym {A = List Arc} c.in_ok-push.ensures.items)
+        subst (λ (numbers : List IndexedArc). AreArcsOf c.args.nodes.now (done ++ arc ∷ []) numbers) (sym {A = List IndexedArc} c.in_ok-push.ensures.items)
             (arcs_more c.args.nodes.now done c.loop-source.arcs.items arc a c.loop-source.invariant.2.2 (record { from = c.place_of-from.ensures; to = c.place_by-to.ensures; capacity = refl; cost = refl })),
       ),
     )
@@ -41,4 +41,4 @@ pub loop-source-init : goal.loop-source-init
 loop-source-init c =
     let none : List NetArc = [] in
     let whole : c.args.network.now.arcs ≡ c.into_iter-source-iterator.result = search rules in
-    (tt, tt, (none, whole, subst (λ (numbers : List Arc). AreArcsOf c.args.nodes.now none numbers) (sym {A = List Arc} c.in_ok-arcs.ensures.items) tt))
+    (tt, tt, (none, whole, subst (λ (numbers : List IndexedArc). AreArcsOf c.args.nodes.now none numbers) (sym {A = List IndexedArc} c.in_ok-arcs.ensures.items) tt))

@@ -1,5 +1,5 @@
 use Rattle.std.proofs.Common.{◌<◌, length, ap, subst, arith, ◌∙◌}
-use Rattle.fm_lattice.specs.Blocks.{IsBlockOf, IsHomeOf}
+use Rattle.fm_lattice.specs.Blocks.{IsBlockOf, IsBlockFor}
 use Rattle.fm_lattice.proofs.InBlocks.{inside_blocks, block_set}
 use Rattle.fm_lattice.proofs.Cuts.{same_pairs, same_headed, same_owned, set_alone}
 use Rattle.fm_lattice.proofs.Owned.{owned_home}
@@ -43,7 +43,7 @@ returns-clause-alone g c =
 
 pub returns-clause-owned : goal.returns-clause-owned
 returns-clause-owned g c =
-    let home = subst (λ z. IsHomeOf g.K.Ord.cmp c.args.key.now z c.block_of-at.result) c.deref.ensures.value c.block_of-at.ensures.home in
+    let home = subst (λ z. IsBlockFor g.K.Ord.cmp c.args.key.now z c.block_of-at.result) c.deref.ensures.value c.block_of-at.ensures.home in
     owned_home g.K.Ord.cmp c.args.key.now c.args.blocks.now.items c.block_of-at.result c.index_mut.result.now c.own.new.block home (c.own.ensures.key ∙ ap (λ z. z.0) c.index_mut.ensures.value) c.in_ok-own.ensures.owned
 
 pub returns-clause-keeps : goal.returns-clause-keeps

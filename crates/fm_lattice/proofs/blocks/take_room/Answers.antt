@@ -1,5 +1,5 @@
 use Rattle.std.proofs.Common.{◌≡◌, ◌<◌, ◌≤◌, ◌+◌, true, length, vec_capacity, get_or, sym, ap, subst, arith}
-use Rattle.fm_lattice.specs.Blocks.{IsBlockOf, IsHomeOf}
+use Rattle.fm_lattice.specs.Blocks.{IsBlockOf, IsBlockFor}
 use Rattle.fm_lattice.proofs.InBlocks.{inside_blocks}
 use Rattle.fm_lattice.proofs.Cuts.{at_any, same_pairs, same_headed, same_owned, takes_wider}
 use Rattle.fm_lattice.proofs.Owned.{home_owned}
@@ -26,7 +26,7 @@ index_mut-requires g c =
 pub returns-then-len-room-clause-takes : goal.returns-then-len-room-clause-takes
 returns-then-len-room-clause-takes g c =
     let is = subst (λ z. IsBlockOf g.K.Ord.cmp c.args.key.now z c.block_of-at.result) c.deref.ensures.value c.block_of-at.ensures.block in
-    let home = subst (λ z. IsHomeOf g.K.Ord.cmp c.args.key.now z c.block_of-at.result) c.deref.ensures.value c.block_of-at.ensures.home in
+    let home = subst (λ z. IsBlockFor g.K.Ord.cmp c.args.key.now z c.block_of-at.result) c.deref.ensures.value c.block_of-at.ensures.home in
     record {
       is_block = is;
       owned = λ d. home_owned g.K.Ord.cmp c.args.key.now c.args.blocks.now.items c.block_of-at.result d home c.requires.owned;
@@ -46,7 +46,7 @@ returns-then-len-room-clause-takes g c =
 pub returns-then-capacity-lt-LEAST-clause-takes : goal.returns-then-capacity-lt-LEAST-clause-takes
 returns-then-capacity-lt-LEAST-clause-takes g c =
     let is = subst (λ z. IsBlockOf g.K.Ord.cmp c.args.key.now z c.block_of-at.result) c.deref.ensures.value c.block_of-at.ensures.block in
-    let home = subst (λ z. IsHomeOf g.K.Ord.cmp c.args.key.now z c.block_of-at.result) c.deref.ensures.value c.block_of-at.ensures.home in
+    let home = subst (λ z. IsBlockFor g.K.Ord.cmp c.args.key.now z c.block_of-at.result) c.deref.ensures.value c.block_of-at.ensures.home in
     record {
       is_block = is;
       owned = λ d. home_owned g.K.Ord.cmp c.args.key.now c.args.blocks.now.items c.block_of-at.result d home c.requires.owned;
@@ -55,7 +55,7 @@ returns-then-capacity-lt-LEAST-clause-takes g c =
 
 pub enlarge-requires-clause-owned : goal.enlarge-requires-clause-owned
 enlarge-requires-clause-owned g c =
-    let home = subst (λ z. IsHomeOf g.K.Ord.cmp c.args.key.now z c.block_of-at.result) c.deref.ensures.value c.block_of-at.ensures.home in
+    let home = subst (λ z. IsBlockFor g.K.Ord.cmp c.args.key.now z c.block_of-at.result) c.deref.ensures.value c.block_of-at.ensures.home in
     subst (λ z. z.1.owned ≡ true) (sym c.index_mut.ensures.value) (home_owned g.K.Ord.cmp c.args.key.now c.args.blocks.now.items c.block_of-at.result c.index_mut.result.now home c.requires.owned)
 
 pub enlarge-requires-clause-more : goal.enlarge-requires-clause-more
@@ -74,7 +74,7 @@ moved_count-requires g c = rw c.deref-2.ensures.value (inside_blocks g.K.Ord.cmp
 
 pub cut-requires-clause-owned : goal.cut-requires-clause-owned
 cut-requires-clause-owned g c d =
-    let home = subst (λ z. IsHomeOf g.K.Ord.cmp c.args.key.now z c.block_of-at.result) c.deref.ensures.value c.block_of-at.ensures.home in
+    let home = subst (λ z. IsBlockFor g.K.Ord.cmp c.args.key.now z c.block_of-at.result) c.deref.ensures.value c.block_of-at.ensures.home in
     home_owned g.K.Ord.cmp c.args.key.now c.args.blocks.now.items c.block_of-at.result d home c.requires.owned
 
 pub cut-requires-clause-more : goal.cut-requires-clause-more

@@ -2,8 +2,8 @@ use Rattle.std.proofs.Common.{sym}
 use Rattle.fm_lattice.proofs.Places.{lookup_at, lookup_gap}
 use Rattle.fm_lattice.proofs.blocks.value_in.Goals as goal
 
-pub place-requires-clause-exact : goal.place-requires-clause-exact
-place-requires-clause-exact g c = g.met.K.Chain.same
+pub search-requires-clause-exact : goal.search-requires-clause-exact
+search-requires-clause-exact g c = g.met.K.Chain.same
 
 pub returns-in-Ok : goal.returns-in-Ok
 returns-in-Ok g c =

@@ -2,7 +2,7 @@ use Rattle.std.proofs.Common.{◌≡◌, ℕ, List, None, refl, ◌∙◌, sym, 
 use Rattle.std.specs.Option.{IsSomeAnd}
 use Rattle.fm_records.specs.Table.{Table}
 use Rattle.fm_records.specs.Know.{know}
-use Rattle.fm_query.specs.Reasons.{IsReasonsText}
+use Rattle.fm_query.specs.ReasonsText.{IsReasonsText}
 use Rattle.fm_query.proofs.Asking.{of_none, of_some}
 use Rattle.fm_query.proofs.query.reasons.Goals as goal
 

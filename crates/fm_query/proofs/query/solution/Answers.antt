@@ -2,7 +2,7 @@ use Rattle.std.proofs.Common.{◌≡◌, None, IfOk, refl, inr, subst}
 use Rattle.std.specs.Option.{IsSomeAnd}
 use Rattle.fm_records.specs.Table.{Table}
 use Rattle.fm_net.specs.Network.{net_of}
-use Rattle.fm_query.specs.Texts.{network_of, IsSolution}
+use Rattle.fm_query.specs.QueryTexts.{network_of, IsSolution}
 use Rattle.fm_query.proofs.Asking.{of_none, of_some}
 use Rattle.fm_query.proofs.query.solution.Goals as goal
 

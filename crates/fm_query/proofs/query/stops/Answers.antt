@@ -1,7 +1,7 @@
 use Rattle.std.proofs.Common.{◌≡◌, None, refl, inr, ap, ◌∙◌, vec_items}
 use Rattle.std.specs.Option.{IsSomeAnd}
 use Rattle.fm_records.specs.Know.{know}
-use Rattle.fm_query.specs.Plans.{stops_text}
+use Rattle.fm_query.specs.PlanText.{stops_text}
 use Rattle.fm_query.proofs.Asking.{of_none, of_some}
 use Rattle.fm_query.proofs.query.stops.Goals as goal
 

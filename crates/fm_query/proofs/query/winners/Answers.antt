@@ -1,7 +1,7 @@
 use Rattle.std.proofs.Common.{◌≡◌, None, refl, inr, ap, ◌∙◌, vec_items}
 use Rattle.std.specs.Option.{IsSomeAnd}
-use Rattle.fm_query.specs.Texts.{winners_of}
-use Rattle.fm_query.specs.Winners.{winners_text}
+use Rattle.fm_query.specs.QueryTexts.{winners_of}
+use Rattle.fm_query.specs.WinnersText.{winners_text}
 use Rattle.fm_query.proofs.Asking.{of_none, of_some}
 use Rattle.fm_query.proofs.query.winners.Goals as goal
 

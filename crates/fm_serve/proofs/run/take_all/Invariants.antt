@@ -1,7 +1,7 @@
 use Rattle.std.proofs.Common.{take}
 use Rattle.fm_world.specs.Worlds.{WorldOfSets}
 use Rattle.fm_world.specs.Stands.{WorldStandsFor}
-use Rattle.fm_serve.specs.Running.{Come}
+use Rattle.fm_serve.specs.ScriptSteps.{Come}
 use Rattle.fm_serve.proofs.run.take_all.Given as goal
 
 abbrev pub invariant-loop-place : goal.invariant-loop-place

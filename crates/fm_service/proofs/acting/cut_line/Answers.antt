@@ -1,6 +1,6 @@
 use Rattle.std.proofs.Common.{sym, ap, ◌∙◌, refl, vec_items}
 use Rattle.fm_world.specs.declared.step.Act.TheVariants as act
-use Rattle.fm_query.specs.Texts.{line_of}
+use Rattle.fm_query.specs.QueryTexts.{line_of}
 use Rattle.fm_service.proofs.Results.{returned}
 use Rattle.fm_service.proofs.Steps.{nobody_there, cut_refused, cut_cause, cut_told, no_memory}
 use Rattle.fm_service.proofs.acting.cut_line.Goals as goal

@@ -1,8 +1,8 @@
 use Rattle.std.proofs.Common.{ap}
-use Rattle.fm_records.specs.SameLaws.{know_same}
+use Rattle.fm_records.specs.SetExtensionality.{know_same}
 use Rattle.fm_net.specs.Network.{net_of}
 use Rattle.fm_dimacs.specs.Text.{dump_text}
-use Rattle.fm_query.specs.Winners.{winners_text}
+use Rattle.fm_query.specs.WinnersText.{winners_text}
 use Rattle.fm_service.proofs.laws.law_same_answers.Goals as goal
 
 pub returns-clause-graphs : goal.returns-clause-graphs

@@ -7,7 +7,7 @@ use Rattle.fm_records.specs.Table.{MachineValue}
 use Rattle.fm_tally.specs.declared.holdings.Holding.{Holding}
 use Rattle.fm_tally.specs.declared.tally.OpenMachine.{OpenMachine}
 use Rattle.fm_tally.specs.Holdings.{holding_nothing}
-use Rattle.fm_tally.specs.Tallies.{machine_at, all_machines}
+use Rattle.fm_tally.specs.Tallies.{open_machine_at, all_machines}
 use Rattle.fm_tally.proofs.Live.{machine_is}
 use Rattle.fm_tally.proofs.Rows.{rows, rising_rows, lookup_met}
 use Rattle.fm_tally.proofs.tally.machines_of.Goals as goal
@@ -22,7 +22,7 @@ loop-machine-preserved-in-Continue-1 c =
     let met : ℕ × MachineValue = (c.in-Some.machine.now, c.in-Some.known.now) in
     let walked = c.loop-machine.invariant.walked in
     let found = c.loop-machine.found.items in
-    let rest = rows (machine_at k) c.next.new.self in
+    let rest = rows (open_machine_at k) c.next.new.self in
     let whole = c.loop-machine.invariant.whole ∙ ap (λ es. walked ++ es) c.in-Some.ensures.steps in
     let rises = subst (IsRising nat_cmp) (c.machines.ensures ∙ whole) c.iter-machine-items.ensures.map.rising in
     let known = subst (λ es. lookup nat_cmp met.0 es ≡ Some met.1) (sym whole) (lookup_met walked c.next.new.self met rises) in
@@ -35,7 +35,7 @@ loop-machine-preserved-in-Continue-1 c =
           ap (λ xs. xs ++ rest) c.in_ok-push.ensures.items
           ∙ append_assoc found ((met.0, c.in-Some-open_machine.open) ∷ []) rest
           ∙ ap (λ o. found ++ cons_option (option_map (λ (w : OpenMachine). (met.0, w)) o) rest) (sym c.in-Some-open_machine.is ∙ c.open_machine.ensures ∙ opened)
-          ∙ ap (λ es. found ++ rows (machine_at k) es) (sym c.in-Some.ensures.steps)
+          ∙ ap (λ es. found ++ rows (open_machine_at k) es) (sym c.in-Some.ensures.steps)
           ∙ c.loop-machine.invariant.found;
       walked = walked ++ met ∷ [];
       whole = whole ∙ sym (append_assoc walked (met ∷ []) c.next.new.self);
@@ -47,7 +47,7 @@ loop-machine-preserved c =
     let met : ℕ × MachineValue = (c.in-Some.machine.now, c.in-Some.known.now) in
     let walked = c.loop-machine.invariant.walked in
     let found = c.loop-machine.found.items in
-    let rest = rows (machine_at k) c.next.new.self in
+    let rest = rows (open_machine_at k) c.next.new.self in
     let whole = c.loop-machine.invariant.whole ∙ ap (λ es. walked ++ es) c.in-Some.ensures.steps in
     let rises = subst (IsRising nat_cmp) (c.machines.ensures ∙ whole) c.iter-machine-items.ensures.map.rising in
     let known = subst (λ es. lookup nat_cmp met.0 es ≡ Some met.1) (sym whole) (lookup_met walked c.next.new.self met rises) in
@@ -58,7 +58,7 @@ loop-machine-preserved c =
     record {
       found =
           ap (λ o. found ++ cons_option (option_map (λ (w : OpenMachine). (met.0, w)) o) rest) (sym c.in_default.is ∙ c.open_machine.ensures ∙ opened)
-          ∙ ap (λ es. found ++ rows (machine_at k) es) (sym c.in-Some.ensures.steps)
+          ∙ ap (λ es. found ++ rows (open_machine_at k) es) (sym c.in-Some.ensures.steps)
           ∙ c.loop-machine.invariant.found;
       walked = walked ++ met ∷ [];
       whole = whole ∙ sym (append_assoc walked (met ∷ []) c.next.new.self);
@@ -68,4 +68,4 @@ pub of-requires : goal.of-requires
 of-requires c =
     let k = c.args.knowledge.now in
     let all : c.loop-machine.found.items ≡ all_machines k = search (rules, c.loop-machine.invariant.found) in
-    subst (IsRising nat_cmp) (sym all) (rising_rows (machine_at k) k.machines (subst (IsRising nat_cmp) c.machines.ensures c.iter-machine-items.ensures.map.rising))
+    subst (IsRising nat_cmp) (sym all) (rising_rows (open_machine_at k) k.machines (subst (IsRising nat_cmp) c.machines.ensures c.iter-machine-items.ensures.map.rising))

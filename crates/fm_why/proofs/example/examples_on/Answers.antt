@@ -5,7 +5,7 @@ use Rattle.std.proofs.lemmas.Option.{slice_get-get_or}
 use Rattle.fm_certificate.specs.Flows.{units_in}
 use Rattle.fm_why.specs.declared.reasons.Choice.{Choice}
 use Rattle.fm_why.specs.declared.reasons.Example.{Example}
-use Rattle.fm_why.specs.Examples.{IsExampleFor}
+use Rattle.fm_why.specs.Alternatives.{IsExampleFor}
 use Rattle.fm_why.proofs.Shown.{all_none, all_next}
 use Rattle.fm_why.proofs.example.examples_on.Goals as goal
 

@@ -1,7 +1,7 @@
 use Rattle.std.proofs.Common.{◌≡◌, length}
 use Rattle.std.specs.List.{All, zip}
 use Rattle.fm_certificate.specs.Flows.{units_in}
-use Rattle.fm_why.specs.Examples.{IsExampleFor}
+use Rattle.fm_why.specs.Alternatives.{IsExampleFor}
 use Rattle.fm_why.proofs.example.examples_on.Given as goal
 
 abbrev pub invariant-loop-choice : goal.invariant-loop-choice

@@ -2,7 +2,7 @@ use Rattle.std.proofs.Common.{◌≡◌, ◌++◌}
 use Rattle.std.specs.List.{filter_map}
 use Rattle.fm_certificate.specs.Flows.{units_in}
 use Rattle.fm_certificate.proofs.Exchange.{Arc}
-use Rattle.fm_why.specs.Examples.{move_over, moves_between}
+use Rattle.fm_why.specs.Alternatives.{move_over, moves_between}
 use Rattle.fm_why.proofs.example.moves_between.Given as goal
 
 abbrev pub invariant-loop-from : goal.invariant-loop-from

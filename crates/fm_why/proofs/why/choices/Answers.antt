@@ -11,9 +11,9 @@ use Rattle.std.proofs.lemmas.List.{length-take}
 use Rattle.fm_why.specs.declared.reasons.TheConstants.{SHOWN}
 use Rattle.fm_why.specs.declared.reasons.Choice.{Choice}
 use Rattle.fm_why.specs.Running.{IsDearerOver}
-use Rattle.fm_why.specs.Ways.{IsOnlyRequest, ways_of}
+use Rattle.fm_why.specs.MachineOptions.{IsOnlyRequest, machine_ways}
 use Rattle.fm_why.specs.Reasons.{IsChoice}
-use Rattle.fm_why.specs.Examples.{IsExampleFor}
+use Rattle.fm_why.specs.Alternatives.{IsExampleFor}
 use Rattle.fm_why.proofs.Roomy.{only_request, ways_are_roomy}
 use Rattle.fm_why.proofs.Shown.{zip_take}
 use Rattle.fm_why.proofs.Pricing.{each_roomy, first_within, fits_all, stays_least}
@@ -46,7 +46,7 @@ returns c =
       waiting = subst (λ (n : Net). IsDearerOver n schedule.least (Task c.args.task) (Unscheduled spec.job) c.more_over.result) is c.more_over.ensures.dearer;
       each = subst (λ (n : Net). All (IsChoice n schedule.least c.args.task spec.request) c.in_ok-machines.machines.items) is c.in_ok-machines.ensures.each;
       all =
-          let ways = subst (λ (n : Net). IsPermutation (ways_of k n c.args.task spec.request) (map (λ (e : Choice). e.machine) c.in_ok-machines.machines.items)) is c.in_ok-machines.ensures.all in
+          let ways = subst (λ (n : Net). IsPermutation (machine_ways k n c.args.task spec.request) (map (λ (e : Choice). e.machine) c.in_ok-machines.machines.items)) is c.in_ok-machines.ensures.all in
           subst (λ (ms : List ℕ). IsPermutation ms (map (λ (e : Choice). e.machine) c.in_ok-machines.machines.items)) (ways_are_roomy k c.args.task spec c.requires.live c.requires.free) ways;
       cheapest_first = c.in_ok-machines.ensures.cheapest_first;
       known = c.len.ensures ∙ ap length c.machines.ensures;
@@ -63,7 +63,7 @@ returns c =
           let first = first_within c.args.job.wait more (slice_get items 0) (subst (λ o. IfSome o (λ price. c.args.job.wait + more ≤ price)) price within) in
           let can = subst CanBeNet is c.known.ensures in
           let each = subst (λ (n : Net). All (IsChoice n schedule.least c.args.task spec.request) items) is c.in_ok-machines.ensures.each in
-          let ways = subst (λ (n : Net). IsPermutation (ways_of k n c.args.task spec.request) (map (λ (e : Choice). e.machine) items)) is c.in_ok-machines.ensures.all in
+          let ways = subst (λ (n : Net). IsPermutation (machine_ways k n c.args.task spec.request) (map (λ (e : Choice). e.machine) items)) is c.in_ok-machines.ensures.all in
           let all = subst (λ (ms : List ℕ). IsPermutation ms (map (λ (e : Choice). e.machine) items)) (ways_are_roomy k c.args.task spec c.requires.live c.requires.free) ways in
           stays_least k can c.args.task spec c.args.job c.requires.live c.requires.job c.requires.free (units_in schedule.flow) schedule.least more
           (subst (λ (n : Net). IsLeast n (units_in schedule.flow)) is c.in_ok-schedule.ensures.least)

@@ -4,7 +4,7 @@ use Rattle.fm_records.specs.Ids.{is_coordinator}
 use Rattle.fm_records.specs.RangeLaws.{when_value}
 use Rattle.fm_records.specs.Ranges.{CanBe}
 use Rattle.fm_records.specs.Table.{Table}
-use Rattle.fm_wire.specs.Grammar.{Listed, lists_of, entries_of}
+use Rattle.fm_wire.specs.Grammar.{Listed, lists_of, flat_of}
 use Rattle.fm_wire.proofs.Parts.{ReadHeader, ReadJobs, ReadTasks, ReadMachines, reads_body, header_fails, jobs_fail, tasks_fail, machines_fail, entries_fail}
 use Rattle.fm_wire.proofs.PacketLawful.{body_lawful}
 use Rattle.fm_wire.proofs.PacketLaws.{found_can_be}
@@ -113,7 +113,7 @@ returns-clause-found c =
       jobs = (sym value i).jobs;
       tasks = (sym value i).tasks;
       machines = (sym value i).machines;
-      entries = (sym c.in_ok-proposals.ensures.entries ∙ ap entries_of
+      entries = (sym c.in_ok-proposals.ensures.entries ∙ ap flat_of
           (ap (λ (k : Table). k.proposals) (sym value))) i;
     } in
     (c.in_ok-entries.field-0-1.now, read ∙ (λ i. Ok (same i, c.in_ok-entries.field-0-1.now)))

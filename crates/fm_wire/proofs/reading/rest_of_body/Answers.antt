@@ -1,7 +1,7 @@
 use Rattle.std.proofs.Common.{◌≡◌, ◌∙◌, refl, sym, subst}
 use Rattle.std.proofs.lemmas.Result.{err_from_is_err_and}
-use Rattle.fm_wire.specs.Grammar.{body, entries}
-use Rattle.fm_wire.specs.Reads.{Gives, rest_of}
+use Rattle.fm_wire.specs.Grammar.{body, entry_list}
+use Rattle.fm_wire.specs.Decoding.{DecodesTo, rest_of}
 use Rattle.fm_wire.proofs.Parts.{body_rest}
 use Rattle.fm_wire.proofs.reading.rest_of_body.Goals as goal
 
@@ -17,9 +17,9 @@ returns-in_err-rest-4 c =
 
 pub returns : goal.returns
 returns c =
-    let last : rest_of ((body c.args.version).read c.args.bytes.now) ≡ rest_of (entries.read c.in_ok-rest-4.rest.now) =
+    let last : rest_of ((body c.args.version).read c.args.bytes.now) ≡ rest_of (entry_list.read c.in_ok-rest-4.rest.now) =
     body_rest c.args.version c.args.bytes.now ∙ rw (c.in_ok-rest.ensures.header, c.in_ok-rest-2.ensures, c.in_ok-rest-3.ensures, c.in_ok-rest-4.ensures) refl in
-    subst (Gives (λ rest. rest.now) c.rest_of_map-4.result) (sym last) c.rest_of_map-4.ensures
+    subst (DecodesTo (λ rest. rest.now) c.rest_of_map-4.result) (sym last) c.rest_of_map-4.ensures
 
 pub returns-in_err-rest : goal.returns-in_err-rest
 returns-in_err-rest c =

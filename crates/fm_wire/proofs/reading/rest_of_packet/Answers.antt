@@ -1,7 +1,7 @@
 use Rattle.std.proofs.Common.{◌≡◌, ◌∙◌, refl, sym, subst}
 use Rattle.std.proofs.lemmas.Result.{err_from_is_err_and}
 use Rattle.fm_wire.specs.Grammar.{body, packet}
-use Rattle.fm_wire.specs.Reads.{Gives, rest_of}
+use Rattle.fm_wire.specs.Decoding.{DecodesTo, rest_of}
 use Rattle.fm_wire.proofs.Parts.{packet_rest}
 use Rattle.fm_wire.proofs.reading.rest_of_packet.Goals as goal
 
@@ -13,4 +13,4 @@ returns-in_err-version c =
 pub returns : goal.returns
 returns c =
     let last : rest_of (packet.read c.args.bytes.now) ≡ rest_of ((body c.in_ok-version.version).read c.in_ok-version.rest.now) = packet_rest c.args.bytes.now ∙ rw c.in_ok-version.ensures refl in
-    subst (Gives (λ rest. rest.now) c.rest_of_body.result) (sym last) c.rest_of_body.ensures
+    subst (DecodesTo (λ rest. rest.now) c.rest_of_body.result) (sym last) c.rest_of_body.ensures

@@ -4,17 +4,17 @@ use Rattle.fm_lattice.specs.Maps.{lookup}
 use Rattle.fm_net.specs.declared.node.Node.{Node}
 use Rattle.fm_net.specs.Nodes.{ends_cmp}
 use Rattle.fm_net.specs.NodeOrder.{ends_exact}
-use Rattle.fm_net.specs.Same.{same_node}
+use Rattle.fm_net.specs.NetworkEquality.{same_node}
 use Rattle.fm_certificate.specs.Totals.{target, units_at, total_in}
 use Rattle.fm_certificate.proofs.Units.{units_on, units_bound, flow_put, part_of, or_zero}
 use Rattle.fm_certificate.proofs.flow.Flow.put.Goals as goal
 
-pub set-requires-clause-exact : goal.set-requires-clause-exact
-set-requires-clause-exact c = ends_exact
+pub insert-requires-clause-exact : goal.insert-requires-clause-exact
+insert-requires-clause-exact c = ends_exact
 
 pub change-requires-clause-part : goal.change-requires-clause-part
 change-requires-clause-part c =
-    let was : c.unwrap_or-old.result ≡ units_on (c.args.from, c.args.to) c.self.inside.units.items = c.unwrap_or-old.ensures ∙ ap (λ o. unwrap_or o 0) c.in_ok-set.ensures.old ∙ or_zero (lookup ends_cmp (c.args.from, c.args.to) c.self.inside.units.items) in
+    let was : c.unwrap_or-old.result ≡ units_on (c.args.from, c.args.to) c.self.inside.units.items = c.unwrap_or-old.ensures ∙ ap (λ o. unwrap_or o 0) c.in_ok-insert.ensures.old ∙ or_zero (lookup ends_cmp (c.args.from, c.args.to) c.self.inside.units.items) in
     part_of c.self.inside.units.items (c.args.from, c.args.to) c.unwrap_or-old.result c.make_room.new.totals.entries target was (c.in_ok-make_room.ensures.same c.args.to ∙ c.self.invariant.enters c.args.to)
 
 pub change-requires-clause-fits : goal.change-requires-clause-fits
@@ -25,12 +25,12 @@ change-requires-clause-fits c =
 pub invariant_of-self-2 : goal.invariant_of-self-2
 invariant_of-self-2 c =
     let old = c.self.inside.units.items in
-    let was : c.unwrap_or-old.result ≡ units_on (c.args.from, c.args.to) old = c.unwrap_or-old.ensures ∙ ap (λ o. unwrap_or o 0) c.in_ok-set.ensures.old ∙ or_zero (lookup ends_cmp (c.args.from, c.args.to) c.self.inside.units.items) in
+    let was : c.unwrap_or-old.result ≡ units_on (c.args.from, c.args.to) old = c.unwrap_or-old.ensures ∙ ap (λ o. unwrap_or o 0) c.in_ok-insert.ensures.old ∙ or_zero (lookup ends_cmp (c.args.from, c.args.to) c.self.inside.units.items) in
     let came : (n : Node) → total_in c.change.new.totals.entries n + cond (same_node c.args.to n) c.unwrap_or-old.result 0 ≡
     total_in c.self.inside.entering.entries n + cond (same_node c.args.to n) c.args.units 0 = λ n. c.change.ensures n ∙ ap
     (λ t. t + cond (same_node c.args.to n) c.args.units 0) (c.in_ok-make_room.ensures.same n) in
-    rw (c.in_ok-set.ensures.ok)
+    rw (c.in_ok-insert.ensures.ok)
     (flow_put old c.self.inside.entering.entries c.change.new.totals.entries (c.args.from, c.args.to) c.args.units c.unwrap_or-old.result c.self.invariant (omega arith) was came)
 
 pub returns-clause-ok : goal.returns-clause-ok
-returns-clause-ok c = rw (← c.self.view_is) c.in_ok-set.ensures.ok
+returns-clause-ok c = rw (← c.self.view_is) c.in_ok-insert.ensures.ok

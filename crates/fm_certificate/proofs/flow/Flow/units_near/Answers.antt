@@ -1,8 +1,8 @@
 use Rattle.fm_net.specs.NodeOrder.{ends_exact}
 use Rattle.fm_certificate.proofs.flow.Flow.units_near.Goals as goal
 
-pub value_near-requires-clause-exact : goal.value_near-requires-clause-exact
-value_near-requires-clause-exact c = ends_exact
+pub get_hinted-requires-clause-exact : goal.get_hinted-requires-clause-exact
+get_hinted-requires-clause-exact c = ends_exact
 
 pub returns : goal.returns
-returns c = rw (← c.self.view_is) (rw c.deref.ensures.value at c.value_near.ensures)
+returns c = rw (← c.self.view_is) (rw c.deref.ensures.value at c.get_hinted.ensures)

@@ -1,8 +1,8 @@
 use Rattle.fm_net.specs.NodeOrder.{node_exact}
 use Rattle.fm_certificate.proofs.potentials.Potentials.at.Goals as goal
 
-pub value_at-requires-clause-exact : goal.value_at-requires-clause-exact
-value_at-requires-clause-exact c = node_exact
+pub get-requires-clause-exact : goal.get-requires-clause-exact
+get-requires-clause-exact c = node_exact
 
 pub returns : goal.returns
-returns c = rw (← c.self.view_is) (rw c.deref.ensures.value at c.value_at.ensures)
+returns c = rw (← c.self.view_is) (rw c.deref.ensures.value at c.get.ensures)

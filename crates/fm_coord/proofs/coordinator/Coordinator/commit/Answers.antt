@@ -1,12 +1,12 @@
 use Rattle.std.proofs.Common.{◌≡◌, ◌∙◌, None, ap, sym, subst, rules}
 use Rattle.fm_records.specs.Table.{Table}
 use Rattle.fm_records.specs.Know.{know}
-use Rattle.fm_round.specs.declared.parts.Admitted.{Admitted}
+use Rattle.fm_round.specs.declared.plan.Admitted.{Admitted}
 use Rattle.fm_round.specs.Admission.{admission}
 use Rattle.fm_coord.specs.declared.entry.Call.TheVariants as call
 use Rattle.fm_coord.specs.declared.entry.Reply.TheVariants as reply
 use Rattle.fm_coord.specs.Causes.{room_fault}
-use Rattle.fm_coord.specs.States.{State, bounds, entry, took, IsCoordinator}
+use Rattle.fm_coord.specs.States.{State, bounds, history_entry, took, IsCoordinator}
 use Rattle.fm_coord.proofs.Keeps.{keeps_commit}
 use Rattle.fm_coord.proofs.Happens.{committed}
 use Rattle.fm_coord.proofs.coordinator.Coordinator.commit.Goals as goal
@@ -19,7 +19,7 @@ take_in-requires g c =
     let shared : c.in_ok-share.field-0 ≡ admission s.knowledge s.number c.args.plan = c.in_ok-share.ensures ∙ came in
     let delta : c.in_ok-delta.delta ≡ know c.in_ok-admitted.admitted.ops = search rules in
     let told : c.in_ok-delta.delta ≡ know (admission s.knowledge s.number c.args.plan).ops = delta ∙ ap (λ (a : Admitted). know a.ops) came in
-    subst (λ (p : Table × Admitted). IsCoordinator (took s p.0 (entry c.args.by (call.Commit c.args.plan) (reply.Admitted p.1)))) (λ i. (sym told i, sym shared i))
+    subst (λ (p : Table × Admitted). IsCoordinator (took s p.0 (history_entry c.args.by (call.Commit c.args.plan) (reply.Admitted p.1)))) (λ i. (sym told i, sym shared i))
     (keeps_commit s c.known.ensures.coordinator c.args.by c.args.plan room)
 
 pub returns-clause-event : goal.returns-clause-event
@@ -28,5 +28,5 @@ returns-clause-event g c =
     let room : room_fault (bounds s) ≡ None = search rules in
     let a : Admitted = c.in_ok-admitted.admitted in
     let came : a ≡ admission s.knowledge s.number c.args.plan = c.in_ok-admitted.ensures ∙ c.in_ok-decided.ensures.admitted in
-    let made : c.take_in.new.self.state ≡ took s (know a.ops) (entry c.args.by (call.Commit c.args.plan) (reply.Admitted a)) = search rules in
+    let made : c.take_in.new.self.state ≡ took s (know a.ops) (history_entry c.args.by (call.Commit c.args.plan) (reply.Admitted a)) = search rules in
     λ r st. committed s r st c.args.by c.take_in.new.self.state c.args.plan a came room made

@@ -4,7 +4,7 @@ use Rattle.fm_coord.specs.declared.entry.Entry.{Entry}
 use Rattle.fm_coord.specs.declared.entry.Call.TheVariants as call
 use Rattle.fm_coord.specs.declared.entry.Reply.TheVariants as reply
 use Rattle.fm_coord.specs.Causes.{cause}
-use Rattle.fm_coord.specs.States.{State, bounds, entry, gave, cut_packet, StandsFor, IsCoordinator}
+use Rattle.fm_coord.specs.States.{State, bounds, history_entry, gave, cut_packet, StandsFor, IsCoordinator}
 use Rattle.fm_coord.proofs.Said.{same_state}
 use Rattle.fm_coord.proofs.Keeps.{keeps_cut}
 use Rattle.fm_coord.proofs.Happens.{gave_packet}
@@ -21,7 +21,7 @@ invariant_of-self-2 g c =
     record {
       coordinator =
           subst (λ (es : List Entry). IsCoordinator (record { number = s.number; limit = s.limit; knowledge = s.knowledge; deltas = s.deltas; cuts = s.cuts + 1; history = es })) (sym items)
-          (subst (λ (p : Packet). IsCoordinator (gave s (entry c.args.by (call.Cut c.args.range) (reply.Packet p)))) (sym packet)
+          (subst (λ (p : Packet). IsCoordinator (gave s (history_entry c.args.by (call.Cut c.args.range) (reply.Packet p)))) (sym packet)
           (keeps_cut s c.self.invariant.coordinator c.args.by c.args.range none));
       keeper = c.self.invariant.keeper;
       kept_up = c.self.invariant.kept_up;
@@ -40,8 +40,8 @@ returns-clause-event g c =
     let shared : c.in_ok-share.field-0 ≡ p = c.in_ok-share.ensures in
     let items = c.in_ok-push.ensures.items in
     let new : State = record { number = t.number; limit = t.limit; knowledge = t.knowledge; deltas = t.deltas; cuts = t.cuts + 1; history = c.push.new.self.items } in
-    let made : new ≡ gave s (entry c.args.by (call.Cut c.args.range) (reply.Packet p)) =
+    let made : new ≡ gave s (history_entry c.args.by (call.Cut c.args.range) (reply.Packet p)) =
     ap (λ (es : List Entry). record { number = t.number; limit = t.limit; knowledge = t.knowledge; deltas = t.deltas; cuts = t.cuts + 1; history = es }) items
-    ∙ ap (λ (q : Packet). gave t (entry c.args.by (call.Cut c.args.range) (reply.Packet q))) shared
-    ∙ ap (λ (u : State). gave u (entry c.args.by (call.Cut c.args.range) (reply.Packet p))) is in
+    ∙ ap (λ (q : Packet). gave t (history_entry c.args.by (call.Cut c.args.range) (reply.Packet q))) shared
+    ∙ ap (λ (u : State). gave u (history_entry c.args.by (call.Cut c.args.range) (reply.Packet p))) is in
     λ r st. gave_packet s r (subst (λ (u : State). StandsFor u r) (sym same) st) c.args.by new c.args.range p c.in_ok-packet.ensures.ok none made

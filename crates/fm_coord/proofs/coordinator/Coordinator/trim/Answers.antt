@@ -4,7 +4,7 @@ use Rattle.fm_coord.specs.declared.entry.Entry.{Entry}
 use Rattle.fm_coord.specs.declared.entry.Call.TheVariants as call
 use Rattle.fm_coord.specs.declared.entry.Reply.TheVariants as reply
 use Rattle.fm_coord.specs.Causes.{room_fault, floor_fault}
-use Rattle.fm_coord.specs.States.{State, bounds, entry, let_go, IsCoordinator}
+use Rattle.fm_coord.specs.States.{State, bounds, history_entry, after_trim, IsCoordinator}
 use Rattle.fm_coord.specs.StepLaws.{no_cause}
 use Rattle.fm_coord.proofs.Said.{same_state}
 use Rattle.fm_coord.proofs.Keeps.{keeps_trim}
@@ -39,7 +39,7 @@ returns-clause-event g c =
     let deltas : c.trim.new.self.deltas ≡ with_floor t.deltas c.args.n = search rules in
     let items = c.in_ok-push.ensures.items in
     let new : State = record { number = t.number; limit = t.limit; knowledge = t.knowledge; deltas = c.trim.new.self.deltas; cuts = t.cuts; history = c.push.new.self.items } in
-    let made : new ≡ let_go s c.args.n (entry c.args.by (call.Trim c.args.n) reply.Nothing) =
+    let made : new ≡ after_trim s c.args.n (history_entry c.args.by (call.Trim c.args.n) reply.Nothing) =
     ap (λ (p : Deltas × List Entry). record { number = t.number; limit = t.limit; knowledge = t.knowledge; deltas = p.0; cuts = t.cuts; history = p.1 }) (λ i. (deltas i, items i))
-    ∙ ap (λ (u : State). let_go u c.args.n (entry c.args.by (call.Trim c.args.n) reply.Nothing)) is in
+    ∙ ap (λ (u : State). after_trim u c.args.n (history_entry c.args.by (call.Trim c.args.n) reply.Nothing)) is in
     λ r st. let_below s r st c.args.by new c.args.n none made

@@ -1,5 +1,5 @@
 use Rattle.std.proofs.Common.{arith, ap, ◌∙◌, sym}
-use Rattle.fm_inbox.specs.declared.rule.Account.{Account}
+use Rattle.fm_inbox.specs.declared.conservation.Account.{Account}
 use Rattle.fm_inbox.proofs.Keeps.{grows, cuts}
 use Rattle.fm_inbox.proofs.inbox.Inbox.with_ports.Goals as goal
 

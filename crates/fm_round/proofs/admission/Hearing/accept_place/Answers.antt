@@ -1,8 +1,8 @@
 use Rattle.std.proofs.Common.{sym, subst, arith}
-use Rattle.fm_records.specs.Spelled.{IsTable}
+use Rattle.fm_records.specs.OpsOfTable.{IsTable}
 use Rattle.fm_records.specs.Facts.{spec_of, request_of}
 use Rattle.fm_round.specs.Admission.{told, place_ops}
-use Rattle.fm_round.specs.Holdings.{AreHoldings}
+use Rattle.fm_round.specs.MachineHoldings.{AreCountedHoldings}
 use Rattle.fm_round.proofs.Results.{on_ok, both_ok}
 use Rattle.fm_round.proofs.Told.{told_table}
 use Rattle.fm_round.proofs.Accepted.{good_place, holds_little, place_holdings}
@@ -44,4 +44,4 @@ returns-clause-holdings c =
     let l = told k (place_ops c.args.coordinator k p) in
     let new = c.add.new.self in
     let are = counted_more k l p.machine (request_of (spec_of k p.task)) c.request_of-request.result c.args.holdings.now new extra c.requires.holdings c.request_of-request.ensures.request c.in_ok-add.ensures.requests c.in_ok-add.ensures.tasks c.in_ok-add.ensures.counted in
-    on_ok (λ now. subst (λ z. AreHoldings z new) (sym now) are) c.tell_place.result c.tell_place.ensures.now
+    on_ok (λ now. subst (λ z. AreCountedHoldings z new) (sym now) are) c.tell_place.result c.tell_place.ensures.now

@@ -1,6 +1,6 @@
 use Rattle.std.proofs.Common.{ℕ, List, Some, refl, sym, ap, ◌∙◌, subst, inl}
 use Rattle.fm_records.specs.declared.refusal.Refusal.{Refusal}
-use Rattle.fm_script.specs.Requests.{Requests, RequestsNothing, asked_of}
+use Rattle.fm_script.specs.Requests.{Requests, RequestsNothing, request_model}
 use Rattle.fm_io.specs.Replies.{refusal_reply}
 use Rattle.fm_service.specs.Following.{Named, IsRefused}
 use Rattle.fm_service.proofs.Results.{returned}
@@ -18,7 +18,7 @@ returns-in_err-request-clause-err c = λ k here.
 pub returns-clause-ok : goal.returns-clause-ok
 returns-clause-ok c = λ behind stand k here.
     let names = c.names.ensures ∙ ap (λ (n : Named). n.names) here.named_is in
-    let requests = subst (λ (ns : List (List ℕ)). Requests ns c.args.line.now (asked_of c.in_ok-request.request)) names c.in_ok-request.ensures.ok in
+    let requests = subst (λ (ns : List (List ℕ)). Requests ns c.args.line.now (request_model c.in_ok-request.request)) names c.in_ok-request.ensures.ok in
     let went = c.in_ok-text.ensures.ok behind stand k here in
-    accepts c.args.most behind c.take.new.self c.settle.new.self k went.0 c.args.line.now c.in_ok-text.text.items (asked_of c.in_ok-request.request) requests went.1 went.2
+    accepts c.args.most behind c.execute.new.self c.settle.new.self k went.0 c.args.line.now c.in_ok-text.text.items (request_model c.in_ok-request.request) requests went.1 went.2
     (c.settle.ensures went.0 went.2)

@@ -1,5 +1,0 @@
-use Rattle.fm_edit.specs.Memory.{none_out}
-use Rattle.fm_edit.proofs.memory.Memory.new.Goals as goal
-
-pub returns : goal.returns
-returns c = record { sees = c.new.ensures; counts = c.new-2.ensures none_out }

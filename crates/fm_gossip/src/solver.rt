@@ -1,0 +1,93 @@
+//! Rounds: what a coordinator's second thread does.
+ghost use Rattle.std.specs.Prelude.{◌≡◌, None, IsTrue, IfErr, IfSome, OnOk};
+ghost use Rattle.fm_round.specs.declared.plan.Admitted.{Admitted as WhatCame};
+ghost use Rattle.fm_fleet.specs.Rounds.{IsRound};
+ghost use Rattle.fm_gossip.specs.Served.{AreRounds};
+ghost use Rattle.fm_gossip.specs.FleetFaults.{may_stop};
+
+use crate::stop_signal::StopSignal;
+use fm_fleet::node::Node;
+use fm_fleet::round::{Gate, run_round};
+use fm_fleet::seat::{NodeName, Seat};
+use fm_policy::keeper::NetKeeper;
+use fm_records::refusal::Refusal;
+use std::alloc::Global;
+use std::snapshot::Snapshot;
+use std::sync::Wait;
+use std::thread::Promise;
+
+/// The seat of rounds when they ended, and why they ended early, if they did.
+#[derive(Drop)]
+pub(crate) struct Ran<L: NodeName> {
+    pub(crate) seat: Seat<L>,
+    pub(crate) refusal: Option<Refusal>,
+}
+
+/// Runs so many rounds. If one is refused, the fleet is stopped. If that is stopped before a round, they end with its
+/// refusal.
+pub(crate) fn run_rounds<N: NetKeeper, L: NodeName, G: Gate + Drop, R: Wait>(
+    rt: &R,
+    alloc: Global,
+    node: &Node<N, L>,
+    mut seat: Seat<L>,
+    mut gate: G,
+    rounds: u32,
+    halt: &StopSignal,
+) -> Ran<L>
+    ensures ran { result.refusal ≡ None → AreRounds L.base rounds seat result.seat }
+    ensures number { result.seat.number ≡ seat.number }
+    ensures cause { IfSome result.refusal (λ refusal. IsTrue (may_stop refusal)) }
+{
+    for _i in 0..rounds {
+        if let Err(refusal) = next_round(rt, alloc, node, &mut seat, &mut gate, halt) {
+            return Ran {
+                seat,
+                refusal: Some(refusal),
+            };
+        }
+    }
+    Ran {
+        seat,
+        refusal: None,
+    }
+}
+
+// Runs a round, unless the fleet is stopped. If it is refused, the fleet is stopped.
+#[tactic(auto, using(crate::proofs::Stopping::round_stops, crate::proofs::Stopping::round_number))]
+fn next_round<N: NetKeeper, L: NodeName, G: Gate, R: Wait>(
+    rt: &R,
+    alloc: Global,
+    node: &Node<N, L>,
+    seat: &mut Seat<L>,
+    gate: &mut G,
+    halt: &StopSignal,
+) -> Result<(), Refusal>
+    ensures ok { OnOk result ((admitted : WhatCame) × IsRound L.base seat.old seat.new admitted) }
+    ensures number { seat.new.number ≡ seat.old.number }
+    ensures cause { IfErr result (λ refusal. IsTrue (may_stop refusal)) }
+{
+    halt.check(rt)?;
+    match run_round(rt, alloc, node, seat, gate) {
+        Ok(_) => Ok(()),
+        Err(refusal) => {
+            halt.stop(rt, refusal);
+            Err(refusal)
+        }
+    }
+}
+
+/// That a seat comes back, after so many rounds if none was refused.
+#[derive(Drop)]
+pub(crate) struct Rounds<L: NodeName> {
+    pub(crate) seat: Snapshot<Seat<L>>,
+    pub(crate) rounds: u32,
+}
+
+impl<L: NodeName> Promise<Ran<L>> for Rounds<L> {
+    ghost use Rattle.std.specs.Prelude.{◌≡◌, None, IsTrue, IfSome};
+    ghost use Rattle.fm_gossip.specs.Served.{AreRounds};
+    ghost use Rattle.fm_gossip.specs.FleetFaults.{may_stop};
+
+    ghost kept_by = { λ p r. (r.refusal ≡ None → AreRounds L.base p.rounds p.seat.value r.seat)
+        × (r.seat.number ≡ p.seat.value.number) × IfSome r.refusal (λ refusal. IsTrue (may_stop refusal)) };
+}

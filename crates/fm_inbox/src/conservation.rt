@@ -1,0 +1,90 @@
+//! The invariant of an inbox: what was put is what was taken and what is still there.
+ghost use Rattle.std.specs.Prelude.{◌≡◌, ◌≤◌, ◌+◌, [], ◌∷◌, ◌++◌};
+ghost use Rattle.fm_inbox.specs.Conservation.{account, weigh};
+
+use crossbeam_queue::protocol::{Join, Lesson, Outcome, Protocol, Split};
+use crossbeam_queue::{Pass, RuledArrayQueue};
+use fm_delta::packet::Packet;
+use std::collections::LinkedList;
+
+/// What a pass stands for: its parts, how many parts there are in all, and what was put and taken by it. Contracts
+/// alone see one; no value of it is made.
+pub struct Account {
+    pub parts: u64,
+    pub whole: u64,
+    pub put: LinkedList<Packet>,
+    pub taken: LinkedList<Packet>,
+}
+
+/// The rule of an inbox.
+pub struct Balance;
+
+impl Protocol<Packet, Account> for Balance {
+    ghost use Rattle.std.specs.Prelude.{[]};
+    ghost use Rattle.fm_inbox.specs.Conservation.{account, IsBalanced};
+
+    ghost holds = { IsBalanced };
+
+    ghost first = { account 1 1 [] [] };
+}
+
+/// A queue of packets under the rule.
+pub type Queue = RuledArrayQueue<Packet, Account, Balance>;
+
+/// The right to use a queue.
+pub type QueuePass = Pass<Packet, Account>;
+
+/// There is one part more, which this pass has.
+pub struct OneMore;
+
+impl Split<Account> for OneMore {
+    ghost use Rattle.std.specs.Prelude.{[], ◌+◌};
+    ghost use Rattle.fm_inbox.specs.Conservation.{account};
+
+    ghost left = { λ v. account (v.parts + 1) (v.whole + 1) v.put v.taken };
+
+    ghost right = { λ v. account 0 0 [] [] };
+}
+
+/// A part of this pass becomes a pass of its own, or is taken back.
+pub struct OnePart;
+
+impl Split<Account> for OnePart {
+    ghost use Rattle.std.specs.Prelude.{[], ◌-◌};
+    ghost use Rattle.fm_inbox.specs.Conservation.{account};
+
+    ghost left = { λ v. account (v.parts - 1) v.whole v.put v.taken };
+
+    ghost right = { λ v. account 1 v.whole [] [] };
+}
+
+impl Join<Account> for OnePart {
+    ghost use Rattle.std.specs.Prelude.{[], ◌+◌, ◌++◌};
+    ghost use Rattle.fm_inbox.specs.Conservation.{account};
+
+    ghost both = { λ v w. account (v.parts + w.parts) v.whole (v.put ++ w.put) (v.taken ++ w.taken) };
+
+    ghost spent = { account 0 0 [] [] };
+}
+
+/// A packet is added at the back. A pass with every part also determines what is there.
+pub struct Puts;
+
+impl Outcome<Packet, Account> for Puts {
+    ghost then = { λ v x w. w ≡ account v.parts v.whole (v.put ++ x ∷ []) v.taken };
+}
+
+impl Lesson<Packet, Account> for Puts {
+    ghost fact = { λ v items. (h : _) → v.whole ≤ v.parts → weigh h v.put ≡ weigh h v.taken + weigh h items };
+}
+
+/// A packet is removed at the front. A pass with every part also determines what is still there.
+pub struct Takes;
+
+impl Outcome<Packet, Account> for Takes {
+    ghost then = { λ v x w. w ≡ account v.parts v.whole v.put (v.taken ++ x ∷ []) };
+}
+
+impl Lesson<Packet, Account> for Takes {
+    ghost fact = { λ v items. (h : _) → v.whole ≤ v.parts → weigh h v.put ≡ weigh h v.taken + weigh h items };
+}

@@ -1,8 +1,0 @@
-use Rattle.std.proofs.Common.{sym}
-use Rattle.fm_query.proofs.solution.solution_text.Goals as goal
-
-pub returns-then-is_fresh-clause-ok : goal.returns-then-is_fresh-clause-ok
-returns-then-is_fresh-clause-ok g c = rw (sym c.knowledge-knowledge.ensures) c.solved.ensures.ok
-
-pub returns-clause-ok : goal.returns-clause-ok
-returns-clause-ok g c = rw (sym c.knowledge-knowledge.ensures) c.solved-2.ensures.ok

@@ -1,7 +1,0 @@
--- Lines of text, one for each item of a list.
-use Rattle.std.specs.Prelude.{ℕ, List, ◌++◌, codes}
-use Rattle.std.specs.List.{flat_map}
-
--- each item's text, with a line feed
-abbrev pub lines_of : {T : Type 0} → (T → List ℕ) → List T → List ℕ
-lines_of text = flat_map (λ item. text item ++ codes "\n")

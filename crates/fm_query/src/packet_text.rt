@@ -1,0 +1,48 @@
+//! Packets in hexadecimal digits.
+
+ghost use Rattle.std.specs.Prelude.{◌≡◌, ◌⊎◌, Ok, Err, string_bytes, IfOk, IfErr, IsOkUnless};
+ghost use Rattle.hex.specs.Hex.{decode_of};
+ghost use Rattle.hex.specs.declared.error.FromHexError.{FromHexError};
+ghost use Rattle.fm_query.specs.QueryTexts.{line_of};
+ghost use Rattle.fm_query.specs.Unpacked.{IsPacketIn, IsNoPacketIn};
+
+use fm_delta::packet::Packet;
+use fm_records::refusal::Refusal;
+use fm_wire::reading::decode;
+use fm_wire::writing::encode;
+use hex::FromHexError;
+use std::alloc::Global;
+
+/// The packet's bytes in lower-case hexadecimal digits, as a line. Refused only if memory runs out. O(n).
+pub fn packet_line(alloc: Global, packet: &Packet) -> Result<String, Refusal>
+    ensures ok { IfOk result (λ line. string_bytes line ≡ line_of packet.now) }
+    ensures err { IsOkUnless result Refusal.OutOfMemory }
+{
+    let bytes = encode(alloc, packet)?;
+    let mut line = hex::encode(alloc, bytes.as_slice())?;
+    line.push('\n')?;
+    Ok(line)
+}
+
+/// The packet that hexadecimal digits of either case spell, in either version. What is no pairs of digits is
+/// `BadScript(0)`, and bytes that spell no packet are `BadPacket` with the place of the first fault. O(n log n).
+pub fn packet_in(alloc: Global, digits: &[u8]) -> Result<Packet, Refusal>
+    ensures ok { IfOk result (IsPacketIn digits.now) }
+    ensures err { IfErr result (IsNoPacketIn digits.now) }
+{
+    let bytes = bytes_of(alloc, digits)?;
+    decode(alloc, &bytes)
+}
+
+// The bytes that the digits spell.
+fn bytes_of(alloc: Global, digits: &[u8]) -> Result<Vec<u8>, Refusal>
+    ensures ok { IfOk result (λ bytes. decode_of digits.now ≡ Ok bytes.items) }
+    ensures err { IfErr result (λ refusal. (refusal ≡ Refusal.OutOfMemory)
+        ⊎ ((refusal ≡ Refusal.BadScript 0) × (e : FromHexError) × (decode_of digits.now ≡ Err e))) }
+{
+    match hex::decode(alloc, digits) {
+        Ok(bytes) => Ok(bytes),
+        Err(FromHexError::OutOfMemory) => Err(Refusal::OutOfMemory),
+        Err(_) => Err(Refusal::BadScript(0)),
+    }
+}

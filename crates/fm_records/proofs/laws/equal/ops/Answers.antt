@@ -1,5 +1,0 @@
-use Rattle.fm_records.specs.Decided.{op_Decides}
-use Rattle.fm_records.proofs.laws.equal.ops.Goals as goal
-
-pub returns : goal.returns
-returns c = rw c.eq.ensures (op_Decides c.args.op.now c.args.other.now)

@@ -1,6 +1,0 @@
-use Rattle.std.proofs.Common.{rules}
-use Rattle.fm_records.specs.Decided.{preferences_Decides}
-use Rattle.fm_records.proofs.laws.equal.specs.Goals as goal
-
-pub returns : goal.returns
-returns c = Prim.search (rules, preferences_Decides)

@@ -1,5 +1,0 @@
-use Rattle.fm_round.proofs.Pairing.{waits_apart}
-use Rattle.fm_round.proofs.planning.plan_of.Goals as goal
-
-pub places_of-requires : goal.places_of-requires
-places_of-requires c = waits_apart c.args.flow.now c.requires

@@ -1,0 +1,245 @@
+//! Reading a line of a stream from JSON.
+
+ghost use Rattle.std.specs.Prelude.{◌≡◌, IfOk, IfErr, option_map};
+ghost use Rattle.serde_json.specs.Find.{as_str};
+ghost use Rattle.serde_json.specs.View.{view};
+ghost use Rattle.fm_script.specs.Json.{bind};
+ghost use Rattle.fm_script.specs.Script.{coordinators_of, script_step_of};
+ghost use Rattle.fm_script.specs.Requests.{Asks, Does, News, Opens, Renews, Takes, request_model, topic_named, cut_under, cut_asked, when_true, agree_asked, alone_of, asked_at, why_asked, request_from, Requests, RequestsNothing, IsPlain};
+
+use crate::names::Names;
+use crate::parse_script::{
+    coordinators_in, is_object_of, items_in, number_8_in, range_in, step_in, text_in,
+};
+use crate::request::{Request, Topic};
+use fm_coord::entry::Range;
+use fm_lattice::join::OutOfMemory;
+use fm_records::ids::TaskId;
+use fm_records::refusal::Refusal;
+use serde_json::Value;
+use std::alloc::Global;
+
+/// What a line of a stream asks for, given that packets of the names were cut before. The line is an object of one
+/// member (`coordinators`, `renew`, `ask`), or of an `at` and one of `cut`, `news`, `take`, `ask`, `tell`, `deliver`,
+/// `trim` and `round`, or of an `at`, an `ask` and a `task`. Further members of an operation and of a cut are ignored, and of equal members the last counts.
+/// `BadScript(0)` if the line is no JSON or asks for nothing known, as a cut under one of the names; `OutOfMemory` if
+/// memory runs out. It costs the reading of the line as JSON, and a look-up of a name.
+pub fn read_request(alloc: Global, line: &[u8], names: &Names) -> Result<Request, Refusal>
+    ensures ok { IfOk result (λ q. Requests names.now line.now (request_model q)) }
+    ensures err { IfErr result (λ e. RequestsNothing names.now line.now e) }
+    ensures plain { IfOk result (λ q. IsPlain (request_model q)) }
+{
+    match Value::from_slice(alloc, line) {
+        Ok(value) => match request_in(alloc, &value, names)? {
+            Some(request) => Ok(request),
+            None => Err(Refusal::BadScript(0)),
+        },
+        Err(error) if error.is_memory() => Err(Refusal::OutOfMemory),
+        Err(_) => Err(Refusal::BadScript(0)),
+    }
+}
+
+// What a value asks for, given that packets of the names were cut before.
+fn request_in(alloc: Global, value: &Value, names: &Names) -> Result<Option<Request>, OutOfMemory>
+    ensures { IfOk result (λ q. option_map request_model q ≡ request_from names.now (view value.now)) }
+{
+    if is_object_of(value, 1) {
+        return alone_in(alloc, value);
+    }
+    if is_object_of(value, 3) {
+        return Ok(why_in(value));
+    }
+    if !is_object_of(value, 2) {
+        return Ok(None);
+    }
+    match number_8_in(value, "at") {
+        Some(at) => asked_in(alloc, value, names, at),
+        None => Ok(None),
+    }
+}
+
+// What an object of one member asks for.
+fn alone_in(alloc: Global, value: &Value) -> Result<Option<Request>, OutOfMemory>
+    ensures { IfOk result (λ q. option_map request_model q ≡ alone_of (view value.now)) }
+{
+    if value.get("coordinators").is_some() {
+        opening_in(alloc, value)
+    } else if let Some(asked) = value.get("renew") {
+        Ok(renewal_in(asked))
+    } else if let Some(asked) = value.get("ask") {
+        Ok(agreement_in(asked))
+    } else {
+        Ok(None)
+    }
+}
+
+// What a coordinator is asked for by an object of two members.
+fn asked_in(
+    alloc: Global,
+    value: &Value,
+    names: &Names,
+    at: u8,
+) -> Result<Option<Request>, OutOfMemory>
+    ensures { IfOk result (λ q. option_map request_model q ≡ asked_at names.now at (view value.now)) }
+{
+    if let Some(cut) = value.get("cut") {
+        cut_asked_in(alloc, cut, names, at)
+    } else if let Some(asked) = value.get("news") {
+        Ok(news_in(asked, at))
+    } else if let Some(packet) = value.get("take") {
+        packet_in(alloc, packet, at)
+    } else if let Some(asked) = value.get("ask") {
+        Ok(question_in(asked, at))
+    } else {
+        Ok(deed_in(value, names))
+    }
+}
+
+// The coordinators with which a stream begins.
+fn opening_in(alloc: Global, value: &Value) -> Result<Option<Request>, OutOfMemory>
+    ensures { IfOk result (λ q. option_map request_model q ≡ option_map Opens (coordinators_of (view value.now))) }
+{
+    let Some(items) = items_in(value, "coordinators") else {
+        return Ok(None);
+    };
+    match coordinators_in(alloc, items)? {
+        Some(listed) => Ok(Some(Request::Open(listed))),
+        None => Ok(None),
+    }
+}
+
+// The coordinators are renewed, by true.
+fn renewal_in(asked: &Value) -> Option<Request>
+    ensures { option_map request_model result ≡ when_true Renews (view asked.now) }
+{
+    if asked.as_bool()? {
+        Some(Request::Renew)
+    } else {
+        None
+    }
+}
+
+// Whether all coordinators know the same.
+fn agreement_in(asked: &Value) -> Option<Request>
+    ensures { option_map request_model result ≡ agree_asked (view asked.now) }
+{
+    if asked.as_str()? == "agree" {
+        Some(Request::Agree)
+    } else {
+        None
+    }
+}
+
+// A cut of the range, under a new name or under none.
+fn cut_asked_in(
+    alloc: Global,
+    cut: &Value,
+    names: &Names,
+    at: u8,
+) -> Result<Option<Request>, OutOfMemory>
+    ensures { IfOk result (λ q. option_map request_model q ≡ cut_asked names.now at (view cut.now)) }
+{
+    if cut.as_object().is_none() {
+        return Ok(None);
+    }
+    let Some(range) = range_in(cut) else {
+        return Ok(None);
+    };
+    match cut.get("name") {
+        Some(name) => cut_under_in(alloc, name, names, at, range),
+        None => Ok(Some(Request::Cut {
+            at,
+            range,
+            name: None,
+        })),
+    }
+}
+
+// A cut under the name that a value is, if it is new.
+fn cut_under_in(
+    alloc: Global,
+    name: &Value,
+    names: &Names,
+    at: u8,
+    range: Range,
+) -> Result<Option<Request>, OutOfMemory>
+    ensures { IfOk result (λ q. option_map request_model q ≡ cut_under names.now at range (view name.now)) }
+{
+    let Some(name) = name.as_str() else {
+        return Ok(None);
+    };
+    if names.place(name).is_some() {
+        return Ok(None);
+    }
+    let name = Some(String::from_str(alloc, name)?);
+    Ok(Some(Request::Cut { at, range, name }))
+}
+
+// A cut of what came since the last, by true.
+fn news_in(asked: &Value, at: u8) -> Option<Request>
+    ensures { option_map request_model result ≡ when_true (News at) (view asked.now) }
+{
+    if asked.as_bool()? {
+        Some(Request::News { at })
+    } else {
+        None
+    }
+}
+
+// A packet that is taken in, by its digits.
+fn packet_in(alloc: Global, packet: &Value, at: u8) -> Result<Option<Request>, OutOfMemory>
+    ensures { IfOk result (λ q. option_map request_model q ≡ option_map (Takes at) (as_str (view packet.now))) }
+{
+    let Some(digits) = packet.as_str() else {
+        return Ok(None);
+    };
+    let digits = String::from_str(alloc, digits)?;
+    Ok(Some(Request::Take { at, digits }))
+}
+
+// A question about a coordinator.
+fn question_in(asked: &Value, at: u8) -> Option<Request>
+    ensures { option_map request_model result ≡ option_map (Asks at) (bind (as_str (view asked.now)) topic_named) }
+{
+    let topic = topic_in(asked.as_str()?)?;
+    Some(Request::Ask { at, topic })
+}
+
+// Why a task waits or runs, asked of a coordinator by an object of three members.
+fn why_in(value: &Value) -> Option<Request>
+    ensures { option_map request_model result ≡ why_asked (view value.now) }
+{
+    let at = number_8_in(value, "at")?;
+    if text_in(value, "ask")? == "why" {
+        let task = TaskId::read(text_in(value, "task")?)?;
+        Some(Request::Why { at, task })
+    } else {
+        None
+    }
+}
+
+// What is asked about, by its name.
+fn topic_in(name: &str) -> Option<Topic>
+    ensures { result ≡ topic_named name.now }
+{
+    if name == "graph" {
+        Some(Topic::Graph)
+    } else if name == "solve" {
+        Some(Topic::Solve)
+    } else if name == "plan" {
+        Some(Topic::Plan)
+    } else if name == "winners" {
+        Some(Topic::Winners)
+    } else if name == "stops" {
+        Some(Topic::Stops)
+    } else {
+        None
+    }
+}
+
+// A step as in a script.
+fn deed_in(value: &Value, names: &Names) -> Option<Request>
+    ensures { option_map request_model result ≡ option_map Does (script_step_of names.now (view value.now)) }
+{
+    Some(Request::Do(step_in(value, names)?))
+}

@@ -1,0 +1,69 @@
+//! The responder to the lines of a stream: it has no coordinators before the line that lists the coordinators.
+
+ghost use Rattle.std.specs.Prelude.{◌≡◌, None, IfErr, OnErr};
+ghost use Rattle.fm_io.specs.Replies.{refusal_reply};
+ghost use Rattle.fm_service.specs.Following.{IsRefused};
+ghost use Rattle.fm_service.specs.Sessions.{Begins, IsIn};
+
+use crate::session::Session;
+use fm_script::names::Names;
+use fm_script::request::Request;
+use fm_script::parse_request::read_request;
+use fm_io::responder::Responder;
+use fm_script::initial_world::open;
+use fm_records::refusal::Refusal;
+use std::alloc::Global;
+
+/// Coordinators that answer lines, once a line lists them.
+#[derive(Drop)]
+pub struct StreamService {
+    pub(crate) alloc: Global,
+    pub(crate) renew_after: usize,
+    pub(crate) session: Option<Session>,
+}
+
+impl StreamService {
+    /// No coordinators yet. Between two lines all are renewed once a history has as many entries as
+    /// `renew_after`, if there is memory for it. It allocates nothing.
+    pub fn new(alloc: Global, renew_after: usize) -> StreamService
+        ensures most { result.renew_after ≡ renew_after }
+        ensures start { IsIn result.session None }
+    {
+        StreamService {
+            alloc,
+            renew_after,
+            session: None,
+        }
+    }
+
+    // The coordinators that the line lists, and what it is answered.
+    fn begin(&mut self, line: &[u8]) -> Result<Vec<u8>, Refusal>
+        ensures most { self.new.renew_after ≡ self.old.renew_after }
+        ensures ok { Begins self.old.renew_after result self.new line.now }
+        ensures err { IfErr result (λ e. IsRefused None line.now (refusal_reply e) None) }
+        ensures unchanged { OnErr result (self.new ≡ self.old) }
+    {
+        match read_request(self.alloc, line, &Names::new(self.alloc))? {
+            Request::Open(listed) => {
+                let world = open(self.alloc, &listed)?;
+                self.session = Some(Session::new(self.alloc, world));
+                Ok(Vec::new(self.alloc))
+            }
+            _ => Err(Refusal::BadScript(0)),
+        }
+    }
+}
+
+impl Responder for StreamService {
+    ghost use Rattle.fm_service.specs.Sessions.{AnswersSo};
+
+    ghost answers = { λ old line text new. AnswersSo old line text new };
+
+    fn answer(&mut self, line: &[u8]) -> Result<Vec<u8>, Refusal> {
+        let most = self.renew_after;
+        match &mut self.session {
+            Some(session) => session.answer(most, line),
+            None => self.begin(line),
+        }
+    }
+}

@@ -1,7 +1,0 @@
-use Rattle.std.proofs.Common.{◌≡◌, ◌++◌}
-use Rattle.fm_wire.specs.Grammar.{entries_at}
-use Rattle.fm_wire.proofs.entries.add_entries.Given as goal
-
--- what stands there and what is left are what stood there and all
-abbrev pub invariant-loop-coordinator : goal.invariant-loop-coordinator
-invariant-loop-coordinator l = l.entries ++ entries_at l.attempt l.coordinator-iterator ≡ l.fn.entries ++ entries_at l.attempt l.spots
