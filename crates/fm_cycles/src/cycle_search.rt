@@ -7,7 +7,7 @@ ghost use Rattle.fm_cycles.specs.Found.{costs_in, IsSearchResult};
 ghost use Rattle.fm_cycles.specs.ParentGraph.{IsSearched};
 
 use crate::indexed_arcs::{IndexedArc, ResidualArc};
-use crate::potentials::are_potentials;
+use crate::check_potentials::are_potentials;
 use crate::labels::{Labels, sweep};
 use crate::queue::relax_by_queue;
 use crate::parent_graph::cycles_in;

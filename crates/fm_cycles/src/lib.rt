@@ -8,7 +8,7 @@
 
 pub mod indexed_arcs;
 pub mod cancel;
-pub mod potentials;
+pub mod check_potentials;
 pub mod cancel_all;
 mod labels;
 pub mod lookup;

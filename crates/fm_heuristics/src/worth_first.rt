@@ -18,7 +18,7 @@ use crate::augmenting_path::Paths;
 use crate::sorting::{Keyed, sorted};
 use fm_certificate::flow::Flow;
 use fm_cycles::indexed_arcs::IndexedArc;
-use fm_cycles::potentials::are_potentials;
+use fm_cycles::check_potentials::are_potentials;
 use fm_lattice::join::OutOfMemory;
 use fm_net::network::Network;
 use fm_indexed::feasible_units::is_feasible;

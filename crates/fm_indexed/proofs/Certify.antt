@@ -28,7 +28,7 @@ use Rattle.fm_cycles.specs.declared.indexed_arcs.ResidualArc.{ResidualArc}
 use Rattle.fm_cycles.specs.Walks.{AreBounded, ArePotentials}
 use Rattle.fm_cycles.specs.Residual.{residual, start_of, head_of, cost_by, CanBeTaken}
 use Rattle.fm_cycles.specs.Found.{costs_in}
-use Rattle.fm_cycles.specs.Units.{units_in, units_out, units_with_end as numbered_at}
+use Rattle.fm_cycles.specs.Units.{inflow_at, outflow_at, units_with_end as numbered_at}
 use Rattle.fm_indexed.specs.declared.node_ranges.NodeRanges.{NodeRanges}
 use Rattle.fm_indexed.specs.Numbered.{NetArc, IsArcOf, AreArcsOf, IsNumbered}
 use Rattle.fm_indexed.specs.Feasible.{IsConserved, IsFlowOf}
@@ -129,17 +129,17 @@ module _ (net : Net) (can : CanBeNet net) (places : NodeRanges) (numbers : List 
         no_waste = λ some. let h = backwards some in omega (arith, ints);
       }
 
-  enters : (v : ℕ) (n : Node) → slice_get net.nodes v ≡ Some n → units_at target (named_units net.arcs units) n ≡ units_in numbers units v
+  enters : (v : ℕ) (n : Node) → slice_get net.nodes v ≡ Some n → units_at target (named_units net.arcs units) n ≡ inflow_at numbers units v
   enters v n at = same_sum net.nodes can.nodes_rise target (λ a. a.to) (λ b a of. of.to) v n at net.arcs numbers units is.of_arcs
 
-  leaves : (v : ℕ) (n : Node) → slice_get net.nodes v ≡ Some n → units_at source (named_units net.arcs units) n ≡ units_out numbers units v
+  leaves : (v : ℕ) (n : Node) → slice_get net.nodes v ≡ Some n → units_at source (named_units net.arcs units) n ≡ outflow_at numbers units v
   leaves v n at = same_sum net.nodes can.nodes_rise source (λ a. a.from) (λ b a of. of.from) v n at net.arcs numbers units is.of_arcs
 
   within_end : (v : ℕ) (n : Node) → slice_get net.nodes v ≡ Some n → v < places.end
   within_end v n at = let e = is.at_places.end in let less = slice_get_within net.nodes v n at in omega arith
 
-  sends_there : (v : ℕ) (n : Node) → slice_get net.nodes v ≡ Some n → IsConserved (kind_there places v n) (units_in numbers units v) (units_out numbers units v)
-  sends_there v n at = subst (λ k. IsConserved k (units_in numbers units v) (units_out numbers units v)) (kind_is net.nodes places can.nodes_rise is.at_places v n at) (flow.sends v (within_end v n at))
+  sends_there : (v : ℕ) (n : Node) → slice_get net.nodes v ≡ Some n → IsConserved (kind_there places v n) (inflow_at numbers units v) (outflow_at numbers units v)
+  sends_there v n at = subst (λ k. IsConserved k (inflow_at numbers units v) (outflow_at numbers units v)) (kind_is net.nodes places can.nodes_rise is.at_places v n at) (flow.sends v (within_end v n at))
 
   sends_at : (v : ℕ) (n : Node) → slice_get net.nodes v ≡ Some n → sends (named_units net.arcs units) n ≡ true
   sends_at v (node.Sink) at = refl

@@ -1,7 +1,7 @@
 -- Units with the balances of a flow are one.
 use Rattle.std.proofs.Common.{◌≡◌, refl, ℕ, ◌+◌, true, List, length, arith}
 use Rattle.fm_cycles.specs.declared.indexed_arcs.IndexedArc.{IndexedArc}
-use Rattle.fm_cycles.specs.Units.{units_in, units_out, AreWithin, HaveSameBalance}
+use Rattle.fm_cycles.specs.Units.{inflow_at, outflow_at, AreWithin, HaveSameBalance}
 use Rattle.fm_indexed.specs.declared.node_ranges.NodeRanges.{NodeRanges}
 use Rattle.fm_indexed.specs.declared.node_ranges.NodeKind.{NodeKind}
 use Rattle.fm_indexed.specs.declared.node_ranges.NodeKind.TheVariants.{Sink, Unscheduled, Request, Machine, Task}
@@ -21,7 +21,7 @@ pub still_flow : (places : NodeRanges) (arcs : List IndexedArc) (old new : List 
 still_flow places arcs old new formed flow sized within same = record {
   sized = sized;
   within = within;
-  sends = λ v less. sends_still (kind_at places v) (units_in arcs old v) (units_out arcs old v) (units_in arcs new v) (units_out arcs new v)
+  sends = λ v less. sends_still (kind_at places v) (inflow_at arcs old v) (outflow_at arcs old v) (inflow_at arcs new v) (outflow_at arcs new v)
       (λ task. (none_enter (λ n. is_task (kind_at places n)) arcs old v formed.targets task, none_enter (λ n. is_task (kind_at places n)) arcs new v formed.targets task))
       (same v) (flow.sends v less);
 }

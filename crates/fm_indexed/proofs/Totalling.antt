@@ -9,7 +9,7 @@ use Rattle.fm_net.specs.ListLaws.{has_member, member_has}
 use Rattle.fm_net.specs.Net.{Net, CanBeNet, has_node}
 use Rattle.fm_certificate.specs.Totals.{target, units_at, total_in, IsTotalled}
 use Rattle.fm_cycles.specs.declared.indexed_arcs.IndexedArc.{IndexedArc}
-use Rattle.fm_cycles.specs.Units.{units_in}
+use Rattle.fm_cycles.specs.Units.{inflow_at}
 use Rattle.fm_indexed.specs.declared.node_ranges.NodeRanges.{NodeRanges}
 use Rattle.fm_indexed.specs.Numbered.{IsNumbered}
 use Rattle.fm_indexed.specs.Named.{named_units, entered_by}
@@ -18,7 +18,7 @@ use Rattle.fm_indexed.proofs.Naming.{named_rise, named_fit, enters_none}
 use Rattle.fm_indexed.proofs.Entered.{no_total, total_there}
 use Rattle.fm_indexed.proofs.Certify.{same_sum}
 
-module _ (net : Net) (can : CanBeNet net) (places : NodeRanges) (numbers : List IndexedArc) (is : IsNumbered net places numbers) (units sums : List ℕ) (summed : (v : ℕ) → v < places.end → slice_index sums v ≡ units_in numbers units v) where
+module _ (net : Net) (can : CanBeNet net) (places : NodeRanges) (numbers : List IndexedArc) (is : IsNumbered net places numbers) (units sums : List ℕ) (summed : (v : ℕ) → v < places.end → slice_index sums v ≡ inflow_at numbers units v) where
   abbrev Enters : Node → Type 0
   Enters n = total_in (entered_by net.nodes sums) n ≡ units_at target (named_units net.arcs units) n
 

@@ -21,7 +21,7 @@ use Rattle.fm_certificate.specs.Totals.{source, target}
 use Rattle.fm_certificate.specs.PolicyNetwork.{IsBuilt}
 use Rattle.fm_cycles.specs.declared.indexed_arcs.IndexedArc.{IndexedArc}
 use Rattle.fm_cycles.specs.Residual.{AreArcs}
-use Rattle.fm_cycles.specs.Units.{units_with_end, units_in, units_out, AreWithin}
+use Rattle.fm_cycles.specs.Units.{units_with_end, inflow_at, outflow_at, AreWithin}
 use Rattle.fm_indexed.specs.declared.node_ranges.NodeRanges.{NodeRanges}
 use Rattle.fm_indexed.specs.declared.node_ranges.NodeKind.{NodeKind}
 use Rattle.fm_indexed.specs.declared.node_ranges.NodeKind.TheVariants as kinds
@@ -78,10 +78,10 @@ module _ (k : Table) (net : Net) (can : CanBeNet net) (of : IsNetworkOf k net) (
   waiting_is : unit_on_job_arcs places numbers ≡ map waits net.arcs
   waiting_is = same_map net.nodes net.arcs numbers (λ a. unscheduled_by (kind_at places a.to) 0) waits is.of_arcs (λ b a arc. named b a 0 arc)
 
-  enters : (units : NetArc → ℕ) (v : ℕ) (n : Node) → slice_get net.nodes v ≡ Some n → units_in numbers (map units net.arcs) v ≡ units_by k net can of target units n
+  enters : (units : NetArc → ℕ) (v : ℕ) (n : Node) → slice_get net.nodes v ≡ Some n → inflow_at numbers (map units net.arcs) v ≡ units_by k net can of target units n
   enters units v n at = same_sum net.nodes can.nodes_rise target (λ a. a.to) (λ b a arc. arc.to) v n at units net.arcs numbers is.of_arcs
 
-  leaves : (units : NetArc → ℕ) (v : ℕ) (n : Node) → slice_get net.nodes v ≡ Some n → units_out numbers (map units net.arcs) v ≡ units_by k net can of source units n
+  leaves : (units : NetArc → ℕ) (v : ℕ) (n : Node) → slice_get net.nodes v ≡ Some n → outflow_at numbers (map units net.arcs) v ≡ units_by k net can of source units n
   leaves units v n at = same_sum net.nodes can.nodes_rise source (λ a. a.from) (λ b a arc. arc.from) v n at units net.arcs numbers is.of_arcs
 
   abbrev units : NetArc → ℕ
@@ -89,11 +89,11 @@ module _ (k : Table) (net : Net) (can : CanBeNet net) (of : IsNetworkOf k net) (
 
   all_is : all_unscheduled places numbers ≡ map units net.arcs
   all_is =
-      same_map net.nodes net.arcs numbers (λ a. unscheduled_by (kind_at places a.to) (units_in numbers (unit_on_job_arcs places numbers) a.from)) units is.of_arcs (λ b a arc.
-      named b a (units_in numbers (unit_on_job_arcs places numbers) a.from) arc
-      ∙ ap (named_by b.0.1) (ap (λ (us : List ℕ). units_in numbers us a.from) waiting_is ∙ enters waits a.from b.0.0 arc.from))
+      same_map net.nodes net.arcs numbers (λ a. unscheduled_by (kind_at places a.to) (inflow_at numbers (unit_on_job_arcs places numbers) a.from)) units is.of_arcs (λ b a arc.
+      named b a (inflow_at numbers (unit_on_job_arcs places numbers) a.from) arc
+      ∙ ap (named_by b.0.1) (ap (λ (us : List ℕ). inflow_at numbers us a.from) waiting_is ∙ enters waits a.from b.0.0 arc.from))
 
-  sends_there : (v : ℕ) (n : Node) → slice_get net.nodes v ≡ Some n → IsTrue (has_node net n) → IsConserved (kind_there places v n) (units_in numbers (map units net.arcs) v) (units_out numbers (map units net.arcs) v)
+  sends_there : (v : ℕ) (n : Node) → slice_get net.nodes v ≡ Some n → IsTrue (has_node net n) → IsConserved (kind_there places v n) (inflow_at numbers (map units net.arcs) v) (outflow_at numbers (map units net.arcs) v)
   sends_there v (node.Sink) at h = tt
   sends_there v (node.Unscheduled j) at h = enters units v (node.Unscheduled j) at ∙ job_keeps k net can of j h ∙ sym (leaves units v (node.Unscheduled j) at)
   sends_there v (node.Request r) at h = enters units v (node.Request r) at ∙ request_keeps k net can of r ∙ sym (leaves units v (node.Request r) at)
@@ -109,7 +109,7 @@ module _ (k : Table) (net : Net) (can : CanBeNet net) (of : IsNetworkOf k net) (
         let end = is.at_places.end in
         let at : slice_get net.nodes v ≡ Some (get_or net.nodes v (node.Sink)) = slice_get-get_or net.nodes v (node.Sink) (omega arith) in
         let there = has_member node_cmp node_total node_exact n net.nodes (member_at net.nodes v n at) in
-        subst (λ kind. IsConserved kind (units_in numbers (map units net.arcs) v) (units_out numbers (map units net.arcs) v)) (sym (kind_is net.nodes places can.nodes_rise is.at_places v n at)) (sends_there v n at there);
+        subst (λ kind. IsConserved kind (inflow_at numbers (map units net.arcs) v) (outflow_at numbers (map units net.arcs) v)) (sym (kind_is net.nodes places can.nodes_rise is.at_places v n at)) (sends_there v n at there);
   }
 
   pub flow : IsFlowOf places numbers (all_unscheduled places numbers)
@@ -150,12 +150,12 @@ one_waits kind = elim kind as (λ q. unscheduled_by q 0 ≤ 1) [
 ]
 
 pub drained : (places : NodeRanges) (arcs : List IndexedArc) (nodes : ℕ) (entered : List ℕ) → AreArcs arcs nodes → length arcs < 2 ^ 63 →
-    ((v : ℕ) → v < nodes → slice_index entered v ≡ units_in arcs (unit_on_job_arcs places arcs) v) → map
+    ((v : ℕ) → v < nodes → slice_index entered v ≡ inflow_at arcs (unit_on_job_arcs places arcs) v) → map
     (λ (a : IndexedArc). unscheduled_by (kind_at places a.to) (min (slice_index entered a.from) (2 ^ 64 - 1))) arcs ≡ all_unscheduled
     places arcs
 drained places arcs nodes entered known few sums =
     map_same _ _ arcs (λ i a at.
     let is = sums a.from (known i a at).0 in
     let most = few_units (λ (b : IndexedArc). b.to) (λ (b : IndexedArc). unscheduled_by (kind_at places b.to) 0) a.from arcs (λ b. one_waits (kind_at places b.to)) in
-    let fits : min (slice_index entered a.from) (2 ^ 64 - 1) ≡ units_in arcs (unit_on_job_arcs places arcs) a.from = omega arith in
+    let fits : min (slice_index entered a.from) (2 ^ 64 - 1) ≡ inflow_at arcs (unit_on_job_arcs places arcs) a.from = omega arith in
     ap (unscheduled_by (kind_at places a.to)) fits)

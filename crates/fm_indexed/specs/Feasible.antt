@@ -1,7 +1,7 @@
 -- Flows by numbers.
 use Rattle.std.specs.Prelude.{◌≡◌, ℕ, ◌<◌, List, length}
 use Rattle.fm_cycles.specs.declared.indexed_arcs.IndexedArc.{IndexedArc}
-use Rattle.fm_cycles.specs.Units.{units_in, units_out, AreWithin}
+use Rattle.fm_cycles.specs.Units.{inflow_at, outflow_at, AreWithin}
 use Rattle.fm_indexed.specs.declared.node_ranges.NodeRanges.{NodeRanges}
 use Rattle.fm_indexed.specs.declared.node_ranges.NodeKind.{NodeKind}
 use Rattle.fm_indexed.specs.declared.node_ranges.NodeKind.TheVariants.{Sink, Unscheduled, Request, Machine, Task}
@@ -19,4 +19,4 @@ IsConserved (Task i) entered left = left ≡ 1
 pub record IsFlowOf (places : NodeRanges) (arcs : List IndexedArc) (units : List ℕ) : Type 0 where
   pub sized : length units ≡ length arcs
   pub within : AreWithin arcs units
-  pub sends : (v : ℕ) → v < places.end → IsConserved (kind_at places v) (units_in arcs units v) (units_out arcs units v)
+  pub sends : (v : ℕ) → v < places.end → IsConserved (kind_at places v) (inflow_at arcs units v) (outflow_at arcs units v)

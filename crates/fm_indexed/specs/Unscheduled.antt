@@ -3,7 +3,7 @@ use Rattle.std.specs.Prelude.{ℕ, Bool, true, false, cond, List, map}
 use Rattle.fm_net.specs.Net.{Net, CanBeNet}
 use Rattle.fm_certificate.specs.PolicyNetwork.{IsBuilt}
 use Rattle.fm_cycles.specs.declared.indexed_arcs.IndexedArc.{IndexedArc}
-use Rattle.fm_cycles.specs.Units.{units_in}
+use Rattle.fm_cycles.specs.Units.{inflow_at}
 use Rattle.fm_indexed.specs.declared.node_ranges.NodeRanges.{NodeRanges}
 use Rattle.fm_indexed.specs.declared.node_ranges.NodeKind.{NodeKind}
 use Rattle.fm_indexed.specs.declared.node_ranges.NodeKind.TheVariants.{Sink, Unscheduled, Request, Machine, Task}
@@ -25,7 +25,7 @@ unit_on_job_arcs places arcs = map (λ a. unscheduled_by (kind_at places a.to) 0
 
 -- and on each arc to the sink as many as enter its source
 abbrev pub all_unscheduled : NodeRanges → List IndexedArc → List ℕ
-all_unscheduled places arcs = map (λ a. unscheduled_by (kind_at places a.to) (units_in arcs (unit_on_job_arcs places arcs) a.from)) arcs
+all_unscheduled places arcs = map (λ a. unscheduled_by (kind_at places a.to) (inflow_at arcs (unit_on_job_arcs places arcs) a.from)) arcs
 
 -- in every network that the policy can build this is a flow
 abbrev pub AreFlows : Type 0

@@ -1,7 +1,7 @@
 //! What enters and leaves each node.
 
 ghost use Rattle.std.specs.Prelude.{◌≡◌, ◌<◌, ℕ, vec_len, slice_index, IfOk};
-ghost use Rattle.fm_cycles.specs.Units.{units_in, units_out, units_with_end};
+ghost use Rattle.fm_cycles.specs.Units.{inflow_at, outflow_at, units_with_end};
 ghost use Rattle.fm_indexed.specs.ArcEnds.{node_at_end};
 
 use crate::indexed_network::IndexedNetwork;
@@ -35,7 +35,7 @@ pub(crate) enum End {
 pub fn inflow(alloc: Global, numbered: &IndexedNetwork, units: &[u64]) -> Result<Vec<u128>, OutOfMemory>
     ensures sized { IfOk result (λ sums. vec_len sums ≡ numbered.now.places.end) }
     ensures sums { IfOk result (λ sums. (v : ℕ) → v < numbered.now.places.end
-        → slice_index sums.items v ≡ units_in numbered.now.arcs.items units.now v) }
+        → slice_index sums.items v ≡ inflow_at numbered.now.arcs.items units.now v) }
 {
     sums_of(alloc, numbered, units, End::Target)
 }
@@ -44,7 +44,7 @@ pub fn inflow(alloc: Global, numbered: &IndexedNetwork, units: &[u64]) -> Result
 pub fn outflow(alloc: Global, numbered: &IndexedNetwork, units: &[u64]) -> Result<Vec<u128>, OutOfMemory>
     ensures sized { IfOk result (λ sums. vec_len sums ≡ numbered.now.places.end) }
     ensures sums { IfOk result (λ sums. (v : ℕ) → v < numbered.now.places.end
-        → slice_index sums.items v ≡ units_out numbered.now.arcs.items units.now v) }
+        → slice_index sums.items v ≡ outflow_at numbered.now.arcs.items units.now v) }
 {
     sums_of(alloc, numbered, units, End::Source)
 }

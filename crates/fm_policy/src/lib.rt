@@ -12,6 +12,6 @@ mod nodes;
 pub mod stale_keys;
 pub mod rebuilder;
 pub mod room;
-pub mod prices;
+pub mod arc_prices;
 mod inputs;
 mod task_sums;

@@ -20,8 +20,8 @@ use Rattle.fm_script.specs.declared.script.Tell.{Tell}
 use Rattle.fm_script.specs.Json.{bind, whole_number, number_at, number_32_at, number_8_at, flag_at, text_at, id_at, has_size, items_at}
 
 -- the fields of each operation
-abbrev pub job_op : Data → Option Op
-job_op d =
+abbrev pub parse_job : Data → Option Op
+parse_job d =
     bind (id_at (codes "id") d) (λ id.
     bind (number_at (codes "version") d) (λ version.
     bind (number_8_at (codes "writer") d) (λ writer.
@@ -50,8 +50,8 @@ preference_entries ds = cond (nat_le (length ds) 4) (all_there (map preference_e
 abbrev pub prefer_of : Data → Option (List (ℕ × ℕ))
 prefer_of d = cond (is_none (get (codes "prefer") d)) (Some []) (bind (items_at (codes "prefer") d) preference_entries)
 
-abbrev pub spec_op : Data → Option Op
-spec_op d =
+abbrev pub parse_spec : Data → Option Op
+parse_spec d =
     bind (id_at (codes "id") d) (λ id.
     bind (number_at (codes "version") d) (λ version.
     bind (number_8_at (codes "writer") d) (λ writer.
@@ -69,15 +69,15 @@ is_text = pointwise nat_eq
 abbrev pub phase_named : List ℕ → Option Phase
 phase_named name = cond (is_text name (codes "pending")) (Some phase.Pending) (cond (is_text name (codes "running")) (Some phase.Running) (when (is_text name (codes "done")) phase.Done))
 
-abbrev pub progress_op : Data → Option Op
-progress_op d =
+abbrev pub parse_progress : Data → Option Op
+parse_progress d =
     bind (id_at (codes "id") d) (λ id.
     bind (number_32_at (codes "attempt") d) (λ attempt.
     bind (bind (text_at (codes "phase") d) phase_named) (λ phase.
     Some (op.Progress id attempt phase))))
 
-abbrev pub machine_op : Data → Option Op
-machine_op d =
+abbrev pub parse_machine : Data → Option Op
+parse_machine d =
     bind (id_at (codes "id") d) (λ id.
     bind (number_at (codes "incarnation") d) (λ incarnation.
     bind (number_at (codes "version") d) (λ version.
@@ -87,8 +87,8 @@ machine_op d =
     bind (number_32_at (codes "nic") d) (λ nic.
     Some (op.Machine id incarnation version writer up slots nic))))))))
 
-abbrev pub report_op : Data → Option Op
-report_op d =
+abbrev pub parse_report : Data → Option Op
+parse_report d =
     bind (id_at (codes "id") d) (λ id.
     bind (number_at (codes "incarnation") d) (λ incarnation.
     bind (number_at (codes "number") d) (λ number.
@@ -112,11 +112,11 @@ either (Some d) f other = f d
 -- an operation: the one member of an object, named for its kind
 abbrev pub op_of : Data → Option Op
 op_of d = bind (when (has_size 1 d) d) (λ d.
-    either (get (codes "job") d) job_op (
-    either (get (codes "spec") d) spec_op (
-    either (get (codes "progress") d) progress_op (
-    either (get (codes "machine") d) machine_op (
-    either (get (codes "report") d) report_op (
+    either (get (codes "job") d) parse_job (
+    either (get (codes "spec") d) parse_spec (
+    either (get (codes "progress") d) parse_progress (
+    either (get (codes "machine") d) parse_machine (
+    either (get (codes "report") d) parse_report (
     either (get (codes "propose") d) propose_of None))))))
 
 -- what a cut's packet comes from: an interval if both ends are named, all that is known if neither is

@@ -8,7 +8,7 @@ ghost use Rattle.fm_script.specs.Json.{number_at, number_32_at, number_8_at, fla
 ghost use Rattle.std.specs.List.{flat_map};
 ghost use Rattle.std.specs.Option.{option_to_list};
 ghost use Rattle.fm_coord.specs.Numbers.{AreDistinct};
-ghost use Rattle.fm_script.specs.Script.{job_op, preference_entry, preference_entries, prefer_of, spec_op, phase_named, progress_op, first_strange, machine_op, report_op, propose_of, op_of, range_of, cut_of, delivery_of, round_of, act_of, script_step_of, steps_of, names_in, coordinator_of, listed_of, script_fault, IsScriptOf};
+ghost use Rattle.fm_script.specs.Script.{parse_job, preference_entry, preference_entries, prefer_of, parse_spec, phase_named, parse_progress, first_strange, parse_machine, parse_report, propose_of, op_of, range_of, cut_of, delivery_of, round_of, act_of, script_step_of, steps_of, names_in, coordinator_of, listed_of, script_fault, IsScriptOf};
 
 use crate::names::Names;
 use crate::script::{ScriptAct, Script, ScriptStep};
@@ -229,7 +229,7 @@ fn op_in(value: &Value) -> Option<Op>
 
 // The operations by their fields.
 fn job_in(fields: &Value) -> Option<Op>
-    ensures { result ≡ job_op (view fields.now) }
+    ensures { result ≡ parse_job (view fields.now) }
 {
     Some(Op::Job {
         id: JobId::read(text_in(fields, "id")?)?,
@@ -242,7 +242,7 @@ fn job_in(fields: &Value) -> Option<Op>
 }
 
 fn spec_in(fields: &Value) -> Option<Op>
-    ensures { result ≡ spec_op (view fields.now) }
+    ensures { result ≡ parse_spec (view fields.now) }
 {
     Some(Op::Spec {
         id: TaskId::read(text_in(fields, "id")?)?,
@@ -288,7 +288,7 @@ fn entry_in(fields: &Value) -> Option<(MachineId, u32)>
 }
 
 fn progress_in(fields: &Value) -> Option<Op>
-    ensures { result ≡ progress_op (view fields.now) }
+    ensures { result ≡ parse_progress (view fields.now) }
 {
     Some(Op::Progress {
         id: TaskId::read(text_in(fields, "id")?)?,
@@ -298,7 +298,7 @@ fn progress_in(fields: &Value) -> Option<Op>
 }
 
 fn machine_in(fields: &Value) -> Option<Op>
-    ensures { result ≡ machine_op (view fields.now) }
+    ensures { result ≡ parse_machine (view fields.now) }
 {
     Some(Op::Machine {
         id: MachineId::read(text_in(fields, "id")?)?,
@@ -312,7 +312,7 @@ fn machine_in(fields: &Value) -> Option<Op>
 }
 
 fn report_in(fields: &Value) -> Option<Op>
-    ensures { result ≡ report_op (view fields.now) }
+    ensures { result ≡ parse_report (view fields.now) }
 {
     Some(Op::Report {
         id: MachineId::read(text_in(fields, "id")?)?,

@@ -5,7 +5,7 @@ use Rattle.fm_records.specs.declared.refusal.Refusal.TheVariants.{OutOfMemory}
 use Rattle.fm_script.specs.declared.script.Tell.{Tell}
 use Rattle.fm_script.specs.Texts.{SpellsTells, SpellsNoTells}
 use Rattle.fm_serve.specs.declared.counts.Counts.{Counts}
-use Rattle.fm_serve.specs.declared.muster.FleetFault.{FleetFault}
+use Rattle.fm_serve.specs.declared.muster.CountFault.{CountFault}
 use Rattle.fm_serve.specs.Musters.{IsMustered, IsStopped, counts_text}
 use Rattle.fm_serve.specs.declared.fault.Fault.{Fault}
 use Rattle.fm_serve.specs.Faults.{fault_of, script_fault_of}
@@ -30,7 +30,7 @@ pub record IsUncounted (text : List ℕ) (fault : Fault) : Type 0 where
   pub listed : List ℕ
   pub tells : List Tell
   pub spelled : SpellsTells text listed tells
-  pub stop : FleetFault
+  pub stop : CountFault
   pub stopped : IsStopped listed tells stop
   pub named : fault ≡ record { refusal = stop.refusal; step = stop.step }
 

@@ -5,7 +5,7 @@ ghost use Rattle.fm_script.specs.Script.{is_listed};
 ghost use Rattle.fm_serve.specs.Musters.{tell_fault, first_refused, told_at, members_of};
 
 use crate::counter::RoundCounter;
-use crate::muster::FleetFault;
+use crate::muster::CountFault;
 use fm_edit::keepers::Keeper;
 use fm_gossip::member::Member;
 use fm_script::script::Tell;
@@ -19,12 +19,12 @@ use std::sync::atomic::AtomicU64;
 
 /// The first tell that is refused, if one is: no coordinator of its number is listed, or else a field of its operation is out
 /// of range.
-pub(crate) fn first_refused(listed: &[CoordId], tells: &[Tell]) -> Option<FleetFault>
+pub(crate) fn first_refused(listed: &[CoordId], tells: &[Tell]) -> Option<CountFault>
     ensures { result ≡ first_refused listed.now 1 tells.now }
 {
     for (place, tell) in tells.iter().enumerate() {
         if let Err(refusal) = check(listed, *tell) {
-            return Some(FleetFault {
+            return Some(CountFault {
                 refusal,
                 step: Some(place + 1),
             });

@@ -23,7 +23,7 @@ use std::thread::Threads;
 
 /// Why a fleet was not counted: a refusal, and the step of the script at fault, counted from 1, if one is.
 #[derive(Debug, Clone, Copy, PartialEq, Eq, Drop)]
-pub struct FleetFault {
+pub struct CountFault {
     pub refusal: Refusal,
     pub step: Option<usize>,
 }
@@ -41,7 +41,7 @@ pub fn muster<R: Threads + Wait + Sync>(
     script: &Tells,
     rounds: u32,
     rounds_done: &AtomicU64,
-) -> Result<Counts, FleetFault>
+) -> Result<Counts, CountFault>
     requires { AreDistinct script.now.coordinators.items }
     ensures ok { IfOk result (λ counts. IsMustered script.now.coordinators.items script.now.tells.items rounds counts) }
     ensures err { IfErr result (λ stop. IsStopped script.now.coordinators.items script.now.tells.items stop) }
@@ -52,7 +52,7 @@ pub fn muster<R: Threads + Wait + Sync>(
     }
     match run(rt, alloc, script, rounds, rounds_done) {
         Ok(counts) => Ok(counts),
-        Err(refusal) => Err(FleetFault {
+        Err(refusal) => Err(CountFault {
             refusal,
             step: None,
         }),

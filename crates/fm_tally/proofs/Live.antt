@@ -18,7 +18,7 @@ use Rattle.fm_net.specs.NetworkLaws.{came_from, mapped_from}
 use Rattle.fm_tally.specs.declared.holdings.Holdings.{Holdings}
 use Rattle.fm_tally.specs.declared.tally.LiveTask.{LiveTask}
 use Rattle.fm_tally.specs.declared.tally.OpenMachine.{OpenMachine}
-use Rattle.fm_tally.specs.Holdings.{is_open_at, placed_by, nothing_on, requests_in, tasks_in, AreHoldings}
+use Rattle.fm_tally.specs.Holdings.{names_open_machine, placed_by, nothing_on, requests_in, tasks_in, AreHoldings}
 use Rattle.fm_tally.specs.Tallies.{has_any, unfinished_spec, task_at, live_task_of, task_by, requests_by, tasks_by, open_machine_at, spare_left, open_by}
 use Rattle.fm_tally.specs.Unfinished.{unfinished_at}
 use Rattle.fm_tally.specs.declared.unfinished.UnfinishedTask.{UnfinishedTask}
@@ -28,7 +28,7 @@ inside : {A : Type 0} (a b : A) → Some a ≡ Some b → a ≡ b
 inside a b e = cc
 
 -- the machine of a spot where it is there
-placed_is : (hs : Holdings) (k : Table) → ((s : Spot) → is_open_at hs s ≡ is_present k s) → (o : Option Spot) → and_then (placed_by hs) o ≡ option_map (λ s. s.machine) (only_if (is_present k) o)
+placed_is : (hs : Holdings) (k : Table) → ((s : Spot) → names_open_machine hs s ≡ is_present k s) → (o : Option Spot) → and_then (placed_by hs) o ≡ option_map (λ s. s.machine) (only_if (is_present k) o)
 placed_is hs k there None = refl
 placed_is hs k there (Some s) = ap (λ b. when b s.machine) (there s) ∙ elim (is_present k s) as (λ b. when b s.machine ≡ option_map (λ (s : Spot). s.machine) (when b s)) [ true ↦ refl | false ↦ refl ]
 
@@ -84,7 +84,7 @@ module _ (k : Table) where
   won_by t p = option_map (λ s. s.machine) (only_if (is_present k) (option_map (λ w. w.1) (winner_of k t p.attempt)))
 
   -- an unfinished task
-  pub task_is : (hs : Holdings) (t : ℕ) (u : UnfinishedTask) → ((s : Spot) → is_open_at hs s ≡ is_present k s) → unfinished_at k t ≡ Some u
+  pub task_is : (hs : Holdings) (t : ℕ) (u : UnfinishedTask) → ((s : Spot) → names_open_machine hs s ≡ is_present k s) → unfinished_at k t ≡ Some u
       → task_by k.jobs (and_then (placed_by hs) u.spot) u ≡ task_at k t
   task_is hs t u there known =
       let spot = won_spot k t in
@@ -125,7 +125,7 @@ module _ (k : Table) where
   up_is (Some r) = elim (r.up) as (λ b. b ≡ passes (λ (r : MachineReg). true) (when b r)) [ true ↦ refl | false ↦ refl ]
 
   module _ (hs : Holdings) (nothing : (m : ℕ) → lookup nat_cmp m hs.by_machine ≡ option_map nothing_on (lookup nat_cmp m k.machines)) where
-    pub there_is : (s : Spot) → is_open_at hs s ≡ is_present k s
+    pub there_is : (s : Spot) → names_open_machine hs s ≡ is_present k s
     there_is s =
         ap (passes (λ h. h.is_open && h.incarnation == s.incarnation)) (nothing s.machine)
         ∙ elim (lookup nat_cmp s.machine k.machines) as (λ o. passes (λ h. h.is_open && h.incarnation == s.incarnation) (option_map nothing_on o) ≡ passes (λ (r : MachineReg). true) (only_if (λ (r : MachineReg). r.up) (and_then (λ (v : MachineValue). v.1.0) o)) && passes (λ i. i == s.incarnation) (option_map (λ (v : MachineValue). v.0) o)) [

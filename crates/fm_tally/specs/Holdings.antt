@@ -20,12 +20,12 @@ abbrev pub share_by : Option ℕ → ℕ → ℕ → ℕ
 share_by holder m amount = cond (passes (λ n. n == m) holder) amount 0
 
 -- the machine of the spot is open and at that incarnation
-abbrev pub is_open_at : Holdings → Spot → Bool
-is_open_at holdings s = passes (λ h. h.is_open && h.incarnation == s.incarnation) (lookup nat_cmp s.machine holdings.by_machine)
+abbrev pub names_open_machine : Holdings → Spot → Bool
+names_open_machine holdings s = passes (λ h. h.is_open && h.incarnation == s.incarnation) (lookup nat_cmp s.machine holdings.by_machine)
 
 -- the machine of the spot, where it is so
 abbrev pub placed_by : Holdings → Spot → Option ℕ
-placed_by holdings s = when (is_open_at holdings s) s.machine
+placed_by holdings s = when (names_open_machine holdings s) s.machine
 
 -- no machine
 abbrev pub holding_nothing : Holding

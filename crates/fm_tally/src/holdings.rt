@@ -5,7 +5,7 @@ ghost use Rattle.std.specs.Ordering.{nat_cmp};
 ghost use Rattle.fm_lattice.specs.Maps.{lookup};
 ghost use Rattle.fm_records.specs.Options.{or_else};
 ghost use Rattle.fm_records.specs.declared.records.Spot.{Spot as At};
-ghost use Rattle.fm_tally.specs.Holdings.{requests_in, tasks_in, share_by, placed_by, is_open_at, holding_nothing, nothing_on};
+ghost use Rattle.fm_tally.specs.Holdings.{requests_in, tasks_in, share_by, placed_by, names_open_machine, holding_nothing, nothing_on};
 
 use crate::sorted::Sorted;
 use fm_know::knowledge::Knowledge;
@@ -64,7 +64,7 @@ impl Holdings {
         ensures placed { result ≡ placed_by self.old spot }
         ensures requests { (m : ℕ) → requests_in self.new m ≡ requests_in self.old m + share_by result m request }
         ensures tasks { (m : ℕ) → tasks_in self.new m ≡ tasks_in self.old m + share_by result m 1 }
-        ensures same { (s : At) → is_open_at self.new s ≡ is_open_at self.old s }
+        ensures same { (s : At) → names_open_machine self.new s ≡ names_open_machine self.old s }
     {
         let at = self.by_machine.place_near(near, &spot.machine)?;
         let holding = self.by_machine.value(at, &spot.machine);

@@ -7,7 +7,7 @@ ghost use Rattle.fm_records.specs.declared.records.Spot.{Spot as At};
 ghost use Rattle.fm_records.specs.Facts.{is_present};
 ghost use Rattle.fm_records.specs.Options.{and_then, or_else, only_if};
 ghost use Rattle.fm_know.specs.Records.{open_state_in};
-ghost use Rattle.fm_tally.specs.Holdings.{requests_in, tasks_in, share_by, placed_by, is_open_at, holding_nothing, nothing_on, AreHoldings};
+ghost use Rattle.fm_tally.specs.Holdings.{requests_in, tasks_in, share_by, placed_by, names_open_machine, holding_nothing, nothing_on, AreHoldings};
 ghost use Rattle.fm_tally.specs.Tallies.{task_at, all_machines, spare_left, live_task_of, task_by, requests_by, tasks_by, open_by, TallyIsFor};
 ghost use Rattle.fm_tally.specs.Unfinished.{AreUnfinished};
 
@@ -180,7 +180,7 @@ fn live_task(
     ensures requests { (m : ℕ) → requests_in holdings.new m ≡ requests_in holdings.old m + requests_by result m }
     ensures tasks { (m : ℕ) → tasks_in holdings.new m ≡ tasks_in holdings.old m + tasks_by result m }
     ensures small { (m : ℕ) → requests_by result m < 2 ^ 32 }
-    ensures there { (s : At) → is_open_at holdings.new s ≡ is_open_at holdings.old s }
+    ensures there { (s : At) → names_open_machine holdings.new s ≡ names_open_machine holdings.old s }
 {
     let job = standing(jobs, near.job, task.job)?;
     let holder = hold(near.machine, task.spot, task.request, holdings);
@@ -195,7 +195,7 @@ fn hold(near: usize, spot: Option<Spot>, request: u32, holdings: &mut Holdings) 
     ensures requests { (m : ℕ) → requests_in holdings.new m ≡ requests_in holdings.old m + share_by result m request }
     ensures tasks { (m : ℕ) → tasks_in holdings.new m ≡ tasks_in holdings.old m + share_by result m 1 }
     ensures small { (m : ℕ) → share_by result m request < 2 ^ 32 }
-    ensures there { (s : At) → is_open_at holdings.new s ≡ is_open_at holdings.old s }
+    ensures there { (s : At) → names_open_machine holdings.new s ≡ names_open_machine holdings.old s }
 {
     holdings.hold(near, spot?, request)
 }

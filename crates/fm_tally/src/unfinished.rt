@@ -9,7 +9,7 @@ ghost use Rattle.fm_records.specs.Facts.{won_spot};
 ghost use Rattle.fm_records.specs.Orders.{attempt_cmp};
 ghost use Rattle.fm_tally.specs.Tallies.{unfinished_spec};
 ghost use Rattle.fm_tally.specs.Unfinished.{task_with, unfinished_at, AreUnfinished, AreBehind};
-ghost use Rattle.fm_tally.specs.WinnerScan.{winning_spot};
+ghost use Rattle.fm_tally.specs.WinnerScan.{winner_spot};
 ghost use Rattle.fm_tally.specs.Sides.{is_under, is_over};
 
 use crate::sorted::Sorted;
@@ -102,7 +102,7 @@ fn move_under<'a>(
 // The task with the record, if it is unfinished, with the winners that are still ahead.
 fn met_task(task: TaskId, known: &TaskRec, winners: &mut Winners<'_>) -> Option<UnfinishedTask>
     ensures task { result
-        ≡ option_map (λ s. task_with s (winning_spot winners.old (task, known.now.1.attempt))) (unfinished_spec known.now) }
+        ≡ option_map (λ s. task_with s (winner_spot winners.old (task, known.now.1.attempt))) (unfinished_spec known.now) }
     ensures ahead { (t a : ℕ) → attempt_cmp (task, known.now.1.attempt) (t, a) ≡ Less
         → lookup attempt_cmp (t, a) winners.new ≡ lookup attempt_cmp (t, a) winners.old }
 {

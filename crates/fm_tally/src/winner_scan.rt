@@ -5,7 +5,7 @@ ghost use Rattle.std.specs.declared.cmp.Ordering.TheVariants.{Less};
 ghost use Rattle.fm_lattice.specs.Maps.{lookup};
 ghost use Rattle.fm_records.specs.Orders.{attempt_cmp};
 ghost use Rattle.fm_records.specs.Facts.{head_option};
-ghost use Rattle.fm_tally.specs.WinnerScan.{winning_spot};
+ghost use Rattle.fm_tally.specs.WinnerScan.{winner_spot};
 
 use fm_know::knowledge::Knowledge;
 use fm_lattice::map::{JoinMap, Pairs};
@@ -51,7 +51,7 @@ impl<'a> Winners<'a> {
     /// The spot of the entry that wins the attempt, if it is still ahead. All entries before that attempt are left behind, so ask for
     /// one after the other. O(1) for each entry that is left behind.
     pub fn spot(&mut self, task: TaskId, attempt: u32) -> Option<Spot>
-        ensures spot { result ≡ winning_spot self.old (task, attempt) }
+        ensures spot { result ≡ winner_spot self.old (task, attempt) }
         ensures later { (t a : ℕ) → attempt_cmp (task, attempt) (t, a) ≡ Less
             → lookup attempt_cmp (t, a) self.new ≡ lookup attempt_cmp (t, a) self.old }
     {

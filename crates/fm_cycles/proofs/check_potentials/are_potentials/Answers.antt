@@ -6,7 +6,7 @@ use Rattle.fm_cycles.specs.Found.{costs_in}
 use Rattle.fm_cycles.specs.declared.indexed_arcs.IndexedArc.{IndexedArc}
 use Rattle.fm_cycles.proofs.Fitting.{one_more, no_saving_ahead, no_saving_back}
 use Rattle.fm_cycles.proofs.Lowered.{past}
-use Rattle.fm_cycles.proofs.potentials.are_potentials.Goals as goal
+use Rattle.fm_cycles.proofs.check_potentials.are_potentials.Goals as goal
 
 pub loop-place-preserved : goal.loop-place-preserved
 loop-place-preserved c =
