@@ -6,10 +6,10 @@ ghost use Rattle.fm_net.specs.Nodes.{ends_cmp, node_cmp};
 ghost use Rattle.fm_certificate.specs.Totals.{source, target, units_at, IsTotalled};
 
 use crate::flow_iter::FlowIter;
-use crate::outflow::sum_from;
 use crate::inflow::{change, make_room, total_of, totals_of};
+use crate::outflow::sum_from;
 use fm_lattice::join::OutOfMemory;
-use fm_lattice::sorted_vec::{insert, get, get_hinted};
+use fm_lattice::sorted_vec::{get, get_hinted, insert};
 use fm_net::node::Node;
 use std::alloc::Global;
 use std::collections::BTreeMap;

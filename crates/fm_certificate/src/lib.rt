@@ -3,9 +3,9 @@
 
 pub mod check;
 pub mod cost;
-pub mod flow_iter;
 pub mod flow;
-pub mod laws;
-pub mod potentials;
-mod outflow;
+pub mod flow_iter;
 mod inflow;
+pub mod laws;
+mod outflow;
+pub mod potentials;

@@ -7,7 +7,7 @@ ghost use Rattle.fm_certificate.specs.Certificates.{potential_in};
 ghost use Rattle.fm_certificate.specs.Checks.{AreOf};
 
 use fm_lattice::join::OutOfMemory;
-use fm_lattice::sorted_vec::{insert, get};
+use fm_lattice::sorted_vec::{get, insert};
 use fm_net::network::Network;
 use fm_net::node::Node;
 use std::alloc::Global;

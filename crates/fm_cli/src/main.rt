@@ -2,13 +2,13 @@
 #![tactic(auto)]
 
 use fm_dimacs::out::Over;
+use fm_io::source::Input;
 use fm_records::refusal::Refusal;
 use fm_serve::ending::Ending;
 use fm_serve::fault::Fault;
 use fm_serve::progress::RunProgress;
 use fm_serve::serve::serve;
 use fm_serve::watch::serve_watched;
-use fm_io::source::Input;
 use std::alloc::Global;
 use std::io::{BufReader, IsTerminal};
 use std::process::ExitCode;
@@ -25,7 +25,14 @@ fn main(rt: HostRuntime) -> ExitCode {
                 serve_watched(&rt, alloc, &words, source, sink).0
             } else {
                 let (mut source, mut sink) = (source, sink);
-                serve(&rt, alloc, &RunProgress::new(), &words, &mut source, &mut sink)
+                serve(
+                    &rt,
+                    alloc,
+                    &RunProgress::new(),
+                    &words,
+                    &mut source,
+                    &mut sink,
+                )
             }
         }
         (Ok(_), Err(_)) => Ending::Stopped(Fault::from(Refusal::OutOfMemory)),

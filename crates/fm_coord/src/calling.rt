@@ -7,9 +7,9 @@ ghost use Rattle.fm_coord.specs.Replays.{call_of, reply_of};
 ghost use Rattle.fm_coord.specs.States.{bounds, history_entry, after, StandsFor, IsEventAt};
 ghost use Rattle.fm_coord.specs.Outputs.{reply_to, answer_to};
 
-use crate::output::CallOutput;
 use crate::coordinator::Coordinator;
 use crate::entry::Call;
+use crate::output::CallOutput;
 use fm_lattice::join::OutOfMemory;
 use fm_policy::keeper::NetKeeper;
 use fm_records::refusal::Refusal;

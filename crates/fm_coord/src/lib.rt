@@ -1,12 +1,12 @@
 //! One coordinator: its state, deltas and network, with the history of its calls.
 #![tactic(auto)]
 
-pub mod output;
 mod calling;
 pub mod coordinator;
 pub mod entry;
 pub mod entry_equality;
 pub mod laws;
+pub mod output;
 mod tallied;
 pub mod view;
 

@@ -6,10 +6,10 @@ ghost use Rattle.fm_cycles.specs.Residual.{residual, AreArcs};
 ghost use Rattle.fm_cycles.specs.Found.{costs_in};
 ghost use Rattle.fm_cycles.specs.Units.{AreCapacities, AreWithin, HaveSameBalance, cost_of_units};
 
-use crate::indexed_arcs::IndexedArc;
 use crate::cancel::cancel_all;
-use crate::lookup::cost_at;
 use crate::cycle_search::search_on;
+use crate::indexed_arcs::IndexedArc;
+use crate::lookup::cost_at;
 use std::alloc::{AllocError, Global};
 
 // The greatest size of a number that a search starts from.

@@ -6,11 +6,11 @@ ghost use Rattle.fm_cycles.specs.Residual.{residual, AreArcs};
 ghost use Rattle.fm_cycles.specs.Found.{costs_in, IsSearchResult};
 ghost use Rattle.fm_cycles.specs.ParentGraph.{IsSearched};
 
-use crate::indexed_arcs::{IndexedArc, ResidualArc};
 use crate::check_potentials::are_potentials;
+use crate::indexed_arcs::{IndexedArc, ResidualArc};
 use crate::labels::{Labels, sweep};
-use crate::queue::relax_by_queue;
 use crate::parent_graph::cycles_in;
+use crate::queue::relax_by_queue;
 use std::alloc::{AllocError, Global};
 
 /// What a search finds.

@@ -6,12 +6,12 @@
 //! relaxed (Cherkassky and Goldberg, "Negative-cycle detection algorithms", 1999). Cancelling is Klein's (1967).
 #![tactic(auto)]
 
-pub mod indexed_arcs;
 pub mod cancel;
-pub mod check_potentials;
 pub mod cancel_all;
+pub mod check_potentials;
+pub mod cycle_search;
+pub mod indexed_arcs;
 mod labels;
 pub mod lookup;
-mod queue;
-pub mod cycle_search;
 mod parent_graph;
+mod queue;

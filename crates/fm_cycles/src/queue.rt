@@ -70,7 +70,11 @@ fn list(lists: &mut [Vec<usize>], node: usize, place: usize) -> Result<(), Alloc
 }
 
 // The places of the arcs at each node.
-fn arcs_at(alloc: Global, nodes: usize, arcs: &[IndexedArc]) -> Result<Vec<Vec<usize>>, AllocError> {
+fn arcs_at(
+    alloc: Global,
+    nodes: usize,
+    arcs: &[IndexedArc],
+) -> Result<Vec<Vec<usize>>, AllocError> {
     let mut lists: Vec<Vec<usize>> = Vec::new(alloc);
     for _ in 0..nodes {
         lists.push(Vec::new(alloc))?;

@@ -2,10 +2,10 @@
 #![tactic(auto)]
 
 mod arc_lines;
+mod decimals;
 pub mod dump;
 mod interrupted;
 pub mod laws;
-mod decimals;
 pub mod out;
 pub mod pieces;
 pub mod read;

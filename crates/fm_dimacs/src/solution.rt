@@ -11,8 +11,8 @@ ghost use Rattle.fm_certificate.specs.Flows.{units_in, IsFeasible};
 ghost use Rattle.fm_dimacs.specs.Sending.{AppendsPrefix, StopsBy, IsSent};
 ghost use Rattle.fm_dimacs.specs.Solution.{cost_line, units_line, flow_line, solution_text};
 
-use crate::dump::id_near;
 use crate::decimals::push_number;
+use crate::dump::id_near;
 use crate::out::Out;
 use crate::pieces::put_all;
 use fm_certificate::cost::cost;

@@ -12,10 +12,10 @@ ghost use Rattle.fm_edit.specs.Index.{lists_preferred};
 ghost use Rattle.fm_edit.specs.Affected.{has_pair, AffectedGrows};
 ghost use Rattle.fm_edit.specs.Completing.{Completes, AddsSink, AddsPlaces, AddsPreferring, AddsMachines, is_request_node, is_machine, waiting_in};
 
-use crate::task_index::TaskIndex;
+use crate::affected::Touched;
 use crate::editor_state::EditorState;
 use crate::record_cache::RecordCache;
-use crate::affected::Touched;
+use crate::task_index::TaskIndex;
 use fm_lattice::join::OutOfMemory;
 use fm_net::network::Network;
 use fm_net::node::Node;
@@ -218,7 +218,11 @@ fn touch_preferring(
 }
 
 // Touches the pairs of the request and each machine that is known, greater ones first.
-fn touch_machines(touched: &mut Touched, request: &Node, seen: &RecordCache) -> Result<(), OutOfMemory>
+fn touch_machines(
+    touched: &mut Touched,
+    request: &Node,
+    seen: &RecordCache,
+) -> Result<(), OutOfMemory>
     ensures grows { OnOk result (AffectedGrows touched.old touched.new) }
     ensures same { OnOk result (touched.new.nodes ≡ touched.old.nodes) }
     ensures has { OnOk result ((m : ℕ) → is_some (get nat_cmp seen.now.machines m) ≡ true

@@ -9,8 +9,8 @@ ghost use Rattle.fm_edit.specs.Sight.{seen_in};
 ghost use Rattle.fm_edit.specs.Seeing.{standing, standing_of, same_standing, turns};
 ghost use Rattle.fm_edit.specs.Index.{lists, ListsAtOne};
 
-use crate::task_index::TaskIndex;
 use crate::record_cache::RecordCache;
+use crate::task_index::TaskIndex;
 use fm_lattice::join::OutOfMemory;
 use fm_net::node::Node;
 use fm_policy::changed::Changed;
@@ -149,7 +149,11 @@ fn add_of_machines(
 }
 
 // Adds the tasks that are listed at the node. O(log n) for each.
-fn add_listed(tasks: &mut BTreeSet<TaskId>, index: &TaskIndex, node: &Node) -> Result<(), OutOfMemory>
+fn add_listed(
+    tasks: &mut BTreeSet<TaskId>,
+    index: &TaskIndex,
+    node: &Node,
+) -> Result<(), OutOfMemory>
     ensures grows { OnOk result ((t : ℕ) → has_id tasks.old.keys t ≡ true → has_id tasks.new.keys t ≡ true) }
     ensures listed { OnOk result ((t : ℕ) → t < 2 ^ 128 → lists index.now node.now t ≡ true
         → has_id tasks.new.keys t ≡ true) }

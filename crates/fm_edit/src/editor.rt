@@ -10,14 +10,14 @@ ghost use Rattle.fm_edit.specs.Dirty.{CountsDirtyTasks};
 ghost use Rattle.fm_edit.specs.Looking.{looks_of};
 ghost use Rattle.fm_edit.specs.Editing.{is_fresh_editor, taken_out, one_more, IsFor};
 
-use crate::look::{KnowLook, Look};
 use crate::editor_state::EditorState;
+use crate::look::{KnowLook, Look};
 use fm_know::knowledge::Knowledge;
 use fm_know::laws::law_can_be;
 use fm_lattice::join::OutOfMemory;
 use fm_lattice::shared::Shared;
-use fm_net::edit::Edit;
 use fm_net::apply::make_all;
+use fm_net::edit::Edit;
 use fm_net::network::Network;
 use fm_policy::build::build;
 use fm_policy::changed::{Changed, changed_of};

@@ -13,13 +13,13 @@ ghost use Rattle.fm_edit.specs.Looking.{looks_of};
 ghost use Rattle.fm_edit.specs.Memory.{Remembers, IsEditorState};
 ghost use Rattle.fm_edit.specs.Affected.{TouchesOnlyDirty};
 
+use crate::affected::Touched;
+use crate::cache_updates::{machines_now, see};
 use crate::completing::touch_pairs;
 use crate::dirty::{dirty_tasks, turned};
-use crate::task_index::TaskIndex;
 use crate::look::Look;
-use crate::cache_updates::{machines_now, see};
 use crate::record_cache::RecordCache;
-use crate::affected::Touched;
+use crate::task_index::TaskIndex;
 use fm_lattice::join::OutOfMemory;
 use fm_net::network::Network;
 use fm_policy::changed::Changed;

@@ -2,17 +2,17 @@
 //! can change, and looking up single records.
 #![tactic(auto)]
 
+mod affected;
+mod cache_updates;
 mod completing;
 pub mod deferred;
 mod dirty;
 pub mod editor;
-mod task_index;
+mod editor_state;
 pub mod keepers;
 pub mod laws;
 mod listing;
 pub mod look;
-mod editor_state;
-mod cache_updates;
 mod record_cache;
 mod shown;
-mod affected;
+mod task_index;

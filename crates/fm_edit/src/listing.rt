@@ -8,9 +8,9 @@ ghost use Rattle.fm_net.specs.Touched.{put_at};
 ghost use Rattle.fm_edit.specs.Memory.{node_by, arc_by, AreKnownBy};
 ghost use Rattle.fm_edit.specs.Listing.{arcs_that_go, nodes_that_go, nodes_that_come, arcs_that_come, edits_of};
 
+use crate::affected::Touched;
 use crate::editor_state::EditorState;
 use crate::shown::Ends;
-use crate::affected::Touched;
 use fm_lattice::join::OutOfMemory;
 use fm_net::edit::Edit;
 use fm_net::network::Network;

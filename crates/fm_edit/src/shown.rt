@@ -6,8 +6,8 @@ ghost use Rattle.fm_edit.specs.Memory.{facts_by, node_by, arc_by, IsKnownBy, Are
 
 use crate::editor_state::EditorState;
 use fm_net::node::Node;
-use fm_policy::node_facts::{JobFacts, MachineFacts, NodeFacts, RequestFacts, TaskFacts};
 use fm_policy::arc_prices::machine_load;
+use fm_policy::node_facts::{JobFacts, MachineFacts, NodeFacts, RequestFacts, TaskFacts};
 use fm_records::ids::{JobId, MachineId, TaskId};
 
 /// What was last found of the two ends of a pair.

@@ -15,7 +15,7 @@ ghost use Rattle.fm_edit.specs.Dirty.{has_id};
 ghost use Rattle.fm_edit.specs.Memory.{none_out, Counts};
 ghost use Rattle.fm_edit.specs.Index.{is_indexed, listed_cmp, lists, lists_preferred, sum_in, amount_at};
 
-use crate::record_cache::{RecordCache, CachedTask};
+use crate::record_cache::{CachedTask, RecordCache};
 use fm_lattice::join::OutOfMemory;
 use fm_net::node::Node;
 use fm_records::ids::{MachineId, TaskId};
@@ -250,7 +250,11 @@ impl TaskIndex {
     }
 
     /// Takes out the tasks, given by rising ids, and counts them. O(m log n).
-    pub(crate) fn take_out_all(&mut self, seen: &RecordCache, tasks: &[TaskId]) -> Result<(), OutOfMemory>
+    pub(crate) fn take_out_all(
+        &mut self,
+        seen: &RecordCache,
+        tasks: &[TaskId],
+    ) -> Result<(), OutOfMemory>
         requires { Rises nat_cmp tasks.now }
         ensures counts { OnOk result ((k : Table) → CanBe k → seen_in seen.now ≡ sight_of k → Counts none_out k self.old
             → Counts (has_id tasks.now) k self.new) }
@@ -263,7 +267,11 @@ impl TaskIndex {
     }
 
     /// Puts back the tasks, given by rising ids, which are all that are out. O(m log n).
-    pub(crate) fn put_back_all(&mut self, seen: &RecordCache, tasks: &[TaskId]) -> Result<(), OutOfMemory>
+    pub(crate) fn put_back_all(
+        &mut self,
+        seen: &RecordCache,
+        tasks: &[TaskId],
+    ) -> Result<(), OutOfMemory>
         requires { Rises nat_cmp tasks.now }
         ensures counts { OnOk result ((k : Table) → CanBe k → length k.tasks < 2 ^ 63 → seen_in seen.now ≡ sight_of k
             → Counts (has_id tasks.now) k self.old → Counts none_out k self.new) }

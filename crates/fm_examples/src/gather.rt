@@ -6,9 +6,9 @@ ghost use Rattle.fm_world.specs.Stands.{state_of, number_of};
 ghost use Rattle.fm_world.specs.Listings.{IsWholeRun};
 
 use fm_coord::coordinator::Coordinator;
-use fm_world::gather::gather;
 use fm_policy::keeper::NetKeeper;
 use fm_records::refusal::Refusal;
+use fm_world::gather::gather;
 use fm_world::step::Step;
 use std::alloc::Global;
 

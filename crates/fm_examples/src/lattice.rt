@@ -5,9 +5,9 @@ ghost use Rattle.std.specs.Ordering.{nat_cmp};
 ghost use Rattle.fm_lattice.specs.Joins.{max_join};
 ghost use Rattle.fm_lattice.specs.Maps.{put, map_join};
 
+use fm_lattice::constructors::Max;
 use fm_lattice::join::{OutOfMemory, law_assoc, law_comm};
 use fm_lattice::map::JoinMap;
-use fm_lattice::constructors::Max;
 
 /// The greatest reading of each sensor.
 pub type Readings = JoinMap<u64, Max<u64>>;

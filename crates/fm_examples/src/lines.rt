@@ -5,9 +5,9 @@ ghost use Rattle.fm_examples.specs.Echoes.{Echoes};
 
 use fm_io::follow::follow;
 use fm_io::responder::Responder;
-use fm_records::refusal::Refusal;
 use fm_io::sink::Sink;
 use fm_io::source::Source;
+use fm_records::refusal::Refusal;
 use std::alloc::Global;
 
 /// A responder whose answer to a line depends on that line alone.

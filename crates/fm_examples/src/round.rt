@@ -12,8 +12,8 @@ use fm_policy::build::build;
 use fm_records::ids::CoordId;
 use fm_records::refusal::Refusal;
 use fm_round::admission::admit;
-use fm_round::plan::Admitted;
 use fm_round::from_network::plan;
+use fm_round::plan::Admitted;
 use std::alloc::Global;
 
 /// What a coordinator with this knowledge would admit of the plan of a least flow of its network. No machine that

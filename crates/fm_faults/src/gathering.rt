@@ -5,9 +5,9 @@ use crate::coordinators::{Either, Kind, commit, cut, made, merge};
 use crate::memory::Memory;
 use crate::verdict::{Verdict, judged};
 use fm_coord::entry::Range;
-use fm_world::gather::gather;
 use fm_records::refusal::Refusal;
 use fm_world::distinct::distinct;
+use fm_world::gather::gather;
 use std::alloc::Global;
 
 // What histories were gathered to: why they were not, how many steps, and how many coordinators are left.

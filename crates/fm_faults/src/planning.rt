@@ -15,8 +15,8 @@ use fm_planner::plan_source::plan_of as plan_of_known;
 use fm_records::ids::CoordId;
 use fm_records::refusal::Refusal;
 use fm_round::admission::admit;
-use fm_round::plan::{Admitted, Plan, Stop};
 use fm_round::from_network::plan;
+use fm_round::plan::{Admitted, Plan, Stop};
 use fm_round::stopping::stops;
 use std::alloc::Global;
 

@@ -7,9 +7,9 @@ ghost use Rattle.fm_tally.specs.Tallies.{TallyIsFor};
 ghost use Rattle.fm_coord.specs.declared.entry.Reply.TheVariants as reply;
 
 use crate::seat::NodeName;
-use fm_coord::output::CallOutput;
 use fm_coord::coordinator::Coordinator;
 use fm_coord::entry::Call;
+use fm_coord::output::CallOutput;
 use fm_coord::view::TallyView;
 use fm_policy::keeper::NetKeeper;
 use fm_records::refusal::Refusal;

@@ -8,9 +8,9 @@ ghost use Rattle.fm_fleet.specs.Seats.{after_call, MayRefuse, IsPossibleAnswer, 
 use crate::desk::Desk;
 use crate::owners::{another, listed};
 use crate::seat::{NodeName, Seat, SeatLog};
-use fm_coord::output::CallOutput;
 use fm_coord::coordinator::Coordinator;
 use fm_coord::entry::{Call, Entry, Range, Reply};
+use fm_coord::output::CallOutput;
 use fm_coord::shared::Shared;
 use fm_coord::view::{TallyView, View};
 use fm_delta::packet::Packet;

@@ -2,8 +2,8 @@
 ghost use Rattle.std.specs.Prelude.{◌≡◌};
 ghost use Rattle.fm_coord.specs.Outputs.{reply_to};
 
-use fm_coord::output::CallOutput;
 use fm_coord::entry::Reply;
+use fm_coord::output::CallOutput;
 use fm_coord::shared::Shared;
 use std::sync::Wait;
 use std::thread;

@@ -5,4 +5,4 @@
 
 pub mod solve;
 
-pub use fm_certificate::{check, cost, flow_iter, flow, laws, potentials};
+pub use fm_certificate::{check, cost, flow, flow_iter, laws, potentials};

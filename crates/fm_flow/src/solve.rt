@@ -11,12 +11,12 @@ use fm_certificate::laws::law_least;
 use fm_certificate::potentials::Potentials;
 use fm_heuristics::first::first_flow;
 use fm_heuristics::worth_first::resumed;
+use fm_indexed::improved::improved;
+use fm_indexed::indexed_network::IndexedNetwork;
+use fm_indexed::to_named::certified;
+use fm_indexed::unscheduled::law_unscheduled;
 use fm_lattice::join::OutOfMemory;
 use fm_net::network::Network;
-use fm_indexed::improved::improved;
-use fm_indexed::to_named::certified;
-use fm_indexed::indexed_network::IndexedNetwork;
-use fm_indexed::unscheduled::law_unscheduled;
 use fm_records::refusal::Refusal;
 use std::alloc::Global;
 

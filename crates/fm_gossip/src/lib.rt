@@ -2,12 +2,12 @@
 #![tactic(auto)]
 
 pub mod agreeing;
-mod member_end;
 pub mod exchange;
-pub mod member_threads;
-mod stop_signal;
 mod intake;
 pub mod member;
-mod solver;
+mod member_end;
+pub mod member_threads;
 mod serving;
+mod solver;
+mod stop_signal;
 mod work;

@@ -78,7 +78,10 @@ fn close_one<R: Wait>(rt: &R, inbox: Doors, out: Vec<Door>) -> Result<(), Refusa
 }
 
 // Takes the last door of each.
-fn take_last<N: NetKeeper + Drop>(dones: &mut [MemberEnd<N>], out: &mut Vec<Door>) -> Result<(), Refusal>
+fn take_last<N: NetKeeper + Drop>(
+    dones: &mut [MemberEnd<N>],
+    out: &mut Vec<Door>,
+) -> Result<(), Refusal>
     ensures same { map (λ d. d.state) dones.new ≡ map (λ d. d.state) dones.old }
     ensures taken { OnOk result ((at : ℕ) (bs : List InboxSeen) (b : InboxSeen)
         → AreUsed at (bs ++ b ∷ []) (map passed_at (map (λ d. d.state) dones.old)) (map (λ d. d.ports) dones.old)

@@ -7,10 +7,10 @@ ghost use Rattle.fm_gossip.specs.FleetFaults.{may_stop, AreBack};
 ghost use Rattle.fm_gossip.specs.Used.{AreUsed};
 ghost use Rattle.fm_gossip.specs.Works.{links_of, HaveOut, IsDoneUnless, AreDoneUnless, NoneRefused};
 
-use crate::member_end::{MemberEnd, close_all};
-use crate::stop_signal::StopSignal;
 use crate::member::Member;
+use crate::member_end::{MemberEnd, close_all};
 use crate::serving::{Served, serve_one};
+use crate::stop_signal::StopSignal;
 use crate::work::{Links, Work, link, works};
 use fm_coord::coordinator::Coordinator;
 use fm_fleet::door::Doors;

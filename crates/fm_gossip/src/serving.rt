@@ -11,10 +11,10 @@ ghost use Rattle.fm_coord.specs.Causes.{first_some};
 ghost use Rattle.fm_gossip.specs.FleetFaults.{may_stop};
 ghost use Rattle.fm_gossip.specs.Works.{IsDoneUnless};
 
-use crate::member_end::MemberEnd;
-use crate::stop_signal::{StopSignal, first_of};
 use crate::intake::{Intake, Taken, take_in};
+use crate::member_end::MemberEnd;
 use crate::solver::{Ran, Rounds, run_rounds};
+use crate::stop_signal::{StopSignal, first_of};
 use crate::work::Work;
 use fm_coord::coordinator::Coordinator;
 use fm_fleet::audit::audit;

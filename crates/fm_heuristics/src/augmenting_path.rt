@@ -2,13 +2,13 @@
 //! augmenting path.
 
 use crate::bit_rows::{Bits, bit_of, lowest, word_of};
-use crate::request_arcs::Lanes;
 use crate::lenient::put;
 use crate::loading::{Hop, Loading};
+use crate::request_arcs::Lanes;
 use fm_cycles::lookup::value_or;
-use fm_lattice::join::OutOfMemory;
 use fm_indexed::indexed_network::IndexedNetwork;
 use fm_indexed::node_ranges::NodeKind;
+use fm_lattice::join::OutOfMemory;
 use std::alloc::Global;
 
 /// How a request was reached: over a full machine where it has units, which another request joins, or else a task that

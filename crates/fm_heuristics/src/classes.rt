@@ -1,10 +1,10 @@
 //! Tasks of one place, in classes that are alike, and the units on their arcs.
 
 use crate::lenient::{part, put};
-use fm_lattice::join::OutOfMemory;
 use fm_indexed::indexed_network::IndexedNetwork;
 use fm_indexed::node_ranges::NodeKind;
 use fm_indexed::sums::{inflow, sum_at};
+use fm_lattice::join::OutOfMemory;
 use std::alloc::Global;
 
 /// A task with one of its places, and its arcs to the job and to that place. The *saving* is what the second costs less than

@@ -1,14 +1,14 @@
 //! The contracted network: jobs are part of the sink, the tasks of a class are supply of their place beside one link to
 //! the sink, and a lone task is a node.
 
-use crate::task_classes::{TaskClasses, Loner};
 use crate::classes::Class;
 use crate::link::{AMPLE, Link, Origin};
+use crate::task_classes::{Loner, TaskClasses};
 use fm_cycles::indexed_arcs::IndexedArc;
 use fm_cycles::lookup::value_or;
-use fm_lattice::join::OutOfMemory;
 use fm_indexed::indexed_network::IndexedNetwork;
 use fm_indexed::node_ranges::NodeKind;
+use fm_lattice::join::OutOfMemory;
 use std::alloc::Global;
 
 /// The contracted network, with units that send each supply straight to the sink, over the links that join its nodes

@@ -5,12 +5,12 @@ ghost use Rattle.std.specs.Prelude.{◌≡◌, ◌^◌, ◌≤ℤ◌, length, If
 ghost use Rattle.fm_cycles.specs.Walks.{AreBounded};
 ghost use Rattle.fm_cycles.specs.Found.{costs_in};
 
-use crate::request_arcs::first_from;
 use crate::lenient::part;
+use crate::request_arcs::first_from;
 use fm_cycles::indexed_arcs::IndexedArc;
 use fm_cycles::lookup::value_or;
-use fm_lattice::join::OutOfMemory;
 use fm_indexed::indexed_network::IndexedNetwork;
+use fm_lattice::join::OutOfMemory;
 use std::alloc::Global;
 
 // More than a path costs on which there are fewer than a million requests: an arc into a machine costs 1,000,000 at
@@ -28,7 +28,12 @@ struct Part<'a> {
 }
 
 // The arcs that leave nodes from the first place to before the end.
-fn leaving<'a>(numbered: &'a IndexedNetwork, units: &'a [u64], first: usize, end: usize) -> Part<'a> {
+fn leaving<'a>(
+    numbered: &'a IndexedNetwork,
+    units: &'a [u64],
+    first: usize,
+    end: usize,
+) -> Part<'a> {
     let begin = first_from(numbered, first);
     let behind = first_from(numbered, end);
     Part {
@@ -106,7 +111,11 @@ fn begin(alloc: Global, numbered: &IndexedNetwork, units: &[u64]) -> Result<Vec<
 }
 
 // The costs from all nodes: units of requests go to machines and back, by turns, until no cost falls.
-fn costs_of(alloc: Global, numbered: &IndexedNetwork, units: &[u64]) -> Result<Vec<i64>, OutOfMemory> {
+fn costs_of(
+    alloc: Global,
+    numbered: &IndexedNetwork,
+    units: &[u64],
+) -> Result<Vec<i64>, OutOfMemory> {
     let places = &numbered.places;
     let mut costs = begin(alloc, numbered, units)?;
     let requests = leaving(numbered, units, places.requests, places.machines);

@@ -10,8 +10,8 @@ use crate::distances::{potentials_from, potentials_over};
 use crate::request_arcs::first_from;
 use crate::simplex::simplex;
 use crate::worth_first::start;
-use fm_lattice::join::OutOfMemory;
 use fm_indexed::indexed_network::IndexedNetwork;
+use fm_lattice::join::OutOfMemory;
 use std::alloc::Global;
 
 // Whether tasks have more arcs than one to their job and one to a place. O(log arcs).
@@ -26,7 +26,10 @@ fn has_preferences(numbered: &IndexedNetwork) -> bool {
 /// are its potentials: no clause says so, but the search for cycles then finds none. The caller must pass a network
 /// in which all tasks can be unscheduled. Refused if memory runs out, and for nothing else. Costs what the start
 /// takes that it chooses.
-pub fn first_flow(alloc: Global, numbered: &IndexedNetwork) -> Result<(Vec<u64>, Vec<i128>), OutOfMemory>
+pub fn first_flow(
+    alloc: Global,
+    numbered: &IndexedNetwork,
+) -> Result<(Vec<u64>, Vec<i128>), OutOfMemory>
     requires unscheduled { IsFlowOf numbered.now.places numbered.now.arcs.items
         (all_unscheduled numbered.now.places numbered.now.arcs.items) }
     ensures flow { IfOk result (λ r. IsFlowOf numbered.now.places numbered.now.arcs.items r.0.items) }

@@ -1,11 +1,11 @@
 //! The units of an earlier flow on the arcs of a network.
 
-use fm_certificate::flow_iter::FlowIter;
 use fm_certificate::flow::Flow;
+use fm_certificate::flow_iter::FlowIter;
+use fm_indexed::indexed_network::IndexedNetwork;
 use fm_lattice::join::OutOfMemory;
 use fm_net::network::Network;
 use fm_net::node::Node;
-use fm_indexed::indexed_network::IndexedNetwork;
 use std::alloc::Global;
 use std::cmp::Ordering;
 

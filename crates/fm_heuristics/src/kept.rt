@@ -1,13 +1,13 @@
 //! The paths of tasks in an earlier flow that are still complete and fit.
 
-use crate::request_arcs::Lanes;
 use crate::lenient::put;
 use crate::loading::Loading;
+use crate::request_arcs::Lanes;
 use fm_cycles::lookup::value_or;
-use fm_lattice::join::OutOfMemory;
 use fm_indexed::indexed_network::IndexedNetwork;
 use fm_indexed::node_ranges::NodeKind;
 use fm_indexed::sums::at;
+use fm_lattice::join::OutOfMemory;
 use std::alloc::Global;
 
 /// The units of the earlier flow that no task has taken up yet.

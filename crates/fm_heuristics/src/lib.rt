@@ -5,7 +5,7 @@
 //! changed freely.
 #![tactic(auto)]
 
-mod task_classes;
+mod augmenting_path;
 mod bit_rows;
 mod classes;
 mod contracted;
@@ -15,15 +15,15 @@ mod given;
 mod groups;
 mod kept;
 mod knot;
-mod request_arcs;
 mod lenient;
 mod link;
 mod loading;
-mod augmenting_path;
 mod pivots;
 mod pricing;
+mod request_arcs;
 pub mod simplex;
 mod sorting;
-mod spread;
-pub mod worth_first;
 mod spanning_tree;
+mod spread;
+mod task_classes;
+pub mod worth_first;

@@ -1,12 +1,12 @@
 //! The units that are placed so far, with what makes the next placing fast.
 
 use crate::bit_rows::Bits;
-use crate::request_arcs::{Lanes, first_from, machine_at, machine_of, price_at, request_of};
 use crate::lenient::{part, put};
+use crate::request_arcs::{Lanes, first_from, machine_at, machine_of, price_at, request_of};
 use fm_cycles::lookup::value_or;
-use fm_lattice::join::OutOfMemory;
 use fm_indexed::indexed_network::IndexedNetwork;
 use fm_indexed::sums::at;
+use fm_lattice::join::OutOfMemory;
 use std::alloc::Global;
 
 /// More than any price.

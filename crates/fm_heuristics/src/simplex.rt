@@ -3,14 +3,14 @@
 ghost use Rattle.std.specs.Prelude.{IfOk, IfSome};
 ghost use Rattle.fm_indexed.specs.Feasible.{IsFlowOf};
 
-use crate::task_classes::TaskClasses;
 use crate::contracted::Contracted;
 use crate::pivots::Pivots;
-use crate::spread::{costs, spread};
 use crate::spanning_tree::{Stop, Tree};
-use fm_lattice::join::OutOfMemory;
+use crate::spread::{costs, spread};
+use crate::task_classes::TaskClasses;
 use fm_indexed::feasible_units::is_feasible;
 use fm_indexed::indexed_network::IndexedNetwork;
+use fm_lattice::join::OutOfMemory;
 use std::alloc::Global;
 
 // The hardest networks known, chains of preferences and ties everywhere, take a pivot a link at most.

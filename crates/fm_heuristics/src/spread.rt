@@ -1,13 +1,13 @@
 //! The units of the contracted network, distributed to the arcs of the complete one.
 
-use crate::task_classes::TaskClasses;
 use crate::classes::{drain, settle};
 use crate::contracted::node_of;
 use crate::lenient::put;
 use crate::link::{Link, Origin};
 use crate::spanning_tree::Tree;
-use fm_lattice::join::OutOfMemory;
+use crate::task_classes::TaskClasses;
 use fm_indexed::indexed_network::IndexedNetwork;
+use fm_lattice::join::OutOfMemory;
 use std::alloc::Global;
 
 /// The units of the network's arcs if the links of the contracted one have these. O(arcs).

@@ -1,12 +1,12 @@
 //! Tasks that are alike, and lone ones.
 
 use crate::classes::{Choice, Class, classes_of, saving};
-use crate::request_arcs::first_from;
 use crate::lenient::part;
+use crate::request_arcs::first_from;
 use fm_cycles::indexed_arcs::IndexedArc;
-use fm_lattice::join::OutOfMemory;
 use fm_indexed::indexed_network::IndexedNetwork;
 use fm_indexed::node_ranges::NodeKind;
+use fm_lattice::join::OutOfMemory;
 use std::alloc::Global;
 
 /// The arcs of a lone task: from the first to before the end.
@@ -31,12 +31,14 @@ fn choice_of(numbered: &IndexedNetwork, arcs: &[IndexedArc], left: usize) -> Opt
             numbered.places.kind(job.to),
             numbered.places.kind(placed.to),
         ) {
-            (NodeKind::Unscheduled(_), NodeKind::Request(_) | NodeKind::Machine(_)) => Some(Choice {
-                place: placed.to,
-                saving: saving(job.cost, placed.cost),
-                left,
-                placed: left.saturating_add(1),
-            }),
+            (NodeKind::Unscheduled(_), NodeKind::Request(_) | NodeKind::Machine(_)) => Some(
+                Choice {
+                    place: placed.to,
+                    saving: saving(job.cost, placed.cost),
+                    left,
+                    placed: left.saturating_add(1),
+                },
+            ),
             _ => None,
         },
         _ => None,

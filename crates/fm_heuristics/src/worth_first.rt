@@ -7,24 +7,24 @@ ghost use Rattle.fm_cycles.specs.Found.{costs_in};
 ghost use Rattle.fm_indexed.specs.Feasible.{IsFlowOf};
 ghost use Rattle.fm_indexed.specs.Unscheduled.{all_unscheduled};
 
+use crate::augmenting_path::Paths;
 use crate::classes::{Choice, Class, classes_of, drain, saving, settle};
 use crate::distances::potentials_from;
 use crate::given::given_units;
 use crate::kept::Kept;
-use crate::request_arcs::{Lanes, bandwidth, beyond, bounds, first_from, machine_of, price_at};
 use crate::lenient::{part, put};
 use crate::loading::{FAR, Loading};
-use crate::augmenting_path::Paths;
+use crate::request_arcs::{Lanes, bandwidth, beyond, bounds, first_from, machine_of, price_at};
 use crate::sorting::{Keyed, sorted};
 use fm_certificate::flow::Flow;
-use fm_cycles::indexed_arcs::IndexedArc;
 use fm_cycles::check_potentials::are_potentials;
-use fm_lattice::join::OutOfMemory;
-use fm_net::network::Network;
+use fm_cycles::indexed_arcs::IndexedArc;
 use fm_indexed::feasible_units::is_feasible;
 use fm_indexed::indexed_network::IndexedNetwork;
 use fm_indexed::node_ranges::NodeKind;
 use fm_indexed::unscheduled::unscheduled;
+use fm_lattice::join::OutOfMemory;
+use fm_net::network::Network;
 use std::alloc::Global;
 
 // What a place is worth to a task that saves so much there: what a unit through it saves in all, except the price of
@@ -74,7 +74,11 @@ fn add_choice(
 }
 
 // The choices of all tasks: the arc to the job, and that to a place which saves the most.
-fn choices(alloc: Global, numbered: &IndexedNetwork, lanes: &Lanes) -> Result<Vec<Choice>, OutOfMemory> {
+fn choices(
+    alloc: Global,
+    numbered: &IndexedNetwork,
+    lanes: &Lanes,
+) -> Result<Vec<Choice>, OutOfMemory> {
     let mut choices = Vec::new(alloc);
     let mut job = None;
     let first = first_from(numbered, numbered.places.tasks);

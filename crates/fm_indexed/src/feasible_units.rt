@@ -51,7 +51,11 @@ fn all_send(places: &NodeRanges, entered: &[u128], left: &[u128]) -> bool
 
 /// Whether the units are a flow: a number for each arc within its capacity, one out of each task, and what enters a node
 /// between tasks and sink leaves it. O(nodes + arcs).
-pub fn is_feasible(alloc: Global, numbered: &IndexedNetwork, units: &[u64]) -> Result<bool, OutOfMemory>
+pub fn is_feasible(
+    alloc: Global,
+    numbered: &IndexedNetwork,
+    units: &[u64],
+) -> Result<bool, OutOfMemory>
     ensures { IfOk result
         (λ feasible. IsTrue feasible ↔ IsFlowOf numbered.now.places numbered.now.arcs.items units.now) }
 {

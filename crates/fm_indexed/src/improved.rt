@@ -27,6 +27,12 @@ pub fn improved(
     ensures potentials { IfOk result
         (λ r. ArePotentials (residual numbered.now.arcs.items r.0.items) (costs_in r.1.items)) }
 {
-    let improved = cancel_negative_cycles(alloc, numbered.places.end, &numbered.arcs, units, first)?;
+    let improved = cancel_negative_cycles(
+        alloc,
+        numbered.places.end,
+        &numbered.arcs,
+        units,
+        first,
+    )?;
     Ok(improved)
 }

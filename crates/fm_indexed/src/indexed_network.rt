@@ -2,8 +2,8 @@
 
 ghost use Rattle.fm_indexed.specs.Numbered.{IsFormed};
 
-use crate::numbering::{arcs_of, nodes_of, requests_of};
 use crate::node_ranges::{NodeRanges, places_of};
+use crate::numbering::{arcs_of, nodes_of, requests_of};
 use fm_cycles::indexed_arcs::IndexedArc;
 use fm_lattice::join::OutOfMemory;
 use fm_net::network::Network;

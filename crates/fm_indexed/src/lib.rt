@@ -4,10 +4,10 @@
 
 pub mod feasible_units;
 pub mod improved;
-pub mod to_named;
 pub mod indexed_network;
-mod numbering;
 pub mod node_ranges;
+mod numbering;
 mod placing;
 pub mod sums;
+pub mod to_named;
 pub mod unscheduled;

@@ -32,7 +32,11 @@ pub(crate) enum End {
 }
 
 /// The units that enter each node. O(arcs).
-pub fn inflow(alloc: Global, numbered: &IndexedNetwork, units: &[u64]) -> Result<Vec<u128>, OutOfMemory>
+pub fn inflow(
+    alloc: Global,
+    numbered: &IndexedNetwork,
+    units: &[u64],
+) -> Result<Vec<u128>, OutOfMemory>
     ensures sized { IfOk result (λ sums. vec_len sums ≡ numbered.now.places.end) }
     ensures sums { IfOk result (λ sums. (v : ℕ) → v < numbered.now.places.end
         → slice_index sums.items v ≡ inflow_at numbered.now.arcs.items units.now v) }
@@ -41,7 +45,11 @@ pub fn inflow(alloc: Global, numbered: &IndexedNetwork, units: &[u64]) -> Result
 }
 
 /// The units that leave each node. O(arcs).
-pub fn outflow(alloc: Global, numbered: &IndexedNetwork, units: &[u64]) -> Result<Vec<u128>, OutOfMemory>
+pub fn outflow(
+    alloc: Global,
+    numbered: &IndexedNetwork,
+    units: &[u64],
+) -> Result<Vec<u128>, OutOfMemory>
     ensures sized { IfOk result (λ sums. vec_len sums ≡ numbered.now.places.end) }
     ensures sums { IfOk result (λ sums. (v : ℕ) → v < numbered.now.places.end
         → slice_index sums.items v ≡ outflow_at numbered.now.arcs.items units.now v) }

@@ -42,7 +42,11 @@ fn leave(alloc: Global, numbered: &IndexedNetwork) -> Result<Vec<u64>, OutOfMemo
 }
 
 // The same, and on each arc to the sink as many as enter its source.
-fn drain(alloc: Global, numbered: &IndexedNetwork, entered: &[u128]) -> Result<Vec<u64>, OutOfMemory>
+fn drain(
+    alloc: Global,
+    numbered: &IndexedNetwork,
+    entered: &[u128],
+) -> Result<Vec<u64>, OutOfMemory>
     ensures { IfOk result (λ units. units.items ≡ map
         (λ a. unscheduled_by (kind_at numbered.now.places a.to)
         (min (slice_index entered.now a.from) (2 ^ 64 - 1))) numbered.now.arcs.items) }

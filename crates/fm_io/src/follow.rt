@@ -8,9 +8,9 @@ ghost use Rattle.fm_io.specs.Runs.{IsTaken, IsFollowed};
 use crate::lines::{Line, Next, next_line};
 use crate::replies::{send_accepted, send_refused};
 use crate::responder::Responder;
-use fm_records::refusal::Refusal;
 use crate::sink::Sink;
 use crate::source::Source;
+use fm_records::refusal::Refusal;
 use std::alloc::Global;
 
 /// Answers the lines of a stream, each before the next is read, until its end: the text of a line's answer and then

@@ -7,8 +7,8 @@ ghost use Rattle.fm_io.specs.Lines.{IsLine};
 ghost use Rattle.fm_io.specs.LineReads.{IsKeptLine, IsNextLine, is_last};
 ghost use Rattle.fm_io.specs.Runs.{most_counted};
 
-use fm_records::refusal::Refusal;
 use crate::source::Source;
+use fm_records::refusal::Refusal;
 
 /// The most bytes of a line, without its line feed: 64 MiB.
 pub const MOST_LINE: usize = 67_108_864;

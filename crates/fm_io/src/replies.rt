@@ -4,10 +4,10 @@ ghost use Rattle.std.specs.Prelude.{◌≡◌, IsOkUnless};
 ghost use Rattle.fm_dimacs.specs.Sending.{IsSent};
 ghost use Rattle.fm_io.specs.Replies.{accepted_reply, refusal_reply};
 
-use fm_dimacs::pieces::put_all;
-use fm_records::refusal::Refusal;
 use crate::sending::send;
 use crate::sink::Sink;
+use fm_dimacs::pieces::put_all;
+use fm_records::refusal::Refusal;
 
 /// Writes the text of an accepted line's answer, and `ok`.
 pub(crate) fn send_accepted<W: Sink>(sink: &mut W, text: &[u8]) -> Result<(), Refusal>

@@ -4,8 +4,8 @@ ghost use Rattle.std.specs.Prelude.{◌≡◌};
 ghost use Rattle.fm_records.specs.Ranges.{CanBe};
 
 use crate::knowledge::Knowledge;
-use fm_lattice::map::JoinMap;
 use fm_lattice::constructors::{Max, Min};
+use fm_lattice::map::JoinMap;
 use fm_records::ids::{CoordId, JobId, MachineId, TaskId};
 use fm_records::records::{JobReg, MachineRec, Spot, TaskRec};
 

@@ -8,9 +8,9 @@ ghost use Rattle.fm_records.specs.Ranges.{CanBe, fields_fit};
 
 use crate::knowledge::Knowledge;
 use fm_lattice::chain::Chain;
+use fm_lattice::constructors::{Both, Lex, Max, Min, Opt};
 use fm_lattice::join::{Join, OutOfMemory};
 use fm_lattice::map::JoinMap;
-use fm_lattice::constructors::{Both, Lex, Max, Min, Opt};
 use fm_records::ids::{CoordId, JobId, MachineId, TaskId};
 use fm_records::ops::{Op, Phase};
 use fm_records::records::{

@@ -5,9 +5,9 @@ ghost use Rattle.fm_records.specs.declared.ops.Op.{Op};
 ghost use Rattle.fm_records.specs.Know.{know};
 ghost use Rattle.fm_records.specs.Joined.{table_join};
 
+use fm_lattice::constructors::{Max, Min};
 use fm_lattice::join::{Join, OutOfMemory};
 use fm_lattice::map::{JoinMap, join_four};
-use fm_lattice::constructors::{Max, Min};
 use fm_records::ids::{CoordId, JobId, MachineId, TaskId};
 use fm_records::records::{JobReg, MachineRec, Spot, TaskRec};
 use std::alloc::Global;

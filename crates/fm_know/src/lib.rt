@@ -3,8 +3,8 @@
 #![tactic(auto)]
 
 pub mod facts;
+pub mod from_maps;
+pub mod from_ops;
 pub mod knowledge;
 pub mod laws;
 pub mod mutators;
-pub mod from_maps;
-pub mod from_ops;

@@ -4,12 +4,12 @@
 mod block;
 mod blocks;
 pub mod chain;
-mod split_budget;
+pub mod constructors;
 pub mod join;
 pub mod map;
 mod merging;
 mod pairs;
-pub mod constructors;
-mod staged_join;
-pub mod sorted_vec;
 pub mod shared;
+pub mod sorted_vec;
+mod split_budget;
+mod staged_join;

@@ -9,9 +9,9 @@ use crate::blocks::{
     FULL, LEAST, block_of, comes_last, own_block, take_room, value_at, value_in, write,
 };
 use crate::chain::Chain;
-use crate::split_budget::SplitBudget;
 use crate::join::{Join, OutOfMemory, copied, equal};
 use crate::pairs::Pairs;
+use crate::split_budget::SplitBudget;
 use std::alloc::Global;
 use std::cmp::Ordering;
 
@@ -253,7 +253,11 @@ fn change_at<K: Chain, V: Join>(
 }
 
 // For how many pairs the key is to find a spare block.
-fn spare_for<K: Chain, V: Join>(left: &[(K, Block<K, V>)], key: &K, filling: &mut SplitBudget) -> usize
+fn spare_for<K: Chain, V: Join>(
+    left: &[(K, Block<K, V>)],
+    key: &K,
+    filling: &mut SplitBudget,
+) -> usize
     requires some { 0 < length left.now }
     requires headed { AreHeaded left.now }
     requires rises { IsRising K.cmp (pairs_of left.now) }

@@ -11,7 +11,7 @@ ghost use Rattle.fm_net.specs.Cells.{IsPlainClone};
 use crate::slab_map::{self, SlabMap};
 use fm_lattice::chain::Chain;
 use fm_lattice::join::OutOfMemory;
-use fm_lattice::sorted_vec::{insert, remove, get};
+use fm_lattice::sorted_vec::{get, insert, remove};
 use std::alloc::Global;
 use std::fmt;
 use std::marker::Model;
@@ -156,7 +156,10 @@ impl<K: Chain, V: Copy> HybridMap<K, V> {
 }
 
 // The pairs in cells.
-fn cells_of<K: Chain, V: Copy>(alloc: Global, pairs: &[(K, V)]) -> Result<SlabMap<K, V>, OutOfMemory>
+fn cells_of<K: Chain, V: Copy>(
+    alloc: Global,
+    pairs: &[(K, V)],
+) -> Result<SlabMap<K, V>, OutOfMemory>
     requires { IsRising K.cmp pairs.now }
     ensures { IfOk result (λ cells. cells ≡ pairs.now) }
 {

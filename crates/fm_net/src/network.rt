@@ -8,8 +8,8 @@ ghost use Rattle.std.specs.Map.{keys_of};
 ghost use Rattle.std.specs.List.{list_any};
 ghost use Rattle.fm_net.specs.Ends.{is_end};
 
-use crate::node::Node;
 use crate::hybrid_map::HybridMap;
+use crate::node::Node;
 use crate::walks::{Arcs, Nodes};
 use fm_lattice::join::OutOfMemory;
 use std::alloc::{AllocError, Global};

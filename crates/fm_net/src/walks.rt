@@ -5,8 +5,8 @@ ghost use Rattle.std.specs.Iterator.{YieldsFirst, YieldsFirstBy, item_count};
 ghost use Rattle.std.specs.Map.{keys_of};
 ghost use Rattle.fm_net.specs.NetworkIter.{arc_entry};
 
-use crate::node::Node;
 use crate::hybrid_map::{HybridMap, Pairs};
+use crate::node::Node;
 use std::marker::Model;
 
 /// The nodes that are left of a walk, in node order.

@@ -4,7 +4,7 @@
 
 mod checking;
 mod move_counts;
-mod plan_of_moves;
 pub mod network_plan;
+mod plan_of_moves;
 pub mod plan_source;
 pub mod planner;

@@ -9,8 +9,8 @@ use fm_know::knowledge::Knowledge;
 use fm_know::laws::law_can_be;
 use fm_net::network::Network;
 use fm_records::refusal::Refusal;
-use fm_round::plan::Plan;
 use fm_round::from_network::plan;
+use fm_round::plan::Plan;
 use std::alloc::Global;
 
 /// The plan of a least flow of the network, which must be that of what is known. Refused only if memory runs out. It

@@ -4,10 +4,10 @@ ghost use Rattle.std.specs.Prelude.{IfOk};
 ghost use Rattle.fm_round.specs.Schedules.{IsPlanOf};
 ghost use Rattle.fm_tally.specs.Tallies.{TallyIsFor};
 
+use crate::network_plan::least_plan;
 use crate::planner::plan_of_tally;
 use fm_know::knowledge::Knowledge;
 use fm_lattice::join::OutOfMemory;
-use crate::network_plan::least_plan;
 use fm_policy::build::build;
 use fm_round::plan::Plan;
 use fm_tally::tally::Tally;

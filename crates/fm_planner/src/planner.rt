@@ -10,10 +10,10 @@ use crate::plan_of_moves::plan_of;
 use fm_know::knowledge::Knowledge;
 use fm_know::laws::law_can_be;
 use fm_lattice::join::OutOfMemory;
+use fm_paths::laws::law_moves;
 use fm_round::plan::Plan;
 use fm_search::search::search;
 use fm_tally::tally::Tally;
-use fm_paths::laws::law_moves;
 use std::alloc::Global;
 
 /// A plan of a least flow of the network of what is known, which is not built. The caller must pass the tally of what is known.

@@ -3,9 +3,9 @@
 ghost use Rattle.std.specs.Prelude.{◌≡◌, IfOk};
 ghost use Rattle.fm_net.specs.Network.{net_of};
 
-use crate::put_arcs;
-use crate::nodes::put_nodes;
 use crate::inputs::NetworkInputs;
+use crate::nodes::put_nodes;
+use crate::put_arcs;
 use fm_know::knowledge::Knowledge;
 use fm_lattice::join::OutOfMemory;
 use fm_net::network::Network;

@@ -5,8 +5,8 @@ ghost use Rattle.fm_policy.specs.NodeFacts.{job_facts, machine_facts};
 ghost use Rattle.fm_policy.specs.Surveys.{IsSurvey, open_machine, all_open};
 ghost use Rattle.fm_policy.specs.Tallying.{IsTally};
 
-use crate::node_facts::{JobFacts, MachineFacts};
 use crate::live_task::{LiveTask, live_tasks, waiting_requests};
+use crate::node_facts::{JobFacts, MachineFacts};
 use crate::task_sums::Tallies;
 use fm_know::knowledge::Knowledge;
 use fm_lattice::join::OutOfMemory;

@@ -1,17 +1,17 @@
 //! The network-aware policy: the network of what is known, and keepers of it.
 #![tactic(auto)]
 
-mod put_arcs;
+pub mod arc_prices;
 pub mod build;
 pub mod changed;
-pub mod node_facts;
+mod inputs;
 pub mod keeper;
 pub mod laws;
 mod live_task;
+pub mod node_facts;
 mod nodes;
-pub mod stale_keys;
+mod put_arcs;
 pub mod rebuilder;
 pub mod room;
-pub mod arc_prices;
-mod inputs;
+pub mod stale_keys;
 mod task_sums;

@@ -4,8 +4,8 @@
 ghost use Rattle.std.specs.Prelude.{◌≡◌};
 ghost use Rattle.fm_policy.specs.NodeFacts.{node_of, is_there, fit_on, waiting_arc, request_machine_arc, preference_arc, machine_arc, job_arc, slots_arc, live_arc, arc_between};
 
-use crate::room::Room;
 use crate::arc_prices::{job_price, preferred_cost};
+use crate::room::Room;
 use fm_net::node::Node;
 use fm_records::ids::{JobId, MachineId, TaskId};
 use fm_records::records::{JobReg, MachineReg, SpecReg};

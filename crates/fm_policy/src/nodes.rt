@@ -5,8 +5,8 @@ ghost use Rattle.fm_net.specs.declared.node.Node.{Node as NodeName};
 ghost use Rattle.fm_policy.specs.Building.{Adds, HasNode, HasNodes};
 ghost use Rattle.fm_policy.specs.Surveys.{IsSurvey};
 
-use crate::node_facts::NodeFacts;
 use crate::inputs::NetworkInputs;
+use crate::node_facts::NodeFacts;
 use fm_know::knowledge::Knowledge;
 use fm_know::laws::law_can_be;
 use fm_lattice::join::OutOfMemory;

@@ -9,10 +9,10 @@ ghost use Rattle.fm_policy.specs.NodeFacts.{task_facts};
 ghost use Rattle.fm_policy.specs.LiveTasks.{live_task};
 ghost use Rattle.fm_policy.specs.Surveys.{IsSurvey};
 
-use crate::node_facts::{RequestFacts, TaskFacts};
+use crate::inputs::NetworkInputs;
 use crate::laws::law_arcs;
 use crate::live_task::LiveTask;
-use crate::inputs::NetworkInputs;
+use crate::node_facts::{RequestFacts, TaskFacts};
 use fm_know::knowledge::Knowledge;
 use fm_lattice::join::OutOfMemory;
 use fm_net::network::Network;

@@ -5,8 +5,8 @@ ghost use Rattle.fm_records.specs.Facts.{load_of};
 ghost use Rattle.fm_policy.specs.LiveTasks.{all_live};
 ghost use Rattle.fm_policy.specs.Tallying.{live_count, held_in, count_of_job, request_on, IsTally};
 
-use crate::live_task::LiveTask;
 use crate::arc_prices::machine_load;
+use crate::live_task::LiveTask;
 use fm_know::knowledge::Knowledge;
 use fm_know::laws::law_can_be;
 use fm_lattice::join::OutOfMemory;

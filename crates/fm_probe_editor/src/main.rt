@@ -16,11 +16,11 @@ mod stepped;
 ghost use Rattle.std.specs.Prelude.{IfOk};
 ghost use Rattle.fm_coord.specs.Numbers.{AreDistinct};
 
-use fm_script::parse_script::read_script;
-use fm_script::script::{ScriptAct, Script};
-use fm_records::refusal::Refusal;
 use fm_io::input::read_input;
 use fm_io::source::Input;
+use fm_records::refusal::Refusal;
+use fm_script::parse_script::read_script;
+use fm_script::script::{Script, ScriptAct};
 use followed::{Followed, Taken};
 use looked::Looked;
 use std::alloc::Global;

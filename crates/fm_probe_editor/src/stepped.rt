@@ -3,9 +3,9 @@
 ghost use Rattle.fm_coord.specs.Numbers.{AreDistinct};
 
 use fm_edit::keepers::Keeper;
-use fm_script::script::{ScriptAct, Script, ScriptStep};
-use fm_script::initial_world::open;
 use fm_records::refusal::Refusal;
+use fm_script::initial_world::open;
+use fm_script::script::{Script, ScriptAct, ScriptStep};
 use fm_world::step::{Act as WorldAct, Step as WorldStep};
 use fm_world::world::World;
 use std::alloc::Global;

@@ -6,7 +6,7 @@ ghost use Rattle.fm_tally.specs.Tallies.{TallyIsFor};
 use crate::cluster::{Cluster, Sizes};
 use crate::draw::Draw;
 use fm_know::knowledge::Knowledge;
-use fm_planner::plan_source::{Planned, PlanSource, plan_for};
+use fm_planner::plan_source::{PlanSource, Planned, plan_for};
 use fm_records::refusal::Refusal;
 use fm_round::plan::Plan;
 use fm_tally::tally::Tally;

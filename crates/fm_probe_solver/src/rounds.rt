@@ -6,7 +6,7 @@ use crate::draw::Draw;
 use crate::solving::{anew, network_of};
 use fm_know::knowledge::Knowledge;
 use fm_lattice::join::OutOfMemory;
-use fm_planner::plan_source::{Planned, PlanSource, plan_for};
+use fm_planner::plan_source::{PlanSource, Planned, plan_for};
 use fm_records::ids::{MachineId, TaskId};
 use fm_records::prefer::Prefer;
 use fm_records::refusal::Refusal;

@@ -7,20 +7,20 @@ ghost use Rattle.fm_certificate.specs.Flows.{units_in, cost_of, IsLeast};
 ghost use Rattle.fm_cycles.specs.Residual.{AreArcs};
 ghost use Rattle.fm_cycles.specs.Units.{AreCapacities, AreWithin};
 
-use fm_cycles::indexed_arcs::IndexedArc;
 use fm_cycles::cancel::cancel;
 use fm_cycles::cycle_search::{Found, search};
+use fm_cycles::indexed_arcs::IndexedArc;
 use fm_flow::cost::cost;
 use fm_flow::flow::Flow;
 use fm_flow::solve::{solve, solve_from};
 use fm_heuristics::simplex::simplex;
 use fm_heuristics::worth_first::start;
+use fm_indexed::indexed_network::IndexedNetwork;
+use fm_indexed::unscheduled::law_unscheduled;
 use fm_know::knowledge::Knowledge;
 use fm_know::laws::law_can_be;
 use fm_lattice::join::OutOfMemory;
 use fm_net::network::Network;
-use fm_indexed::indexed_network::IndexedNetwork;
-use fm_indexed::unscheduled::law_unscheduled;
 use fm_policy::build::build;
 use fm_records::refusal::Refusal;
 use std::alloc::Global;
@@ -95,7 +95,12 @@ pub(crate) fn cycles_after_simplex(alloc: Global, network: &Network) -> Result<u
 }
 
 // How many cycles are cancelled until there is none, at most 1,000.
-fn cycles(alloc: Global, nodes: usize, arcs: &[IndexedArc], units: Vec<u64>) -> Result<usize, OutOfMemory>
+fn cycles(
+    alloc: Global,
+    nodes: usize,
+    arcs: &[IndexedArc],
+    units: Vec<u64>,
+) -> Result<usize, OutOfMemory>
     requires arcs { AreArcs arcs.now nodes }
     requires few { nodes < 2 ^ 63 }
     requires sized { length units.items ≡ length arcs.now }

@@ -2,7 +2,6 @@
 #![tactic(auto)]
 
 pub mod agree;
-mod text_lines;
 pub mod packet_text;
 pub mod plans;
 pub mod query;
@@ -10,5 +9,6 @@ pub mod reasons_text;
 pub mod round_text;
 pub mod solution_text;
 pub mod stops;
+mod text_lines;
 pub mod unpack;
 pub mod winners_text;

@@ -5,12 +5,12 @@ ghost use Rattle.std.specs.List.{flat_map};
 ghost use Rattle.fm_query.specs.Unpacked.{IsUnpacked, IsNotUnpacked, without_line_feed, unpacked_text, records_text, preferred_text, spec_line, state_line, report_line, proposal_line};
 ghost use Rattle.fm_query.specs.Unpacked.{phase_text as text_of_phase};
 
-use crate::text_lines::{EntryText, write_map};
 use crate::packet_text::packet_in;
+use crate::text_lines::{EntryText, write_map};
 use fm_delta::packet::Packet;
 use fm_know::knowledge::Knowledge;
-use fm_lattice::map::JoinMap;
 use fm_lattice::constructors::{Max, Min, Opt};
+use fm_lattice::map::JoinMap;
 use fm_records::ids::{CoordId, JobId, MachineId, TaskId};
 use fm_records::ops::Phase;
 use fm_records::prefer::Prefer;

@@ -17,15 +17,15 @@ ghost use Rattle.fm_records.specs.Facts.{job_of, spec_of, progress_of, incarnati
 ghost use Rattle.fm_records.specs.SetFacts.{is_active_job, live, state_if_up, holder, load, spare, room};
 ghost use Rattle.fm_records.specs.Characterized.{IsGreatestOf, IsLeastOf, IsKnow};
 
-pub mod record_equality;
 pub mod order;
+pub mod record_equality;
 
 use crate::ids::{CoordId, MachineId, TaskId};
 use crate::records::{MachineRec, Spot};
 use fm_lattice::chain::Chain;
+use fm_lattice::constructors::Min;
 use fm_lattice::join::{law_assoc, law_comm, law_idem};
 use fm_lattice::map::JoinMap;
-use fm_lattice::constructors::Min;
 
 /// Where coordinators would run an attempt of a task: by task and attempt, and then by coordinator.
 pub type Proposals = JoinMap<(TaskId, u32), JoinMap<CoordId, Min<Spot>>>;

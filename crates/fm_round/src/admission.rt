@@ -14,8 +14,8 @@ ghost use Rattle.fm_round.specs.declared.plan.Place.{Place as Entry};
 ghost use Rattle.fm_round.specs.MachineHoldings.{is_counted, AreCountedHoldings};
 ghost use Rattle.fm_tally.specs.Tallies.{TallyIsFor};
 
-use crate::machine_holdings::Holdings;
 use crate::listed::Listed;
+use crate::machine_holdings::Holdings;
 use crate::plan::{Admitted, Answer, Place, Plan, Preempt};
 use crate::rules::{has_proposal, place_answer, preempt_answer, request_of};
 use fm_know::knowledge::Knowledge;

@@ -6,8 +6,8 @@ ghost use Rattle.fm_certificate.specs.Flows.{units_in, IsFeasible};
 ghost use Rattle.fm_round.specs.Planned.{units_over, plan_of_flow};
 ghost use Rattle.fm_round.specs.Asked.{is_asked, waiting_after, is_asked_after};
 
-use crate::plan::Plan;
 use crate::from_units::plan_of;
+use crate::plan::Plan;
 use fm_certificate::flow::Flow;
 use fm_know::knowledge::Knowledge;
 use fm_lattice::join::OutOfMemory;

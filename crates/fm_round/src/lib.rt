@@ -2,11 +2,11 @@
 #![tactic(auto)]
 
 pub mod admission;
-mod machine_holdings;
-pub mod laws;
-pub mod listed;
-pub mod plan;
 pub mod from_network;
 pub mod from_units;
+pub mod laws;
+pub mod listed;
+mod machine_holdings;
+pub mod plan;
 mod rules;
 pub mod stopping;

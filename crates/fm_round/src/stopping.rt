@@ -6,9 +6,9 @@ ghost use Rattle.fm_round.specs.Stopping.{is_present_holding, stop_of, stops_of}
 
 use crate::plan::Stop;
 use fm_know::knowledge::Knowledge;
+use fm_lattice::constructors::Min;
 use fm_lattice::join::OutOfMemory;
 use fm_lattice::map::JoinMap;
-use fm_lattice::constructors::Min;
 use fm_records::ids::{CoordId, MachineId, TaskId};
 use fm_records::records::Spot;
 use std::alloc::Global;

@@ -2,10 +2,10 @@
 #![tactic(auto)]
 
 pub mod coordinators;
-pub mod names;
-pub mod parse_script;
-pub mod request;
-pub mod parse_request;
-pub mod script;
-pub mod parse_tells;
 pub mod initial_world;
+pub mod names;
+pub mod parse_request;
+pub mod parse_script;
+pub mod parse_tells;
+pub mod request;
+pub mod script;

@@ -11,7 +11,7 @@ ghost use Rattle.fm_coord.specs.Numbers.{AreDistinct};
 ghost use Rattle.fm_script.specs.Script.{parse_job, preference_entry, preference_entries, prefer_of, parse_spec, phase_named, parse_progress, first_strange, parse_machine, parse_report, propose_of, op_of, range_of, cut_of, delivery_of, round_of, act_of, script_step_of, steps_of, names_in, coordinator_of, listed_of, script_fault, IsScriptOf};
 
 use crate::names::Names;
-use crate::script::{ScriptAct, Script, ScriptStep};
+use crate::script::{Script, ScriptAct, ScriptStep};
 use fm_coord::entry::Range;
 use fm_lattice::join::OutOfMemory;
 use fm_records::ids::{CoordId, JobId, MachineId, TaskId};

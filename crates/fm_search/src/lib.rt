@@ -10,6 +10,6 @@ mod machine_index;
 mod paths;
 mod prices;
 pub mod search;
-mod setup;
 mod segment_tree;
+mod setup;
 mod waiting;

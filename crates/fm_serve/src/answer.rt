@@ -17,14 +17,14 @@ use crate::fault::Fault;
 use crate::progress::RunProgress;
 use crate::respond::Answered;
 use crate::run::run;
+use fm_args::words::{Command, Question};
+use fm_edit::keepers::Keeper;
 use fm_query::query::{Query, ask};
 use fm_query::unpack::unpack;
-use fm_edit::keepers::Keeper;
-use fm_script::parse_script::read_script;
-use fm_script::script::Script;
 use fm_records::ids::{CoordId, TaskId};
 use fm_records::refusal::Refusal;
-use fm_args::words::{Command, Question};
+use fm_script::parse_script::read_script;
+use fm_script::script::Script;
 use fm_world::world::World;
 use std::alloc::Global;
 

@@ -6,10 +6,10 @@ ghost use Rattle.fm_script.specs.Texts.{SpellsTells};
 ghost use Rattle.fm_serve.specs.Fleets.{IsUntold, IsCounted, IsNotCounted};
 
 use crate::fault::Fault;
-use crate::progress::RunProgress;
 use crate::muster::muster;
-use fm_script::script::Tells;
+use crate::progress::RunProgress;
 use fm_script::parse_tells::read_tells;
+use fm_script::script::Tells;
 use std::alloc::Global;
 use std::sync::Wait;
 use std::thread::Threads;

@@ -8,12 +8,12 @@ use crate::counter::RoundCounter;
 use crate::muster::CountFault;
 use fm_edit::keepers::Keeper;
 use fm_gossip::member::Member;
-use fm_script::script::Tell;
 use fm_lattice::join::OutOfMemory;
-use fm_script::coordinators::coordinator_at;
 use fm_records::ids::CoordId;
 use fm_records::ops::Op;
 use fm_records::refusal::Refusal;
+use fm_script::coordinators::coordinator_at;
+use fm_script::script::Tell;
 use std::alloc::Global;
 use std::sync::atomic::AtomicU64;
 

@@ -12,11 +12,11 @@ ghost use Rattle.fm_serve.specs.ScriptSteps.{ScriptActStep, Come, Refuses, Stops
 use crate::fault::Fault;
 use crate::progress::RunProgress;
 use fm_edit::keepers::Keeper;
-use fm_service::acting::take_step;
-use fm_script::script::{ScriptAct, Script, ScriptStep};
-use fm_script::initial_world::open;
 use fm_planner::plan_source::plan_for;
 use fm_records::refusal::Refusal;
+use fm_script::initial_world::open;
+use fm_script::script::{Script, ScriptAct, ScriptStep};
+use fm_service::acting::take_step;
 use fm_world::step::Act as WorldAct;
 use fm_world::world::World;
 use std::alloc::Global;

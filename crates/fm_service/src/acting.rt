@@ -7,11 +7,11 @@ ghost use Rattle.fm_world.specs.Worlds.{WorldOfSets, cause_of, refusal_of};
 ghost use Rattle.fm_world.specs.Stands.{WorldStandsFor};
 ghost use Rattle.fm_service.specs.Acting.{step_at, WorldStep, StreamRoundStep, IsCutLine, Makes, EnsuresErr};
 
+use fm_coord::entry::Range;
+use fm_edit::keepers::Keeper;
 use fm_query::packet_text::packet_line;
 use fm_query::round_text::round_text;
 use fm_query::solution_text::least_plan_of;
-use fm_coord::entry::Range;
-use fm_edit::keepers::Keeper;
 use fm_records::refusal::Refusal;
 use fm_world::step::{Act, Step};
 use fm_world::world::World;

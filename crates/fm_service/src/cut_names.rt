@@ -4,8 +4,8 @@ ghost use Rattle.std.specs.Prelude.{◌≡◌, ℕ, List, not, IfOk, OnErr, IsTr
 ghost use Rattle.fm_script.specs.Script.{is_named};
 ghost use Rattle.fm_service.specs.Following.{Named, named_also, none_named};
 
-use fm_script::names::Names;
 use fm_lattice::join::OutOfMemory;
+use fm_script::names::Names;
 use std::alloc::Global;
 use std::marker::Model;
 

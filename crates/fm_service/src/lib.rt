@@ -2,9 +2,9 @@
 #![tactic(auto)]
 
 pub mod acting;
-pub mod stream_service;
-pub mod laws;
 mod cut_names;
+pub mod laws;
 pub mod renewing;
 mod session;
 pub mod stream;
+pub mod stream_service;

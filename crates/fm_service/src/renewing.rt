@@ -12,8 +12,8 @@ use fm_coord::coordinator::Coordinator;
 use fm_delta::packet::Packet;
 use fm_edit::keepers::Keeper;
 use fm_lattice::join::OutOfMemory;
-use fm_script::initial_world::open;
 use fm_records::refusal::Refusal;
+use fm_script::initial_world::open;
 use fm_world::world::World;
 use std::alloc::Global;
 

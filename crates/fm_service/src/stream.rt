@@ -8,9 +8,9 @@ ghost use Rattle.fm_service.specs.Following.{Following, StandBehind, Answers};
 
 use crate::stream_service::StreamService;
 use fm_io::follow::follow;
-use fm_records::refusal::Refusal;
 use fm_io::sink::Sink;
 use fm_io::source::Source;
+use fm_records::refusal::Refusal;
 use std::alloc::Global;
 
 /// Answers the lines of a stream, each before the next is read, from the line that lists the coordinators to the

@@ -6,12 +6,12 @@ ghost use Rattle.fm_service.specs.Following.{IsRefused};
 ghost use Rattle.fm_service.specs.Sessions.{Begins, IsIn};
 
 use crate::session::Session;
-use fm_script::names::Names;
-use fm_script::request::Request;
-use fm_script::parse_request::read_request;
 use fm_io::responder::Responder;
-use fm_script::initial_world::open;
 use fm_records::refusal::Refusal;
+use fm_script::initial_world::open;
+use fm_script::names::Names;
+use fm_script::parse_request::read_request;
+use fm_script::request::Request;
 use std::alloc::Global;
 
 /// Coordinators that answer lines, once a line lists them.

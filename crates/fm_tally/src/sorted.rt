@@ -6,7 +6,7 @@ ghost use Rattle.fm_lattice.specs.SortedVec.{HasKeyAt};
 
 use fm_lattice::chain::Chain;
 use fm_lattice::join::OutOfMemory;
-use fm_lattice::sorted_vec::{insert, get, get_hinted};
+use fm_lattice::sorted_vec::{get, get_hinted, insert};
 use std::alloc::Global;
 use std::marker::Model;
 

@@ -8,8 +8,8 @@ ghost use Rattle.fm_records.specs.Facts.{head_option};
 ghost use Rattle.fm_tally.specs.WinnerScan.{winner_spot};
 
 use fm_know::knowledge::Knowledge;
-use fm_lattice::map::{JoinMap, Pairs};
 use fm_lattice::constructors::Min;
+use fm_lattice::map::{JoinMap, Pairs};
 use fm_records::ids::{CoordId, TaskId};
 use fm_records::records::Spot;
 use std::cmp::Ordering;

@@ -1,6 +1,6 @@
+use fm_lattice::constructors::{Both, Lex, Max, Min, Opt};
 use fm_lattice::join::{Join, OutOfMemory, copied, law_assoc, law_comm, law_idem};
 use fm_lattice::map::JoinMap;
-use fm_lattice::constructors::{Both, Lex, Max, Min, Opt};
 use fm_lattice::shared::Shared;
 use std::alloc::{AllocError, Global};
 use std::test::Fail;

@@ -1,8 +1,8 @@
+use fm_lattice::constructors::{Both, Lex, Max, Min, Opt};
 use fm_lattice::join::{Join, OutOfMemory};
 use fm_lattice::map::JoinMap;
-use fm_lattice::constructors::{Both, Lex, Max, Min, Opt};
 use fm_records::ids::{CoordId, JobId, MachineId, TaskId};
-use fm_records::laws::{self, record_equality, order};
+use fm_records::laws::{self, order, record_equality};
 use fm_records::ops::{Field, Op, Phase};
 use fm_records::prefer::Prefer;
 use fm_records::records::{JobReg, MachineRec, MachineReg, Progress, Report, SpecReg, Spot};

@@ -1,6 +1,6 @@
 use fm_script::names::Names;
-use fm_script::parse_script::read_script;
 use fm_script::parse_request::read_request;
+use fm_script::parse_script::read_script;
 use std::alloc::Global;
 use std::test::Fail;
 

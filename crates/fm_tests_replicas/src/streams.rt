@@ -1,8 +1,8 @@
 use fm_dimacs::out::Over;
-use fm_records::refusal::Refusal;
 use fm_io::input::read_input;
 use fm_io::sending::send;
 use fm_io::source::Input;
+use fm_records::refusal::Refusal;
 use std::alloc::Global;
 use std::io::{self, Read, Write};
 use std::test::Fail;

@@ -4,8 +4,8 @@ ghost use Rattle.std.specs.Prelude.{IsTrue};
 ghost use Rattle.fm_net.specs.Nodes.{IsRequestInRange};
 
 use fm_lattice::join::OutOfMemory;
-use fm_net::edit::Edit;
 use fm_net::apply::make_all;
+use fm_net::edit::Edit;
 use fm_net::network::Network;
 use fm_net::node::{Node, order};
 use fm_records::ids::{JobId, MachineId, TaskId};

@@ -8,9 +8,9 @@ use fm_records::ops::{Op, Phase};
 use fm_records::prefer::Prefer;
 use fm_records::refusal::Refusal;
 use fm_round::admission::admit;
+use fm_round::from_units::plan_of;
 use fm_round::listed::Listed;
 use fm_round::plan::{Admitted, Answer, Place, Plan, Preempt, Stop};
-use fm_round::from_units::plan_of;
 use fm_round::stopping::stops;
 use std::alloc::Global;
 

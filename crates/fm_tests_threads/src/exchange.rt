@@ -1,9 +1,9 @@
 use crate::held::Held;
 use fm_coord::coordinator::Coordinator;
 use fm_coord::entry::{Call, Entry};
-use fm_gossip::member_threads::run_fleet;
-use fm_gossip::member::Member;
 use fm_fleet::round::{Gate, NoGate};
+use fm_gossip::member::Member;
+use fm_gossip::member_threads::run_fleet;
 use fm_policy::keeper::NetKeeper;
 use fm_policy::rebuilder::Rebuilder;
 use fm_records::ids::{CoordId, JobId, MachineId, TaskId};

@@ -6,10 +6,10 @@ use fm_certificate::flow::Flow;
 use fm_certificate::potentials::Potentials;
 use fm_cycles::indexed_arcs::{IndexedArc, ResidualArc};
 use fm_cycles::lookup::value_or;
+use fm_indexed::indexed_network::IndexedNetwork;
 use fm_lattice::join::OutOfMemory;
 use fm_net::network::Network;
 use fm_net::node::Node;
-use fm_indexed::indexed_network::IndexedNetwork;
 use std::alloc::Global;
 
 // More than any path costs. A node from which no unit gets to the goal keeps it.

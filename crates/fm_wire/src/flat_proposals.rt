@@ -6,9 +6,9 @@ ghost use Rattle.fm_records.specs.Orders.{attempt_cmp};
 ghost use Rattle.fm_records.specs.OpsOfTable.{IsFull};
 ghost use Rattle.fm_wire.specs.Grammar.{entry_cmp, flat_of, flat_at};
 
+use fm_lattice::constructors::Min;
 use fm_lattice::join::OutOfMemory;
 use fm_lattice::map::JoinMap;
-use fm_lattice::constructors::Min;
 use fm_records::ids::{CoordId, TaskId};
 use fm_records::records::Spot;
 use std::alloc::Global;

@@ -2,14 +2,14 @@
 //! The definitions call an encoding a *spelling*.
 #![tactic(auto)]
 
-mod flat_proposals;
+mod codec;
 mod decode_error;
+mod flat_proposals;
 pub mod laws;
-mod record_lists;
 mod number_codecs;
 mod preferences;
 pub mod reading;
 mod record_codecs;
-mod codec;
+mod record_lists;
 mod version;
 pub mod writing;

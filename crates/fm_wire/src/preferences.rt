@@ -7,8 +7,8 @@ ghost use Rattle.fm_wire.specs.Formats.{record_at, records_at};
 ghost use Rattle.fm_wire.specs.Grammar.{id, price_field, preferences};
 ghost use Rattle.fm_wire.specs.Decoding.{DecodesTo};
 
-use crate::record_lists::key_at;
 use crate::number_codecs::{put_u8, put_u32, put_u128, u8_at, u32_at};
+use crate::record_lists::key_at;
 use crate::version::Version;
 use fm_lattice::join::OutOfMemory;
 use fm_records::ids::MachineId;

@@ -6,10 +6,10 @@ ghost use Rattle.fm_records.specs.Ranges.{CanBe};
 ghost use Rattle.fm_wire.specs.Grammar.{header, body, version_word, packet, fault, IsPacket, Spells, IsSpelling};
 ghost use Rattle.fm_wire.specs.Decoding.{DecodesTo, Finds, FindsListed, rest_of};
 
-use crate::flat_proposals::proposals_in;
 use crate::decode_error::DecodeError;
-use crate::record_lists::{map_at, rest_of_map};
+use crate::flat_proposals::proposals_in;
 use crate::number_codecs::{u8_at, u32_at, u64_at};
+use crate::record_lists::{map_at, rest_of_map};
 use crate::version::{FDG1, FDG2, Version};
 use fm_delta::packet::Packet;
 use fm_know::knowledge::Knowledge;

@@ -7,12 +7,12 @@ ghost use Rattle.fm_wire.specs.Decoding.{DecodesTo};
 ghost use Rattle.fm_wire.specs.Formats.{bytes_of};
 ghost use Rattle.std.specs.Int.{w8};
 
+use crate::codec::VersionedCodec;
 use crate::number_codecs::{put_u8, put_u32, put_u64, put_u128, u8_at, u32_at, u64_at, u128_at};
 use crate::preferences::{preferences_at, put_preferences};
-use crate::codec::VersionedCodec;
 use crate::version::Version;
-use fm_lattice::join::OutOfMemory;
 use fm_lattice::constructors::{Both, Lex, Max, Min, Opt};
+use fm_lattice::join::OutOfMemory;
 use fm_records::ids::{JobId, MachineId};
 use fm_records::ops::Phase;
 use fm_records::records::{

@@ -5,9 +5,9 @@ ghost use Rattle.fm_wire.specs.declared.version.Version.TheVariants.{Fdg2};
 ghost use Rattle.fm_wire.specs.Formats.{comes_after, key_at, record_at, records_at, records};
 ghost use Rattle.fm_wire.specs.Decoding.{DecodesTo, Builds, rest_of};
 
+use crate::codec::{Codec, VersionedCodec};
 use crate::decode_error::DecodeError;
 use crate::number_codecs::{put_u64, u64_at};
-use crate::codec::{VersionedCodec, Codec};
 use crate::version::Version;
 use fm_lattice::chain::Chain;
 use fm_lattice::join::{Join, OutOfMemory};

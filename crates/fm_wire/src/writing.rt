@@ -5,8 +5,8 @@ ghost use Rattle.fm_records.specs.Ids.{is_coordinator};
 ghost use Rattle.fm_wire.specs.Grammar.{header, spelling, IsPacket};
 
 use crate::flat_proposals::entries_in;
-use crate::record_lists::put_map;
 use crate::number_codecs::{put_u8, put_u32, put_u64};
+use crate::record_lists::put_map;
 use crate::version::FDG2;
 use fm_delta::packet::Packet;
 use fm_lattice::join::{Join, OutOfMemory};

@@ -11,9 +11,9 @@ ghost use Rattle.fm_world.specs.Stands.{view_shown, IsActed};
 ghost use Rattle.fm_world.specs.Calls.{call_asked, HasRoomFor, IsSpelled, refusal_asked};
 
 use crate::step::Act;
-use fm_coord::output::CallOutput;
 use fm_coord::coordinator::Coordinator;
 use fm_coord::entry::Call;
+use fm_coord::output::CallOutput;
 use fm_coord::shared::Shared;
 use fm_coord::view::View;
 use fm_delta::packet::Packet;

@@ -6,12 +6,12 @@ ghost use Rattle.fm_world.specs.Worlds.{AreAccepted};
 ghost use Rattle.fm_world.specs.Stands.{state_of, number_of};
 ghost use Rattle.fm_world.specs.Listings.{AreCoordinators, IsWholeRun, Halts, new_world_of};
 
+use crate::step::Step;
 use crate::sweeping::swept;
 use fm_coord::coordinator::Coordinator;
 use fm_policy::keeper::NetKeeper;
 use fm_records::ids::CoordId;
 use fm_records::refusal::Refusal;
-use crate::step::Step;
 use std::alloc::Global;
 
 /// Why histories were not gathered. Stuck: the coordinators with entries left, in the order given, and the steps

@@ -5,9 +5,9 @@ ghost use Rattle.fm_world.specs.Sweeps.{act_asked, IsOneTaken, AreFirstTaken};
 ghost use Rattle.fm_world.specs.Listings.{CannotGo};
 
 use crate::cut_packets::Packets;
+use crate::step::{Act, Step};
 use fm_coord::entry::{Call, Entry, Reply};
 use fm_lattice::join::OutOfMemory;
-use crate::step::{Act, Step};
 use std::alloc::Global;
 
 /// The steps that were gathered so far, and the packets that they cut.

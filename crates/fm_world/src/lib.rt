@@ -1,12 +1,12 @@
 //! Several coordinators, run in steps, and the main theorem about them; and one list of steps gathered from their histories.
 #![tactic(auto)]
 
+mod cut_packets;
 mod dispatch;
 pub mod distinct;
 pub mod gather;
 mod gathered;
 pub mod laws;
-mod cut_packets;
 pub mod step;
 mod sweeping;
 pub mod world;

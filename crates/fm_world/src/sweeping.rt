@@ -7,11 +7,11 @@ ghost use Rattle.fm_world.specs.Listings.{Halts};
 ghost use Rattle.fm_world.specs.Sweeps.{IsSwept, IsVisit, IsSweep, AreStopped, left_at};
 
 use crate::gathered::Gathered;
+use crate::step::Step;
 use fm_coord::coordinator::Coordinator;
 use fm_lattice::join::OutOfMemory;
 use fm_policy::keeper::NetKeeper;
 use fm_records::ids::CoordId;
-use crate::step::Step;
 use std::alloc::Global;
 
 /// Sweeps over the coordinators until nothing moves: the steps, and the numbers of those with entries that are left, in order.
