@@ -1,4 +1,4 @@
-//! Places of nodes in node order, and the kinds of nodes there.
+//! Where the nodes of each kind begin and end in node order, and the kinds of nodes there.
 
 ghost use Rattle.std.specs.Prelude.{◌≡◌, ◌-◌};
 ghost use Rattle.fm_net.specs.Nodes.{kind};
