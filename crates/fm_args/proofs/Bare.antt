@@ -2,8 +2,8 @@
 use Rattle.std.proofs.Common.{◌≡◌, refl, List, [], ◌∷◌, None}
 use Rattle.clap.specs.Words.{Row}
 use Rattle.clap.proofs.OnLiterals.{clap_on_literals}
-use Rattle.fm_args.specs.Telling.{Telling, Text}
-use Rattle.fm_args.specs.Heard.{ends}
+use Rattle.fm_args.specs.Invocation.{Telling, Text}
+use Rattle.fm_args.specs.CommandLine.{ends}
 use Rattle.fm_args.proofs.Leaf.{built_with, helper, helps_at, leaf_from, letter_of_help, start}
 use Rattle.fm_args.proofs.Fine.{IsLast, Place, fine}
 

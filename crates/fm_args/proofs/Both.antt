@@ -14,8 +14,8 @@ use Rattle.clap.specs.declared.builder.value_parser.Reading.TheVariants as readi
 use Rattle.clap.specs.declared.error.ErrorKind.TheVariants as kind
 use Rattle.clap.specs.declared.parser.matches.ValueSource.TheVariants.{CommandLine}
 use Rattle.clap.proofs.OnLiterals.{clap_on_literals}
-use Rattle.fm_args.specs.Telling.{Telling, Text, wrong}
-use Rattle.fm_args.specs.Heard.{dashes, long, ends, ends_after, look_telling, counts, name_argument, name_or_option_at, number_option, number_argument, parsed_number, option_at, with_name, with_name_and_option, with_option}
+use Rattle.fm_args.specs.Invocation.{Telling, Text, wrong}
+use Rattle.fm_args.specs.CommandLine.{dashes, long, ends, ends_after, look_telling, counts, name_argument, name_or_option_at, number_option, number_argument, parsed_number, option_at, with_name, with_name_and_option, with_option}
 use Rattle.fm_args.specs.Parser.{name_rule, parsed_bits, number_read, number_rule}
 use Rattle.fm_args.proofs.Looks.{by_look, is_end, letter_in}
 use Rattle.fm_args.proofs.Digits.{is_read, taken}

@@ -10,8 +10,8 @@ use Rattle.std.proofs.lemmas.Bool.{ltb-true, eqb-true, lt-ltb, leb-true, le-leb}
 use Rattle.clap.proofs.WalkLemmas.{both}
 use Rattle.clap.specs.Lexer.{without_minus}
 use Rattle.clap.specs.ValueTests.{fits_i64, is_numeral, is_signed_in}
-use Rattle.fm_args.specs.Telling.{Text}
-use Rattle.fm_args.specs.Heard.{parsed_number}
+use Rattle.fm_args.specs.Invocation.{Text}
+use Rattle.fm_args.specs.CommandLine.{parsed_number}
 use Rattle.fm_args.specs.Parser.{parsed_bits}
 
 pub digits_from : (ds : List ℕ) → list_all (λ d. nat_lt (digit_value d) 10) ds ≡ true → AllDigits 10 ds

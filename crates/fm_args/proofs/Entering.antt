@@ -9,7 +9,7 @@ use Rattle.clap.specs.Faults.{check_fault, defaults_fault, entered_fault, level_
 use Rattle.clap.proofs.OnLiterals.{clap_on_literals}
 use Rattle.clap.proofs.FaultLemmas.{stopped_fault}
 use Rattle.clap.proofs.WalkLemmas.{walk_stopped}
-use Rattle.fm_args.specs.Telling.{Text}
+use Rattle.fm_args.specs.Invocation.{Text}
 use Rattle.fm_args.specs.Parser.{firmament, tellings, told_as, told_of_subcommand, told_or}
 use Rattle.fm_args.proofs.Leaf.{leaf_from, start}
 

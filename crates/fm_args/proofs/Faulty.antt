@@ -8,7 +8,7 @@ use Rattle.clap.specs.Walk.{Waiting, arg_by_index, arg_by_long, idle, is_pending
 use Rattle.clap.specs.Faults.{settle_fault}
 use Rattle.clap.specs.declared.error.ErrorKind.{ErrorKind}
 use Rattle.clap.proofs.OnLiterals.{clap_on_literals}
-use Rattle.fm_args.specs.Telling.{Telling, Text, wrong}
+use Rattle.fm_args.specs.Invocation.{Telling, Text, wrong}
 use Rattle.fm_args.specs.Parser.{told_of_error}
 use Rattle.fm_args.proofs.Looks.{by_look, is_end, letter_in}
 use Rattle.fm_args.proofs.Leaf.{HasLetterOfHelp, at, built_with, held_at, leaf_from, no_command}

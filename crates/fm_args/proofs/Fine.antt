@@ -7,8 +7,8 @@ use Rattle.clap.specs.Words.{Row, Rule}
 use Rattle.clap.specs.Walk.{arg_by_index, idle}
 use Rattle.clap.specs.Faults.{settle_fault}
 use Rattle.clap.proofs.OnLiterals.{clap_on_literals}
-use Rattle.fm_args.specs.Telling.{Telling, Text, wrong}
-use Rattle.fm_args.specs.Heard.{dashes, long, short, ends, ends_after, look_telling}
+use Rattle.fm_args.specs.Invocation.{Telling, Text, wrong}
+use Rattle.fm_args.specs.CommandLine.{dashes, long, short, ends, ends_after, look_telling}
 use Rattle.fm_args.proofs.Looks.{by_look, is_end, letter_in}
 use Rattle.fm_args.proofs.Leaf.{HasLetterOfHelp, HelpsAt, at, built_with, held_at, leaf_from}
 

@@ -2,8 +2,8 @@
 use Rattle.std.proofs.Common.{◌≡◌, ◌≢◌, ◌<◌, ◌≤◌, sym, refl, Bool, true, false, List, [], ◌∷◌, length, get_or, map, codes, arith}
 use Rattle.std.specs.Prelude.{bytes_eq}
 use Rattle.std.proofs.lemmas.Slice.Eq.{bytes_eq-Decides}
-use Rattle.fm_args.specs.Telling.{Text}
-use Rattle.fm_args.specs.Heard.{is_topic}
+use Rattle.fm_args.specs.Invocation.{Text}
+use Rattle.fm_args.specs.CommandLine.{is_topic}
 use Rattle.fm_args.specs.Parser.{asks_for_help}
 
 differs : (name w : Text) → w ≢ name → bytes_eq name w ≡ false

@@ -7,7 +7,7 @@ use Rattle.clap.specs.Kinds.{or_else}
 use Rattle.clap.specs.Simple.{filled, help_rule, new_shape}
 use Rattle.clap.specs.Walk.{Held, Waiting, Walk, arg_by_long, arg_by_short, finished, idle, option, positional, settled, subcommand_met, walked}
 use Rattle.clap.specs.Faults.{check_fault, defaults_fault, settle_fault, turn_fault, walk_fault}
-use Rattle.fm_args.specs.Telling.{Telling, Text}
+use Rattle.fm_args.specs.Invocation.{Telling, Text}
 use Rattle.fm_args.specs.Parser.{told_of_error, told_or}
 
 abbrev ended : Shape → Walk → Kinds

@@ -3,8 +3,8 @@ use Rattle.std.proofs.Common.{◌≡◌, refl, subst, sym, true, false, Bool, �
 use Rattle.std.specs.Prelude.{bytes_eq, option_and_then, slice_get}
 use Rattle.std.specs.Str.{chars}
 use Rattle.clap.specs.Lexer.{long_of, short_of}
-use Rattle.fm_args.specs.Telling.{Text}
-use Rattle.fm_args.specs.Heard.{Look, dashes, long, short, plain, look_of}
+use Rattle.fm_args.specs.Invocation.{Text}
+use Rattle.fm_args.specs.CommandLine.{Look, dashes, long, short, plain, look_of}
 
 -- the word `--`
 abbrev pub is_end : Text → Bool

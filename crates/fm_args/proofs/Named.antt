@@ -6,8 +6,8 @@ use Rattle.clap.specs.Words.{Row, Rule, first_of}
 use Rattle.clap.specs.Simple.{filled_from, help_rule}
 use Rattle.clap.specs.Walk.{Walk, idle}
 use Rattle.clap.proofs.OnLiterals.{clap_on_literals}
-use Rattle.fm_args.specs.Telling.{Telling, Text, wrong}
-use Rattle.fm_args.specs.Heard.{dashes, name_argument, with_name}
+use Rattle.fm_args.specs.Invocation.{Telling, Text, wrong}
+use Rattle.fm_args.specs.CommandLine.{dashes, name_argument, with_name}
 use Rattle.fm_args.specs.Parser.{name_rule}
 use Rattle.fm_args.proofs.Looks.{by_look, is_end, letter_in}
 use Rattle.fm_args.proofs.Leaf.{at, built_with, helps_at, leaf_from, letter_of_help, passes, start}

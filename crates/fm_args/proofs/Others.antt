@@ -6,8 +6,8 @@ use Rattle.clap.specs.Lexer.{long_of, short_of}
 use Rattle.clap.specs.Simple.{names_of}
 use Rattle.clap.specs.Walk.{Names, answers_to}
 use Rattle.clap.proofs.OnLiterals.{clap_on_literals}
-use Rattle.fm_args.specs.Telling.{Telling, Text, wrong}
-use Rattle.fm_args.specs.Heard.{Form, dashes, long, short, plain, command_named, commands, look_of, look_telling}
+use Rattle.fm_args.specs.Invocation.{Telling, Text, wrong}
+use Rattle.fm_args.specs.CommandLine.{Form, dashes, long, short, plain, command_named, commands, look_of, look_telling}
 use Rattle.fm_args.specs.Parser.{IsOneOf, tellings}
 use Rattle.fm_args.proofs.Entering.{all}
 use Rattle.fm_args.proofs.Looks.{by_look, is_end, letter_in}

@@ -7,7 +7,7 @@ use Rattle.clap.specs.declared.error.ErrorKind.{ErrorKind}
 use Rattle.clap.specs.declared.error.ErrorKind.TheVariants as kind
 use Rattle.clap.specs.declared.parser.matches.ArgMatches.{ArgMatches}
 use Rattle.clap.proofs.OnLiterals.{clap_on_literals}
-use Rattle.fm_args.specs.Telling.{Telling, Text}
+use Rattle.fm_args.specs.Invocation.{Telling, Text}
 use Rattle.fm_args.specs.Parser.{IsOneOf, firmament, tellings, told_of_error, told_of_subcommand, told_or}
 
 firmament_is_simple : is_simple firmament ≡ true

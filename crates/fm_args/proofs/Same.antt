@@ -2,7 +2,7 @@
 use Rattle.std.proofs.Common.{◌≡◌, sym, refl, true, false, Bool}
 use Rattle.std.specs.Prelude.{bytes_eq}
 use Rattle.std.proofs.lemmas.Slice.Eq.{bytes_eq-Decides}
-use Rattle.fm_args.specs.Telling.{Text}
+use Rattle.fm_args.specs.Invocation.{Text}
 
 pub flipped : (a b : Text) (t : Bool) → bytes_eq a b ≡ t → bytes_eq b a ≡ t
 flipped a b true e = (bytes_eq-Decides b a).1 (sym ((bytes_eq-Decides a b).0 e))

@@ -1,3 +1,3 @@
-pub mod Telling
-pub mod Heard
+pub mod Invocation
+pub mod CommandLine
 pub mod Parser

@@ -13,8 +13,8 @@ use Rattle.clap.specs.declared.builder.value_parser.ValueParser.TheVariants as p
 use Rattle.clap.specs.declared.error.ErrorKind.{ErrorKind}
 use Rattle.clap.specs.declared.error.ErrorKind.TheVariants as kind
 use Rattle.fm_args.specs.declared.words.Words.{Words}
-use Rattle.fm_args.specs.Telling.{Telling, Text, help, told_of, wrong}
-use Rattle.fm_args.specs.Heard.{Form, ArgumentKind, nothing, one_name, one_number, name_and_number, commands, telling_of, is_topic}
+use Rattle.fm_args.specs.Invocation.{Telling, Text, help, told_of, wrong}
+use Rattle.fm_args.specs.CommandLine.{Form, ArgumentKind, nothing, one_name, one_number, name_and_number, commands, telling_of, is_topic}
 
 -- ---- the commands
 

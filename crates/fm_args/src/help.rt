@@ -1,7 +1,7 @@
 //! Words that begin with `help`.
 
 ghost use Rattle.std.specs.Prelude.{◌≡◌, map, string_bytes};
-ghost use Rattle.fm_args.specs.Heard.{ask_for_refusals, is_topic};
+ghost use Rattle.fm_args.specs.CommandLine.{ask_for_refusals, is_topic};
 ghost use Rattle.fm_args.specs.Parser.{asks_for_help, begins_with_help};
 
 /// Whether the words are `help refusals`, after the program's name.

@@ -1,9 +1,9 @@
 //! Laws of what words ask for.
 
 ghost use Rattle.std.specs.Prelude.{◌≡◌, ◌≤◌, ◌<◌, ◌^◌, ◌∷◌, [], ℕ, List, None, Some, codes, decimal};
-ghost use Rattle.fm_args.specs.Heard.{telling_of, look_of, parsed_number, plain};
+ghost use Rattle.fm_args.specs.CommandLine.{telling_of, look_of, parsed_number, plain};
 ghost use Rattle.fm_records.specs.Ids.{id_text};
-ghost use Rattle.fm_args.specs.Telling.{Text, ask, fleet, follow, help, pack, page, run, why, wrong};
+ghost use Rattle.fm_args.specs.Invocation.{Text, ask, fleet, follow, help, pack, page, run, why, wrong};
 ghost use Rattle.fm_args.specs.declared.words.Question.TheVariants.{Graph, Plan, Solve, Winners};
 
 /// A number in range that is written in decimal digits, as the program itself writes numbers, is read as that number.

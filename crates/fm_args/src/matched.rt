@@ -2,11 +2,11 @@
 
 ghost use Rattle.std.specs.Prelude.{◌≡◌, ◌≢◌, IfOk, codes, map, option_map, string_bytes};
 ghost use Rattle.clap.specs.Words.{first_of, found_of, kind_of, rows_of, subcommand_rows_of};
-ghost use Rattle.fm_args.specs.Heard.{asks, fleets, follows, packs, whys};
+ghost use Rattle.fm_args.specs.CommandLine.{asks, fleets, follows, packs, whys};
 ghost use Rattle.fm_records.specs.Ids.{read_id};
 ghost use Rattle.std.specs.Option.{option_map_or};
 ghost use Rattle.fm_args.specs.Parser.{number_read, told_as, told_at_error, told_of_subcommand, told_with};
-ghost use Rattle.fm_args.specs.Telling.{run, told_of, why, wrong};
+ghost use Rattle.fm_args.specs.Invocation.{run, told_of, why, wrong};
 
 use super::help::{ask_for_help, begin_with_help};
 use super::words::{Command, DEFAULT_RENEW_AFTER, Question, Words};

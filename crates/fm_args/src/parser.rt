@@ -3,9 +3,9 @@
 ghost use Rattle.std.specs.Prelude.{◌≡◌, IfOk, codes, false, take};
 ghost use Rattle.clap.specs.Words.{app_of, new_app, rule_of, with_rule};
 ghost use Rattle.clap.specs.declared.builder.command.Command.TheViews.{out-Command};
-ghost use Rattle.fm_args.specs.Heard.{asks, commands, fleets, follows, most_renew_after, nothing, packs, whys};
+ghost use Rattle.fm_args.specs.CommandLine.{asks, commands, fleets, follows, most_renew_after, nothing, packs, whys};
 ghost use Rattle.fm_args.specs.Parser.{command_app, firmament, name_rule, no_commands, number_rule, with_commands};
-ghost use Rattle.fm_args.specs.Telling.{agree, run, unpack};
+ghost use Rattle.fm_args.specs.Invocation.{agree, run, unpack};
 ghost use Rattle.fm_args.specs.declared.words.Question.TheVariants as question;
 
 use super::words::{MOST_RENEW_AFTER, MOST_ROUNDS};

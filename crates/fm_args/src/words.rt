@@ -1,9 +1,9 @@
 //! What the words of a command line ask for.
 
 ghost use Rattle.std.specs.Prelude.{◌≡◌, IfOk, IsOkUnless, IsTrue, Ok, false, map, string_bytes};
-ghost use Rattle.fm_args.specs.Heard.{ask_for_refusals, telling_of};
+ghost use Rattle.fm_args.specs.CommandLine.{ask_for_refusals, telling_of};
 ghost use Rattle.fm_args.specs.Parser.{IsHeard};
-ghost use Rattle.fm_args.specs.Telling.{told_of};
+ghost use Rattle.fm_args.specs.Invocation.{told_of};
 ghost use Rattle.fm_args.specs.declared.words.Words.TheVariants as asked;
 
 use super::help::ask_for_refusals;

@@ -8,7 +8,7 @@ use fm_serve::ending::Ending;
 use fm_serve::fault::Fault;
 use fm_serve::progress::RunProgress;
 use fm_serve::serve::serve;
-use fm_serve::watch::serve_watched;
+use fm_serve::progress_line::serve_watched;
 use std::alloc::Global;
 use std::io::{BufReader, IsTerminal};
 use std::process::ExitCode;

@@ -5,7 +5,7 @@ use Rattle.fm_records.specs.declared.ops.Op.TheVariants as op
 use Rattle.fm_records.specs.declared.ops.Field.TheVariants.{Writer}
 use Rattle.fm_records.specs.declared.refusal.Refusal.{Refusal}
 use Rattle.fm_records.specs.declared.refusal.Refusal.TheVariants.{BadOp, HistoryFull, BadInterval, Trimmed}
-use Rattle.fm_records.specs.Know.{know}
+use Rattle.fm_records.specs.Know.{table_of}
 use Rattle.fm_round.specs.declared.plan.Plan.{Plan}
 use Rattle.fm_round.specs.declared.plan.Answer.TheVariants.{Accepted}
 use Rattle.fm_round.specs.Admission.{told}
@@ -93,11 +93,11 @@ full_and_backwards = refl
 
 -- a view after three tells shows their count and what they come to
 
-viewed : IsLegal (opening 1 10) (three ++ history_entry 0 call.View (reply.Seen 3 (know (job ∷ machine ∷ task ∷ []))) ∷ [])
+viewed : IsLegal (opening 1 10) (three ++ history_entry 0 call.View (reply.Seen 3 (table_of (job ∷ machine ∷ task ∷ []))) ∷ [])
 viewed = (record { accepted = refl; reply = refl }, (record { accepted = refl; reply = refl }, (record { accepted = refl; reply = refl }, (record { accepted = refl; reply = refl }, tt))))
 
 -- a packet that is merged adds what its value spells out, as one set
-merged : (replay (opening 2 10) (history_entry 0 (call.Merge (record { sender = 1; number = 3; value = know (machine ∷ job ∷ []) })) reply.Nothing ∷ [])).buffer ≡ (job ∷ machine ∷ []) ∷ []
+merged : (replay (opening 2 10) (history_entry 0 (call.Merge (record { sender = 1; number = 3; value = table_of (machine ∷ job ∷ []) })) reply.Nothing ∷ [])).buffer ≡ (job ∷ machine ∷ []) ∷ []
 merged = refl
 
 -- a plan that places the task on the machine is admitted, and its proposal taken in

@@ -2,7 +2,7 @@
 use Rattle.std.proofs.Common.{◌≡◌, ◌∙◌, ℕ, [], ◌∷◌, None, length, refl, sym, ap, subst}
 use Rattle.fm_records.specs.declared.ops.Op.{Op}
 use Rattle.fm_records.specs.Table.{Table}
-use Rattle.fm_records.specs.Know.{know}
+use Rattle.fm_records.specs.Know.{table_of}
 use Rattle.fm_delta.specs.declared.packet.Packet.{Packet}
 use Rattle.fm_round.specs.declared.plan.Plan.{Plan}
 use Rattle.fm_round.specs.declared.plan.Admitted.{Admitted}
@@ -16,20 +16,20 @@ use Rattle.fm_coord.specs.Events.{Sent, Event, Replica, happens}
 use Rattle.fm_coord.specs.Events as event
 use Rattle.fm_coord.specs.Causes.{cause}
 use Rattle.fm_coord.specs.Replays.{seen_packet, call_of, reply_of}
-use Rattle.fm_coord.specs.States.{State, bounds, history_entry, took, gave, after_trim, with_entry, cut_packet, after, StandsFor, IsEventAt}
+use Rattle.fm_coord.specs.States.{State, bounds, history_entry, took, gave, after_trim, with_entry, cut_packet, after, Represents, IsEventAt}
 use Rattle.fm_coord.specs.Outputs.{reply_to, answer_to}
 use Rattle.fm_coord.specs.StepLaws.{no_fault, many, same_bounds, packet_is, stands_after}
 
-module _ (s : State) (r : Replica) (st : StandsFor s r) (by : ℕ) (new : State) where
+module _ (s : State) (r : Replica) (st : Represents s r) (by : ℕ) (new : State) where
   is_event : (event : Event) (reply : Reply) → cause (bounds s) (call_of event) ≡ None → reply ≡ reply_of r event → new ≡ after s (history_entry by (call_of event) reply) (call_of event) → IsEventAt r by event reply new
   is_event event reply none reply_is made =
       record {
         accepted = subst (λ b. cause b (call_of event) ≡ None) (same_bounds s r st) none;
         answered = reply_is;
-        stands = subst (λ (t : State). StandsFor t (happens r by event)) (sym made) (stands_after s r st (history_entry by (call_of event) reply) event refl none);
+        stands = subst (λ (t : State). Represents t (happens r by event)) (sym made) (stands_after s r st (history_entry by (call_of event) reply) event refl none);
       }
 
-  pub told : (op : Op) → cause (bounds s) (call.Tell op) ≡ None → new ≡ took s (know (op ∷ [])) (history_entry by (call.Tell op) reply.Nothing) → IsEventAt r by (event.Tell op) reply.Nothing new
+  pub told : (op : Op) → cause (bounds s) (call.Tell op) ≡ None → new ≡ took s (table_of (op ∷ [])) (history_entry by (call.Tell op) reply.Nothing) → IsEventAt r by (event.Tell op) reply.Nothing new
   told op none made = is_event (event.Tell op) reply.Nothing none refl made
 
   pub merged : (p : Packet) (sent : Sent) → p ≡ seen_packet sent → cause (bounds s) (call.Merge p) ≡ None → new ≡ took s p.value (history_entry by (call.Merge p) reply.Nothing) → IsEventAt r by (event.Merge sent) reply.Nothing new
@@ -49,12 +49,12 @@ module _ (s : State) (r : Replica) (st : StandsFor s r) (by : ℕ) (new : State)
       let all = known_is ∙ st.knowledge in
       is_event event.View (reply.Seen at known) none (λ i. reply.Seen (count i) (all i)) made
 
-  pub committed : (plan : Plan) (a : Admitted) → a ≡ admission s.knowledge s.number plan → cause (bounds s) (call.Commit plan) ≡ None → new ≡ took s (know a.ops) (history_entry by (call.Commit plan) (reply.Admitted a)) → IsEventAt r by (event.Commit plan) (reply.Admitted a) new
+  pub committed : (plan : Plan) (a : Admitted) → a ≡ admission s.knowledge s.number plan → cause (bounds s) (call.Commit plan) ≡ None → new ≡ took s (table_of a.ops) (history_entry by (call.Commit plan) (reply.Admitted a)) → IsEventAt r by (event.Commit plan) (reply.Admitted a) new
   committed plan a is none made =
       let known = st.knowledge in
       let number = st.number in
       is_event (event.Commit plan) (reply.Admitted a) none (ap (λ (b : Admitted). reply.Admitted b) is ∙ (λ i. reply.Admitted (admission (known i) (number i) plan)))
-      (made ∙ ap (λ (b : Admitted). took s (know b.ops) (history_entry by (call.Commit plan) (reply.Admitted a))) is)
+      (made ∙ ap (λ (b : Admitted). took s (table_of b.ops) (history_entry by (call.Commit plan) (reply.Admitted a))) is)
 
   -- what the call of an event is answered is the event's reply
   said_is : (event : Event) → cause (bounds s) (call_of event) ≡ None → reply_to (answer_to s (call_of event)) ≡ reply_of r event

@@ -1,7 +1,7 @@
 -- Each accepted call keeps what holds of every coordinator.
 use Rattle.std.proofs.Common.{◌≡◌, ◌≤◌, ◌<◌, ℕ, ◌+◌, false, nat_le, List, [], ◌∷◌, ◌++◌, None, length, refl, sym, ap, ◌∙◌, subst, arith, length-append, rules, tests}
 use Rattle.fm_records.specs.declared.ops.Op.{Op}
-use Rattle.fm_records.specs.Know.{know}
+use Rattle.fm_records.specs.Know.{table_of}
 use Rattle.fm_records.specs.OpsOfTable.{IsTable}
 use Rattle.fm_records.specs.SpelledLaws.{know_ops}
 use Rattle.fm_delta.specs.declared.packet.Packet.{Packet}
@@ -16,7 +16,7 @@ use Rattle.fm_coord.specs.Events.{Event, Replica, opening, after_event, admitted
 use Rattle.fm_coord.specs.Events as event
 use Rattle.fm_coord.specs.Causes.{cause, Bounds}
 use Rattle.fm_coord.specs.Replays.{call_of, event_of, reply_of, after_entry, replay, IsLegal}
-use Rattle.fm_coord.specs.States.{State, new_state, history_entry, bounds, took, gave, after_trim, with_entry, cut_packet, after, StandsFor, replay_of, IsCoordinator}
+use Rattle.fm_coord.specs.States.{State, new_state, history_entry, bounds, took, gave, after_trim, with_entry, cut_packet, after, Represents, replay_of, IsCoordinator}
 use Rattle.fm_coord.specs.StepLaws.{no_fault, second_is_none, test_failed, replay_more, legal_more, many, same_bounds, packet_is, stands_after}
 
 pub new_is : (number limit : ℕ) → IsCoordinator (new_state number limit)
@@ -108,9 +108,9 @@ module _ (s : State) (is : IsCoordinator s) (e : Entry) (t : HasTable e.call) (h
   same : e.call ≡ call_of (event_of e.call)
   same = again e.call t
 
-  stood : StandsFor left (after_entry now e)
+  stood : Represents left (after_entry now e)
   stood =
-      subst (λ c. StandsFor (after s e c) (after_entry now e)) (sym same)
+      subst (λ c. Represents (after s e c) (after_entry now e)) (sym same)
       (stands_after s now is.stands e (event_of e.call) same (subst (λ c. cause (bounds s) c ≡ None) same h))
 
   legal : IsLegal start (s.history ++ e ∷ [])
@@ -136,8 +136,8 @@ module _ (s : State) (is : IsCoordinator s) (e : Entry) (t : HasTable e.call) (h
       record {
         legal = subst (λ (p : ℕ × ℕ × List Entry). IsLegal (opening p.0 p.1) p.2) (sym parts) legal;
         stands =
-            subst (λ (p : ℕ × ℕ × List Entry). StandsFor left (replay (opening p.0 p.1) p.2)) (sym parts)
-            (subst (λ r. StandsFor left r) (sym (replay_more start s.history e)) stood);
+            subst (λ (p : ℕ × ℕ × List Entry). Represents left (replay (opening p.0 p.1) p.2)) (sym parts)
+            (subst (λ r. Represents left r) (sym (replay_more start s.history e)) stood);
         within = omega arith;
         end_within = omega arith;
         cuts_within = omega arith;
@@ -146,7 +146,7 @@ module _ (s : State) (is : IsCoordinator s) (e : Entry) (t : HasTable e.call) (h
 -- call by call
 
 module _ (s : State) (is : IsCoordinator s) (by : ℕ) where
-  pub keeps_tell : (op : Op) → cause (bounds s) (call.Tell op) ≡ None → IsCoordinator (took s (know (op ∷ [])) (history_entry by (call.Tell op) reply.Nothing))
+  pub keeps_tell : (op : Op) → cause (bounds s) (call.Tell op) ≡ None → IsCoordinator (took s (table_of (op ∷ [])) (history_entry by (call.Tell op) reply.Nothing))
   keeps_tell op h = keeps s is (history_entry by (call.Tell op) reply.Nothing) tt h refl
 
   pub keeps_merge : (p : Packet) → IsTable p.value → cause (bounds s) (call.Merge p) ≡ None → IsCoordinator (took s p.value (history_entry by (call.Merge p) reply.Nothing))
@@ -164,7 +164,7 @@ module _ (s : State) (is : IsCoordinator s) (by : ℕ) where
       let known = is.stands.knowledge in
       keeps s is (history_entry by call.View (reply.Seen (length s.history) s.knowledge)) tt h (λ i. reply.Seen (at i) (known i))
 
-  pub keeps_commit : (plan : Plan) → cause (bounds s) (call.Commit plan) ≡ None → IsCoordinator (took s (know (admission s.knowledge s.number plan).ops) (history_entry by (call.Commit plan) (reply.Admitted (admission s.knowledge s.number plan))))
+  pub keeps_commit : (plan : Plan) → cause (bounds s) (call.Commit plan) ≡ None → IsCoordinator (took s (table_of (admission s.knowledge s.number plan).ops) (history_entry by (call.Commit plan) (reply.Admitted (admission s.knowledge s.number plan))))
   keeps_commit plan h =
       let known = is.stands.knowledge in
       let number = is.stands.number in

@@ -4,7 +4,7 @@ use Rattle.std.specs.Prelude.{ℕ, ◌+◌, List, [], ◌∷◌, ◌++◌}
 use Rattle.std.specs.List.{slice_range}
 use Rattle.fm_records.specs.declared.ops.Op.{Op}
 use Rattle.fm_records.specs.Sets.{union}
-use Rattle.fm_records.specs.Know.{know}
+use Rattle.fm_records.specs.Know.{table_of}
 use Rattle.fm_round.specs.declared.plan.Plan.{Plan}
 use Rattle.fm_round.specs.declared.plan.Admitted.{Admitted}
 use Rattle.fm_round.specs.Admission.{admission}
@@ -61,7 +61,7 @@ packet_of r range = record { sender = r.number; number = r.cuts + 1; set = set_o
 
 -- what is admitted of a plan
 abbrev pub admitted_by : Replica → Plan → Admitted
-admitted_by r plan = admission (know r.taken) r.number plan
+admitted_by r plan = admission (table_of r.taken) r.number plan
 
 -- a set is added to what was received, and to the end of the buffer
 abbrev pub with_set : Replica → List Op → Replica

@@ -3,7 +3,7 @@ pub mod Events
 pub mod Causes
 pub mod Replays
 pub mod States
-pub mod Tallied
+pub mod TallyCache
 pub mod Outputs
 pub mod StepLaws
 pub mod StateEqualityLaws

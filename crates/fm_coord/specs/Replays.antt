@@ -1,6 +1,6 @@
 -- Histories, and the replicas that they replay to.
 use Rattle.std.specs.Prelude.{◌≡◌, List, [], ◌∷◌, length, None}
-use Rattle.fm_records.specs.Know.{know}
+use Rattle.fm_records.specs.Know.{table_of}
 use Rattle.fm_records.specs.OpsOfTable.{ops}
 use Rattle.fm_delta.specs.declared.packet.Packet.{Packet}
 use Rattle.fm_coord.specs.declared.entry.Call.{Call}
@@ -14,7 +14,7 @@ use Rattle.fm_coord.specs.Causes.{cause, bounds_of}
 
 -- a packet as coordinators see it
 abbrev pub seen_packet : Sent → Packet
-seen_packet p = record { sender = p.sender; number = p.number; value = know p.set }
+seen_packet p = record { sender = p.sender; number = p.number; value = table_of p.set }
 
 -- the call of an event
 abbrev pub call_of : Event → Call
@@ -32,7 +32,7 @@ reply_of r (event.Tell op) = reply.Nothing
 reply_of r (event.Merge packet) = reply.Nothing
 reply_of r (event.Cut range) = reply.Packet (seen_packet (packet_of r range))
 reply_of r (event.Trim n) = reply.Nothing
-reply_of r event.View = reply.Seen (length r.steps) (know r.taken)
+reply_of r event.View = reply.Seen (length r.steps) (table_of r.taken)
 reply_of r (event.Commit plan) = reply.Admitted (admitted_by r plan)
 
 -- a call as an event: a packet that is merged stands for the operations that its value is written out as

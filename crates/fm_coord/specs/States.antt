@@ -1,7 +1,7 @@
 -- The state of a coordinator, how calls change it, and for which replica it stands.
 use Rattle.std.specs.Prelude.{◌≡◌, ◌≤◌, ℕ, ◌+◌, Bool, IsTrue, List, [], ◌∷◌, ◌++◌, length, drop, map, None}
 use Rattle.fm_records.specs.Table.{Table}
-use Rattle.fm_records.specs.Know.{know}
+use Rattle.fm_records.specs.Know.{table_of}
 use Rattle.fm_records.specs.Joined.{table_join}
 use Rattle.fm_delta.specs.declared.packet.Packet.{Packet}
 use Rattle.fm_delta.specs.Deltas.{Deltas, end_of, with_delta, with_floor, between, joined_all}
@@ -12,8 +12,8 @@ use Rattle.fm_coord.specs.declared.entry.Reply.{Reply}
 use Rattle.fm_coord.specs.declared.entry.Entry.{Entry}
 use Rattle.fm_coord.specs.declared.entry.Range.{Range}
 use Rattle.fm_coord.specs.declared.entry.Range.TheVariants.{Interval, Full}
-use Rattle.fm_coord.specs.declared.tallied.Tallied.{Tallied}
-use Rattle.fm_coord.specs.Tallied.{IsTalliedFor}
+use Rattle.fm_coord.specs.declared.tally_cache.Tallied.{Tallied}
+use Rattle.fm_coord.specs.TallyCache.{IsTalliedFor}
 use Rattle.fm_coord.specs.Events.{Event, Replica, opening, happens}
 use Rattle.fm_coord.specs.Causes.{Bounds, cause, bounds_of}
 use Rattle.fm_coord.specs.Replays.{call_of, reply_of, replay, IsLegal}
@@ -34,7 +34,7 @@ pub record WithKeeper (N : Type 0) : Type 0 where
 
 -- an unused coordinator
 abbrev pub new_state : ℕ → ℕ → State
-new_state number limit = record { number = number; limit = limit; knowledge = know []; deltas = record { floor = 0; kept = [] }; cuts = 0; history = [] }
+new_state number limit = record { number = number; limit = limit; knowledge = table_of []; deltas = record { floor = 0; kept = [] }; cuts = 0; history = [] }
 
 abbrev pub history_entry : ℕ → Call → Reply → Entry
 history_entry by call reply = record { by = by; call = call; reply = reply }
@@ -70,12 +70,12 @@ cut_packet s range = record { sender = s.number; number = s.cuts + 1; value = ra
 
 -- what an accepted call leaves, with its entry
 abbrev pub after : State → Entry → Call → State
-after s e (call.Tell op) = took s (know (op ∷ [])) e
+after s e (call.Tell op) = took s (table_of (op ∷ [])) e
 after s e (call.Merge packet) = took s packet.value e
 after s e (call.Cut range) = gave s e
 after s e (call.Trim n) = after_trim s n e
 after s e call.View = with_entry s e
-after s e (call.Commit plan) = took s (know (admission s.knowledge s.number plan).ops) e
+after s e (call.Commit plan) = took s (table_of (admission s.knowledge s.number plan).ops) e
 
 -- who asked for what
 abbrev pub caller_and_call : Entry → ℕ × Call
@@ -85,13 +85,13 @@ abbrev pub step_asked : ℕ × Event → ℕ × Call
 step_asked s = (s.0, call_of s.1)
 
 -- the coordinator stands for the replica
-pub record StandsFor (s : State) (r : Replica) : Type 0 where
+pub record Represents (s : State) (r : Replica) : Type 0 where
   pub number : s.number ≡ r.number
   pub limit : s.limit ≡ r.limit
   -- its knowledge is the table of all that was received
-  pub knowledge : s.knowledge ≡ know r.taken
+  pub knowledge : s.knowledge ≡ table_of r.taken
   -- its deltas are the tables of the sets from the floor on
-  pub deltas : s.deltas.kept ≡ map know (drop r.floor r.buffer)
+  pub deltas : s.deltas.kept ≡ map table_of (drop r.floor r.buffer)
   pub floor : s.deltas.floor ≡ r.floor
   pub end : end_of s.deltas ≡ length r.buffer
   pub cuts : s.cuts ≡ r.cuts
@@ -103,7 +103,7 @@ pub record StandsFor (s : State) (r : Replica) : Type 0 where
 pub record IsEventAt (r : Replica) (by : ℕ) (event : Event) (reply : Reply) (s : State) : Type 0 where
   pub accepted : cause (bounds_of r) (call_of event) ≡ None
   pub answered : reply ≡ reply_of r event
-  pub stands : StandsFor s (happens r by event)
+  pub stands : Represents s (happens r by event)
 
 -- the replica that a coordinator's history replays to
 abbrev pub replay_of : State → Replica
@@ -113,7 +113,7 @@ replay_of s = replay (opening s.number s.limit) s.history
 pub record IsCoordinator (s : State) : Type 0 where
   -- its history is legal, and it stands for the replica that the history replays to
   pub legal : IsLegal (opening s.number s.limit) s.history
-  pub stands : StandsFor s (replay_of s)
+  pub stands : Represents s (replay_of s)
   -- the history is within its limit, and counts no less than deltas and cuts
   pub within : length s.history ≤ s.limit
   pub end_within : end_of s.deltas ≤ length s.history

@@ -4,7 +4,7 @@ ghost use Rattle.std.specs.Prelude.{◌≡◌, ◌⊎◌, ◌++◌, ◌∷◌, [
 ghost use Rattle.fm_coord.specs.Events.{Event, Replica};
 ghost use Rattle.fm_coord.specs.Causes.{cause, refusal_for};
 ghost use Rattle.fm_coord.specs.Replays.{call_of, reply_of};
-ghost use Rattle.fm_coord.specs.States.{bounds, history_entry, after, StandsFor, IsEventAt};
+ghost use Rattle.fm_coord.specs.States.{bounds, history_entry, after, Represents, IsEventAt};
 ghost use Rattle.fm_coord.specs.Outputs.{reply_to, answer_to};
 
 use crate::coordinator::Coordinator;
@@ -25,7 +25,7 @@ impl<N: NetKeeper> Coordinator<N> {
         ensures history { IfOk result (λ answer. self.new.state.history
             ≡ self.old.state.history ++ history_entry by call (reply_to answer) ∷ []) }
         ensures within { IsOk result → cause (bounds self.old.state) call ≡ None }
-        ensures event { (r : Replica) (event : Event) → StandsFor self.old.state r → call ≡ call_of event
+        ensures event { (r : Replica) (event : Event) → Represents self.old.state r → call ≡ call_of event
             → OnOk result (IsEventAt r by event (reply_of r event) self.new.state) }
         ensures err { IfErr result (λ refusal. refusal ≡ refusal_for (bounds self.old.state) call) }
         ensures unchanged { OnErr result (self.new.state ≡ self.old.state) }

@@ -4,7 +4,7 @@
 ghost use Rattle.std.specs.Prelude.{◌≡◌, ◌≤◌, ◌<◌, ◌+◌, ◌^◌, ◌↔◌, ◌∷◌, ◌++◌, [], length, is_none, IsTrue, Some, None, IsOk, IsOkUnless, IfOk, IfSome, IfErr, OnOk, OnErr};
 ghost use Rattle.std.specs.List.{list_all};
 ghost use Rattle.fm_records.specs.Ops.{op_fault};
-ghost use Rattle.fm_records.specs.Know.{know};
+ghost use Rattle.fm_records.specs.Know.{table_of};
 ghost use Rattle.fm_records.specs.Joined.{table_join};
 ghost use Rattle.fm_delta.specs.Deltas.{end_of, with_delta};
 ghost use Rattle.fm_net.specs.Network.{net_of};
@@ -18,10 +18,10 @@ ghost use Rattle.fm_coord.specs.Events.{Sent, Replica, packet_of};
 ghost use Rattle.fm_coord.specs.Events as event;
 ghost use Rattle.fm_coord.specs.Causes.{cause, refusal_for, room_fault, range_fault, floor_fault};
 ghost use Rattle.fm_coord.specs.Replays.{seen_packet};
-ghost use Rattle.fm_coord.specs.States.{new_state, bounds, history_entry, took, gave, after_trim, with_entry, cut_packet, range_value, StandsFor, IsEventAt, IsCoordinator};
+ghost use Rattle.fm_coord.specs.States.{new_state, bounds, history_entry, took, gave, after_trim, with_entry, cut_packet, range_value, Represents, IsEventAt, IsCoordinator};
 
 use crate::entry::{Call, Entry, Range, Reply};
-use crate::tallied::Tallied;
+use crate::tally_cache::Tallied;
 use crate::view::{KnownAt, TallyView, View};
 use fm_delta::buffer::Buffer;
 use fm_delta::packet::Packet;
@@ -91,7 +91,7 @@ impl<N: NetKeeper> Coordinator<N> {
     /// An unused coordinator, whose history may have as many entries as the limit. The caller must pass a keeper that
     /// is stale, or for nothing known. It allocates nothing.
     pub fn new(alloc: Global, number: CoordId, limit: usize, keeper: N) -> Coordinator<N>
-        requires { IsTrue (N.fresh keeper) → N.is_for keeper (know []) }
+        requires { IsTrue (N.fresh keeper) → N.is_for keeper (table_of []) }
         ensures state { result.state ≡ new_state number limit }
         ensures keeper { result.keeper ≡ keeper }
     {
@@ -242,10 +242,10 @@ impl<N: NetKeeper> Coordinator<N> {
     /// OutOfMemory; then nothing has changed.
     pub fn tell(&mut self, by: u32, op: Op) -> Result<(), Refusal>
         ensures ok { OnOk result (self.new.state
-            ≡ took self.old.state (know (op ∷ [])) (history_entry by (Call.Tell op) Reply.Nothing)) }
-        ensures keeper { OnOk result (N.absorbs self.old.keeper (changed_keys (know (op ∷ []))) self.new.keeper) }
+            ≡ took self.old.state (table_of (op ∷ [])) (history_entry by (Call.Tell op) Reply.Nothing)) }
+        ensures keeper { OnOk result (N.absorbs self.old.keeper (changed_keys (table_of (op ∷ []))) self.new.keeper) }
         ensures within { IsOk result → cause (bounds self.old.state) (Call.Tell op) ≡ None }
-        ensures event { (r : Replica) → StandsFor self.old.state r
+        ensures event { (r : Replica) → Represents self.old.state r
             → OnOk result (IsEventAt r by (event.Tell op) Reply.Nothing self.new.state) }
         ensures err { IfErr result (λ refusal. refusal ≡ refusal_for (bounds self.old.state) (Call.Tell op)) }
         ensures unchanged { OnErr result (self.new ≡ self.old) }
@@ -270,7 +270,7 @@ impl<N: NetKeeper> Coordinator<N> {
             ≡ took self.old.state packet.value (history_entry by (Call.Merge packet) Reply.Nothing)) }
         ensures keeper { OnOk result (N.absorbs self.old.keeper (changed_keys packet.value) self.new.keeper) }
         ensures within { IsOk result → cause (bounds self.old.state) (Call.Merge packet) ≡ None }
-        ensures event { (r : Replica) (sent : Sent) → StandsFor self.old.state r → packet ≡ seen_packet sent
+        ensures event { (r : Replica) (sent : Sent) → Represents self.old.state r → packet ≡ seen_packet sent
             → OnOk result (IsEventAt r by (event.Merge sent) Reply.Nothing self.new.state) }
         ensures err { IfErr result (λ refusal. refusal ≡ refusal_for (bounds self.old.state) (Call.Merge packet)) }
         ensures unchanged { OnErr result (self.new ≡ self.old) }
@@ -297,7 +297,7 @@ impl<N: NetKeeper> Coordinator<N> {
         ensures packet { IfOk result (λ packet. packet ≡ cut_packet self.old.state range) }
         ensures keeper { self.new.keeper ≡ self.old.keeper }
         ensures within { IsOk result → cause (bounds self.old.state) (Call.Cut range) ≡ None }
-        ensures event { (r : Replica) → StandsFor self.old.state r
+        ensures event { (r : Replica) → Represents self.old.state r
             → IfOk result (λ packet. IsEventAt r by (event.Cut range) (Reply.Packet packet) self.new.state) }
         ensures err { IfErr result (λ refusal. refusal ≡ refusal_for (bounds self.old.state) (Call.Cut range)) }
         ensures unchanged { OnErr result (self.new ≡ self.old) }
@@ -332,7 +332,7 @@ impl<N: NetKeeper> Coordinator<N> {
     pub fn packet_for(&self, range: Range) -> Result<Shared<Packet>, Refusal>
         ensures ok { IfOk result (λ packet. packet ≡ cut_packet self.now.state range) }
         ensures within { IsOk result → cause (bounds self.now.state) (Call.Cut range) ≡ None }
-        ensures seen { (r : Replica) → StandsFor self.now.state r
+        ensures seen { (r : Replica) → Represents self.now.state r
             → IfOk result (λ packet. packet ≡ seen_packet (packet_of r range)) }
         ensures err { IfErr result (λ refusal. refusal ≡ refusal_for (bounds self.now.state) (Call.Cut range)) }
     {
@@ -377,7 +377,7 @@ impl<N: NetKeeper> Coordinator<N> {
         ensures ok { OnOk result (self.new.state ≡ after_trim self.old.state n (history_entry by (Call.Trim n) Reply.Nothing)) }
         ensures keeper { self.new.keeper ≡ self.old.keeper }
         ensures within { IsOk result → cause (bounds self.old.state) (Call.Trim n) ≡ None }
-        ensures event { (r : Replica) → StandsFor self.old.state r
+        ensures event { (r : Replica) → Represents self.old.state r
             → OnOk result (IsEventAt r by (event.Trim n) Reply.Nothing self.new.state) }
         ensures err { IfErr result (λ refusal. refusal ≡ refusal_for (bounds self.old.state) (Call.Trim n)) }
         ensures unchanged { OnErr result (self.new ≡ self.old) }
@@ -408,7 +408,7 @@ impl<N: NetKeeper> Coordinator<N> {
         ensures fresh { OnOk result (IsTrue (N.fresh self.new.keeper)) }
         ensures keeper { IsTrue (N.fresh self.old.keeper) → self.new.keeper ≡ self.old.keeper }
         ensures within { IsOk result → cause (bounds self.old.state) Call.View ≡ None }
-        ensures event { (r : Replica) → StandsFor self.old.state r
+        ensures event { (r : Replica) → Represents self.old.state r
             → IfOk result (λ view. IsEventAt r by event.View (Reply.Seen view.at view.knowledge) self.new.state) }
         ensures err { IfErr result (λ refusal. refusal ≡ refusal_for (bounds self.old.state) Call.View) }
         ensures unchanged { OnErr result (self.new.state ≡ self.old.state) }
@@ -435,7 +435,7 @@ impl<N: NetKeeper> Coordinator<N> {
         ensures tally { IfOk result (λ sight. TallyIsFor sight.knowledge sight.tally) }
         ensures keeper { self.new.keeper ≡ self.old.keeper }
         ensures within { IsOk result → cause (bounds self.old.state) Call.View ≡ None }
-        ensures event { (r : Replica) → StandsFor self.old.state r
+        ensures event { (r : Replica) → Represents self.old.state r
             → IfOk result (λ sight. IsEventAt r by event.View (Reply.Seen sight.at sight.knowledge) self.new.state) }
         ensures err { IfErr result (λ refusal. refusal ≡ refusal_for (bounds self.old.state) Call.View) }
         ensures unchanged { OnErr result (self.new.state ≡ self.old.state) }
@@ -458,7 +458,7 @@ impl<N: NetKeeper> Coordinator<N> {
         ensures knowledge { IfOk result (λ look. look.knowledge ≡ self.old.state.knowledge) }
         ensures keeper { self.new.keeper ≡ self.old.keeper }
         ensures within { IsOk result → cause (bounds self.old.state) Call.View ≡ None }
-        ensures event { (r : Replica) → StandsFor self.old.state r
+        ensures event { (r : Replica) → Represents self.old.state r
             → IfOk result (λ look. IsEventAt r by event.View (Reply.Seen look.at look.knowledge) self.new.state) }
         ensures err { IfErr result (λ refusal. refusal ≡ refusal_for (bounds self.old.state) Call.View) }
         ensures unchanged { OnErr result (self.new.state ≡ self.old.state) }
@@ -573,12 +573,12 @@ impl<N: NetKeeper> Coordinator<N> {
     /// changed.
     pub fn commit(&mut self, by: u32, plan: Plan) -> Result<Shared<Admitted>, Refusal>
         ensures ok { IfOk result (λ made. self.new.state
-            ≡ took self.old.state (know made.ops) (history_entry by (Call.Commit plan) (Reply.Admitted made))) }
+            ≡ took self.old.state (table_of made.ops) (history_entry by (Call.Commit plan) (Reply.Admitted made))) }
         ensures keeper { IfOk result
-            (λ made. N.absorbs self.old.keeper (changed_keys (know made.ops)) self.new.keeper) }
+            (λ made. N.absorbs self.old.keeper (changed_keys (table_of made.ops)) self.new.keeper) }
         ensures admitted { IfOk result (λ a. a ≡ admission self.old.state.knowledge self.old.state.number plan) }
         ensures within { IsOk result → cause (bounds self.old.state) (Call.Commit plan) ≡ None }
-        ensures event { (r : Replica) → StandsFor self.old.state r
+        ensures event { (r : Replica) → Represents self.old.state r
             → IfOk result (λ made. IsEventAt r by (event.Commit plan) (Reply.Admitted made) self.new.state) }
         ensures err { IfErr result (λ refusal. refusal ≡ refusal_for (bounds self.old.state) (Call.Commit plan)) }
         ensures unchanged { OnErr result (self.new ≡ self.old) }

@@ -7,7 +7,7 @@ pub mod entry;
 pub mod entry_equality;
 pub mod laws;
 pub mod output;
-mod tallied;
+mod tally_cache;
 pub mod view;
 
 // The values with several owners that calls return.

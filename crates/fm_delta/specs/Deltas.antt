@@ -6,7 +6,7 @@ use Rattle.fm_records.specs.declared.refusal.Refusal.{Refusal}
 use Rattle.fm_records.specs.declared.refusal.Refusal.TheVariants.{BadInterval, Trimmed}
 use Rattle.fm_records.specs.Options.{when}
 use Rattle.fm_records.specs.Table.{Table}
-use Rattle.fm_records.specs.Know.{know}
+use Rattle.fm_records.specs.Know.{table_of}
 use Rattle.fm_records.specs.Joined.{table_join}
 
 -- the deltas that were pushed, counted from 0: those below the floor were dropped, the others are kept in order
@@ -42,7 +42,7 @@ joined_from k (delta ∷ deltas) = joined_from (table_join k delta) deltas
 
 -- the join of all deltas
 abbrev pub joined_all : List Table → Table
-joined_all = joined_from (know [])
+joined_all = joined_from (table_of [])
 
 -- why a cut is refused, unless memory ran out: it ends before it starts or beyond the end, or it starts
 -- below the floor

@@ -8,7 +8,7 @@ use Rattle.fm_lattice.specs.Joins.{JoinLaws}
 use Rattle.fm_records.specs.declared.ops.Op.{Op}
 use Rattle.fm_records.specs.Sets.{union}
 use Rattle.fm_records.specs.Table.{Table}
-use Rattle.fm_records.specs.Know.{know}
+use Rattle.fm_records.specs.Know.{table_of}
 use Rattle.fm_records.specs.OpsOfTable.{ops}
 use Rattle.fm_records.specs.Ranges.{CanBe}
 use Rattle.fm_records.specs.Joined.{table_join}
@@ -32,15 +32,15 @@ all_append : (a b : List Table) → AllCanBe a → AllCanBe b → AllCanBe (a ++
 all_append [] b p q = q
 all_append (d ∷ ds) b p q = (p.0, all_append ds b p.1 q)
 
-nothing_can_be : CanBe (know [])
+nothing_can_be : CanBe (table_of [])
 nothing_can_be = know_can_be [] refl
 
 -- nothing known is a unit of the join
-onto_nothing : (k : Table) → CanBe k → table_join (know []) k ≡ k
-onto_nothing k p = let here = know_ops k p.table in ap (table_join (know [])) here ∙ sym (know_append [] (ops k)) ∙ sym here
+onto_nothing : (k : Table) → CanBe k → table_join (table_of []) k ≡ k
+onto_nothing k p = let here = know_ops k p.table in ap (table_join (table_of [])) here ∙ sym (know_append [] (ops k)) ∙ sym here
 
-with_nothing : (k : Table) → CanBe k → table_join k (know []) ≡ k
-with_nothing k p = table_laws.comm k (know []) p nothing_can_be ∙ onto_nothing k p
+with_nothing : (k : Table) → CanBe k → table_join k (table_of []) ≡ k
+with_nothing k p = table_laws.comm k (table_of []) p nothing_can_be ∙ onto_nothing k p
 
 from_can_be : (k : Table) (a : List Table) → CanBe k → AllCanBe a → CanBe (joined_from k a)
 from_can_be k [] p q = p
@@ -56,13 +56,13 @@ from_append k (d ∷ ds) b = from_append (table_join k d) ds b
 
 joined_append : (a b : List Table) → AllCanBe a → AllCanBe b → joined_all (a ++ b) ≡ table_join (joined_all a) (joined_all b)
 joined_append a b p q =
-    let left = from_can_be (know []) a nothing_can_be p in
-    from_append (know []) a b
+    let left = from_can_be (table_of []) a nothing_can_be p in
+    from_append (table_of []) a b
     ∙ ap (λ t. joined_from t b) (sym (with_nothing (joined_all a) left))
-    ∙ from_join (joined_all a) (know []) b left nothing_can_be q
+    ∙ from_join (joined_all a) (table_of []) b left nothing_can_be q
 
 -- the join of none, of one, and of two parts
-pub join_none : IsJoinOf (know []) []
+pub join_none : IsJoinOf (table_of []) []
 join_none = record { can_be = tt; value = refl }
 
 pub join_one : (k : Table) → CanBe k → IsJoinOf k (k ∷ [])
@@ -84,9 +84,9 @@ split_between xs from middle to low high =
     ∙ ap (λ ys. take (middle - from) (drop from xs) ++ take (to - middle) ys) (drop-drop (middle - from) from xs ∙ ap (λ n. drop n xs) there)
 
 -- the join of the tables of sets is the table of their union
-union_from : (S : List Op) (Ss : List (List Op)) → joined_from (know S) (map know Ss) ≡ know (S ++ union Ss)
-union_from S [] = ap know (sym (append-nil S))
-union_from S (T ∷ Ss) = ap (λ k. joined_from k (map know Ss)) (sym (know_append S T)) ∙ union_from (S ++ T) Ss ∙ ap know (append_assoc S T (union Ss))
+union_from : (S : List Op) (Ss : List (List Op)) → joined_from (table_of S) (map table_of Ss) ≡ table_of (S ++ union Ss)
+union_from S [] = ap table_of (sym (append-nil S))
+union_from S (T ∷ Ss) = ap (λ k. joined_from k (map table_of Ss)) (sym (know_append S T)) ∙ union_from (S ++ T) Ss ∙ ap table_of (append_assoc S T (union Ss))
 
-pub joined_union : (Ss : List (List Op)) → joined_all (map know Ss) ≡ know (union Ss)
+pub joined_union : (Ss : List (List Op)) → joined_all (map table_of Ss) ≡ table_of (union Ss)
 joined_union Ss = union_from [] Ss

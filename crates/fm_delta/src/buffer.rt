@@ -6,7 +6,7 @@ ghost use Rattle.std.specs.VecDeque.{deque_len, deque_capacity};
 ghost use Rattle.fm_records.specs.declared.ops.Op.{Op};
 ghost use Rattle.fm_records.specs.Options.{or_else};
 ghost use Rattle.fm_records.specs.Sets.{union};
-ghost use Rattle.fm_records.specs.Know.{know};
+ghost use Rattle.fm_records.specs.Know.{table_of};
 ghost use Rattle.fm_delta.specs.Deltas.{end_of, with_delta, with_floor, between, joined_all, cut_fault, can_trim};
 ghost use Rattle.fm_delta.specs.GroupLaws.{IsJoinOf};
 
@@ -92,8 +92,8 @@ impl Buffer {
     /// above the end, else Trimmed if `from` is below the floor.
     pub fn cut(&self, from: u64, to: u64) -> Result<Knowledge, Refusal>
         ensures ok { IfOk result (λ k. k ≡ joined_all (between self.now.deltas from to)) }
-        ensures union { (Ss : List (List Op)) → between self.now.deltas from to ≡ map know Ss
-            → IfOk result (λ k. k ≡ know (union Ss)) }
+        ensures union { (Ss : List (List Op)) → between self.now.deltas from to ≡ map table_of Ss
+            → IfOk result (λ k. k ≡ table_of (union Ss)) }
         ensures within { IsOk result → cut_fault self.now.deltas from to ≡ None }
         ensures err { IfErr result (λ e. e ≡ or_else Refusal.OutOfMemory (cut_fault self.now.deltas from to)) }
     {

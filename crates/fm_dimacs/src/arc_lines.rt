@@ -11,7 +11,7 @@ ghost use Rattle.fm_dimacs.specs.Text.{arc_line, id_in};
 ghost use Rattle.fm_dimacs.specs.Syntax.{Body, Reaches, IsAfterLast, IsFault};
 ghost use Rattle.fm_dimacs.specs.Scan.{IsArcAmong, IsAfter, ids_of};
 
-use crate::scan;
+use crate::tokens;
 use fm_lattice::join::OutOfMemory;
 use fm_net::network::Network;
 use fm_net::node::{Node, order};
@@ -98,7 +98,7 @@ fn next_arc<'a>(
     ensures none { IfNone result ((a : (NodeName × NodeName) × (ℕ × ℕ)) (behind : List ℕ) → IsArcAmong nodes.now a
         → IsAfter last a → text.now ≡ arc_line nodes.now a ++ behind → ⊥) }
 {
-    let Some((numbers, behind)) = scan::numbers(text) else {
+    let Some((numbers, behind)) = tokens::numbers(text) else {
         return None;
     };
     let Some(arc) = arc_with(nodes, numbers) else {

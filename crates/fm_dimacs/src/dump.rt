@@ -11,7 +11,7 @@ ghost use Rattle.fm_dimacs.specs.Text.{node_line, problem_line, is_task_node, de
 
 use crate::decimals::push_number;
 use crate::out::Out;
-use crate::pieces::put_all;
+use crate::write_all::put_all;
 use fm_lattice::join::OutOfMemory;
 use fm_net::network::Network;
 use fm_net::node::{Node, order};

@@ -4,10 +4,10 @@
 mod arc_lines;
 mod decimals;
 pub mod dump;
-mod interrupted;
+mod retry;
 pub mod laws;
 pub mod out;
-pub mod pieces;
+pub mod write_all;
 pub mod read;
-mod scan;
+mod tokens;
 pub mod solution;

@@ -4,7 +4,7 @@ ghost use Rattle.std.specs.Prelude.{◌≡◌, ◌≤◌, ◌||◌, ℕ, List, B
 ghost use Rattle.std.specs.Io.KnownBytes.{Appends, Keeps};
 ghost use Rattle.fm_dimacs.specs.Sending.{fails_at};
 
-use crate::interrupted::write_some;
+use crate::retry::write_some;
 use std::io::Write;
 use std::marker::Model;
 

@@ -12,7 +12,7 @@ ghost use Rattle.fm_dimacs.specs.Syntax.{Comments, Body, Reaches, IsNextNode, Is
 
 use crate::arc_lines::read_arcs;
 use crate::dump::{count_tasks, write_demand, write_supply};
-use crate::scan;
+use crate::tokens;
 use fm_lattice::join::OutOfMemory;
 use fm_net::network::Network;
 use fm_net::node::{Node, order};
@@ -45,7 +45,7 @@ fn next_node<'a>(
     ensures err { IfErr result (IsFault (length nodes.now) (Comments nodes.now) text.now) }
 {
     let id = nodes.len() + 1;
-    match scan::node(alloc, id as u64, text) {
+    match tokens::node(alloc, id as u64, text) {
         Err(refusal) => Err(refusal),
         Ok(None) => Ok(None),
         Ok(Some((node, behind))) => {
@@ -91,7 +91,7 @@ fn read_problem<'a>(nodes: &[Node], text: &'a [u8]) -> Result<(u64, &'a [u8]), R
     if nodes.is_empty() {
         return Err(Refusal::BadDimacs(1));
     }
-    match scan::problem(nodes.len() as u64, text) {
+    match tokens::problem(nodes.len() as u64, text) {
         Some(found) => Ok(found),
         None => Err(Refusal::BadDimacs(nodes.len() + 1)),
     }
@@ -109,7 +109,7 @@ fn read_unit<'a>(line: &[u8], lines: usize, text: &'a [u8]) -> Result<(usize, &'
     if line.is_empty() {
         return Ok((0, text));
     }
-    match scan::after(text, line) {
+    match tokens::after(text, line) {
         Some(rest) => Ok((1, rest)),
         None => Err(Refusal::BadDimacs(lines + 1)),
     }

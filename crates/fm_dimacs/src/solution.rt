@@ -14,7 +14,7 @@ ghost use Rattle.fm_dimacs.specs.Solution.{cost_line, units_line, flow_line, sol
 use crate::decimals::push_number;
 use crate::dump::id_near;
 use crate::out::Out;
-use crate::pieces::put_all;
+use crate::write_all::put_all;
 use fm_certificate::cost::cost;
 use fm_certificate::flow::Flow;
 use fm_lattice::join::OutOfMemory;

@@ -20,8 +20,8 @@ use Rattle.fm_net.specs.Touched.{is_among}
 use Rattle.fm_edit.specs.declared.task_index.TaskIndex.{TaskIndex}
 use Rattle.fm_edit.specs.declared.editor_state.EditorState.{EditorState}
 use Rattle.fm_edit.specs.declared.affected.Touched.{Touched}
-use Rattle.fm_edit.specs.Sight.{seen_in}
-use Rattle.fm_edit.specs.Index.{sum_in}
+use Rattle.fm_edit.specs.CacheModel.{seen_in}
+use Rattle.fm_edit.specs.TaskIndex.{sum_in}
 use Rattle.fm_edit.specs.Affected.{has_touched, AffectedGrows}
 use Rattle.fm_edit.specs.Completing.{Completes, AddsSink, AddsPlaces, AddsPreferring, AddsMachines, is_request_node, is_machine, waiting_in}
 use Rattle.fm_edit.proofs.Ranges.{less_said, below_zero}

@@ -21,7 +21,7 @@ use Rattle.fm_policy.specs.Changes.{Keys}
 use Rattle.fm_edit.specs.declared.affected.Touched.{Touched}
 use Rattle.fm_edit.specs.Dirty.{SameBeyond, has_id, dirty_task, IsDirtyMachine, job_of_task, request_of_task, prefers, MayTurn, MayDiffer}
 use Rattle.fm_edit.specs.LocalLaws.{node_same, arc_same, request_arc_same, state_same, prefers_same}
-use Rattle.fm_edit.specs.Sight.{sight_of}
+use Rattle.fm_edit.specs.CacheModel.{sight_of}
 use Rattle.fm_edit.specs.Affected.{has_touched, has_pair, TouchesTask}
 use Rattle.fm_edit.proofs.Completed.{both_ways}
 

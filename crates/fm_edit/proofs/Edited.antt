@@ -11,11 +11,11 @@ use Rattle.fm_net.specs.Edits.{change}
 use Rattle.fm_net.specs.Touched.{Touches}
 use Rattle.fm_net.specs.TouchedLaws.{touched_is_change}
 use Rattle.fm_edit.specs.declared.editor_state.EditorState.{EditorState}
-use Rattle.fm_edit.specs.Sight.{seen_in}
-use Rattle.fm_edit.specs.Index.{sum_in}
-use Rattle.fm_edit.specs.Shown.{node_shown, arc_shown}
-use Rattle.fm_edit.specs.Listing.{edits_of}
-use Rattle.fm_edit.specs.Memory.{Remembers}
+use Rattle.fm_edit.specs.CacheModel.{seen_in}
+use Rattle.fm_edit.specs.TaskIndex.{sum_in}
+use Rattle.fm_edit.specs.CacheFacts.{node_shown, arc_shown}
+use Rattle.fm_edit.specs.Diff.{edits_of}
+use Rattle.fm_edit.specs.EditorState.{Remembers}
 use Rattle.fm_edit.proofs.ShownLaws.{node_is, arc_is}
 
 module _ (now : Table) (can : CanBe now) (small : length now.tasks < 2 ^ 63) where

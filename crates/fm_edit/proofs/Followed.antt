@@ -19,7 +19,7 @@ use Rattle.fm_records.specs.Table.{Table, TaskValue, MachineValue}
 use Rattle.fm_records.specs.Ranges.{CanBe, all_in_range}
 use Rattle.fm_records.specs.OpsOfTable.{task_ops, entry_ops}
 use Rattle.fm_records.specs.RangeLaws.{task_in_range, entries_in_range}
-use Rattle.fm_records.specs.Know.{none_begun}
+use Rattle.fm_records.specs.Know.{initial_progress}
 use Rattle.fm_records.specs.Joined.{table_join}
 use Rattle.fm_records.specs.JoinedLaws.{table_laws}
 use Rattle.fm_records.specs.Facts.{head_option, job_of, spec_of, live_spec, attempt_of, won_spot, is_present}
@@ -35,12 +35,12 @@ use Rattle.fm_edit.specs.declared.task_index.TaskIndex.{TaskIndex}
 use Rattle.fm_edit.specs.declared.affected.Touched.{Touched}
 use Rattle.fm_edit.specs.Dirty.{SameBeyond, AreDirtyTasks, turned_in, has_id, dirty_task, prefers, job_of_task, won_machine}
 use Rattle.fm_edit.specs.LocalLaws.{same_beyond}
-use Rattle.fm_edit.specs.Sight.{Sight, sight_of, seen_in}
+use Rattle.fm_edit.specs.CacheModel.{Sight, sight_of, seen_in}
 use Rattle.fm_edit.specs.declared.record_cache.RecordCache.{RecordCache}
-use Rattle.fm_edit.specs.Seeing.{values_at, turns, standing, same_standing}
-use Rattle.fm_edit.specs.Index.{lists, sum_in, ListsAtOne}
-use Rattle.fm_edit.specs.Memory.{none_out, Counts}
-use Rattle.fm_edit.specs.Shown.{node_shown}
+use Rattle.fm_edit.specs.CacheUpdate.{values_at, turns, standing, same_standing}
+use Rattle.fm_edit.specs.TaskIndex.{lists, sum_in, ListsAtOne}
+use Rattle.fm_edit.specs.EditorState.{none_out, Counts}
+use Rattle.fm_edit.specs.CacheFacts.{node_shown}
 use Rattle.fm_edit.specs.Affected.{has_touched, AffectedGrows, AffectsEnd, TouchesTask}
 use Rattle.fm_edit.specs.Completing.{Completes}
 use Rattle.fm_edit.proofs.Completed.{both_ways, grows_then}
@@ -195,7 +195,7 @@ module _ (k d after : Table) (keys : Keys) (can_k : CanBe k) (can_d : CanBe d) (
 
   pub spots_as : (t : ℕ) → has_id keys.tasks t ≡ false → won_spot after t ≡ won_spot k t
   spots_as t e =
-      ap (λ (o : Option TaskValue). option_map (λ w. w.1) (head_option (or_else [] (lookup attempt_cmp (t, (or_else none_begun (option_map (λ v. v.1) o)).attempt) after.proposals)))) (base.tasks t e)
+      ap (λ (o : Option TaskValue). option_map (λ w. w.1) (head_option (or_else [] (lookup attempt_cmp (t, (or_else initial_progress (option_map (λ v. v.1) o)).attempt) after.proposals)))) (base.tasks t e)
       ∙ ap (λ es. option_map (λ w. w.1) (head_option (or_else [] es))) (base.proposals t (attempt_of k t) e)
 
   won_as : (t : ℕ) → has_id keys.tasks t ≡ false → won_machine after t ≡ won_machine k t

@@ -11,8 +11,8 @@ use Rattle.fm_policy.specs.Changes.{Keys, changed_keys, joined_keys, has_no_keys
 use Rattle.fm_policy.specs.Keeping.{FollowsAfter}
 use Rattle.fm_policy.specs.KeepingLaws.{took_on}
 use Rattle.fm_edit.specs.declared.editor.Editor.{Editor}
-use Rattle.fm_edit.specs.Editing.{is_fresh_editor, IsFor}
-use Rattle.fm_edit.specs.Deferring.{was_fresh, HasNetworkOf, CanFollow}
+use Rattle.fm_edit.specs.EditorModel.{is_fresh_editor, IsFor}
+use Rattle.fm_edit.specs.DeferredModel.{was_fresh, HasNetworkOf, CanFollow}
 
 -- a delta without keys leaves the table
 unchanged : ((k d : Table) → has_no_keys (changed_keys d) ≡ true → table_join k d ≡ k) → {fresh : Bool} {is_for : Table → Type 0} {now : Table} {keys : Keys}

@@ -10,8 +10,8 @@ use Rattle.fm_records.specs.declared.records.Spot.{Spot}
 use Rattle.fm_records.specs.Options.{passes}
 use Rattle.fm_net.specs.declared.node.Node.{Node}
 use Rattle.fm_net.specs.declared.node.Node.TheVariants.{Sink, Unscheduled, Request, Machine, Task}
-use Rattle.fm_edit.specs.Index.{listed_cmp, is_indexed}
-use Rattle.fm_edit.specs.Sight.{Sight, cached_spec, job_node_in, spot_node_in}
+use Rattle.fm_edit.specs.TaskIndex.{listed_cmp, is_indexed}
+use Rattle.fm_edit.specs.CacheModel.{Sight, cached_spec, job_node_in, spot_node_in}
 use Rattle.fm_edit.proofs.Preferring.{both_equal}
 
 same_numbers : (a b : ℕ) → is_eq (nat_cmp a b) ≡ (a == b)

@@ -10,8 +10,8 @@ use Rattle.fm_lattice.specs.Maps.{lookup}
 use Rattle.fm_records.specs.Options.{passes}
 use Rattle.fm_records.specs.PreferenceLaws.{one_more_preferred}
 use Rattle.fm_edit.specs.declared.record_cache.CachedTask.{CachedTask}
-use Rattle.fm_edit.specs.Sight.{Sight, IsSeenTask, cached_live, prefers_in}
-use Rattle.fm_edit.specs.Index.{preferred_cmp}
+use Rattle.fm_edit.specs.CacheModel.{Sight, IsSeenTask, cached_live, prefers_in}
+use Rattle.fm_edit.specs.TaskIndex.{preferred_cmp}
 use Rattle.fm_edit.proofs.Ranges.{swapped}
 
 either : {P : Type 0} (a b : Bool) → (a || b) ≡ true → (a ≡ true → P) → (b ≡ true → P) → P

@@ -12,7 +12,7 @@ use Rattle.std.specs.BTreeMap.Range.{range_contains}
 use Rattle.std.proofs.lemmas.Cmp.{tied_itself}
 use Rattle.fm_lattice.specs.Chains.{nat_same, pair_same, by_cases, less_greater, greater_less}
 use Rattle.fm_lattice.specs.Chains.{TellsApart}
-use Rattle.fm_edit.specs.Index.{pair_cmp}
+use Rattle.fm_edit.specs.TaskIndex.{pair_cmp}
 use Rattle.fm_edit.specs.Listed.{listed_at, named_in}
 
 pub less_said : (a b : ℕ) → nat_cmp a b ≡ Less → a < b

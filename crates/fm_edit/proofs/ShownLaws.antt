@@ -13,10 +13,10 @@ use Rattle.fm_policy.specs.declared.node_facts.NodeFacts.TheVariants.{OfJob, OfR
 use Rattle.fm_policy.specs.NodeFacts.{facts_of, arc_between}
 use Rattle.fm_policy.specs.FactsLaws as policy
 use Rattle.fm_edit.specs.LocalLaws.{counted}
-use Rattle.fm_edit.specs.Sight.{sight_of}
-use Rattle.fm_edit.specs.Index.{counts_at, weight_at}
-use Rattle.fm_edit.specs.Memory.{sum_over, none_out}
-use Rattle.fm_edit.specs.Shown.{facts_shown, node_shown, arc_shown}
+use Rattle.fm_edit.specs.CacheModel.{sight_of}
+use Rattle.fm_edit.specs.TaskIndex.{counts_at, weight_at}
+use Rattle.fm_edit.specs.EditorState.{sum_over, none_out}
+use Rattle.fm_edit.specs.CacheFacts.{facts_shown, node_shown, arc_shown}
 
 and_yes : (b : Bool) → (b && true) ≡ b
 and_yes true = refl

@@ -27,9 +27,9 @@ use Rattle.fm_policy.specs.Changes.{Keys}
 use Rattle.fm_edit.specs.declared.task_index.TaskIndex.{TaskIndex}
 use Rattle.fm_edit.specs.Dirty.{SameBeyond, has_id, dirty_task}
 use Rattle.fm_edit.specs.LocalLaws.{same_kept, live_same, holder_same, spec_same, won_same, prefers_same}
-use Rattle.fm_edit.specs.Sight.{Sight, sight_of, prefers_in}
-use Rattle.fm_edit.specs.Index.{is_indexed, counts_at, weight_at, amount_at, lists, lists_preferred, sum_in}
-use Rattle.fm_edit.specs.Memory.{sum_over, also_out, Counts}
+use Rattle.fm_edit.specs.CacheModel.{Sight, sight_of, prefers_in}
+use Rattle.fm_edit.specs.TaskIndex.{is_indexed, counts_at, weight_at, amount_at, lists, lists_preferred, sum_in}
+use Rattle.fm_edit.specs.EditorState.{sum_over, also_out, Counts}
 
 nothing : (n : ℕ) → 0 + n ≡ n
 nothing n = omega arith

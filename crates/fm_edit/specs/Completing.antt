@@ -10,10 +10,10 @@ use Rattle.fm_net.specs.Touched.{is_among}
 use Rattle.fm_edit.specs.declared.task_index.TaskIndex.{TaskIndex}
 use Rattle.fm_edit.specs.declared.editor_state.EditorState.{EditorState}
 use Rattle.fm_edit.specs.declared.affected.Touched.{Touched}
-use Rattle.fm_edit.specs.Sight.{Sight, seen_in}
-use Rattle.fm_edit.specs.Index.{sum_in, lists_preferred}
-use Rattle.fm_edit.specs.Memory.{node_by}
-use Rattle.fm_edit.specs.Shown.{node_shown}
+use Rattle.fm_edit.specs.CacheModel.{Sight, seen_in}
+use Rattle.fm_edit.specs.TaskIndex.{sum_in, lists_preferred}
+use Rattle.fm_edit.specs.EditorState.{node_by}
+use Rattle.fm_edit.specs.CacheFacts.{node_shown}
 use Rattle.fm_edit.specs.Affected.{has_touched, has_pair, AffectedGrows}
 
 abbrev pub is_request_node : Node → Bool

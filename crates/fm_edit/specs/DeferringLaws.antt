@@ -9,8 +9,8 @@ use Rattle.fm_policy.specs.Changes.{Keys, no_keys, is_nil, has_no_keys}
 use Rattle.fm_policy.specs.KeepingLaws.{took_none}
 use Rattle.fm_edit.specs.declared.deferred.Deferred.{Deferred}
 use Rattle.fm_edit.specs.declared.editor.Editor.{Editor}
-use Rattle.fm_edit.specs.Editing.{is_fresh_editor, IsFor}
-use Rattle.fm_edit.specs.Deferring.{was_fresh, HasNetworkOf, CanFollow, is_fresh_deferred, DeferredIsFor, DeferredFollows}
+use Rattle.fm_edit.specs.EditorModel.{is_fresh_editor, IsFor}
+use Rattle.fm_edit.specs.DeferredModel.{was_fresh, HasNetworkOf, CanFollow, is_fresh_deferred, DeferredIsFor, DeferredFollows}
 
 is_none : (xs : List ℕ) → is_nil xs ≡ true → xs ≡ []
 is_none [] h = refl

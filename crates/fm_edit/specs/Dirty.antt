@@ -16,7 +16,7 @@ use Rattle.fm_net.specs.declared.edit.Edit.{Edit}
 use Rattle.fm_net.specs.declared.edit.Edit.TheVariants.{DropArc, DropNode, PutNode, PutArc}
 use Rattle.fm_net.specs.Network.{is_held}
 use Rattle.fm_policy.specs.Changes.{Keys}
-use Rattle.fm_edit.specs.Seeing.{turns}
+use Rattle.fm_edit.specs.CacheUpdate.{turns}
 
 -- the id is one of the list
 abbrev pub has_id : List ℕ → ℕ → Bool

@@ -4,8 +4,8 @@ use Rattle.fm_records.specs.Table.{Table}
 use Rattle.fm_net.specs.Network.{net_of}
 use Rattle.fm_edit.specs.declared.keepers.Keeper.{Keeper}
 use Rattle.fm_edit.specs.declared.keepers.Keeper.TheVariants.{Edits, Builds, Defers}
-use Rattle.fm_edit.specs.Deferring.{is_fresh_deferred, DeferredIsFor, DeferredFollows}
-use Rattle.fm_edit.specs.Editing.{is_fresh_editor, IsFor}
+use Rattle.fm_edit.specs.DeferredModel.{is_fresh_deferred, DeferredIsFor, DeferredFollows}
+use Rattle.fm_edit.specs.EditorModel.{is_fresh_editor, IsFor}
 
 abbrev pub is_fresh_keeper : Keeper → Bool
 is_fresh_keeper (Edits e) = is_fresh_editor e

@@ -16,7 +16,7 @@ use Rattle.fm_records.specs.declared.records.Spot.{Spot}
 use Rattle.fm_records.specs.Options.{when, and_then, only_if, passes, or_else}
 use Rattle.fm_records.specs.Sets.{IsMember}
 use Rattle.fm_records.specs.Table.{Table, TaskValue}
-use Rattle.fm_records.specs.Know.{none_begun}
+use Rattle.fm_records.specs.Know.{initial_progress}
 use Rattle.fm_records.specs.OpsOfTable.{IsTable}
 use Rattle.fm_records.specs.Joined.{table_join}
 use Rattle.fm_records.specs.Facts.{head_option, job_of, spec_of, progress_of, attempt_of, used_of, winner_of, is_done, job_stands, live_spec, is_live, open_state, is_present, won_spot, holder_of, holds, held_tasks, request_of, load_of, spare_of}
@@ -155,7 +155,7 @@ module _ (k after : Table) (keys : Keys) (turned : List ℕ) (same : SameBeyond 
     spec_same = ap (and_then (λ v. v.0)) (same.tasks t (clean t e).told)
 
     pub progress_same : progress_of after t ≡ progress_of k t
-    progress_same = ap (λ o. or_else none_begun (option_map (λ v. v.1) o)) (same.tasks t (clean t e).told)
+    progress_same = ap (λ o. or_else initial_progress (option_map (λ v. v.1) o)) (same.tasks t (clean t e).told)
 
     stands_same : (s : Option SpecReg) (pr : Progress) → passes (has_id keys.jobs) (option_map (λ s. s.job) s) ≡ false
         → only_if (λ s. not s.withdrawn && job_stands after s.job && not (is_done pr.phase)) s ≡ only_if (λ s. not s.withdrawn && job_stands k s.job && not (is_done pr.phase)) s

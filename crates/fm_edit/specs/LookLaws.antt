@@ -13,7 +13,7 @@ use Rattle.fm_policy.specs.Changes.{Keys}
 use Rattle.fm_edit.specs.declared.look.Key.{Key}
 use Rattle.fm_edit.specs.declared.look.Key.TheVariants.{Job, Task, Machine, Winner}
 use Rattle.fm_edit.specs.Dirty.{has_id, job_of_task, won_machine, dirty_task}
-use Rattle.fm_edit.specs.Looking.{looks_of, IsDirtyKey}
+use Rattle.fm_edit.specs.Lookups.{looks_of, IsDirtyKey}
 
 -- a fact of each of the first and of each of the second is one of each of both
 pub each_of_both : {Y : Type 0} (P : Y → Type 0) (xs ys : List Y) → ((y : Y) → IsMember y xs → P y) → ((y : Y) → IsMember y ys → P y) → (y : Y) → IsMember y (xs ++ ys) → P y

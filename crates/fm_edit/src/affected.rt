@@ -7,7 +7,7 @@ ghost use Rattle.fm_records.specs.TableLaws.{Rises};
 ghost use Rattle.fm_net.specs.Nodes.{node_cmp, ends_cmp};
 ghost use Rattle.fm_net.specs.declared.node.Node.{Node as NodeName};
 ghost use Rattle.fm_edit.specs.Dirty.{has_id};
-ghost use Rattle.fm_edit.specs.Sight.{seen_in};
+ghost use Rattle.fm_edit.specs.CacheModel.{seen_in};
 ghost use Rattle.fm_edit.specs.Affected.{has_touched, has_pair, AffectedGrows, AffectsEnd, TouchesTask, IsNodeOf, IsTaskEnd, IsEndOf};
 
 use crate::record_cache::RecordCache;

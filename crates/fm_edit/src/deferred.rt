@@ -1,12 +1,12 @@
 //! A keeper that collects keys, and edits or builds when its network is read.
 
 ghost use Rattle.std.specs.Prelude.{◌≡◌, [], true, false, None, is_some, IsTrue, IfOk, OnOk, OnErr};
-ghost use Rattle.fm_records.specs.Know.{know};
+ghost use Rattle.fm_records.specs.Know.{table_of};
 ghost use Rattle.fm_net.specs.Network.{net_of};
 ghost use Rattle.fm_policy.specs.Changes.{no_keys};
 ghost use Rattle.fm_policy.specs.Keeping.{FollowsAfter};
-ghost use Rattle.fm_edit.specs.Editing.{one_more};
-ghost use Rattle.fm_edit.specs.Deferring.{is_fresh_deferred, DeferredIsFor, DeferredFollows, DeferredAbsorbs};
+ghost use Rattle.fm_edit.specs.EditorModel.{one_more};
+ghost use Rattle.fm_edit.specs.DeferredModel.{is_fresh_deferred, DeferredIsFor, DeferredFollows, DeferredAbsorbs};
 
 use crate::editor::Editor;
 use fm_know::knowledge::Knowledge;
@@ -62,8 +62,8 @@ impl Deferred {
     /// Fresh, with the network of nothing known.
     pub fn new(alloc: Global) -> Result<Deferred, OutOfMemory>
         ensures fresh { IfOk result (λ d. IsTrue (is_fresh_deferred d)) }
-        ensures nothing { IfOk result (λ d. DeferredIsFor d (know [])) }
-        ensures follows { IfOk result (λ d. DeferredFollows d (know [])) }
+        ensures nothing { IfOk result (λ d. DeferredIsFor d (table_of [])) }
+        ensures follows { IfOk result (λ d. DeferredFollows d (table_of [])) }
     {
         Ok(Deferred {
             editor: None,
@@ -213,7 +213,7 @@ fn few_of(now: &Knowledge) -> usize {
 }
 
 impl NetKeeper for Deferred {
-    ghost use Rattle.fm_edit.specs.Deferring.{is_fresh_deferred, DeferredIsFor, DeferredFollows, DeferredAbsorbs};
+    ghost use Rattle.fm_edit.specs.DeferredModel.{is_fresh_deferred, DeferredIsFor, DeferredFollows, DeferredAbsorbs};
     ghost use Rattle.fm_edit.specs.DeferringLaws.{fresh_deferred_follows};
 
     ghost fresh = { is_fresh_deferred };

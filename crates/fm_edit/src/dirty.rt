@@ -5,9 +5,9 @@ ghost use Rattle.std.specs.Ordering.{nat_cmp};
 ghost use Rattle.fm_records.specs.TableLaws.{Rises};
 ghost use Rattle.fm_net.specs.declared.node.Node.{Node as NodeName};
 ghost use Rattle.fm_edit.specs.Dirty.{has_id};
-ghost use Rattle.fm_edit.specs.Sight.{seen_in};
-ghost use Rattle.fm_edit.specs.Seeing.{standing, standing_of, same_standing, turns};
-ghost use Rattle.fm_edit.specs.Index.{lists, ListsAtOne};
+ghost use Rattle.fm_edit.specs.CacheModel.{seen_in};
+ghost use Rattle.fm_edit.specs.CacheUpdate.{standing, standing_of, same_standing, turns};
+ghost use Rattle.fm_edit.specs.TaskIndex.{lists, ListsAtOne};
 
 use crate::record_cache::RecordCache;
 use crate::task_index::TaskIndex;

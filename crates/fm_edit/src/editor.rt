@@ -1,14 +1,14 @@
 //! A keeper that edits its network: incremental view maintenance.
 
 ghost use Rattle.std.specs.Prelude.{◌≡◌, ◌++◌, [], true, false, IsTrue, IfOk, OnOk, OnErr};
-ghost use Rattle.fm_records.specs.Know.{know};
+ghost use Rattle.fm_records.specs.Know.{table_of};
 ghost use Rattle.fm_records.specs.Table.{Table};
 ghost use Rattle.fm_net.specs.Edits.{after_edits, change, MayEditAll};
 ghost use Rattle.fm_net.specs.Network.{net_of};
 ghost use Rattle.fm_policy.specs.Keeping.{FollowsAfter};
 ghost use Rattle.fm_edit.specs.Dirty.{CountsDirtyTasks};
-ghost use Rattle.fm_edit.specs.Looking.{looks_of};
-ghost use Rattle.fm_edit.specs.Editing.{is_fresh_editor, taken_out, one_more, IsFor};
+ghost use Rattle.fm_edit.specs.Lookups.{looks_of};
+ghost use Rattle.fm_edit.specs.EditorModel.{is_fresh_editor, taken_out, one_more, IsFor};
 
 use crate::editor_state::EditorState;
 use crate::look::{KnowLook, Look};
@@ -39,7 +39,7 @@ impl Editor {
     /// Fresh, with the network of nothing known.
     pub fn new(alloc: Global) -> Result<Editor, OutOfMemory>
         ensures fresh { IfOk result (λ e. IsTrue (is_fresh_editor e)) }
-        ensures nothing { IfOk result (λ e. IsFor e (know [])) }
+        ensures nothing { IfOk result (λ e. IsFor e (table_of [])) }
         ensures edits { IfOk result (λ e. e.edits ≡ 0) }
     {
         Ok(Editor {
@@ -136,7 +136,7 @@ fn make(network: &mut Shared<Network>, edits: &[Edit]) -> Result<(), OutOfMemory
 }
 
 impl NetKeeper for Editor {
-    ghost use Rattle.fm_edit.specs.Editing.{is_fresh_editor, IsFor};
+    ghost use Rattle.fm_edit.specs.EditorModel.{is_fresh_editor, IsFor};
 
     ghost fresh = { is_fresh_editor };
 

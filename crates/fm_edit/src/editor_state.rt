@@ -1,7 +1,7 @@
 //! What an Editor remembers.
 
 ghost use Rattle.std.specs.Prelude.{◌≡◌, ◌<◌, ◌^◌, ◌++◌, [], true, length, IfOk, OnOk};
-ghost use Rattle.fm_records.specs.Know.{know};
+ghost use Rattle.fm_records.specs.Know.{table_of};
 ghost use Rattle.fm_records.specs.Table.{Table};
 ghost use Rattle.fm_net.specs.Network.{net_of};
 ghost use Rattle.fm_net.specs.Touched.{Touches};
@@ -9,13 +9,13 @@ ghost use Rattle.fm_records.specs.Ranges.{CanBe};
 ghost use Rattle.fm_policy.specs.Changes.{changed_keys};
 ghost use Rattle.fm_policy.specs.Keeping.{FollowsAfter};
 ghost use Rattle.fm_edit.specs.Dirty.{CountsDirtyTasks};
-ghost use Rattle.fm_edit.specs.Looking.{looks_of};
-ghost use Rattle.fm_edit.specs.Memory.{Remembers, IsEditorState};
+ghost use Rattle.fm_edit.specs.Lookups.{looks_of};
+ghost use Rattle.fm_edit.specs.EditorState.{Remembers, IsEditorState};
 ghost use Rattle.fm_edit.specs.Affected.{TouchesOnlyDirty};
 
 use crate::affected::Touched;
 use crate::cache_updates::{machines_now, see};
-use crate::completing::touch_pairs;
+use crate::affected_pairs::touch_pairs;
 use crate::dirty::{dirty_tasks, turned};
 use crate::look::Look;
 use crate::record_cache::RecordCache;
@@ -35,7 +35,7 @@ pub(crate) struct EditorState {
 impl EditorState {
     /// Of nothing known. It allocates nothing.
     pub(crate) fn new(alloc: Global) -> EditorState
-        ensures { Remembers (know []) result }
+        ensures { Remembers (table_of []) result }
     {
         EditorState {
             seen: RecordCache::new(alloc),

@@ -15,7 +15,7 @@ ghost use Rattle.fm_policy.specs.Changes.{Keys, changed_keys};
 ghost use Rattle.fm_edit.specs.declared.look.Key.{Key as KeyName};
 ghost use Rattle.fm_edit.specs.Dirty.{SameBeyond, dirty_task, IsDirtyMachine, MayTurn, MayDiffer, MayMake};
 ghost use Rattle.fm_edit.specs.Change.{AreDistinctEdits};
-ghost use Rattle.fm_edit.specs.Looking.{looks_of, IsDirtyKey};
+ghost use Rattle.fm_edit.specs.Lookups.{looks_of, IsDirtyKey};
 
 /// A delta changes nothing that its keys do not name: at most its machines turn.
 pub fn law_same_beyond()

@@ -4,14 +4,14 @@
 
 mod affected;
 mod cache_updates;
-mod completing;
+mod affected_pairs;
 pub mod deferred;
 mod dirty;
 pub mod editor;
 mod editor_state;
 pub mod keepers;
 pub mod laws;
-mod listing;
+mod diff;
 pub mod look;
 mod record_cache;
 mod shown;

@@ -70,7 +70,7 @@ pub struct KnowLook<'a> {
 }
 
 impl<'a> Model for KnowLook<'a> {
-    ghost use Rattle.fm_edit.specs.Looking.{Looked};
+    ghost use Rattle.fm_edit.specs.Lookups.{Looked};
 
     ghost Value = { Looked };
 

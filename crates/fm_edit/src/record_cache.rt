@@ -1,13 +1,13 @@
 //! The records as they were last seen.
 
 ghost use Rattle.std.specs.Prelude.{◌≡◌, ◌&&◌, ℕ, true, ◌<◌, ◌^◌, [], not, is_some, option_map, length, Some};
-ghost use Rattle.fm_records.specs.Know.{know};
+ghost use Rattle.fm_records.specs.Know.{table_of};
 ghost use Rattle.std.specs.Ordering.{nat_cmp};
 ghost use Rattle.fm_lattice.specs.Maps.{lookup, IsRising};
 ghost use Rattle.fm_records.specs.Table.{Table};
 ghost use Rattle.fm_records.specs.Options.{passes};
 ghost use Rattle.fm_net.specs.declared.node.Node.{Node as NodeName};
-ghost use Rattle.fm_edit.specs.Sight.{IsSeenTask, sight_of, seen_in, cached_live_record, cached_live, held_at, open_in, present_in, cached_holder, used_in};
+ghost use Rattle.fm_edit.specs.CacheModel.{IsSeenTask, sight_of, seen_in, cached_live_record, cached_live, held_at, open_in, present_in, cached_holder, used_in};
 
 use fm_know::facts::is_done;
 use fm_net::node::Node;
@@ -96,7 +96,7 @@ impl CachedTask {
 impl RecordCache {
     /// Nothing is seen.
     pub(crate) fn new(alloc: Global) -> RecordCache
-        ensures { seen_in result ≡ sight_of (know []) }
+        ensures { seen_in result ≡ sight_of (table_of []) }
     {
         RecordCache {
             jobs: BTreeMap::new(alloc),

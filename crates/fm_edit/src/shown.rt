@@ -2,7 +2,7 @@
 
 ghost use Rattle.std.specs.Prelude.{◌≡◌, IfSome};
 ghost use Rattle.fm_net.specs.declared.node.Node.{Node as NodeName};
-ghost use Rattle.fm_edit.specs.Memory.{facts_by, node_by, arc_by, IsKnownBy, AreKnownBy};
+ghost use Rattle.fm_edit.specs.EditorState.{facts_by, node_by, arc_by, IsKnownBy, AreKnownBy};
 
 use crate::editor_state::EditorState;
 use fm_net::node::Node;

@@ -1,7 +1,7 @@
 //! Where tasks are listed, and their sums.
 
 ghost use Rattle.std.specs.Prelude.{◌≡◌, ℕ, Bool, ◌+◌, ◌-◌, ◌<◌, ◌^◌, ◌&&◌, true, false, is_some, [], cond, length, min, OnOk};
-ghost use Rattle.fm_records.specs.Know.{know};
+ghost use Rattle.fm_records.specs.Know.{table_of};
 ghost use Rattle.std.specs.Ordering.{is_eq, nat_cmp};
 ghost use Rattle.fm_lattice.specs.Maps.{lookup};
 ghost use Rattle.fm_records.specs.Options.{passes};
@@ -10,10 +10,10 @@ ghost use Rattle.fm_records.specs.Table.{Table};
 ghost use Rattle.fm_records.specs.Ranges.{CanBe};
 ghost use Rattle.fm_net.specs.declared.node.Node.{Node as NodeName};
 ghost use Rattle.fm_net.specs.Nodes.{node_cmp};
-ghost use Rattle.fm_edit.specs.Sight.{Sight, IsSeenTask, sight_of, seen_in, prefers_in};
+ghost use Rattle.fm_edit.specs.CacheModel.{Sight, IsSeenTask, sight_of, seen_in, prefers_in};
 ghost use Rattle.fm_edit.specs.Dirty.{has_id};
-ghost use Rattle.fm_edit.specs.Memory.{none_out, Counts};
-ghost use Rattle.fm_edit.specs.Index.{is_indexed, listed_cmp, lists, lists_preferred, sum_in, amount_at};
+ghost use Rattle.fm_edit.specs.EditorState.{none_out, Counts};
+ghost use Rattle.fm_edit.specs.TaskIndex.{is_indexed, listed_cmp, lists, lists_preferred, sum_in, amount_at};
 
 use crate::record_cache::{CachedTask, RecordCache};
 use fm_lattice::join::OutOfMemory;
@@ -37,7 +37,7 @@ pub(crate) struct TaskIndex {
 impl TaskIndex {
     /// Of no tasks.
     pub(crate) fn new(alloc: Global) -> TaskIndex
-        ensures { (out : ℕ → Bool) → Counts out (know []) result }
+        ensures { (out : ℕ → Bool) → Counts out (table_of []) result }
     {
         TaskIndex {
             listed: BTreeSet::new(alloc),

@@ -7,7 +7,7 @@ use Rattle.fm_certificate.specs.Flows.{Units, IsLeast}
 use Rattle.fm_round.specs.declared.plan.Plan.{Plan}
 use Rattle.fm_round.specs.declared.plan.Admitted.{Admitted}
 use Rattle.fm_round.specs.Admission.{admission}
-use Rattle.fm_round.specs.Planned.{units_over, plan_of_flow}
+use Rattle.fm_round.specs.PlanOfFlow.{units_over, plan_of_flow}
 use Rattle.fm_round.specs.Schedules.{IsPlanOf}
 
 pub decided : (k : Table) (net : Net) (units : Units) (plan : Plan) (n : ℕ) (a : Admitted) → net ≡ net_of k → IsLeast net units → plan ≡ plan_of_flow (units_over net units) k → a ≡ admission k n plan → (x : Plan) × IsPlanOf k x × a ≡ admission k n x

@@ -2,7 +2,7 @@
 
 ghost use Rattle.std.specs.Prelude.{map, IfErr, OnOk};
 ghost use Rattle.fm_coord.specs.Numbers.{AreDistinct};
-ghost use Rattle.fm_world.specs.Stands.{state_of, number_of};
+ghost use Rattle.fm_world.specs.Represents.{state_of, number_of};
 ghost use Rattle.fm_gossip.specs.Exchanges.{StopsExchange};
 ghost use Rattle.fm_gossip.specs.AfterExchange.{KnowSame};
 

@@ -2,7 +2,7 @@
 
 ghost use Rattle.std.specs.Prelude.{◌≡◌, ◌⊎◌, map, IfOk, IfErr};
 ghost use Rattle.fm_coord.specs.Numbers.{AreDistinct};
-ghost use Rattle.fm_world.specs.Stands.{state_of, number_of};
+ghost use Rattle.fm_world.specs.Represents.{state_of, number_of};
 ghost use Rattle.fm_world.specs.Listings.{IsWholeRun};
 
 use fm_coord::coordinator::Coordinator;

@@ -3,7 +3,7 @@
 ghost use Rattle.std.specs.Prelude.{◌≡◌, OnOk};
 ghost use Rattle.fm_world.specs.Worlds.{WorldOfSets, with_number, run_of};
 ghost use Rattle.fm_world.specs.Agreement.{IsDumpOf};
-ghost use Rattle.fm_world.specs.Stands.{WorldStandsFor};
+ghost use Rattle.fm_world.specs.Represents.{WorldRepresents};
 
 use fm_dimacs::out::Out;
 use fm_policy::keeper::NetKeeper;
@@ -20,7 +20,7 @@ pub fn run_and_dump<N: NetKeeper, W: Out>(
     number: CoordId,
     out: &mut W,
 ) -> Result<(), Refusal>
-    ensures { (w : WorldOfSets) → WorldStandsFor world.old w
+    ensures { (w : WorldOfSets) → WorldRepresents world.old w
         → OnOk result (IsDumpOf (with_number (run_of w steps.now).replicas number) (W.written out.old)
         (W.written out.new)) }
 {

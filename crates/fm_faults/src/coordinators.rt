@@ -1,7 +1,7 @@
 //! Coordinators: what happened to one before a call, the call, and whether two are equal.
 
 ghost use Rattle.std.specs.Prelude.{[], IsTrue, IfOk};
-ghost use Rattle.fm_records.specs.Know.{know};
+ghost use Rattle.fm_records.specs.Know.{table_of};
 ghost use Rattle.fm_edit.specs.Keepers.{is_fresh_keeper, KeeperIsFor};
 
 use crate::cluster::{are_same, numbered, op};
@@ -107,7 +107,7 @@ fn new(alloc: Global, kind: Kind, number: u8) -> Result<Either, Refusal> {
 }
 
 fn keeper(alloc: Global, kind: Kind) -> Result<Keeper, Refusal>
-    ensures { IfOk result (λ keeper. IsTrue (is_fresh_keeper keeper) → KeeperIsFor keeper (know [])) }
+    ensures { IfOk result (λ keeper. IsTrue (is_fresh_keeper keeper) → KeeperIsFor keeper (table_of [])) }
 {
     match kind {
         Kind::Edits | Kind::Stale(_) => Ok(Keeper::Edits(Editor::new(alloc)?)),

@@ -2,7 +2,7 @@
 
 ghost use Rattle.std.specs.Prelude.{true, IsTrue, IfOk};
 ghost use Rattle.fm_policy.specs.Keeping.{FollowsAfter};
-ghost use Rattle.fm_edit.specs.Editing.{is_fresh_editor, IsFor};
+ghost use Rattle.fm_edit.specs.EditorModel.{is_fresh_editor, IsFor};
 
 use crate::cluster::known;
 use crate::memory::Memory;

@@ -17,7 +17,7 @@ use fm_records::refusal::Refusal;
 use fm_round::admission::admit;
 use fm_round::from_network::plan;
 use fm_round::plan::{Admitted, Plan, Stop};
-use fm_round::stopping::stops;
+use fm_round::stops::stops;
 use std::alloc::Global;
 
 // How many operations the plans are of.

@@ -8,14 +8,14 @@ use Rattle.fm_round.specs.declared.plan.Admitted.{Admitted}
 use Rattle.fm_round.specs.Schedules.{IsPlanOf}
 use Rattle.fm_coord.specs.declared.entry.Call.TheVariants as call
 use Rattle.fm_coord.specs.declared.entry.Reply.TheVariants as reply
-use Rattle.fm_fleet.specs.Seats.{SeatSeen, after_call, MayRefuse}
+use Rattle.fm_fleet.specs.Seats.{SeatModel, after_call, MayRefuse}
 
 -- the seat after a view of k with so many entries before it
-abbrev pub after_view : SeatSeen → ℕ → Table → SeatSeen
+abbrev pub after_view : SeatModel → ℕ → Table → SeatModel
 after_view s at k = after_call s call.View (reply.Seen at k)
 
 -- a view, not before the seat's own calls, and then the commit of a plan by what was seen, with its answer
-pub record IsRound (base : ℕ) (s : SeatSeen) (t : SeatSeen) (admitted : Admitted) : Type 0 where
+pub record IsRound (base : ℕ) (s : SeatModel) (t : SeatModel) (admitted : Admitted) : Type 0 where
   pub at : ℕ
   pub known : Table
   pub plan : Plan
@@ -24,7 +24,7 @@ pub record IsRound (base : ℕ) (s : SeatSeen) (t : SeatSeen) (admitted : Admitt
   pub listed : t ≡ after_call (after_view s at known) (call.Commit plan) (reply.Admitted admitted)
 
 -- the view alone, since memory ran out for a plan, or the commit of a plan was refused
-pub record IsHalfRound (base : ℕ) (s : SeatSeen) (t : SeatSeen) (refusal : Refusal) : Type 0 where
+pub record IsHalfRound (base : ℕ) (s : SeatModel) (t : SeatModel) (refusal : Refusal) : Type 0 where
   pub at : ℕ
   pub known : Table
   pub later : base + length s.log ≤ at
@@ -32,5 +32,5 @@ pub record IsHalfRound (base : ℕ) (s : SeatSeen) (t : SeatSeen) (refusal : Ref
   pub cause : (refusal ≡ OutOfMemory) ⊎ ((plan : Plan) × IsPlanOf known plan × MayRefuse (call.Commit plan) refusal)
 
 -- a round that is refused: before its view was answered, or after it
-abbrev pub IsRefusedRound : ℕ → SeatSeen → SeatSeen → Refusal → Type 0
+abbrev pub IsRefusedRound : ℕ → SeatModel → SeatModel → Refusal → Type 0
 IsRefusedRound base s t refusal = ((t ≡ s) × MayRefuse call.View refusal) ⊎ IsHalfRound base s t refusal

@@ -13,15 +13,15 @@ use Rattle.fm_coord.specs.declared.entry.Reply.TheVariants as reply
 use Rattle.fm_fleet.specs.declared.seat.SeatLog.{SeatLog}
 
 -- a seat's number, and the entries of its accepted calls
-pub record SeatSeen : Type 0 where
+pub record SeatModel : Type 0 where
   pub number : ℕ
   pub log : List Entry
 
-abbrev pub seen_seat : ℕ → List Entry → SeatSeen
+abbrev pub seen_seat : ℕ → List Entry → SeatModel
 seen_seat number log = record { number = number; log = log }
 
 -- the seat after one more accepted call, with its answer
-abbrev pub after_call : SeatSeen → Call → Reply → SeatSeen
+abbrev pub after_call : SeatModel → Call → Reply → SeatModel
 after_call s call reply = seen_seat s.number (s.log ++ history_entry s.number call reply ∷ [])
 
 -- a refusal that a coordinator may answer to a call: out of memory, or the call's cause at some bounds
@@ -39,19 +39,19 @@ abbrev pub AnswersNothing : Call → Type 0
 AnswersNothing call = (s : State) → reply_to (answer_to s call) ≡ reply.Nothing
 
 -- so many seats, numbered from 1, that called nothing yet
-abbrev pub AreNew : ℕ → List SeatSeen → Type 0
+abbrev pub AreNew : ℕ → List SeatModel → Type 0
 AreNew n seats = (length seats ≡ n) × ((i : ℕ) → i < n → slice_get seats i ≡ Some (seen_seat (i + 1) []))
 
 -- a seat of this number is among them
-abbrev pub HasSeat : ℕ → List SeatSeen → Type 0
-HasSeat number seats = (i : ℕ) × (s : SeatSeen) × (slice_get seats i ≡ Some s) × (s.number ≡ number)
+abbrev pub HasSeat : ℕ → List SeatModel → Type 0
+HasSeat number seats = (i : ℕ) × (s : SeatModel) × (slice_get seats i ≡ Some s) × (s.number ≡ number)
 
 -- it is the least number, of those from 1 to n, that no seat has
-abbrev pub IsMissing : ℕ → List SeatSeen → ℕ → Type 0
+abbrev pub IsMissing : ℕ → List SeatModel → ℕ → Type 0
 IsMissing n seats k = (0 < k) × (k < n + 1) × (¬ (HasSeat k seats)) × ((j : ℕ) → j + 1 < k → HasSeat (j + 1) seats)
 
 -- the seat whose log it is
-abbrev pub seat_of : SeatLog → SeatSeen
+abbrev pub seat_of : SeatLog → SeatModel
 seat_of l = seen_seat l.seat l.entries.items
 
 abbrev pub length_of : SeatLog → ℕ

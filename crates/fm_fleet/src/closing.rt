@@ -2,9 +2,9 @@
 ghost use Rattle.std.specs.Prelude.{◌≡◌, ◌<◌, ◌≤◌, ◌+◌, ℕ, length, vec_len, vec_capacity, slice_get, Some, map, sum_by, MatchOption, IfOk, IfErr};
 ghost use Rattle.std.specs.List.Sorted.{IsPermutation};
 ghost use Rattle.fm_records.specs.declared.refusal.Refusal.TheVariants.{NotMine};
-ghost use Rattle.fm_fleet.specs.Seats.{SeatSeen, HasSeat, IsMissing, seat_of, length_of, AreNumbered};
+ghost use Rattle.fm_fleet.specs.Seats.{SeatModel, HasSeat, IsMissing, seat_of, length_of, AreNumbered};
 
-use crate::desk::Desk;
+use crate::locked_coordinator::LockedCoordinator;
 use crate::node::Node;
 use crate::seat::{NodeName, Seat, SeatLog};
 use fm_coord::coordinator::Coordinator;
@@ -33,7 +33,7 @@ impl<N: NetKeeper, L: NodeName> NotClosed<N, L> {
     pub fn into_coordinator(self) -> Coordinator<N> {
         let NotClosed { node, .. } = self;
         let Node { desk, .. } = node;
-        let Desk { coordinator, .. } = desk.into_inner();
+        let LockedCoordinator { coordinator, .. } = desk.into_inner();
         coordinator
     }
 }
@@ -66,7 +66,7 @@ pub fn close<N: NetKeeper, L: NodeName>(
         count,
         room,
     } = node;
-    let Desk {
+    let LockedCoordinator {
         coordinator,
         calls: mut book,
         rest,
@@ -83,7 +83,7 @@ pub fn close<N: NetKeeper, L: NodeName>(
 // Where the seat of this number stands.
 fn find<L: NodeName>(seats: &[Seat<L>], number: u32) -> Option<usize>
     ensures { MatchOption result (¬ (HasSeat number seats.now))
-        (λ i. (s : SeatSeen) × (slice_get seats.now i ≡ Some s) × (s.number ≡ number)) }
+        (λ i. (s : SeatModel) × (slice_get seats.now i ≡ Some s) × (s.number ≡ number)) }
 {
     for i in 0..seats.len() {
         if seats[i].number() == number {

@@ -3,11 +3,11 @@
 
 pub mod audit;
 pub mod closing;
-mod desk;
+mod locked_coordinator;
 pub mod node;
 mod owners;
 pub mod round;
 pub mod seat;
 
 // The inboxes by which nodes pass packets on.
-pub use fm_inbox::{door, inbox};
+pub use fm_inbox::{owned_port, inbox};

@@ -5,7 +5,7 @@ ghost use Rattle.fm_coord.specs.Outputs.{reply_to};
 ghost use Rattle.fm_tally.specs.Tallies.{TallyIsFor};
 ghost use Rattle.fm_fleet.specs.Seats.{after_call, MayRefuse, IsPossibleAnswer, AnswersNothing, AreNew};
 
-use crate::desk::Desk;
+use crate::locked_coordinator::LockedCoordinator;
 use crate::owners::{another, listed};
 use crate::seat::{NodeName, Seat, SeatLog};
 use fm_coord::coordinator::Coordinator;
@@ -26,7 +26,7 @@ use std::sync::{Mutex, Wait};
 /// A coordinator behind a lock, which threads with a seat may call. Contracts see how many seats it has.
 #[derive(Drop)]
 pub struct Node<N: NetKeeper, L: NodeName> {
-    pub(crate) desk: Mutex<Desk<N, L>>,
+    pub(crate) desk: Mutex<LockedCoordinator<N, L>>,
     pub(crate) base: usize,
     pub(crate) count: u32,
     pub(crate) room: Vec<SeatLog>,
@@ -82,7 +82,7 @@ impl<N: NetKeeper, L: NodeName> Node<N, L> {
         let base = coordinator.history().len();
         let (calls, mut all) = blank.open::<L>();
         seat_all(alloc, &mut seats, &mut all, count);
-        let desk = Mutex::new(Desk {
+        let desk = Mutex::new(LockedCoordinator {
             coordinator,
             calls,
             rest: all,

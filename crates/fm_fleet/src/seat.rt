@@ -26,9 +26,9 @@ pub struct Seat<L: NodeName> {
 
 impl<L: NodeName> Model for Seat<L> {
     ghost use Rattle.std.specs.Prelude.{◌≡◌, length};
-    ghost use Rattle.fm_fleet.specs.Seats.{SeatSeen, seen_seat};
+    ghost use Rattle.fm_fleet.specs.Seats.{SeatModel, seen_seat};
 
-    ghost Value = { SeatSeen };
+    ghost Value = { SeatModel };
 
     ghost view = { λ s. seen_seat s.number s.log.items };
 

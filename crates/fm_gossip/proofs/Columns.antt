@@ -8,12 +8,12 @@ use Rattle.std.proofs.lemmas.Option.{slice_get_within, slice_get-map, slice_get-
 use Rattle.std.proofs.Math.Seq.{take-append_seam}
 use Rattle.fm_delta.specs.declared.packet.Packet.{Packet}
 use Rattle.fm_inbox.specs.Conservation.{weigh, SamePackets}
-use Rattle.fm_inbox.specs.Ports.{InboxSeen, PortSeen, IsPortOf, IsNewPortOf, after_put, all_put, all_taken}
+use Rattle.fm_inbox.specs.Ports.{InboxModel, PortModel, IsPortOf, IsNewPortOf, after_put, all_put, all_taken}
 use Rattle.fm_inbox.proofs.Keeps.{weigh-append}
 use Rattle.fm_gossip.specs.Passing.{Passed, passing, all_sent, ArePassedOn}
 use Rattle.fm_gossip.specs.Used.{new_port, put_past, after_takes, used_port, used_ports, AreUsed, column}
 
-pub used_last : (own at : ℕ) (m : Passed) (bs : List InboxSeen) (b : InboxSeen) → used_ports own at m (bs ++ b ∷ []) ≡ used_ports own at m bs ++ used_port (at + length bs == own) m b ∷ []
+pub used_last : (own at : ℕ) (m : Passed) (bs : List InboxModel) (b : InboxModel) → used_ports own at m (bs ++ b ∷ []) ≡ used_ports own at m bs ++ used_port (at + length bs == own) m b ∷ []
 used_last own at m [] b = ap (λ n. used_port (n == own) m b ∷ []) (let e : at ≡ at + 0 = omega arith in e)
 used_last own at m (c ∷ bs) b =
     ap (λ qs. used_port (at == own) m c ∷ qs)
@@ -24,10 +24,10 @@ on_ok (Ok x) f h = f h
 on_ok (Err e) f h = h
 
 -- the last door of one member, and then those of the members after it
-pub column_step : (coords : List Passed) (ports : List (List PortSeen)) (m : Passed) (ms : List Passed) (qs now : List PortSeen) (qss nows : List (List PortSeen)) (old mid new : List PortSeen) → coords ≡ m ∷ ms → ports ≡ qs ∷ qss
-    → ((ps : List PortSeen) (q : PortSeen) → qs ≡ ps ++ q ∷ [] → (now ≡ ps) × (mid ≡ old ++ q ∷ []))
-    → ((at : ℕ) (bs : List InboxSeen) (b : InboxSeen) → AreUsed at (bs ++ b ∷ []) ms qss → AreUsed at bs ms nows × (new ≡ mid ++ column (length bs) at b ms))
-    → (at : ℕ) (bs : List InboxSeen) (b : InboxSeen) → AreUsed at (bs ++ b ∷ []) coords ports → AreUsed at bs coords (now ∷ nows) × (new ≡ old ++ column (length bs) at b coords)
+pub column_step : (coords : List Passed) (ports : List (List PortModel)) (m : Passed) (ms : List Passed) (qs now : List PortModel) (qss nows : List (List PortModel)) (old mid new : List PortModel) → coords ≡ m ∷ ms → ports ≡ qs ∷ qss
+    → ((ps : List PortModel) (q : PortModel) → qs ≡ ps ++ q ∷ [] → (now ≡ ps) × (mid ≡ old ++ q ∷ []))
+    → ((at : ℕ) (bs : List InboxModel) (b : InboxModel) → AreUsed at (bs ++ b ∷ []) ms qss → AreUsed at bs ms nows × (new ≡ mid ++ column (length bs) at b ms))
+    → (at : ℕ) (bs : List InboxModel) (b : InboxModel) → AreUsed at (bs ++ b ∷ []) coords ports → AreUsed at bs coords (now ∷ nows) × (new ≡ old ++ column (length bs) at b coords)
 column_step coords ports m ms qs now qss nows old mid new these there first later at bs b used =
     let u : AreUsed at (bs ++ b ∷ []) (m ∷ ms) (qs ∷ qss) = subst (λ ps. AreUsed at (bs ++ b ∷ []) (m ∷ ms) ps) there (subst (λ cs. AreUsed at (bs ++ b ∷ []) cs ports) these used) in
     let place : 0 + length bs ≡ length bs = omega arith in
@@ -45,7 +45,7 @@ all_of f P (x ∷ xs) h = All-cons (λ x. P (f x)) x xs (h 0 (f x) (omega arith)
 
 -- the ports of an inbox are its ports
 
-column_ports : (own at : ℕ) (b : InboxSeen) (ms : List Passed) → All (IsPortOf b) (column own at b ms)
+column_ports : (own at : ℕ) (b : InboxModel) (ms : List Passed) → All (IsPortOf b) (column own at b ms)
 column_ports own at b [] = All-nil (IsPortOf b)
 column_ports own at b (m ∷ ms) = All-cons (IsPortOf b) _ _ (of_one (own == at)) (column_ports own (at + 1) b ms) where
   of_one : (is : Bool) → IsPortOf b (used_port is m b)
@@ -53,12 +53,12 @@ column_ports own at b (m ∷ ms) = All-cons (IsPortOf b) _ _ (of_one (own == at)
   of_one false = (refl, refl)
 
 -- there is one for each member
-pub length-column : (own at : ℕ) (b : InboxSeen) (ms : List Passed) → length (column own at b ms) ≡ length ms
+pub length-column : (own at : ℕ) (b : InboxModel) (ms : List Passed) → length (column own at b ms) ≡ length ms
 length-column own at b [] = refl
 length-column own at b (m ∷ ms) = ap suc (length-column own (at + 1) b ms)
 
 -- the inboxes but for these are closed, and the members' ports of these are used
-pub record AreClosed (bs : List InboxSeen) (ms : List Passed) (ports : List (List PortSeen)) : Type 0 where
+pub record AreClosed (bs : List InboxModel) (ms : List Passed) (ports : List (List PortModel)) : Type 0 where
   pub used : AreUsed 0 bs ms ports
   pub passed : (i : ℕ) (m : Passed) → length bs ≤ i → slice_get ms i ≡ Some m → SamePackets (m.got ++ m.sent) (all_sent ms)
 
@@ -67,7 +67,7 @@ pub record AreClosed (bs : List InboxSeen) (ms : List Passed) (ports : List (Lis
 differ : (a b : ℕ) → (a ≡ b → ⊥) → (a == b) ≡ false
 differ a b h = elim (a == b) as (λ z. (a == b) ≡ z → z ≡ false) [ true ↦ λ e. absurd (h (eqb-true a b e)) | false ↦ λ e. refl ] refl
 
-beyond : (own at : ℕ) (b : InboxSeen) (ms : List Passed) (h : Packet → ℕ) → own < at → (weigh h (all_put (column own at b ms)) ≡ weigh h (all_sent ms)) × (all_taken (column own at b ms) ≡ [])
+beyond : (own at : ℕ) (b : InboxModel) (ms : List Passed) (h : Packet → ℕ) → own < at → (weigh h (all_put (column own at b ms)) ≡ weigh h (all_sent ms)) × (all_taken (column own at b ms) ≡ [])
 beyond own at b [] h lt = (refl, refl)
 beyond own at b (m ∷ ms) h lt =
     let after = column own (at + 1) b ms in
@@ -77,7 +77,7 @@ beyond own at b (m ∷ ms) h lt =
       ap (λ z. all_taken (used_port z m b ∷ after)) other ∙ rest.1,
     )
 
-at_own : (own at : ℕ) (b : InboxSeen) (ms : List Passed) (h : Packet → ℕ) (m : Passed) (k : ℕ) → own ≡ at + k → slice_get ms k ≡ Some m → (weigh h (all_put (column own at b ms)) + weigh h m.sent ≡ weigh h (all_sent ms)) × (all_taken (column own at b ms) ≡ m.got)
+at_own : (own at : ℕ) (b : InboxModel) (ms : List Passed) (h : Packet → ℕ) (m : Passed) (k : ℕ) → own ≡ at + k → slice_get ms k ≡ Some m → (weigh h (all_put (column own at b ms)) + weigh h m.sent ≡ weigh h (all_sent ms)) × (all_taken (column own at b ms) ≡ m.got)
 at_own own at b [] h m k place there = absurd (omega (arith, slice_get_within [] k m there))
 at_own own at b (n ∷ ms) h m zero place there =
     let same : n ≡ m = cc in
@@ -100,7 +100,7 @@ at_own own at b (n ∷ ms) h m (suc k) place there =
     )
 
 -- one inbox more is closed
-pub closed_next : (bs whole : List InboxSeen) (b : InboxSeen) (ms : List Passed) (ports nows : List (List PortSeen)) (col : List PortSeen) → whole ≡ bs ++ b ∷ [] → AreClosed whole ms ports → AreUsed 0 bs ms nows → col ≡ column (length bs) 0 b ms → SamePackets (all_put col) (all_taken col) → AreClosed bs ms nows
+pub closed_next : (bs whole : List InboxModel) (b : InboxModel) (ms : List Passed) (ports nows : List (List PortModel)) (col : List PortModel) → whole ≡ bs ++ b ∷ [] → AreClosed whole ms ports → AreUsed 0 bs ms nows → col ≡ column (length bs) 0 b ms → SamePackets (all_put col) (all_taken col) → AreClosed bs ms nows
 closed_next bs whole b ms ports nows col is before used its same =
     record {
       used = used;
@@ -117,19 +117,19 @@ closed_next bs whole b ms ports nows col is before used its same =
           (cases_lt i (length whole));
     }
 
-pub all_closed : (bs : List InboxSeen) (ms : List Passed) (ports : List (List PortSeen)) → length bs ≡ 0 → AreClosed bs ms ports → ArePassedOn ms
+pub all_closed : (bs : List InboxModel) (ms : List Passed) (ports : List (List PortModel)) → length bs ≡ 0 → AreClosed bs ms ports → ArePassedOn ms
 all_closed bs ms ports none closed = λ i m there. closed.passed i m (omega (arith, none)) there
 
-pub none_closed : (bs : List InboxSeen) (ms : List Passed) (ports : List (List PortSeen)) → length bs ≡ length ms → AreUsed 0 bs ms ports → AreClosed bs ms ports
+pub none_closed : (bs : List InboxModel) (ms : List Passed) (ports : List (List PortModel)) → length bs ≡ length ms → AreUsed 0 bs ms ports → AreClosed bs ms ports
 none_closed bs ms ports long used = record { used = used; passed = λ i m le there. absurd (omega (arith, le, long, slice_get_within ms i m there)) }
 
-pub its_doors : {D : Type 0} (port : D → PortSeen) (ds : List D) (own : ℕ) (b : InboxSeen) (ms : List Passed) → map port ds ≡ column own 0 b ms → All (λ d. IsPortOf b (port d)) ds
+pub its_doors : {D : Type 0} (port : D → PortModel) (ds : List D) (own : ℕ) (b : InboxModel) (ms : List Passed) → map port ds ≡ column own 0 b ms → All (λ d. IsPortOf b (port d)) ds
 its_doors port [] own b ms is = All-nil (λ d. IsPortOf b (port d))
 its_doors port (d ∷ ds) own b ms is = all_of port (IsPortOf b) (d ∷ ds) (subst (All (IsPortOf b)) (sym is) (column_ports own 0 b ms))
 
 -- what taking the last doors comes to
-pub taken_now : (whole bs : List InboxSeen) (b : InboxSeen) (ms now : List Passed) (ports before nows : List (List PortSeen)) (none col : List PortSeen) → whole ≡ bs ++ b ∷ [] → now ≡ ms → before ≡ ports → none ≡ [] → AreClosed whole ms ports
-    → ((at : ℕ) (bs : List InboxSeen) (b : InboxSeen) → AreUsed at (bs ++ b ∷ []) now before → AreUsed at bs now nows × (col ≡ none ++ column (length bs) at b now))
+pub taken_now : (whole bs : List InboxModel) (b : InboxModel) (ms now : List Passed) (ports before nows : List (List PortModel)) (none col : List PortModel) → whole ≡ bs ++ b ∷ [] → now ≡ ms → before ≡ ports → none ≡ [] → AreClosed whole ms ports
+    → ((at : ℕ) (bs : List InboxModel) (b : InboxModel) → AreUsed at (bs ++ b ∷ []) now before → AreUsed at bs now nows × (col ≡ none ++ column (length bs) at b now))
     → AreUsed 0 bs ms nows × (col ≡ column (length bs) 0 b ms)
 taken_now whole bs b ms now ports before nows none col is same kept empty closed taken =
     let used : AreUsed 0 (bs ++ b ∷ []) now before =
@@ -144,16 +144,16 @@ pub written : {A : Type 0} (n : ℕ) (now before : List A) → length now ≡ n 
 written n now before is was =
     ap (λ k. take k (now ++ drop (length now) before)) (sym is) ∙ take-append_seam now (drop (length now) before)
 
-pub is_new : (b : InboxSeen) (p : PortSeen) → IsNewPortOf b p → p ≡ new_port b
+pub is_new : (b : InboxModel) (p : PortModel) → IsNewPortOf b p → p ≡ new_port b
 is_new b p h = λ i. record { inbox = h.0 i; ports = h.1 i; put = h.2 i; taken = h.3 i }
 
 -- ports through which a packet was put, but for the own one
 
-after_all : (b : InboxSeen) (sent done ps : List Packet) → after_takes (record { inbox = b.id; ports = b.ports; put = sent; taken = done }) ps ≡ record { inbox = b.id; ports = b.ports; put = sent; taken = done ++ ps }
+after_all : (b : InboxModel) (sent done ps : List Packet) → after_takes (record { inbox = b.id; ports = b.ports; put = sent; taken = done }) ps ≡ record { inbox = b.id; ports = b.ports; put = sent; taken = done ++ ps }
 after_all b sent done [] = ap (λ z. record { inbox = b.id; ports = b.ports; put = sent; taken = z }) (sym (append-nil done))
 after_all b sent done (p ∷ ps) = after_all b sent (done ++ p ∷ []) ps ∙ ap (λ z. record { inbox = b.id; ports = b.ports; put = sent; taken = z }) (append_assoc done (p ∷ []) ps)
 
-puts_past : (own at : ℕ) (p : Packet) (got : List Packet) (bs : List InboxSeen) → own < at → put_past own at p (map new_port bs) ≡ used_ports own at (passing (p ∷ []) got) bs
+puts_past : (own at : ℕ) (p : Packet) (got : List Packet) (bs : List InboxModel) → own < at → put_past own at p (map new_port bs) ≡ used_ports own at (passing (p ∷ []) got) bs
 puts_past own at p got [] lt = refl
 puts_past own at p got (b ∷ bs) lt =
     elim (at == own) as (λ z. (at == own) ≡ z → cond z (new_port b) (after_put (new_port b) p) ∷ put_past own (at + 1) p (map new_port bs) ≡ used_port z (passing (p ∷ []) got) b ∷ used_ports own (at + 1) (passing (p ∷ []) got) bs) [
@@ -161,7 +161,7 @@ puts_past own at p got (b ∷ bs) lt =
       | false ↦ λ e. ap (λ qs. after_put (new_port b) p ∷ qs) (puts_past own (at + 1) p got bs (omega (arith, lt)))
     ] refl
 
-uses_own : (own at k : ℕ) (p : Packet) (got : List Packet) (bs : List InboxSeen) (q : PortSeen) → own ≡ at + k → slice_get (put_past own at p (map new_port bs)) k ≡ Some q → set (put_past own at p (map new_port bs)) k (after_takes q got) ≡ used_ports own at (passing (p ∷ []) got) bs
+uses_own : (own at k : ℕ) (p : Packet) (got : List Packet) (bs : List InboxModel) (q : PortModel) → own ≡ at + k → slice_get (put_past own at p (map new_port bs)) k ≡ Some q → set (put_past own at p (map new_port bs)) k (after_takes q got) ≡ used_ports own at (passing (p ∷ []) got) bs
 uses_own own at k p got [] q place there = absurd (omega (arith, slice_get_within [] k q there))
 uses_own own at zero p got (b ∷ bs) q place there =
     let its : (at == own) ≡ true = eq-eqb at own (omega (arith, place)) in
@@ -175,13 +175,13 @@ uses_own own at (suc k) p got (b ∷ bs) q place there =
     ∙ ap (λ qs. after_put (new_port b) p ∷ qs) (uses_own own (at + 1) k p got bs q (omega (arith, place)) there)
     ∙ ap (λ z. used_port z (passing (p ∷ []) got) b ∷ used_ports own (at + 1) (passing (p ∷ []) got) bs) (sym other)
 
-length-put_past : (own at : ℕ) (p : Packet) (qs : List PortSeen) → length (put_past own at p qs) ≡ length qs
+length-put_past : (own at : ℕ) (p : Packet) (qs : List PortModel) → length (put_past own at p qs) ≡ length qs
 length-put_past own at p [] = refl
 length-put_past own at p (q ∷ qs) = ap suc (length-put_past own (at + 1) p qs)
 
 -- what a member's doors are once it passed its packet on and got those of the others
-pub passed_through : {D : Type 0} (port : D → PortSeen) (before puts : List D) (own : ℕ) (its last : D) (p : Packet) (got : List Packet) → own < length before → its ≡ get_or puts own its → map port puts ≡ put_past own 0 p (map port before) → port last ≡ after_takes (port its) got
-    → (bs : List InboxSeen) → map port before ≡ map new_port bs → map port (set puts own last) ≡ used_ports own 0 (passing (p ∷ []) got) bs
+pub passed_through : {D : Type 0} (port : D → PortModel) (before puts : List D) (own : ℕ) (its last : D) (p : Packet) (got : List Packet) → own < length before → its ≡ get_or puts own its → map port puts ≡ put_past own 0 p (map port before) → port last ≡ after_takes (port its) got
+    → (bs : List InboxModel) → map port before ≡ map new_port bs → map port (set puts own last) ≡ used_ports own 0 (passing (p ∷ []) got) bs
 passed_through port before puts own its last p got within is put took bs new =
     let ports : map port puts ≡ put_past own 0 p (map new_port bs) = put ∙ ap (put_past own 0 p) new in
     let long : length puts ≡ length before = sym (length-map puts port) ∙ ap length put ∙ length-put_past own 0 p (map port before) ∙ length-map before port in

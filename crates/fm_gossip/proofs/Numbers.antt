@@ -1,7 +1,7 @@
 -- Of coordinators, the numbers of their states.
 use Rattle.std.proofs.Common.{◌≡◌, ℕ, List, [], ◌∷◌, map, refl, ap}
 use Rattle.fm_coord.specs.States.{WithKeeper}
-use Rattle.fm_world.specs.Stands.{state_of, number_of}
+use Rattle.fm_world.specs.Represents.{state_of, number_of}
 use Rattle.fm_world.specs.Listings.{number_in}
 
 pub numbers_of : {N : Type 0} (cs : List (WithKeeper N)) → map number_of cs ≡ map number_in (map state_of cs)

@@ -5,7 +5,7 @@ use Rattle.std.proofs.lemmas.Bool.{eqb-true}
 use Rattle.fm_records.specs.declared.ops.Op.{Op}
 use Rattle.fm_records.specs.Sets.{IsMember}
 use Rattle.fm_records.specs.Table.{Table}
-use Rattle.fm_records.specs.Know.{know}
+use Rattle.fm_records.specs.Know.{table_of}
 use Rattle.fm_records.specs.Joined.{table_join}
 use Rattle.fm_records.specs.UnionLaws.{know_append}
 use Rattle.fm_records.specs.SetExtensionality.{know_same}
@@ -66,18 +66,18 @@ abbrev of_rest : ℕ → List State → List Op
 of_rest n [] = []
 of_rest n (s ∷ ss) = cond (not (s.number == n)) (taken_of s ++ of_rest n ss) (of_rest n ss)
 
-joined : (k l : Table) (S T : List Op) → k ≡ know S → l ≡ know T → table_join k l ≡ know (S ++ T)
+joined : (k l : Table) (S T : List Op) → k ≡ table_of S → l ≡ table_of T → table_join k l ≡ table_of (S ++ T)
 joined k l S T a b = (λ i. table_join (a i) (b i)) ∙ sym (know_append S T)
 
 -- merging the packets of the others comes to knowing what they took in
-knows_more : (n : ℕ) (ss : List State) → AreCoordinators ss → (t : State) (S : List Op) → t.knowledge ≡ know S
-    → (merged_in t (of_others n (map whole_packet ss))).knowledge ≡ know (S ++ of_rest n ss)
-knows_more n [] c t S h = h ∙ ap know (sym (append-nil S))
+knows_more : (n : ℕ) (ss : List State) → AreCoordinators ss → (t : State) (S : List Op) → t.knowledge ≡ table_of S
+    → (merged_in t (of_others n (map whole_packet ss))).knowledge ≡ table_of (S ++ of_rest n ss)
+knows_more n [] c t S h = h ∙ ap table_of (sym (append-nil S))
 knows_more n (s ∷ ss) c t S h =
-    elim (not (s.number == n)) as (λ b. (merged_in t (cond b (whole_packet s ∷ of_others n (map whole_packet ss)) (of_others n (map whole_packet ss)))).knowledge ≡ know (S ++ cond b (taken_of s ++ of_rest n ss) (of_rest n ss))) [
+    elim (not (s.number == n)) as (λ b. (merged_in t (cond b (whole_packet s ∷ of_others n (map whole_packet ss)) (of_others n (map whole_packet ss)))).knowledge ≡ table_of (S ++ cond b (taken_of s ++ of_rest n ss) (of_rest n ss))) [
       | true ↦
           knows_more n ss c.1 (took t s.knowledge (history_entry 0 (call.Merge (whole_packet s)) reply.Nothing)) (S ++ taken_of s) (joined t.knowledge s.knowledge S (taken_of s) h c.0.stands.knowledge)
-          ∙ ap know (append_assoc S (taken_of s) (of_rest n ss))
+          ∙ ap table_of (append_assoc S (taken_of s) (of_rest n ss))
       | false ↦ knows_more n ss c.1 t S h
     ]
 
@@ -116,7 +116,7 @@ module _ (ss : List State) (c : AreCoordinators ss) (d : AreDistinct (map number
       ] refl
 
   -- a coordinator after the exchange knows the operations of one before and those of the others
-  knows_all : (u : State) → IsMember u (after_exchange ss) → (s : State) × IsMember s ss × (u.knowledge ≡ know (taken_of s ++ of_rest s.number ss))
+  knows_all : (u : State) → IsMember u (after_exchange ss) → (s : State) × IsMember s ss × (u.knowledge ≡ table_of (taken_of s ++ of_rest s.number ss))
   knows_all u m =
       let last = came_from (told_by_others (map whole_packet ss)) (map cut_off ss) u m in
       let first = came_from cut_off ss last.0 last.1 in

@@ -4,33 +4,33 @@ use Rattle.std.specs.Prelude.{Option}
 use Rattle.fm_records.specs.declared.ops.Op.{Op}
 use Rattle.fm_delta.specs.declared.packet.Packet.{Packet}
 use Rattle.fm_records.specs.declared.refusal.Refusal.{Refusal}
-use Rattle.fm_inbox.specs.Ports.{InboxSeen, PortSeen}
+use Rattle.fm_inbox.specs.Ports.{InboxModel, PortModel}
 use Rattle.fm_coord.specs.States.{State}
 use Rattle.fm_coord.specs.declared.entry.Range.TheVariants.{Full}
 use Rattle.fm_coord.specs.declared.entry.Call.TheVariants as call
 use Rattle.fm_coord.specs.declared.entry.Reply.TheVariants as reply
-use Rattle.fm_fleet.specs.Seats.{SeatSeen, after_call}
+use Rattle.fm_fleet.specs.Seats.{SeatModel, after_call}
 use Rattle.fm_gossip.specs.Served.{Task, member_task, all_told, all_merged, AreRounds, IsIntake, IsEnded, IsServed, new_seat, seat_in}
 use Rattle.fm_gossip.specs.Passing.{passed_in}
 use Rattle.fm_gossip.specs.Used.{new_port, used_ports}
-use Rattle.fm_gossip.specs.Works.{WorkSeen, work, done_work, IsDone}
+use Rattle.fm_gossip.specs.Works.{WorkModel, work, done_work, IsDone}
 
-told_number : (s : SeatSeen) (ops : List Op) → (all_told s ops).number ≡ s.number
+told_number : (s : SeatModel) (ops : List Op) → (all_told s ops).number ≡ s.number
 told_number s [] = refl
 told_number s (op ∷ ops) = told_number (after_call s (call.Tell op) reply.Nothing) ops
 
-merged_number : (s : SeatSeen) (ps : List Packet) → (all_merged s ps).number ≡ s.number
+merged_number : (s : SeatModel) (ps : List Packet) → (all_merged s ps).number ≡ s.number
 merged_number s [] = refl
 merged_number s (p ∷ ps) = merged_number (after_call s (call.Merge p) reply.Nothing) ps
 
-rounds_number : (base n : ℕ) (s t : SeatSeen) → AreRounds base n s t → t.number ≡ s.number
-rounds_number base zero s t h = ap (λ (z : SeatSeen). z.number) h
-rounds_number base (suc n) s t (m, admitted, before, round) = ap (λ (z : SeatSeen). z.number) round.listed ∙ rounds_number base n s m before
+rounds_number : (base n : ℕ) (s t : SeatModel) → AreRounds base n s t → t.number ≡ s.number
+rounds_number base zero s t h = ap (λ (z : SeatModel). z.number) h
+rounds_number base (suc n) s t (m, admitted, before, round) = ap (λ (z : SeatModel). z.number) round.listed ∙ rounds_number base n s m before
 
-intake_number : (tells : List Op) (others : List ℕ) (s t : SeatSeen) → IsIntake tells others s t → t.number ≡ s.number
-intake_number tells others s t h = ap (λ (z : SeatSeen). z.number) h.merges.merges ∙ merged_number (after_call (all_told s tells) (call.Cut Full) (reply.Packet h.packet)) h.merges.packets ∙ told_number s tells
+intake_number : (tells : List Op) (others : List ℕ) (s t : SeatModel) → IsIntake tells others s t → t.number ≡ s.number
+intake_number tells others s t h = ap (λ (z : SeatModel). z.number) h.merges.merges ∙ merged_number (after_call (all_told s tells) (call.Cut Full) (reply.Packet h.packet)) h.merges.packets ∙ told_number s tells
 
-module _ (t : Task) (s : State) (one two : SeatSeen) (base : ℕ) (from_start : base ≡ 0) (ended : IsEnded t.number t.limit (one ∷ two ∷ []) s) (intake : IsIntake t.tells t.others (new_seat 1) one) (rounds : AreRounds base t.rounds (new_seat 2) two) where
+module _ (t : Task) (s : State) (one two : SeatModel) (base : ℕ) (from_start : base ≡ 0) (ended : IsEnded t.number t.limit (one ∷ two ∷ []) s) (intake : IsIntake t.tells t.others (new_seat 1) one) (rounds : AreRounds base t.rounds (new_seat 2) two) where
   first : one ≡ seat_in s.history 1
   first = ended.seats_match 0 one refl ∙ ap (seat_in s.history) (intake_number t.tells t.others (new_seat 1) one intake)
 
@@ -49,9 +49,9 @@ module _ (t : Task) (s : State) (one two : SeatSeen) (base : ℕ) (from_start : 
         no_other = ended.no_other;
       }
 
-pub served : (refusal : Option Refusal) (w : WorkSeen) (s : State) (seats some room new : List SeatSeen) (tells : List Op) (number its limit allowed : ℕ) (others : List ℕ) (rounds base place : ℕ) (ports after : List PortSeen) (none one nothing two : SeatSeen) → work (member_task its allowed tells others rounds) place ports ≡ w → number ≡ its → limit ≡ allowed → 0 ≡ base
+pub served : (refusal : Option Refusal) (w : WorkModel) (s : State) (seats some room new : List SeatModel) (tells : List Op) (number its limit allowed : ℕ) (others : List ℕ) (rounds base place : ℕ) (ports after : List PortModel) (none one nothing two : SeatModel) → work (member_task its allowed tells others rounds) place ports ≡ w → number ≡ its → limit ≡ allowed → 0 ≡ base
     → seats ≡ some ++ two ∷ [] → some ≡ room ++ one ∷ [] → room ≡ new → new ≡ [] → none ≡ new_seat 1 → nothing ≡ new_seat 2
-    → IsIntake tells others none one → AreRounds base rounds nothing two → ((bs : List InboxSeen) → none.log ≡ [] → ports ≡ map new_port bs → after ≡ used_ports place 0 (passed_in one) bs) → IsEnded number limit seats s → IsDone w (done_work s after refusal)
+    → IsIntake tells others none one → AreRounds base rounds nothing two → ((bs : List InboxModel) → none.log ≡ [] → ports ≡ map new_port bs → after ≡ used_ports place 0 (passed_in one) bs) → IsEnded number limit seats s → IsDone w (done_work s after refusal)
 served refusal w s seats some room new tells number its limit allowed others rounds base place ports after none one nothing two is named limited from_start second_pushed first_pushed reserved empty new_one new_two intake ran used ended =
     let these : seats ≡ one ∷ two ∷ [] = second_pushed ∙ ap (λ xs. xs ++ two ∷ []) (first_pushed ∙ ap (λ xs. xs ++ one ∷ []) (reserved ∙ empty)) in
     let over : IsEnded its allowed (one ∷ two ∷ []) s = subst (λ l. IsEnded its allowed l s) these (subst (λ n. IsEnded its n seats s) limited (subst (λ n. IsEnded n limit seats s) named ended)) in
@@ -61,5 +61,5 @@ served refusal w s seats some room new tells number its limit allowed others rou
     subst (λ u. IsDone u (done_work s after refusal)) is
     record {
       served = did t s one two base (sym from_start) over its_intake its_rounds;
-      used = λ bs new_ports. used bs (ap (λ (z : SeatSeen). z.log) new_one) new_ports ∙ ap (λ z. used_ports place 0 (passed_in z) bs) (first t s one two base (sym from_start) over its_intake its_rounds);
+      used = λ bs new_ports. used bs (ap (λ (z : SeatModel). z.log) new_one) new_ports ∙ ap (λ z. used_ports place 0 (passed_in z) bs) (first t s one two base (sym from_start) over its_intake its_rounds);
     }

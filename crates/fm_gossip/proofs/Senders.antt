@@ -12,7 +12,7 @@ use Rattle.fm_coord.specs.Events.{Replica, opening, packet_of, happens}
 use Rattle.fm_coord.specs.Replays.{seen_packet, reply_of, event_of, after_entry, IsLegal}
 use Rattle.fm_coord.specs.Numbers.{AreDistinct}
 use Rattle.fm_coord.specs.States.{State}
-use Rattle.fm_world.specs.Stands.{state_with}
+use Rattle.fm_world.specs.Represents.{state_with}
 use Rattle.fm_world.specs.Listings.{Made, entries_at, history_in, history_at, packet_in, packets_of, IsGiven, Follows, IsWhole, AreCoordinators, number_in}
 use Rattle.fm_world.proofs.Alike.{number_stays}
 use Rattle.fm_gossip.specs.AfterExchange.{AreCutBySenders}

@@ -13,7 +13,7 @@ use Rattle.fm_coord.specs.declared.entry.Call.{Call}
 use Rattle.fm_coord.specs.declared.entry.Range.TheVariants.{Full}
 use Rattle.fm_coord.specs.declared.entry.Call.TheVariants as call
 use Rattle.fm_coord.specs.Causes.{Bounds, first_some, refusal_for}
-use Rattle.fm_fleet.specs.Seats.{SeatSeen, MayRefuse}
+use Rattle.fm_fleet.specs.Seats.{SeatModel, MayRefuse}
 use Rattle.fm_round.specs.Schedules.{IsPlanOf}
 use Rattle.fm_fleet.specs.Rounds.{IsRefusedRound}
 use Rattle.fm_gossip.specs.FleetFaults.{may_stop, may_be_first}
@@ -50,7 +50,7 @@ pub call_stops : (c : Call) (r : Refusal) → Stops c → MayRefuse c r → IsTr
 call_stops c r stops (inl none) = subst (λ z. IsTrue (may_stop z)) (sym none) refl
 call_stops c r stops (inr (b, is)) = subst (λ z. IsTrue (may_stop z)) (sym is) (stops b)
 
-pub round_stops : (base : ℕ) (s t : SeatSeen) (r : Refusal) → IsRefusedRound base s t r → IsTrue (may_stop r)
+pub round_stops : (base : ℕ) (s t : SeatModel) (r : Refusal) → IsRefusedRound base s t r → IsTrue (may_stop r)
 round_stops base s t r (inl (same, refused)) = call_stops call.View r view refused
 round_stops base s t r (inr half) = of_half half.cause where
   of_half : ((r ≡ OutOfMemory) ⊎ ((plan : Plan) × IsPlanOf half.known plan × MayRefuse (call.Commit plan) r)) → IsTrue (may_stop r)
@@ -58,9 +58,9 @@ round_stops base s t r (inr half) = of_half half.cause where
   of_half (inr (plan, of, refused)) = call_stops (call.Commit plan) r (commit_plan plan) refused
 
 -- a round, done or refused, keeps its seat's number
-pub round_number : (base : ℕ) (s t : SeatSeen) (r : Refusal) → IsRefusedRound base s t r → t.number ≡ s.number
-round_number base s t r (inl (same, refused)) = ap (λ (z : SeatSeen). z.number) same
-round_number base s t r (inr half) = ap (λ (z : SeatSeen). z.number) half.listed
+pub round_number : (base : ℕ) (s t : SeatModel) (r : Refusal) → IsRefusedRound base s t r → t.number ≡ s.number
+round_number base s t r (inl (same, refused)) = ap (λ (z : SeatModel). z.number) same
+round_number base s t r (inr half) = ap (λ (z : SeatModel). z.number) half.listed
 
 pub first_may : (a b : Option Refusal) → IsTrue (may_be_first a) → IsTrue (may_be_first b) → IsTrue (may_be_first (first_some a b))
 first_may None b h k = k

@@ -8,7 +8,7 @@ use Rattle.fm_coord.specs.declared.entry.Reply.{Reply}
 use Rattle.fm_coord.specs.declared.entry.Reply.TheVariants as reply
 use Rattle.fm_coord.specs.declared.entry.Entry.{Entry}
 use Rattle.fm_coord.specs.States.{State}
-use Rattle.fm_fleet.specs.Seats.{SeatSeen}
+use Rattle.fm_fleet.specs.Seats.{SeatModel}
 use Rattle.fm_gossip.specs.Served.{seat_in}
 
 -- the packet that a call merges, and the one that a reply gives
@@ -38,7 +38,7 @@ abbrev pub passing : List Packet → List Packet → Passed
 passing sent got = record { sent = sent; got = got }
 
 -- an intake sends what it cuts, and merges what it gets
-abbrev pub passed_in : SeatSeen → Passed
+abbrev pub passed_in : SeatModel → Passed
 passed_in s = passing (cuts_in s.log) (merges_in s.log)
 
 -- what a coordinator's intake sent and got

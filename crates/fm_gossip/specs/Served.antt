@@ -11,7 +11,7 @@ use Rattle.fm_coord.specs.declared.entry.Reply.TheVariants as reply
 use Rattle.fm_coord.specs.Events.{opening}
 use Rattle.fm_coord.specs.Replays.{IsLegal}
 use Rattle.fm_coord.specs.States.{State}
-use Rattle.fm_fleet.specs.Seats.{SeatSeen, seen_seat, after_call}
+use Rattle.fm_fleet.specs.Seats.{SeatModel, seen_seat, after_call}
 use Rattle.fm_fleet.specs.Rounds.{IsRound}
 use Rattle.fm_fleet.specs.Audits.{of_seat}
 
@@ -28,12 +28,12 @@ abbrev pub member_task : ℕ → ℕ → List Op → List ℕ → ℕ → Task
 member_task number limit tells others rounds = record { number = number; limit = limit; tells = tells; others = others; rounds = rounds }
 
 -- the seat once it told these operations, in order
-abbrev pub all_told : SeatSeen → List Op → SeatSeen
+abbrev pub all_told : SeatModel → List Op → SeatModel
 all_told s [] = s
 all_told s (op ∷ ops) = all_told (after_call s (call.Tell op) reply.Nothing) ops
 
 -- the seat merged these packets, in order
-abbrev pub all_merged : SeatSeen → List Packet → SeatSeen
+abbrev pub all_merged : SeatModel → List Packet → SeatModel
 all_merged s [] = s
 all_merged s (p ∷ ps) = all_merged (after_call s (call.Merge p) reply.Nothing) ps
 
@@ -45,36 +45,36 @@ abbrev pub IsFirst : Packet → Type 0
 IsFirst p = p.number ≡ 1
 
 -- the seat merged a packet of each of the others, in some order: the first that it cut
-pub record AreMerged (others : List ℕ) (s t : SeatSeen) : Type 0 where
+pub record AreMerged (others : List ℕ) (s t : SeatModel) : Type 0 where
   pub packets : List Packet
   pub senders : IsPermutation others (map sender_of packets)
   pub first : All IsFirst packets
   pub merges : t ≡ all_merged s packets
 
 -- the seat told these operations, cut all that was known, and then merged a packet of each of the others
-pub record IsIntake (tells : List Op) (others : List ℕ) (s t : SeatSeen) : Type 0 where
+pub record IsIntake (tells : List Op) (others : List ℕ) (s t : SeatModel) : Type 0 where
   pub packet : Packet
   pub merges : AreMerged others (after_call (all_told s tells) (call.Cut Full) (reply.Packet packet)) t
 
 -- the seat ran so many rounds, one after another
-abbrev pub AreRounds : ℕ → ℕ → SeatSeen → SeatSeen → Type 0
+abbrev pub AreRounds : ℕ → ℕ → SeatModel → SeatModel → Type 0
 AreRounds base zero s t = t ≡ s
-AreRounds base (suc n) s t = (m : SeatSeen) × (admitted : Admitted) × AreRounds base n s m × IsRound base m t admitted
+AreRounds base (suc n) s t = (m : SeatModel) × (admitted : Admitted) × AreRounds base n s m × IsRound base m t admitted
 
 -- a seat that called nothing yet, and one with these entries
-abbrev pub new_seat : ℕ → SeatSeen
+abbrev pub new_seat : ℕ → SeatModel
 new_seat number = seen_seat number []
 
 -- what the seat with the number has in the history
-abbrev pub seat_in : List Entry → ℕ → SeatSeen
+abbrev pub seat_in : List Entry → ℕ → SeatModel
 seat_in history number = seen_seat number (of_seat number history)
 
 -- the history of a coordinator is legal, and each entry is one of the first two of these seats; each of them has its own entries
-pub record IsEnded (n most : ℕ) (seats : List SeatSeen) (s : State) : Type 0 where
+pub record IsEnded (n most : ℕ) (seats : List SeatModel) (s : State) : Type 0 where
   pub number : s.number ≡ n
   pub limit : s.limit ≡ most
   pub legal : IsLegal (opening s.number s.limit) s.history
-  pub seats_match : (i : ℕ) (seat : SeatSeen) → slice_get seats i ≡ Some seat → seat ≡ seat_in s.history seat.number
+  pub seats_match : (i : ℕ) (seat : SeatModel) → slice_get seats i ≡ Some seat → seat ≡ seat_in s.history seat.number
   pub no_other : (i : ℕ) (e : Entry) → slice_get s.history i ≡ Some e → (e.by ≡ 1) ⊎ (e.by ≡ 2)
 
 -- a coordinator did what it was to do: each entry of its legal history is of seat 1, its intake, or of seat 2, its rounds

@@ -3,7 +3,7 @@
 ghost use Rattle.std.specs.Prelude.{◌≡◌, List, map};
 ghost use Rattle.fm_coord.specs.Numbers.{AreDistinct};
 ghost use Rattle.fm_coord.specs.States.{State};
-ghost use Rattle.fm_world.specs.Stands.{state_of, number_of};
+ghost use Rattle.fm_world.specs.Represents.{state_of, number_of};
 ghost use Rattle.fm_world.specs.Listings.{AreCoordinators, Made, IsWhole};
 ghost use Rattle.fm_gossip.specs.Exchanges.{after_exchange};
 ghost use Rattle.fm_gossip.specs.AfterExchange.{KnowSame, AreCutBySenders};

@@ -1,6 +1,6 @@
 //! Intakes: what a coordinator's first thread does.
 ghost use Rattle.std.specs.Prelude.{◌≡◌, ◌+◌, ◌<◌, ◌^◌, ℕ, List, [], ◌∷◌, length, map, cond, vec_len, slice_get, Some, None, IsTrue, IfOk, IfErr, IfSome, OnOk, MatchOption};
-ghost use Rattle.fm_inbox.specs.Ports.{InboxSeen, after_put, after_take};
+ghost use Rattle.fm_inbox.specs.Ports.{InboxModel, after_put, after_take};
 ghost use Rattle.fm_gossip.specs.Served.{all_told, IsFirst, IsIntake, AreMerged};
 ghost use Rattle.fm_gossip.specs.Passing.{passing, passed_in};
 ghost use Rattle.fm_gossip.specs.Used.{new_port, used_ports, put_past, after_takes};
@@ -9,7 +9,7 @@ ghost use Rattle.fm_gossip.specs.FleetFaults.{may_stop};
 use crate::stop_signal::StopSignal;
 use fm_coord::entry::Range;
 use fm_delta::packet::Packet;
-use fm_fleet::door::Door;
+use fm_fleet::owned_port::OwnedPort;
 use fm_fleet::node::Node;
 use fm_fleet::seat::{NodeName, Seat};
 use fm_policy::keeper::NetKeeper;
@@ -24,14 +24,14 @@ pub(crate) struct Intake {
     pub(crate) tells: Vec<Op>,
     pub(crate) senders: Vec<CoordId>,
     pub(crate) place: usize,
-    pub(crate) doors: Vec<Door>,
+    pub(crate) doors: Vec<OwnedPort>,
 }
 
 /// What an intake leaves: its seat, its doors, and why it ended early, if it did.
 #[derive(Drop)]
 pub(crate) struct Taken<L: NodeName> {
     pub(crate) seat: Seat<L>,
-    pub(crate) doors: Vec<Door>,
+    pub(crate) doors: Vec<OwnedPort>,
     pub(crate) refusal: Option<Refusal>,
 }
 
@@ -47,7 +47,7 @@ pub(crate) fn take_in<N: NetKeeper, L: NodeName, R: Wait>(
 ) -> Taken<L>
     requires { intake.place < vec_len intake.doors }
     ensures intake { result.refusal ≡ None → IsIntake intake.tells.items intake.senders.items seat result.seat }
-    ensures doors { result.refusal ≡ None → (bs : List InboxSeen) → seat.log ≡ []
+    ensures doors { result.refusal ≡ None → (bs : List InboxModel) → seat.log ≡ []
         → map (λ d. d.port) intake.doors.items ≡ map new_port bs
         → map (λ d. d.port) result.doors.items ≡ used_ports intake.place 0 (passed_in result.seat) bs }
     ensures number { result.seat.number ≡ seat.number }
@@ -86,13 +86,13 @@ fn exchange<N: NetKeeper, L: NodeName, R: Wait>(
     seat: &mut Seat<L>,
     tells: &[Op],
     senders: Vec<CoordId>,
-    doors: &mut [Door],
+    doors: &mut [OwnedPort],
     place: usize,
     halt: &StopSignal,
 ) -> Result<(), Refusal>
     requires { place < length doors.old }
     ensures intake { OnOk result (IsIntake tells.now senders.items seat.old seat.new) }
-    ensures doors { OnOk result ((bs : List InboxSeen) → seat.old.log ≡ []
+    ensures doors { OnOk result ((bs : List InboxModel) → seat.old.log ≡ []
         → map (λ d. d.port) doors.old ≡ map new_port bs
         → map (λ d. d.port) doors.new ≡ used_ports place 0 (passed_in seat.new) bs) }
     ensures number { seat.new.number ≡ seat.old.number }
@@ -128,7 +128,7 @@ fn pass_on<N: NetKeeper, L: NodeName, R: Wait>(
     rt: &R,
     node: &Node<N, L>,
     seat: &mut Seat<L>,
-    doors: &mut [Door],
+    doors: &mut [OwnedPort],
     place: usize,
     packet: &Packet,
     senders: Vec<CoordId>,
@@ -136,7 +136,7 @@ fn pass_on<N: NetKeeper, L: NodeName, R: Wait>(
 ) -> Result<(), Refusal>
     requires { place < length doors.old }
     ensures merged { OnOk result ((merged : AreMerged senders.items seat.old seat.new)
-        × ((bs : List InboxSeen) → map (λ d. d.port) doors.old ≡ map new_port bs
+        × ((bs : List InboxModel) → map (λ d. d.port) doors.old ≡ map new_port bs
         → map (λ d. d.port) doors.new ≡ used_ports place 0 (passing (packet.now ∷ []) merged.packets) bs)) }
     ensures number { seat.new.number ≡ seat.old.number }
     ensures cause { IfErr result (λ refusal. IsTrue (may_stop refusal)) }
@@ -149,7 +149,7 @@ fn pass_on<N: NetKeeper, L: NodeName, R: Wait>(
 // Puts a copy through each door but the one at the place `own`. The first door is at the place `at`.
 fn put_all<R: Wait>(
     rt: &R,
-    doors: &mut [Door],
+    doors: &mut [OwnedPort],
     at: usize,
     own: usize,
     packet: &Packet,
@@ -169,7 +169,7 @@ fn put_all<R: Wait>(
 fn put_unless<R: Wait>(
     rt: &R,
     is_own: bool,
-    door: &mut Door,
+    door: &mut OwnedPort,
     packet: &Packet,
 ) -> Result<(), Refusal>
     ensures put { OnOk result (door.new.port ≡ cond is_own door.old.port (after_put door.old.port packet.now)) }
@@ -190,7 +190,7 @@ fn merge_all<N: NetKeeper, L: NodeName, R: Wait>(
     rt: &R,
     node: &Node<N, L>,
     seat: &mut Seat<L>,
-    own: &mut Door,
+    own: &mut OwnedPort,
     mut awaited: Vec<CoordId>,
     halt: &StopSignal,
 ) -> Result<(), Refusal>
@@ -230,7 +230,7 @@ fn place_of(awaited: &[CoordId], packet: &Packet) -> Option<usize>
 
 // A packet, once there is one. It sleeps until the bell rings: a packet that was put after it looked was put before the
 // ring that it waits for. Refused as the fleet, if that is stopped before.
-fn next_packet<R: Wait>(rt: &R, own: &mut Door, halt: &StopSignal) -> Result<Packet, Refusal>
+fn next_packet<R: Wait>(rt: &R, own: &mut OwnedPort, halt: &StopSignal) -> Result<Packet, Refusal>
     ensures taken { IfOk result (λ packet. own.new.port ≡ after_take own.old.port packet) }
     ensures cause { IfErr result (λ refusal. IsTrue (may_stop refusal)) }
 {

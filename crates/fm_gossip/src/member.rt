@@ -18,9 +18,9 @@ pub struct Member<N: NetKeeper, G> {
 
 impl<N: NetKeeper, G> Model for Member<N, G> {
     ghost use Rattle.std.specs.Prelude.{◌≡◌, []};
-    ghost use Rattle.fm_gossip.specs.Members.{MemberSeen, member};
+    ghost use Rattle.fm_gossip.specs.Members.{MemberModel, member};
 
-    ghost Value = { MemberSeen };
+    ghost Value = { MemberModel };
 
     ghost view = { λ m. member m.coordinator.state.number m.coordinator.state.limit m.tells.items };
 

@@ -1,6 +1,6 @@
 //! Closing the inboxes of a fleet.
 ghost use Rattle.std.specs.Prelude.{◌≡◌, ◌+◌, ◌++◌, ◌∷◌, [], List, ℕ, length, map, vec_len, All, IsTrue, IfOk, IfErr, OnOk};
-ghost use Rattle.fm_inbox.specs.Ports.{InboxSeen, PortSeen, IsPortOf, all_put, all_taken};
+ghost use Rattle.fm_inbox.specs.Ports.{InboxModel, PortModel, IsPortOf, all_put, all_taken};
 ghost use Rattle.fm_inbox.specs.Conservation.{SamePackets};
 ghost use Rattle.fm_gossip.specs.Passing.{ArePassedOn, passed_at};
 ghost use Rattle.fm_gossip.specs.FleetFaults.{may_stop};
@@ -8,7 +8,7 @@ ghost use Rattle.fm_gossip.specs.Used.{AreUsed, column};
 ghost use Rattle.fm_gossip.specs.Works.{HaveOut};
 
 use fm_coord::coordinator::Coordinator;
-use fm_fleet::door::{Door, Doors};
+use fm_fleet::owned_port::{OwnedPort, PortPool};
 use fm_policy::keeper::NetKeeper;
 use fm_records::refusal::Refusal;
 use std::alloc::Global;
@@ -19,16 +19,16 @@ use std::sync::Wait;
 #[derive(Drop)]
 pub(crate) struct MemberEnd<N: NetKeeper> {
     pub(crate) coordinator: Coordinator<N>,
-    pub(crate) doors: Vec<Door>,
+    pub(crate) doors: Vec<OwnedPort>,
     pub(crate) refusal: Option<Refusal>,
 }
 
 impl<N: NetKeeper> Model for MemberEnd<N> {
     ghost use Rattle.std.specs.Prelude.{map, IsTrue, IfSome};
     ghost use Rattle.fm_gossip.specs.FleetFaults.{may_stop};
-    ghost use Rattle.fm_gossip.specs.Works.{DoneSeen, done_work};
+    ghost use Rattle.fm_gossip.specs.Works.{MemberEndModel, done_work};
 
-    ghost Value = { DoneSeen };
+    ghost Value = { MemberEndModel };
 
     ghost view = { λ d. done_work d.coordinator.state (map (λ e. e.port) d.doors.items) d.refusal };
 
@@ -40,7 +40,7 @@ impl<N: NetKeeper> Model for MemberEnd<N> {
 pub(crate) fn close_all<N: NetKeeper + Drop, R: Wait>(
     rt: &R,
     alloc: Global,
-    mut inboxes: Vec<Doors>,
+    mut inboxes: Vec<PortPool>,
     dones: &mut [MemberEnd<N>],
 ) -> Result<(), Refusal>
     requires used { AreUsed 0 (map (λ b. b.inbox) inboxes.items)
@@ -60,7 +60,7 @@ pub(crate) fn close_all<N: NetKeeper + Drop, R: Wait>(
 }
 
 // Closes an inbox with all its doors. NotMine(0) if a packet is left.
-fn close_one<R: Wait>(rt: &R, inbox: Doors, out: Vec<Door>) -> Result<(), Refusal>
+fn close_one<R: Wait>(rt: &R, inbox: PortPool, out: Vec<OwnedPort>) -> Result<(), Refusal>
     requires doors { All (λ d. IsPortOf inbox.inbox d.port) out.items }
     requires all { vec_len out ≡ inbox.inbox.ports }
     ensures same { OnOk result (SamePackets (all_put (map (λ d. d.port) out.items))
@@ -80,10 +80,10 @@ fn close_one<R: Wait>(rt: &R, inbox: Doors, out: Vec<Door>) -> Result<(), Refusa
 // Takes the last door of each.
 fn take_last<N: NetKeeper + Drop>(
     dones: &mut [MemberEnd<N>],
-    out: &mut Vec<Door>,
+    out: &mut Vec<OwnedPort>,
 ) -> Result<(), Refusal>
     ensures same { map (λ d. d.state) dones.new ≡ map (λ d. d.state) dones.old }
-    ensures taken { OnOk result ((at : ℕ) (bs : List InboxSeen) (b : InboxSeen)
+    ensures taken { OnOk result ((at : ℕ) (bs : List InboxModel) (b : InboxModel)
         → AreUsed at (bs ++ b ∷ []) (map passed_at (map (λ d. d.state) dones.old)) (map (λ d. d.ports) dones.old)
         → AreUsed at bs (map passed_at (map (λ d. d.state) dones.old)) (map (λ d. d.ports) dones.new)
         × (map (λ e. e.port) out.new.items
@@ -98,8 +98,8 @@ fn take_last<N: NetKeeper + Drop>(
 }
 
 // Takes the last of the doors, if there is one.
-fn take_door(doors: &mut Vec<Door>, out: &mut Vec<Door>) -> Result<(), Refusal>
-    ensures taken { OnOk result ((qs : List PortSeen) (q : PortSeen) → map (λ e. e.port) doors.old.items ≡ qs ++ q ∷ []
+fn take_door(doors: &mut Vec<OwnedPort>, out: &mut Vec<OwnedPort>) -> Result<(), Refusal>
+    ensures taken { OnOk result ((qs : List PortModel) (q : PortModel) → map (λ e. e.port) doors.old.items ≡ qs ++ q ∷ []
         → (map (λ e. e.port) doors.new.items ≡ qs) × (map (λ e. e.port) out.new.items
         ≡ map (λ e. e.port) out.old.items ++ q ∷ [])) }
     ensures cause { IfErr result (λ refusal. IsTrue (may_stop refusal)) }

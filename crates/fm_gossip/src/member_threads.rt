@@ -13,7 +13,7 @@ use crate::serving::{Served, serve_one};
 use crate::stop_signal::StopSignal;
 use crate::work::{Links, Work, link, works};
 use fm_coord::coordinator::Coordinator;
-use fm_fleet::door::Doors;
+use fm_fleet::owned_port::PortPool;
 use fm_fleet::round::Gate;
 use fm_policy::keeper::NetKeeper;
 use fm_records::refusal::Refusal;
@@ -95,7 +95,7 @@ struct Rooms<N: NetKeeper, G> {
 fn prepared<N: NetKeeper + Drop, G: Drop>(
     alloc: Global,
     members: &[Member<N, G>],
-) -> Result<(Vec<Links>, Vec<Doors>, Rooms<N, G>), Refusal>
+) -> Result<(Vec<Links>, Vec<PortPool>, Rooms<N, G>), Refusal>
     ensures links { IfOk result (λ r. r.0.items
         ≡ links_of (map member_number members.now) (map (λ b. b.inbox) r.1.items) 0 members.now) }
     ensures inboxes { IfOk result (λ r. length r.1.items ≡ length members.now) }
@@ -120,7 +120,7 @@ fn prepared<N: NetKeeper + Drop, G: Drop>(
 fn closed<N: NetKeeper + Drop, R: Wait>(
     rt: &R,
     alloc: Global,
-    inboxes: Vec<Doors>,
+    inboxes: Vec<PortPool>,
     dones: &mut [MemberEnd<N>],
     halt: StopSignal,
 ) -> Result<(), Refusal>

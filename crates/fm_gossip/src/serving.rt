@@ -1,6 +1,6 @@
 //! One coordinator's node, made, used by two threads, closed and audited.
 ghost use Rattle.std.specs.Prelude.{◌≡◌, ◌<◌, ◌≤◌, List, [], Some, None, map, vec_len, vec_capacity, IsTrue, IfSome};
-ghost use Rattle.fm_inbox.specs.Ports.{InboxSeen};
+ghost use Rattle.fm_inbox.specs.Ports.{InboxModel};
 ghost use Rattle.fm_records.specs.declared.refusal.Refusal.TheVariants.{OutOfMemory};
 ghost use Rattle.fm_fleet.specs.Audits.{StandInOne};
 ghost use Rattle.fm_fleet.specs.Seats.{AreNew, HasSeat};
@@ -19,7 +19,7 @@ use crate::work::Work;
 use fm_coord::coordinator::Coordinator;
 use fm_fleet::audit::audit;
 use fm_fleet::closing::{Closed, close};
-use fm_fleet::door::Door;
+use fm_fleet::owned_port::OwnedPort;
 use fm_fleet::node::Node;
 use fm_fleet::round::Gate;
 use fm_fleet::seat::{NodeName, Seat};
@@ -137,7 +137,7 @@ fn two_of<L: NodeName>(mut seats: Vec<Seat<L>>) -> (Seat<L>, Seat<L>)
 struct Used<L: NodeName> {
     one: Seat<L>,
     two: Seat<L>,
-    doors: Vec<Door>,
+    doors: Vec<OwnedPort>,
     refusal: Option<Refusal>,
 }
 
@@ -162,7 +162,7 @@ fn by_two<
 ) -> Used<L>
     requires { intake.place < vec_len intake.doors }
     ensures intake { result.refusal ≡ None → IsIntake intake.tells.items intake.senders.items one result.one }
-    ensures doors { result.refusal ≡ None → (bs : List InboxSeen) → one.log ≡ []
+    ensures doors { result.refusal ≡ None → (bs : List InboxModel) → one.log ≡ []
         → map (λ d. d.port) intake.doors.items ≡ map new_port bs
         → map (λ d. d.port) result.doors.items ≡ used_ports intake.place 0 (passed_in result.one) bs }
     ensures rounds { result.refusal ≡ None → AreRounds L.base rounds two result.two }
@@ -176,7 +176,7 @@ fn by_two<
             requires { intake.place < vec_len intake.doors }
             ensures intake { result.refusal ≡ None
                 → IsIntake intake.tells.items intake.senders.items one result.one }
-            ensures doors { result.refusal ≡ None → (bs : List InboxSeen) → one.log ≡ []
+            ensures doors { result.refusal ≡ None → (bs : List InboxModel) → one.log ≡ []
                 → map (λ d. d.port) intake.doors.items ≡ map new_port bs
                 → map (λ d. d.port) result.doors.items ≡ used_ports intake.place 0 (passed_in result.one) bs }
             ensures rounds { result.refusal ≡ None → AreRounds L.base rounds two result.two }

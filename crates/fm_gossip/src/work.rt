@@ -7,7 +7,7 @@ ghost use Rattle.fm_gossip.specs.Works.{links, links_of, HaveOut, HaveDoors, lin
 use crate::intake::Intake;
 use crate::member::Member;
 use fm_coord::coordinator::Coordinator;
-use fm_fleet::door::{Door, Doors};
+use fm_fleet::owned_port::{OwnedPort, PortPool};
 use fm_policy::keeper::NetKeeper;
 use fm_records::ids::CoordId;
 use fm_records::ops::Op;
@@ -30,9 +30,9 @@ pub(crate) struct Work<N: NetKeeper, G> {
 impl<N: NetKeeper, G> Model for Work<N, G> {
     ghost use Rattle.std.specs.Prelude.{◌≡◌, ◌<◌, [], map, vec_len};
     ghost use Rattle.fm_gossip.specs.Served.{member_task};
-    ghost use Rattle.fm_gossip.specs.Works.{WorkSeen, work};
+    ghost use Rattle.fm_gossip.specs.Works.{WorkModel, work};
 
-    ghost Value = { WorkSeen };
+    ghost Value = { WorkModel };
 
     ghost view = { λ w. work
         (member_task w.coordinator.state.number w.coordinator.state.limit w.intake.tells.items w.intake.senders.items w.rounds)
@@ -47,14 +47,14 @@ impl<N: NetKeeper, G> Model for Work<N, G> {
 pub(crate) struct Links {
     senders: Vec<CoordId>,
     place: usize,
-    doors: Vec<Door>,
+    doors: Vec<OwnedPort>,
 }
 
 impl Model for Links {
     ghost use Rattle.std.specs.Prelude.{◌<◌, map, vec_len};
-    ghost use Rattle.fm_gossip.specs.Works.{LinksSeen, links};
+    ghost use Rattle.fm_gossip.specs.Works.{LinksModel, links};
 
-    ghost Value = { LinksSeen };
+    ghost Value = { LinksModel };
 
     ghost view = { λ l. links l.senders.items l.place (map (λ d. d.port) l.doors.items) };
 
@@ -65,7 +65,7 @@ impl Model for Links {
 pub(crate) fn link<N: NetKeeper, G>(
     alloc: Global,
     members: &[Member<N, G>],
-) -> Result<(Vec<Links>, Vec<Doors>), Refusal>
+) -> Result<(Vec<Links>, Vec<PortPool>), Refusal>
     ensures links { IfOk result (λ r. r.0.items
         ≡ links_of (map member_number members.now) (map (λ b. b.inbox) r.1.items) 0 members.now) }
     ensures inboxes { IfOk result (λ r. length r.1.items ≡ length members.now) }
@@ -156,7 +156,7 @@ fn numbers<N: NetKeeper, G>(
 // The links of the member of the number at the place.
 fn links_at(
     alloc: Global,
-    inboxes: &mut [Doors],
+    inboxes: &mut [PortPool],
     numbers: &[CoordId],
     place: usize,
     number: CoordId,
@@ -194,20 +194,20 @@ fn but_for(alloc: Global, number: CoordId, numbers: &[CoordId]) -> Result<Vec<Co
 }
 
 // So many inboxes, with a port for each of as many.
-fn inboxes(alloc: Global, members: usize) -> Result<Vec<Doors>, Refusal>
+fn inboxes(alloc: Global, members: usize) -> Result<Vec<PortPool>, Refusal>
     ensures count { IfOk result (λ inboxes. vec_len inboxes ≡ members) }
     ensures out { IfOk result (λ inboxes. HaveOut members 0 inboxes.items) }
     ensures err { IsOkUnless result Refusal.OutOfMemory }
 {
     let mut inboxes = Vec::new(alloc);
     for _i in 0..members {
-        inboxes.push(Doors::new(alloc, members, SIZE)?)?;
+        inboxes.push(PortPool::new(alloc, members, SIZE)?)?;
     }
     Ok(inboxes)
 }
 
 // Adds a door to each of the inboxes.
-fn open_all(doors: &mut Vec<Door>, inboxes: &mut [Doors]) -> Result<(), Refusal>
+fn open_all(doors: &mut Vec<OwnedPort>, inboxes: &mut [PortPool]) -> Result<(), Refusal>
     requires { HaveDoors inboxes.old }
     ensures doors { OnOk result (map (λ d. d.port) doors.new.items
         ≡ map (λ d. d.port) doors.old.items ++ map new_port (map (λ b. b.inbox) inboxes.old)) }
@@ -225,7 +225,7 @@ fn open_all(doors: &mut Vec<Door>, inboxes: &mut [Doors]) -> Result<(), Refusal>
 
 // A door to the inbox, which has one that is not out.
 #[tactic(auto, using(crate::proofs::Columns::is_new))]
-fn opened(inbox: &mut Doors) -> Result<Door, Refusal>
+fn opened(inbox: &mut PortPool) -> Result<OwnedPort, Refusal>
     requires { inbox.old.out < inbox.old.inbox.ports }
     ensures door { IfOk result (λ door. door.port ≡ new_port inbox.old.inbox) }
     ensures inbox { inbox.new.inbox ≡ inbox.old.inbox }

@@ -9,7 +9,7 @@ use std::collections::LinkedList;
 
 /// What a pass stands for: its parts, how many parts there are in all, and what was put and taken by it. Contracts
 /// alone see one; no value of it is made.
-pub struct Account {
+pub struct PortAccount {
     pub parts: u64,
     pub whole: u64,
     pub put: LinkedList<Packet>,
@@ -17,9 +17,9 @@ pub struct Account {
 }
 
 /// The rule of an inbox.
-pub struct Balance;
+pub struct PortBalance;
 
-impl Protocol<Packet, Account> for Balance {
+impl Protocol<Packet, PortAccount> for PortBalance {
     ghost use Rattle.std.specs.Prelude.{[]};
     ghost use Rattle.fm_inbox.specs.Conservation.{account, IsBalanced};
 
@@ -29,15 +29,15 @@ impl Protocol<Packet, Account> for Balance {
 }
 
 /// A queue of packets under the rule.
-pub type Queue = RuledArrayQueue<Packet, Account, Balance>;
+pub type Queue = RuledArrayQueue<Packet, PortAccount, PortBalance>;
 
 /// The right to use a queue.
-pub type QueuePass = Pass<Packet, Account>;
+pub type QueuePass = Pass<Packet, PortAccount>;
 
 /// There is one part more, which this pass has.
 pub struct OneMore;
 
-impl Split<Account> for OneMore {
+impl Split<PortAccount> for OneMore {
     ghost use Rattle.std.specs.Prelude.{[], ◌+◌};
     ghost use Rattle.fm_inbox.specs.Conservation.{account};
 
@@ -49,7 +49,7 @@ impl Split<Account> for OneMore {
 /// A part of this pass becomes a pass of its own, or is taken back.
 pub struct OnePart;
 
-impl Split<Account> for OnePart {
+impl Split<PortAccount> for OnePart {
     ghost use Rattle.std.specs.Prelude.{[], ◌-◌};
     ghost use Rattle.fm_inbox.specs.Conservation.{account};
 
@@ -58,7 +58,7 @@ impl Split<Account> for OnePart {
     ghost right = { λ v. account 1 v.whole [] [] };
 }
 
-impl Join<Account> for OnePart {
+impl Join<PortAccount> for OnePart {
     ghost use Rattle.std.specs.Prelude.{[], ◌+◌, ◌++◌};
     ghost use Rattle.fm_inbox.specs.Conservation.{account};
 
@@ -70,21 +70,21 @@ impl Join<Account> for OnePart {
 /// A packet is added at the back. A pass with every part also determines what is there.
 pub struct Puts;
 
-impl Outcome<Packet, Account> for Puts {
+impl Outcome<Packet, PortAccount> for Puts {
     ghost then = { λ v x w. w ≡ account v.parts v.whole (v.put ++ x ∷ []) v.taken };
 }
 
-impl Lesson<Packet, Account> for Puts {
+impl Lesson<Packet, PortAccount> for Puts {
     ghost fact = { λ v items. (h : _) → v.whole ≤ v.parts → weigh h v.put ≡ weigh h v.taken + weigh h items };
 }
 
 /// A packet is removed at the front. A pass with every part also determines what is still there.
 pub struct Takes;
 
-impl Outcome<Packet, Account> for Takes {
+impl Outcome<Packet, PortAccount> for Takes {
     ghost then = { λ v x w. w ≡ account v.parts v.whole v.put (v.taken ++ x ∷ []) };
 }
 
-impl Lesson<Packet, Account> for Takes {
+impl Lesson<Packet, PortAccount> for Takes {
     ghost fact = { λ v items. (h : _) → v.whole ≤ v.parts → weigh h v.put ≡ weigh h v.taken + weigh h items };
 }

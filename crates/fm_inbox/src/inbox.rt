@@ -21,9 +21,9 @@ pub struct Port {
 
 impl Model for Port {
     ghost use Rattle.std.specs.Prelude.{◌≡◌, []};
-    ghost use Rattle.fm_inbox.specs.Ports.{PortSeen, seen_port, account_of};
+    ghost use Rattle.fm_inbox.specs.Ports.{PortModel, seen_port, account_of};
 
-    ghost Value = { PortSeen };
+    ghost Value = { PortModel };
 
     ghost view = { λ p. seen_port p.pass.table_id (account_of p.pass) };
 
@@ -42,9 +42,9 @@ pub struct Inbox {
 impl Model for Inbox {
     ghost use Rattle.std.specs.Prelude.{◌≡◌, ◌≤◌, ◌<◌, [], vec_len, vec_capacity};
     ghost use Rattle.crossbeam_queue.specs.Passes.{ruled_capacity};
-    ghost use Rattle.fm_inbox.specs.Ports.{InboxSeen, seen_inbox};
+    ghost use Rattle.fm_inbox.specs.Ports.{InboxModel, seen_inbox};
 
-    ghost Value = { InboxSeen };
+    ghost Value = { InboxModel };
 
     ghost view = { λ b. seen_inbox b.queue.table.shared.table_id b.ports (ruled_capacity b.queue) };
 

@@ -2,5 +2,5 @@
 #![tactic(auto)]
 
 mod conservation;
-pub mod door;
+pub mod owned_port;
 pub mod inbox;

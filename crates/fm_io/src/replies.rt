@@ -6,7 +6,7 @@ ghost use Rattle.fm_io.specs.Replies.{accepted_reply, refusal_reply};
 
 use crate::sending::send;
 use crate::sink::Sink;
-use fm_dimacs::pieces::put_all;
+use fm_dimacs::write_all::put_all;
 use fm_records::refusal::Refusal;
 
 /// Writes the text of an accepted line's answer, and `ok`.

@@ -4,7 +4,7 @@ ghost use Rattle.std.specs.Prelude.{IsOkUnless};
 ghost use Rattle.fm_dimacs.specs.Sending.{IsSent};
 
 use crate::sink::Sink;
-use fm_dimacs::pieces::put_all;
+use fm_dimacs::write_all::put_all;
 use fm_records::refusal::Refusal;
 
 /// Writes the complete text, in as many writes as the sink needs, and flushes it. WriteFault if the sink fails: then

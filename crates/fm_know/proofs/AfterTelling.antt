@@ -19,7 +19,7 @@ use Rattle.fm_records.specs.declared.records.Progress.{Progress}
 use Rattle.fm_records.specs.Options.{when, and_then, or_else, passes}
 use Rattle.fm_records.specs.Orders.{job_cmp, machine_cmp, report_cmp, progress_cmp}
 use Rattle.fm_records.specs.Table.{Table, TaskValue, MachineValue}
-use Rattle.fm_records.specs.Know.{none_begun, know, job_in, state_in, progress_in, job, task, machine, machine_at, incarnation, state_at}
+use Rattle.fm_records.specs.Know.{initial_progress, table_of, job_in, state_in, progress_in, job, task, machine, machine_at, incarnation, state_at}
 use Rattle.fm_records.specs.LookupLaws.{lookup_job, lookup_task, lookup_machine}
 use Rattle.fm_records.specs.RangeLaws.{know_table}
 use Rattle.fm_records.specs.OpsOfTable.{IsTable}
@@ -80,23 +80,23 @@ machine_after i r (Some (p, (s, report))) h below =
     ] refl
 
 module _ (k : Table) (form : IsTable k) where
-  pub job_told : (id v writer : ℕ) (withdrawn : Bool) (wait preempt : ℕ) → next_version (job_version k id) ≡ Some v → job_of (table_join k (know (op.Job id v writer withdrawn wait preempt ∷ []))) id ≡ job_in id (op.Job id v writer withdrawn wait preempt)
+  pub job_told : (id v writer : ℕ) (withdrawn : Bool) (wait preempt : ℕ) → next_version (job_version k id) ≡ Some v → job_of (table_join k (table_of (op.Job id v writer withdrawn wait preempt ∷ []))) id ≡ job_in id (op.Job id v writer withdrawn wait preempt)
   job_told id v writer withdrawn wait preempt h =
       let o = op.Job id v writer withdrawn wait preempt in
       let r : JobReg = record { version = v; writer = writer; withdrawn = withdrawn; wait = wait; preempt = preempt } in
       let itself : (id == id) ≡ true = eq-eqb id id refl in
       let one : job (o ∷ []) id ≡ Some r = rw itself refl in
       let said : job_in id o ≡ Some r = rw itself refl in
-      lookup_join nat_cmp nat_cmp_total nat_same (max_join job_cmp) id k.jobs (know (o ∷ [])).jobs form.jobs.rising (know_table (o ∷ [])).jobs.rising
+      lookup_join nat_cmp nat_cmp_total nat_same (max_join job_cmp) id k.jobs (table_of (o ∷ [])).jobs form.jobs.rising (know_table (o ∷ [])).jobs.rising
       ∙ ap (option_join (max_join job_cmp) (job_of k id)) (lookup_job (o ∷ []) id ∙ one)
       ∙ register_after job_cmp (λ r. r.version) jobs_by_version r (job_of k id) h
       ∙ sym said
 
-  progress_after : (p : Progress) (o : Option TaskValue) → (or_else none_begun (option_map (λ v. v.1) o)).attempt < p.attempt → or_else none_begun (option_map (λ v. v.1) (option_join task_join o (Some (None, p)))) ≡ p
+  progress_after : (p : Progress) (o : Option TaskValue) → (or_else initial_progress (option_map (λ v. v.1) o)).attempt < p.attempt → or_else initial_progress (option_map (λ v. v.1) (option_join task_join o (Some (None, p)))) ≡ p
   progress_after p None h = refl
   progress_after p (Some v) h = later progress_cmp v.1 p (first_greater _ _ (greater v.1.attempt p.attempt h))
 
-  pub attempt_told : (id a : ℕ) → attempt_of k id < a → Some (progress_of (table_join k (know (op.Progress id a Pending ∷ []))) id) ≡ progress_in id (op.Progress id a Pending)
+  pub attempt_told : (id a : ℕ) → attempt_of k id < a → Some (progress_of (table_join k (table_of (op.Progress id a Pending ∷ []))) id) ≡ progress_in id (op.Progress id a Pending)
   attempt_told id a h =
       let o = op.Progress id a Pending in
       let p : Progress = record { attempt = a; phase = Pending } in
@@ -104,9 +104,9 @@ module _ (k : Table) (form : IsTable k) where
       let one : task (o ∷ []) id ≡ Some (None, p) = rw itself refl in
       let said : progress_in id o ≡ Some p = rw itself refl in
       let found =
-      lookup_join nat_cmp nat_cmp_total nat_same task_join id k.tasks (know (o ∷ [])).tasks form.tasks.rising (know_table (o ∷ [])).tasks.rising
+      lookup_join nat_cmp nat_cmp_total nat_same task_join id k.tasks (table_of (o ∷ [])).tasks form.tasks.rising (know_table (o ∷ [])).tasks.rising
       ∙ ap (option_join task_join (lookup nat_cmp id k.tasks)) (lookup_task (o ∷ []) id ∙ one) in
-      ap (λ z. Some (or_else none_begun (option_map (λ v. v.1) z))) found
+      ap (λ z. Some (or_else initial_progress (option_map (λ v. v.1) z))) found
       ∙ ap Some (progress_after p (lookup nat_cmp id k.tasks) h)
       ∙ sym said
 
@@ -117,23 +117,23 @@ module _ (k : Table) (form : IsTable k) where
     abbrev register : MachineReg
     register = record { version = v; writer = writer; up = up; slots = slots; nic = nic }
 
-    machine_found : lookup nat_cmp id (table_join k (know (told_op ∷ []))).machines ≡ option_join machine_join (lookup nat_cmp id k.machines) (Some (i, (Some register, None)))
+    machine_found : lookup nat_cmp id (table_join k (table_of (told_op ∷ []))).machines ≡ option_join machine_join (lookup nat_cmp id k.machines) (Some (i, (Some register, None)))
     machine_found =
         let itself : (id == id) ≡ true = eq-eqb id id refl in
         let present : (i == i) ≡ true = eq-eqb i i refl in
         let named : incarnation (told_op ∷ []) id ≡ Some i = rw itself refl in
         let said : state_at (told_op ∷ []) id i ≡ Some register = rw (itself, present) refl in
         let one : machine (told_op ∷ []) id ≡ Some (i, (Some register, None)) = ap (option_map (machine_at (told_op ∷ []) id)) named ∙ (λ j. Some (i, (said j, None))) in
-        lookup_join nat_cmp nat_cmp_total nat_same machine_join id k.machines (know (told_op ∷ [])).machines form.machines.rising (know_table (told_op ∷ [])).machines.rising
+        lookup_join nat_cmp nat_cmp_total nat_same machine_join id k.machines (table_of (told_op ∷ [])).machines form.machines.rising (know_table (told_op ∷ [])).machines.rising
         ∙ ap (option_join machine_join (lookup nat_cmp id k.machines)) (lookup_machine (told_op ∷ []) id ∙ one)
 
     module _ (h : next_version (state_version k id i) ≡ Some v) (below : IfSome (incarnation_of k id) (λ p. p ≤ i)) where
-      pub state_told : machine_state (table_join k (know (told_op ∷ []))) id ≡ state_in id i told_op
+      pub state_told : machine_state (table_join k (table_of (told_op ∷ []))) id ≡ state_in id i told_op
       state_told =
           let itself : (id == id) ≡ true = eq-eqb id id refl in
           let present : (i == i) ≡ true = eq-eqb i i refl in
           let said : state_in id i told_op ≡ Some register = rw (itself, present) refl in
           ap (and_then (λ v. v.1.0)) machine_found ∙ (machine_after i register (lookup nat_cmp id k.machines) h below).state ∙ sym said
 
-      pub incarnation_told : incarnation_of (table_join k (know (told_op ∷ []))) id ≡ Some i
+      pub incarnation_told : incarnation_of (table_join k (table_of (told_op ∷ []))) id ≡ Some i
       incarnation_told = ap (option_map (λ v. v.0)) machine_found ∙ (machine_after i register (lookup nat_cmp id k.machines) h below).incarnation

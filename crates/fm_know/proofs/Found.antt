@@ -6,13 +6,13 @@ use Rattle.fm_lattice.specs.Maps.{lookup}
 use Rattle.fm_records.specs.declared.records.Progress.{Progress}
 use Rattle.fm_records.specs.declared.records.SpecReg.{SpecReg}
 use Rattle.fm_records.specs.Options.{and_then, only_if, or_else, passes}
-use Rattle.fm_records.specs.Know.{none_begun}
+use Rattle.fm_records.specs.Know.{initial_progress}
 use Rattle.fm_records.specs.Table.{Table, TaskValue, MachineValue}
 use Rattle.fm_records.specs.Facts.{is_done, is_present, job_stands, live_spec, open_state, winner_of, holder_of}
 use Rattle.fm_know.specs.Records.{live_in, holder_in, open_state_in}
 
 abbrev how_far : Option TaskValue → Progress
-how_far o = or_else none_begun (option_map (λ v. v.1) o)
+how_far o = or_else initial_progress (option_map (λ v. v.1) o)
 
 abbrev live_at : Table → Option TaskValue → Option SpecReg
 live_at k o = only_if (λ s. not s.withdrawn && job_stands k s.job && not (is_done (how_far o).phase)) (and_then (λ v. v.0) o)

@@ -9,7 +9,7 @@ use Rattle.fm_records.specs.declared.records.JobReg.{JobReg}
 use Rattle.fm_records.specs.declared.records.Spot.{Spot}
 use Rattle.fm_records.specs.Table.{Table, TaskValue, MachineValue}
 use Rattle.fm_records.specs.Orders.{job_cmp, attempt_cmp}
-use Rattle.fm_records.specs.Know.{know}
+use Rattle.fm_records.specs.Know.{table_of}
 use Rattle.fm_records.specs.Joined.{table_join, task_join, machine_join, spots_join}
 use Rattle.fm_records.specs.Ranges.{CanBe}
 use Rattle.fm_records.specs.UnionLaws.{know_append}
@@ -26,6 +26,6 @@ module _ {A E : Type 0} (k l : Table) (x : CanBe k) (y : CanBe l) where
   all_grown (Err e) j t m p oj ot om op err = subst CanBe (λ i. record { jobs = sym err.0 i; tasks = sym err.1 i; machines = sym err.2 i; proposals = sym err.3 i }) x
 
 -- what two sets come to, joined, is what their union comes to
-pub united : {A E : Type 0} (r : Result A E) (n k l : Table) (S T : List Op) → OnOk r (n ≡ table_join k l) → k ≡ know S → l ≡ know T → OnOk r (n ≡ know (S ++ T))
+pub united : {A E : Type 0} (r : Result A E) (n k l : Table) (S T : List Op) → OnOk r (n ≡ table_join k l) → k ≡ table_of S → l ≡ table_of T → OnOk r (n ≡ table_of (S ++ T))
 united (Ok a) n k l S T joined left right = joined ∙ (λ i. table_join (left i) (right i)) ∙ sym (know_append S T)
 united (Err e) n k l S T joined left right = tt

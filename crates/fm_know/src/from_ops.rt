@@ -3,7 +3,7 @@
 ghost use Rattle.std.specs.Prelude.{◌≡◌, ◌<◌, ◌^◌, ◌∷◌, [], List, None, IsTrue, is_none, IfOk};
 ghost use Rattle.std.specs.List.{list_all};
 ghost use Rattle.fm_records.specs.Ops.{op_fault};
-ghost use Rattle.fm_records.specs.Know.{know};
+ghost use Rattle.fm_records.specs.Know.{table_of};
 ghost use Rattle.fm_records.specs.Ranges.{CanBe, fields_fit};
 
 use crate::knowledge::Knowledge;
@@ -22,7 +22,7 @@ impl Knowledge {
     /// The table of the one operation. The caller must have checked that its `check` is Ok.
     pub fn delta_of(alloc: Global, op: &Op) -> Result<Knowledge, OutOfMemory>
         requires { op_fault op.now ≡ None }
-        ensures { IfOk result (λ k. k ≡ know (op.now ∷ [])) }
+        ensures { IfOk result (λ k. k ≡ table_of (op.now ∷ [])) }
     {
         law_fits(op);
         Ok(Knowledge {
@@ -36,7 +36,7 @@ impl Knowledge {
     /// The table of the operations. The caller must have checked that the `check` of each is Ok.
     pub fn told(alloc: Global, ops: &[Op]) -> Result<Knowledge, OutOfMemory>
         requires { IsTrue (list_all (λ op. is_none (op_fault op)) ops.now) }
-        ensures { IfOk result (λ k. k ≡ know ops.now) }
+        ensures { IfOk result (λ k. k ≡ table_of ops.now) }
     {
         let mut all = Knowledge::empty(alloc);
         for op in ops {
@@ -59,7 +59,7 @@ fn one<K: Chain, V: Join>(alloc: Global, key: K, value: V) -> Result<JoinMap<K, 
 // What the operation tells of a job.
 fn jobs_of(alloc: Global, op: &Op) -> Result<JoinMap<JobId, Max<JobReg>>, OutOfMemory>
     requires { op_fault op.now ≡ None }
-    ensures { IfOk result (λ jobs. jobs ≡ (know (op.now ∷ [])).jobs) }
+    ensures { IfOk result (λ jobs. jobs ≡ (table_of (op.now ∷ [])).jobs) }
 {
     match *op {
         Op::Job { id, .. } => one(alloc, id, Max(JobReg::of(op).unwrap())),
@@ -70,7 +70,7 @@ fn jobs_of(alloc: Global, op: &Op) -> Result<JoinMap<JobId, Max<JobReg>>, OutOfM
 // What the operation tells of a task: if it is a spec, the task is at attempt 0, pending.
 fn tasks_of(alloc: Global, op: &Op) -> Result<JoinMap<TaskId, TaskRec>, OutOfMemory>
     requires { op_fault op.now ≡ None }
-    ensures { IfOk result (λ tasks. tasks ≡ (know (op.now ∷ [])).tasks) }
+    ensures { IfOk result (λ tasks. tasks ≡ (table_of (op.now ∷ [])).tasks) }
 {
     match *op {
         Op::Spec { id, .. } | Op::Progress { id, .. } => {
@@ -85,7 +85,7 @@ fn tasks_of(alloc: Global, op: &Op) -> Result<JoinMap<TaskId, TaskRec>, OutOfMem
 // What the operation tells of a machine at an incarnation.
 fn machines_of(alloc: Global, op: &Op) -> Result<JoinMap<MachineId, MachineRec>, OutOfMemory>
     requires { op_fault op.now ≡ None }
-    ensures { IfOk result (λ machines. machines ≡ (know (op.now ∷ [])).machines) }
+    ensures { IfOk result (λ machines. machines ≡ (table_of (op.now ∷ [])).machines) }
 {
     match *op {
         Op::Machine {
@@ -112,7 +112,7 @@ fn proposals_of(
     op: &Op,
 ) -> Result<JoinMap<(TaskId, u32), JoinMap<CoordId, Min<Spot>>>, OutOfMemory>
     requires { op_fault op.now ≡ None }
-    ensures { IfOk result (λ proposals. proposals ≡ (know (op.now ∷ [])).proposals) }
+    ensures { IfOk result (λ proposals. proposals ≡ (table_of (op.now ∷ [])).proposals) }
 {
     match *op {
         Op::Propose {

@@ -2,7 +2,7 @@
 
 ghost use Rattle.std.specs.Prelude.{◌≡◌, ◌↔◌, [], ◌++◌, List, IsTrue, IfOk, OnOk, OnErr};
 ghost use Rattle.fm_records.specs.declared.ops.Op.{Op};
-ghost use Rattle.fm_records.specs.Know.{know};
+ghost use Rattle.fm_records.specs.Know.{table_of};
 ghost use Rattle.fm_records.specs.Joined.{table_join};
 
 use fm_lattice::constructors::{Max, Min};
@@ -43,7 +43,7 @@ impl Model for Knowledge {
 impl Knowledge {
     /// The knowledge of no operations. It allocates nothing.
     pub fn empty(alloc: Global) -> Knowledge
-        ensures { result ≡ know [] }
+        ensures { result ≡ table_of [] }
     {
         Knowledge {
             jobs: JoinMap::new(alloc),
@@ -86,8 +86,8 @@ impl Knowledge {
     /// changed.
     pub fn join_into(&mut self, other: &Knowledge) -> Result<(), OutOfMemory>
         ensures ok { OnOk result (self.new ≡ table_join self.old other.now) }
-        ensures union { (S T : List Op) → self.old ≡ know S → other.now ≡ know T
-            → OnOk result (self.new ≡ know (S ++ T)) }
+        ensures union { (S T : List Op) → self.old ≡ table_of S → other.now ≡ table_of T
+            → OnOk result (self.new ≡ table_of (S ++ T)) }
         ensures err { OnErr result (self.new ≡ self.old) }
     {
         self.take_in(other)

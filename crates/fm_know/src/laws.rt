@@ -3,7 +3,7 @@
 ghost use Rattle.std.specs.Prelude.{◌≡◌, List};
 ghost use Rattle.fm_records.specs.declared.ops.Op.{Op};
 ghost use Rattle.fm_records.specs.Sets.{HaveSameMembers};
-ghost use Rattle.fm_records.specs.Know.{know};
+ghost use Rattle.fm_records.specs.Know.{table_of};
 ghost use Rattle.fm_records.specs.OpsOfTable.{ops};
 ghost use Rattle.fm_records.specs.Ranges.{CanBe};
 
@@ -19,14 +19,14 @@ pub fn law_can_be(knowledge: &Knowledge)
 
 /// It is the table of the operations that it is written out as.
 pub fn law_spelled(knowledge: &Knowledge)
-    ensures { know (ops knowledge.now) ≡ knowledge.now }
+    ensures { table_of (ops knowledge.now) ≡ knowledge.now }
 {
     knowledge.known();
 }
 
 /// Sets with the same members have the same knowledge.
 pub fn law_same(left: &Knowledge, right: &Knowledge)
-    ensures { (S T : List Op) → HaveSameMembers S T → left.now ≡ know S → right.now ≡ know T → left.now ≡ right.now }
+    ensures { (S T : List Op) → HaveSameMembers S T → left.now ≡ table_of S → right.now ≡ table_of T → left.now ≡ right.now }
 {
     left.known();
     right.known();

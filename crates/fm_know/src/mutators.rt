@@ -2,7 +2,7 @@
 
 ghost use Rattle.std.specs.Prelude.{◌≡◌, ◌≤◌, ◌∷◌, [], Some, IfOk, IfSome};
 ghost use Rattle.std.specs.Option.{ok_or};
-ghost use Rattle.fm_records.specs.Know.{know, job_in, progress_in, state_in, none_begun};
+ghost use Rattle.fm_records.specs.Know.{table_of, job_in, progress_in, state_in, initial_progress};
 ghost use Rattle.fm_records.specs.Facts.{job_of, progress_of, incarnation_of, machine_state};
 ghost use Rattle.fm_records.specs.Joined.{table_join};
 ghost use Rattle.fm_know.specs.Mutators.{next_version, job_version, state_version, next_job_op, next_machine_op, next_attempt_op};
@@ -25,7 +25,7 @@ impl Knowledge {
         preempt: u32,
     ) -> Result<Op, Refusal>
         ensures op { result ≡ ok_or (next_job_op self.now id writer withdrawn wait preempt) Refusal.VersionsSpent }
-        ensures told { IfOk result (λ o. job_of (table_join self.now (know (o ∷ []))) id ≡ job_in id o) }
+        ensures told { IfOk result (λ o. job_of (table_join self.now (table_of (o ∷ []))) id ≡ job_in id o) }
     {
         self.known();
         let version = next_version(self.job_version(id))?;
@@ -54,9 +54,9 @@ impl Knowledge {
         ensures op { result
             ≡ ok_or (next_machine_op self.now id incarnation writer up slots nic) Refusal.VersionsSpent }
         ensures told { IfSome (incarnation_of self.now id) (λ i. i ≤ incarnation)
-            → IfOk result (λ o. machine_state (table_join self.now (know (o ∷ []))) id ≡ state_in id incarnation o) }
+            → IfOk result (λ o. machine_state (table_join self.now (table_of (o ∷ []))) id ≡ state_in id incarnation o) }
         ensures present { IfSome (incarnation_of self.now id) (λ i. i ≤ incarnation)
-            → IfOk result (λ o. incarnation_of (table_join self.now (know (o ∷ []))) id ≡ Some incarnation) }
+            → IfOk result (λ o. incarnation_of (table_join self.now (table_of (o ∷ []))) id ≡ Some incarnation) }
     {
         self.known();
         let version = next_version(self.state_version(id, incarnation))?;
@@ -75,7 +75,7 @@ impl Knowledge {
     /// task. AttemptsSpent if the known attempt is the greatest u32.
     pub fn next_attempt(&self, id: TaskId) -> Result<Op, Refusal>
         ensures op { result ≡ ok_or (next_attempt_op self.now id) Refusal.AttemptsSpent }
-        ensures told { IfOk result (λ o. Some (progress_of (table_join self.now (know (o ∷ []))) id)
+        ensures told { IfOk result (λ o. Some (progress_of (table_join self.now (table_of (o ∷ []))) id)
             ≡ progress_in id o) }
     {
         self.known();

@@ -2,7 +2,7 @@
 
 ghost use Rattle.std.specs.Prelude.{◌≡◌, ◌↔◌, ◌<◌, ◌^◌, List, length};
 ghost use Rattle.fm_records.specs.declared.ops.Op.{Op};
-ghost use Rattle.fm_records.specs.Know.{know};
+ghost use Rattle.fm_records.specs.Know.{table_of};
 ghost use Rattle.fm_records.specs.Table.{Table};
 ghost use Rattle.fm_records.specs.Ranges.{CanBe};
 ghost use Rattle.fm_net.specs.Net.{CanBeNet, Net};
@@ -20,7 +20,7 @@ pub fn law_network()
 /// A network has exactly the nodes and arcs of a set of operations, by the facts of the set, if it is the one that is
 /// computed from the table of the set.
 pub fn law_network_of_sets()
-    ensures { (S : List Op) (net : Net) → (IsNetworkOfSet S net ↔ (net ≡ net_of (know S))) }
+    ensures { (S : List Op) (net : Net) → (IsNetworkOfSet S net ↔ (net ≡ net_of (table_of S))) }
 {}
 
 /// The network of a possible table, of fewer than 2^64 tasks, is a possible network.

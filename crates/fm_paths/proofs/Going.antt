@@ -24,7 +24,7 @@ use Rattle.fm_net.specs.Net.{CanBeNet}
 use Rattle.fm_net.specs.Network.{arc_of, net_of}
 use Rattle.fm_net.specs.NetworkLaws.{passes_some, live_entry, is_network_of}
 use Rattle.fm_net.specs.NetworkEquality.{same_ends}
-use Rattle.fm_round.specs.Planned.{ArcUnits, units_over, unscheduled_in, preempt_of, plan_of_flow}
+use Rattle.fm_round.specs.PlanOfFlow.{ArcUnits, units_over, unscheduled_in, preempt_of, plan_of_flow}
 use Rattle.fm_round.proofs.Over.{rising_over}
 use Rattle.fm_paths.specs.TaskPaths.{Way, ToJob, ByRequest, Straight, path_arcs_of, path_arcs, crossings, units_of, ways_of, MayGo}
 use Rattle.fm_paths.specs.Prices.{first_node}

@@ -22,7 +22,7 @@ use Rattle.fm_certificate.proofs.Members.{member_lookup}
 use Rattle.fm_certificate.proofs.Sums.{sum_same, sum_both}
 use Rattle.fm_round.specs.declared.plan.Place.{Place}
 use Rattle.fm_round.specs.declared.plan.Preempt.{Preempt}
-use Rattle.fm_round.specs.Planned.{place_at, preempt_of}
+use Rattle.fm_round.specs.PlanOfFlow.{place_at, preempt_of}
 use Rattle.fm_round.specs.Schedules.{IsPlanOf}
 use Rattle.fm_paths.specs.TaskPaths.{Way, ToJob, ByRequest, Straight, ways_of, goes_by, takes_slot, Fit}
 use Rattle.fm_paths.specs.Prices.{first_node, AreFair}

@@ -23,7 +23,7 @@ use Rattle.fm_net.specs.Network.{is_held, net_of}
 use Rattle.fm_net.specs.NetworkLaws.{is_network_of}
 use Rattle.fm_certificate.proofs.Members.{member_lookup}
 use Rattle.fm_round.specs.declared.plan.Place.{Place}
-use Rattle.fm_round.specs.Planned.{Wait, ArcUnits, units, units_over, wait_in, waits, seats, tasks_of, machines_of, machine_for, place_at, place_of, place_in_plan, plan_of_flow}
+use Rattle.fm_round.specs.PlanOfFlow.{Wait, ArcUnits, units, units_over, wait_in, waits, seats, tasks_of, machines_of, machine_for, place_at, place_of, place_in_plan, plan_of_flow}
 use Rattle.fm_round.proofs.Flows.{seats_counted}
 use Rattle.fm_paths.specs.TaskPaths.{Way, ToJob, ByRequest, Straight, path_arcs, units_of, ways_of, goes_by, Fit}
 use Rattle.fm_paths.specs.Prices.{first_node}

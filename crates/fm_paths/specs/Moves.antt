@@ -10,7 +10,7 @@ use Rattle.fm_records.specs.Facts.{is_live, open_state, holder_of, holds}
 use Rattle.fm_round.specs.declared.plan.Place.{Place}
 use Rattle.fm_round.specs.declared.plan.Preempt.{Preempt}
 use Rattle.fm_round.specs.declared.plan.Plan.{Plan}
-use Rattle.fm_round.specs.Planned.{preempt_of}
+use Rattle.fm_round.specs.PlanOfFlow.{preempt_of}
 use Rattle.fm_net.specs.Network.{room_arc}
 use Rattle.fm_paths.specs.TaskPaths.{Way, Straight, MayGo, goes_by, takes_slot}
 use Rattle.fm_paths.specs.Prices.{first_node}

@@ -10,7 +10,7 @@ use Rattle.fm_net.specs.Network.{is_held}
 use Rattle.fm_round.specs.declared.plan.Place.{Place}
 use Rattle.fm_round.specs.declared.plan.Preempt.{Preempt}
 use Rattle.fm_round.specs.declared.plan.Plan.{Plan}
-use Rattle.fm_round.specs.Planned.{place_at, preempt_of}
+use Rattle.fm_round.specs.PlanOfFlow.{place_at, preempt_of}
 use Rattle.fm_paths.specs.TaskPaths.{Way, ToJob, ByRequest, Straight}
 use Rattle.fm_paths.specs.Prices.{first_node}
 

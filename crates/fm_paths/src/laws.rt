@@ -12,7 +12,7 @@ ghost use Rattle.fm_net.specs.Net.{Net, CanBeNet};
 ghost use Rattle.fm_net.specs.Network.{net_of};
 ghost use Rattle.fm_certificate.specs.Flows.{leaving, entering, is_between, IsFeasible, IsLeast};
 ghost use Rattle.fm_round.specs.Schedules.{IsPlanOf};
-ghost use Rattle.fm_round.specs.Planned.{units_over, plan_of_flow};
+ghost use Rattle.fm_round.specs.PlanOfFlow.{units_over, plan_of_flow};
 ghost use Rattle.fm_paths.specs.Plans.{preempts_of_ways, places_of_ways, plan_of_ways, all_at_jobs, InTurn};
 ghost use Rattle.fm_paths.specs.Prices.{AreCheapest, AreFair};
 ghost use Rattle.fm_paths.specs.TaskPaths.{Way, units_of, ways_of, goes_by, takes_slot, HasArcsOf, Fit};

@@ -5,7 +5,7 @@ use Rattle.fm_net.specs.Net.{Net}
 use Rattle.fm_net.specs.Network.{net_of}
 use Rattle.fm_certificate.specs.Flows.{Units, IsLeast}
 use Rattle.fm_round.specs.declared.plan.Plan.{Plan}
-use Rattle.fm_round.specs.Planned.{units_over, plan_of_flow}
+use Rattle.fm_round.specs.PlanOfFlow.{units_over, plan_of_flow}
 use Rattle.fm_round.specs.Schedules.{IsPlanOf}
 
 pub plan_is : (k : Table) (net : Net) (units : Units) (plan : Plan) → net ≡ net_of k → IsLeast net units → plan ≡ plan_of_flow (units_over net units) k → IsPlanOf k plan

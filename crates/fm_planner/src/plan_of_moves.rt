@@ -3,7 +3,7 @@
 ghost use Rattle.std.specs.Prelude.{◌≡◌, cond, None, IfOk};
 ghost use Rattle.std.specs.List.{filter_map};
 ghost use Rattle.fm_net.specs.Network.{is_held};
-ghost use Rattle.fm_round.specs.Planned.{place_at, preempt_of};
+ghost use Rattle.fm_round.specs.PlanOfFlow.{place_at, preempt_of};
 ghost use Rattle.fm_paths.specs.Plans.{is_job, place_way};
 ghost use Rattle.fm_paths.specs.Prices.{first_node};
 ghost use Rattle.fm_paths.specs.Moves.{places_of_moves, preempts_of_moves, plan_of_moves};

@@ -3,7 +3,7 @@ use Rattle.std.proofs.Common.{◌≡◌, ◌∙◌, true, [], refl, sym, ap}
 use Rattle.fm_records.specs.Table.{Table}
 use Rattle.fm_records.specs.Ranges.{CanBe}
 use Rattle.fm_records.specs.RangeLaws.{know_can_be}
-use Rattle.fm_records.specs.Know.{know}
+use Rattle.fm_records.specs.Know.{table_of}
 use Rattle.fm_records.specs.Joined.{table_join}
 use Rattle.fm_records.specs.JoinedLaws.{table_laws}
 use Rattle.fm_policy.specs.Changes.{Keys, no_keys, changed_keys, joined_keys}
@@ -12,7 +12,7 @@ use Rattle.fm_policy.specs.Keeping.{FollowsAfter}
 pub took_none : (is_for : Table → Type 0) (k : Table) (keys : Keys) → CanBe k → keys ≡ no_keys → is_for k → FollowsAfter true is_for k keys
 took_none is_for k keys can none here = record {
   before = k;
-  delta = know [];
+  delta = table_of [];
   before_can_be = can;
   delta_can_be = know_can_be [] refl;
   for_before = λ _. here;

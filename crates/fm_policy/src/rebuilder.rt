@@ -1,7 +1,7 @@
 //! A keeper that rebuilds.
 
 ghost use Rattle.std.specs.Prelude.{◌≡◌, [], Some, false, is_some, IsTrue, IfOk};
-ghost use Rattle.fm_records.specs.Know.{know};
+ghost use Rattle.fm_records.specs.Know.{table_of};
 ghost use Rattle.fm_net.specs.Network.{net_of};
 
 use crate::build::build;
@@ -33,7 +33,7 @@ impl Model for Rebuilder {
 impl Rebuilder {
     /// Fresh, with the network of nothing known.
     pub fn new(alloc: Global) -> Result<Rebuilder, OutOfMemory>
-        ensures { IfOk result (λ r. r ≡ Some (net_of (know []))) }
+        ensures { IfOk result (λ r. r ≡ Some (net_of (table_of []))) }
     {
         Ok(Rebuilder {
             network: Shared::new(alloc, Network::new(alloc)?)?,

@@ -2,7 +2,7 @@
 
 ghost use Rattle.std.specs.Prelude.{true, IsTrue};
 ghost use Rattle.fm_policy.specs.Keeping.{FollowsAfter};
-ghost use Rattle.fm_edit.specs.Editing.{is_fresh_editor, IsFor};
+ghost use Rattle.fm_edit.specs.EditorModel.{is_fresh_editor, IsFor};
 
 use fm_edit::editor::{Editor, edit};
 use fm_edit::look::{Key, KnowLook};
@@ -28,7 +28,7 @@ pub(crate) struct Followed {
 
 impl Model for Followed {
     ghost use Rattle.std.specs.Prelude.{IsTrue, ⊤};
-    ghost use Rattle.fm_edit.specs.Editing.{is_fresh_editor, IsFor};
+    ghost use Rattle.fm_edit.specs.EditorModel.{is_fresh_editor, IsFor};
 
     ghost Value = { ⊤ };
 

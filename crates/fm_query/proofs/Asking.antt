@@ -3,7 +3,7 @@ use Rattle.std.proofs.Common.{◌≡◌, ℕ, List, Bool, Option, Some, None, Re
 use Rattle.std.proofs.lemmas.Option.{slice_get-map}
 use Rattle.fm_records.specs.declared.refusal.Refusal.{Refusal}
 use Rattle.fm_records.specs.declared.refusal.Refusal.TheVariants.{NoCoordinator}
-use Rattle.fm_records.specs.Know.{know}
+use Rattle.fm_records.specs.Know.{table_of}
 use Rattle.fm_records.specs.Table.{Table}
 use Rattle.fm_delta.specs.declared.packet.Packet.{Packet}
 use Rattle.fm_dimacs.specs.Sending.{StopsBy}
@@ -13,17 +13,17 @@ use Rattle.fm_coord.specs.Events.{Sent, Replica}
 use Rattle.fm_coord.specs.Replays.{seen_packet}
 use Rattle.fm_coord.specs.States.{State}
 use Rattle.fm_world.specs.Worlds.{WorldOfSets, with_number}
-use Rattle.fm_world.specs.Stands.{Kept, WorldStandsFor, state_with}
+use Rattle.fm_world.specs.Represents.{Kept, WorldRepresents, state_with}
 use Rattle.fm_world.proofs.Places.{Stood, stood, absent}
 use Rattle.fm_query.specs.PlanText.{plan_text, IsPlanText}
 
 -- what holds if there is no replica holds if there is no coordinator, and what holds of a replica holds of the one
 -- that a coordinator stands for
-module _ (k : Kept) (w : WorldOfSets) (at : ℕ) (h : WorldStandsFor k w) (P : Option Replica → Type 0) where
+module _ (k : Kept) (w : WorldOfSets) (at : ℕ) (h : WorldRepresents k w) (P : Option Replica → Type 0) where
   pub of_none : None ≡ state_with k.coordinators at → P None → P (with_number w.replicas at)
   of_none e p = subst P (sym (absent at k.coordinators w.replicas h.coordinators (sym e))) p
 
-  pub of_some : (s : State) → Some s ≡ state_with k.coordinators at → ((r : Replica) → s.knowledge ≡ know r.taken → P (Some r)) → P (with_number w.replicas at)
+  pub of_some : (s : State) → Some s ≡ state_with k.coordinators at → ((r : Replica) → s.knowledge ≡ table_of r.taken → P (Some r)) → P (with_number w.replicas at)
   of_some s e p =
       let q : Stood (with_number w.replicas at) s = stood at k.coordinators w.replicas h.coordinators s (sym e) in
       subst P (sym q.at) (p q.replica q.stands.knowledge)
@@ -42,7 +42,7 @@ is_seen None p e = absurd (let no : ⊥ = cc in no)
 is_seen (Some s) p e = record { sent = s; there = refl; is = cc }
 
 -- the same of packets
-module _ (k : Kept) (w : WorldOfSets) (n : ℕ) (h : WorldStandsFor k w) (P : Option Sent → Type 0) where
+module _ (k : Kept) (w : WorldOfSets) (n : ℕ) (h : WorldRepresents k w) (P : Option Sent → Type 0) where
   packet_seen : slice_get k.packets n ≡ option_map seen_packet (slice_get w.packets n)
   packet_seen = ap (λ ps. slice_get ps n) h.packets ∙ slice_get-map seen_packet w.packets n
 
@@ -55,7 +55,7 @@ module _ (k : Kept) (w : WorldOfSets) (n : ℕ) (h : WorldStandsFor k w) (P : Op
       subst P (sym s.there) (f s.sent s.is)
 
 -- a dump that is refused because there is no such coordinator
-pub not_there : (k : Kept) (w : WorldOfSets) (at : ℕ) → WorldStandsFor k w → (refusal : Refusal) (had has : Bool) → refusal ≡ NoCoordinator
+pub not_there : (k : Kept) (w : WorldOfSets) (at : ℕ) → WorldRepresents k w → (refusal : Refusal) (had has : Bool) → refusal ≡ NoCoordinator
     → MatchOption (state_with k.coordinators at) (refusal ≡ NoCoordinator) (λ s. StopsBy refusal had has) → with_number w.replicas at ≡ None
 not_there k w at h refusal had has is = by_state (state_with k.coordinators at) refl where
   by_state : (o : Option State) → o ≡ state_with k.coordinators at → MatchOption o (refusal ≡ NoCoordinator) (λ s. StopsBy refusal had has) → with_number w.replicas at ≡ None

@@ -2,8 +2,8 @@
 use Rattle.std.specs.Prelude.{◌≡◌, ◌⊎◌, ℕ, List, Bool, false, is_some, None, IsSomeAnd, slice_get}
 use Rattle.fm_records.specs.declared.refusal.Refusal.{Refusal}
 use Rattle.fm_records.specs.declared.refusal.Refusal.TheVariants.{OutOfMemory, NoCoordinator, NoPacket}
-use Rattle.fm_records.specs.Know.{know}
-use Rattle.fm_world.specs.Stands.{Kept, WorldStandsFor}
+use Rattle.fm_records.specs.Know.{table_of}
+use Rattle.fm_world.specs.Represents.{Kept, WorldRepresents}
 use Rattle.fm_world.specs.Worlds.{WorldOfSets, with_number}
 use Rattle.fm_query.specs.declared.query.Query.{Query}
 use Rattle.fm_query.specs.declared.query.Query.TheVariants.{Graph, Solve, Plan, Winners, Stops, Why, Agree, Packet}
@@ -13,16 +13,16 @@ use Rattle.fm_query.specs.QueryTexts.{network_of, graph_of, winners_of, differen
 
 -- this holds of each world of sets that the coordinators stand for
 abbrev pub ForEachWorld : Kept → (WorldOfSets → Type 0) → Type 0
-ForEachWorld kept Holds = (w : WorldOfSets) → WorldStandsFor kept w → Holds w
+ForEachWorld kept Holds = (w : WorldOfSets) → WorldRepresents kept w → Holds w
 
 -- what is asked of is there, and the text answers the query
 abbrev pub IsText : Query → WorldOfSets → List ℕ → Type 0
 IsText (Graph n) w text = IsSomeAnd (with_number w.replicas n) (λ r. text ≡ graph_of r)
 IsText (Solve n) w text = IsSomeAnd (with_number w.replicas n) (λ r. IsSolution (network_of r) text)
-IsText (Plan n) w text = IsSomeAnd (with_number w.replicas n) (λ r. IsPlanText (know r.taken) text)
+IsText (Plan n) w text = IsSomeAnd (with_number w.replicas n) (λ r. IsPlanText (table_of r.taken) text)
 IsText (Winners n) w text = IsSomeAnd (with_number w.replicas n) (λ r. text ≡ winners_of r)
-IsText (Stops n) w text = IsSomeAnd (with_number w.replicas n) (λ r. text ≡ stops_text (know r.taken) n)
-IsText (Why n task) w text = IsSomeAnd (with_number w.replicas n) (λ r. IsReasonsText (know r.taken) task text)
+IsText (Stops n) w text = IsSomeAnd (with_number w.replicas n) (λ r. text ≡ stops_text (table_of r.taken) n)
+IsText (Why n task) w text = IsSomeAnd (with_number w.replicas n) (λ r. IsReasonsText (table_of r.taken) task text)
 IsText Agree w text = text ≡ agreement_text (difference w.replicas)
 IsText (Packet i) w text = IsSomeAnd (slice_get w.packets i) (λ p. text ≡ packet_line p)
 

@@ -2,7 +2,7 @@
 use Rattle.std.specs.Prelude.{◌≡◌, ℕ, List, [], ◌∷◌, ◌++◌, cond, codes, decimal, Option, Some, None, option_map}
 use Rattle.hex.specs.Hex.{encode_lower}
 use Rattle.fm_records.specs.Table.{Table}
-use Rattle.fm_records.specs.Know.{know}
+use Rattle.fm_records.specs.Know.{table_of}
 use Rattle.fm_know.specs.KnowledgeEquality.{same_table}
 use Rattle.fm_delta.specs.declared.packet.Packet.{Packet}
 use Rattle.fm_wire.specs.Grammar.{spelling}
@@ -18,23 +18,23 @@ use Rattle.fm_query.specs.WinnersText.{winners_text}
 
 -- the network of what a replica took in, its text, and the text of who won
 abbrev pub network_of : Replica → Net
-network_of r = net_of (know r.taken)
+network_of r = net_of (table_of r.taken)
 
 abbrev pub graph_of : Replica → List ℕ
 graph_of r = dump_text (network_of r)
 
 abbrev pub winners_of : Replica → List ℕ
-winners_of r = winners_text (know r.taken)
+winners_of r = winners_text (table_of r.taken)
 
 -- the number of the first replica whose operations have another table
 abbrev pub first_other : Table → List Replica → Option ℕ
 first_other k [] = None
-first_other k (r ∷ rs) = cond (same_table k (know r.taken)) (first_other k rs) (Some r.number)
+first_other k (r ∷ rs) = cond (same_table k (table_of r.taken)) (first_other k rs) (Some r.number)
 
 -- the first replica, and the first whose operations have another table
 abbrev pub difference : List Replica → Option Disagreement
 difference [] = None
-difference (r ∷ rs) = option_map (λ other. record { first = r.number; other = other }) (first_other (know r.taken) rs)
+difference (r ∷ rs) = option_map (λ other. record { first = r.number; other = other }) (first_other (table_of r.taken) rs)
 
 -- that all know the same, or which two do not
 abbrev pub agreement_text : Option Disagreement → List ℕ

@@ -11,7 +11,7 @@ use Rattle.fm_why.specs.declared.reasons.Change.{Change}
 use Rattle.fm_why.specs.declared.reasons.Change.TheVariants.{Slot, Bandwidth}
 use Rattle.fm_why.specs.declared.reasons.Choice.{Choice}
 use Rattle.fm_why.specs.declared.reasons.Choices.{Choices}
-use Rattle.fm_why.specs.declared.reasons.Example.{Example}
+use Rattle.fm_why.specs.declared.reasons.Alternative.{Alternative}
 use Rattle.fm_why.specs.declared.reasons.Move.{Move}
 use Rattle.fm_why.specs.declared.reasons.Remedy.{Remedy}
 use Rattle.fm_why.specs.declared.reasons.Reasons.{Reasons}
@@ -20,7 +20,7 @@ use Rattle.fm_why.specs.Reasons.{AreReasons}
 use Rattle.fm_query.specs.TextLines.{text_of_lines}
 
 -- a schedule was found that runs the task on the machine, and costs no more than each must
-abbrev pub is_exact : ℕ → Choice → Option Example → Bool
+abbrev pub is_exact : ℕ → Choice → Option Alternative → Bool
 is_exact least e found = passes (λ example. example.cost == least + e.dearer) found
 
 -- the same of the cheapest machine
@@ -91,12 +91,12 @@ abbrev pub move_text : Move → List ℕ
 move_text move = codes "in it task " ++ (id_text move.task ++ goal_text move.to)
 
 -- a schedule that runs the task on the machine: what it costs, and the first five of the tasks that go elsewhere in it
-abbrev pub example_head : Choice → Example → List ℕ
+abbrev pub example_head : Choice → Alternative → List ℕ
 example_head e example =
     codes "a schedule that runs it on machine " ++ (id_text e.machine ++ (codes " costs " ++ (decimal example.cost
     ++ (codes "; tasks that go elsewhere in it: " ++ (decimal (length example.moves.items) ++ codes "\n")))))
 
-abbrev pub example_text : Option Choice → Option (Option Example) → List ℕ
+abbrev pub example_text : Option Choice → Option (Option Alternative) → List ℕ
 example_text (Some e) (Some (Some example)) = example_head e example ++ text_of_lines move_text (take 5 example.moves.items)
 example_text _ _ = []
 
@@ -109,15 +109,15 @@ abbrev pub exact_text : Choice → List ℕ
 exact_text e = codes ", and the cheapest schedule that runs it there costs exactly " ++ (decimal e.dearer ++ codes " more")
 
 -- one was found that is dearer than that
-abbrev pub beyond_text : ℕ → Choice → Example → List ℕ
+abbrev pub beyond_text : ℕ → Choice → Alternative → List ℕ
 beyond_text least e example = at_least_text e ++ (codes "; one was found that costs " ++ (decimal (example.cost - least) ++ codes " more"))
 
-abbrev pub dearer_text : ℕ → Choice → Option Example → List ℕ
+abbrev pub dearer_text : ℕ → Choice → Option Alternative → List ℕ
 dearer_text least e None = at_least_text e
 dearer_text least e (Some example) = if is_exact least e (Some example) then exact_text e else beyond_text least e example
 
 -- a machine with room: what the way there costs, and how much dearer schedules are that use it
-abbrev pub choice_text : ℕ → Choice × Option Example → List ℕ
+abbrev pub choice_text : ℕ → Choice × Option Alternative → List ℕ
 choice_text least e = codes "on machine " ++ (id_text e.0.machine ++ (codes " it costs " ++ (decimal e.0.cost ++ dearer_text least e.0 e.1)))
 
 -- the cheapest machines, each with the schedule that was found for it

@@ -2,7 +2,7 @@
 
 ghost use Rattle.std.specs.Prelude.{◌≡◌, List, map, string_bytes, IfOk, IsOkUnless};
 ghost use Rattle.fm_coord.specs.Events.{Replica};
-ghost use Rattle.fm_world.specs.Stands.{AllStand, WorldStandsFor, state_of};
+ghost use Rattle.fm_world.specs.Represents.{AllStand, WorldRepresents, state_of};
 ghost use Rattle.fm_world.specs.Worlds.{WorldOfSets};
 ghost use Rattle.fm_query.specs.QueryTexts.{difference, first_other, agreement_text};
 
@@ -24,7 +24,7 @@ pub struct Disagreement {
 /// The first coordinator of the world, and the first that knows something else, if one does. It compares what each
 /// knows with what the first knows.
 pub fn difference<N: NetKeeper>(world: &World<N>) -> Option<Disagreement>
-    ensures { (w : WorldOfSets) → WorldStandsFor world.now w → result ≡ difference w.replicas }
+    ensures { (w : WorldOfSets) → WorldRepresents world.now w → result ≡ difference w.replicas }
 {
     let (first, others) = world.coordinators().split_first()?;
     let other = first_other(first.knowledge(), others)?;

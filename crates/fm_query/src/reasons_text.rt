@@ -8,7 +8,7 @@ use fm_know::knowledge::Knowledge;
 use fm_net::node::Node;
 use fm_records::ids::{MachineId, TaskId};
 use fm_records::refusal::Refusal;
-use fm_why::reasons::{Change, Choice, Choices, Example, Move, Reasons, Remedy, SHOWN};
+use fm_why::reasons::{Change, Choice, Choices, Alternative, Move, Reasons, Remedy, SHOWN};
 use fm_why::why::why;
 use std::alloc::Global;
 
@@ -93,7 +93,7 @@ fn write_choice(
     alloc: Global,
     least: u128,
     choice: &Choice,
-    found: &Option<Example>,
+    found: &Option<Alternative>,
     lines: &mut String,
 ) -> Result<(), Refusal>
     ensures ok { OnOk result (string_bytes lines.new
@@ -110,7 +110,7 @@ fn write_choice(
 fn write_dearer(
     least: u128,
     choice: &Choice,
-    found: &Option<Example>,
+    found: &Option<Alternative>,
     lines: &mut String,
 ) -> Result<(), Refusal>
     ensures ok { OnOk result (string_bytes lines.new
@@ -223,7 +223,7 @@ fn write_schedule(alloc: Global, choices: &Choices, lines: &mut String) -> Resul
 }
 
 // Whether a schedule was found that runs the task on the machine and costs no more than each must.
-fn is_exact(least: u128, choice: &Choice, found: &Option<Example>) -> bool
+fn is_exact(least: u128, choice: &Choice, found: &Option<Alternative>) -> bool
     ensures { result ≡ is_exact least choice.now found.now }
 {
     match found {
@@ -311,7 +311,7 @@ fn write_example(alloc: Global, choices: &Choices, lines: &mut String) -> Result
 fn write_example_head(
     alloc: Global,
     first: &Choice,
-    example: &Example,
+    example: &Alternative,
     lines: &mut String,
 ) -> Result<(), Refusal>
     ensures ok { OnOk result (string_bytes lines.new ≡ string_bytes lines.old ++ example_head first.now example.now) }

@@ -8,7 +8,7 @@ use fm_know::knowledge::Knowledge;
 use fm_records::ids::CoordId;
 use fm_records::refusal::Refusal;
 use fm_round::plan::Stop;
-use fm_round::stopping::stops;
+use fm_round::stops::stops;
 use std::alloc::Global;
 
 /// A line `stop TASK ATTEMPT MACHINE INCARNATION` for each entry of the coordinator that is to run no longer, by task

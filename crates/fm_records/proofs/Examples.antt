@@ -9,7 +9,7 @@ use Rattle.std.specs.declared.cmp.Ordering.TheVariants.{Less}
 use Rattle.fm_records.specs.Orders.{spec_cmp}
 use Rattle.fm_records.specs.Ops.{op_fault}
 use Rattle.fm_records.specs.Table.{Table}
-use Rattle.fm_records.specs.Know.{know, winner}
+use Rattle.fm_records.specs.Know.{table_of, winner}
 use Rattle.fm_records.specs.OpsOfTable.{ops, spec_op}
 use Rattle.fm_records.specs.Ranges.{all_in_range}
 use Rattle.fm_records.specs.Joined.{table_join}
@@ -60,33 +60,33 @@ one_task_known = record {
   proposals = [];
 }
 
-one_task-table : know one_task ≡ one_task_known
+one_task-table : table_of one_task ≡ one_task_known
 one_task-table = refl
 
-one_task-other_order : know (machine_a ∷ task_of t1 100 ∷ the_job ∷ task_of t1 100 ∷ machine_a ∷ []) ≡ one_task_known
+one_task-other_order : table_of (machine_a ∷ task_of t1 100 ∷ the_job ∷ task_of t1 100 ∷ machine_a ∷ []) ≡ one_task_known
 one_task-other_order = refl
 
-one_task-spelled : know (ops one_task_known) ≡ one_task_known
+one_task-spelled : table_of (ops one_task_known) ≡ one_task_known
 one_task-spelled = refl
 
 one_task-in_range : all_in_range (ops one_task_known) ≡ true
 one_task-in_range = refl
 
-one_task-live : is_live (know one_task) t1 ≡ true
+one_task-live : is_live (table_of one_task) t1 ≡ true
 one_task-live = refl
 
-one_task-not_held : holder_of (know one_task) t1 ≡ None
+one_task-not_held : holder_of (table_of one_task) t1 ≡ None
 one_task-not_held = refl
 
-one_task-spare : spare_of (know one_task) A ≡ Some 1000
+one_task-spare : spare_of (table_of one_task) A ≡ Some 1000
 one_task-spare = refl
 
 -- A task whose job is not known is not live, and the machine is open all the same.
 
-job_unknown-live : is_live (know (machine_a ∷ task_of t1 100 ∷ [])) t1 ≡ false
+job_unknown-live : is_live (table_of (machine_a ∷ task_of t1 100 ∷ [])) t1 ≡ false
 job_unknown-live = refl
 
-job_unknown-open : is_open (know (machine_a ∷ task_of t1 100 ∷ [])) A ≡ true
+job_unknown-open : is_open (table_of (machine_a ∷ task_of t1 100 ∷ [])) A ≡ true
 job_unknown-open = refl
 
 -- Of two registers of one version and one writer the greater wait counts, told in either order.
@@ -94,10 +94,10 @@ job_unknown-open = refl
 abbrev dearer_job : Op
 dearer_job = op.Job J 1 1 false 600 800
 
-same_version-first : job_of (know (one_task ++ dearer_job ∷ [])) J ≡ Some (record { version = 1; writer = 1; withdrawn = false; wait = 600; preempt = 800 })
+same_version-first : job_of (table_of (one_task ++ dearer_job ∷ [])) J ≡ Some (record { version = 1; writer = 1; withdrawn = false; wait = 600; preempt = 800 })
 same_version-first = refl
 
-same_version-last : know (dearer_job ∷ one_task) ≡ know (one_task ++ dearer_job ∷ one_task)
+same_version-last : table_of (dearer_job ∷ one_task) ≡ table_of (one_task ++ dearer_job ∷ one_task)
 same_version-last = refl
 
 -- Two coordinators propose: the least wins, told in either order.
@@ -105,19 +105,19 @@ same_version-last = refl
 abbrev two_proposals : List Op
 two_proposals = one_task ++ machine_b ∷ op.Propose t1 0 2 B 1 ∷ op.Propose t1 0 1 A 1 ∷ []
 
-two_proposals-winner : winner_of (know two_proposals) t1 0 ≡ Some (1, record { machine = A; incarnation = 1 })
+two_proposals-winner : winner_of (table_of two_proposals) t1 0 ≡ Some (1, record { machine = A; incarnation = 1 })
 two_proposals-winner = refl
 
 two_proposals-winner_of_set : winner two_proposals (t1, 0) ≡ Some (1, record { machine = A; incarnation = 1 })
 two_proposals-winner_of_set = refl
 
-two_proposals-other_order : know (op.Propose t1 0 1 A 1 ∷ machine_b ∷ op.Propose t1 0 2 B 1 ∷ one_task ++ one_task) ≡ know two_proposals
+two_proposals-other_order : table_of (op.Propose t1 0 1 A 1 ∷ machine_b ∷ op.Propose t1 0 2 B 1 ∷ one_task ++ one_task) ≡ table_of two_proposals
 two_proposals-other_order = refl
 
-two_proposals-holder : holder_of (know two_proposals) t1 ≡ Some A
+two_proposals-holder : holder_of (table_of two_proposals) t1 ≡ Some A
 two_proposals-holder = refl
 
-two_proposals-load : load_of (know two_proposals) A ≡ 100
+two_proposals-load : load_of (table_of two_proposals) A ≡ 100
 two_proposals-load = refl
 
 -- The report of the greater number counts, also if another comes later.
@@ -125,16 +125,16 @@ two_proposals-load = refl
 abbrev reported : List Op
 reported = one_task ++ op.Report A 1 3 950 ∷ op.Report A 1 2 0 ∷ []
 
-reported-used : used_of (know reported) A ≡ 950
+reported-used : used_of (table_of reported) A ≡ 950
 reported-used = refl
 
-reported-spare : spare_of (know reported) A ≡ Some 50
+reported-spare : spare_of (table_of reported) A ≡ Some 50
 reported-spare = refl
 
-reported-no_room : has_room (know reported) A 100 ≡ false
+reported-no_room : has_room (table_of reported) A 100 ≡ false
 reported-no_room = refl
 
-reported-other_order : know (op.Report A 1 2 0 ∷ op.Report A 1 3 950 ∷ one_task ++ op.Report A 1 2 0 ∷ []) ≡ know reported
+reported-other_order : table_of (op.Report A 1 2 0 ∷ op.Report A 1 3 950 ∷ one_task ++ op.Report A 1 2 0 ∷ []) ≡ table_of reported
 reported-other_order = refl
 
 -- A proposal of the present attempt makes the machine hold the task, until a later incarnation is told.
@@ -142,31 +142,31 @@ reported-other_order = refl
 abbrev held : List Op
 held = one_task ++ op.Propose t1 0 1 A 1 ∷ []
 
-held-holder : holder_of (know held) t1 ≡ Some A
+held-holder : holder_of (table_of held) t1 ≡ Some A
 held-holder = refl
 
-held-spare : spare_of (know held) A ≡ Some 900
+held-spare : spare_of (table_of held) A ≡ Some 900
 held-spare = refl
 
 abbrev restarted : List Op
 restarted = held ++ op.Report A 2 1 0 ∷ []
 
-restarted-closed : is_open (know restarted) A ≡ false
+restarted-closed : is_open (table_of restarted) A ≡ false
 restarted-closed = refl
 
-restarted-holder : holder_of (know restarted) t1 ≡ None
+restarted-holder : holder_of (table_of restarted) t1 ≡ None
 restarted-holder = refl
 
-restarted-live : is_live (know restarted) t1 ≡ true
+restarted-live : is_live (table_of restarted) t1 ≡ true
 restarted-live = refl
 
-restarted-no_room : has_room (know restarted) A 0 ≡ false
+restarted-no_room : has_room (table_of restarted) A 0 ≡ false
 restarted-no_room = refl
 
-restarted-spelled : know (ops (know restarted)) ≡ know restarted
+restarted-spelled : table_of (ops (table_of restarted)) ≡ table_of restarted
 restarted-spelled = refl
 
-restarted-other_order : know (op.Report A 2 1 0 ∷ held ++ op.Report A 2 1 0 ∷ held) ≡ know restarted
+restarted-other_order : table_of (op.Report A 2 1 0 ∷ held ++ op.Report A 2 1 0 ∷ held) ≡ table_of restarted
 restarted-other_order = refl
 
 -- A request of 0 has room while the use is no more than the nic, and none beyond.
@@ -174,19 +174,19 @@ restarted-other_order = refl
 abbrev used_by : ℕ → List Op
 used_by used = the_job ∷ machine_a ∷ task_of t1 0 ∷ op.Report A 1 1 used ∷ []
 
-used_by-load : load_of (know (used_by 40)) A ≡ 40
+used_by-load : load_of (table_of (used_by 40)) A ≡ 40
 used_by-load = refl
 
-used_by-room : has_room (know (used_by 40)) A 0 ≡ true
+used_by-room : has_room (table_of (used_by 40)) A 0 ≡ true
 used_by-room = refl
 
-used_by-all : has_room (know (used_by 1000)) A 0 ≡ true
+used_by-all : has_room (table_of (used_by 1000)) A 0 ≡ true
 used_by-all = refl
 
-used_by-more : spare_of (know (used_by 1001)) A ≡ None
+used_by-more : spare_of (table_of (used_by 1001)) A ≡ None
 used_by-more = refl
 
-used_by-no_room : has_room (know (used_by 1001)) A 0 ≡ false
+used_by-no_room : has_room (table_of (used_by 1001)) A 0 ≡ false
 used_by-no_room = refl
 
 -- The request of a held task takes room from the next.
@@ -194,13 +194,13 @@ used_by-no_room = refl
 abbrev two_tasks : List Op
 two_tasks = op.Job J 1 1 false 700 800 ∷ machine_a ∷ task_of t1 600 ∷ task_of t2 500 ∷ []
 
-two_tasks-room : has_room (know two_tasks) A 600 ≡ true
+two_tasks-room : has_room (table_of two_tasks) A 600 ≡ true
 two_tasks-room = refl
 
-two_tasks-placed : spare_of (know (op.Propose t1 0 1 A 1 ∷ two_tasks)) A ≡ Some 400
+two_tasks-placed : spare_of (table_of (op.Propose t1 0 1 A 1 ∷ two_tasks)) A ≡ Some 400
 two_tasks-placed = refl
 
-two_tasks-no_room : has_room (know (op.Propose t1 0 1 A 1 ∷ two_tasks)) A 500 ≡ false
+two_tasks-no_room : has_room (table_of (op.Propose t1 0 1 A 1 ∷ two_tasks)) A 500 ≡ false
 two_tasks-no_room = refl
 
 -- A machine holds a task until the task's next attempt begins.
@@ -208,16 +208,16 @@ two_tasks-no_room = refl
 abbrev one_slot : List Op
 one_slot = op.Job J 1 1 false 500 80 ∷ op.Machine A 1 1 1 true 1 1000 ∷ task_of t1 100 ∷ op.Propose t1 0 1 A 1 ∷ task_of t2 0 ∷ op.Report A 1 1 0 ∷ []
 
-one_slot-load : load_of (know one_slot) A ≡ 100
+one_slot-load : load_of (table_of one_slot) A ≡ 100
 one_slot-load = refl
 
-one_slot-held : map (λ e. e.0) (held_tasks (know one_slot) A) ≡ t1 ∷ []
+one_slot-held : map (λ e. e.0) (held_tasks (table_of one_slot) A) ≡ t1 ∷ []
 one_slot-held = refl
 
-one_slot-preempted : progress_of (know (op.Progress t1 1 Pending ∷ one_slot)) t1 ≡ record { attempt = 1; phase = Pending }
+one_slot-preempted : progress_of (table_of (op.Progress t1 1 Pending ∷ one_slot)) t1 ≡ record { attempt = 1; phase = Pending }
 one_slot-preempted = refl
 
-one_slot-free : holder_of (know (op.Progress t1 1 Pending ∷ one_slot)) t1 ≡ None
+one_slot-free : holder_of (table_of (op.Progress t1 1 Pending ∷ one_slot)) t1 ≡ None
 one_slot-free = refl
 
 -- A winner that names a machine that is not known holds nothing.
@@ -225,21 +225,21 @@ one_slot-free = refl
 abbrev last_attempt : List Op
 last_attempt = one_task ++ op.Progress t1 4294967295 Running ∷ op.Propose t1 4294967295 1 B 1 ∷ []
 
-last_attempt-attempt : attempt_of (know last_attempt) t1 ≡ 4294967295
+last_attempt-attempt : attempt_of (table_of last_attempt) t1 ≡ 4294967295
 last_attempt-attempt = refl
 
-last_attempt-winner : winner_of (know last_attempt) t1 4294967295 ≡ Some (1, record { machine = B; incarnation = 1 })
+last_attempt-winner : winner_of (table_of last_attempt) t1 4294967295 ≡ Some (1, record { machine = B; incarnation = 1 })
 last_attempt-winner = refl
 
-last_attempt-holder : holder_of (know last_attempt) t1 ≡ None
+last_attempt-holder : holder_of (table_of last_attempt) t1 ≡ None
 last_attempt-holder = refl
 
 -- A later attempt beats one that is done, and a task that is done is not live.
 
-done-live : is_live (know (op.Progress t1 0 Done ∷ one_task)) t1 ≡ false
+done-live : is_live (table_of (op.Progress t1 0 Done ∷ one_task)) t1 ≡ false
 done-live = refl
 
-done-again : is_live (know (op.Progress t1 1 Pending ∷ op.Progress t1 0 Done ∷ one_task)) t1 ≡ true
+done-again : is_live (table_of (op.Progress t1 1 Pending ∷ op.Progress t1 0 Done ∷ one_task)) t1 ≡ true
 done-again = refl
 
 -- A job that is withdrawn makes its task not live, and so held by no machine; the machine has all of its nic again. Of
@@ -248,28 +248,28 @@ done-again = refl
 abbrev job_withdrawn : List Op
 job_withdrawn = held ++ op.Job J 1 1 true 500 800 ∷ []
 
-job_withdrawn-register : job_of (know job_withdrawn) J ≡ Some (record { version = 1; writer = 1; withdrawn = true; wait = 500; preempt = 800 })
+job_withdrawn-register : job_of (table_of job_withdrawn) J ≡ Some (record { version = 1; writer = 1; withdrawn = true; wait = 500; preempt = 800 })
 job_withdrawn-register = refl
 
-job_withdrawn-stands : job_stands (know job_withdrawn) J ≡ false
+job_withdrawn-stands : job_stands (table_of job_withdrawn) J ≡ false
 job_withdrawn-stands = refl
 
-job_withdrawn-live : is_live (know job_withdrawn) t1 ≡ false
+job_withdrawn-live : is_live (table_of job_withdrawn) t1 ≡ false
 job_withdrawn-live = refl
 
-job_withdrawn-winner : winner_of (know job_withdrawn) t1 0 ≡ Some (1, record { machine = A; incarnation = 1 })
+job_withdrawn-winner : winner_of (table_of job_withdrawn) t1 0 ≡ Some (1, record { machine = A; incarnation = 1 })
 job_withdrawn-winner = refl
 
-job_withdrawn-holder : holder_of (know job_withdrawn) t1 ≡ None
+job_withdrawn-holder : holder_of (table_of job_withdrawn) t1 ≡ None
 job_withdrawn-holder = refl
 
-job_withdrawn-spare : spare_of (know job_withdrawn) A ≡ Some 1000
+job_withdrawn-spare : spare_of (table_of job_withdrawn) A ≡ Some 1000
 job_withdrawn-spare = refl
 
-job_withdrawn-other_order : know (op.Job J 1 1 true 500 800 ∷ held) ≡ know job_withdrawn
+job_withdrawn-other_order : table_of (op.Job J 1 1 true 500 800 ∷ held) ≡ table_of job_withdrawn
 job_withdrawn-other_order = refl
 
-job_withdrawn-again : holder_of (know (job_withdrawn ++ op.Job J 2 1 false 500 800 ∷ [])) t1 ≡ Some A
+job_withdrawn-again : holder_of (table_of (job_withdrawn ++ op.Job J 2 1 false 500 800 ∷ [])) t1 ≡ Some A
 job_withdrawn-again = refl
 
 -- A spec that is withdrawn makes that task not live, and no other.
@@ -277,22 +277,22 @@ job_withdrawn-again = refl
 abbrev spec_withdrawn : List Op
 spec_withdrawn = held ++ task_of t2 200 ∷ op.Propose t2 0 1 A 1 ∷ op.Spec t1 2 1 true J 100 [] ∷ []
 
-spec_withdrawn-spec : spec_of (know spec_withdrawn) t1 ≡ Some (record { version = 2; writer = 1; withdrawn = true; job = J; request = 100; prefer = [] })
+spec_withdrawn-spec : spec_of (table_of spec_withdrawn) t1 ≡ Some (record { version = 2; writer = 1; withdrawn = true; job = J; request = 100; prefer = [] })
 spec_withdrawn-spec = refl
 
-spec_withdrawn-live : is_live (know spec_withdrawn) t1 ≡ false
+spec_withdrawn-live : is_live (table_of spec_withdrawn) t1 ≡ false
 spec_withdrawn-live = refl
 
-spec_withdrawn-other_live : is_live (know spec_withdrawn) t2 ≡ true
+spec_withdrawn-other_live : is_live (table_of spec_withdrawn) t2 ≡ true
 spec_withdrawn-other_live = refl
 
-spec_withdrawn-holder : holder_of (know spec_withdrawn) t1 ≡ None
+spec_withdrawn-holder : holder_of (table_of spec_withdrawn) t1 ≡ None
 spec_withdrawn-holder = refl
 
-spec_withdrawn-held : map (λ e. e.0) (held_tasks (know spec_withdrawn) A) ≡ t2 ∷ []
+spec_withdrawn-held : map (λ e. e.0) (held_tasks (table_of spec_withdrawn) A) ≡ t2 ∷ []
 spec_withdrawn-held = refl
 
-spec_withdrawn-load : load_of (know spec_withdrawn) A ≡ 200
+spec_withdrawn-load : load_of (table_of spec_withdrawn) A ≡ 200
 spec_withdrawn-load = refl
 
 -- A machine that is down is not open: it holds nothing, has no spare and no room, and what it reported still loads it.
@@ -300,36 +300,36 @@ spec_withdrawn-load = refl
 abbrev down : List Op
 down = held ++ op.Report A 1 1 40 ∷ op.Machine A 1 2 1 false 2 1000 ∷ []
 
-down-state : machine_state (know down) A ≡ Some (record { version = 2; writer = 1; up = false; slots = 2; nic = 1000 })
+down-state : machine_state (table_of down) A ≡ Some (record { version = 2; writer = 1; up = false; slots = 2; nic = 1000 })
 down-state = refl
 
-down-open : is_open (know down) A ≡ false
+down-open : is_open (table_of down) A ≡ false
 down-open = refl
 
-down-live : is_live (know down) t1 ≡ true
+down-live : is_live (table_of down) t1 ≡ true
 down-live = refl
 
-down-holder : holder_of (know down) t1 ≡ None
+down-holder : holder_of (table_of down) t1 ≡ None
 down-holder = refl
 
-down-load : load_of (know down) A ≡ 40
+down-load : load_of (table_of down) A ≡ 40
 down-load = refl
 
-down-spare : spare_of (know down) A ≡ None
+down-spare : spare_of (table_of down) A ≡ None
 down-spare = refl
 
-down-no_room : has_room (know down) A 0 ≡ false
+down-no_room : has_room (table_of down) A 0 ≡ false
 down-no_room = refl
 
-down-other_order : know (op.Machine A 1 2 1 false 2 1000 ∷ op.Report A 1 1 40 ∷ held) ≡ know down
+down-other_order : table_of (op.Machine A 1 2 1 false 2 1000 ∷ op.Report A 1 1 40 ∷ held) ≡ table_of down
 down-other_order = refl
 
 -- Of two states of one version and one writer the one that is up counts; in a later version the machine is up again.
 
-down-up : is_open (know (op.Machine A 1 1 1 false 2 1000 ∷ machine_a ∷ [])) A ≡ true
+down-up : is_open (table_of (op.Machine A 1 1 1 false 2 1000 ∷ machine_a ∷ [])) A ≡ true
 down-up = refl
 
-down-again : holder_of (know (down ++ op.Machine A 1 3 1 true 2 1000 ∷ [])) t1 ≡ Some A
+down-again : holder_of (table_of (down ++ op.Machine A 1 3 1 true 2 1000 ∷ [])) t1 ≡ Some A
 down-again = refl
 
 -- The facts of the sets themselves, with no table between.
@@ -357,7 +357,7 @@ of_set-down = refl
 
 -- A proposal alone makes a row of proposals and no task.
 
-proposed-table : know (op.Propose t1 0 3 B 2 ∷ op.Propose t1 0 3 A 7 ∷ []) ≡ record { jobs = []; tasks = []; machines = []; proposals = ((t1, 0), (3, record { machine = A; incarnation = 7 }) ∷ []) ∷ [] }
+proposed-table : table_of (op.Propose t1 0 3 B 2 ∷ op.Propose t1 0 3 A 7 ∷ []) ≡ record { jobs = []; tasks = []; machines = []; proposals = ((t1, 0), (3, record { machine = A; incarnation = 7 }) ∷ []) ∷ [] }
 proposed-table = refl
 
 -- Parts that are joined in any order, and more than once, are the whole.
@@ -365,10 +365,10 @@ proposed-table = refl
 abbrev later_job : Op
 later_job = op.Job J 2 1 false 600 800
 
-joined-parts : table_join (know (later_job ∷ [])) (table_join (know (the_job ∷ [])) (know (later_job ∷ []))) ≡ know (the_job ∷ later_job ∷ [])
+joined-parts : table_join (table_of (later_job ∷ [])) (table_join (table_of (the_job ∷ [])) (table_of (later_job ∷ []))) ≡ table_of (the_job ∷ later_job ∷ [])
 joined-parts = refl
 
-joined-incarnations : table_join (know restarted) (know held) ≡ table_join (know held) (know restarted)
+joined-incarnations : table_join (table_of restarted) (table_of held) ≡ table_join (table_of held) (table_of restarted)
 joined-incarnations = refl
 
 -- The first field out of range, in the order of the fields.
@@ -414,16 +414,16 @@ prefers_A = record { version = 1; writer = 1; withdrawn = false; job = J; reques
 abbrev prefers_both : SpecReg
 prefers_both = record { version = 1; writer = 1; withdrawn = false; job = J; request = 100; prefer = (A, 1) ∷ (B, 1) ∷ [] }
 
-longer_wins : spec_of (know (spec_op t1 prefers_A ∷ spec_op t1 prefers_both ∷ [])) t1 ≡ Some prefers_both
+longer_wins : spec_of (table_of (spec_op t1 prefers_A ∷ spec_op t1 prefers_both ∷ [])) t1 ≡ Some prefers_both
 longer_wins = refl
 
-longer_wins-other_order : spec_of (know (spec_op t1 prefers_both ∷ spec_op t1 prefers_A ∷ [])) t1 ≡ Some prefers_both
+longer_wins-other_order : spec_of (table_of (spec_op t1 prefers_both ∷ spec_op t1 prefers_A ∷ [])) t1 ≡ Some prefers_both
 longer_wins-other_order = refl
 
 credit_before_length : spec_cmp prefers_both (record { version = 1; writer = 1; withdrawn = false; job = J; request = 100; prefer = (A, 2) ∷ [] }) ≡ Less
 credit_before_length = refl
 
-prefers_both-spelled : know (ops (know (spec_op t1 prefers_both ∷ []))) ≡ know (spec_op t1 prefers_both ∷ [])
+prefers_both-spelled : table_of (ops (table_of (spec_op t1 prefers_both ∷ []))) ≡ table_of (spec_op t1 prefers_both ∷ [])
 prefers_both-spelled = refl
 
 prefers_both-in_range : all_in_range (spec_op t1 prefers_both ∷ []) ≡ true

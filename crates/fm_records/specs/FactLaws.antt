@@ -15,7 +15,7 @@ use Rattle.fm_records.specs.Options.{and_then, or_else}
 use Rattle.fm_records.specs.Sets.{IsMember, least, with_value, table, unless_empty}
 use Rattle.fm_records.specs.Orders.{spot_cmp}
 use Rattle.fm_records.specs.OrderLaws.{total_spot}
-use Rattle.fm_records.specs.Know.{none_begun, coordinator_in, spot_in, coordinator_named, spec, told_progress, progress, incarnation, state_at, report_at, state, report, task_value, machine_at, entry, winner, know}
+use Rattle.fm_records.specs.Know.{initial_progress, coordinator_in, spot_in, coordinator_named, spec, greatest_progress, progress, incarnation, state_at, report_at, state, report, task_value, machine_at, entry, winner, table_of}
 use Rattle.fm_records.specs.Facts.{head_option, spec_of, progress_of, incarnation_of, machine_state, report_of, entries_of, winner_of}
 use Rattle.fm_records.specs.Characterized.{IsLeastOf}
 use Rattle.fm_records.specs.SetLaws.{member_from, member_kept}
@@ -32,17 +32,17 @@ spec_part None None = refl
 spec_part None (Some p) = refl
 spec_part (Some s) b = refl
 
-progress_part : (a : Option SpecReg) (b : Option Progress) → or_else none_begun (option_map (λ v. v.1) (task_value a b)) ≡ or_else none_begun b
+progress_part : (a : Option SpecReg) (b : Option Progress) → or_else initial_progress (option_map (λ v. v.1) (task_value a b)) ≡ or_else initial_progress b
 progress_part None None = refl
 progress_part None (Some p) = refl
 progress_part (Some s) b = refl
 
 module _ (S : List Op) where
-  pub spec_is : (t : ℕ) → spec_of (know S) t ≡ spec S t
-  spec_is t = ap (and_then (λ v. v.0)) (lookup_task S t) ∙ spec_part (spec S t) (told_progress S t)
+  pub spec_is : (t : ℕ) → spec_of (table_of S) t ≡ spec S t
+  spec_is t = ap (and_then (λ v. v.0)) (lookup_task S t) ∙ spec_part (spec S t) (greatest_progress S t)
 
-  pub progress_is : (t : ℕ) → progress_of (know S) t ≡ progress S t
-  progress_is t = ap (λ o. or_else none_begun (option_map (λ v. v.1) o)) (lookup_task S t) ∙ progress_part (spec S t) (told_progress S t)
+  pub progress_is : (t : ℕ) → progress_of (table_of S) t ≡ progress S t
+  progress_is t = ap (λ o. or_else initial_progress (option_map (λ v. v.1) o)) (lookup_task S t) ∙ progress_part (spec S t) (greatest_progress S t)
 
   incarnation_part : (m : ℕ) (o : Option ℕ) → option_map (λ v. v.0) (option_map (machine_at S m) o) ≡ o
   incarnation_part m None = refl
@@ -56,13 +56,13 @@ module _ (S : List Op) where
   report_part m None = refl
   report_part m (Some n) = refl
 
-  pub incarnation_is : (m : ℕ) → incarnation_of (know S) m ≡ incarnation S m
+  pub incarnation_is : (m : ℕ) → incarnation_of (table_of S) m ≡ incarnation S m
   incarnation_is m = ap (option_map (λ v. v.0)) (lookup_machine S m) ∙ incarnation_part m (incarnation S m)
 
-  pub state_is : (m : ℕ) → machine_state (know S) m ≡ state S m
+  pub state_is : (m : ℕ) → machine_state (table_of S) m ≡ state S m
   state_is m = ap (and_then (λ v. v.1.0)) (lookup_machine S m) ∙ state_part m (incarnation S m)
 
-  pub report_is : (m : ℕ) → report_of (know S) m ≡ report S m
+  pub report_is : (m : ℕ) → report_of (table_of S) m ≡ report S m
   report_is m = ap (and_then (λ v. v.1.1)) (lookup_machine S m) ∙ report_part m (incarnation S m)
 
 or_empty : {R : Type 0} (xs : List R) → or_else [] (unless_empty xs) ≡ xs
@@ -104,10 +104,10 @@ module _ (S : List Op) (at : ℕ × ℕ) where
   abbrev spots : List (ℕ × Spot)
   spots = table nat_cmp (filter_map coordinator_named S) (entry S at)
 
-  entries_are : entries_of (know S) at ≡ spots
+  entries_are : entries_of (table_of S) at ≡ spots
   entries_are = ap (or_else []) (lookup_entries S at) ∙ or_empty spots
 
-  pub entry_is : (c : ℕ) → lookup nat_cmp c (entries_of (know S) at) ≡ entry S at c
+  pub entry_is : (c : ℕ) → lookup nat_cmp c (entries_of (table_of S) at) ≡ entry S at c
   entry_is c = ap (lookup nat_cmp c) entries_are ∙ lookup_entry S at c
 
   -- who has an entry proposed it
@@ -139,5 +139,5 @@ module _ (S : List Op) (at : ℕ × ℕ) where
       first_row spots (spots_rise S at) c has.0 (lookup_entry S at c ∙ has.1) (λ q v e. is.none_below q (proposed q v (sym (lookup_entry S at q) ∙ e)))
       ∙ ap (option_map (λ v. (c, v))) (sym has.1)
 
-  pub winner_is : winner_of (know S) at.0 at.1 ≡ winner S at
+  pub winner_is : winner_of (table_of S) at.0 at.1 ≡ winner S at
   winner_is = ap head_option entries_are ∙ winner_by (least nat_cmp those) (least_is nat_cmp nat_cmp_total those)

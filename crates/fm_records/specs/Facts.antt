@@ -15,7 +15,7 @@ pub use Rattle.fm_records.specs.Options.{and_then, passes, only_if}
 use Rattle.fm_records.specs.Options.{or_else, when}
 use Rattle.fm_records.specs.Orders.{attempt_cmp}
 use Rattle.fm_records.specs.Table.{Table, TaskValue}
-use Rattle.fm_records.specs.Know.{none_begun}
+use Rattle.fm_records.specs.Know.{initial_progress}
 
 abbrev pub head_option : {A : Type 0} → List A → Option A
 head_option [] = None
@@ -30,7 +30,7 @@ spec_of k t = and_then (λ v. v.0) (lookup nat_cmp t k.tasks)
 
 -- attempt 0 pending if no record is known
 abbrev pub progress_of : Table → ℕ → Progress
-progress_of k t = or_else none_begun (option_map (λ v. v.1) (lookup nat_cmp t k.tasks))
+progress_of k t = or_else initial_progress (option_map (λ v. v.1) (lookup nat_cmp t k.tasks))
 
 abbrev pub attempt_of : Table → ℕ → ℕ
 attempt_of k t = (progress_of k t).attempt

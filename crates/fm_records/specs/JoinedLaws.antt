@@ -3,7 +3,7 @@ use Rattle.std.specs.Prelude.{◌≡◌, ◌⊎◌, List, [], ◌∷◌, ◌++�
 use Rattle.std.proofs.Common.{sym, ap, ◌∙◌, subst, inl, inr, append_assoc}
 use Rattle.fm_records.specs.Sets.{IsMember, HaveSameMembers}
 use Rattle.fm_records.specs.Table.{Table}
-use Rattle.fm_records.specs.Know.{know}
+use Rattle.fm_records.specs.Know.{table_of}
 use Rattle.fm_records.specs.OpsOfTable.{ops}
 use Rattle.fm_records.specs.Ranges.{in_range, CanBe}
 use Rattle.fm_records.specs.Joined.{table_join}
@@ -39,7 +39,7 @@ module _ {R : Type 0} where
   twice xs = (λ x h. elim (member_either x xs xs h) [ inl a ↦ a | inr b ↦ b ], λ x h. member_left x xs xs h)
 
 -- the join of two tables is the table of what both spell
-pub join_spelled : (k l : Table) → CanBe k → CanBe l → table_join k l ≡ know (ops k ++ ops l)
+pub join_spelled : (k l : Table) → CanBe k → CanBe l → table_join k l ≡ table_of (ops k ++ ops l)
 join_spelled k l p q =
     let here = know_ops k p.table in
     let there = know_ops l q.table in
@@ -55,7 +55,7 @@ assoc k l m p q r =
     let a = know_ops k p.table in
     let c = know_ops m r.table in
     (λ i. table_join (first i) (c i)) ∙ sym (know_append (ops k ++ ops l) (ops m))
-    ∙ ap know (append_assoc (ops k) (ops l) (ops m))
+    ∙ ap table_of (append_assoc (ops k) (ops l) (ops m))
     ∙ know_append (ops k) (ops l ++ ops m) ∙ (λ i. table_join (sym a i) (sym last i))
 
 pub table_laws : JoinLaws CanBe table_join

@@ -58,14 +58,14 @@ abbrev pub spec : List Op → ℕ → Option SpecReg
 spec S t = greatest spec_cmp (filter_map (spec_in t) S)
 
 -- the progress of a task: the greatest told, and attempt 0 pending if none is
-abbrev pub none_begun : Progress
-none_begun = record { attempt = 0; phase = Pending }
+abbrev pub initial_progress : Progress
+initial_progress = record { attempt = 0; phase = Pending }
 
-abbrev pub told_progress : List Op → ℕ → Option Progress
-told_progress S t = greatest progress_cmp (filter_map (progress_in t) S)
+abbrev pub greatest_progress : List Op → ℕ → Option Progress
+greatest_progress S t = greatest progress_cmp (filter_map (progress_in t) S)
 
 abbrev pub progress : List Op → ℕ → Progress
-progress S t = or_else none_begun (told_progress S t)
+progress S t = or_else initial_progress (greatest_progress S t)
 
 -- the incarnation of a machine: the greatest told
 abbrev pub incarnation : List Op → ℕ → Option ℕ
@@ -114,10 +114,10 @@ coordinator_named o = option_map (λ e. e.0.1) (spot_told o)
 abbrev pub task_value : Option SpecReg → Option Progress → Option TaskValue
 task_value None None = None
 task_value None (Some p) = Some (None, p)
-task_value (Some s) told = Some (Some s, or_else none_begun told)
+task_value (Some s) told = Some (Some s, or_else initial_progress told)
 
 abbrev pub task : List Op → ℕ → Option TaskValue
-task S t = task_value (spec S t) (told_progress S t)
+task S t = task_value (spec S t) (greatest_progress S t)
 
 -- the record of a machine: a state or a report makes one
 abbrev pub machine_at : List Op → ℕ → ℕ → MachineValue
@@ -131,8 +131,8 @@ abbrev pub entries : List Op → ℕ × ℕ → Option (List (ℕ × Spot))
 entries S at = unless_empty (table nat_cmp (filter_map coordinator_named S) (entry S at))
 
 -- the table of all that occurs in the set
-abbrev pub know : List Op → Table
-know S = record {
+abbrev pub table_of : List Op → Table
+table_of S = record {
   jobs = table nat_cmp (filter_map job_named S) (job S);
   tasks = table nat_cmp (filter_map task_named S) (task S);
   machines = table nat_cmp (filter_map machine_named S) (machine S);

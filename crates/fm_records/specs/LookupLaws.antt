@@ -17,7 +17,7 @@ use Rattle.fm_records.specs.Sets.{IsMember, all_of, table, rising, with_value, u
 use Rattle.fm_records.specs.Orders.{attempt_cmp}
 use Rattle.fm_records.specs.OrderLaws.{total_attempt, same_attempt}
 use Rattle.fm_records.specs.Table.{TaskValue, MachineValue}
-use Rattle.fm_records.specs.Know.{when, job_in, spec_in, progress_in, incarnation_in, spot_in, job_named, task_named, machine_named, attempt_named, coordinator_named, job, spec, told_progress, incarnation, machine_at, task_value, task, machine, entry, entries, know}
+use Rattle.fm_records.specs.Know.{when, job_in, spec_in, progress_in, incarnation_in, spot_in, job_named, task_named, machine_named, attempt_named, coordinator_named, job, spec, greatest_progress, incarnation, machine_at, task_value, task, machine, entry, entries, table_of}
 use Rattle.fm_records.specs.TableLaws.{some_none, lookup_table}
 
 pub none_some : {A B : Type 0} (a : A) → None ≡ Some a → B
@@ -70,22 +70,22 @@ spot_names at c (op.Propose id attempt coordinator machine incarnation) v e =
     (λ i. Some (p i, q i), ap Some (eqb-true coordinator c all.1))
 spot_names at c _ v e = none_some v e
 
-pub lookup_job : (S : List Op) (j : ℕ) → lookup nat_cmp j (know S).jobs ≡ job S j
+pub lookup_job : (S : List Op) (j : ℕ) → lookup nat_cmp j (table_of S).jobs ≡ job S j
 lookup_job S j = lookup_table nat_cmp nat_cmp_total nat_same (job S) (filter_map job_named S) j (λ v e. names_member (job_in j) job_named _ j (job_says j) S v e)
 
-task_names : (S : List Op) (t : ℕ) (v : TaskValue) (a : Option SpecReg) (p : Option Progress) → spec S t ≡ a → told_progress S t ≡ p → task_value a p ≡ Some v → IsMember t (filter_map task_named S)
+task_names : (S : List Op) (t : ℕ) (v : TaskValue) (a : Option SpecReg) (p : Option Progress) → spec S t ≡ a → greatest_progress S t ≡ p → task_value a p ≡ Some v → IsMember t (filter_map task_named S)
 task_names S t v None None e g h = none_some v h
 task_names S t v None (Some p) e g h = names_member (progress_in t) task_named _ t (progress_says t) S p g
 task_names S t v (Some a) p e g h = names_member (spec_in t) task_named _ t (spec_says t) S a e
 
-pub lookup_task : (S : List Op) (t : ℕ) → lookup nat_cmp t (know S).tasks ≡ task S t
-lookup_task S t = lookup_table nat_cmp nat_cmp_total nat_same (task S) (filter_map task_named S) t (λ v e. task_names S t v (spec S t) (told_progress S t) refl refl e)
+pub lookup_task : (S : List Op) (t : ℕ) → lookup nat_cmp t (table_of S).tasks ≡ task S t
+lookup_task S t = lookup_table nat_cmp nat_cmp_total nat_same (task S) (filter_map task_named S) t (λ v e. task_names S t v (spec S t) (greatest_progress S t) refl refl e)
 
 machine_names : (S : List Op) (m : ℕ) (v : MachineValue) (o : Option ℕ) → incarnation S m ≡ o → option_map (machine_at S m) o ≡ Some v → IsMember m (filter_map machine_named S)
 machine_names S m v None e h = none_some v h
 machine_names S m v (Some i) e h = names_member (incarnation_in m) machine_named _ m (incarnation_says m) S i e
 
-pub lookup_machine : (S : List Op) (m : ℕ) → lookup nat_cmp m (know S).machines ≡ machine S m
+pub lookup_machine : (S : List Op) (m : ℕ) → lookup nat_cmp m (table_of S).machines ≡ machine S m
 lookup_machine S m = lookup_table nat_cmp nat_cmp_total nat_same (machine S) (filter_map machine_named S) m (λ v e. machine_names S m v (incarnation S m) refl e)
 
 pub lookup_entry : (S : List Op) (at : ℕ × ℕ) (c : ℕ) → lookup nat_cmp c (table nat_cmp (filter_map coordinator_named S) (entry S at)) ≡ entry S at c
@@ -106,5 +106,5 @@ entries_names S at v (x ∷ xs) e h =
     let there = has_row (entry S at) (rising nat_cmp (filter_map coordinator_named S)) x xs e in
     names_member (spot_in at there.0) attempt_named _ at (λ o w g. (spot_names at there.0 o w g).0) S there.1 there.2
 
-pub lookup_entries : (S : List Op) (at : ℕ × ℕ) → lookup attempt_cmp at (know S).proposals ≡ entries S at
+pub lookup_entries : (S : List Op) (at : ℕ × ℕ) → lookup attempt_cmp at (table_of S).proposals ≡ entries S at
 lookup_entries S at = lookup_table attempt_cmp total_attempt same_attempt (entries S) (filter_map attempt_named S) at (λ v e. entries_names S at v _ refl e)

@@ -26,7 +26,7 @@ use Rattle.fm_records.specs.Sets.{IsMember, all_of, greatest, least, table, unle
 use Rattle.fm_records.specs.Orders.{job_cmp, spec_cmp, progress_cmp, machine_cmp, report_cmp, spot_cmp, attempt_cmp}
 use Rattle.fm_records.specs.OrderLaws.{total_job, total_spec, total_progress, total_machine, total_report, total_spot, total_attempt, same_attempt}
 use Rattle.fm_records.specs.Table.{Table, TaskValue, MachineValue}
-use Rattle.fm_records.specs.Know.{job_in, spec_in, progress_in, incarnation_in, state_in, report_in, spot_in, coordinator_named, job, spec, told_progress, incarnation, state_at, report_at, task_value, machine_at, machine, entry, entries, know}
+use Rattle.fm_records.specs.Know.{job_in, spec_in, progress_in, incarnation_in, state_in, report_in, spot_in, coordinator_named, job, spec, greatest_progress, incarnation, state_at, report_at, task_value, machine_at, machine, entry, entries, table_of}
 use Rattle.fm_records.specs.OpsOfTable.{each, job_op, job_ops, spec_op, progress_op, task_ops, machine_op, report_op, machine_ops, propose_op, entry_ops, ops, has_part, IsFull, IsTable}
 use Rattle.fm_records.specs.Ranges.{is_id, fits_row, fields_fit, in_range, all_in_range, CanBe}
 use Rattle.fm_records.specs.Characterized.{IsGreatest, IsGreatestOf, IsLeastMember, IsLeastOf}
@@ -171,13 +171,13 @@ module _ (S : List Op) (ranged : all_in_range S ≡ true) where
   told_fine : {R : Type 0} (f : Op → Option R) (spell : R → Op) → ((o : Op) (r : R) → f o ≡ Some r → o ≡ spell r) → (r : R) → IsMember r (filter_map f S) → in_range (spell r) ≡ true
   told_fine f spell spells r m = let from = member_from f S r m in subst (λ o. in_range o ≡ true) (spells from.0 r from.2) (member_passes in_range S from.0 ranged from.1)
 
-  progress_fine : (t : ℕ) (p : Progress) → told_progress S t ≡ Some p → in_range (progress_op t p) ≡ true
+  progress_fine : (t : ℕ) (p : Progress) → greatest_progress S t ≡ Some p → in_range (progress_op t p) ≡ true
   progress_fine t p e = told_fine (progress_in t) (progress_op t) (progress_spells t) p (greatest_member progress_cmp total_progress (filter_map (progress_in t) S) p e)
 
   spec_fine : (t : ℕ) (s : SpecReg) → spec S t ≡ Some s → in_range (spec_op t s) ≡ true
   spec_fine t s e = told_fine (spec_in t) (spec_op t) (spec_spells t) s (greatest_member spec_cmp total_spec (filter_map (spec_in t) S) s e)
 
-  task_fine : (t : ℕ) (a : Option SpecReg) (b : Option Progress) → spec S t ≡ a → told_progress S t ≡ b → (v : TaskValue) → task_value a b ≡ Some v → all_in_range (task_ops (t, v)) ≡ true
+  task_fine : (t : ℕ) (a : Option SpecReg) (b : Option Progress) → spec S t ≡ a → greatest_progress S t ≡ b → (v : TaskValue) → task_value a b ≡ Some v → all_in_range (task_ops (t, v)) ≡ true
   task_fine t None None e g v is = none_some v is
   task_fine t None (Some p) e g v is = subst (λ w. all_in_range (task_ops (t, w)) ≡ true) (inside _ v is) (both_hold (in_range (progress_op t p)) true (progress_fine t p g) refl)
   task_fine t (Some s) None e g v is =
@@ -261,29 +261,29 @@ machine_known : (S : List Op) (m : ℕ) (o : Option ℕ) → incarnation S m ≡
 machine_known S m None e v is = none_some v is
 machine_known S m (Some n) e v is = subst has_part (inside _ v is) (part_known S m n e)
 
-pub know_table : (S : List Op) → IsTable (know S)
+pub know_table : (S : List Op) → IsTable (table_of S)
 know_table S =
     let k = know_is S in
     record {
-      jobs = record { rising = k.jobs_rise; values = values_by nat_cmp nat_cmp_total nat_same Any (know S).jobs k.jobs_rise (λ j v _. tt) };
-      tasks = record { rising = k.tasks_rise; values = values_by nat_cmp nat_cmp_total nat_same Any (know S).tasks k.tasks_rise (λ t v _. tt) };
-      machines = record { rising = k.machines_rise; values = values_by nat_cmp nat_cmp_total nat_same has_part (know S).machines k.machines_rise (λ m v is. machine_known S m (incarnation S m) refl v (sym (lookup_machine S m) ∙ is)) };
-      proposals = record { rising = k.proposals_rise; values = values_by attempt_cmp total_attempt same_attempt IsFull (know S).proposals k.proposals_rise (λ at es is. entries_full S at es (sym (lookup_entries S at) ∙ is)) };
+      jobs = record { rising = k.jobs_rise; values = values_by nat_cmp nat_cmp_total nat_same Any (table_of S).jobs k.jobs_rise (λ j v _. tt) };
+      tasks = record { rising = k.tasks_rise; values = values_by nat_cmp nat_cmp_total nat_same Any (table_of S).tasks k.tasks_rise (λ t v _. tt) };
+      machines = record { rising = k.machines_rise; values = values_by nat_cmp nat_cmp_total nat_same has_part (table_of S).machines k.machines_rise (λ m v is. machine_known S m (incarnation S m) refl v (sym (lookup_machine S m) ∙ is)) };
+      proposals = record { rising = k.proposals_rise; values = values_by attempt_cmp total_attempt same_attempt IsFull (table_of S).proposals k.proposals_rise (λ at es is. entries_full S at es (sym (lookup_entries S at) ∙ is)) };
     }
 
-pub know_in_range : (S : List Op) → all_in_range S ≡ true → all_in_range (ops (know S)) ≡ true
+pub know_in_range : (S : List Op) → all_in_range S ≡ true → all_in_range (ops (table_of S)) ≡ true
 know_in_range S ranged =
     let k = know_is S in
-    let a : List Op = flat_map job_ops (know S).jobs in
-    let b : List Op = flat_map task_ops (know S).tasks in
-    let c : List Op = flat_map machine_ops (know S).machines in
-    let jobs = rows_pass nat_cmp nat_cmp_total nat_same in_range job_ops (know S).jobs k.jobs_rise (λ j r is. both_hold (in_range (job_op j r)) true (told_fine S ranged (job_in j) (job_op j) (job_spells j) r (greatest_member job_cmp total_job (filter_map (job_in j) S) r (sym (lookup_job S j) ∙ is))) refl) in
-    let tasks = rows_pass nat_cmp nat_cmp_total nat_same in_range task_ops (know S).tasks k.tasks_rise (λ t v is. task_fine S ranged t (spec S t) (told_progress S t) refl refl v (sym (lookup_task S t) ∙ is)) in
-    let machines = rows_pass nat_cmp nat_cmp_total nat_same in_range machine_ops (know S).machines k.machines_rise (λ m v is. machine_fine S ranged m (incarnation S m) v (sym (lookup_machine S m) ∙ is)) in
-    let proposals = rows_pass attempt_cmp total_attempt same_attempt in_range entry_ops (know S).proposals k.proposals_rise (λ at es is. entries_fine S at ranged es (sym (lookup_entries S at) ∙ is)) in
-    all_pass in_range (a ++ b ++ c) (flat_map entry_ops (know S).proposals) (all_pass in_range (a ++ b) c (all_pass in_range a b jobs tasks) machines) proposals
+    let a : List Op = flat_map job_ops (table_of S).jobs in
+    let b : List Op = flat_map task_ops (table_of S).tasks in
+    let c : List Op = flat_map machine_ops (table_of S).machines in
+    let jobs = rows_pass nat_cmp nat_cmp_total nat_same in_range job_ops (table_of S).jobs k.jobs_rise (λ j r is. both_hold (in_range (job_op j r)) true (told_fine S ranged (job_in j) (job_op j) (job_spells j) r (greatest_member job_cmp total_job (filter_map (job_in j) S) r (sym (lookup_job S j) ∙ is))) refl) in
+    let tasks = rows_pass nat_cmp nat_cmp_total nat_same in_range task_ops (table_of S).tasks k.tasks_rise (λ t v is. task_fine S ranged t (spec S t) (greatest_progress S t) refl refl v (sym (lookup_task S t) ∙ is)) in
+    let machines = rows_pass nat_cmp nat_cmp_total nat_same in_range machine_ops (table_of S).machines k.machines_rise (λ m v is. machine_fine S ranged m (incarnation S m) v (sym (lookup_machine S m) ∙ is)) in
+    let proposals = rows_pass attempt_cmp total_attempt same_attempt in_range entry_ops (table_of S).proposals k.proposals_rise (λ at es is. entries_fine S at ranged es (sym (lookup_entries S at) ∙ is)) in
+    all_pass in_range (a ++ b ++ c) (flat_map entry_ops (table_of S).proposals) (all_pass in_range (a ++ b) c (all_pass in_range a b jobs tasks) machines) proposals
 
-pub know_can_be : (S : List Op) → all_in_range S ≡ true → CanBe (know S)
+pub know_can_be : (S : List Op) → all_in_range S ≡ true → CanBe (table_of S)
 know_can_be S ranged = record { table = know_table S; in_range = know_in_range S ranged }
 
 -- What is found in a possible table is in range.

@@ -12,7 +12,7 @@ use Rattle.fm_records.specs.declared.ops.Op.{Op}
 use Rattle.fm_records.specs.Sets.{HaveSameMembers, all_of, table, unless_empty}
 use Rattle.fm_records.specs.Orders.{job_cmp, spec_cmp, progress_cmp, machine_cmp, report_cmp, spot_cmp}
 use Rattle.fm_records.specs.OrderLaws.{total_job, same_job, total_spec, same_spec, total_progress, same_progress, total_machine, same_machine, total_report, same_report, total_spot, same_spot}
-use Rattle.fm_records.specs.Know.{job_in, spec_in, progress_in, incarnation_in, state_in, report_in, spot_in, coordinator_named, task_value, task, machine, entry, know}
+use Rattle.fm_records.specs.Know.{job_in, spec_in, progress_in, incarnation_in, state_in, report_in, spot_in, coordinator_named, task_value, task, machine, entry, table_of}
 use Rattle.fm_records.specs.SetLaws.{all_of_same, same_members_kept}
 use Rattle.fm_records.specs.TableLaws.{rising_table}
 use Rattle.fm_records.specs.LookupLaws.{lookup_entry}
@@ -42,10 +42,10 @@ module _ (S T : List Op) (same : HaveSameMembers S T) where
       (rising_table nat_cmp nat_cmp_total nat_same (entry T at) (filter_map coordinator_named T))
       (λ c. lookup_entry S at c ∙ one (min_join spot_cmp) (min_laws spot_cmp total_spot same_spot) (spot_in at c) ∙ sym (lookup_entry T at c))
 
-  pub know_same : know S ≡ know T
+  pub know_same : table_of S ≡ table_of T
   know_same =
       let k = know_is S in
-      is_know T (know S) (record {
+      is_know T (table_of S) (record {
         jobs_rise = k.jobs_rise;
         tasks_rise = k.tasks_rise;
         machines_rise = k.machines_rise;

@@ -9,7 +9,7 @@ use Rattle.fm_records.specs.declared.records.Spot.{Spot}
 use Rattle.fm_records.specs.Options.{and_then, passes, only_if, or_else, when}
 use Rattle.fm_records.specs.Sets.{with_value}
 use Rattle.fm_records.specs.Table.{TaskValue}
-use Rattle.fm_records.specs.Know.{told_progress, spec, progress, task_value, task, know}
+use Rattle.fm_records.specs.Know.{greatest_progress, spec, progress, task_value, task, table_of}
 use Rattle.fm_records.specs.Facts.{is_done, request_of, live_spec, is_live, job_stands, open_state, is_open, is_present, won_spot, winner_of, holder_of, holds, held_tasks, used_of, load_of, spare_of, has_room}
 use Rattle.fm_records.specs.SetFacts.{is_active_job, live, state_if_up, present, won, holder, is_held_by, tasks, tasks_held, use_reported, request_asked, load, spare, room}
 use Rattle.fm_records.specs.LookupLaws.{none_some, lookup_job}
@@ -63,58 +63,58 @@ no_spec None b e = refl
 no_spec (Some s) b e = none_some (Some s, or_else _ b) (sym e)
 
 module _ (S : List Op) where
-  pub stands_is : (j : ℕ) → job_stands (know S) j ≡ is_active_job S j
+  pub stands_is : (j : ℕ) → job_stands (table_of S) j ≡ is_active_job S j
   stands_is j = ap (passes (λ r. not r.withdrawn)) (lookup_job S j)
 
-  pub live_is : (t : ℕ) → live_spec (know S) t ≡ live S t
+  pub live_is : (t : ℕ) → live_spec (table_of S) t ≡ live S t
   live_is t = λ i. only_if (λ s. not s.withdrawn && stands_is s.job i && not (is_done (progress_is S t i).phase)) (spec_is S t i)
 
-  pub is_live_is : (t : ℕ) → is_live (know S) t ≡ is_some (live S t)
+  pub is_live_is : (t : ℕ) → is_live (table_of S) t ≡ is_some (live S t)
   is_live_is t = ap (passes (λ s. true)) (live_is t) ∙ is_there (live S t)
 
-  pub opened_is : (m : ℕ) → open_state (know S) m ≡ state_if_up S m
+  pub opened_is : (m : ℕ) → open_state (table_of S) m ≡ state_if_up S m
   opened_is m = ap (only_if (λ r. r.up)) (state_is S m)
 
-  pub is_open_is : (m : ℕ) → is_open (know S) m ≡ is_some (state_if_up S m)
+  pub is_open_is : (m : ℕ) → is_open (table_of S) m ≡ is_some (state_if_up S m)
   is_open_is m = ap (passes (λ r. true)) (opened_is m) ∙ is_there (state_if_up S m)
 
-  pub present_is : (s : Spot) → is_present (know S) s ≡ present S s
+  pub present_is : (s : Spot) → is_present (table_of S) s ≡ present S s
   present_is s = λ i. is_open_is s.machine i && passes (λ n. n == s.incarnation) (incarnation_is S s.machine i)
 
-  pub won_is : (t : ℕ) → won_spot (know S) t ≡ won S t
+  pub won_is : (t : ℕ) → won_spot (table_of S) t ≡ won S t
   won_is t =
-      ap (λ (p : Progress). option_map (λ w. w.1) (winner_of (know S) t p.attempt)) (progress_is S t)
+      ap (λ (p : Progress). option_map (λ w. w.1) (winner_of (table_of S) t p.attempt)) (progress_is S t)
       ∙ ap (option_map (λ w. w.1)) (winner_is S (t, (progress S t).attempt))
 
-  pub holder_is : (t : ℕ) → holder_of (know S) t ≡ holder S t
+  pub holder_is : (t : ℕ) → holder_of (table_of S) t ≡ holder S t
   holder_is t = λ i. cond (is_live_is t i) (option_map (λ s. s.machine) (only_if (λ s. present_is s i) (won_is t i))) None
 
-  pub held_by_is : (m t : ℕ) → holds (know S) m t ≡ is_held_by S m t
+  pub held_by_is : (m t : ℕ) → holds (table_of S) m t ≡ is_held_by S m t
   held_by_is m t = ap (passes (λ h. h == m)) (holder_is t)
 
   -- what is not a row of the table is not live, and not held
   pub not_live : (t : ℕ) → task S t ≡ None → live S t ≡ None
-  not_live t e = ap (only_if _) (no_spec (spec S t) (told_progress S t) e)
+  not_live t e = ap (only_if _) (no_spec (spec S t) (greatest_progress S t) e)
 
   not_held : (m t : ℕ) → task S t ≡ None → is_held_by S m t ≡ false
   not_held m t e = ap (λ (o : Option SpecReg). passes (λ h. h == m) (cond (is_some o) (option_map (λ s. s.machine) (only_if (present S) (won S t))) None)) (not_live t e)
 
   request_is : (t : ℕ) (v : TaskValue) → task S t ≡ Some v → request_of v.0 ≡ request_asked S t
-  request_is t v e = ap request_of (ap (and_then (λ v. v.0)) (sym e) ∙ spec_part (spec S t) (told_progress S t))
+  request_is t v e = ap request_of (ap (and_then (λ v. v.0)) (sym e) ∙ spec_part (spec S t) (greatest_progress S t))
 
-  pub held_sum : (m : ℕ) → sum_by (λ e. request_of e.1.0) (held_tasks (know S) m) ≡ sum_by (request_asked S) (tasks_held S m)
+  pub held_sum : (m : ℕ) → sum_by (λ e. request_of e.1.0) (held_tasks (table_of S) m) ≡ sum_by (request_asked S) (tasks_held S m)
   held_sum m =
-      (λ i. sum_by (λ e. request_of e.1.0) (filter (λ e. held_by_is m e.0 i) (know S).tasks))
+      (λ i. sum_by (λ e. request_of e.1.0) (filter (λ e. held_by_is m e.0 i) (table_of S).tasks))
       ∙ sum_rows (task S) (is_held_by S m) (not_held m) (λ v. request_of v.0) (request_asked S) request_is 0 (tasks S)
 
-  pub used_is : (m : ℕ) → used_of (know S) m ≡ use_reported S m
+  pub used_is : (m : ℕ) → used_of (table_of S) m ≡ use_reported S m
   used_is m = ap (λ o. or_else 0 (option_map (λ r. r.used) o)) (report_is S m)
 
-  pub load_is : (m : ℕ) → load_of (know S) m ≡ load S m
+  pub load_is : (m : ℕ) → load_of (table_of S) m ≡ load S m
   load_is m = λ i. max (used_is m i) (held_sum m i)
 
-  pub spare_is : (m : ℕ) → spare_of (know S) m ≡ spare S m
+  pub spare_is : (m : ℕ) → spare_of (table_of S) m ≡ spare S m
   spare_is m = λ i. and_then (λ r. when (nat_le (load_is m i) r.nic) (r.nic - load_is m i)) (opened_is m i)
 
-  pub room_is : (m request : ℕ) → has_room (know S) m request ≡ room S m request
+  pub room_is : (m request : ℕ) → has_room (table_of S) m request ≡ room S m request
   room_is m request = ap (passes (λ s. nat_le request s)) (spare_is m)

@@ -27,7 +27,7 @@ use Rattle.fm_records.specs.LookupLaws.{lookup_entry}
 use Rattle.fm_records.specs.KnowLaws.{is_know}
 use Rattle.fm_records.specs.Orders.{job_cmp, spec_cmp, progress_cmp, machine_cmp, report_cmp, spot_cmp, attempt_cmp}
 use Rattle.fm_records.specs.Table.{Table, TaskValue, MachineValue}
-use Rattle.fm_records.specs.Know.{when, job_in, spec_in, progress_in, incarnation_in, state_in, report_in, spot_in, coordinator_named, entry, entries, job, task, task_value, machine, know}
+use Rattle.fm_records.specs.Know.{when, job_in, spec_in, progress_in, incarnation_in, state_in, report_in, spot_in, coordinator_named, entry, entries, job, task, task_value, machine, table_of}
 use Rattle.fm_records.specs.OpsOfTable.{each, job_op, job_ops, spec_op, progress_op, machine_op, report_op, propose_op, task_ops, machine_ops, entry_ops, ops, has_part, IsFull, IsTable}
 
 equal_tests : (a b : ℕ) → (a == b) ≡ is_eq (nat_cmp b a)
@@ -256,7 +256,7 @@ module _ (k : Table) (is : IsTable k) where
       (λ c. lookup_entry (ops k) at c ∙ is_at c ∙ elim (lookup nat_cmp c es) as (λ o. all_of (min_join spot_cmp) (listed o) ≡ o) [ None ↦ refl | Some s ↦ refl ]))
       ∙ full.full
 
-  pub know_ops : k ≡ know (ops k)
+  pub know_ops : k ≡ table_of (ops k)
   know_ops = is_know (ops k) k (record {
     jobs_rise = is.jobs.rising;
     tasks_rise = is.tasks.rising;

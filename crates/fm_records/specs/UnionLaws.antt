@@ -27,7 +27,7 @@ use Rattle.fm_records.specs.Sets.{all_of, table, unless_empty}
 use Rattle.fm_records.specs.Orders.{phase_cmp, job_cmp, spec_cmp, progress_cmp, machine_cmp, report_cmp, spot_cmp, attempt_cmp}
 use Rattle.fm_records.specs.OrderLaws.{total_job, same_job, total_spec, same_spec, total_progress, same_progress, total_machine, same_machine, total_report, same_report, total_spot, same_spot, total_attempt, same_attempt}
 use Rattle.fm_records.specs.Table.{MachineValue}
-use Rattle.fm_records.specs.Know.{none_begun, job_in, spec_in, progress_in, incarnation_in, state_in, report_in, spot_in, coordinator_named, job, spec, told_progress, incarnation, state_at, report_at, task_value, task, machine_at, machine, entry, entries, know}
+use Rattle.fm_records.specs.Know.{initial_progress, job_in, spec_in, progress_in, incarnation_in, state_in, report_in, spot_in, coordinator_named, job, spec, greatest_progress, incarnation, state_at, report_at, task_value, task, machine_at, machine, entry, entries, table_of}
 use Rattle.fm_records.specs.Joined.{task_join, parts_join, machine_join, table_join}
 use Rattle.fm_records.specs.SetLaws.{all_of-append, absorbs}
 use Rattle.fm_records.specs.TableLaws.{some_none, rising_table}
@@ -43,16 +43,16 @@ not_below_pending Pending = refl
 not_below_pending Running = refl
 not_below_pending Done = refl
 
-begun_least : (x : Progress) → is_lt (progress_cmp x none_begun) ≡ false
+begun_least : (x : Progress) → is_lt (progress_cmp x initial_progress) ≡ false
 begun_least x =
     by_cases (nat_cmp x.attempt 0) (λ o. is_lt (ordering_then o (phase_cmp x.phase Pending)) ≡ false)
     (λ e. absurd (none_below x.attempt e)) (λ _. not_below_pending x.phase) (λ _. refl)
 
-begun_max : (x : Progress) → max_join progress_cmp none_begun x ≡ x
+begun_max : (x : Progress) → max_join progress_cmp initial_progress x ≡ x
 begun_max x = rw (begun_least x) refl
 
-max_begun : (x : Progress) → max_join progress_cmp x none_begun ≡ x
-max_begun x = max_comm progress_cmp total_progress same_progress x none_begun ∙ begun_max x
+max_begun : (x : Progress) → max_join progress_cmp x initial_progress ≡ x
+max_begun x = max_comm progress_cmp total_progress same_progress x initial_progress ∙ begun_max x
 
 abbrev specs_join : Option SpecReg → Option SpecReg → Option SpecReg
 specs_join = option_join (max_join spec_cmp)
@@ -71,7 +71,7 @@ task_both (Some a) None (Some p) (Some q) = refl
 task_both None (Some b) None q = refl
 task_both None (Some b) (Some p) None = let e = max_begun p in λ i. Some (Some b, sym e i)
 task_both None (Some b) (Some p) (Some q) = refl
-task_both (Some a) (Some b) None None = let e = begun_max none_begun in λ i. Some (Some (max_join spec_cmp a b), sym e i)
+task_both (Some a) (Some b) None None = let e = begun_max initial_progress in λ i. Some (Some (max_join spec_cmp a b), sym e i)
 task_both (Some a) (Some b) None (Some q) = let e = begun_max q in λ i. Some (Some (max_join spec_cmp a b), sym e i)
 task_both (Some a) (Some b) (Some p) None = let e = max_begun p in λ i. Some (Some (max_join spec_cmp a b), sym e i)
 task_both (Some a) (Some b) (Some p) (Some q) = refl
@@ -137,7 +137,7 @@ module _ (S T : List Op) where
   task_together t =
       let a = one (max_join spec_cmp) (max_laws spec_cmp total_spec same_spec) (spec_in t) in
       let p = one (max_join progress_cmp) (max_laws progress_cmp total_progress same_progress) (progress_in t) in
-      ap (λ z. task_value z (told_progress (S ++ T) t)) a ∙ ap (task_value (specs_join (spec S t) (spec T t))) p ∙ task_both (spec S t) (spec T t) (told_progress S t) (told_progress T t)
+      ap (λ z. task_value z (greatest_progress (S ++ T) t)) a ∙ ap (task_value (specs_join (spec S t) (spec T t))) p ∙ task_both (spec S t) (spec T t) (greatest_progress S t) (greatest_progress T t)
 
   states : (m n : ℕ) → state_at (S ++ T) m n ≡ option_join (max_join machine_cmp) (state_at S m n) (state_at T m n)
   states m n = one (max_join machine_cmp) (max_laws machine_cmp total_machine same_machine) (state_in m n)
@@ -225,21 +225,21 @@ module _ (S T : List Op) (at : ℕ × ℕ) where
 found : {V : Type 0} (join : V → V → V) (x y a b : Option V) → x ≡ a → y ≡ b → option_join join x y ≡ option_join join a b
 found join x y a b e f = ap (λ z. option_join join z y) e ∙ ap (option_join join a) f
 
-pub know_append : (S T : List Op) → know (S ++ T) ≡ table_join (know S) (know T)
+pub know_append : (S T : List Op) → table_of (S ++ T) ≡ table_join (table_of S) (table_of T)
 know_append S T =
     let k = know_is S in
     let l = know_is T in
-    sym (is_know (S ++ T) (table_join (know S) (know T)) (record {
-      jobs_rise = rising_join nat_cmp nat_cmp_total nat_same (max_join job_cmp) (know S).jobs (know T).jobs k.jobs_rise;
-      tasks_rise = rising_join nat_cmp nat_cmp_total nat_same task_join (know S).tasks (know T).tasks k.tasks_rise;
-      machines_rise = rising_join nat_cmp nat_cmp_total nat_same machine_join (know S).machines (know T).machines k.machines_rise;
-      proposals_rise = rising_join attempt_cmp total_attempt same_attempt spots_join (know S).proposals (know T).proposals k.proposals_rise;
-      each_job = λ j. lookup_join nat_cmp nat_cmp_total nat_same (max_join job_cmp) j (know S).jobs (know T).jobs k.jobs_rise l.jobs_rise
+    sym (is_know (S ++ T) (table_join (table_of S) (table_of T)) (record {
+      jobs_rise = rising_join nat_cmp nat_cmp_total nat_same (max_join job_cmp) (table_of S).jobs (table_of T).jobs k.jobs_rise;
+      tasks_rise = rising_join nat_cmp nat_cmp_total nat_same task_join (table_of S).tasks (table_of T).tasks k.tasks_rise;
+      machines_rise = rising_join nat_cmp nat_cmp_total nat_same machine_join (table_of S).machines (table_of T).machines k.machines_rise;
+      proposals_rise = rising_join attempt_cmp total_attempt same_attempt spots_join (table_of S).proposals (table_of T).proposals k.proposals_rise;
+      each_job = λ j. lookup_join nat_cmp nat_cmp_total nat_same (max_join job_cmp) j (table_of S).jobs (table_of T).jobs k.jobs_rise l.jobs_rise
           ∙ found (max_join job_cmp) _ _ _ _ (k.each_job j) (l.each_job j) ∙ sym (job_both S T j);
-      each_task = λ t. lookup_join nat_cmp nat_cmp_total nat_same task_join t (know S).tasks (know T).tasks k.tasks_rise l.tasks_rise
+      each_task = λ t. lookup_join nat_cmp nat_cmp_total nat_same task_join t (table_of S).tasks (table_of T).tasks k.tasks_rise l.tasks_rise
           ∙ found task_join _ _ _ _ (k.each_task t) (l.each_task t) ∙ sym (task_together S T t);
-      each_machine = λ m. lookup_join nat_cmp nat_cmp_total nat_same machine_join m (know S).machines (know T).machines k.machines_rise l.machines_rise
+      each_machine = λ m. lookup_join nat_cmp nat_cmp_total nat_same machine_join m (table_of S).machines (table_of T).machines k.machines_rise l.machines_rise
           ∙ found machine_join _ _ _ _ (k.each_machine m) (l.each_machine m) ∙ sym (machine_together S T m);
-      each_attempt = λ at. lookup_join attempt_cmp total_attempt same_attempt spots_join at (know S).proposals (know T).proposals k.proposals_rise l.proposals_rise
+      each_attempt = λ at. lookup_join attempt_cmp total_attempt same_attempt spots_join at (table_of S).proposals (table_of T).proposals k.proposals_rise l.proposals_rise
           ∙ found spots_join _ _ _ _ (k.each_attempt at) (l.each_attempt at) ∙ sym (entries_together S T at);
     }))

@@ -24,8 +24,8 @@ use Rattle.fm_net.specs.NetworkLaws.{came_from, is_network_of}
 use Rattle.fm_net.specs.ListLaws.{any_of, some_member, entry_member}
 use Rattle.fm_net.specs.EditLaws.{member_found}
 use Rattle.fm_round.specs.declared.from_units.RequestUnit.{RequestUnit}
-use Rattle.fm_round.specs.Planned.{ArcUnits, Wait, units_over, wait_in, seats_in, unscheduled_in, waits, seats, place_at, place_of, place_in_plan, preempt_of, plan_of_flow}
-use Rattle.fm_round.specs.Asked.{waits_by, has_request, is_asked, waiting_after, is_asked_after}
+use Rattle.fm_round.specs.PlanOfFlow.{ArcUnits, Wait, units_over, wait_in, seats_in, unscheduled_in, waits, seats, place_at, place_of, place_in_plan, preempt_of, plan_of_flow}
+use Rattle.fm_round.specs.PlanArcs.{waits_by, has_request, is_asked, waiting_after, is_asked_after}
 
 abbrev NetArc : Type 0
 NetArc = (Node × Node) × (ℕ × ℕ)

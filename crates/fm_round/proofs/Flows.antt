@@ -17,7 +17,7 @@ use Rattle.fm_net.specs.NodeOrder.{ends_total, ends_exact}
 use Rattle.fm_records.specs.Options.{when, or_else}
 use Rattle.fm_records.specs.Sets.{IsMember}
 use Rattle.fm_round.specs.declared.from_units.RequestUnit.{RequestUnit}
-use Rattle.fm_round.specs.Planned.{Wait, ArcUnits, units, wait_in, seats_in, waits, seats, tasks_of, machines_of}
+use Rattle.fm_round.specs.PlanOfFlow.{Wait, ArcUnits, units, wait_in, seats_in, waits, seats, tasks_of, machines_of}
 use Rattle.fm_round.proofs.Pairing.{wait_is}
 
 impossible : {A : Type 0} → 0 < 0 → A

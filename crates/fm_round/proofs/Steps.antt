@@ -17,12 +17,12 @@ use Rattle.fm_records.specs.Options.{and_then, or_else}
 use Rattle.fm_records.specs.Orders.{spec_cmp, progress_cmp, phase_cmp, spot_cmp, attempt_cmp}
 use Rattle.fm_records.specs.OrderLaws.{total_attempt, same_attempt}
 use Rattle.fm_records.specs.Table.{Table, TaskValue}
-use Rattle.fm_records.specs.Know.{know, none_begun}
+use Rattle.fm_records.specs.Know.{table_of, initial_progress}
 use Rattle.fm_records.specs.OpsOfTable.{IsTable}
 use Rattle.fm_records.specs.Joined.{task_join, spots_join, tasks_join, proposals_join}
 use Rattle.fm_records.specs.Facts.{spec_of, progress_of, attempt_of, winner_of, head_option}
 use Rattle.fm_round.specs.Admission.{told}
-use Rattle.fm_round.specs.Hearings.{winner_with}
+use Rattle.fm_round.specs.AdmissionSteps.{winner_with}
 use Rattle.fm_round.proofs.Weights.{put_weighs}
 use Rattle.fm_round.proofs.Keeps.{Keeps}
 
@@ -36,14 +36,14 @@ begun t a k = record { jobs = k.jobs; tasks = put nat_cmp task_join t (None, pen
 abbrev pub proposed : ℕ × ℕ → ℕ → Spot → Table → Table
 proposed at c s k = record { jobs = k.jobs; tasks = k.tasks; machines = k.machines; proposals = put attempt_cmp spots_join at ((c, s) ∷ []) k.proposals }
 
-progress_alone : (t a : ℕ) → (know (op.Progress t a Pending ∷ [])).tasks ≡ (t, (None, pending a)) ∷ []
+progress_alone : (t a : ℕ) → (table_of (op.Progress t a Pending ∷ [])).tasks ≡ (t, (None, pending a)) ∷ []
 progress_alone t a = let itself : (t == t) ≡ true = eq-eqb t t refl in rw itself refl
 
 pub told_begun : (k : Table) (t a : ℕ) → told k (op.Progress t a Pending ∷ []) ≡ begun t a k
 unfolding told
 told_begun k t a = λ i. record { jobs = k.jobs; tasks = tasks_join k.tasks (progress_alone t a i); machines = k.machines; proposals = k.proposals }
 
-proposal_alone : (t a c m n : ℕ) → (know (op.Propose t a c m n ∷ [])).proposals ≡ ((t, a), (c, record { machine = m; incarnation = n }) ∷ []) ∷ []
+proposal_alone : (t a c m n : ℕ) → (table_of (op.Propose t a c m n ∷ [])).proposals ≡ ((t, a), (c, record { machine = m; incarnation = n }) ∷ []) ∷ []
 proposal_alone t a c m n =
     let task : (t == t) ≡ true = eq-eqb t t refl in
     let attempt : (a == a) ≡ true = eq-eqb a a refl in
@@ -83,8 +83,8 @@ module _ (k : Table) (form : IsTable k) (t a : ℕ) where
 
   pub begun_progress : (v : TaskValue) → lookup nat_cmp t k.tasks ≡ Some v → attempt_of k t < a → progress_of (begun t a k) t ≡ pending a
   begun_progress v known less =
-      let before : progress_of k t ≡ v.1 = ap (λ o. or_else none_begun (option_map (λ r. r.1) o)) known in
-      ap (λ o. or_else none_begun (option_map (λ r. r.1) o)) (begun_itself v known) ∙ later v.1 a (subst (λ p. p.attempt < a) before less)
+      let before : progress_of k t ≡ v.1 = ap (λ o. or_else initial_progress (option_map (λ r. r.1) o)) known in
+      ap (λ o. or_else initial_progress (option_map (λ r. r.1) o)) (begun_itself v known) ∙ later v.1 a (subst (λ p. p.attempt < a) before less)
 
   begun_spec : (v : TaskValue) → lookup nat_cmp t k.tasks ≡ Some v → (q : ℕ) (b : Bool) → is_eq (nat_cmp q t) ≡ b → spec_of (begun t a k) q ≡ spec_of k q
   begun_spec v known q true same =
@@ -98,7 +98,7 @@ module _ (k : Table) (form : IsTable k) (t a : ℕ) where
     jobs = refl;
     machines = refl;
     spec = λ q. begun_spec v known q _ refl;
-    progress = λ q other. ap (λ o. or_else none_begun (option_map (λ r. r.1) o)) (begun_other q other);
+    progress = λ q other. ap (λ o. or_else initial_progress (option_map (λ r. r.1) o)) (begun_other q other);
     winner = λ q b other. refl;
     weights = λ f test. put_weighs task_join (λ r. f r.0) test t v (None, pending a) k.tasks form.tasks.rising known (ap f (join_none (max_join spec_cmp) v.0));
   }

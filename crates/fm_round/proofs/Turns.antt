@@ -3,20 +3,20 @@ use Rattle.std.proofs.Common.{◌≡◌, true, false, cond, List, [], ◌∷◌,
 use Rattle.fm_records.specs.declared.ops.Op.{Op}
 use Rattle.fm_records.specs.Table.{Table}
 use Rattle.fm_records.specs.OpsOfTable.{IsTable}
-use Rattle.fm_round.specs.declared.admission.Hearing.{Hearing}
+use Rattle.fm_round.specs.declared.admission.AdmissionState.{AdmissionState}
 use Rattle.fm_round.specs.declared.plan.Answer.{Answer}
 use Rattle.fm_round.specs.Admission.{told, is_accepted, one_entry, in_turn}
-use Rattle.fm_round.specs.Hearings.{Took}
+use Rattle.fm_round.specs.AdmissionSteps.{Took}
 use Rattle.fm_round.proofs.Told.{told_nothing, told_more}
 
-module _ {E : Type 0} (answer_to : Table → E → Answer) (ops_of : Table → E → List Op) (old : Hearing) (es : List E) where
+module _ {E : Type 0} (answer_to : Table → E → Answer) (ops_of : Table → E → List Op) (old : AdmissionState) (es : List E) where
   -- with the rest of the entries the hearing comes to what it would with all from the start
-  pub record Ahead (hearing : Hearing) (rest : List E) : Type 0 where
+  pub record Ahead (hearing : AdmissionState) (rest : List E) : Type 0 where
     pub now : told hearing.now (in_turn answer_to ops_of hearing.now rest).ops ≡ told old.now (in_turn answer_to ops_of old.now es).ops
     pub ops : hearing.ops.items ++ (in_turn answer_to ops_of hearing.now rest).ops ≡ old.ops.items ++ (in_turn answer_to ops_of old.now es).ops
     pub answers : hearing.answers.items ++ (in_turn answer_to ops_of hearing.now rest).answers ≡ old.answers.items ++ (in_turn answer_to ops_of old.now es).answers
 
-  pub one_further : (hearing new : Hearing) (e : E) (rest : List E) → IsTable hearing.now → Ahead hearing (e ∷ rest) → Took (one_entry (answer_to hearing.now e) (ops_of hearing.now e)) hearing new → Ahead new rest
+  pub one_further : (hearing new : AdmissionState) (e : E) (rest : List E) → IsTable hearing.now → Ahead hearing (e ∷ rest) → Took (one_entry (answer_to hearing.now e) (ops_of hearing.now e)) hearing new → Ahead new rest
   one_further hearing new e rest form ahead took =
       let one = one_entry (answer_to hearing.now e) (ops_of hearing.now e) in
       let later = in_turn answer_to ops_of (told hearing.now one.ops) rest in
@@ -26,7 +26,7 @@ module _ {E : Type 0} (answer_to : Table → E → Answer) (ops_of : Table → E
         answers = (λ i. took.answers i ++ (in_turn answer_to ops_of (took.now i) rest).answers) ∙ append_assoc hearing.answers.items one.answers later.answers ∙ ahead.answers;
       }
 
-  pub at_end : (hearing : Hearing) → IsTable hearing.now → Ahead hearing [] → Took (in_turn answer_to ops_of old.now es) old hearing
+  pub at_end : (hearing : AdmissionState) → IsTable hearing.now → Ahead hearing [] → Took (in_turn answer_to ops_of old.now es) old hearing
   at_end hearing form ahead = record {
     now = sym (told_nothing hearing.now form) ∙ ahead.now;
     ops = sym (append-nil hearing.ops.items) ∙ ahead.ops;
@@ -37,7 +37,7 @@ module _ {E : Type 0} (answer_to : Table → E → Answer) (ops_of : Table → E
   at_start = record { now = refl; ops = refl; answers = refl }
 
 -- One entry, by whether it is accepted.
-module _ (a : Answer) (more : List Op) (old new : Hearing) (answers : new.answers.items ≡ old.answers.items ++ a ∷ []) where
+module _ (a : Answer) (more : List Op) (old new : AdmissionState) (answers : new.answers.items ≡ old.answers.items ++ a ∷ []) where
   pub took_refused : IsTable old.now → is_accepted a ≡ false → new.now ≡ old.now → new.ops.items ≡ old.ops.items → Took (one_entry a more) old new
   took_refused form is now ops =
       let none : (one_entry a more).ops ≡ [] = ap (λ b. cond b more []) is in

@@ -6,7 +6,7 @@ use Rattle.fm_records.specs.declared.ops.Phase.TheVariants.{Pending}
 use Rattle.fm_records.specs.declared.ops.Op.{Op}
 use Rattle.fm_records.specs.declared.ops.Op.TheVariants as op
 use Rattle.fm_records.specs.Table.{Table}
-use Rattle.fm_records.specs.Know.{know}
+use Rattle.fm_records.specs.Know.{table_of}
 use Rattle.fm_records.specs.Joined.{table_join}
 use Rattle.fm_records.specs.Facts.{passes, spec_of, request_of, attempt_of, incarnation_of, open_state, winner_of, is_live, is_open, holds, held_tasks, load_of, has_room}
 use Rattle.fm_net.specs.Network.{is_held}
@@ -19,7 +19,7 @@ use Rattle.fm_round.specs.declared.plan.Answer.TheVariants.{Gone, Held, Attempts
 
 -- what is known with the operations told too
 unfoldable pub told : Table → List Op → Table
-told k ops = table_join k (know ops)
+told k ops = table_join k (table_of ops)
 
 -- the answer of the first rule that applies, and Accepted if none does
 abbrev pub first_rule : List (Bool × Answer) → Answer

@@ -2,9 +2,9 @@ pub mod PlanEquality
 pub mod PlanEqualityLaws
 pub mod Admission
 pub mod Stopping
-pub mod Planned
-pub mod Asked
+pub mod PlanOfFlow
+pub mod PlanArcs
 pub mod Schedules
-pub mod Seating
-pub mod Hearings
+pub mod UnitQueues
+pub mod AdmissionSteps
 pub mod MachineHoldings

@@ -4,7 +4,7 @@ use Rattle.fm_records.specs.Table.{Table}
 use Rattle.fm_net.specs.Network.{net_of}
 use Rattle.fm_certificate.specs.Flows.{Units, IsLeast}
 use Rattle.fm_round.specs.declared.plan.Plan.{Plan}
-use Rattle.fm_round.specs.Planned.{units_over, plan_of_flow}
+use Rattle.fm_round.specs.PlanOfFlow.{units_over, plan_of_flow}
 
 -- the plan of a least flow of the network of what is known
 pub record IsPlanOf (k : Table) (plan : Plan) : Type 0 where

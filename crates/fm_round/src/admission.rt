@@ -8,7 +8,7 @@ ghost use Rattle.fm_records.specs.OpsOfTable.{IsTable};
 ghost use Rattle.fm_records.specs.Facts.{attempt_of, open_state};
 ghost use Rattle.fm_know.specs.Limits.{StateWithin};
 ghost use Rattle.fm_round.specs.Admission.{told, is_accepted, last_attempt, has_proposal, place_ops, place_answer, preempt_ops, preempt_answer, one_entry, admission_of_places, admission_of_preempts, admission, got_place, is_within_nic};
-ghost use Rattle.fm_round.specs.Hearings.{Took, IsAdmissionState};
+ghost use Rattle.fm_round.specs.AdmissionSteps.{Took, IsAdmissionState};
 ghost use Rattle.fm_records.specs.Sets.{IsMember};
 ghost use Rattle.fm_round.specs.declared.plan.Place.{Place as Entry};
 ghost use Rattle.fm_round.specs.MachineHoldings.{is_counted, AreCountedHoldings};
@@ -79,7 +79,7 @@ fn admit_with(
         → IsTrue (is_within_nic (told knowledge.now a.ops) m)) }
 {
     knowledge.known();
-    let mut hearing = Hearing::of(alloc, knowledge)?;
+    let mut hearing = AdmissionState::of(alloc, knowledge)?;
     hearing.take_places(holdings, coordinator, plan.places.as_slice())?;
     hearing.take_preempts(plan.preempts.as_slice())?;
     Ok(hearing.into_admitted())
@@ -88,23 +88,23 @@ fn admit_with(
 /// What is known with the operations of the entries that were accepted so far, these operations, and the answers so
 /// far.
 #[derive(Drop)]
-pub(crate) struct Hearing {
+pub(crate) struct AdmissionState {
     pub(crate) alloc: Global,
     pub(crate) now: Knowledge,
     pub(crate) ops: Vec<Op>,
     pub(crate) answers: Vec<Answer>,
 }
 
-impl Hearing {
+impl AdmissionState {
     // The hearing before the first entry.
-    fn of(alloc: Global, knowledge: &Knowledge) -> Result<Hearing, OutOfMemory>
+    fn of(alloc: Global, knowledge: &Knowledge) -> Result<AdmissionState, OutOfMemory>
         ensures now { IfOk result (λ hearing. hearing.now ≡ knowledge.now) }
         ensures ops { IfOk result (λ hearing. hearing.ops.items ≡ []) }
         ensures answers { IfOk result (λ hearing. hearing.answers.items ≡ []) }
         ensures ready { IfOk result IsAdmissionState }
     {
         knowledge.known();
-        Ok(Hearing {
+        Ok(AdmissionState {
             alloc,
             now: knowledge.copy()?,
             ops: Vec::new(alloc),

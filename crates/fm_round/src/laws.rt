@@ -3,12 +3,12 @@
 
 ghost use Rattle.std.specs.Prelude.{◌≡◌, ◌↔◌, ◌<◌, ◌==◌, ◌++◌, ℕ, List, count_by};
 ghost use Rattle.fm_records.specs.declared.ops.Op.{Op};
-ghost use Rattle.fm_records.specs.Know.{know};
+ghost use Rattle.fm_records.specs.Know.{table_of};
 ghost use Rattle.fm_records.specs.Sets.{IsMember};
 ghost use Rattle.fm_lattice.specs.Maps.{IsRising};
 ghost use Rattle.fm_net.specs.Nodes.{ends_cmp};
 ghost use Rattle.fm_net.specs.declared.node.Node.{Node};
-ghost use Rattle.fm_round.specs.Planned.{ArcUnits, units, waits, seats, tasks_of, machines_of};
+ghost use Rattle.fm_round.specs.PlanOfFlow.{ArcUnits, units, waits, seats, tasks_of, machines_of};
 ghost use Rattle.fm_round.specs.declared.plan.Plan.{Plan};
 ghost use Rattle.fm_round.specs.Admission.{told, admission};
 ghost use Rattle.fm_round.specs.Stopping.{stops_of};
@@ -17,14 +17,14 @@ pub mod plan_equality;
 
 /// The table of a set, told more operations, is the table of the set with these.
 pub fn law_told()
-    ensures { (S more : List Op) → told (know S) more ≡ know (S ++ more) }
+    ensures { (S more : List Op) → told (table_of S) more ≡ table_of (S ++ more) }
 {}
 
 /// Admission and stops depend on what is known alone: sets with the same table have the same admission and stops.
 pub fn law_sets()
-    ensures admitted { (S T : List Op) (c : ℕ) (plan : Plan) → know S ≡ know T
-        → admission (know S) c plan ≡ admission (know T) c plan }
-    ensures stops { (S T : List Op) (c : ℕ) → know S ≡ know T → stops_of (know S) c ≡ stops_of (know T) c }
+    ensures admitted { (S T : List Op) (c : ℕ) (plan : Plan) → table_of S ≡ table_of T
+        → admission (table_of S) c plan ≡ admission (table_of T) c plan }
+    ensures stops { (S T : List Op) (c : ℕ) → table_of S ≡ table_of T → stops_of (table_of S) c ≡ stops_of (table_of T) c }
 {}
 
 /// Of a flow in order, the plan's tasks of a request are those with a unit to it, and each machine is listed for a

@@ -9,4 +9,4 @@ pub mod listed;
 mod machine_holdings;
 pub mod plan;
 mod rules;
-pub mod stopping;
+pub mod stops;

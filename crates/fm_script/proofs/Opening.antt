@@ -2,7 +2,7 @@
 use Rattle.std.proofs.Common.{◌≡◌, ◌<◌, ◌≤◌, ◌+◌, ℕ, List, [], ◌∷◌, ◌++◌, length, map, take, get_or, sym, ap, ◌∙◌, subst}
 use Rattle.std.proofs.lemmas.List.{map-append, take_more, take_all}
 use Rattle.fm_coord.specs.States.{WithKeeper, new_state}
-use Rattle.fm_world.specs.Stands.{number_of, opening_of, AreUnused}
+use Rattle.fm_world.specs.Represents.{number_of, opening_of, AreUnused}
 use Rattle.fm_script.specs.Openings.{history_limit}
 
 abbrev pub limited : ℕ → ℕ × ℕ

@@ -1,7 +1,7 @@
 //! The coordinators with which a run of the program begins.
 
 ghost use Rattle.std.specs.Prelude.{◌≡◌, [], IsTrue, IfOk};
-ghost use Rattle.fm_records.specs.Know.{know};
+ghost use Rattle.fm_records.specs.Know.{table_of};
 ghost use Rattle.fm_edit.specs.Keepers.{is_fresh_keeper, KeeperIsFor};
 ghost use Rattle.fm_coord.specs.States.{new_state};
 
@@ -32,7 +32,7 @@ pub fn coordinator_at(
 
 // The keeper of the coordinator that is listed at the place.
 fn keeper_at(alloc: Global, place: usize) -> Result<Keeper, OutOfMemory>
-    ensures { IfOk result (λ keeper. IsTrue (is_fresh_keeper keeper) → KeeperIsFor keeper (know [])) }
+    ensures { IfOk result (λ keeper. IsTrue (is_fresh_keeper keeper) → KeeperIsFor keeper (table_of [])) }
 {
     if place % 2 == 0 {
         Ok(Keeper::Defers(Deferred::new(alloc)?))

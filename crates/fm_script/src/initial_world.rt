@@ -2,7 +2,7 @@
 
 ghost use Rattle.std.specs.Prelude.{IfOk};
 ghost use Rattle.fm_coord.specs.Numbers.{AreDistinct};
-ghost use Rattle.fm_world.specs.Stands.{WorldStandsFor};
+ghost use Rattle.fm_world.specs.Represents.{WorldRepresents};
 ghost use Rattle.fm_script.specs.Openings.{new_world};
 
 use crate::coordinators::coordinator_at;
@@ -16,7 +16,7 @@ use std::alloc::Global;
 /// Refused only if memory runs out.
 pub fn open(alloc: Global, listed: &[CoordId]) -> Result<World<Keeper>, OutOfMemory>
     requires { AreDistinct listed.now }
-    ensures { IfOk result (λ world. WorldStandsFor world (new_world listed.now)) }
+    ensures { IfOk result (λ world. WorldRepresents world (new_world listed.now)) }
 {
     let mut coordinators = Vec::with_capacity(alloc, listed.len())?;
     for number in listed {

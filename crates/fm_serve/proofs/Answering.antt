@@ -3,7 +3,7 @@ use Rattle.std.proofs.Common.{◌≡◌, ◌⊎◌, ℕ, List, Bool, true, false
 use Rattle.fm_world.specs.Worlds.{WorldOfSets}
 use Rattle.fm_query.specs.declared.query.Query.{Query}
 use Rattle.fm_query.specs.Queries.{differs_in}
-use Rattle.fm_args.specs.Telling.{ArgsModel, ask, agree, pack, unpack, run, why}
+use Rattle.fm_args.specs.Invocation.{ArgsModel, ask, agree, pack, unpack, run, why}
 use Rattle.fm_serve.specs.declared.fault.Fault.{Fault}
 use Rattle.fm_serve.specs.declared.ending.Ending.{Ending}
 use Rattle.fm_serve.specs.declared.ending.Ending.TheVariants.{Done, Differ, Wrong, Stopped}

@@ -4,7 +4,7 @@ use Rattle.std.proofs.lemmas.List.{take_more, take_all}
 use Rattle.std.proofs.lemmas.Option.{slice_get-get_or}
 use Rattle.fm_records.specs.declared.refusal.Refusal.{Refusal}
 use Rattle.fm_world.specs.Worlds.{WorldOfSets}
-use Rattle.fm_world.specs.Stands.{Kept, WorldStandsFor}
+use Rattle.fm_world.specs.Represents.{Kept, WorldRepresents}
 use Rattle.fm_world.proofs.Runs.{each_knows, same_agree}
 use Rattle.fm_script.specs.declared.script.ScriptStep.{ScriptStep}
 use Rattle.fm_script.specs.Openings.{new_world}
@@ -26,7 +26,7 @@ pub come_all : (w v : WorldOfSets) (ss : List ScriptStep) (i : ℕ) → length s
 come_all w v ss i h came = subst (λ ts. Come w ts v) (take_all i ss h) came
 
 -- a world that stands for what all steps come to, with what holds of every world that stands for one
-pub is_run : (kept : Kept) (l listed : List ℕ) (ss steps : List ScriptStep) (v : WorldOfSets) → l ≡ listed → ss ≡ steps → Come (new_world l) ss v → WorldStandsFor kept v → IsRun listed steps kept
+pub is_run : (kept : Kept) (l listed : List ℕ) (ss steps : List ScriptStep) (v : WorldOfSets) → l ≡ listed → ss ≡ steps → Come (new_world l) ss v → WorldRepresents kept v → IsRun listed steps kept
 is_run kept l listed ss steps v same_l same_ss came stands =
     record {
       world = v;

@@ -3,16 +3,16 @@ use Rattle.std.proofs.Common.{◌≡◌, ◌<◌, ◌≤◌, ◌+◌, ◌++◌, 
 use Rattle.std.proofs.lemmas.List.{append-nil, length-drop, nil_from_length}
 use Rattle.std.proofs.Math.Seq.{drop-cons}
 use Rattle.fm_script.specs.declared.script.Tell.{Tell}
-use Rattle.fm_gossip.specs.Members.{MemberSeen, member}
+use Rattle.fm_gossip.specs.Members.{MemberModel, member}
 use Rattle.fm_script.specs.Openings.{history_limit}
 use Rattle.fm_serve.specs.Musters.{told_at, members_of}
 
 -- before the first
-pub no_members : (listed : List ℕ) (tells : List Tell) (ms : List MemberSeen) → ms ≡ [] → ms ++ members_of (drop 0 listed) tells ≡ members_of listed tells
+pub no_members : (listed : List ℕ) (tells : List Tell) (ms : List MemberModel) → ms ≡ [] → ms ++ members_of (drop 0 listed) tells ≡ members_of listed tells
 no_members listed tells ms none = ap (λ xs. xs ++ members_of listed tells) none
 
 -- with the one for the number at the place
-pub next_member : (listed : List ℕ) (tells : List Tell) (at n : ℕ) (before after all : List MemberSeen) (m : MemberSeen) → at < length listed → n ≡ get_or listed at n → m ≡ member n history_limit (told_at n tells) → after ≡ before ++ m ∷ []
+pub next_member : (listed : List ℕ) (tells : List Tell) (at n : ℕ) (before after all : List MemberModel) (m : MemberModel) → at < length listed → n ≡ get_or listed at n → m ≡ member n history_limit (told_at n tells) → after ≡ before ++ m ∷ []
     → before ++ members_of (drop at listed) tells ≡ all → after ++ members_of (drop (at + 1) listed) tells ≡ all
 next_member listed tells at n before after all m has is made pushed so_far =
     let rest : drop at listed ≡ n ∷ drop (suc at) listed = drop-cons listed at n has ∙ ap (λ k. k ∷ drop (suc at) listed) (sym is) in
@@ -25,7 +25,7 @@ next_member listed tells at n before after all m has is made pushed so_far =
     ∙ so_far
 
 -- after the last
-pub all_members : (listed : List ℕ) (tells : List Tell) (at : ℕ) (ms : List MemberSeen) → length listed ≤ at → ms ++ members_of (drop at listed) tells ≡ members_of listed tells → ms ≡ members_of listed tells
+pub all_members : (listed : List ℕ) (tells : List Tell) (at : ℕ) (ms : List MemberModel) → length listed ≤ at → ms ++ members_of (drop at listed) tells ≡ members_of listed tells → ms ≡ members_of listed tells
 all_members listed tells at ms end so_far =
     let none : drop at listed ≡ [] = nil_from_length _ (omega (arith, length-drop at listed)) in
     sym (append-nil ms) ∙ ap (λ xs. ms ++ members_of xs tells) (sym none) ∙ so_far

@@ -4,16 +4,16 @@ use Rattle.fm_delta.specs.declared.packet.Packet.{Packet}
 use Rattle.fm_coord.specs.declared.entry.Call.TheVariants as call
 use Rattle.fm_coord.specs.declared.entry.Reply.TheVariants as reply
 use Rattle.fm_coord.specs.States.{State, WithKeeper, history_entry, took}
-use Rattle.fm_world.specs.Stands.{state_of, number_of}
+use Rattle.fm_world.specs.Represents.{state_of, number_of}
 use Rattle.fm_world.specs.Listings.{number_in}
 use Rattle.fm_gossip.specs.Served.{AreServed}
-use Rattle.fm_gossip.specs.Members.{MemberSeen, task_of, member_tasks}
+use Rattle.fm_gossip.specs.Members.{MemberModel, task_of, member_tasks}
 use Rattle.fm_gossip.specs.Exchanges.{whole_packet, cut_off, merged_in, of_others, told_by_others, after_exchange}
 use Rattle.fm_script.specs.declared.script.Tell.{Tell}
 use Rattle.fm_gossip.proofs.Numbers.{numbers_of}
 use Rattle.fm_serve.specs.Musters.{members_of}
 
-served_numbers : (numbers : List ℕ) (rounds : ℕ) (ms : List MemberSeen) (ss : List State) → AreServed (map (task_of numbers rounds) ms) ss → map number_in ss ≡ map (λ m. m.number) ms
+served_numbers : (numbers : List ℕ) (rounds : ℕ) (ms : List MemberModel) (ss : List State) → AreServed (map (task_of numbers rounds) ms) ss → map number_in ss ≡ map (λ m. m.number) ms
 served_numbers numbers rounds [] [] h = refl
 served_numbers numbers rounds [] (s ∷ ss) h = absurd h
 served_numbers numbers rounds (m ∷ ms) [] h = absurd h

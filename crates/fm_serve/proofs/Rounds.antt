@@ -6,11 +6,11 @@ use Rattle.fm_coord.specs.declared.view.View.{View}
 use Rattle.fm_coord.specs.States.{State}
 use Rattle.fm_world.specs.declared.step.Act.TheVariants as world
 use Rattle.fm_world.specs.Worlds.{WorldOfSets, with_number, cause_of, refusal_of, step_of}
-use Rattle.fm_world.specs.Stands.{Kept, WorldStandsFor, state_with, view_shown}
+use Rattle.fm_world.specs.Represents.{Kept, WorldRepresents, state_with, view_shown}
 use Rattle.fm_world.proofs.Places.{Stood, stood}
 use Rattle.fm_world.proofs.Runs.{if_err}
 use Rattle.fm_round.specs.Schedules.{IsPlanOf}
-use Rattle.fm_service.specs.Acting.{step_at, IsPlanAt, WorldStep}
+use Rattle.fm_service.specs.WorldSteps.{step_at, IsPlanAt, WorldStep}
 use Rattle.fm_serve.specs.ScriptSteps.{ScriptRoundStep, StopsAfterView}
 
 -- what is shown of a coordinator is what it knows
@@ -27,7 +27,7 @@ on_ok : {T E : Type 0} {P Q : Type 0} (r : Result T E) → (P → Q) → OnOk r 
 on_ok (Ok t) f h = f h
 on_ok (Err e) f h = tt
 
-module _ (k : Kept) (w : WorldOfSets) (at : ℕ) (h : WorldStandsFor k w) where
+module _ (k : Kept) (w : WorldOfSets) (at : ℕ) (h : WorldRepresents k w) where
   pub plan_at : (view : View) (plan : Plan) → view_shown (state_with k.coordinators at) world.View ≡ Some view → IsPlanOf view.knowledge plan → IsPlanAt w at plan
   plan_at view plan e p =
       let s : IsShown (state_with k.coordinators at) view = is_shown _ view e in
@@ -39,8 +39,8 @@ module _ (w : WorldOfSets) (at : ℕ) (plan : Plan) (accepted : cause_of w (step
   viewed = record { accepted = accepted; made = refl }
 
   pub rounds : {T E : Type 0} (r : Result T E) (new : Kept)
-      → OnOk r ((v : WorldOfSets) × WorldStep (step_of w (step_at at world.View)) (step_at at (world.Commit plan)) v × WorldStandsFor new v)
-      → OnOk r ((v : WorldOfSets) × ScriptRoundStep w at v × WorldStandsFor new v)
+      → OnOk r ((v : WorldOfSets) × WorldStep (step_of w (step_at at world.View)) (step_at at (world.Commit plan)) v × WorldRepresents new v)
+      → OnOk r ((v : WorldOfSets) × ScriptRoundStep w at v × WorldRepresents new v)
   rounds r new = on_ok r (λ t. (t.0, record { plan = plan; plan_at = planned; seen = _; view = viewed; commit = t.1 }, t.2))
 
   pub refuses : {T : Type 0} (r : Result T Refusal)

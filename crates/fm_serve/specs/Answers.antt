@@ -12,7 +12,7 @@ use Rattle.fm_query.specs.Queries.{IsText, differs_in, Lacks}
 use Rattle.fm_query.specs.Unpacked.{IsUnpacked, IsNotUnpacked}
 use Rattle.fm_args.specs.declared.words.Question.{Question}
 use Rattle.fm_args.specs.declared.words.Question.TheVariants as question
-use Rattle.fm_args.specs.Telling.{ArgsModel, ask, agree, pack, unpack, why}
+use Rattle.fm_args.specs.Invocation.{ArgsModel, ask, agree, pack, unpack, why}
 use Rattle.fm_serve.specs.declared.fault.Fault.{Fault}
 use Rattle.fm_serve.specs.declared.ending.Ending.{Ending}
 use Rattle.fm_serve.specs.declared.ending.Ending.TheVariants.{Done, Differ}

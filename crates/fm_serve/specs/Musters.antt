@@ -10,7 +10,7 @@ use Rattle.fm_world.specs.declared.step.Step.{Step}
 use Rattle.fm_world.specs.Listings.{IsWholeRun}
 use Rattle.fm_gossip.specs.Served.{AreServed}
 use Rattle.fm_gossip.specs.FleetFaults.{may_stop}
-use Rattle.fm_gossip.specs.Members.{MemberSeen, member, member_tasks}
+use Rattle.fm_gossip.specs.Members.{MemberModel, member, member_tasks}
 use Rattle.fm_gossip.specs.Passing.{passed_at, ArePassedOn}
 use Rattle.fm_gossip.specs.Exchanges.{after_exchange}
 use Rattle.fm_gossip.specs.AfterExchange.{KnowSame, AreCutBySenders}
@@ -27,7 +27,7 @@ told_at n [] = []
 told_at n (t ∷ ts) = cond (t.at == n) (t.op ∷ told_at n ts) (told_at n ts)
 
 -- a member for each number that is listed, with what it is told
-abbrev pub members_of : List ℕ → List Tell → List MemberSeen
+abbrev pub members_of : List ℕ → List Tell → List MemberModel
 members_of listed ts = map (λ n. member n history_limit (told_at n ts)) listed
 
 -- why a tell is refused: no coordinator of its number is listed, or a field of its operation is out of range

@@ -8,8 +8,8 @@ use Rattle.fm_delta.specs.declared.packet.Packet.{Packet}
 use Rattle.fm_dimacs.specs.Sending.{AppendsPrefix}
 use Rattle.fm_io.specs.Sources.{IsUnread, Streams}
 use Rattle.fm_io.specs.Runs.{IsFollowed}
-use Rattle.fm_service.specs.Following.{Following, StandBehind, Answers}
-use Rattle.fm_args.specs.Telling.{Telling, run, fleet, follow}
+use Rattle.fm_service.specs.StreamSteps.{Following, StandBehind, Answers}
+use Rattle.fm_args.specs.Invocation.{Telling, run, fleet, follow}
 use Rattle.fm_serve.specs.declared.ending.Ending.{Ending}
 use Rattle.fm_serve.specs.declared.ending.Ending.TheVariants.{Done, Stopped}
 use Rattle.fm_serve.specs.Faults.{fault_of}

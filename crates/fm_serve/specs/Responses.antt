@@ -1,7 +1,7 @@
 -- What the program answers to what its words ask for and to the text of its input (this project's profile).
 use Rattle.std.specs.Prelude.{◌≡◌, ℕ, List, []}
 use Rattle.fm_records.specs.declared.refusal.Refusal.TheVariants.{OutOfMemory}
-use Rattle.fm_args.specs.Telling.{Telling, run, fleet, follow, help, page, wrong}
+use Rattle.fm_args.specs.Invocation.{Telling, run, fleet, follow, help, page, wrong}
 use Rattle.fm_serve.specs.declared.ending.Ending.{Ending}
 use Rattle.fm_serve.specs.declared.ending.Ending.TheVariants.{Done, Wrong, Stopped}
 use Rattle.fm_serve.specs.Faults.{fault_of}

@@ -6,14 +6,14 @@ use Rattle.fm_round.specs.declared.plan.Plan.{Plan}
 use Rattle.fm_world.specs.declared.step.Act.{Act as WorldAct}
 use Rattle.fm_world.specs.declared.step.Act.TheVariants as world
 use Rattle.fm_world.specs.Worlds.{WorldOfSets, refusal_of}
-use Rattle.fm_world.specs.Stands.{Kept, WorldStandsFor}
+use Rattle.fm_world.specs.Represents.{Kept, WorldRepresents}
 use Rattle.fm_world.specs.Agreement.{EachKnows, SameAgree}
 use Rattle.fm_serve.specs.declared.fault.Fault.{Fault}
 use Rattle.fm_script.specs.declared.script.ScriptAct.{ScriptAct}
 use Rattle.fm_script.specs.declared.script.ScriptAct.TheVariants as act
 use Rattle.fm_script.specs.declared.script.ScriptStep.{ScriptStep}
 use Rattle.fm_script.specs.Openings.{new_world}
-use Rattle.fm_service.specs.Acting.{step_at, IsPlanAt, WorldStep}
+use Rattle.fm_service.specs.WorldSteps.{step_at, IsPlanAt, WorldStep}
 use Rattle.fm_serve.specs.Faults.{fault_of}
 
 -- what a step asks a coordinator for; a round asks it for a view first
@@ -76,6 +76,6 @@ StopsScript listed steps fault = (fault ≡ fault_of OutOfMemory) ⊎ StopsIn (n
 pub record IsRun (listed : List ℕ) (steps : List ScriptStep) (kept : Kept) : Type 0 where
   pub world : WorldOfSets
   pub came : Come (new_world listed) steps world
-  pub stands : WorldStandsFor kept world
+  pub stands : WorldRepresents kept world
   pub each_knows : EachKnows kept world
   pub same_agree : SameAgree kept world

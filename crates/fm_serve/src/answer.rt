@@ -5,8 +5,8 @@ ghost use Rattle.fm_coord.specs.Numbers.{AreDistinct};
 ghost use Rattle.fm_query.specs.Queries.{ForEachWorld};
 ghost use Rattle.fm_script.specs.Texts.{IsScriptText};
 ghost use Rattle.fm_records.specs.declared.refusal.Refusal.TheVariants as refused;
-ghost use Rattle.fm_args.specs.Telling.{args_model};
-ghost use Rattle.fm_args.specs.Telling as told;
+ghost use Rattle.fm_args.specs.Invocation.{args_model};
+ghost use Rattle.fm_args.specs.Invocation as told;
 ghost use Rattle.fm_serve.specs.declared.ending.Ending.TheVariants as ending;
 ghost use Rattle.fm_serve.specs.Answers.{IsNoScript, AnswersIn, LacksIn, IsOfScript, IsScriptStopped, Wants, IsCommandRefused, query_at, query_of};
 ghost use Rattle.fm_serve.specs.Endings.{coordinator_asked};
@@ -15,7 +15,7 @@ ghost use Rattle.fm_serve.specs.Faults.{fault_of};
 use crate::ending::Ending;
 use crate::fault::Fault;
 use crate::progress::RunProgress;
-use crate::respond::Answered;
+use crate::respond::RunResult;
 use crate::run::run;
 use fm_args::words::{Command, Question};
 use fm_edit::keepers::Keeper;
@@ -35,7 +35,7 @@ pub fn answer(
     progress: &RunProgress,
     command: Command,
     text: &[u8],
-) -> Result<Answered, Fault>
+) -> Result<RunResult, Fault>
     ensures ok { IfOk result (λ a. Wants (args_model command.entry) text.now a.ending a.output.items) }
     ensures err { IfErr result (λ fault. IsCommandRefused (args_model command.entry) text.now fault) }
 {
@@ -48,12 +48,12 @@ pub fn answer(
 }
 
 // The lines of the packet that the text spells.
-fn unpacked(alloc: Global, text: &[u8]) -> Result<Answered, Fault>
+fn unpacked(alloc: Global, text: &[u8]) -> Result<RunResult, Fault>
     ensures ok { IfOk result (λ a. Wants told.unpack text.now a.ending a.output.items) }
     ensures err { IfErr result (λ fault. IsCommandRefused told.unpack text.now fault) }
 {
     match unpack(alloc, text) {
-        Ok(lines) => Ok(Answered {
+        Ok(lines) => Ok(RunResult {
             ending: Ending::Done,
             output: lines.into_bytes(),
         }),
@@ -67,7 +67,7 @@ fn answer_script(
     progress: &RunProgress,
     command: Command,
     text: &[u8],
-) -> Result<Answered, Fault>
+) -> Result<RunResult, Fault>
     ensures ok { IfOk result (λ a. IsOfScript (args_model command.entry) text.now a.ending a.output.items) }
     ensures err { IfErr result (λ fault. (fault ≡ fault_of refused.OutOfMemory)
         ⊎ (IsNoScript text.now fault ⊎ IsScriptStopped (args_model command.entry) text.now fault)) }
@@ -88,7 +88,7 @@ fn answer_script(
 }
 
 // What the world answers to the query. NoPacket if there is none, since no packet has the name.
-fn reply(alloc: Global, world: &mut World<Keeper>, query: Option<Query>) -> Result<Answered, Fault>
+fn reply(alloc: Global, world: &mut World<Keeper>, query: Option<Query>) -> Result<RunResult, Fault>
     ensures ok { ForEachWorld world.old (λ w. IfOk result (λ a. AnswersIn query w a.ending a.output.items)) }
     ensures err { ForEachWorld world.old (λ w. IfErr result (λ fault.
         (fault ≡ fault_of refused.OutOfMemory) ⊎ LacksIn query w fault)) }
@@ -97,7 +97,7 @@ fn reply(alloc: Global, world: &mut World<Keeper>, query: Option<Query>) -> Resu
         return Err(Fault::from(Refusal::NoPacket));
     };
     match ask(alloc, world, query) {
-        Ok(answer) => Ok(Answered {
+        Ok(answer) => Ok(RunResult {
             ending: ending_of(answer.differs),
             output: answer.text,
         }),

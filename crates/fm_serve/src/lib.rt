@@ -15,4 +15,4 @@ mod refusals;
 pub mod respond;
 pub mod run;
 pub mod serve;
-pub mod watch;
+pub mod progress_line;

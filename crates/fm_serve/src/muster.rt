@@ -2,7 +2,7 @@
 
 ghost use Rattle.std.specs.Prelude.{◌≡◌, None, map, IfOk, IfErr};
 ghost use Rattle.fm_coord.specs.Numbers.{AreDistinct};
-ghost use Rattle.fm_world.specs.Stands.{state_of};
+ghost use Rattle.fm_world.specs.Represents.{state_of};
 ghost use Rattle.fm_serve.specs.Musters.{calls_of, IsMustered, IsStopped, StopsMuster};
 
 use crate::counts::{Calls, Counts};

@@ -1,8 +1,8 @@
 //! What the program answers to its words and its input.
 
 ghost use Rattle.std.specs.Prelude.{◌≡◌, []};
-ghost use Rattle.fm_args.specs.Telling.{args_model, told_of, Telling};
-ghost use Rattle.fm_args.specs.Telling as told;
+ghost use Rattle.fm_args.specs.Invocation.{args_model, told_of, Telling};
+ghost use Rattle.fm_args.specs.Invocation as told;
 ghost use Rattle.fm_serve.specs.declared.ending.Ending.TheVariants as ending;
 ghost use Rattle.fm_serve.specs.Responses.{Responds};
 
@@ -20,18 +20,18 @@ use std::thread::Threads;
 
 /// The complete output of a run, and how it then ends.
 #[derive(Debug, Drop)]
-pub struct Answered {
+pub struct RunResult {
     pub ending: Ending,
     pub output: Vec<u8>,
 }
 
-impl Answered {
+impl RunResult {
     // The run was stopped: nothing goes out.
-    fn stopped(alloc: Global, fault: Fault) -> Answered
+    fn stopped(alloc: Global, fault: Fault) -> RunResult
         ensures ending { result.ending ≡ ending.Stopped fault }
         ensures output { result.output.items ≡ [] }
     {
-        Answered {
+        RunResult {
             ending: Ending::Stopped(fault),
             output: Vec::new(alloc),
         }
@@ -49,22 +49,22 @@ pub fn respond<T: Threads + Wait + Sync>(
     progress: &RunProgress,
     words: Words,
     text: &[u8],
-) -> Answered
+) -> RunResult
     ensures { Responds (told_of words.entry) text.now result.ending result.output.items }
 {
     match words {
         Words::Run(command) => run_command(alloc, progress, command, text),
         Words::Fleet { rounds } => run_fleet(rt, alloc, progress, rounds, text),
-        Words::Follow { .. } => Answered {
+        Words::Follow { .. } => RunResult {
             ending: Ending::Done,
             output: Vec::new(alloc),
         },
-        Words::Help(page) => Answered {
+        Words::Help(page) => RunResult {
             ending: Ending::Done,
             output: page.into_bytes(),
         },
         Words::Refusals => refusals_page(alloc),
-        Words::Wrong(said) => Answered {
+        Words::Wrong(said) => RunResult {
             ending: Ending::Wrong(said),
             output: Vec::new(alloc),
         },
@@ -72,12 +72,12 @@ pub fn respond<T: Threads + Wait + Sync>(
 }
 
 // What a command answers to the text.
-fn run_command(alloc: Global, progress: &RunProgress, command: Command, text: &[u8]) -> Answered
+fn run_command(alloc: Global, progress: &RunProgress, command: Command, text: &[u8]) -> RunResult
     ensures { Responds (told.run (args_model command.entry)) text.now result.ending result.output.items }
 {
     match answer(alloc, progress, command, text) {
         Ok(answered) => answered,
-        Err(fault) => Answered::stopped(alloc, fault),
+        Err(fault) => RunResult::stopped(alloc, fault),
     }
 }
 
@@ -88,27 +88,27 @@ fn run_fleet<T: Threads + Wait + Sync>(
     progress: &RunProgress,
     rounds: u32,
     text: &[u8],
-) -> Answered
+) -> RunResult
     ensures { Responds (told.fleet rounds) text.now result.ending result.output.items }
 {
     match count_fleet(rt, alloc, progress, rounds, text) {
-        Ok(lines) => Answered {
+        Ok(lines) => RunResult {
             ending: Ending::Done,
             output: lines.into_bytes(),
         },
-        Err(fault) => Answered::stopped(alloc, fault),
+        Err(fault) => RunResult::stopped(alloc, fault),
     }
 }
 
 // The page of refusals.
-fn refusals_page(alloc: Global) -> Answered
+fn refusals_page(alloc: Global) -> RunResult
     ensures { Responds told.page [] result.ending result.output.items }
 {
     match String::from_str(alloc, REFUSALS) {
-        Ok(page) => Answered {
+        Ok(page) => RunResult {
             ending: Ending::Done,
             output: page.into_bytes(),
         },
-        Err(_) => Answered::stopped(alloc, Fault::from(Refusal::OutOfMemory)),
+        Err(_) => RunResult::stopped(alloc, Fault::from(Refusal::OutOfMemory)),
     }
 }

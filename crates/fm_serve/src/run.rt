@@ -4,9 +4,9 @@ ghost use Rattle.std.specs.Prelude.{◌≡◌, ℕ, IfOk, IfErr, OnOk};
 ghost use Rattle.fm_world.specs.declared.step.Act.TheVariants as world_act;
 ghost use Rattle.fm_coord.specs.Numbers.{AreDistinct};
 ghost use Rattle.fm_world.specs.Worlds.{WorldOfSets, refusal_of};
-ghost use Rattle.fm_world.specs.Stands.{WorldStandsFor};
+ghost use Rattle.fm_world.specs.Represents.{WorldRepresents};
 ghost use Rattle.fm_script.specs.declared.script.ScriptAct.TheVariants as script_act;
-ghost use Rattle.fm_service.specs.Acting.{Makes, EnsuresErr};
+ghost use Rattle.fm_service.specs.WorldSteps.{Makes, EnsuresErr};
 ghost use Rattle.fm_serve.specs.ScriptSteps.{ScriptActStep, Come, Refuses, StopsIn, StopsScript, IsRun};
 
 use crate::fault::Fault;

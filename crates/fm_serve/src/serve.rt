@@ -1,14 +1,14 @@
 //! One run of the program, over its words, a source and a sink.
 
 ghost use Rattle.std.specs.Prelude.{◌≡◌, IfOk, IfErr, map, string_bytes};
-ghost use Rattle.fm_args.specs.Heard.{telling_of};
-ghost use Rattle.fm_args.specs.Telling.{told_of};
+ghost use Rattle.fm_args.specs.CommandLine.{telling_of};
+ghost use Rattle.fm_args.specs.Invocation.{told_of};
 ghost use Rattle.fm_serve.specs.Output.{IsRunServed, IsStoppedReading, IsStreamed, ReadsAll, IsOutputWritten, reads, renewal_of};
 
 use crate::ending::Ending;
 use crate::fault::Fault;
 use crate::progress::RunProgress;
-use crate::respond::{Answered, respond};
+use crate::respond::{RunResult, respond};
 use fm_args::words::{Words, read_words};
 use fm_io::input::read_input;
 use fm_io::sending::send;
@@ -108,11 +108,11 @@ fn input_for<S: Source>(alloc: Global, words: &Words, source: &mut S) -> Result<
 }
 
 // Writes the complete output, and returns how the run ends.
-fn send_out<W: Sink>(answered: Answered, sink: &mut W) -> Ending
+fn send_out<W: Sink>(answered: RunResult, sink: &mut W) -> Ending
     ensures { IsOutputWritten answered.ending answered.output.items result
         (W.written sink.old) (W.written sink.new) (W.has_failed sink.old) (W.has_failed sink.new) }
 {
-    let Answered { ending, output } = answered;
+    let RunResult { ending, output } = answered;
     if output.is_empty() {
         return ending;
     }

@@ -11,11 +11,11 @@ use Rattle.fm_coord.specs.Events.{Sent, Event, Replica, opening, happens}
 use Rattle.fm_coord.specs.Events as event
 use Rattle.fm_coord.specs.Numbers.{AreDistinct}
 use Rattle.fm_coord.specs.Replays.{seen_packet}
-use Rattle.fm_coord.specs.States.{State, WithKeeper, StandsFor}
+use Rattle.fm_coord.specs.States.{State, WithKeeper, Represents}
 use Rattle.fm_world.specs.declared.step.Act.TheVariants as act
 use Rattle.fm_world.specs.declared.step.Step.{Step}
 use Rattle.fm_world.specs.Worlds.{WorldOfSets, opening_world, with_number, changed_at, event_asked, after_maybe, cause_at, refusal_of, step_of, run_of, taken_in, spelled_out}
-use Rattle.fm_world.specs.Stands.{Kept, state_of, number_of, AllStand, WorldStandsFor, IsReached}
+use Rattle.fm_world.specs.Represents.{Kept, state_of, number_of, AllStand, WorldRepresents, IsReached}
 use Rattle.fm_script.specs.Openings.{history_limit, new_world}
 use Rattle.fm_service.specs.Renewing.{whole_of, renewed_replica, renewed_world, reopened_world}
 
@@ -73,7 +73,7 @@ halfway_world i w = record { replicas = halfway i w.replicas; packets = [] }
 -- nothing happened, and what that one takes in makes it anew
 pub record IsNext (s : State) (i : ℕ) (rs : List Replica) : Type 0 where
   pub replica : Replica
-  pub stands : StandsFor s replica
+  pub stands : Represents s replica
   pub untouched : with_number (halfway i rs) s.number ≡ Some (opening s.number history_limit)
   pub taken : changed_at s.number (λ r. happens r 0 (event.Merge (whole_of replica))) (halfway i rs) ≡ halfway (suc i) rs
 
@@ -83,9 +83,9 @@ module _ {N : Type 0} where
   listed (d ∷ cs) zero c lt is = inl (ap number_of (sym is))
   listed (d ∷ cs) (suc i) c lt is = inr (listed cs i c (omega arith) is)
 
-  here : (c d : WithKeeper N) (r : Replica) (rs : List Replica) → c ≡ d → StandsFor d.state r → IsNext c.state 0 (r ∷ rs)
+  here : (c d : WithKeeper N) (r : Replica) (rs : List Replica) → c ≡ d → Represents d.state r → IsNext c.state 0 (r ∷ rs)
   here c d r rs is h =
-      let st : StandsFor c.state r = subst (λ (x : WithKeeper N). StandsFor x.state r) (sym is) h in
+      let st : Represents c.state r = subst (λ (x : WithKeeper N). Represents x.state r) (sym is) h in
       let on : (r.number == c.state.number) ≡ true = eq-eqb r.number c.state.number (sym st.number) in
       record {
         replica = r;
@@ -125,7 +125,7 @@ all_renewed (suc n) (r ∷ rs) le = ap (λ xs. renewed_replica r ∷ xs) (all_re
 -- a world of coordinators that is renewed
 module _ {N : Type 0} (cs : List (WithKeeper N)) (old : Kept) (those : map state_of cs ≡ old.coordinators) where
   -- for whatever world of sets they stand
-  all_stand : (w : WorldOfSets) → WorldStandsFor old w → AllStand (map state_of cs) w.replicas
+  all_stand : (w : WorldOfSets) → WorldRepresents old w → AllStand (map state_of cs) w.replicas
   all_stand w h = subst (λ ss. AllStand ss w.replicas) (sym those) h.coordinators
 
   pub are_distinct : IsReached old → AreDistinct (map number_of cs)
@@ -139,10 +139,10 @@ module _ {N : Type 0} (cs : List (WithKeeper N)) (old : Kept) (those : map state
   as_many rs h = sym (length-map rs number) ∙ ap length (sym (same_numbers cs rs h)) ∙ length-map cs number_of
 
   -- once all of them are
-  pub all_done : (n : ℕ) → length cs ≤ n → (anew : Kept) (w : WorldOfSets) → WorldStandsFor old w → WorldStandsFor anew (halfway_world n w) → WorldStandsFor anew (renewed_world w)
+  pub all_done : (n : ℕ) → length cs ≤ n → (anew : Kept) (w : WorldOfSets) → WorldRepresents old w → WorldRepresents anew (halfway_world n w) → WorldRepresents anew (renewed_world w)
   all_done n le anew w h =
       let many = as_many w.replicas (all_stand w h) in
-      subst (λ (rs : List Replica). WorldStandsFor anew (record { replicas = rs; packets = [] })) (all_renewed n w.replicas (omega (arith, many)))
+      subst (λ (rs : List Replica). WorldRepresents anew (record { replicas = rs; packets = [] })) (all_renewed n w.replicas (omega (arith, many)))
 
   -- a world that opens with their numbers
   module _ (n : ℕ) (le : length cs ≤ n) (numbers : List ℕ) (listed : numbers ≡ map number_of (take n cs)) where
@@ -152,12 +152,12 @@ module _ {N : Type 0} (cs : List (WithKeeper N)) (old : Kept) (those : map state
     pub listed_distinct : IsReached old → AreDistinct numbers
     listed_distinct reached = subst AreDistinct (sym all_listed) (are_distinct reached)
 
-    pub same_opening : (w : WorldOfSets) → WorldStandsFor old w → new_world numbers ≡ reopened_world w
+    pub same_opening : (w : WorldOfSets) → WorldRepresents old w → new_world numbers ≡ reopened_world w
     same_opening w h = ap new_world (all_listed ∙ same_numbers cs w.replicas (all_stand w h))
 
   -- of which the next takes in, as a packet, all that it knows
   module _ (reached : IsReached old) (i : ℕ) (c : WithKeeper N) (lt : i < length cs) (is : c ≡ get_or cs i c) (at : ℕ) (its : at ≡ c.state.number) (packet : Packet) (anew : Kept) where
-    module _ (w : WorldOfSets) (h : WorldStandsFor old w) where
+    module _ (w : WorldOfSets) (h : WorldRepresents old w) where
       its_turn : IsNext c.state i w.replicas
       its_turn = next cs w.replicas i c (all_stand w h) (are_distinct reached) lt is
 
@@ -166,17 +166,17 @@ module _ {N : Type 0} (cs : List (WithKeeper N)) (old : Kept) (those : map state
           ap (λ m. changed_at m (λ r. happens r 0 (event.Merge (whole_of its_turn.replica))) (halfway i w.replicas)) e
           ∙ its_turn.taken ∙ ap (λ k. halfway k w.replicas) (sym (add-one i))
 
-      pub one_more : ((r : Replica) → StandsFor c.state r → packet ≡ seen_packet (whole_of r)) → (after : Kept)
-          → WorldStandsFor anew (halfway_world i w)
-          → ((v : WorldOfSets) (sent : Sent) → WorldStandsFor anew v → packet ≡ seen_packet sent → WorldStandsFor after (taken_in v at 0 sent))
-          → WorldStandsFor after (halfway_world (i + 1) w)
+      pub one_more : ((r : Replica) → Represents c.state r → packet ≡ seen_packet (whole_of r)) → (after : Kept)
+          → WorldRepresents anew (halfway_world i w)
+          → ((v : WorldOfSets) (sent : Sent) → WorldRepresents anew v → packet ≡ seen_packet sent → WorldRepresents after (taken_in v at 0 sent))
+          → WorldRepresents after (halfway_world (i + 1) w)
       one_more whole after before take =
-          subst (λ (rs : List Replica). WorldStandsFor after (record { replicas = rs; packets = [] })) (merged at its)
+          subst (λ (rs : List Replica). WorldRepresents after (record { replicas = rs; packets = [] })) (merged at its)
           (take (halfway_world i w) (whole_of its_turn.replica) before (whole its_turn.replica its_turn.stands))
 
     -- which is refused only if memory runs out: nothing had happened to it
-    pub for_memory : ((w : WorldOfSets) → WorldStandsFor old w → WorldStandsFor anew (halfway_world i w)) → (refusal : Refusal)
-        → ((v : WorldOfSets) → WorldStandsFor anew v → refusal ≡ refusal_of v (record { at = at; by = 0; act = act.Take packet }))
+    pub for_memory : ((w : WorldOfSets) → WorldRepresents old w → WorldRepresents anew (halfway_world i w)) → (refusal : Refusal)
+        → ((v : WorldOfSets) → WorldRepresents anew v → refusal ≡ refusal_of v (record { at = at; by = 0; act = act.Take packet }))
         → refusal ≡ OutOfMemory
     for_memory before refusal why =
         let w = run_of (opening_world reached.openings) reached.steps in

@@ -7,7 +7,7 @@ use Rattle.fm_delta.specs.declared.packet.Packet.{Packet}
 use Rattle.fm_io.specs.Replies.{accepted_reply, refusal_reply}
 use Rattle.fm_service.specs.declared.session.Session.{Session}
 use Rattle.fm_service.specs.declared.stream_service.StreamService.{StreamService}
-use Rattle.fm_service.specs.Following.{Following, StandBehind, Answers, IsRefused}
+use Rattle.fm_service.specs.StreamSteps.{Following, StandBehind, Answers, IsRefused}
 use Rattle.fm_service.specs.Sessions.{SessionAt, Accepts, Rejects, Begins, IsIn, AnswersSo}
 
 -- what is answered where the stream is

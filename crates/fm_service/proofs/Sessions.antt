@@ -12,15 +12,15 @@ use Rattle.fm_coord.specs.Replays.{seen_packet}
 use Rattle.fm_world.specs.declared.step.Act.{Act as WorldAct}
 use Rattle.fm_world.specs.declared.step.Act.TheVariants as world
 use Rattle.fm_world.specs.Worlds.{WorldOfSets, refusal_of}
-use Rattle.fm_world.specs.Stands.{Kept, WorldStandsFor}
+use Rattle.fm_world.specs.Represents.{Kept, WorldRepresents}
 use Rattle.fm_script.specs.declared.script.ScriptAct.TheVariants as act
 use Rattle.fm_script.specs.declared.request.Request.{Request}
 use Rattle.fm_script.specs.declared.request.Request.TheVariants as request
 use Rattle.fm_script.specs.Requests.{RequestModel, Does, Renews, Requests, request_model}
 use Rattle.fm_io.specs.Replies.{accepted_reply}
 use Rattle.fm_service.specs.declared.session.Session.{Session}
-use Rattle.fm_service.specs.Acting.{step_at, WorldStep}
-use Rattle.fm_service.specs.Following.{Following, StandBehind, packet_by_ops, packet_number_at, at_world, DoesAt, fresh, is_due, IsAccepted, IsStreamState, RefusesIn}
+use Rattle.fm_service.specs.WorldSteps.{step_at, WorldStep}
+use Rattle.fm_service.specs.StreamSteps.{Following, StandBehind, packet_by_ops, packet_number_at, at_world, DoesAt, fresh, is_due, IsAccepted, IsStreamState, RefusesIn}
 use Rattle.fm_service.specs.Renewing.{renewed_world}
 use Rattle.fm_service.specs.Sessions.{SessionAt, Goes, StopsRequest}
 use Rattle.fm_service.proofs.Results.{if_ok}
@@ -31,7 +31,7 @@ seen_so behind stand p can = λ i. record { sender = p.sender; number = p.number
 
 -- a world that is the same stands for the same
 pub stays : (d : Session) (new : Kept) (k : Following) → SessionAt d k → new ≡ d.world → IsStreamState new d.named d.marks k
-stays d new k here same = record { stands = subst (λ (x : Kept). WorldStandsFor x k.world) (sym same) here.stands; named_is = here.named_is; marks_is = here.marks_is }
+stays d new k here same = record { stands = subst (λ (x : Kept). WorldRepresents x k.world) (sym same) here.stands; named_is = here.named_is; marks_is = here.marks_is }
 
 -- a step of which there is nothing to tell
 module _ (old new : Session) (r : Result (Vec ℕ) Refusal) (at : ℕ) where

@@ -18,12 +18,12 @@ use Rattle.fm_coord.specs.Causes.{cause, refusal_for, room_fault}
 use Rattle.fm_coord.specs.Events.{Replica, packet_of}
 use Rattle.fm_coord.specs.Events as event
 use Rattle.fm_coord.specs.Replays.{seen_packet}
-use Rattle.fm_coord.specs.States.{State, bounds, StandsFor}
+use Rattle.fm_coord.specs.States.{State, bounds, Represents}
 use Rattle.fm_coord.specs.StepLaws.{same_bounds}
 use Rattle.fm_world.specs.declared.step.Act.{Act}
 use Rattle.fm_world.specs.declared.step.Act.TheVariants as act
 use Rattle.fm_world.specs.Worlds.{WorldOfSets, with_number, event_asked, cause_at, cause_of, refusal_of}
-use Rattle.fm_world.specs.Stands.{Kept, WorldStandsFor, state_with}
+use Rattle.fm_world.specs.Represents.{Kept, WorldRepresents, state_with}
 use Rattle.fm_world.proofs.Places.{Stood, stood, absent}
 use Rattle.fm_script.specs.declared.request.Topic.{Topic}
 use Rattle.fm_script.specs.declared.request.Topic.TheVariants as topic
@@ -31,8 +31,8 @@ use Rattle.fm_query.specs.QueryTexts.{line_of}
 use Rattle.fm_query.specs.declared.query.Query.TheVariants as query
 use Rattle.fm_query.specs.Queries.{IsUnanswered}
 use Rattle.fm_query.specs.RoundText.{round_text}
-use Rattle.fm_service.specs.Following.{topic_query_at, news_since, news_of}
-use Rattle.fm_service.specs.Acting.{step_at, WorldStep, IsCutLine, StreamRoundStep}
+use Rattle.fm_service.specs.StreamSteps.{topic_query_at, news_since, news_of}
+use Rattle.fm_service.specs.WorldSteps.{step_at, WorldStep, IsCutLine, StreamRoundStep}
 
 -- the coordinator with the number has the number
 numbered_by : (b : Bool) (x s : State) (n : ℕ) (rest : Option State) → (x.number == n) ≡ b → cond b (Some x) rest ≡ Some s → (rest ≡ Some s → s.number ≡ n) → s.number ≡ n
@@ -56,7 +56,7 @@ pub no_memory : (w : WorldOfSets) (at : ℕ) (a : Act) → cause_of w (step_at a
 no_memory w at a none = sym (ap (or_else OutOfMemory) none)
 
 -- as many packets as were cut
-pub counted : (k : Kept) (w : WorldOfSets) → WorldStandsFor k w → length k.packets ≡ length w.packets
+pub counted : (k : Kept) (w : WorldOfSets) → WorldRepresents k w → length k.packets ≡ length w.packets
 counted k w h = ap length h.packets ∙ length-map w.packets seen_packet
 
 -- a commit is refused as a view would be
@@ -67,7 +67,7 @@ same_cause (Some r) plan = refl
 pub as_a_view : (w : WorldOfSets) (at : ℕ) (plan : Plan) → refusal_of w (step_at at (act.Commit plan)) ≡ refusal_of w (step_at at act.View)
 as_a_view w at plan = ap (or_else OutOfMemory) (same_cause (with_number w.replicas at) plan)
 
-module _ (k : Kept) (w : WorldOfSets) (at : ℕ) (h : WorldStandsFor k w) where
+module _ (k : Kept) (w : WorldOfSets) (at : ℕ) (h : WorldRepresents k w) where
   pub nobody_there : None ≡ state_with k.coordinators at → (a : Act) → NoCoordinator ≡ refusal_of w (step_at at a)
   nobody_there none a = ap (λ o. or_else OutOfMemory (cause_at o (event_asked w.packets a))) (sym (absent at k.coordinators w.replicas h.coordinators (sym none)))
 
@@ -107,7 +107,7 @@ module _ (k : Kept) (w : WorldOfSets) (at : ℕ) (h : WorldStandsFor k w) where
     cut_refused range refusal is = is ∙ ap (or_else OutOfMemory) (cut_cause range)
 
     -- the line of the packet that would be cut
-    pub cut_told : (range : Range) (packet : Packet) (text : List ℕ) → ((r : Replica) → StandsFor s r → packet ≡ seen_packet (packet_of r range)) → text ≡ line_of packet → IsCutLine w at range text
+    pub cut_told : (range : Range) (packet : Packet) (text : List ℕ) → ((r : Replica) → Represents s r → packet ≡ seen_packet (packet_of r range)) → text ≡ line_of packet → IsCutLine w at range text
     cut_told range packet text seen_so told = record { replica = here.replica; there = here.at; is = told ∙ ap line_of (seen_so here.replica here.stands) }
 
     -- a round

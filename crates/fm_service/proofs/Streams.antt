@@ -6,7 +6,7 @@ use Rattle.fm_delta.specs.declared.packet.Packet.{Packet}
 use Rattle.fm_io.specs.Sources.{Streams}
 use Rattle.fm_io.specs.Runs.{IsSkipped, Run, IsFollowed}
 use Rattle.fm_service.specs.declared.stream_service.StreamService.{StreamService}
-use Rattle.fm_service.specs.Following.{Following, StandBehind, Answers}
+use Rattle.fm_service.specs.StreamSteps.{Following, StandBehind, Answers}
 use Rattle.fm_service.specs.Sessions.{IsIn, AnswersSo}
 
 module _ (most : ℕ) (behind : Packet → List Op) (stand : StandBehind behind) where

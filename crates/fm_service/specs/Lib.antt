@@ -1,4 +1,4 @@
 pub mod Renewing
-pub mod Acting
-pub mod Following
+pub mod WorldSteps
+pub mod StreamSteps
 pub mod Sessions

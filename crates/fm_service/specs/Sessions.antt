@@ -8,7 +8,7 @@ use Rattle.fm_script.specs.Requests.{RequestModel}
 use Rattle.fm_io.specs.Replies.{accepted_reply, refusal_reply}
 use Rattle.fm_service.specs.declared.session.Session.{Session}
 use Rattle.fm_service.specs.declared.stream_service.StreamService.{StreamService}
-use Rattle.fm_service.specs.Following.{Following, StandBehind, DoesAt, RefusesAt, IsAccepted, IsRefused, Answers, IsStreamState}
+use Rattle.fm_service.specs.StreamSteps.{Following, StandBehind, DoesAt, RefusesAt, IsAccepted, IsRefused, Answers, IsStreamState}
 
 abbrev pub SessionAt : Session → Following → Type 0
 SessionAt d k = IsStreamState d.world d.named d.marks k

@@ -4,8 +4,8 @@ ghost use Rattle.std.specs.Prelude.{◌≡◌, None, IfOk, IsOkUnless, OnErr, On
 ghost use Rattle.fm_round.specs.Schedules.{IsPlanOf};
 ghost use Rattle.fm_world.specs.declared.step.Act.TheVariants as act;
 ghost use Rattle.fm_world.specs.Worlds.{WorldOfSets, cause_of, refusal_of};
-ghost use Rattle.fm_world.specs.Stands.{WorldStandsFor};
-ghost use Rattle.fm_service.specs.Acting.{step_at, WorldStep, StreamRoundStep, IsCutLine, Makes, EnsuresErr};
+ghost use Rattle.fm_world.specs.Represents.{WorldRepresents};
+ghost use Rattle.fm_service.specs.WorldSteps.{step_at, WorldStep, StreamRoundStep, IsCutLine, Makes, EnsuresErr};
 
 use fm_coord::entry::Range;
 use fm_edit::keepers::Keeper;
@@ -37,9 +37,9 @@ pub(crate) fn cut_line(
     at: u8,
     range: Range,
 ) -> Result<Vec<u8>, Refusal>
-    ensures ok { (w : WorldOfSets) → WorldStandsFor world.now w
+    ensures ok { (w : WorldOfSets) → WorldRepresents world.now w
         → IfOk result (λ text. IsCutLine w at range text.items) }
-    ensures accepted { (w : WorldOfSets) → WorldStandsFor world.now w
+    ensures accepted { (w : WorldOfSets) → WorldRepresents world.now w
         → OnOk result (cause_of w (step_at at (act.Cut range)) ≡ None) }
     ensures err { EnsuresErr result world.now (λ w refusal. refusal ≡ refusal_of w (step_at at (act.Cut range))) }
 {
@@ -55,8 +55,8 @@ pub(crate) fn cut_line(
 /// OutOfMemory; then nothing has changed. The cost is that of `World::refresh_tally` and of `least_plan_of`, and of
 /// admitting the plan twice by the tally.
 pub(crate) fn round(alloc: Global, world: &mut World<Keeper>, at: u8) -> Result<Vec<u8>, Refusal>
-    ensures ok { (w : WorldOfSets) → WorldStandsFor world.old w
-        → IfOk result (λ text. (v : WorldOfSets) × StreamRoundStep w at text.items v × WorldStandsFor world.new v) }
+    ensures ok { (w : WorldOfSets) → WorldRepresents world.old w
+        → IfOk result (λ text. (v : WorldOfSets) × StreamRoundStep w at text.items v × WorldRepresents world.new v) }
     ensures err { EnsuresErr result world.old (λ w refusal. refusal ≡ refusal_of w (step_at at act.View)) }
     ensures unchanged { OnErr result (world.new ≡ world.old) }
 {
@@ -66,8 +66,8 @@ pub(crate) fn round(alloc: Global, world: &mut World<Keeper>, at: u8) -> Result<
 
 // The round, with the tally or without.
 fn planned_round(alloc: Global, world: &mut World<Keeper>, at: u8) -> Result<Vec<u8>, Refusal>
-    ensures ok { (w : WorldOfSets) → WorldStandsFor world.old w
-        → IfOk result (λ text. (v : WorldOfSets) × StreamRoundStep w at text.items v × WorldStandsFor world.new v) }
+    ensures ok { (w : WorldOfSets) → WorldRepresents world.old w
+        → IfOk result (λ text. (v : WorldOfSets) × StreamRoundStep w at text.items v × WorldRepresents world.new v) }
     ensures err { EnsuresErr result world.old (λ w refusal. refusal ≡ refusal_of w (step_at at act.View)) }
     ensures unchanged { OnErr result (world.new ≡ world.old) }
 {

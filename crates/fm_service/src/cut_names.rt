@@ -2,7 +2,7 @@
 
 ghost use Rattle.std.specs.Prelude.{◌≡◌, ℕ, List, not, IfOk, OnErr, IsTrue, slice_get};
 ghost use Rattle.fm_script.specs.Script.{is_named};
-ghost use Rattle.fm_service.specs.Following.{Named, named_also, none_named};
+ghost use Rattle.fm_service.specs.StreamSteps.{Named, named_also, none_named};
 
 use fm_lattice::join::OutOfMemory;
 use fm_script::names::Names;
@@ -17,7 +17,7 @@ pub(crate) struct NamedPackets {
 }
 
 impl Model for NamedPackets {
-    ghost use Rattle.fm_service.specs.Following.{Named};
+    ghost use Rattle.fm_service.specs.StreamSteps.{Named};
 
     ghost Value = { Named };
 

@@ -2,14 +2,14 @@
 
 ghost use Rattle.std.specs.Prelude.{◌≡◌, List};
 ghost use Rattle.fm_records.specs.declared.ops.Op.{Op};
-ghost use Rattle.fm_records.specs.Know.{know};
+ghost use Rattle.fm_records.specs.Know.{table_of};
 ghost use Rattle.fm_records.specs.Sets.{HaveSameMembers};
 ghost use Rattle.fm_records.specs.OpsOfTable.{ops};
 ghost use Rattle.fm_delta.specs.declared.packet.Packet.{Packet};
 ghost use Rattle.fm_coord.specs.Events.{Replica, Sent};
 ghost use Rattle.fm_coord.specs.Replays.{seen_packet};
 ghost use Rattle.fm_query.specs.QueryTexts.{graph_of, winners_of};
-ghost use Rattle.fm_service.specs.Following.{StandBehind, but_behind};
+ghost use Rattle.fm_service.specs.StreamSteps.{StandBehind, but_behind};
 ghost use Rattle.fm_service.specs.Renewing.{renewed_replica};
 
 /// Coordinators that received the same operations, told or in packets, in any order and number of times, have one
@@ -31,5 +31,5 @@ pub fn law_behind()
 /// A renewed replica has received the same operations, so all that it tells of what it knows stays the same.
 pub fn law_renewed()
     ensures taken { (r : Replica) → HaveSameMembers (renewed_replica r).taken r.taken }
-    ensures known { (r : Replica) → know (renewed_replica r).taken ≡ know r.taken }
+    ensures known { (r : Replica) → table_of (renewed_replica r).taken ≡ table_of r.taken }
 {}

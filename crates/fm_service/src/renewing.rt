@@ -3,8 +3,8 @@
 ghost use Rattle.std.specs.Prelude.{◌≡◌, IfOk, IsOkUnless};
 ghost use Rattle.fm_coord.specs.Events.{Replica};
 ghost use Rattle.fm_coord.specs.Replays.{seen_packet};
-ghost use Rattle.fm_coord.specs.States.{StandsFor};
-ghost use Rattle.fm_world.specs.Stands.{WorldStandsFor};
+ghost use Rattle.fm_coord.specs.States.{Represents};
+ghost use Rattle.fm_world.specs.Represents.{WorldRepresents};
 ghost use Rattle.fm_world.specs.Worlds.{WorldOfSets};
 ghost use Rattle.fm_service.specs.Renewing.{renewed_world, reopened_world, whole_of};
 
@@ -22,8 +22,8 @@ use std::alloc::Global;
 /// from the beginning. Refused only if memory runs out. It costs a copy of what each knows, twice. The world that is
 /// passed stays as it is.
 pub fn renewed(alloc: Global, world: &World<Keeper>) -> Result<World<Keeper>, Refusal>
-    ensures ok { (w : WorldOfSets) → WorldStandsFor world.now w
-        → IfOk result (λ anew. WorldStandsFor anew (renewed_world w)) }
+    ensures ok { (w : WorldOfSets) → WorldRepresents world.now w
+        → IfOk result (λ anew. WorldRepresents anew (renewed_world w)) }
     ensures err { IsOkUnless result Refusal.OutOfMemory }
 {
     world.known();
@@ -38,7 +38,7 @@ pub fn renewed(alloc: Global, world: &World<Keeper>) -> Result<World<Keeper>, Re
 
 // All that the coordinator knows, as a packet of its own.
 fn whole_of(coordinator: &Coordinator<Keeper>) -> Result<Packet, OutOfMemory>
-    ensures { (r : Replica) → StandsFor coordinator.now.state r
+    ensures { (r : Replica) → Represents coordinator.now.state r
         → IfOk result (λ packet. packet ≡ seen_packet (whole_of r)) }
 {
     Ok(Packet {
@@ -50,8 +50,8 @@ fn whole_of(coordinator: &Coordinator<Keeper>) -> Result<Packet, OutOfMemory>
 
 // A world of coordinators of the same numbers, to which nothing has happened.
 fn reopened(alloc: Global, world: &World<Keeper>) -> Result<World<Keeper>, OutOfMemory>
-    ensures { (w : WorldOfSets) → WorldStandsFor world.now w
-        → IfOk result (λ anew. WorldStandsFor anew (reopened_world w)) }
+    ensures { (w : WorldOfSets) → WorldRepresents world.now w
+        → IfOk result (λ anew. WorldRepresents anew (reopened_world w)) }
 {
     world.known();
     let mut numbers = Vec::new(alloc);

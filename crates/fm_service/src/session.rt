@@ -4,13 +4,13 @@ ghost use Rattle.std.specs.Prelude.{◌≡◌, ◌⊎◌, List, [], None, Some, 
 ghost use Rattle.std.specs.List.{list_any};
 ghost use Rattle.fm_coord.specs.declared.entry.Range.TheVariants as range;
 ghost use Rattle.fm_world.specs.Worlds.{WorldOfSets, refusal_of};
-ghost use Rattle.fm_world.specs.Stands.{WorldStandsFor, state_of, AllStand};
+ghost use Rattle.fm_world.specs.Represents.{WorldRepresents, state_of, AllStand};
 ghost use Rattle.fm_coord.specs.Events.{Replica};
 ghost use Rattle.fm_script.specs.declared.script.ScriptAct.TheVariants as act;
 ghost use Rattle.fm_script.specs.Requests.{request_model};
 ghost use Rattle.fm_script.specs.Requests as asked;
-ghost use Rattle.fm_service.specs.Acting.{step_at, WorldStep};
-ghost use Rattle.fm_service.specs.Following.{Following, at_world, packet_number_at, is_due, topic_query_at, fresh};
+ghost use Rattle.fm_service.specs.WorldSteps.{step_at, WorldStep};
+ghost use Rattle.fm_service.specs.StreamSteps.{Following, at_world, packet_number_at, is_due, topic_query_at, fresh};
 ghost use Rattle.fm_service.specs.Renewing.{renewed_world};
 ghost use Rattle.fm_service.specs.Sessions.{SessionAt, Goes, StopsRequest, Accepts, Rejects};
 
@@ -45,7 +45,7 @@ pub(crate) struct Session {
 impl Session {
     /// The coordinators of the world, of which nothing was sent.
     pub(crate) fn new(alloc: Global, world: World<Keeper>) -> Session
-        ensures { (w : WorldOfSets) → WorldStandsFor world w → SessionAt result (fresh w) }
+        ensures { (w : WorldOfSets) → WorldRepresents world w → SessionAt result (fresh w) }
     {
         Session {
             alloc,

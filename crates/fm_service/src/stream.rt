@@ -4,7 +4,7 @@ ghost use Rattle.std.specs.Prelude.{List, Option, None};
 ghost use Rattle.fm_records.specs.declared.ops.Op.{Op};
 ghost use Rattle.fm_delta.specs.declared.packet.Packet.{Packet};
 ghost use Rattle.fm_io.specs.Runs.{IsFollowed};
-ghost use Rattle.fm_service.specs.Following.{Following, StandBehind, Answers};
+ghost use Rattle.fm_service.specs.StreamSteps.{Following, StandBehind, Answers};
 
 use crate::stream_service::StreamService;
 use fm_io::follow::follow;

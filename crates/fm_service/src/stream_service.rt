@@ -2,7 +2,7 @@
 
 ghost use Rattle.std.specs.Prelude.{◌≡◌, None, IfErr, OnErr};
 ghost use Rattle.fm_io.specs.Replies.{refusal_reply};
-ghost use Rattle.fm_service.specs.Following.{IsRefused};
+ghost use Rattle.fm_service.specs.StreamSteps.{IsRefused};
 ghost use Rattle.fm_service.specs.Sessions.{Begins, IsIn};
 
 use crate::session::Session;

@@ -7,7 +7,7 @@ use Rattle.std.proofs.lemmas.List.Sums.{sum_by-cons}
 use Rattle.fm_lattice.specs.Maps.{lookup, IsRising}
 use Rattle.fm_records.specs.declared.records.SpecReg.{SpecReg}
 use Rattle.fm_records.specs.LookupLaws.{both_true}
-use Rattle.fm_records.specs.Know.{none_begun}
+use Rattle.fm_records.specs.Know.{initial_progress}
 use Rattle.fm_records.specs.Options.{and_then, only_if, or_else, passes, when}
 use Rattle.fm_records.specs.Table.{Table, TaskValue}
 use Rattle.fm_records.specs.Facts.{request_of, holds, held_tasks, spec_of, live_spec, job_stands, progress_of, is_done, is_present, won_spot}
@@ -43,7 +43,7 @@ module _ (k : Table) where
   is_unfinished t v s row spec live =
       let parts = both_true (not s.withdrawn && job_stands k s.job) (not (is_done (progress_of k t).phase)) live in
       let told : not s.withdrawn ≡ true = (both_true (not s.withdrawn) (job_stands k s.job) parts.0).0 in
-      let goes : not (is_done v.1.phase) ≡ true = sym (ap (λ o. not (is_done (or_else none_begun (option_map (λ (w : TaskValue). w.1) o)).phase)) row) ∙ parts.1 in
+      let goes : not (is_done v.1.phase) ≡ true = sym (ap (λ o. not (is_done (or_else initial_progress (option_map (λ (w : TaskValue). w.1) o)).phase)) row) ∙ parts.1 in
       let both : (not s.withdrawn && not (is_done v.1.phase)) ≡ true = λ i. told i && goes i in
       ap (only_if (λ (z : SpecReg). not z.withdrawn && not (is_done v.1.phase))) spec ∙ ap (λ b. when b s) both
 

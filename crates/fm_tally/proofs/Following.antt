@@ -14,7 +14,7 @@ use Rattle.fm_records.specs.Sets.{IsMember}
 use Rattle.fm_records.specs.Table.{Table, TaskValue}
 use Rattle.fm_records.specs.TableLaws.{Rises, IsBelowAll}
 use Rattle.fm_records.specs.declared.records.Spot.{Spot}
-use Rattle.fm_records.specs.Know.{none_begun}
+use Rattle.fm_records.specs.Know.{initial_progress}
 use Rattle.fm_records.specs.Facts.{head_option}
 use Rattle.fm_tally.specs.declared.unfinished.UnfinishedTask.{UnfinishedTask}
 use Rattle.fm_tally.specs.Sides.{is_under, is_over}
@@ -25,7 +25,7 @@ use Rattle.fm_tally.proofs.Sides.{AreUnder, told_at, rising_told, lookup_told, t
 -- an unfinished task by its record and the entries for its attempts
 abbrev pub shape : Option TaskValue → (ℕ → Option (List (ℕ × Spot))) → Option UnfinishedTask
 shape o entries =
-    option_map (λ s. task_with s (option_map (λ w. w.1) (head_option (or_else [] (entries (or_else none_begun (option_map (λ (v : TaskValue). v.1) o)).attempt)))))
+    option_map (λ s. task_with s (option_map (λ w. w.1) (head_option (or_else [] (entries (or_else initial_progress (option_map (λ (v : TaskValue). v.1) o)).attempt)))))
     (and_then unfinished_spec o)
 
 unchanged : (k now : Table) (t : ℕ) → lookup nat_cmp t now.tasks ≡ lookup nat_cmp t k.tasks

@@ -10,7 +10,7 @@ use Rattle.fm_records.specs.declared.records.Progress.{Progress}
 use Rattle.fm_records.specs.declared.records.Report.{Report}
 use Rattle.fm_records.specs.declared.records.Spot.{Spot}
 use Rattle.fm_records.specs.Options.{and_then, only_if, passes, or_else, when}
-use Rattle.fm_records.specs.Know.{none_begun}
+use Rattle.fm_records.specs.Know.{initial_progress}
 use Rattle.fm_records.specs.Table.{Table, TaskValue, MachineValue}
 use Rattle.fm_records.specs.Facts.{is_done, job_of, job_stands, progress_of, is_present, winner_of, won_spot, holder_of, holds, request_of, held_tasks, open_state, load_of, used_of}
 use Rattle.fm_know.specs.Records.{open_state_in}
@@ -95,7 +95,7 @@ module _ (k : Table) where
       ∙ ap (λ h. by_spec h spec.0) (placed_is hs k there spot)
       ∙ sym (ap (and_then (by_spec won)) row.2)
       ∙ same_task won row.0.0 row.0.1
-      ∙ sym (ap (λ o. told won (and_then (λ (w : TaskValue). w.0) o) (or_else none_begun (option_map (λ (w : TaskValue). w.1) o))) row.1)
+      ∙ sym (ap (λ o. told won (and_then (λ (w : TaskValue). w.0) o) (or_else initial_progress (option_map (λ (w : TaskValue). w.1) o))) row.1)
 
   -- what an unfinished task counts for a machine
   module _ (t : ℕ) (u : UnfinishedTask) (js : List (ℕ × JobReg)) (h : Option ℕ) where

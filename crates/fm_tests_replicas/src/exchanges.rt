@@ -1,7 +1,7 @@
 //! Drawn exchanges of coordinators are gathered, and run again.
 
 ghost use Rattle.std.specs.Prelude.{◌≡◌, [], IsTrue, IfOk};
-ghost use Rattle.fm_records.specs.Know.{know};
+ghost use Rattle.fm_records.specs.Know.{table_of};
 ghost use Rattle.fm_edit.specs.Keepers.{is_fresh_keeper, KeeperIsFor};
 
 use fm_coord::coordinator::Coordinator;
@@ -27,7 +27,7 @@ const SEEDS: u32 = 40;
 const STEPS: u32 = 60;
 
 fn keeper(alloc: Global, edits: bool) -> Result<Keeper, Fail>
-    ensures { IfOk result (λ keeper. IsTrue (is_fresh_keeper keeper) → KeeperIsFor keeper (know [])) }
+    ensures { IfOk result (λ keeper. IsTrue (is_fresh_keeper keeper) → KeeperIsFor keeper (table_of [])) }
 {
     if edits {
         Ok(Keeper::Edits(Editor::new(alloc)?))

@@ -1,5 +1,5 @@
 ghost use Rattle.std.specs.Prelude.{IsTrue};
-ghost use Rattle.fm_edit.specs.Editing.{is_fresh_editor, IsFor};
+ghost use Rattle.fm_edit.specs.EditorModel.{is_fresh_editor, IsFor};
 
 use crate::following::{job, task, told};
 use fm_edit::editor::Editor;

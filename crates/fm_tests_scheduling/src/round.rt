@@ -11,7 +11,7 @@ use fm_round::admission::admit;
 use fm_round::from_units::plan_of;
 use fm_round::listed::Listed;
 use fm_round::plan::{Admitted, Answer, Place, Plan, Preempt, Stop};
-use fm_round::stopping::stops;
+use fm_round::stops::stops;
 use std::alloc::Global;
 
 const JOB: u128 = 0x1;

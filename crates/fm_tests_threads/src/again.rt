@@ -1,7 +1,7 @@
 //! What threads did is gathered, and run again in one thread.
 
 ghost use Rattle.std.specs.Prelude.{◌≡◌, [], IsTrue, IfOk};
-ghost use Rattle.fm_records.specs.Know.{know};
+ghost use Rattle.fm_records.specs.Know.{table_of};
 ghost use Rattle.fm_edit.specs.Keepers.{is_fresh_keeper, KeeperIsFor};
 
 use fm_coord::coordinator::Coordinator;
@@ -29,7 +29,7 @@ const COUNT: u8 = 3;
 const ROUNDS: u32 = 4;
 
 fn keeper(alloc: Global, edits: bool) -> Result<Keeper, Fail>
-    ensures { IfOk result (λ keeper. IsTrue (is_fresh_keeper keeper) → KeeperIsFor keeper (know [])) }
+    ensures { IfOk result (λ keeper. IsTrue (is_fresh_keeper keeper) → KeeperIsFor keeper (table_of [])) }
 {
     if edits {
         Ok(Keeper::Edits(Editor::new(alloc)?))

@@ -1,5 +1,5 @@
 use fm_delta::packet::Packet;
-use fm_inbox::door::{Door, Doors};
+use fm_inbox::owned_port::{OwnedPort, PortPool};
 use fm_inbox::inbox::Inbox;
 use fm_know::knowledge::Knowledge;
 use fm_records::ids::CoordId;
@@ -50,7 +50,7 @@ fn an_inbox_of_one(rt: HostRuntime) -> Result<(), Fail> {
 }
 
 // Puts packets with the numbers below the count, each once there is room.
-fn put_all<R: Wait>(rt: &R, alloc: Global, door: &mut Door, count: u64) -> Result<(), Fail> {
+fn put_all<R: Wait>(rt: &R, alloc: Global, door: &mut OwnedPort, count: u64) -> Result<(), Fail> {
     for number in 0..count {
         let mut waiting = packet(alloc, number)?;
         for _ in rt.forever() {
@@ -65,7 +65,7 @@ fn put_all<R: Wait>(rt: &R, alloc: Global, door: &mut Door, count: u64) -> Resul
 }
 
 // Takes so many packets, each once there is one. Whether their numbers rise from 0.
-fn take_all<R: Wait>(rt: &R, door: &mut Door, count: u64) -> bool {
+fn take_all<R: Wait>(rt: &R, door: &mut OwnedPort, count: u64) -> bool {
     let mut rise = true;
     for number in 0..count {
         for _ in rt.forever() {
@@ -80,7 +80,7 @@ fn take_all<R: Wait>(rt: &R, door: &mut Door, count: u64) -> bool {
 }
 
 fn exchange<R: Threads + Wait + Sync>(rt: &R, alloc: Global) -> Result<bool, Fail> {
-    let mut doors = Doors::new(alloc, 2, 4)?;
+    let mut doors = PortPool::new(alloc, 2, 4)?;
     let mut one = doors.open()?.ok_or("a door")?;
     let mut two = doors.open()?.ok_or("another")?;
     let (sent, rise) = thread::join(
@@ -107,7 +107,7 @@ enum Became {
 }
 
 // Puts the packet, and returns the door with its result.
-fn put_once<R: Wait>(rt: &R, mut door: Door, packet: Packet) -> (Door, Became) {
+fn put_once<R: Wait>(rt: &R, mut door: OwnedPort, packet: Packet) -> (OwnedPort, Became) {
     let number = packet.number;
     let became = match door.put(rt, packet) {
         Ok(()) => Became::Put,
@@ -124,7 +124,7 @@ fn both_put<R: Threads + Wait + Sync>(
     rt: &R,
     alloc: Global,
 ) -> Result<(Became, Became, u64), Fail> {
-    let mut doors = Doors::new(alloc, 2, 1)?;
+    let mut doors = PortPool::new(alloc, 2, 1)?;
     let one = doors.open()?.ok_or("a door")?;
     let two = doors.open()?.ok_or("another")?;
     let (packet_one, packet_two) = (packet(alloc, 1)?, packet(alloc, 2)?);

@@ -18,7 +18,7 @@ use Rattle.fm_records.specs.declared.records.Spot.{Spot}
 use Rattle.fm_records.specs.Options.{when, and_then, or_else, only_if, passes}
 use Rattle.fm_records.specs.Orders.{machine_cmp, report_cmp}
 use Rattle.fm_records.specs.Table.{Table, MachineValue}
-use Rattle.fm_records.specs.Know.{know, state_in, machine, machine_at, incarnation, state_at}
+use Rattle.fm_records.specs.Know.{table_of, state_in, machine, machine_at, incarnation, state_at}
 use Rattle.fm_records.specs.LookupLaws.{lookup_machine, when_is_true}
 use Rattle.fm_records.specs.RangeLaws.{know_table, inside, when_value}
 use Rattle.fm_records.specs.OpsOfTable.{IsTable}
@@ -61,7 +61,7 @@ module _ (k : Table) (form : IsTable k) (m i v writer slots nic : ℕ) (state : 
 
   found : (q : ℕ) → lookup nat_cmp q after.machines ≡ option_join machine_join (lookup nat_cmp q k.machines) (machine (told ∷ []) q)
   found q =
-      lookup_join nat_cmp nat_cmp_total nat_same machine_join q k.machines (know (told ∷ [])).machines form.machines.rising (know_table (told ∷ [])).machines.rising
+      lookup_join nat_cmp nat_cmp_total nat_same machine_join q k.machines (table_of (told ∷ [])).machines form.machines.rising (know_table (told ∷ [])).machines.rising
       ∙ ap (option_join machine_join (lookup nat_cmp q k.machines)) (lookup_machine (told ∷ []) q)
 
   none_to : (o : Option MachineValue) → option_join machine_join o None ≡ o

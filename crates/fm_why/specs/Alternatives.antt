@@ -8,7 +8,7 @@ use Rattle.fm_certificate.specs.Checks.{PricedArc}
 use Rattle.fm_certificate.specs.Flows.{Units, cost_of, IsFeasible}
 use Rattle.fm_certificate.specs.Totals.{Entry}
 use Rattle.fm_why.specs.declared.reasons.Choice.{Choice}
-use Rattle.fm_why.specs.declared.reasons.Example.{Example}
+use Rattle.fm_why.specs.declared.reasons.Alternative.{Alternative}
 use Rattle.fm_why.specs.declared.reasons.Move.{Move}
 use Rattle.fm_why.specs.Running.{RunsOn}
 
@@ -23,7 +23,7 @@ abbrev pub moves_between : Net → Units → Units → List Move
 moves_between net now units = filter_map (λ a. move_over now units a.0) net.arcs
 
 -- a feasible flow that runs the task on the machine: what it costs, and which tasks go elsewhere than now
-pub record IsExample (net : Net) (now : Units) (t m : ℕ) (example : Example) : Type 0 where
+pub record IsExample (net : Net) (now : Units) (t m : ℕ) (example : Alternative) : Type 0 where
   pub units : Units
   pub feasible : IsFeasible net units
   pub runs : RunsOn net units t m
@@ -31,7 +31,7 @@ pub record IsExample (net : Net) (now : Units) (t m : ℕ) (example : Example) :
   pub moves_are : example.moves.items ≡ moves_between net now units
 
 -- of a machine to which the task has a way, possibly such a flow
-abbrev pub IsExampleFor : Net → Units → ℕ → Choice × Option Example → Type 0
+abbrev pub IsExampleFor : Net → Units → ℕ → Choice × Option Alternative → Type 0
 IsExampleFor net now t e = IfSome e.1 (IsExample net now t e.0.machine)
 
 -- the units are of these arcs, in turn, and within their capacities

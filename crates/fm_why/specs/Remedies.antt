@@ -4,7 +4,7 @@ use Rattle.fm_records.specs.declared.ops.Op.{Op}
 use Rattle.fm_records.specs.Ops.{op_fault}
 use Rattle.fm_records.specs.Options.{and_then}
 use Rattle.fm_records.specs.Table.{Table}
-use Rattle.fm_records.specs.Know.{know}
+use Rattle.fm_records.specs.Know.{table_of}
 use Rattle.fm_records.specs.Joined.{table_join}
 use Rattle.fm_records.specs.Facts.{open_state, incarnation_of, spare_of}
 use Rattle.fm_know.specs.Mutators.{next_machine_op}
@@ -31,7 +31,7 @@ change_op k m change =
 
 -- what is known once the operation is told too
 abbrev pub with_op : Table → Op → Table
-with_op k o = table_join k (know (o ∷ []))
+with_op k o = table_join k (table_of (o ∷ []))
 
 -- a schedule that runs the task on the machine and costs so much, and none costs less
 pub record RunsAt (k : Table) (t m cost : ℕ) : Type 0 where

@@ -8,7 +8,7 @@ ghost use Rattle.fm_why.specs.Running.{IsDearerOver};
 ghost use Rattle.fm_why.specs.MachineOptions.{cost_at, IsGap};
 ghost use Rattle.fm_why.specs.Schedule.{IsSchedule};
 
-use crate::tuning::Paths;
+use crate::tighten::Paths;
 use fm_certificate::flow::Flow;
 use fm_certificate::potentials::Potentials;
 use fm_net::network::Network;
@@ -17,7 +17,7 @@ use fm_net::node::Node;
 /// A least flow, potentials that certify it, and what it costs; and where the unit of a task goes, with the cheapest ways
 /// there, of which nothing is known.
 #[derive(Drop)]
-pub(crate) struct Schedule {
+pub(crate) struct CertifiedFlow {
     pub(crate) flow: Flow,
     pub(crate) potentials: Potentials,
     pub(crate) least: u128,
@@ -27,7 +27,7 @@ pub(crate) struct Schedule {
 
 /// What an arc costs, and how much dearer flows are that send units over it.
 #[derive(Debug, Clone, Copy, Drop)]
-pub(crate) struct Toll {
+pub(crate) struct ArcGap {
     pub(crate) cost: u32,
     pub(crate) more: u128,
 }
@@ -35,10 +35,10 @@ pub(crate) struct Toll {
 /// The toll of the arc, if the network has it. O(log n).
 pub(crate) fn toll_of(
     network: &Network,
-    schedule: &Schedule,
+    schedule: &CertifiedFlow,
     from: &Node,
     to: &Node,
-) -> Option<Toll>
+) -> Option<ArcGap>
     requires { IsSchedule network.now schedule.now }
     ensures cost { option_map (λ e. e.cost) result ≡ cost_at network.now from.now to.now }
     ensures gap { IfSome result (λ e.
@@ -49,11 +49,11 @@ pub(crate) fn toll_of(
     network.known();
     let (_, cost) = network.arc(*from, *to)?;
     let more = gap(&schedule.flow, &schedule.potentials, from, to, cost);
-    Some(Toll { cost, more })
+    Some(ArcGap { cost, more })
 }
 
 /// How much dearer flows are that send units over the arc, at least.
-pub(crate) fn more_over(network: &Network, schedule: &Schedule, from: &Node, to: &Node) -> u128
+pub(crate) fn more_over(network: &Network, schedule: &CertifiedFlow, from: &Node, to: &Node) -> u128
     requires { IsSchedule network.now schedule.now }
     ensures gap { (arc : ℕ × ℕ) → arc_at network.now from.now to.now ≡ Some arc
         → IsGap (units_in schedule.now.flow) (potential_in schedule.now.potentials) from.now to.now arc.1 result }

@@ -8,7 +8,7 @@ ghost use Rattle.fm_certificate.specs.Flows.{units_in};
 ghost use Rattle.fm_why.specs.Running.{RunsOn};
 ghost use Rattle.fm_why.specs.Remedies.{more_slots, more_bandwidth, change_op, with_op, RunsAt, IsTight, IsRemedy};
 
-use crate::feasible::{Aim, runs_on};
+use crate::feasible::{Target, runs_on};
 use crate::reasons::{Change, Choice, Remedy};
 use fm_certificate::cost::cost;
 use fm_certificate::flow::Flow;
@@ -79,7 +79,7 @@ fn with_slot(
         return Ok(None);
     };
     let machine = first.machine;
-    let aim = Aim {
+    let aim = Target {
         task,
         request,
         machine,
@@ -100,7 +100,7 @@ fn with_bandwidth(
         return Ok(None);
     };
     let machine = lack.machine;
-    let aim = Aim {
+    let aim = Target {
         task,
         request,
         machine,
@@ -112,7 +112,7 @@ fn with_bandwidth(
 fn remedy_of(
     alloc: Global,
     knowledge: &Knowledge,
-    aim: &Aim,
+    aim: &Target,
     change: Change,
 ) -> Result<Option<Remedy>, OutOfMemory>
     ensures { IfOk result (λ found. IfSome found (IsRemedy knowledge.now aim.now.task aim.now.request)) }
@@ -183,7 +183,7 @@ fn with_op(alloc: Global, knowledge: &Knowledge, op: &Op) -> Result<Knowledge, O
 }
 
 // Whether the machine, if it got bandwidth, has just the request to spare now.
-fn is_tight(known: &Knowledge, aim: &Aim, change: Change) -> bool
+fn is_tight(known: &Knowledge, aim: &Target, change: Change) -> bool
     ensures { IsTrue result → IsTight known.now aim.now.machine aim.now.request change }
 {
     match change {
@@ -200,7 +200,7 @@ struct Run {
 }
 
 // Where a least schedule of what is known runs the task, if the one that is found does.
-fn run_of(alloc: Global, known: &Knowledge, aim: &Aim) -> Result<Option<Run>, OutOfMemory>
+fn run_of(alloc: Global, known: &Knowledge, aim: &Target) -> Result<Option<Run>, OutOfMemory>
     ensures { IfOk result (λ found. IfSome found (λ run. RunsAt known.now aim.now.task run.place run.cost)) }
 {
     law_can_be(known);
@@ -218,14 +218,14 @@ fn run_of(alloc: Global, known: &Knowledge, aim: &Aim) -> Result<Option<Run>, Ou
 }
 
 // A machine on which the flow runs the task, if there is one: the aim's, or else the first by id.
-fn place_of(known: &Knowledge, network: &Network, flow: &Flow, aim: &Aim) -> Option<MachineId>
+fn place_of(known: &Knowledge, network: &Network, flow: &Flow, aim: &Target) -> Option<MachineId>
     ensures { IfSome result (RunsOn network.now (units_in flow.now) aim.now.task) }
 {
     if runs_on(network, flow, aim) {
         return Some(aim.machine);
     }
     for (machine, _) in known.machines().iter() {
-        let other = Aim {
+        let other = Target {
             task: aim.task,
             request: aim.request,
             machine: *machine,

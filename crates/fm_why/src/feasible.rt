@@ -14,7 +14,7 @@ use fm_records::ids::{MachineId, TaskId};
 
 /// A task, its request, and a machine on which it is to run.
 #[derive(Debug, Clone, Copy, Drop)]
-pub(crate) struct Aim {
+pub(crate) struct Target {
     pub(crate) task: TaskId,
     pub(crate) request: u32,
     pub(crate) machine: MachineId,
@@ -32,7 +32,7 @@ pub(crate) fn is_feasible(network: &Network, flow: &Flow) -> bool
 }
 
 /// Whether the flow runs the task on the machine, over an arc of its own or over its request.
-pub(crate) fn runs_on(network: &Network, flow: &Flow, aim: &Aim) -> bool
+pub(crate) fn runs_on(network: &Network, flow: &Flow, aim: &Target) -> bool
     ensures { IsTrue result → RunsOn network.now (units_in flow.now) aim.now.task aim.now.machine }
 {
     let task = Node::Task(aim.task);

@@ -3,10 +3,10 @@
 
 mod bounds;
 mod changes;
-mod choosing;
-mod example;
+mod options;
+mod alternative;
 mod feasible;
 pub mod laws;
 pub mod reasons;
-mod tuning;
+mod tighten;
 pub mod why;

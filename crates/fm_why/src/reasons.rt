@@ -25,7 +25,7 @@ pub struct Move {
 
 /// A schedule that runs a task on a machine.
 #[derive(Debug, Drop)]
-pub struct Example {
+pub struct Alternative {
     /// What it costs.
     pub cost: u128,
     /// The tasks that go elsewhere in it than in the schedule that was found, by id.
@@ -75,7 +75,7 @@ pub struct Choices {
     pub price: Option<u128>,
     /// For each of the first of the machines, `SHOWN` at most, a schedule that runs it there, if the one that was found
     /// leaves it waiting, and one was found.
-    pub examples: Vec<Option<Example>>,
+    pub examples: Vec<Option<Alternative>>,
     /// Up to two changes of a machine by which it would run, if the schedule that was found leaves it waiting.
     pub remedies: Vec<Remedy>,
 }

@@ -9,13 +9,13 @@ ghost use Rattle.fm_why.specs.Schedule.{IsSchedule};
 ghost use Rattle.fm_why.specs.Remedies.{IsRemedy};
 ghost use Rattle.fm_why.specs.Reasons.{AreChoices, AreReasons};
 
-use crate::bounds::{Schedule, more_over};
+use crate::bounds::{CertifiedFlow, more_over};
 use crate::changes::remedies_of;
-use crate::choosing::choices_of;
-use crate::example::examples_on;
+use crate::options::choices_of;
+use crate::alternative::examples_on;
 use crate::feasible::has_units;
 use crate::reasons::{Choice, Choices, Reasons, Remedy, SHOWN};
-use crate::tuning::Paths;
+use crate::tighten::Paths;
 use fm_certificate::check::check;
 use fm_certificate::cost::cost;
 use fm_certificate::flow::Flow;
@@ -149,7 +149,7 @@ fn schedule_of(
     network: &Network,
     task: TaskId,
     spec: &SpecReg,
-) -> Result<Schedule, OutOfMemory>
+) -> Result<CertifiedFlow, OutOfMemory>
     requires { network.now ≡ net_of knowledge.now }
     ensures { IfOk result (IsSchedule network.now) }
 {
@@ -161,7 +161,7 @@ fn schedule_of(
     let goal = goal_of(&flow, task, spec);
     let paths = Paths::to(alloc, network, &flow, &potentials, &goal)?;
     let potentials = sharpened(alloc, network, &flow, potentials, &paths)?;
-    Ok(Schedule {
+    Ok(CertifiedFlow {
         flow,
         potentials,
         least,

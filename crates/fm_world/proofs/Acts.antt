@@ -6,7 +6,7 @@ use Rattle.std.proofs.lemmas.Option.{slice_get-map}
 use Rattle.fm_records.specs.declared.refusal.Refusal.{Refusal}
 use Rattle.fm_records.specs.declared.refusal.Refusal.TheVariants.{OutOfMemory}
 use Rattle.fm_records.specs.Options.{or_else}
-use Rattle.fm_records.specs.Know.{know}
+use Rattle.fm_records.specs.Know.{table_of}
 use Rattle.fm_records.specs.OpsOfTable.{ops}
 use Rattle.fm_delta.specs.declared.packet.Packet.{Packet}
 use Rattle.fm_coord.specs.declared.output.CallOutput.{CallOutput}
@@ -17,14 +17,14 @@ use Rattle.fm_coord.specs.Events.{Sent, Event, Replica}
 use Rattle.fm_coord.specs.Events as event
 use Rattle.fm_coord.specs.Causes.{cause, refusal_for}
 use Rattle.fm_coord.specs.Replays.{seen_packet, call_of, reply_of}
-use Rattle.fm_coord.specs.States.{State, bounds, StandsFor, IsEventAt}
+use Rattle.fm_coord.specs.States.{State, bounds, Represents, IsEventAt}
 use Rattle.fm_coord.specs.Outputs.{answer_to}
 use Rattle.fm_coord.specs.StepLaws.{no_fault, same_bounds, packet_is}
 use Rattle.fm_world.specs.declared.step.Act.{Act}
 use Rattle.fm_world.specs.declared.step.Act.TheVariants as act
 use Rattle.fm_world.specs.Worlds.{spelled_out, event_asked, after_maybe, cut_by, cause_here}
 use Rattle.fm_world.specs.Calls.{call_asked, refusal_asked, IsSpelled}
-use Rattle.fm_world.specs.Stands.{IsActed}
+use Rattle.fm_world.specs.Represents.{IsActed}
 
 -- the packets after a call that was answered so
 abbrev pub kept : List Packet → CallOutput → List Packet
@@ -37,7 +37,7 @@ some_is : {A : Type 0} {a b : A} → Some a ≡ Some b → a ≡ b
 some_is e = cc
 
 -- a packet is what the operations that spell it out come to
-as_spelled : (p : Packet) → know (ops p.value) ≡ p.value → p ≡ seen_packet (spelled_out p)
+as_spelled : (p : Packet) → table_of (ops p.value) ≡ p.value → p ≡ seen_packet (spelled_out p)
 as_spelled p e = λ i. record { sender = p.sender; number = p.number; value = (sym e) i }
 
 delivered : (o : Option Sent) → option_map call.Merge (option_map seen_packet o) ≡ option_map call_of (option_map event.Merge o)
@@ -64,7 +64,7 @@ comes : (o : Option Event) (c : Call) → option_map call_of o ≡ Some c → Co
 comes None c e = absurd (let no : ⊥ = cc in no)
 comes (Some event) c e = record { event = event; asks = refl; is = sym (some_is e) }
 
-module _ (s : State) (r : Replica) (st : StandsFor s r) (ps : List Packet) (sent : List Sent) (is : ps ≡ map seen_packet sent) where
+module _ (s : State) (r : Replica) (st : Represents s r) (ps : List Packet) (sent : List Sent) (is : ps ≡ map seen_packet sent) where
   uncut : ps ≡ map seen_packet (sent ++ [])
   uncut = is ∙ ap (map seen_packet) (sym (append-nil sent))
 
@@ -95,7 +95,7 @@ module _ (s : State) (r : Replica) (st : StandsFor s r) (ps : List Packet) (sent
         let e = events found.event found.is in
         record {
           accepted = ap (cause_here r) found.asks ∙ e.accepted;
-          stands = subst (λ o. StandsFor new (after_maybe by o r)) (sym found.asks) e.stands;
+          stands = subst (λ o. Represents new (after_maybe by o r)) (sym found.asks) e.stands;
           packets =
               ap (kept ps) answer ∙ ap (λ d. kept ps (answer_to s d)) found.is
               ∙ after_event found.event (subst (λ d. cause (bounds s) d ≡ None) found.is none)

@@ -6,7 +6,7 @@ use Rattle.std.specs.List.{slice_get, slice_range, position_or_len}
 use Rattle.std.proofs.lemmas.List.{map-append, drop-map, length-map, take-map}
 use Rattle.fm_records.specs.declared.ops.Op.{Op}
 use Rattle.fm_records.specs.Sets.{IsMember}
-use Rattle.fm_records.specs.Know.{know}
+use Rattle.fm_records.specs.Know.{table_of}
 use Rattle.fm_records.specs.OpsOfTable.{ops}
 use Rattle.fm_records.specs.SpelledLaws.{know_ops}
 use Rattle.fm_records.specs.RangeLaws.{know_table}
@@ -28,7 +28,7 @@ use Rattle.fm_coord.specs.Events.{Sent, Event, Replica, with_set, with_step, hap
 use Rattle.fm_coord.specs.Events as event
 use Rattle.fm_coord.specs.Causes.{cause, bounds_of}
 use Rattle.fm_coord.specs.Replays.{seen_packet, call_of, event_of, reply_of, after_entry, IsReplayed}
-use Rattle.fm_coord.specs.States.{State, step_asked, StandsFor}
+use Rattle.fm_coord.specs.States.{State, step_asked, Represents}
 use Rattle.fm_world.specs.Worlds.{event_asked, cut_by}
 use Rattle.fm_world.specs.Listings.{packet_in, IsGiven, act_for}
 
@@ -36,8 +36,8 @@ use Rattle.fm_world.specs.Listings.{packet_in, IsGiven, act_for}
 pub record Alike (a b : Replica) : Type 0 where
   pub number : a.number ≡ b.number
   pub limit : a.limit ≡ b.limit
-  pub taken : know a.taken ≡ know b.taken
-  pub buffer : map know a.buffer ≡ map know b.buffer
+  pub taken : table_of a.taken ≡ table_of b.taken
+  pub buffer : map table_of a.buffer ≡ map table_of b.buffer
   pub floor : a.floor ≡ b.floor
   pub cuts : a.cuts ≡ b.cuts
   pub steps : map step_asked a.steps ≡ map step_asked b.steps
@@ -50,19 +50,19 @@ module _ (a b : Replica) (al : Alike a b) where
   many = sym (length-map a.steps step_asked) ∙ ap length al.steps ∙ length-map b.steps step_asked
 
   long : length a.buffer ≡ length b.buffer
-  long = sym (length-map a.buffer know) ∙ ap length al.buffer ∙ length-map b.buffer know
+  long = sym (length-map a.buffer table_of) ∙ ap length al.buffer ∙ length-map b.buffer table_of
 
   -- what refusals turn on is the same
   pub alike_bounds : bounds_of a ≡ bounds_of b
   alike_bounds = λ i. record { limit = al.limit i; entries = many i; floor = al.floor i; end = long i }
 
   -- what stands for the one stands for the other
-  pub alike_stands : (s : State) → StandsFor s b → StandsFor s a
+  pub alike_stands : (s : State) → Represents s b → Represents s a
   alike_stands s st = record {
     number = st.number ∙ sym al.number;
     limit = st.limit ∙ sym al.limit;
     knowledge = st.knowledge ∙ sym al.taken;
-    deltas = st.deltas ∙ sym (drop-map know b.floor b.buffer) ∙ (λ i. drop (sym al.floor i) (sym al.buffer i)) ∙ drop-map know a.floor a.buffer;
+    deltas = st.deltas ∙ sym (drop-map table_of b.floor b.buffer) ∙ (λ i. drop (sym al.floor i) (sym al.buffer i)) ∙ drop-map table_of a.floor a.buffer;
     floor = st.floor ∙ sym al.floor;
     end = st.end ∙ sym long;
     cuts = st.cuts ∙ sym al.cuts;
@@ -70,15 +70,15 @@ module _ (a b : Replica) (al : Alike a b) where
   }
 
   -- a cut gives the same packet
-  alike_set : (range : Range) → know (set_of a range) ≡ know (set_of b range)
+  alike_set : (range : Range) → table_of (set_of a range) ≡ table_of (set_of b range)
   alike_set Full = al.taken
   alike_set (Interval from to) =
       sym (joined_union (slice_range a.buffer from to)) ∙ ap joined_all (ranged a.buffer b.buffer al.buffer) ∙ joined_union (slice_range b.buffer from to) where
-        ranged : (xs ys : List (List Op)) → map know xs ≡ map know ys → map know (slice_range xs from to) ≡ map know (slice_range ys from to)
+        ranged : (xs ys : List (List Op)) → map table_of xs ≡ map table_of ys → map table_of (slice_range xs from to) ≡ map table_of (slice_range ys from to)
         ranged xs ys is =
-            sym (ap (take (to - from)) (drop-map know from xs) ∙ take-map know (to - from) (drop from xs))
+            sym (ap (take (to - from)) (drop-map table_of from xs) ∙ take-map table_of (to - from) (drop from xs))
             ∙ ap (λ ks. take (to - from) (drop from ks)) is
-            ∙ ap (take (to - from)) (drop-map know from ys) ∙ take-map know (to - from) (drop from ys)
+            ∙ ap (take (to - from)) (drop-map table_of from ys) ∙ take-map table_of (to - from) (drop from ys)
 
   pub alike_packet : (range : Range) → seen_packet (packet_of a range) ≡ seen_packet (packet_of b range)
   alike_packet range = let value = alike_set range in λ i. record { sender = al.number i; number = al.cuts i + 1; value = value i }
@@ -87,12 +87,12 @@ module _ (a b : Replica) (al : Alike a b) where
     steps_on : map step_asked (a.steps ++ (by, event) ∷ []) ≡ map step_asked (b.steps ++ (by, other) ∷ [])
     steps_on = map-append step_asked a.steps ((by, event) ∷ []) ∙ (λ i. al.steps i ++ (by, same i) ∷ []) ∙ sym (map-append step_asked b.steps ((by, other) ∷ []))
 
-    alike_added : (S T : List Op) → know S ≡ know T → Alike (with_step (with_set a S) by event) (with_step (with_set b T) by other)
+    alike_added : (S T : List Op) → table_of S ≡ table_of T → Alike (with_step (with_set a S) by event) (with_step (with_set b T) by other)
     alike_added S T is = record {
       number = al.number;
       limit = al.limit;
       taken = know_append a.taken S ∙ (λ i. table_join (al.taken i) (is i)) ∙ sym (know_append b.taken T);
-      buffer = map-append know a.buffer (S ∷ []) ∙ (λ i. al.buffer i ++ is i ∷ []) ∙ sym (map-append know b.buffer (T ∷ []));
+      buffer = map-append table_of a.buffer (S ∷ []) ∙ (λ i. al.buffer i ++ is i ∷ []) ∙ sym (map-append table_of b.buffer (T ∷ []));
       floor = al.floor;
       cuts = al.cuts;
       steps = steps_on;
@@ -107,7 +107,7 @@ module _ (a b : Replica) (al : Alike a b) where
   alike_happens by event.View = record { number = al.number; limit = al.limit; taken = al.taken; buffer = al.buffer; floor = al.floor; cuts = al.cuts; steps = steps_on by event.View event.View refl }
   alike_happens by (event.Commit plan) =
       let ops_same : (admitted_by a plan).ops ≡ (admitted_by b plan).ops = λ i. (admission (al.taken i) (al.number i) plan).ops in
-      alike_added by (event.Commit plan) (event.Commit plan) refl (admitted_by a plan).ops (admitted_by b plan).ops (ap know ops_same)
+      alike_added by (event.Commit plan) (event.Commit plan) refl (admitted_by a plan).ops (admitted_by b plan).ops (ap table_of ops_same)
 
   -- a packet, and another that comes to the same: here is what the world delivers, there what the history replays
   pub alike_merged : (by : ℕ) (p q : Sent) → seen_packet p ≡ seen_packet q → Alike (happens a by (event.Merge p)) (happens b by (event.Merge q))
@@ -163,8 +163,8 @@ module _ (a b : Replica) (al : Alike a b) (sent : List Sent) where
   take_one by (call.Commit plan) r f g = plain by (event.Commit plan) (call.Commit plan) r refl refl refl f refl
   take_one by (call.Merge p) r f g =
       let q : Found p sent = earliest p sent g in
-      let value : know q.packet.set ≡ p.value = ap (λ (x : Packet). x.value) q.is in
-      let back : p.value ≡ know (ops p.value) = sym value ∙ know_ops (know q.packet.set) (know_table q.packet.set) ∙ ap (λ k. know (ops k)) value in
+      let value : table_of q.packet.set ≡ p.value = ap (λ (x : Packet). x.value) q.is in
+      let back : p.value ≡ table_of (ops p.value) = sym value ∙ know_ops (table_of q.packet.set) (know_table q.packet.set) ∙ ap (λ k. table_of (ops k)) value in
       let same : seen_packet q.packet ≡ seen_packet (record { sender = p.sender; number = p.number; set = ops p.value }) = q.is ∙ (λ i. record { sender = p.sender; number = p.number; value = back i }) in
       record {
         event = event.Merge q.packet;

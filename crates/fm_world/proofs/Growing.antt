@@ -21,7 +21,7 @@ use Rattle.fm_world.specs.declared.step.Step.{Step}
 use Rattle.fm_coord.specs.Numbers.{AreDistinct}
 use Rattle.fm_world.specs.Listings.{StopsAfter, IsStuck, Made, entries_at, packet_in, packets_of, IsGiven, Follows, act_for, step_for, steps_for, CannotGo, number_in, Continues, history_at, history_in, IsListing}
 use Rattle.fm_world.specs.Sweeps.{AreStopped, act_asked, AreTaken, IsSwept, IsOneTaken, AreFirstTaken, made_at}
-use Rattle.fm_world.specs.Stands.{state_with}
+use Rattle.fm_world.specs.Represents.{state_with}
 
 steps_more : (ps : List Packet) (ms ns : List Made) → steps_for ps (ms ++ ns) ≡ steps_for ps ms ++ steps_for (ps ++ packets_of ms) ns
 steps_more ps [] ns = ap (λ qs. steps_for qs ns) (sym (append-nil ps))

@@ -8,7 +8,7 @@ use Rattle.fm_records.specs.Sets.{IsMember}
 use Rattle.fm_coord.specs.StepLaws.{test_failed}
 use Rattle.fm_coord.specs.States.{WithKeeper}
 use Rattle.fm_coord.specs.Numbers.{AreDistinct}
-use Rattle.fm_world.specs.Stands.{number_of}
+use Rattle.fm_world.specs.Represents.{number_of}
 
 no_member : {N : Type 0} (cs : List (WithKeeper N)) (n : ℕ) → ((k : ℕ) (d : WithKeeper N) → k < length cs → (number_of (get_or cs k d) == n) ≡ false) → IsMember n (map number_of cs) → ⊥
 no_member [] n h m = m

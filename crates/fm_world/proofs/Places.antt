@@ -5,18 +5,18 @@ use Rattle.std.proofs.lemmas.List.Quantifiers.{position-Some}
 use Rattle.std.proofs.lemmas.List.Sums.{fails_before_first}
 use Rattle.fm_coord.specs.StepLaws.{test_failed}
 use Rattle.fm_coord.specs.Events.{Replica}
-use Rattle.fm_coord.specs.States.{State, WithKeeper, StandsFor}
+use Rattle.fm_coord.specs.States.{State, WithKeeper, Represents}
 use Rattle.fm_world.specs.Worlds.{with_number, changed_at}
-use Rattle.fm_world.specs.Stands.{state_of, number_of, AllStand, state_with}
+use Rattle.fm_world.specs.Represents.{state_of, number_of, AllStand, state_with}
 
 -- a coordinator with the number stands for a replica with the number
 pub record Stood (o : Option Replica) (s : State) : Type 0 where
   pub replica : Replica
   pub at : o ≡ Some replica
-  pub stands : StandsFor s replica
+  pub stands : Represents s replica
 
-stood_by : (b : Bool) (x s : State) (r : Replica) (os : Option State) (ors : Option Replica) → cond b (Some x) os ≡ Some s → StandsFor x r → (os ≡ Some s → Stood ors s) → Stood (cond b (Some r) ors) s
-stood_by true x s r os ors e st rest = let same : x ≡ s = cc in record { replica = r; at = refl; stands = subst (λ t. StandsFor t r) same st }
+stood_by : (b : Bool) (x s : State) (r : Replica) (os : Option State) (ors : Option Replica) → cond b (Some x) os ≡ Some s → Represents x r → (os ≡ Some s → Stood ors s) → Stood (cond b (Some r) ors) s
+stood_by true x s r os ors e st rest = let same : x ≡ s = cc in record { replica = r; at = refl; stands = subst (λ t. Represents t r) same st }
 stood_by false x s r os ors e st rest = rest e
 
 absent_by : (b : Bool) (x : State) (r : Replica) (os : Option State) (ors : Option Replica) → cond b (Some x) os ≡ None → (os ≡ None → ors ≡ None) → cond b (Some r) ors ≡ None
@@ -55,7 +55,7 @@ module _ (n : ℕ) where
   pub put_back : {N : Type 0} (cs : List (WithKeeper N)) (rs : List Replica) (i : ℕ) (d new : WithKeeper N)
       (change : Replica → Replica) → AllStand (map state_of cs) rs → i < length cs → (number_of (get_or cs i d) == n) ≡ true →
       ((k : ℕ) → k < i → (number_of (get_or cs k d) == n) ≡ false) →
-      ((r : Replica) → with_number rs n ≡ Some r → StandsFor new.state (change r)) → AllStand
+      ((r : Replica) → with_number rs n ≡ Some r → Represents new.state (change r)) → AllStand
       (map state_of (slice_set cs i new)) (changed_at n change rs)
   put_back [] rs i d new change h lt is before st = absurd (omega arith)
   put_back (c ∷ cs) [] i d new change h lt is before st = absurd h

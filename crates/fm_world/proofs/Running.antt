@@ -9,10 +9,10 @@ use Rattle.fm_coord.specs.Events.{Sent, Event, Replica, opening, happens}
 use Rattle.fm_coord.specs.Causes.{cause, bounds_of}
 use Rattle.fm_coord.specs.Replays.{seen_packet, call_of, after_entry, replay, IsLegal}
 use Rattle.fm_coord.specs.Numbers.{AreDistinct}
-use Rattle.fm_coord.specs.States.{State, WithKeeper, StandsFor}
+use Rattle.fm_coord.specs.States.{State, WithKeeper, Represents}
 use Rattle.fm_world.specs.declared.step.Step.{Step}
 use Rattle.fm_world.specs.Worlds.{WorldOfSets, with_number, changed_at, event_asked, after_maybe, cut_by, cause_at, cause_of, sent_at, step_of, run_of, AreAccepted}
-use Rattle.fm_world.specs.Stands.{state_of, number_of, AllStand, state_with}
+use Rattle.fm_world.specs.Represents.{state_of, number_of, AllStand, state_with}
 use Rattle.std.specs.Prelude.{◌⊎◌}
 use Rattle.fm_world.specs.Listings.{packets_of, Made, entries_at, history_in, history_at, packet_in, IsGiven, Follows, IsWhole, AreCoordinators, number_in, opening_in, new_world_of, act_for, step_for, steps_for}
 use Rattle.fm_world.proofs.Alike.{Alike, alike_self, alike_stands, Taken, taken, number_stays}
@@ -23,7 +23,7 @@ pub record Goes (s : State) (r : Replica) (left : List Entry) : Type 0 where
   pub alike : Alike r replayed
   pub number : s.number ≡ r.number
   pub legal : IsLegal replayed left
-  pub ends : StandsFor s (replay replayed left)
+  pub ends : Represents s (replay replayed left)
 
 abbrev pub AllGo : List State → List Replica → List Made → Type 0
 AllGo [] [] ms = Unit {0}

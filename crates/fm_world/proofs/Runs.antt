@@ -4,17 +4,17 @@ use Rattle.std.proofs.lemmas.List.{take_more, take_all}
 use Rattle.std.proofs.lemmas.Option.{slice_get-get_or}
 use Rattle.std.specs.Io.KnownBytes.{Appends}
 use Rattle.fm_records.specs.declared.refusal.Refusal.{Refusal}
-use Rattle.fm_records.specs.Know.{know}
+use Rattle.fm_records.specs.Know.{table_of}
 use Rattle.fm_records.specs.Facts.{winner_of}
 use Rattle.fm_records.specs.FactLaws.{winner_is}
 use Rattle.fm_records.specs.SetExtensionality.{know_same}
 use Rattle.fm_net.specs.Network.{net_of}
 use Rattle.fm_dimacs.specs.Text.{dump_text}
 use Rattle.fm_coord.specs.Events.{Replica}
-use Rattle.fm_coord.specs.States.{State, StandsFor}
+use Rattle.fm_coord.specs.States.{State, Represents}
 use Rattle.fm_world.specs.declared.step.Step.{Step}
 use Rattle.fm_world.specs.Worlds.{WorldOfSets, with_number, cause_of, refusal_of, step_of, run_of, AreAccepted, StopsAt}
-use Rattle.fm_world.specs.Stands.{Kept, WorldStandsFor, state_with}
+use Rattle.fm_world.specs.Represents.{Kept, WorldRepresents, state_with}
 use Rattle.fm_world.specs.Agreement.{IsRepresentedAt, EachKnows, SameAgree, IsDumpOf}
 use Rattle.fm_world.proofs.Places.{Stood, stood}
 
@@ -43,16 +43,16 @@ module _ (w : WorldOfSets) (ss : List Step) (i : ℕ) (s : Step) (lt : i < lengt
 pub whole : (ss : List Step) (n : ℕ) → length ss ≤ n → take n ss ≡ ss
 whole ss n h = take_all n ss h
 
-module _ (k : Kept) (w : WorldOfSets) (h : WorldStandsFor k w) where
-  stands_at : (n : ℕ) (s : State) (r : Replica) → IsRepresentedAt k w n s r → StandsFor s r
+module _ (k : Kept) (w : WorldOfSets) (h : WorldRepresents k w) where
+  stands_at : (n : ℕ) (s : State) (r : Replica) → IsRepresentedAt k w n s r → Represents s r
   stands_at n s r at =
       let q : Stood (with_number w.replicas n) s = stood n k.coordinators w.replicas h.coordinators s at.state in
       let same : q.replica ≡ r = let a = q.at in let b = at.replica in cc in
-      subst (λ (x : Replica). StandsFor s x) same q.stands
+      subst (λ (x : Replica). Represents s x) same q.stands
 
   pub each_knows : EachKnows k w
   each_knows n s r at =
-      let known : s.knowledge ≡ know r.taken = (stands_at n s r at).knowledge in
+      let known : s.knowledge ≡ table_of r.taken = (stands_at n s r at).knowledge in
       record { knowledge = known; winners = λ task attempt. ap (λ t. winner_of t task attempt) known ∙ winner_is r.taken (task, attempt) }
 
   pub same_agree : SameAgree k w

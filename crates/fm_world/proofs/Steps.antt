@@ -14,26 +14,26 @@ use Rattle.fm_coord.specs.declared.view.TallyView.{TallyView}
 use Rattle.fm_coord.specs.Events.{Sent, Replica, opening}
 use Rattle.fm_coord.specs.Events as event
 use Rattle.fm_coord.specs.Replays.{seen_packet, replay}
-use Rattle.fm_coord.specs.States.{State, WithKeeper, StandsFor, IsEventAt, IsCoordinator}
+use Rattle.fm_coord.specs.States.{State, WithKeeper, Represents, IsEventAt, IsCoordinator}
 use Rattle.fm_world.specs.declared.step.Act.{Act}
 use Rattle.fm_world.specs.declared.step.Act.TheVariants as act
 use Rattle.fm_world.specs.declared.step.Step.{Step}
 use Rattle.fm_world.specs.Worlds.{WorldOfSets, with_number, event_asked, after_maybe, cause_here, cause_at, cause_of, refusal_of, sent_at, step_of}
-use Rattle.fm_world.specs.Stands.{Kept, state_of, number_of, WorldStandsFor, state_with, view_shown, IsActed}
+use Rattle.fm_world.specs.Represents.{Kept, state_of, number_of, WorldRepresents, state_with, view_shown, IsActed}
 use Rattle.fm_world.proofs.Acts.{by_cause}
 use Rattle.fm_world.proofs.Places.{Stood, stood, absent, put_back, same_states, found_at, missing}
 
 -- a coordinator to which nothing happened stands for a replica to which nothing happened
-pub unused : (s : State) → IsCoordinator s → s.history ≡ [] → StandsFor s (opening s.number s.limit)
-unused s is none = subst (λ es. StandsFor s (replay (opening s.number s.limit) es)) none is.stands
+pub unused : (s : State) → IsCoordinator s → s.history ≡ [] → Represents s (opening s.number s.limit)
+unused s is none = subst (λ es. Represents s (replay (opening s.number s.limit) es)) none is.stands
 
 abbrev kept : {N : Type 0} → List (WithKeeper N) → List Packet → Kept
 kept cs ps = record { coordinators = map state_of cs; packets = ps }
 
 -- if no coordinator has the number
-pub nobody : {N : Type 0} (cs : List (WithKeeper N)) (ps : List Packet) (step : Step) → None ≡ position (λ c. number_of c == step.at) cs → (k : Kept) → kept cs ps ≡ k → (w : WorldOfSets) → WorldStandsFor k w → NoCoordinator ≡ refusal_of w step
+pub nobody : {N : Type 0} (cs : List (WithKeeper N)) (ps : List Packet) (step : Step) → None ≡ position (λ c. number_of c == step.at) cs → (k : Kept) → kept cs ps ≡ k → (w : WorldOfSets) → WorldRepresents k w → NoCoordinator ≡ refusal_of w step
 nobody cs ps step none k whole w h =
-    let stands : WorldStandsFor (kept cs ps) w = subst (λ (l : Kept). WorldStandsFor l w) (sym whole) h in
+    let stands : WorldRepresents (kept cs ps) w = subst (λ (l : Kept). WorldRepresents l w) (sym whole) h in
     ap (λ o. or_else OutOfMemory (cause_at o (event_asked w.packets step.act)))
     (sym (absent step.at (map state_of cs) w.replicas stands.coordinators (missing cs step.at none)))
 
@@ -41,14 +41,14 @@ module _ {N T : Type 0} (cs : List (WithKeeper N)) (ps : List Packet) (step : St
   here : state_with (map state_of cs) step.at ≡ Some old.state
   here = found_at cs step.at i old at is
 
-  module _ (w : WorldOfSets) (h : WorldStandsFor k w) where
-    stands : WorldStandsFor (kept cs ps) w
-    stands = subst (λ (l : Kept). WorldStandsFor l w) (sym whole) h
+  module _ (w : WorldOfSets) (h : WorldRepresents k w) where
+    stands : WorldRepresents (kept cs ps) w
+    stands = subst (λ (l : Kept). WorldRepresents l w) (sym whole) h
 
     one : Stood (with_number w.replicas step.at) old.state
     one = stood step.at (map state_of cs) w.replicas stands.coordinators old.state here
 
-    pub refuses : ((r : Replica) (sent : List Sent) → StandsFor old.state r → ps ≡ map seen_packet sent → IfErr result (λ refusal. refusal ≡ or_else OutOfMemory (cause_here r (event_asked sent step.act)))) → IfErr result (λ refusal. refusal ≡ refusal_of w step)
+    pub refuses : ((r : Replica) (sent : List Sent) → Represents old.state r → ps ≡ map seen_packet sent → IfErr result (λ refusal. refusal ≡ or_else OutOfMemory (cause_here r (event_asked sent step.act)))) → IfErr result (λ refusal. refusal ≡ refusal_of w step)
     refuses err =
         by_cause result _ _ (ap (λ o. or_else OutOfMemory (cause_at o (event_asked w.packets step.act))) (sym one.at))
         (err one.replica w.packets one.stands stands.packets)
@@ -58,18 +58,18 @@ module _ {N T : Type 0} (cs : List (WithKeeper N)) (ps : List Packet) (step : St
   named = ap (λ (l : Kept). state_with l.coordinators step.at) (sym whole) ∙ here
 
   module _ (new_ps : List Packet) where
-    after_it : (w : WorldOfSets) (h : WorldStandsFor k w) → IsActed new.state new_ps (one w h).replica w.packets step.by step.act → WorldStandsFor (kept (slice_set cs i new) new_ps) (step_of w step)
+    after_it : (w : WorldOfSets) (h : WorldRepresents k w) → IsActed new.state new_ps (one w h).replica w.packets step.by step.act → WorldRepresents (kept (slice_set cs i new) new_ps) (step_of w step)
     after_it w h a =
         let place = position-Some (λ c. number_of c == step.at) cs i old (sym at) in
         let event = event_asked w.packets step.act in
         record {
           coordinators =
               put_back step.at cs w.replicas i old new (after_maybe step.by event) (stands w h).coordinators place.0 place.1 place.2
-              (λ r there. let same : (one w h).replica ≡ r = let e = (one w h).at in cc in subst (λ (q : Replica). StandsFor new.state (after_maybe step.by event q)) same a.stands);
+              (λ r there. let same : (one w h).replica ≡ r = let e = (one w h).at in cc in subst (λ (q : Replica). Represents new.state (after_maybe step.by event q)) same a.stands);
           packets = a.packets ∙ ap (λ o. map seen_packet (sent_at w.packets o event)) (sym (one w h).at);
         }
 
-    module _ (acts : (r : Replica) (sent : List Sent) → StandsFor old.state r → ps ≡ map seen_packet sent → OnOk result (IsActed new.state new_ps r sent step.by step.act)) (w : WorldOfSets) (h : WorldStandsFor k w) where
+    module _ (acts : (r : Replica) (sent : List Sent) → Represents old.state r → ps ≡ map seen_packet sent → OnOk result (IsActed new.state new_ps r sent step.by step.act)) (w : WorldOfSets) (h : WorldRepresents k w) where
       on_ok : {P Q : Type 0} (res : Result T Refusal) → (P → Q) → OnOk res P → OnOk res Q
       on_ok (Ok v) f p = f p
       on_ok (Err e) f p = tt
@@ -77,7 +77,7 @@ module _ {N T : Type 0} (cs : List (WithKeeper N)) (ps : List Packet) (step : St
       its : OnOk result (IsActed new.state new_ps (one w h).replica w.packets step.by step.act)
       its = acts (one w h).replica w.packets (one w h).stands (stands w h).packets
 
-      pub stands_on : OnOk result (WorldStandsFor (kept (slice_set cs i new) new_ps) (step_of w step))
+      pub stands_on : OnOk result (WorldRepresents (kept (slice_set cs i new) new_ps) (step_of w step))
       stands_on = on_ok result (after_it w h) its
 
       pub accepts : OnOk result (cause_of w step ≡ None)

@@ -3,7 +3,7 @@ use Rattle.std.proofs.Common.{◌≡◌, ◌==◌, ℕ, Bool, true, false, cond,
 use Rattle.std.proofs.lemmas.List.{map-append, drop-map}
 use Rattle.fm_records.specs.declared.refusal.Refusal.{Refusal}
 use Rattle.fm_records.specs.Table.{Table}
-use Rattle.fm_records.specs.Know.{know}
+use Rattle.fm_records.specs.Know.{table_of}
 use Rattle.fm_records.specs.OpsOfTable.{ops}
 use Rattle.fm_records.specs.Joined.{table_join}
 use Rattle.fm_records.specs.UnionLaws.{know_append}
@@ -12,29 +12,29 @@ use Rattle.fm_coord.specs.declared.entry.Call.TheVariants as call
 use Rattle.fm_coord.specs.Events.{Sent, Replica, happens}
 use Rattle.fm_coord.specs.Events as event
 use Rattle.fm_coord.specs.Replays.{seen_packet}
-use Rattle.fm_coord.specs.States.{State, StandsFor, caller_and_call, step_asked}
+use Rattle.fm_coord.specs.States.{State, Represents, caller_and_call, step_asked}
 use Rattle.fm_world.specs.declared.step.Step.{Step}
 use Rattle.fm_world.specs.Worlds.{WorldOfSets, changed_at, after_maybe, sent_at, step_of, spelled_out, taken_in, event_asked}
 use Rattle.fm_world.specs.declared.step.Act.TheVariants as act
-use Rattle.fm_world.specs.Stands.{Kept, AllStand, WorldStandsFor}
+use Rattle.fm_world.specs.Represents.{Kept, AllStand, WorldRepresents}
 
 -- the sets of two packets that are seen alike come to the same
-known_alike : (p q : Sent) → seen_packet p ≡ seen_packet q → know p.set ≡ know q.set
+known_alike : (p q : Sent) → seen_packet p ≡ seen_packet q → table_of p.set ≡ table_of q.set
 known_alike p q e = ap (λ (x : Packet). x.value) e
 
 module _ (by : ℕ) (p q : Sent) (alike : seen_packet p ≡ seen_packet q) where
   -- what one packet's merge leaves, the other's does
-  pub merged_alike : (s : State) (r : Replica) → StandsFor s (happens r by (event.Merge p)) → StandsFor s (happens r by (event.Merge q))
+  pub merged_alike : (s : State) (r : Replica) → Represents s (happens r by (event.Merge p)) → Represents s (happens r by (event.Merge q))
   merged_alike s r st =
       let e = known_alike p q alike in
       record {
         number = st.number;
         limit = st.limit;
-        knowledge = st.knowledge ∙ know_append r.taken p.set ∙ ap (table_join (know r.taken)) e ∙ sym (know_append r.taken q.set);
+        knowledge = st.knowledge ∙ know_append r.taken p.set ∙ ap (table_join (table_of r.taken)) e ∙ sym (know_append r.taken q.set);
         deltas =
-            st.deltas ∙ sym (drop-map know r.floor (r.buffer ++ p.set ∷ []))
-            ∙ ap (drop r.floor) (map-append know r.buffer (p.set ∷ []) ∙ (λ i. map know r.buffer ++ e i ∷ []) ∙ sym (map-append know r.buffer (q.set ∷ [])))
-            ∙ drop-map know r.floor (r.buffer ++ q.set ∷ []);
+            st.deltas ∙ sym (drop-map table_of r.floor (r.buffer ++ p.set ∷ []))
+            ∙ ap (drop r.floor) (map-append table_of r.buffer (p.set ∷ []) ∙ (λ i. map table_of r.buffer ++ e i ∷ []) ∙ sym (map-append table_of r.buffer (q.set ∷ [])))
+            ∙ drop-map table_of r.floor (r.buffer ++ q.set ∷ []);
         floor = st.floor;
         end = st.end ∙ length-append r.buffer (p.set ∷ []) ∙ sym (length-append r.buffer (q.set ∷ []));
         cuts = st.cuts;
@@ -64,7 +64,7 @@ uncut sent None p = refl
 uncut sent (Some r) p = append-nil sent
 
 -- after the step that takes a packet in, the coordinators stand for the world in which it stood for other operations
-pub stands_alike : (k : Kept) (w : WorldOfSets) (at by : ℕ) (packet : Packet) (sent : Sent) → seen_packet (spelled_out packet) ≡ seen_packet sent → WorldStandsFor k (step_of w (record { at = at; by = by; act = act.Take packet })) → WorldStandsFor k (taken_in w at by sent)
+pub stands_alike : (k : Kept) (w : WorldOfSets) (at by : ℕ) (packet : Packet) (sent : Sent) → seen_packet (spelled_out packet) ≡ seen_packet sent → WorldRepresents k (step_of w (record { at = at; by = by; act = act.Take packet })) → WorldRepresents k (taken_in w at by sent)
 stands_alike k w at by packet sent alike h =
     let with_other = λ (o : Option Replica). uncut w.packets o (spelled_out packet) in
     record {
@@ -73,7 +73,7 @@ stands_alike k w at by packet sent alike h =
     }
 
 -- a packet that is spelled out is seen as it came
-pub as_it_came : (p : Packet) → know (ops p.value) ≡ p.value → seen_packet (spelled_out p) ≡ p
+pub as_it_came : (p : Packet) → table_of (ops p.value) ≡ p.value → seen_packet (spelled_out p) ≡ p
 as_it_came p e = λ i. record { sender = p.sender; number = p.number; value = e i }
 
 pub on_ok : {T : Type 0} {P Q : Type 0} (result : Result T Refusal) → (P → Q) → OnOk result P → OnOk result Q

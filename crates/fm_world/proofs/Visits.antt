@@ -12,7 +12,7 @@ use Rattle.fm_coord.specs.Numbers.{AreDistinct}
 use Rattle.fm_coord.specs.States.{State, WithKeeper}
 use Rattle.fm_world.specs.declared.step.Step.{Step}
 use Rattle.fm_world.specs.Worlds.{run_of, AreAccepted}
-use Rattle.fm_world.specs.Stands.{state_of, number_of, state_with, WorldStandsFor}
+use Rattle.fm_world.specs.Represents.{state_of, number_of, state_with, WorldRepresents}
 use Rattle.fm_world.specs.Listings.{Made, entries_at, history_in, history_at, CannotGo, IsListing, IsWhole, IsWholeRun, Halts, IsStuck, AreCoordinators, number_in, new_world_of, left_of, packets_of}
 use Rattle.fm_world.specs.Sweeps.{AreTaken, IsSwept, AreFirstTaken, rest_at, count_left, Moves, IsVisit, AreStopped, left_at, made_at}
 use Rattle.fm_world.proofs.Growing.{swept_more, swept_listing, swept_stuck}
@@ -175,7 +175,7 @@ module _ (ss : List State) (is : AreCoordinators ss) (distinct : AreDistinct (ma
         made = h.made;
         whole = all_there;
         as_steps = h.as_steps;
-        stands = subst (λ l. WorldStandsFor (record { coordinators = ss; packets = packets_of h.made }) (run_of (new_world_of ss) l)) (sym h.as_steps) (record { coordinators = ran.stands; packets = ran.packets });
+        stands = subst (λ l. WorldRepresents (record { coordinators = ss; packets = packets_of h.made }) (run_of (new_world_of ss) l)) (sym h.as_steps) (record { coordinators = ran.stands; packets = ran.packets });
       }
 
   pub whole_accepted : AreAccepted (new_world_of ss) steps

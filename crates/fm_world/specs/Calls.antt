@@ -2,7 +2,7 @@
 use Rattle.std.specs.Prelude.{◌≡◌, ◌<◌, ℕ, List, Option, Some, None, option_map, slice_get}
 use Rattle.fm_records.specs.declared.refusal.Refusal.{Refusal}
 use Rattle.fm_records.specs.declared.refusal.Refusal.TheVariants.{NoPacket}
-use Rattle.fm_records.specs.Know.{know}
+use Rattle.fm_records.specs.Know.{table_of}
 use Rattle.fm_records.specs.OpsOfTable.{ops}
 use Rattle.fm_delta.specs.declared.packet.Packet.{Packet}
 use Rattle.fm_coord.specs.declared.entry.Call.{Call}
@@ -33,5 +33,5 @@ HasRoomFor _ len capacity = Unit {0}
 
 -- a packet that another world cut is the table of the operations that it is written out as
 abbrev pub IsSpelled : Act → Type 0
-IsSpelled (act.Take packet) = know (ops packet.value) ≡ packet.value
+IsSpelled (act.Take packet) = table_of (ops packet.value) ≡ packet.value
 IsSpelled _ = Unit {0}

@@ -1,6 +1,6 @@
 pub mod Worlds
 pub mod Calls
-pub mod Stands
+pub mod Represents
 pub mod Agreement
 pub mod AgreementExamples
 pub mod Listings

@@ -2,7 +2,7 @@
 use Rattle.std.specs.Prelude.{◌≡◌, ℕ, false, List, [], ◌∷◌}
 use Rattle.std.proofs.Common.{refl, inl}
 use Rattle.fm_records.specs.declared.ops.Op.TheVariants as op
-use Rattle.fm_records.specs.Know.{know}
+use Rattle.fm_records.specs.Know.{table_of}
 use Rattle.fm_delta.specs.declared.packet.Packet.{Packet}
 use Rattle.fm_coord.specs.declared.entry.Range.TheVariants.{Full}
 use Rattle.fm_coord.specs.declared.entry.Call.TheVariants as call
@@ -16,10 +16,10 @@ use Rattle.fm_world.specs.Listings.{Made, entries_at, history_at, Follows, steps
 
 -- a coordinator with this history
 abbrev with_history : ℕ → List Entry → State
-with_history n es = record { number = n; limit = 100; knowledge = know []; deltas = record { floor = 0; kept = [] }; cuts = 0; history = es }
+with_history n es = record { number = n; limit = 100; knowledge = table_of []; deltas = record { floor = 0; kept = [] }; cuts = 0; history = es }
 
 abbrev empty_cut_by : ℕ → Packet
-empty_cut_by n = record { sender = n; number = 1; value = know [] }
+empty_cut_by n = record { sender = n; number = 1; value = table_of [] }
 
 abbrev told : Entry
 told = record { by = 0; call = call.Tell (op.Job 1 1 1 false 500 800); reply = reply.Nothing }

@@ -15,7 +15,7 @@ use Rattle.fm_world.specs.declared.step.Act.{Act}
 use Rattle.fm_world.specs.declared.step.Act.TheVariants as act
 use Rattle.fm_world.specs.declared.step.Step.{Step}
 use Rattle.fm_world.specs.Worlds.{WorldOfSets, opening_world, run_of}
-use Rattle.fm_world.specs.Stands.{state_with, WorldStandsFor}
+use Rattle.fm_world.specs.Represents.{state_with, WorldRepresents}
 
 -- an entry, with the number of the coordinator in whose history it is
 pub record Made : Type 0 where
@@ -125,7 +125,7 @@ pub record IsWholeRun (ss : List State) (steps : List Step) : Type 0 where
   pub made : List Made
   pub whole : IsWhole ss made
   pub as_steps : steps ≡ steps_for [] made
-  pub stands : WorldStandsFor (record { coordinators = ss; packets = packets_of made }) (run_of (new_world_of ss) steps)
+  pub stands : WorldRepresents (record { coordinators = ss; packets = packets_of made }) (run_of (new_world_of ss) steps)
 
 -- the steps are a listing to which nothing can be added, and which leaves entries of exactly these coordinators, in
 -- order

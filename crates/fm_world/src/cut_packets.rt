@@ -13,12 +13,12 @@ use std::marker::Model;
 /// Packets in the order of their cuts. For each sender and number, `starts` has a place before which there is no such
 /// packet, and none if there is no such packet at all.
 #[derive(Drop)]
-pub(crate) struct Packets {
+pub(crate) struct CutPackets {
     list: Vec<Shared<Packet>>,
     starts: BTreeMap<(u8, u64), usize>,
 }
 
-impl Model for Packets {
+impl Model for CutPackets {
     ghost use Rattle.std.specs.Prelude.{List};
     ghost use Rattle.fm_delta.specs.declared.packet.Packet.{Packet};
     ghost use Rattle.fm_world.specs.Names.{AreNamed};
@@ -30,12 +30,12 @@ impl Model for Packets {
     ghost invariant = { λ a. AreNamed a.starts.entries a.list.items };
 }
 
-impl Packets {
+impl CutPackets {
     /// No packets. It allocates nothing.
     pub(crate) fn new(alloc: Global) -> Self
         ensures { result ≡ [] }
     {
-        Packets {
+        CutPackets {
             list: Vec::new(alloc),
             starts: BTreeMap::new(alloc),
         }

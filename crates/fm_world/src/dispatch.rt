@@ -5,9 +5,9 @@ ghost use Rattle.fm_records.specs.Options.{or_else};
 ghost use Rattle.fm_coord.specs.Events.{Sent, Replica};
 ghost use Rattle.fm_coord.specs.Causes.{refusal_for};
 ghost use Rattle.fm_coord.specs.Replays.{seen_packet};
-ghost use Rattle.fm_coord.specs.States.{bounds, StandsFor};
+ghost use Rattle.fm_coord.specs.States.{bounds, Represents};
 ghost use Rattle.fm_world.specs.Worlds.{event_asked, cause_here};
-ghost use Rattle.fm_world.specs.Stands.{view_shown, IsActed};
+ghost use Rattle.fm_world.specs.Represents.{view_shown, IsActed};
 ghost use Rattle.fm_world.specs.Calls.{call_asked, HasRoomFor, IsSpelled, refusal_asked};
 
 use crate::step::Act;
@@ -28,11 +28,11 @@ pub(crate) fn act_at<N: NetKeeper>(
     by: u32,
     act: &Act,
 ) -> Result<Option<View>, Refusal>
-    ensures acted { (r : Replica) (sent : List Sent) → StandsFor coordinator.old.state r
+    ensures acted { (r : Replica) (sent : List Sent) → Represents coordinator.old.state r
         → packets.old.items ≡ map seen_packet sent
         → OnOk result (IsActed coordinator.new.state packets.new.items r sent by act.now) }
     ensures view { IfOk result (λ view. view ≡ view_shown (Some coordinator.old.state) act.now) }
-    ensures err { (r : Replica) (sent : List Sent) → StandsFor coordinator.old.state r
+    ensures err { (r : Replica) (sent : List Sent) → Represents coordinator.old.state r
         → packets.old.items ≡ map seen_packet sent → IfErr result
         (λ refusal. refusal ≡ or_else Refusal.OutOfMemory (cause_here r (event_asked sent act.now))) }
     ensures same_state { OnErr result (coordinator.new.state ≡ coordinator.old.state) }

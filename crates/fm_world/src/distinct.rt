@@ -2,7 +2,7 @@
 
 ghost use Rattle.std.specs.Prelude.{◌≡◌, ◌==◌, ◌↔◌, IsTrue, map, position};
 ghost use Rattle.fm_coord.specs.Numbers.{AreDistinct};
-ghost use Rattle.fm_world.specs.Stands.{number_of};
+ghost use Rattle.fm_world.specs.Represents.{number_of};
 
 use fm_coord::coordinator::Coordinator;
 use fm_policy::keeper::NetKeeper;

@@ -4,7 +4,7 @@ ghost use Rattle.std.specs.Prelude.{◌≡◌, List, map, []};
 ghost use Rattle.fm_coord.specs.Numbers.{AreDistinct};
 ghost use Rattle.fm_coord.specs.States.{State};
 ghost use Rattle.fm_world.specs.Worlds.{run_of, AreAccepted};
-ghost use Rattle.fm_world.specs.Stands.{WorldStandsFor};
+ghost use Rattle.fm_world.specs.Represents.{WorldRepresents};
 ghost use Rattle.fm_world.specs.Listings.{Made, IsListing, IsStuck, IsMaximal, IsWhole, AreCoordinators, number_in, new_world_of, packets_of, steps_for, left_of};
 
 /// A stuck listing is maximal, and if it leaves entries, no listing is whole. A listing that leaves none is whole.
@@ -17,6 +17,6 @@ pub fn law_listings()
     ensures accepted { (ss : List State) (ms : List Made) → AreCoordinators ss → AreDistinct (map number_in ss)
         → IsWhole ss ms → AreAccepted (new_world_of ss) (steps_for [] ms) }
     ensures stands { (ss : List State) (ms : List Made) → AreCoordinators ss → AreDistinct (map number_in ss)
-        → IsWhole ss ms → WorldStandsFor (record { coordinators = ss; packets = packets_of ms })
+        → IsWhole ss ms → WorldRepresents (record { coordinators = ss; packets = packets_of ms })
         (run_of (new_world_of ss) (steps_for [] ms)) }
 {}

@@ -5,7 +5,7 @@ mod cut_packets;
 mod dispatch;
 pub mod distinct;
 pub mod gather;
-mod gathered;
+mod linearization;
 pub mod laws;
 pub mod step;
 mod sweeping;

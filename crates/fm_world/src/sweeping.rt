@@ -2,11 +2,11 @@
 
 ghost use Rattle.std.specs.Prelude.{◌≡◌, ◌<◌, ◌++◌, length, map, IfOk, OnOk};
 ghost use Rattle.fm_coord.specs.Numbers.{AreDistinct};
-ghost use Rattle.fm_world.specs.Stands.{state_of, number_of};
+ghost use Rattle.fm_world.specs.Represents.{state_of, number_of};
 ghost use Rattle.fm_world.specs.Listings.{Halts};
 ghost use Rattle.fm_world.specs.Sweeps.{IsSwept, IsVisit, IsSweep, AreStopped, left_at};
 
-use crate::gathered::Gathered;
+use crate::linearization::Linearization;
 use crate::step::Step;
 use fm_coord::coordinator::Coordinator;
 use fm_lattice::join::OutOfMemory;
@@ -22,7 +22,7 @@ pub(crate) fn swept<N: NetKeeper>(
     requires { AreDistinct (map number_of coordinators.now) }
     ensures { IfOk result (λ swept. Halts (map state_of coordinators.now) swept.1.items swept.0.items) }
 {
-    let mut gathered = Gathered::new(alloc);
+    let mut gathered = Linearization::new(alloc);
     let mut places = vec![in alloc; 0; coordinators.len()]?;
     sweep_all(coordinators, places.as_mut_slice(), &mut gathered)?;
     let mut left = Vec::new(alloc);
@@ -34,7 +34,7 @@ pub(crate) fn swept<N: NetKeeper>(
 fn sweep_all<N: NetKeeper>(
     coordinators: &[Coordinator<N>],
     places: &mut [usize],
-    gathered: &mut Gathered,
+    gathered: &mut Linearization,
 ) -> Result<(), OutOfMemory>
     requires distinct { AreDistinct (map number_of coordinators.now) }
     requires swept { IsSwept (map state_of coordinators.now) places.old gathered.old.steps.items gathered.old.packets }
@@ -53,7 +53,7 @@ fn sweep_all<N: NetKeeper>(
 fn sweep<N: NetKeeper>(
     coordinators: &[Coordinator<N>],
     places: &mut [usize],
-    gathered: &mut Gathered,
+    gathered: &mut Linearization,
 ) -> Result<bool, OutOfMemory>
     requires distinct { AreDistinct (map number_of coordinators.now) }
     requires swept { IsSwept (map state_of coordinators.now) places.old gathered.old.steps.items gathered.old.packets }
@@ -77,7 +77,7 @@ fn visit<N: NetKeeper>(
     coordinators: &[Coordinator<N>],
     i: usize,
     places: &mut [usize],
-    gathered: &mut Gathered,
+    gathered: &mut Linearization,
 ) -> Result<bool, OutOfMemory>
     requires within { i < length coordinators.now }
     requires distinct { AreDistinct (map number_of coordinators.now) }

@@ -5,14 +5,14 @@ ghost use Rattle.fm_net.specs.Network.{net_of};
 ghost use Rattle.fm_dimacs.specs.Sending.{AppendsPrefix, StopsBy};
 ghost use Rattle.fm_dimacs.specs.Text.{dump_text};
 ghost use Rattle.fm_coord.specs.Numbers.{AreDistinct};
-ghost use Rattle.fm_records.specs.Know.{know};
+ghost use Rattle.fm_records.specs.Know.{table_of};
 ghost use Rattle.fm_coord.specs.Events.{Sent};
 ghost use Rattle.fm_coord.specs.Replays.{seen_packet};
 ghost use Rattle.fm_tally.specs.Tallies.{TallyIsFor};
 ghost use Rattle.fm_world.specs.declared.step.Act.TheVariants as act;
 ghost use Rattle.fm_world.specs.Worlds.{WorldOfSets, opening_world, with_number, cause_of, refusal_of, step_of, run_of, AreAccepted, taken_by, taken_in, StopsAt};
 ghost use Rattle.fm_world.specs.Agreement.{EachKnows, SameAgree, IsDumpOf};
-ghost use Rattle.fm_world.specs.Stands.{state_of, number_of, opening_of, AreUnused, AllStand, WorldStandsFor, IsReached, state_with, view_shown};
+ghost use Rattle.fm_world.specs.Represents.{state_of, number_of, opening_of, AreUnused, AllStand, WorldRepresents, IsReached, state_with, view_shown};
 
 use crate::dispatch::act_at;
 use crate::distinct::place_of;
@@ -38,7 +38,7 @@ pub struct World<N: NetKeeper> {
 
 impl<N: NetKeeper> Model for World<N> {
     ghost use Rattle.std.specs.Prelude.{map};
-    ghost use Rattle.fm_world.specs.Stands.{Kept, IsReached, state_of};
+    ghost use Rattle.fm_world.specs.Represents.{Kept, IsReached, state_of};
 
     ghost Value = { Kept };
 
@@ -57,7 +57,7 @@ impl<N: NetKeeper> World<N> {
         requires distinct { AreDistinct (map number_of coordinators.items) }
         requires unused { AreUnused coordinators.items }
         ensures kept { result ≡ record { coordinators = map state_of coordinators.items; packets = [] } }
-        ensures stands { WorldStandsFor result (opening_world (map opening_of coordinators.items)) }
+        ensures stands { WorldRepresents result (opening_world (map opening_of coordinators.items)) }
     {
         see_unused(coordinators.as_slice());
         let alloc = *coordinators.allocator();
@@ -73,8 +73,8 @@ impl<N: NetKeeper> World<N> {
     /// times and packets these arrived.
     pub fn known(&self)
         ensures reached { IsReached self.now }
-        ensures each_knows { (w : WorldOfSets) → WorldStandsFor self.now w → EachKnows self.now w }
-        ensures same_agree { (w : WorldOfSets) → WorldStandsFor self.now w → SameAgree self.now w }
+        ensures each_knows { (w : WorldOfSets) → WorldRepresents self.now w → EachKnows self.now w }
+        ensures same_agree { (w : WorldOfSets) → WorldRepresents self.now w → SameAgree self.now w }
     {
         let _ = &self.coordinators;
     }
@@ -124,12 +124,12 @@ impl<N: NetKeeper> World<N> {
     /// coordinator's call: BadOp, BadInterval, Trimmed, HistoryFull, OutOfMemory. Then nothing has changed, except
     /// possibly whether a network is fresh.
     pub fn step(&mut self, step: &Step) -> Result<Option<View>, Refusal>
-        ensures stands { (w : WorldOfSets) → WorldStandsFor self.old w
-            → OnOk result (WorldStandsFor self.new (step_of w step.now)) }
-        ensures accepted { (w : WorldOfSets) → WorldStandsFor self.old w → OnOk result (cause_of w step.now ≡ None) }
+        ensures stands { (w : WorldOfSets) → WorldRepresents self.old w
+            → OnOk result (WorldRepresents self.new (step_of w step.now)) }
+        ensures accepted { (w : WorldOfSets) → WorldRepresents self.old w → OnOk result (cause_of w step.now ≡ None) }
         ensures view { IfOk result (λ view. view
             ≡ view_shown (state_with self.old.coordinators step.now.at) step.now.act) }
-        ensures err { (w : WorldOfSets) → WorldStandsFor self.old w
+        ensures err { (w : WorldOfSets) → WorldRepresents self.old w
             → IfErr result (λ refusal. refusal ≡ refusal_of w step.now) }
         ensures unchanged { OnErr result (self.new ≡ self.old) }
     {
@@ -148,14 +148,14 @@ impl<N: NetKeeper> World<N> {
     /// network stays stale. The history has the same entry. It costs what `Coordinator::see` does. NoCoordinator,
     /// HistoryFull, OutOfMemory. After a refusal nothing has changed.
     pub fn see(&mut self, at: u8, by: u32) -> Result<TallyView, Refusal>
-        ensures stands { (w : WorldOfSets) → WorldStandsFor self.old w
-            → OnOk result (WorldStandsFor self.new (step_of w (record { at = at; by = by; act = act.View }))) }
-        ensures accepted { (w : WorldOfSets) → WorldStandsFor self.old w
+        ensures stands { (w : WorldOfSets) → WorldRepresents self.old w
+            → OnOk result (WorldRepresents self.new (step_of w (record { at = at; by = by; act = act.View }))) }
+        ensures accepted { (w : WorldOfSets) → WorldRepresents self.old w
             → OnOk result (cause_of w (record { at = at; by = by; act = act.View }) ≡ None) }
         ensures sight { IfOk result (λ sight. view_shown (state_with self.old.coordinators at) act.View
             ≡ Some (record { at = sight.at; knowledge = sight.knowledge; network = net_of sight.knowledge })) }
         ensures tally { IfOk result (λ sight. TallyIsFor sight.knowledge sight.tally) }
-        ensures err { (w : WorldOfSets) → WorldStandsFor self.old w
+        ensures err { (w : WorldOfSets) → WorldRepresents self.old w
             → IfErr result (λ refusal. refusal ≡ refusal_of w (record { at = at; by = by; act = act.View })) }
         ensures unchanged { OnErr result (self.new ≡ self.old) }
     {
@@ -180,11 +180,11 @@ impl<N: NetKeeper> World<N> {
     /// stand for the world in which these were merged: for example all that its sender had received. NoCoordinator,
     /// HistoryFull, OutOfMemory. Then nothing has changed, except possibly whether a network is fresh.
     pub fn take(&mut self, at: u8, by: u32, mut packet: Packet) -> Result<(), Refusal>
-        ensures stands { (w : WorldOfSets) (sent : Sent) → WorldStandsFor self.old w → packet ≡ seen_packet sent
-            → OnOk result (WorldStandsFor self.new (taken_in w at by sent)) }
-        ensures accepted { (w : WorldOfSets) → WorldStandsFor self.old w
+        ensures stands { (w : WorldOfSets) (sent : Sent) → WorldRepresents self.old w → packet ≡ seen_packet sent
+            → OnOk result (WorldRepresents self.new (taken_in w at by sent)) }
+        ensures accepted { (w : WorldOfSets) → WorldRepresents self.old w
             → OnOk result (cause_of w (record { at = at; by = by; act = act.Take packet }) ≡ None) }
-        ensures err { (w : WorldOfSets) → WorldStandsFor self.old w
+        ensures err { (w : WorldOfSets) → WorldRepresents self.old w
             → IfErr result (λ refusal. refusal ≡ refusal_of w (record { at = at; by = by; act = act.Take packet })) }
         ensures unchanged { OnErr result (self.new ≡ self.old) }
     {
@@ -206,14 +206,14 @@ impl<N: NetKeeper> World<N> {
     /// from 0, and why. The steps before it are done. Two coordinators that received the same operations, in whatever
     /// order, number of times and packets, then have equal knowledge, name the same winners, and have one network.
     pub fn run(&mut self, steps: &[Step]) -> Result<(), RunStop>
-        ensures stands { (w : WorldOfSets) → WorldStandsFor self.old w
-            → WorldStandsFor self.new (run_of w (taken_by result steps.now)) }
-        ensures accepted { (w : WorldOfSets) → WorldStandsFor self.old w → AreAccepted w (taken_by result steps.now) }
-        ensures stopped { (w : WorldOfSets) → WorldStandsFor self.old w
+        ensures stands { (w : WorldOfSets) → WorldRepresents self.old w
+            → WorldRepresents self.new (run_of w (taken_by result steps.now)) }
+        ensures accepted { (w : WorldOfSets) → WorldRepresents self.old w → AreAccepted w (taken_by result steps.now) }
+        ensures stopped { (w : WorldOfSets) → WorldRepresents self.old w
             → IfErr result (λ stop. StopsAt w steps.now stop) }
-        ensures each_knows { (w : WorldOfSets) → WorldStandsFor self.old w
+        ensures each_knows { (w : WorldOfSets) → WorldRepresents self.old w
             → EachKnows self.new (run_of w (taken_by result steps.now)) }
-        ensures same_agree { (w : WorldOfSets) → WorldStandsFor self.old w
+        ensures same_agree { (w : WorldOfSets) → WorldRepresents self.old w
             → SameAgree self.new (run_of w (taken_by result steps.now)) }
     {
         for (place, step) in steps.iter().enumerate() {
@@ -228,7 +228,7 @@ impl<N: NetKeeper> World<N> {
     /// unchanged, also if the dump is refused: then a prefix was written. NoCoordinator, before anything is written;
     /// WriteFault, OutOfMemory.
     pub fn dump<W: Out>(&mut self, number: CoordId, out: &mut W) -> Result<(), Refusal>
-        ensures ok { (w : WorldOfSets) → WorldStandsFor self.old w
+        ensures ok { (w : WorldOfSets) → WorldRepresents self.old w
             → OnOk result (IsDumpOf (with_number w.replicas number) (W.written out.old) (W.written out.new)) }
         ensures ok_fails_not { OnOk result (W.has_failed out.new ≡ W.has_failed out.old) }
         ensures err { OnErr result (MatchOption (state_with self.old.coordinators number) (out.new ≡ out.old)

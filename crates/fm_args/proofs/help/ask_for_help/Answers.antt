@@ -1,5 +1,5 @@
 use Rattle.std.proofs.Common.{◌∙◌, ap, string_bytes, sym}
-use Rattle.fm_args.specs.Heard.{is_topic}
+use Rattle.fm_args.specs.CommandLine.{is_topic}
 use Rattle.fm_args.proofs.Helping.{few_ask_nothing, many_ask_nothing, one_topic}
 use Rattle.fm_args.proofs.help.ask_for_help.Goals as goal
 

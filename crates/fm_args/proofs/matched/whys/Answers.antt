@@ -1,7 +1,7 @@
 use Rattle.std.proofs.Common.{◌∙◌, ap₂}
 use Rattle.std.specs.Option.{option_map_or}
 use Rattle.fm_records.specs.Ids.{read_id}
-use Rattle.fm_args.specs.Telling.{run, why, wrong}
+use Rattle.fm_args.specs.Invocation.{run, why, wrong}
 use Rattle.fm_args.proofs.matched.whys.Goals as goal
 
 pub returns-in-Some : goal.returns-in-Some

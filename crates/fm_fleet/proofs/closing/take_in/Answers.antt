@@ -2,7 +2,7 @@ use Rattle.std.proofs.Common.{◌≡◌, ◌+◌, [], ◌∷◌, length, Some, s
 use Rattle.std.proofs.lemmas.Option.{slice_get_within, get_or_from_slice_get}
 use Rattle.std.proofs.lemmas.List.Sums.{sum_by-append}
 use Rattle.fm_fleet.specs.declared.seat.SeatLog.{SeatLog}
-use Rattle.fm_fleet.specs.Seats.{SeatSeen, length_of}
+use Rattle.fm_fleet.specs.Seats.{SeatModel, length_of}
 use Rattle.fm_fleet.proofs.Seating.{moves, stays, numbered_more}
 use Rattle.fm_fleet.proofs.closing.take_in.Goals as goal
 
@@ -30,10 +30,10 @@ loop-k-preserved g c =
     let here : slice_get xs at ≡ Some found.0 = ap (λ l. slice_get l at) (sym c.as_slice.ensures.value) ∙ found.1 in
     let there = slice_get_within xs at found.0 here in
     let number : y.number ≡ c.loop-k.k + 1 =
-    ap (λ (z : SeatSeen). z.number) (r.value ∙ get_or_from_slice_get xs at found.0 y here) ∙ found.2 in
+    ap (λ (z : SeatModel). z.number) (r.value ∙ get_or_from_slice_get xs at found.0 y here) ∙ found.2 in
     let log : SeatLog = record { seat = c.number.inside.number; entries = c.number.inside.log } in (
       moves c.args.seats.items xs now c.loop-k.logs.items c.push_reserved.new.self.items log y at inv.0 there r.value r.items p.items c.number.view_is,
-      rw p.items (numbered_more c.loop-k.logs.items log inv.1 (ap (λ (z : SeatSeen). z.number) c.number.view_is ∙ number ∙ omega (arith, inv.2, c.loop-k.logs.ok))),
+      rw p.items (numbered_more c.loop-k.logs.items log inv.1 (ap (λ (z : SeatModel). z.number) c.number.view_is ∙ number ∙ omega (arith, inv.2, c.loop-k.logs.ok))),
       omega (arith, p.len, inv.2),
       omega (arith, p.capacity, inv.3),
       omega (arith, c.merge.ensures.parts, inv.4, c.number.invariant.0),

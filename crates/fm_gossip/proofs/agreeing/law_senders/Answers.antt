@@ -1,6 +1,6 @@
 use Rattle.std.proofs.Common.{map, subst}
 use Rattle.fm_coord.specs.Numbers.{AreDistinct}
-use Rattle.fm_world.specs.Stands.{state_of}
+use Rattle.fm_world.specs.Represents.{state_of}
 use Rattle.fm_gossip.proofs.Numbers.{numbers_of}
 use Rattle.fm_gossip.proofs.Senders.{cut_by_senders}
 use Rattle.fm_gossip.proofs.agreeing.law_senders.Goals as goal

@@ -1,5 +1,5 @@
 use Rattle.std.proofs.Common.{ap, sym, ◌∙◌}
-use Rattle.fm_inbox.specs.declared.door.Door.{Door}
+use Rattle.fm_inbox.specs.declared.owned_port.OwnedPort.{OwnedPort}
 use Rattle.fm_gossip.specs.Used.{after_takes}
 use Rattle.fm_gossip.proofs.Columns.{on_ok, passed_through}
 use Rattle.fm_gossip.proofs.intake.pass_on.Goals as goal
@@ -10,6 +10,6 @@ returns-clause-merged g c =
     (λ m. (
       m.0,
       passed_through (λ d. d.port) c.args.doors.now c.put_all.new.doors c.args.place c.index-doors-place.result c.merge_all.new.own c.args.packet.now m.0.packets c.requires c.index-doors-place.is c.in_ok-put_all.ensures.put
-          (m.1 ∙ ap (λ (d : Door). after_takes d.port m.0.packets) (sym c.index-doors-place.is)),
+          (m.1 ∙ ap (λ (d : OwnedPort). after_takes d.port m.0.packets) (sym c.index-doors-place.is)),
     ))
     c.merge_all.ensures.merged

@@ -1,5 +1,5 @@
 use Rattle.std.proofs.Common.{rules, ◌+◌, ◌≤◌, ◌∙◌, ap, sym, vec_len, vec_capacity, arith}
-use Rattle.fm_fleet.specs.Seats.{SeatSeen}
+use Rattle.fm_fleet.specs.Seats.{SeatModel}
 use Rattle.fm_gossip.proofs.Ending.{both_seats}
 use Rattle.fm_gossip.proofs.Seated.{served}
 use Rattle.fm_gossip.proofs.Stopping.{neither}
@@ -15,7 +15,7 @@ end-coordinator-requires-clause-seats g c =
     let numbers = c.by_two-used.ensures.numbers in
     both_seats c.push_reserved-2.new.self.items c.push_reserved.new.self.items c.reserve.new.self.items c.by_two-used.result.one c.by_two-used.result.two
     (c.reserve.ensures.items ∙ c.new-room.ensures.items) c.push_reserved.ensures.items c.push_reserved-2.ensures.items
-    (numbers.0 ∙ ap (λ (s : SeatSeen). s.number) c.two_of-one.ensures.0) (numbers.1 ∙ ap (λ (s : SeatSeen). s.number) c.two_of-one.ensures.1)
+    (numbers.0 ∙ ap (λ (s : SeatModel). s.number) c.two_of-one.ensures.0) (numbers.1 ∙ ap (λ (s : SeatModel). s.number) c.two_of-one.ensures.1)
 
 pub returns : goal.returns
 returns g c = λ none.

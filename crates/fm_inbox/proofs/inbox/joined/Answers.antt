@@ -1,6 +1,6 @@
 use Rattle.std.proofs.Common.{arith, ap, ◌∙◌}
-use Rattle.fm_inbox.specs.declared.conservation.Account.{Account}
-use Rattle.fm_inbox.specs.Ports.{PortSeen, account_of, IsPortOf, seen_inbox, put_by, taken_weight}
+use Rattle.fm_inbox.specs.declared.conservation.PortAccount.{PortAccount}
+use Rattle.fm_inbox.specs.Ports.{PortModel, account_of, IsPortOf, seen_inbox, put_by, taken_weight}
 use Rattle.crossbeam_queue.specs.Passes.{ruled_capacity}
 use Rattle.fm_inbox.proofs.Keeps.{merges, weigh-append}
 use Rattle.fm_inbox.proofs.Rest.{weigh-last, all-last}
@@ -10,11 +10,11 @@ pub loop-port-init : goal.loop-port-init
 loop-port-init c =
     let port = c.in-Some.port in
     let e = c.in-Some.ensures.items in
-    let P : PortSeen → Type 0 = IsPortOf (seen_inbox c.args.queue.now.table.shared.table_id c.args.whole (ruled_capacity c.args.queue.now)) in
+    let P : PortModel → Type 0 = IsPortOf (seen_inbox c.args.queue.now.table.shared.table_id c.args.whole (ruled_capacity c.args.queue.now)) in
     let a = all-last P _ _ port e c.requires.ports in
     let v = c.pass_of-pass.ensures.known in (
       (c.pass_of-pass.ensures.pass.0 ∙ a.1.0, c.pass_of-pass.ensures.pass.1),
-      ap (λ (u : Account). u.whole) v ∙ a.1.1,
+      ap (λ (u : PortAccount). u.whole) v ∙ a.1.1,
       rw v (omega arith),
       rw v (omega (arith, c.in-Some.ensures.len, c.requires.some.1)),
       a.0,
@@ -29,7 +29,7 @@ loop-port-preserved c =
     let inv = c.loop-port.invariant in
     let port = c.in-Some-pop.port in
     let e = c.in-Some-pop.ensures.items in
-    let P : PortSeen → Type 0 = IsPortOf (seen_inbox c.args.queue.now.table.shared.table_id c.args.whole (ruled_capacity c.args.queue.now)) in
+    let P : PortModel → Type 0 = IsPortOf (seen_inbox c.args.queue.now.table.shared.table_id c.args.whole (ruled_capacity c.args.queue.now)) in
     let a = all-last P _ _ port e inv.4 in
     let v = c.pass_of.ensures.known in
     let w = c.absorb.ensures.rule in

@@ -1,5 +1,5 @@
 use Rattle.std.proofs.Common.{◌∷◌, [], arith, ap, ◌∙◌, length-append}
-use Rattle.fm_inbox.specs.declared.conservation.Account.{Account}
+use Rattle.fm_inbox.specs.declared.conservation.PortAccount.{PortAccount}
 use Rattle.fm_inbox.specs.Conservation.{weigh}
 use Rattle.fm_inbox.specs.Ports.{account_of}
 use Rattle.fm_inbox.proofs.Keeps.{pops, learns, weigh-append}
@@ -19,7 +19,7 @@ loop-i-init g c =
       rw same c.requires.whole.1,
       c.requires.room.0,
       omega (arith, e.rule.0, c.requires.room.2),
-      ap (λ (v : Account). v.put) same,
+      ap (λ (v : PortAccount). v.put) same,
       (λ h. rw same (omega (arith, ap (weigh h) c.requires.room.1))),
       rw same (omega (arith, all, e.rule.1.1)),
     )
@@ -44,7 +44,7 @@ loop-i-preserved g c =
       rw w inv.2,
       omega (arith, c.push_reserved.ensures.len, inv.3),
       omega (arith, c.push_reserved.ensures.capacity, inv.4),
-      ap (λ (v : Account). v.put) w ∙ inv.5,
+      ap (λ (v : PortAccount). v.put) w ∙ inv.5,
       (λ h. rw (w, c.push_reserved.ensures.items) (omega (arith, inv.6 h, weigh-append h (account_of c.loop-i.pass).taken (x ∷ []), weigh-append h c.loop-i.room.items (x ∷ [])))),
       rw w (omega (arith, inv.7, length-append (account_of c.loop-i.pass).taken (x ∷ []))),
     )

@@ -1,7 +1,7 @@
 use Rattle.std.proofs.Common.{◌≡◌, ℕ, List, None, refl, ◌∙◌, sym, ap, inr, subst, vec_items}
 use Rattle.std.specs.Option.{IsSomeAnd}
 use Rattle.fm_records.specs.Table.{Table}
-use Rattle.fm_records.specs.Know.{know}
+use Rattle.fm_records.specs.Know.{table_of}
 use Rattle.fm_query.specs.ReasonsText.{IsReasonsText}
 use Rattle.fm_query.proofs.Asking.{of_none, of_some}
 use Rattle.fm_query.proofs.query.reasons.Goals as goal
@@ -13,5 +13,5 @@ pub returns-in_ok-why_text-in-Some-clause-ok : goal.returns-in_ok-why_text-in-So
 returns-in_ok-why_text-in-Some-clause-ok g c = λ w h.
     let known : Table = c.knowledge.result.now in
     let text = subst (λ (t : List ℕ). IsReasonsText known c.args.task t) (sym (ap vec_items c.into_bytes.ensures.value)) c.in_ok-why_text-in-Some.ensures.ok in
-    of_some c.args.world.now w c.args.at h (λ o. IsSomeAnd o (λ r. IsReasonsText (know r.taken) c.args.task c.into_bytes.result.items)) _ c.in-Some.ensures
+    of_some c.args.world.now w c.args.at h (λ o. IsSomeAnd o (λ r. IsReasonsText (table_of r.taken) c.args.task c.into_bytes.result.items)) _ c.in-Some.ensures
     (λ r same. subst (λ (k : Table). IsReasonsText k c.args.task c.into_bytes.result.items) (c.knowledge.ensures ∙ same) text)

@@ -5,8 +5,8 @@ use Rattle.fm_net.specs.Nodes.{ends_cmp}
 use Rattle.fm_net.specs.NodeOrder.{ends_total, ends_exact}
 use Rattle.fm_net.specs.KeptLists.{rising_kept}
 use Rattle.fm_certificate.specs.Flows.{units_in}
-use Rattle.fm_round.specs.Planned.{units_over, plan_of_flow}
-use Rattle.fm_round.specs.Asked.{is_asked}
+use Rattle.fm_round.specs.PlanOfFlow.{units_over, plan_of_flow}
+use Rattle.fm_round.specs.PlanArcs.{is_asked}
 use Rattle.fm_round.proofs.Asked.{same_plan}
 use Rattle.fm_round.proofs.Over.{rising_over}
 use Rattle.fm_round.proofs.Results.{if_ok}

@@ -2,8 +2,8 @@ use Rattle.std.proofs.Common.{◌≡◌, ◌+◌, [], ◌∷◌, ◌++◌, sym, 
 use Rattle.std.specs.Prelude.{option_to_list}
 use Rattle.std.specs.List.{filter_map}
 use Rattle.std.proofs.lemmas.List.{take_more, drop_more, take-append-drop}
-use Rattle.fm_round.specs.Planned.{waits, tasks_of, machines_of, place_in_plan}
-use Rattle.fm_round.specs.Seating.{queue_of, placed_next, HasNoRepeat}
+use Rattle.fm_round.specs.PlanOfFlow.{waits, tasks_of, machines_of, place_in_plan}
+use Rattle.fm_round.specs.UnitQueues.{queue_of, placed_next, HasNoRepeat}
 use Rattle.fm_round.proofs.Pairing.{mapped_more, placed_as, left_behind}
 use Rattle.fm_round.proofs.from_units.places_of.Goals as goal
 

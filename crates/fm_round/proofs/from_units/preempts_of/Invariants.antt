@@ -1,6 +1,6 @@
 use Rattle.std.proofs.Common.{◌≡◌, ◌++◌, drop}
 use Rattle.std.specs.List.{filter_map}
-use Rattle.fm_round.specs.Planned.{unscheduled_in, preempt_of}
+use Rattle.fm_round.specs.PlanOfFlow.{unscheduled_in, preempt_of}
 use Rattle.fm_round.proofs.from_units.preempts_of.Given as goal
 
 abbrev pub invariant-loop-arc : goal.invariant-loop-arc

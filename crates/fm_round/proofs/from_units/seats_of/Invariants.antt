@@ -1,5 +1,5 @@
 use Rattle.std.proofs.Common.{◌≡◌, ◌++◌, drop}
-use Rattle.fm_round.specs.Planned.{seats}
+use Rattle.fm_round.specs.PlanOfFlow.{seats}
 use Rattle.fm_round.proofs.from_units.seats_of.Given as goal
 
 abbrev pub invariant-loop-arc : goal.invariant-loop-arc

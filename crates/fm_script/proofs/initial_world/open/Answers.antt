@@ -1,7 +1,7 @@
 use Rattle.std.proofs.Common.{◌<◌, length, map, sym, ap, ◌∙◌, subst, arith}
 use Rattle.fm_coord.specs.Numbers.{AreDistinct}
 use Rattle.fm_world.specs.Worlds.{opening_world}
-use Rattle.fm_world.specs.Stands.{number_of, opening_of, AreUnused, WorldStandsFor}
+use Rattle.fm_world.specs.Represents.{number_of, opening_of, AreUnused, WorldRepresents}
 use Rattle.fm_script.proofs.Opening.{limited, numbers_more, openings_more, unused_more, all_taken}
 use Rattle.fm_script.proofs.initial_world.open.Goals as goal
 
@@ -37,5 +37,5 @@ new-requires-clause-unused c = c.loop-number.invariant.unused
 
 pub returns : goal.returns
 returns c =
-    subst (λ cs. WorldStandsFor c.new.result (opening_world cs))
+    subst (λ cs. WorldRepresents c.new.result (opening_world cs))
     (c.loop-number.invariant.openings ∙ ap (map limited) (all_taken c.args.listed.now c.loop-number.number-index c.loop-number-test.false)) c.new.ensures.stands

@@ -1,5 +1,5 @@
 use Rattle.std.proofs.Common.{◌≡◌, map, take}
-use Rattle.fm_world.specs.Stands.{number_of, opening_of, AreUnused}
+use Rattle.fm_world.specs.Represents.{number_of, opening_of, AreUnused}
 use Rattle.fm_script.proofs.Opening.{limited}
 use Rattle.fm_script.proofs.initial_world.open.Given as goal
 

@@ -1,5 +1,5 @@
 use Rattle.std.proofs.Common.{◌≡◌, ◌++◌, map, drop}
-use Rattle.fm_world.specs.Stands.{state_of}
+use Rattle.fm_world.specs.Represents.{state_of}
 use Rattle.fm_serve.specs.Musters.{calls_of}
 use Rattle.fm_serve.proofs.muster.calls_of.Given as goal
 

@@ -1,6 +1,6 @@
 use Rattle.std.proofs.Common.{arith, map, ap, sym, subst, ◌∙◌}
 use Rattle.fm_coord.specs.Numbers.{AreDistinct}
-use Rattle.fm_world.specs.Stands.{state_of, number_of}
+use Rattle.fm_world.specs.Represents.{state_of, number_of}
 use Rattle.fm_world.specs.Listings.{IsWholeRun, IsWhole}
 use Rattle.fm_gossip.specs.Served.{AreServed}
 use Rattle.fm_gossip.specs.Members.{member_tasks}

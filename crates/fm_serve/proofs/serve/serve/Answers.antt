@@ -1,5 +1,5 @@
 use Rattle.std.proofs.Common.{refl, ap, inr, subst}
-use Rattle.fm_args.specs.Telling.{Telling}
+use Rattle.fm_args.specs.Invocation.{Telling}
 use Rattle.fm_serve.specs.declared.ending.Ending.TheVariants.{Stopped}
 use Rattle.fm_serve.specs.Output.{IsStoppedReading}
 use Rattle.fm_serve.proofs.serve.serve.Goals as goal

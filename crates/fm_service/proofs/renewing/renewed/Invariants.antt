@@ -1,7 +1,7 @@
 use Rattle.fm_world.specs.Worlds.{WorldOfSets}
-use Rattle.fm_world.specs.Stands.{WorldStandsFor}
+use Rattle.fm_world.specs.Represents.{WorldRepresents}
 use Rattle.fm_service.proofs.Anew.{halfway_world}
 use Rattle.fm_service.proofs.renewing.renewed.Given as goal
 
 abbrev pub invariant-loop-coordinator : goal.invariant-loop-coordinator
-invariant-loop-coordinator l = (w : WorldOfSets) → WorldStandsFor l.world w → WorldStandsFor l.anew (halfway_world l.coordinator-index w)
+invariant-loop-coordinator l = (w : WorldOfSets) → WorldRepresents l.world w → WorldRepresents l.anew (halfway_world l.coordinator-index w)

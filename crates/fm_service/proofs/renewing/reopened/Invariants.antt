@@ -1,5 +1,5 @@
 use Rattle.std.proofs.Common.{◌≡◌, map, take}
-use Rattle.fm_world.specs.Stands.{number_of}
+use Rattle.fm_world.specs.Represents.{number_of}
 use Rattle.fm_service.proofs.renewing.reopened.Given as goal
 
 abbrev pub invariant-loop-coordinator : goal.invariant-loop-coordinator

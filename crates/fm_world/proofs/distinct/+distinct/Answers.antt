@@ -1,5 +1,5 @@
 use Rattle.std.proofs.Common.{◌≡◌, ◌==◌, ◌∷◌, ◌∙◌, ℕ, is_none, true, false, position, ap, rules}
-use Rattle.fm_world.specs.Stands.{number_of}
+use Rattle.fm_world.specs.Represents.{number_of}
 use Rattle.fm_world.proofs.Numbers.{distinct_on, distinct_off}
 use Rattle.fm_world.proofs.distinct.+distinct.Goals as goal
 

@@ -1,7 +1,7 @@
 use Rattle.std.proofs.Common.{rules, ◌≡◌, ℕ, List, [], ◌∷◌, length, map, refl, sym, subst, ◌∙◌, arith, vec_len}
 use Rattle.std.proofs.lemmas.Bool.{eqb-true}
 use Rattle.fm_coord.specs.Numbers.{AreDistinct}
-use Rattle.fm_world.specs.Stands.{state_of}
+use Rattle.fm_world.specs.Represents.{state_of}
 use Rattle.fm_world.specs.Listings.{Halts}
 use Rattle.fm_world.proofs.Running.{same_numbers}
 use Rattle.fm_world.proofs.Visits.{whole_run, whole_accepted}

@@ -1,5 +1,5 @@
 use Rattle.std.proofs.Common.{rules, ◌≡◌, ◌<◌, ◌≤◌, ◌∙◌, ◌++◌, ◌∷◌, [], length, map, OnOk, ap, sym, subst}
-use Rattle.fm_world.specs.Stands.{state_of}
+use Rattle.fm_world.specs.Represents.{state_of}
 use Rattle.fm_world.specs.Sweeps.{left_at}
 use Rattle.fm_world.proofs.Left.{left_none, left_nowhere, left_first, left_further}
 use Rattle.fm_world.proofs.sweeping.+add_left.Goals.{then-place-history+in_ok-push, else-place-history}

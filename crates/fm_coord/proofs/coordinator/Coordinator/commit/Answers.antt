@@ -1,6 +1,6 @@
 use Rattle.std.proofs.Common.{◌≡◌, ◌∙◌, None, ap, sym, subst, rules}
 use Rattle.fm_records.specs.Table.{Table}
-use Rattle.fm_records.specs.Know.{know}
+use Rattle.fm_records.specs.Know.{table_of}
 use Rattle.fm_round.specs.declared.plan.Admitted.{Admitted}
 use Rattle.fm_round.specs.Admission.{admission}
 use Rattle.fm_coord.specs.declared.entry.Call.TheVariants as call
@@ -17,8 +17,8 @@ take_in-requires g c =
     let room : room_fault (bounds s) ≡ None = search rules in
     let came : c.in_ok-admitted.admitted ≡ admission s.knowledge s.number c.args.plan = c.in_ok-admitted.ensures ∙ c.in_ok-decided.ensures.admitted in
     let shared : c.in_ok-share.field-0 ≡ admission s.knowledge s.number c.args.plan = c.in_ok-share.ensures ∙ came in
-    let delta : c.in_ok-delta.delta ≡ know c.in_ok-admitted.admitted.ops = search rules in
-    let told : c.in_ok-delta.delta ≡ know (admission s.knowledge s.number c.args.plan).ops = delta ∙ ap (λ (a : Admitted). know a.ops) came in
+    let delta : c.in_ok-delta.delta ≡ table_of c.in_ok-admitted.admitted.ops = search rules in
+    let told : c.in_ok-delta.delta ≡ table_of (admission s.knowledge s.number c.args.plan).ops = delta ∙ ap (λ (a : Admitted). table_of a.ops) came in
     subst (λ (p : Table × Admitted). IsCoordinator (took s p.0 (history_entry c.args.by (call.Commit c.args.plan) (reply.Admitted p.1)))) (λ i. (sym told i, sym shared i))
     (keeps_commit s c.known.ensures.coordinator c.args.by c.args.plan room)
 
@@ -28,5 +28,5 @@ returns-clause-event g c =
     let room : room_fault (bounds s) ≡ None = search rules in
     let a : Admitted = c.in_ok-admitted.admitted in
     let came : a ≡ admission s.knowledge s.number c.args.plan = c.in_ok-admitted.ensures ∙ c.in_ok-decided.ensures.admitted in
-    let made : c.take_in.new.self.state ≡ took s (know a.ops) (history_entry c.args.by (call.Commit c.args.plan) (reply.Admitted a)) = search rules in
+    let made : c.take_in.new.self.state ≡ took s (table_of a.ops) (history_entry c.args.by (call.Commit c.args.plan) (reply.Admitted a)) = search rules in
     λ r st. committed s r st c.args.by c.take_in.new.self.state c.args.plan a came room made

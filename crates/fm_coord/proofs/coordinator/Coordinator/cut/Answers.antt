@@ -4,7 +4,7 @@ use Rattle.fm_coord.specs.declared.entry.Entry.{Entry}
 use Rattle.fm_coord.specs.declared.entry.Call.TheVariants as call
 use Rattle.fm_coord.specs.declared.entry.Reply.TheVariants as reply
 use Rattle.fm_coord.specs.Causes.{cause}
-use Rattle.fm_coord.specs.States.{State, bounds, history_entry, gave, cut_packet, StandsFor, IsCoordinator}
+use Rattle.fm_coord.specs.States.{State, bounds, history_entry, gave, cut_packet, Represents, IsCoordinator}
 use Rattle.fm_coord.proofs.Said.{same_state}
 use Rattle.fm_coord.proofs.Keeps.{keeps_cut}
 use Rattle.fm_coord.proofs.Happens.{gave_packet}
@@ -44,4 +44,4 @@ returns-clause-event g c =
     ap (λ (es : List Entry). record { number = t.number; limit = t.limit; knowledge = t.knowledge; deltas = t.deltas; cuts = t.cuts + 1; history = es }) items
     ∙ ap (λ (q : Packet). gave t (history_entry c.args.by (call.Cut c.args.range) (reply.Packet q))) shared
     ∙ ap (λ (u : State). gave u (history_entry c.args.by (call.Cut c.args.range) (reply.Packet p))) is in
-    λ r st. gave_packet s r (subst (λ (u : State). StandsFor u r) (sym same) st) c.args.by new c.args.range p c.in_ok-packet.ensures.ok none made
+    λ r st. gave_packet s r (subst (λ (u : State). Represents u r) (sym same) st) c.args.by new c.args.range p c.in_ok-packet.ensures.ok none made

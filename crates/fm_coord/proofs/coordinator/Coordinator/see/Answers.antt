@@ -1,7 +1,7 @@
 use Rattle.std.proofs.Common.{◌≡◌, ◌∙◌, ap, sym, subst}
 use Rattle.fm_records.specs.Table.{Table}
 use Rattle.fm_tally.specs.Tallies.{TallyIsFor}
-use Rattle.fm_coord.specs.States.{State, StandsFor}
+use Rattle.fm_coord.specs.States.{State, Represents}
 use Rattle.fm_coord.proofs.coordinator.Coordinator.see.Goals as goal
 
 pub returns-clause-tally : goal.returns-clause-tally
@@ -12,4 +12,4 @@ returns-clause-tally g c =
 pub returns-clause-event : goal.returns-clause-event
 returns-clause-event g c =
     let same : c.fresh_tally.new.self.state ≡ c.args.self.now.state = ap (λ s. s.state) c.in_ok-tally.ensures.same in
-    λ r st. c.in_ok-look.ensures.event r (subst (λ (s : State). StandsFor s r) (sym same) st)
+    λ r st. c.in_ok-look.ensures.event r (subst (λ (s : State). Represents s r) (sym same) st)

@@ -1,4 +1,4 @@
-use Rattle.fm_edit.specs.Memory.{none_out}
+use Rattle.fm_edit.specs.EditorState.{none_out}
 use Rattle.fm_edit.proofs.editor_state.EditorState.new.Goals as goal
 
 pub returns : goal.returns

@@ -2,7 +2,7 @@ use Rattle.std.proofs.Common.{◌≡◌, ℕ, true, cond, take}
 use Rattle.std.specs.Prelude.{◌&&◌, is_some}
 use Rattle.std.specs.Ordering.{nat_cmp, is_eq}
 use Rattle.fm_lattice.specs.Maps.{lookup}
-use Rattle.fm_edit.specs.Index.{lists_preferred}
+use Rattle.fm_edit.specs.TaskIndex.{lists_preferred}
 use Rattle.fm_edit.proofs.task_index.TaskIndex.list_preferred.Given as goal
 
 abbrev pub invariant-loop-entry : goal.invariant-loop-entry

@@ -2,8 +2,8 @@ use Rattle.std.proofs.Common.{◌≡◌, ℕ, true, cond, rules}
 use Rattle.std.specs.Ordering.{nat_cmp, is_eq}
 use Rattle.std.specs.Prelude.{◌&&◌, is_some}
 use Rattle.fm_lattice.specs.Maps.{lookup}
-use Rattle.fm_edit.specs.Sight.{seen_in, prefers_in}
-use Rattle.fm_edit.specs.Index.{lists_preferred}
+use Rattle.fm_edit.specs.CacheModel.{seen_in, prefers_in}
+use Rattle.fm_edit.specs.TaskIndex.{lists_preferred}
 use Rattle.fm_edit.proofs.Preferring.{listed_as_seen}
 use Rattle.fm_edit.proofs.task_index.TaskIndex.put_back.Goals as goal
 

@@ -1,5 +1,5 @@
 use Rattle.std.proofs.Common.{◌∙◌}
-use Rattle.fm_edit.specs.Sight.{seen_in}
+use Rattle.fm_edit.specs.CacheModel.{seen_in}
 use Rattle.fm_edit.proofs.Sums.{rises_on, put_step}
 use Rattle.fm_edit.proofs.task_index.TaskIndex.put_back_all.Goals as goal
 

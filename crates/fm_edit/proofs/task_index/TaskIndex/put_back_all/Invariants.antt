@@ -4,8 +4,8 @@ use Rattle.fm_records.specs.TableLaws.{Rises}
 use Rattle.fm_records.specs.Table.{Table}
 use Rattle.fm_records.specs.Ranges.{CanBe}
 use Rattle.fm_edit.specs.Dirty.{has_id}
-use Rattle.fm_edit.specs.Sight.{sight_of, seen_in}
-use Rattle.fm_edit.specs.Memory.{Counts}
+use Rattle.fm_edit.specs.CacheModel.{sight_of, seen_in}
+use Rattle.fm_edit.specs.EditorState.{Counts}
 use Rattle.fm_edit.proofs.task_index.TaskIndex.put_back_all.Given as goal
 
 abbrev pub invariant-loop-task : goal.invariant-loop-task

@@ -1,7 +1,7 @@
 use Rattle.std.proofs.Common.{◌∙◌, ap, false, cond}
 use Rattle.std.specs.Ordering.{is_eq}
 use Rattle.fm_records.specs.Options.{passes}
-use Rattle.fm_edit.specs.Index.{listed_cmp, lists}
+use Rattle.fm_edit.specs.TaskIndex.{listed_cmp, lists}
 use Rattle.fm_edit.proofs.Listings.{listed_both}
 use Rattle.fm_edit.proofs.task_index.TaskIndex.unlist.Goals as goal
 

@@ -4,7 +4,7 @@ use Rattle.std.specs.List.{list_any}
 use Rattle.std.specs.Ordering.{nat_cmp, is_eq}
 use Rattle.std.proofs.lemmas.List.{take_all}
 use Rattle.fm_lattice.specs.Maps.{lookup}
-use Rattle.fm_edit.specs.Index.{preferred_cmp, lists_preferred}
+use Rattle.fm_edit.specs.TaskIndex.{preferred_cmp, lists_preferred}
 use Rattle.fm_edit.proofs.Preferring.{one_more}
 use Rattle.fm_edit.proofs.task_index.TaskIndex.unlist_preferred.Goals as goal
 

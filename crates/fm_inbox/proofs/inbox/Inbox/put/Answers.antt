@@ -1,5 +1,5 @@
 use Rattle.std.proofs.Common.{OnErr, arith, sym, subst, ap}
-use Rattle.fm_inbox.specs.Ports.{InboxSeen, AloneHas}
+use Rattle.fm_inbox.specs.Ports.{InboxModel, AloneHas}
 use Rattle.fm_inbox.proofs.Keeps.{pushes, learns}
 use Rattle.fm_inbox.proofs.Rest.{alone}
 use Rattle.fm_inbox.proofs.inbox.Inbox.put.Goals.{in-Ok, in-Err}
@@ -13,5 +13,5 @@ returns-clause-full g c = elim c.match-push_as.branch [
   | in-Ok w ↦ subst (λ r. OnErr r (AloneHas c.args.self.now.size c.args.port.now)) (sym w.result-is) tt
   | in-Err w ↦
       let held = w.in-Err.ensures.rule.2 in
-      subst (λ r. OnErr r (AloneHas c.args.self.now.size c.args.port.now)) (sym w.result-is) (alone _ _ _ _ _ held.0 c.port.view_is (ap (λ (b : InboxSeen). b.size) c.self.view_is) held.1 c.port.invariant.1 held.2)
+      subst (λ r. OnErr r (AloneHas c.args.self.now.size c.args.port.now)) (sym w.result-is) (alone _ _ _ _ _ held.0 c.port.view_is (ap (λ (b : InboxModel). b.size) c.self.view_is) held.1 c.port.invariant.1 held.2)
 ]

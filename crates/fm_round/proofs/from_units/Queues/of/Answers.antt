@@ -2,7 +2,7 @@ use Rattle.std.proofs.Common.{◌≡◌, ◌+◌, [], ◌∷◌, ◌++◌, sym, 
 use Rattle.std.specs.Prelude.{◌==◌, option_to_list}
 use Rattle.std.proofs.lemmas.List.{take_more}
 use Rattle.fm_records.specs.Options.{when}
-use Rattle.fm_round.specs.Planned.{machines_of}
+use Rattle.fm_round.specs.PlanOfFlow.{machines_of}
 use Rattle.fm_round.proofs.Pairing.{mapped_more}
 use Rattle.fm_round.proofs.from_units.Queues.of.Goals as goal
 

@@ -2,7 +2,7 @@ use Rattle.std.proofs.Common.{ℕ, List, Some, refl, sym, ap, ◌∙◌, subst, 
 use Rattle.fm_records.specs.declared.refusal.Refusal.{Refusal}
 use Rattle.fm_script.specs.Requests.{Requests, RequestsNothing, request_model}
 use Rattle.fm_io.specs.Replies.{refusal_reply}
-use Rattle.fm_service.specs.Following.{Named, IsRefused}
+use Rattle.fm_service.specs.StreamSteps.{Named, IsRefused}
 use Rattle.fm_service.proofs.Results.{returned}
 use Rattle.fm_service.proofs.Sessions.{accepts}
 use Rattle.fm_service.proofs.session.Session.answer.Goals as goal

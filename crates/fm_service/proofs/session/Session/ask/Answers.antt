@@ -1,7 +1,7 @@
 use Rattle.std.proofs.Common.{sym, refl, ap, ◌∙◌, subst}
 use Rattle.fm_query.specs.declared.query.Query.{Query}
 use Rattle.fm_query.specs.Queries.{IsText, IsUnanswered}
-use Rattle.fm_service.specs.Following.{topic_query_at}
+use Rattle.fm_service.specs.StreamSteps.{topic_query_at}
 use Rattle.fm_service.proofs.Results.{returned}
 use Rattle.fm_service.proofs.Steps.{nobody_asked, numbered_so}
 use Rattle.fm_service.proofs.Sessions.{stays}

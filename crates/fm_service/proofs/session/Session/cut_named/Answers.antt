@@ -1,5 +1,5 @@
 use Rattle.std.proofs.Common.{◌≡◌, true, length, refl, ◌∙◌}
-use Rattle.fm_service.specs.Following.{named_also}
+use Rattle.fm_service.specs.StreamSteps.{named_also}
 use Rattle.fm_service.proofs.Steps.{counted}
 use Rattle.fm_service.proofs.session.Session.cut_named.Goals as goal
 

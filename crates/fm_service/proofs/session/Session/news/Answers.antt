@@ -2,8 +2,8 @@ use Rattle.std.proofs.Common.{◌≡◌, length, get_or, slice_set, refl, sym, a
 use Rattle.fm_world.specs.declared.step.Act.TheVariants as world
 use Rattle.fm_world.specs.Worlds.{with_number, refusal_of}
 use Rattle.fm_coord.specs.declared.entry.Range.{Range}
-use Rattle.fm_service.specs.Acting.{step_at, Cuts}
-use Rattle.fm_service.specs.Following.{Following, mark_at, news_of}
+use Rattle.fm_service.specs.WorldSteps.{step_at, Cuts}
+use Rattle.fm_service.specs.StreamSteps.{Following, mark_at, news_of}
 use Rattle.fm_service.specs.Sessions.{SessionAt}
 use Rattle.fm_service.proofs.Results.{returned}
 use Rattle.fm_service.proofs.Steps.{nobody_there, here, news_is, news_there}

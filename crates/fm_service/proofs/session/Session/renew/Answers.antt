@@ -1,5 +1,5 @@
 use Rattle.std.proofs.Common.{refl}
-use Rattle.fm_service.specs.Following.{fresh}
+use Rattle.fm_service.specs.StreamSteps.{fresh}
 use Rattle.fm_service.specs.Renewing.{renewed_world}
 use Rattle.fm_service.proofs.session.Session.renew.Goals as goal
 

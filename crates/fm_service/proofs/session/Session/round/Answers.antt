@@ -1,5 +1,5 @@
 use Rattle.std.proofs.Common.{refl}
-use Rattle.fm_service.specs.Following.{at_world}
+use Rattle.fm_service.specs.StreamSteps.{at_world}
 use Rattle.fm_service.proofs.Results.{if_ok}
 use Rattle.fm_service.proofs.session.Session.round.Goals as goal
 

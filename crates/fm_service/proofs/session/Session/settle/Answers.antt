@@ -1,5 +1,5 @@
 use Rattle.std.proofs.Common.{sym, subst}
-use Rattle.fm_world.specs.Stands.{AllStand}
+use Rattle.fm_world.specs.Represents.{AllStand}
 use Rattle.fm_service.proofs.Sessions.{settled}
 use Rattle.fm_service.proofs.session.Session.settle.Goals as goal
 

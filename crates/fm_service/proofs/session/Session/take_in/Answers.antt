@@ -1,7 +1,7 @@
 use Rattle.std.proofs.Common.{refl, subst}
 use Rattle.fm_world.specs.Worlds.{taken_in}
 use Rattle.fm_query.specs.Unpacked.{IsPacketIn}
-use Rattle.fm_service.specs.Following.{at_world, packet_by_ops}
+use Rattle.fm_service.specs.StreamSteps.{at_world, packet_by_ops}
 use Rattle.fm_service.proofs.Sessions.{seen_so}
 use Rattle.fm_service.proofs.session.Session.take_in.Goals as goal
 

@@ -1,12 +1,12 @@
 use Rattle.std.proofs.Common.{ℕ, List, [], None, Some, refl, sym, subst, inl, inr}
 use Rattle.fm_records.specs.declared.refusal.Refusal.{Refusal}
 use Rattle.fm_records.specs.declared.refusal.Refusal.TheVariants.{BadScript}
-use Rattle.fm_world.specs.Stands.{WorldStandsFor}
+use Rattle.fm_world.specs.Represents.{WorldRepresents}
 use Rattle.fm_script.specs.declared.request.Request.{Request}
 use Rattle.fm_script.specs.Requests.{Opens, Requests, RequestsNothing, request_model}
 use Rattle.fm_io.specs.Replies.{refusal_reply}
 use Rattle.fm_script.specs.Openings.{new_world}
-use Rattle.fm_service.specs.Following.{fresh, IsRefused}
+use Rattle.fm_service.specs.StreamSteps.{fresh, IsRefused}
 use Rattle.fm_service.proofs.Results.{returned}
 use Rattle.fm_service.proofs.Sessions.{too_early}
 use Rattle.fm_service.proofs.stream_service.StreamService.begin.Goals as goal
@@ -23,7 +23,7 @@ returns-in-Open-clause-ok c = λ behind.
     let listed = c.in-Open.listed.items in
     let k = fresh (new_world listed) in
     let heard = subst (λ (names : List (List ℕ)). Requests names c.args.line.now (request_model c.in_ok-listed.field-0)) c.new.ensures c.in_ok-listed.ensures.ok in
-    let stands = subst (λ (l : List ℕ). WorldStandsFor c.in_ok-world-in-Open.world (new_world l)) c.deref.ensures.value c.in_ok-world-in-Open.ensures in (
+    let stands = subst (λ (l : List ℕ). WorldRepresents c.in_ok-world-in-Open.world (new_world l)) c.deref.ensures.value c.in_ok-world-in-Open.ensures in (
       k,
       record {
         asked = Opens listed;

@@ -1,7 +1,7 @@
 use Rattle.std.proofs.Common.{◌≡◌, ◌==◌, Some, List, position, refl, sym, ap, ◌∙◌, subst}
 use Rattle.std.proofs.lemmas.List.Quantifiers.{position-Some}
 use Rattle.fm_coord.specs.States.{State}
-use Rattle.fm_world.specs.Stands.{Kept, IsReached, state_of, number_of, state_with}
+use Rattle.fm_world.specs.Represents.{Kept, IsReached, state_of, number_of, state_with}
 use Rattle.fm_world.proofs.Places.{found_at, missing, same_states}
 use Rattle.fm_world.proofs.Reached.{reached_still}
 use Rattle.fm_world.proofs.Runs.{dumped, at_none, at_some, on_err, if_err}

@@ -1,5 +1,5 @@
 use Rattle.std.proofs.Common.{subst}
-use Rattle.fm_world.specs.Stands.{IsReached}
+use Rattle.fm_world.specs.Represents.{IsReached}
 use Rattle.fm_world.proofs.Runs.{each_knows, same_agree}
 use Rattle.fm_world.proofs.world.World.known.Goals as goal
 

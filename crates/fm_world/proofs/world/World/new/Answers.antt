@@ -1,7 +1,7 @@
 use Rattle.std.proofs.Common.{List, map, subst}
 use Rattle.fm_coord.specs.States.{WithKeeper}
 use Rattle.fm_world.specs.Worlds.{opening_world}
-use Rattle.fm_world.specs.Stands.{state_of, opening_of, AllStand}
+use Rattle.fm_world.specs.Represents.{state_of, opening_of, AllStand}
 use Rattle.fm_world.proofs.Reached.{reached_at_first}
 use Rattle.fm_world.proofs.world.World.new.Goals as goal
 

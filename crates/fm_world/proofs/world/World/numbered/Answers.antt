@@ -1,5 +1,5 @@
 use Rattle.std.proofs.Common.{◌==◌, position, sym, ap, ◌∙◌}
-use Rattle.fm_world.specs.Stands.{Kept, number_of, state_with}
+use Rattle.fm_world.specs.Represents.{Kept, number_of, state_with}
 use Rattle.fm_world.proofs.Places.{found_at, missing}
 use Rattle.fm_world.proofs.world.World.numbered.Goals as goal
 

@@ -3,7 +3,7 @@ use Rattle.fm_coord.specs.declared.entry.Call.TheVariants as call
 use Rattle.fm_coord.specs.Causes.{refusal_for}
 use Rattle.fm_coord.specs.StepLaws.{same_bounds}
 use Rattle.fm_world.specs.declared.step.Act.TheVariants as act
-use Rattle.fm_world.specs.Stands.{number_of, IsReached}
+use Rattle.fm_world.specs.Represents.{number_of, IsReached}
 use Rattle.fm_world.proofs.Reached.{reached_by}
 use Rattle.fm_world.proofs.Acts.{by_cause}
 use Rattle.fm_world.proofs.Steps.{nobody, named, refuses, sees, seen_acted, still, stands_on, accepts, stays}

@@ -1,5 +1,5 @@
 use Rattle.std.proofs.Common.{◌==◌, position, ap, ◌∙◌, subst}
-use Rattle.fm_world.specs.Stands.{number_of, IsReached}
+use Rattle.fm_world.specs.Represents.{number_of, IsReached}
 use Rattle.fm_world.proofs.Reached.{reached_by}
 use Rattle.fm_world.proofs.Steps.{nobody, named, refuses, shows, stands_on, accepts, stays}
 use Rattle.fm_world.proofs.world.World.step.Goals as goal

@@ -1,4 +1,0 @@
-use Rattle.fm_serve.proofs.watch.serve_beside.Goals as goal
-
-pub returns : goal.returns
-returns g c = c.serve-ending.ensures
