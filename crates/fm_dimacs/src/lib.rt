@@ -4,10 +4,10 @@
 mod arc_lines;
 mod decimals;
 pub mod dump;
-mod retry;
 pub mod laws;
 pub mod out;
-pub mod write_all;
 pub mod read;
-mod tokens;
+mod retry;
 pub mod solution;
+mod tokens;
+pub mod write_all;

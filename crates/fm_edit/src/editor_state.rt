@@ -14,8 +14,8 @@ ghost use Rattle.fm_edit.specs.EditorState.{Remembers, IsEditorState};
 ghost use Rattle.fm_edit.specs.Affected.{TouchesOnlyDirty};
 
 use crate::affected::Touched;
-use crate::cache_updates::{machines_now, see};
 use crate::affected_pairs::touch_pairs;
+use crate::cache_updates::{machines_now, see};
 use crate::dirty::{dirty_tasks, turned};
 use crate::look::Look;
 use crate::record_cache::RecordCache;

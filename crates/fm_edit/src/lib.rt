@@ -3,15 +3,15 @@
 #![tactic(auto)]
 
 mod affected;
-mod cache_updates;
 mod affected_pairs;
+mod cache_updates;
 pub mod deferred;
+mod diff;
 mod dirty;
 pub mod editor;
 mod editor_state;
 pub mod keepers;
 pub mod laws;
-mod diff;
 pub mod look;
 mod record_cache;
 mod shown;

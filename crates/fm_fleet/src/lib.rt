@@ -10,4 +10,4 @@ pub mod round;
 pub mod seat;
 
 // The inboxes by which nodes pass packets on.
-pub use fm_inbox::{owned_port, inbox};
+pub use fm_inbox::{inbox, owned_port};

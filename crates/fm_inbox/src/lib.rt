@@ -2,5 +2,5 @@
 #![tactic(auto)]
 
 mod conservation;
-pub mod owned_port;
 pub mod inbox;
+pub mod owned_port;

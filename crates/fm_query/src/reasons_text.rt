@@ -8,7 +8,7 @@ use fm_know::knowledge::Knowledge;
 use fm_net::node::Node;
 use fm_records::ids::{MachineId, TaskId};
 use fm_records::refusal::Refusal;
-use fm_why::reasons::{Change, Choice, Choices, Alternative, Move, Reasons, Remedy, SHOWN};
+use fm_why::reasons::{Alternative, Change, Choice, Choices, Move, Reasons, Remedy, SHOWN};
 use fm_why::why::why;
 use std::alloc::Global;
 

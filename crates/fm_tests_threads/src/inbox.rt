@@ -1,6 +1,6 @@
 use fm_delta::packet::Packet;
-use fm_inbox::owned_port::{OwnedPort, PortPool};
 use fm_inbox::inbox::Inbox;
+use fm_inbox::owned_port::{OwnedPort, PortPool};
 use fm_know::knowledge::Knowledge;
 use fm_records::ids::CoordId;
 use fm_records::refusal::Refusal;

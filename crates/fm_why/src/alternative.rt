@@ -8,7 +8,7 @@ ghost use Rattle.fm_why.specs.Alternatives.{IsExample, IsExampleFor, move_over, 
 
 use crate::bounds::CertifiedFlow;
 use crate::feasible::{Target, has_units, is_feasible, runs_on};
-use crate::reasons::{Choice, Alternative, Move};
+use crate::reasons::{Alternative, Choice, Move};
 use crate::tighten::Shift;
 use fm_certificate::cost::cost;
 use fm_certificate::flow::Flow;

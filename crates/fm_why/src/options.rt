@@ -9,7 +9,7 @@ ghost use Rattle.fm_why.specs.MachineOptions.{IsOnlyRequest, cost_at, lesser, wa
 ghost use Rattle.fm_why.specs.Schedule.{IsSchedule};
 ghost use Rattle.fm_why.specs.Reasons.{IsChoice};
 
-use crate::bounds::{CertifiedFlow, ArcGap, more_over, toll_of};
+use crate::bounds::{ArcGap, CertifiedFlow, more_over, toll_of};
 use crate::reasons::Choice;
 use fm_know::knowledge::Knowledge;
 use fm_lattice::join::OutOfMemory;

@@ -9,11 +9,11 @@ ghost use Rattle.fm_why.specs.Schedule.{IsSchedule};
 ghost use Rattle.fm_why.specs.Remedies.{IsRemedy};
 ghost use Rattle.fm_why.specs.Reasons.{AreChoices, AreReasons};
 
+use crate::alternative::examples_on;
 use crate::bounds::{CertifiedFlow, more_over};
 use crate::changes::remedies_of;
-use crate::options::choices_of;
-use crate::alternative::examples_on;
 use crate::feasible::has_units;
+use crate::options::choices_of;
 use crate::reasons::{Choice, Choices, Reasons, Remedy, SHOWN};
 use crate::tighten::Paths;
 use fm_certificate::check::check;
