@@ -3,12 +3,12 @@
 
 pub mod agree;
 pub mod packet_text;
-pub mod plans;
+pub mod plan_text;
 pub mod query;
 pub mod reasons_text;
 pub mod round_text;
 pub mod solution_text;
-pub mod stops;
+pub mod stops_text;
 mod text_lines;
 pub mod unpack;
 pub mod winners_text;

@@ -7,7 +7,7 @@ use crate::agree::{agreement_text, difference};
 use crate::packet_text::packet_line;
 use crate::reasons_text::why_text;
 use crate::solution_text::{least_plan_text, solution_text};
-use crate::stops::stops_text;
+use crate::stops_text::stops_text;
 use crate::winners_text::winners_text;
 use fm_dimacs::out::Over;
 use fm_policy::keeper::NetKeeper;

@@ -6,7 +6,7 @@ ghost use Rattle.fm_round.specs.Schedules.{IsPlanOf};
 ghost use Rattle.fm_query.specs.PlanText.{IsPlanText};
 ghost use Rattle.fm_query.specs.QueryTexts.{IsSolution};
 
-use crate::plans::plan_text;
+use crate::plan_text::plan_text;
 use fm_coord::coordinator::Coordinator;
 use fm_dimacs::out::Over;
 use fm_dimacs::solution::write_solution;
