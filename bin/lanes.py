@@ -1,8 +1,8 @@
 """How the gate's tasks are laid out over processors and memory.
 
-Proofs come first, and of these the one with the most minutes of others behind it. It gets as many jobs as there are processors; the
-other proofs share what is left. Wrong bodies and tests run at a lower priority in what the proofs leave free, so they never hold a proof up.
-A task without work ends at once. Minutes are those of budget.json, or estimated by lines.
+Proofs come first, and of these the one with the most minutes of others behind it. It gets two jobs while other tasks are ready, since each
+further job costs a fifth more work, and else as many as there are processors; the other proofs share what is left. Wrong bodies and tests
+run at a lower priority in what the proofs leave free, so they never hold a proof up. A task without work ends at once. Minutes are those of budget.json, or estimated by lines.
 """
 import os
 import threading
@@ -12,8 +12,10 @@ from concurrent.futures import FIRST_COMPLETED, ThreadPoolExecutor, wait
 CALM = 10
 # minutes of a line that budget.json does not know, and the share of its minutes that a proof takes with all processors
 OF_A_LINE, WITH_ALL = 0.0025, 0.6
-# what a further job takes of the memory of the first, as the toolchain has it, and what tasks take at most of the memory that it reckons
-OF_A_JOB, OF_RECKONED = 0.6, 0.75
+# what a further job takes of the memory of the first, and what tasks take at most of the memory that the toolchain reckons, as measured
+OF_A_JOB, OF_RECKONED = 0.2, 0.7
+# the jobs of the first proof while other tasks could run
+FIRST = 2
 
 
 def calmly(call, *given):
@@ -47,10 +49,11 @@ class Lanes:
         return [key for key in self.left if all(low in self.given for low in self.tasks[key][0])]
 
     def jobs(self, key, ready, room):
-        """How many jobs a proof gets: all if it has the longest chain behind it, and else its share."""
+        """How many jobs a proof gets: two, or all if nothing else could run, if it has the longest chain behind it, and else its share."""
         others = [it for it in (*self.running, *ready) if is_proof(it) and it != key]
         is_first = all(self.behind[key] > self.behind[it] for it in others)
-        wanted = self.processors if is_first else self.processors // (1 + len(others))
+        has_fillers = not all(map(is_proof, ready))
+        wanted = (FIRST if has_fillers else self.processors) if is_first else self.processors // (1 + len(others))
         most = 1 + int((room / self.tasks[key][2] - 1) / OF_A_JOB)
         return max(1, min(wanted, most, 4))
 

@@ -72,6 +72,9 @@ def laid_out():
     made.add("alone", "proof", memory=10)
     made.run()
     yield "a proof that is alone gets all processors", made.jobs["alone", "proof"] == 4
+    made.add("tests", "tests")
+    made.run()
+    yield "and two if another task could run", made.jobs["alone", "proof"] == 2
     made = Tasks()
     for number in range(4):
         made.add(f"crate{number}", "proof")
