@@ -57,72 +57,72 @@ static READ_STEPS: [(&str, &str, &str); 15] = [
     (
         r#"{"at":0,"cut":{"name":"a","from":0,"to":18446744073709551615}}"#,
         r#"{"a": ()}"#,
-        "[Step { at: 0, act: Cut(Interval(0, 18446744073709551615)) }]",
+        "[ScriptStep { at: 0, act: Cut(Interval(0, 18446744073709551615)) }]",
     ),
     (
         r#"{"at":1,"cut":{"name":"a","from":7,"to":2}}"#,
         r#"{"a": ()}"#,
-        "[Step { at: 1, act: Cut(Interval(7, 2)) }]",
+        "[ScriptStep { at: 1, act: Cut(Interval(7, 2)) }]",
     ),
     (
         r#"{"cut":{"name":"a"},"at":255}"#,
         r#"{"a": ()}"#,
-        "[Step { at: 255, act: Cut(Full) }]",
+        "[ScriptStep { at: 255, act: Cut(Full) }]",
     ),
     (
         r#"{"at":1,"cut":{"more":[0],"name":"","by":null}}"#,
         r#"{"": ()}"#,
-        "[Step { at: 1, act: Cut(Full) }]",
+        "[ScriptStep { at: 1, act: Cut(Full) }]",
     ),
     (
         r#"{"at":1,"cut":{"more":0,"to":2,"name":"a","from":1}}"#,
         r#"{"a": ()}"#,
-        "[Step { at: 1, act: Cut(Interval(1, 2)) }]",
+        "[ScriptStep { at: 1, act: Cut(Interval(1, 2)) }]",
     ),
     (
         r#"{"at":1,"cut":{"name":"a","from":null,"name":"b","to":1,"from":0}}"#,
         r#"{"b": ()}"#,
-        "[Step { at: 1, act: Cut(Interval(0, 1)) }]",
+        "[ScriptStep { at: 1, act: Cut(Interval(0, 1)) }]",
     ),
     (
         r#"{"at":1,"deliver":"a"}"#,
         "{}",
-        "[Step { at: 1, act: Deliver(0) }]",
+        "[ScriptStep { at: 1, act: Deliver(0) }]",
     ),
     (
         r#"{"at":1,"cut":{"name":"b"}},{"at":2,"deliver":"a"},{"at":3,"cut":{"name":"a"}}"#,
         r#"{"b": (), "a": ()}"#,
-        "[Step { at: 1, act: Cut(Full) }, Step { at: 2, act: Deliver(1) }, Step { at: 3, act: Cut(Full) }]",
+        "[ScriptStep { at: 1, act: Cut(Full) }, ScriptStep { at: 2, act: Deliver(1) }, ScriptStep { at: 3, act: Cut(Full) }]",
     ),
     (
         r#"{"at":1,"cut":{"name":"b"}},{"at":2,"cut":{"name":"a"}},{"at":3,"deliver":"b"},{"at":4,"deliver":"a"}"#,
         r#"{"b": (), "a": ()}"#,
-        "[Step { at: 1, act: Cut(Full) }, Step { at: 2, act: Cut(Full) }, Step { at: 3, act: Deliver(0) }, Step { at: 4, act: Deliver(1) }]",
+        "[ScriptStep { at: 1, act: Cut(Full) }, ScriptStep { at: 2, act: Cut(Full) }, ScriptStep { at: 3, act: Deliver(0) }, ScriptStep { at: 4, act: Deliver(1) }]",
     ),
     (
         r#"{"at":1,"cut":{"name":"a"}},{"at":2,"deliver":"A"},{"at":3,"deliver":""}"#,
         r#"{"a": ()}"#,
-        "[Step { at: 1, act: Cut(Full) }, Step { at: 2, act: Deliver(1) }, Step { at: 3, act: Deliver(1) }]",
+        "[ScriptStep { at: 1, act: Cut(Full) }, ScriptStep { at: 2, act: Deliver(1) }, ScriptStep { at: 3, act: Deliver(1) }]",
     ),
     (
         r#"{"at":1,"trim":0}"#,
         "{}",
-        "[Step { at: 1, act: Trim(0) }]",
+        "[ScriptStep { at: 1, act: Trim(0) }]",
     ),
     (
         r#"{"at":1,"trim":18446744073709551615}"#,
         "{}",
-        "[Step { at: 1, act: Trim(18446744073709551615) }]",
+        "[ScriptStep { at: 1, act: Trim(18446744073709551615) }]",
     ),
     (
         r#"{"at":1,"round":true}"#,
         "{}",
-        "[Step { at: 1, act: Round }]",
+        "[ScriptStep { at: 1, act: Round }]",
     ),
     (
         r#"{"at":2,"round":true},{"round":true,"at":2}"#,
         "{}",
-        "[Step { at: 2, act: Round }, Step { at: 2, act: Round }]",
+        "[ScriptStep { at: 2, act: Round }, ScriptStep { at: 2, act: Round }]",
     ),
 ];
 
@@ -134,11 +134,11 @@ static READ_LINES: [(&str, &str); 15] = [
     ),
     (
         r#"{"at":255,"trim":7}"#,
-        "Do(Step { at: 255, act: Trim(7) })",
+        "Do(ScriptStep { at: 255, act: Trim(7) })",
     ),
     (
         r#"{"deliver":"b","at":1}"#,
-        "Do(Step { at: 1, act: Deliver(1) })",
+        "Do(ScriptStep { at: 1, act: Deliver(1) })",
     ),
     (
         r#"{"at":1,"cut":{}}"#,
@@ -183,7 +183,7 @@ fn each_kind_of_operation_is_read(rt: HostRuntime) -> Result<(), Fail> {
             "{{\"coordinators\":[64],\"more\":0,\"steps\":[{{\"tell\":{op},\"at\":255}}]}}"
         )?;
         let wanted = format!(in alloc;
-            "Script {{ coordinators: [CoordId {{ number: 64 }}], names: Names {{ alloc: Global, places: {{}} }}, steps: [Step {{ at: 255, act: Tell({read}) }}] }}"
+            "Script {{ coordinators: [CoordId {{ number: 64 }}], names: Names {{ alloc: Global, places: {{}} }}, steps: [ScriptStep {{ at: 255, act: Tell({read}) }}] }}"
         )?;
         assert_eq!(rt; printed(alloc, text.as_str())?, wanted);
     }
