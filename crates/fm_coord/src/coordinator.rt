@@ -217,8 +217,8 @@ impl<N: NetKeeper> Coordinator<N> {
 
     // Takes a delta in with its entry, or does nothing.
     fn take_in(&mut self, delta: Knowledge, entry: Entry) -> Result<(), OutOfMemory>
-        requires { IsCoordinator (took self.old.state delta history_entry) }
-        ensures ok { OnOk result (self.new.state ≡ took self.old.state delta history_entry) }
+        requires { IsCoordinator (took self.old.state delta entry) }
+        ensures ok { OnOk result (self.new.state ≡ took self.old.state delta entry) }
         ensures keeper { OnOk result (N.absorbs self.old.keeper (changed_keys delta) self.new.keeper) }
         ensures err { OnErr result (self.new ≡ self.old) }
     {
@@ -530,8 +530,8 @@ impl<N: NetKeeper> Coordinator<N> {
 
     // Adds an entry alone.
     fn note(&mut self, entry: Entry) -> Result<(), OutOfMemory>
-        requires { IsCoordinator (with_entry self.old.state history_entry) }
-        ensures ok { OnOk result (self.new.state ≡ with_entry self.old.state history_entry) }
+        requires { IsCoordinator (with_entry self.old.state entry) }
+        ensures ok { OnOk result (self.new.state ≡ with_entry self.old.state entry) }
         ensures keeper { self.new.keeper ≡ self.old.keeper }
         ensures err { OnErr result (self.new.state ≡ self.old.state) }
     {
@@ -647,7 +647,7 @@ fn add_delta(
     requires { end_of buffer.old.deltas + 1 < 2 ^ 64 }
     ensures knowledge { OnOk result (knowledge.new ≡ table_join knowledge.old delta) }
     ensures deltas { OnOk result (buffer.new.deltas ≡ with_delta buffer.old.deltas delta) }
-    ensures history { OnOk result (history.new.items ≡ history.old.items ++ history_entry ∷ []) }
+    ensures history { OnOk result (history.new.items ≡ history.old.items ++ entry ∷ []) }
     ensures same_knowledge { OnErr result (knowledge.new ≡ knowledge.old) }
     ensures same_deltas { OnErr result (buffer.new.deltas ≡ buffer.old.deltas) }
     ensures same_history { OnErr result (history.new.items ≡ history.old.items) }
