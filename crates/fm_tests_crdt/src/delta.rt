@@ -1,3 +1,5 @@
+//! Buffers of deltas, with their cuts and trims, and packets.
+
 use crate::told::{are_same, delta, known, packet};
 use fm_delta::buffer::Buffer;
 use fm_delta::packet::Packet;

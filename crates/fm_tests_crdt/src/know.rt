@@ -1,3 +1,5 @@
+//! Knowledge of one operation and of several, joined.
+
 use crate::told::{delta, join, known};
 use fm_know::knowledge::Knowledge;
 use fm_lattice::join::Join;

@@ -1,3 +1,5 @@
+//! Each constructor of the lattice, maps, and shared values.
+
 use fm_lattice::constructors::{Both, Lex, Max, Min, Opt};
 use fm_lattice::join::{Join, OutOfMemory, copied, law_assoc, law_comm, law_idem};
 use fm_lattice::map::JoinMap;

@@ -1,3 +1,5 @@
+//! Ids, operations with their ranges, records with their orders, and refusals.
+
 use fm_lattice::constructors::{Both, Lex, Max, Min, Opt};
 use fm_lattice::join::{Join, OutOfMemory};
 use fm_lattice::map::JoinMap;

@@ -1,3 +1,5 @@
+//! Packets as bytes: what is written and read, and the place of each kind of fault.
+
 use crate::told::{are_same, packet};
 use fm_delta::packet::Packet;
 use fm_records::ids::{JobId, MachineId, TaskId};

@@ -1,3 +1,5 @@
+//! The calls of one coordinator, and how often its keeper builds.
+
 ghost use Rattle.std.specs.Prelude.{◌≡◌, Some, is_some, IsTrue};
 ghost use Rattle.fm_net.specs.Network.{net_of};
 

@@ -1,3 +1,5 @@
+//! The keeper of the program: at which reads it edits, and at which it builds.
+
 use crate::views::machine;
 use fm_coord::coordinator::Coordinator;
 use fm_edit::deferred::Deferred;

@@ -1,3 +1,5 @@
+//! Histories that form one list of steps, and histories that do not.
+
 ghost use Rattle.std.specs.Prelude.{◌≡◌, [], IfOk};
 
 use fm_coord::coordinator::Coordinator;

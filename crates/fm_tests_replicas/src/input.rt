@@ -1,3 +1,5 @@
+//! Scripts and lines of a stream: each kind of operation, step and line is read.
+
 use fm_script::names::Names;
 use fm_script::parse_request::read_request;
 use fm_script::parse_script::read_script;

@@ -1,3 +1,5 @@
+//! Readers and writers that fail or are interrupted.
+
 use fm_dimacs::out::Over;
 use fm_io::input::read_input;
 use fm_io::sending::send;

@@ -1,3 +1,5 @@
+//! Views that are held while their coordinator goes on.
+
 use fm_coord::coordinator::Coordinator;
 use fm_coord::view::View;
 use fm_edit::editor::Editor;

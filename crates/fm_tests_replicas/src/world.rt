@@ -1,3 +1,5 @@
+//! Steps of a world, accepted and refused, and its dumps.
+
 ghost use Rattle.std.specs.Prelude.{◌≡◌, [], IfOk};
 
 use fm_coord::coordinator::Coordinator;

@@ -1,3 +1,5 @@
+//! Looking up records, and keepers that edit.
+
 ghost use Rattle.std.specs.Prelude.{IsTrue};
 ghost use Rattle.fm_edit.specs.EditorModel.{is_fresh_editor, IsFor};
 

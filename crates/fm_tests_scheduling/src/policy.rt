@@ -1,3 +1,5 @@
+//! The keys of a delta, and a keeper that rebuilds.
+
 use fm_know::knowledge::Knowledge;
 use fm_policy::changed::{Changed, changed_of};
 use fm_policy::keeper::NetKeeper;

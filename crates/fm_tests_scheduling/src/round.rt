@@ -1,3 +1,5 @@
+//! Plans, their admission, and stops.
+
 ghost use Rattle.std.specs.Prelude.{◌≡◌};
 ghost use Rattle.fm_net.specs.declared.node.Node.{Node as NodeName};
 

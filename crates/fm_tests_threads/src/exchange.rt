@@ -1,3 +1,5 @@
+//! Fleets: what their members merge, and when their threads wait.
+
 use crate::held::Held;
 use fm_coord::coordinator::Coordinator;
 use fm_coord::entry::{Call, Entry};

@@ -1,3 +1,5 @@
+//! Nodes with their seats, rounds, and audits.
+
 ghost use Rattle.std.specs.Prelude.{◌≡◌, length, IfOk};
 
 use fm_coord::coordinator::Coordinator;

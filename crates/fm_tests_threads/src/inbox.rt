@@ -1,3 +1,5 @@
+//! Inboxes that threads share.
+
 use fm_delta::packet::Packet;
 use fm_inbox::inbox::Inbox;
 use fm_inbox::owned_port::{OwnedPort, PortPool};
