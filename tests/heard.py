@@ -14,9 +14,9 @@ TOPICS = (*BARE, *NUMBERED, *NAMED, "help")
 # the task of coordinator 3, of which 7 does not know (`tells`)
 TASK = "00000000-0000-0000-0000-%012x" % 3003
 AT = "at", 0, 255
-HELP, PAGE, WRONG = ("help",), ("refusals",), ("wrong",)
+HELP, PAGE, VERSION, WRONG = ("help",), ("refusals",), ("version",), ("wrong",)
 # words of which there are all command lines of up to two
-WORDS = (*TOPICS, "refusals", "grapf", "--", "-", "", "--help", "--help=x", "-h", "-hx", "-x", "-é", "--at", "--at=7", "--rounds",
+WORDS = (*TOPICS, "refusals", "grapf", "--", "-", "", "--help", "--help=x", "-h", "-hx", "-x", "-é", "--version", "--version=1", "-V", "-Vx", "--at", "--at=7", "--rounds",
          "--rounds=3", "--renew-after=3", "--name", "7", "-7", "a", "a=b", "é")
 # and what may stand behind a command, and behind that
 NUMBERS = ("0", "1", "7", "007", "+7", "-0", "-7", "-+7", "255", "256", "1000", "1001", "1000000", "1000001", "1.0", "x", "", "-")
@@ -91,6 +91,8 @@ def told(words):
     """What the words behind the program's name ask for."""
     if not words:
         return WRONG
+    if words in (["--version"], ["-V"]):
+        return VERSION
     first, *rest = words
     if first == "help":
         if rest == ["refusals"]:
@@ -110,6 +112,8 @@ def shortest(asked):
     command, *given = asked
     if command == "refusals":
         return ["help", "refusals"]
+    if command == "version":
+        return ["--version"]
     if command in NAMED:
         name, *at = given
         return [command, *("--at=%d" % number for number in at if number is not None), "--", name]

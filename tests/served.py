@@ -410,6 +410,8 @@ WRITES = [
     ("pack p1", "J CutFirst", 0, 100, 6, "", WRITE_FAULT),
     ("fleet", "J A T", 0, 100, 6, "", WRITE_FAULT),
     ("help refusals", "", 0, 100, 6, "", WRITE_FAULT),
+    ("--version", "", 0, 100, 6, "", WRITE_FAULT),
+    ("--version", "", 10, 100, 6, "firmament ", WRITE_FAULT),
 ]
 
 

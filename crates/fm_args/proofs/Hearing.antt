@@ -11,7 +11,7 @@ use Rattle.clap.proofs.OnLiterals.{clap_on_literals}
 use Rattle.fm_lattice.specs.declared.join.OutOfMemory.{OutOfMemory}
 use Rattle.fm_args.specs.declared.words.Words.{Words}
 use Rattle.fm_args.specs.Invocation.{Telling, Text, help, page, told_of, wrong}
-use Rattle.fm_args.specs.CommandLine.{Form, ask_for_refusals, command_named, commands, telling_of_words, telling_of, look_of, look_telling}
+use Rattle.fm_args.specs.CommandLine.{Form, ask_for_refusals, ask_for_version, command_named, commands, telling_of_words, telling_of, telling_of_first, look_of, look_telling}
 use Rattle.fm_args.specs.Parser.{IsOneOf, asks_for_help, begins_with_help, firmament, tellings, told_of_error, told_at_error}
 use Rattle.fm_args.proofs.Same.{flipped}
 use Rattle.fm_args.proofs.Commands.{Each, IsTold, each_told}
@@ -45,7 +45,7 @@ by_first program w rest t no_help h = go (command_named w) refl
     go None is = other program w rest is no_help t h
 
 -- of words that do not begin with `help` the parser tells
-is_heard : (all : List Text) (t : Telling) → begins_with_help all ≡ false → IsOneOf t (tellings all) → t ≡ telling_of all
+is_heard : (all : List Text) (t : Telling) → begins_with_help all ≡ false → IsOneOf t (tellings all) → t ≡ telling_of_first all
 unfolding clap_on_literals
 is_heard [] t no_help h = single t wrong h
 is_heard (program ∷ []) t no_help h = single t wrong h
@@ -64,7 +64,7 @@ help_is_fault (program ∷ w ∷ rest) is none =
     let no_list : kind.DisplayHelp ∷ kind.InvalidSubcommand ∷ [] ≡ [] = empty in cc
 
 -- these tell what they ask for themselves
-help_heard : (all : List Text) → begins_with_help all ≡ true → ask_for_refusals all ≡ false → telling_of all ≡ (if asks_for_help all then help else wrong)
+help_heard : (all : List Text) → begins_with_help all ≡ true → ask_for_refusals all ≡ false → telling_of_first all ≡ (if asks_for_help all then help else wrong)
 help_heard [] is no_page = cc
 help_heard (program ∷ []) is no_page = cc
 help_heard (program ∷ w ∷ []) is no_page = rw (flipped w (codes "help") true is) refl
@@ -83,24 +83,28 @@ page_heard (program ∷ w ∷ topic ∷ []) is =
     rw (flipped w (codes "help") true parts.0, flipped topic (codes "refusals") true parts.1) refl
 page_heard (program ∷ w ∷ topic ∷ more ∷ rest) is = cc
 
+-- words that do not ask for the version
+pub first_heard : (all : List Text) → ask_for_version all ≡ false → telling_of all ≡ telling_of_first all
+first_heard all no_version = rw no_version refl
+
 -- words that the parser takes
-pub taken_heard : (all : List Text) (t : Telling) → fault_of firmament all ≡ [] → IsOneOf t (tellings all) → t ≡ telling_of all
+pub taken_heard : (all : List Text) (t : Telling) → fault_of firmament all ≡ [] → IsOneOf t (tellings all) → t ≡ telling_of_first all
 taken_heard all t none h = go (begins_with_help all) refl
   where
-    go : (b : Bool) → begins_with_help all ≡ b → t ≡ telling_of all
+    go : (b : Bool) → begins_with_help all ≡ b → t ≡ telling_of_first all
     go true is = absurd (help_is_fault all is none)
     go false is = is_heard all t is h
 
 -- words that it does not take
-refused_heard : (all : List Text) (k : ErrorKind) → ask_for_refusals all ≡ false → IsOneOf (told_of_error k) (tellings all) → told_at_error all k ≡ telling_of all
+refused_heard : (all : List Text) (k : ErrorKind) → ask_for_refusals all ≡ false → IsOneOf (told_of_error k) (tellings all) → told_at_error all k ≡ telling_of_first all
 refused_heard all k no_page h = go (begins_with_help all) refl
   where
-    go : (b : Bool) → begins_with_help all ≡ b → told_at_error all k ≡ telling_of all
+    go : (b : Bool) → begins_with_help all ≡ b → told_at_error all k ≡ telling_of_first all
     go true is = rw is (sym (help_heard all is no_page))
     go false is = rw is (is_heard all (told_of_error k) is h)
 
 pub text_heard : (all : List Text) (k : ErrorKind) (r : Result Words OutOfMemory) → ask_for_refusals all ≡ false → (k ≡ kind.OutOfMemory) ⊎ IsOneOf (told_of_error k) (tellings all)
-    → IfOk r (λ w. told_of w ≡ told_at_error all k) → IfOk r (λ w. k ≢ kind.OutOfMemory) → IfOk r (λ w. told_of w ≡ telling_of all)
+    → IfOk r (λ w. told_of w ≡ told_at_error all k) → IfOk r (λ w. k ≢ kind.OutOfMemory) → IfOk r (λ w. told_of w ≡ telling_of_first all)
 text_heard all k (Err e) no_page may told other = tt
 text_heard all k (Ok w) no_page (inl memory) told other = absurd (other memory)
 text_heard all k (Ok w) no_page (inr h) told other = told ∙ refused_heard all k no_page h

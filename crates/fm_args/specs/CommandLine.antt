@@ -9,7 +9,7 @@ use Rattle.clap.specs.ValueTests.{is_numeral}
 use Rattle.fm_records.specs.Ids.{read_id}
 use Rattle.fm_args.specs.declared.words.Question.{Question}
 use Rattle.fm_args.specs.declared.words.Question.TheVariants as question
-use Rattle.fm_args.specs.Invocation.{Telling, Text, agree, ask, fleet, follow, help, pack, page, run, unpack, why, wrong}
+use Rattle.fm_args.specs.Invocation.{Telling, Text, agree, ask, fleet, follow, help, pack, page, run, unpack, version, why, wrong}
 
 -- ---- one word
 
@@ -192,11 +192,20 @@ abbrev pub heard_at : Text → List Text → Telling
 heard_at w rest = if bytes_eq (codes "help") w then helps rest
     else option_map_or (λ c. telling_of_words c.takes rest) (command_named w) (look_telling (look_of w))
 
+-- what the words ask for by the first of them
+abbrev pub telling_of_first : List Text → Telling
+telling_of_first [] = wrong
+telling_of_first (program ∷ []) = wrong
+telling_of_first (program ∷ w ∷ rest) = heard_at w rest
+
+-- the words are `--version` or `-V` alone, behind the program's name
+abbrev pub ask_for_version : List Text → Bool
+ask_for_version (program ∷ w ∷ []) = bytes_eq w (codes "--version") || bytes_eq w (codes "-V")
+ask_for_version _ = false
+
 -- what the words ask for
 abbrev pub telling_of : List Text → Telling
-telling_of [] = wrong
-telling_of (program ∷ []) = wrong
-telling_of (program ∷ w ∷ rest) = heard_at w rest
+telling_of all = if ask_for_version all then version else telling_of_first all
 
 -- the words are `help refusals`, behind the program's name
 abbrev pub ask_for_refusals : List Text → Bool

@@ -27,6 +27,7 @@ pub data ArgsModel : Type 0 where
 -- or coordinators that are kept running, and are renewed once a history has so many entries
 -- or a text of help
 -- or the page of refusals
+-- or the version
 -- or nothing, since the words are wrong
 pub data Telling : Type 0 where
   run : ArgsModel → Telling
@@ -34,6 +35,7 @@ pub data Telling : Type 0 where
   follow : (renew_after : ℕ) → Telling
   help : Telling
   page : Telling
+  version : Telling
   wrong : Telling
 
 abbrev pub args_model : Command → ArgsModel
@@ -50,4 +52,5 @@ told_of (words.Fleet rounds) = fleet rounds
 told_of (words.Follow renew_after) = follow renew_after
 told_of (words.Help text) = help
 told_of words.Refusals = page
+told_of words.Version = version
 told_of (words.Wrong text) = wrong

@@ -1,4 +1,4 @@
--- The commands as the kit's `clap` has them, and what it may make of words. What comes of it is `telling_of`, which needs
+-- The commands as the kit's `clap` has them, and what it may make of words. What comes of it is `telling_of_first`, which needs
 -- none of this.
 use Rattle.std.specs.Prelude.{◌≡◌, ◌⊎◌, ◌^◌, ◌&&◌, ℕ, Bool, true, false, pos, nat_le, nat_lt, IfOk, Result}
 use Rattle.std.specs.Prelude.{List, [], ◌∷◌, map, fold, find, codes, bytes_eq}
@@ -14,7 +14,7 @@ use Rattle.clap.specs.declared.error.ErrorKind.{ErrorKind}
 use Rattle.clap.specs.declared.error.ErrorKind.TheVariants as kind
 use Rattle.fm_args.specs.declared.words.Words.{Words}
 use Rattle.fm_args.specs.Invocation.{Telling, Text, help, told_of, wrong}
-use Rattle.fm_args.specs.CommandLine.{Form, ArgumentKind, nothing, one_name, one_number, name_and_number, commands, telling_of, is_topic}
+use Rattle.fm_args.specs.CommandLine.{Form, ArgumentKind, nothing, one_name, one_number, name_and_number, commands, telling_of_first, is_topic}
 
 -- ---- the commands
 
@@ -112,6 +112,6 @@ abbrev pub IsOneOf : Telling → List Telling → Type 0
 IsOneOf t [] = ⊥
 IsOneOf t (x ∷ xs) = (t ≡ x) ⊎ IsOneOf t xs
 
--- what was made of the words is what they ask for
+-- what was made of the words is what they ask for by the first of them
 abbrev pub IsHeard : {E : Type 0} → List Text → Result Words E → Type 0
-IsHeard all r = IfOk r (λ w. told_of w ≡ telling_of all)
+IsHeard all r = IfOk r (λ w. told_of w ≡ telling_of_first all)

@@ -1,7 +1,7 @@
-//! Words that begin with `help`.
+//! Words that ask for a page, and not for a command: those that begin with `help`, and `--version`.
 
 ghost use Rattle.std.specs.Prelude.{◌≡◌, map, string_bytes};
-ghost use Rattle.fm_args.specs.CommandLine.{ask_for_refusals, is_topic};
+ghost use Rattle.fm_args.specs.CommandLine.{ask_for_refusals, ask_for_version, is_topic};
 ghost use Rattle.fm_args.specs.Parser.{asks_for_help, begins_with_help};
 
 /// Whether the words are `help refusals`, after the program's name.
@@ -10,6 +10,16 @@ pub fn ask_for_refusals(words: &[String]) -> bool
 {
     match words {
         [_, first, second] => first.as_str() == "help" && second.as_str() == "refusals",
+        _ => false,
+    }
+}
+
+/// Whether the words are `--version` or `-V` alone, after the program's name.
+pub fn ask_for_version(words: &[String]) -> bool
+    ensures { result ≡ ask_for_version (map string_bytes words.now) }
+{
+    match words {
+        [_, word] => word.as_str() == "--version" || word.as_str() == "-V",
         _ => false,
     }
 }

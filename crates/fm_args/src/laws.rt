@@ -3,7 +3,7 @@
 ghost use Rattle.std.specs.Prelude.{◌≡◌, ◌≤◌, ◌<◌, ◌^◌, ◌∷◌, [], ℕ, List, None, Some, codes, decimal};
 ghost use Rattle.fm_args.specs.CommandLine.{telling_of, look_of, parsed_number, plain};
 ghost use Rattle.fm_records.specs.Ids.{id_text};
-ghost use Rattle.fm_args.specs.Invocation.{Text, ask, fleet, follow, help, pack, page, run, why, wrong};
+ghost use Rattle.fm_args.specs.Invocation.{Text, ask, fleet, follow, help, pack, page, run, version, why, wrong};
 ghost use Rattle.fm_args.specs.declared.words.Question.TheVariants.{Graph, Plan, Solve, Winners};
 
 /// A number in range that is written in decimal digits, as the program itself writes numbers, is read as that number.
@@ -38,6 +38,9 @@ pub fn law_examples()
     ensures flag { (p : Text) → telling_of (p ∷ codes "graph" ∷ codes "--at" ∷ codes "1" ∷ codes "-h" ∷ []) ≡ help }
     ensures topic { (p : Text) → telling_of (p ∷ codes "help" ∷ codes "solve" ∷ []) ≡ help }
     ensures refusals { (p : Text) → telling_of (p ∷ codes "help" ∷ codes "refusals" ∷ []) ≡ page }
+    ensures version { (p : Text) → telling_of (p ∷ codes "--version" ∷ []) ≡ version }
+    ensures short_version { (p : Text) → telling_of (p ∷ codes "-V" ∷ []) ≡ version }
+    ensures no_version { (p w : Text) → telling_of (p ∷ codes "--version" ∷ w ∷ []) ≡ wrong }
     ensures unknown { (p : Text) → telling_of (p ∷ codes "grapf" ∷ []) ≡ wrong }
     ensures none { (p : Text) → telling_of (p ∷ []) ≡ wrong }
 {}

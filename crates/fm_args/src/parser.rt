@@ -59,7 +59,7 @@ fn program<'a>(alloc: Global) -> Result<Command<'a>, OutOfMemory>
                 "Schedules tasks over a network of bandwidths: runs the script on standard input, and prints what is asked for",
             )
             .after_help(
-                "Example: firmament graph < examples/first.json\n\nRefusals by their numbers: firmament help refusals",
+                "Example: firmament graph < examples/first.json\n\nRefusals by their numbers: firmament help refusals\nVersion, and formats of packets: firmament --version",
             )
             .subcommand_required(true)
             .arg_required_else_help(true),

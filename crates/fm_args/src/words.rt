@@ -6,7 +6,7 @@ ghost use Rattle.fm_args.specs.Parser.{IsHeard};
 ghost use Rattle.fm_args.specs.Invocation.{told_of};
 ghost use Rattle.fm_args.specs.declared.words.Words.TheVariants as asked;
 
-use super::help::ask_for_refusals;
+use super::help::{ask_for_refusals, ask_for_version};
 use super::matched::{named, text_of};
 use super::parser::parser;
 use fm_lattice::join::OutOfMemory;
@@ -64,6 +64,8 @@ pub enum Words<'a> {
     Help(String),
     /// The page of refusals was asked for.
     Refusals,
+    /// The version of the program was asked for.
+    Version,
     /// What is wrong with the words.
     Wrong(String),
 }
@@ -79,13 +81,16 @@ pub fn read_words<'a>(alloc: Global, words: &'a [String]) -> Result<Words<'a>, R
     if ask_for_refusals(words) {
         return Ok(Words::Refusals);
     }
+    if ask_for_version(words) {
+        return Ok(Words::Version);
+    }
     match parsed(alloc, words) {
         Ok(words) => Ok(words),
         Err(OutOfMemory) => Err(Refusal::OutOfMemory),
     }
 }
 
-// What the parser makes of the words, except the page of refusals, of which it does not know.
+// What the parser makes of the words, except the page of refusals and the version, of which it does not know.
 fn parsed<'a>(alloc: Global, words: &'a [String]) -> Result<Words<'a>, OutOfMemory>
     ensures { let all = map string_bytes words.entry.now in ask_for_refusals all ≡ false → IsHeard all result }
 {

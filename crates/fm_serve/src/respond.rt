@@ -12,6 +12,7 @@ use crate::fault::Fault;
 use crate::fleet::count_fleet;
 use crate::progress::RunProgress;
 use crate::refusals::REFUSALS;
+use crate::version::VERSION;
 use fm_args::words::{Command, Words};
 use fm_records::refusal::Refusal;
 use std::alloc::Global;
@@ -64,6 +65,7 @@ pub fn respond<T: Threads + Wait + Sync>(
             output: page.into_bytes(),
         },
         Words::Refusals => refusals_page(alloc),
+        Words::Version => version_line(alloc),
         Words::Wrong(said) => RunResult {
             ending: Ending::Wrong(said),
             output: Vec::new(alloc),
@@ -108,6 +110,19 @@ fn refusals_page(alloc: Global) -> RunResult
         Ok(page) => RunResult {
             ending: Ending::Done,
             output: page.into_bytes(),
+        },
+        Err(_) => RunResult::stopped(alloc, Fault::from(Refusal::OutOfMemory)),
+    }
+}
+
+// The line that tells the version.
+fn version_line(alloc: Global) -> RunResult
+    ensures { Responds told.version [] result.ending result.output.items }
+{
+    match String::from_str(alloc, VERSION) {
+        Ok(line) => RunResult {
+            ending: Ending::Done,
+            output: line.into_bytes(),
         },
         Err(_) => RunResult::stopped(alloc, Fault::from(Refusal::OutOfMemory)),
     }

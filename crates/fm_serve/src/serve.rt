@@ -62,8 +62,12 @@ fn renewal_of(words: &Words) -> Option<u32>
 {
     match words {
         Words::Follow { renew_after } => Some(*renew_after),
-        Words::Run(_) | Words::Fleet { .. } | Words::Help(_) | Words::Refusals | Words::Wrong(_) =>
-            None,
+        Words::Run(_)
+        | Words::Fleet { .. }
+        | Words::Help(_)
+        | Words::Refusals
+        | Words::Version
+        | Words::Wrong(_) => None,
     }
 }
 
@@ -101,9 +105,11 @@ fn input_for<S: Source>(alloc: Global, words: &Words, source: &mut S) -> Result<
 {
     match words {
         Words::Run(_) | Words::Fleet { .. } => read_input(alloc, source),
-        Words::Follow { .. } | Words::Help(_) | Words::Refusals | Words::Wrong(_) => {
-            Ok(Vec::new(alloc))
-        }
+        Words::Follow { .. }
+        | Words::Help(_)
+        | Words::Refusals
+        | Words::Version
+        | Words::Wrong(_) => { Ok(Vec::new(alloc)) }
     }
 }
 
