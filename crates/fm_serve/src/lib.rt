@@ -16,4 +16,4 @@ mod refusals;
 pub mod respond;
 pub mod run;
 pub mod serve;
-mod version;
+mod version_line;

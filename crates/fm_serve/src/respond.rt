@@ -12,7 +12,7 @@ use crate::fault::Fault;
 use crate::fleet::count_fleet;
 use crate::progress::RunProgress;
 use crate::refusals::REFUSALS;
-use crate::version::VERSION;
+use crate::version_line::VERSION;
 use fm_args::words::{Command, Words};
 use fm_records::refusal::Refusal;
 use std::alloc::Global;

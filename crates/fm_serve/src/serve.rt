@@ -109,7 +109,7 @@ fn input_for<S: Source>(alloc: Global, words: &Words, source: &mut S) -> Result<
         | Words::Help(_)
         | Words::Refusals
         | Words::Version
-        | Words::Wrong(_) => { Ok(Vec::new(alloc)) }
+        | Words::Wrong(_) => Ok(Vec::new(alloc)),
     }
 }
 
