@@ -6,7 +6,7 @@ use Rattle.std.proofs.lemmas.Cmp.{tied_itself}
 use Rattle.fm_lattice.specs.Chains.{by_cases}
 use Rattle.fm_net.specs.declared.node.Node.{Node}
 use Rattle.fm_net.specs.Nodes.{node_cmp}
-use Rattle.fm_net.specs.NodeOrder.{node_exact, node_total}
+use Rattle.fm_net.specs.laws.NodeOrder.{node_exact, node_total}
 use Rattle.fm_net.specs.NetworkEquality.{same_node, node_Decides}
 
 pub same_itself : (n : Node) → same_node n n ≡ true

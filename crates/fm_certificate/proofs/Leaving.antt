@@ -12,10 +12,10 @@ use Rattle.fm_lattice.specs.Maps.{IsBelow, IsRising}
 use Rattle.fm_lattice.proofs.Places.{rising_at}
 use Rattle.fm_net.specs.declared.node.Node.{Node}
 use Rattle.fm_net.specs.Nodes.{node_cmp, ends_cmp}
-use Rattle.fm_net.specs.NodeOrder.{node_exact, node_total, ends_exact, ends_total}
+use Rattle.fm_net.specs.laws.NodeOrder.{node_exact, node_total, ends_exact, ends_total}
 use Rattle.fm_net.specs.NetworkEquality.{same_node}
 use Rattle.fm_certificate.specs.Totals.{Entry, source, units_at}
-use Rattle.fm_certificate.specs.Outflow.{NoneBelow}
+use Rattle.fm_certificate.specs.inner.Outflow.{NoneBelow}
 use Rattle.fm_certificate.proofs.Alike.{same_itself, other_node}
 use Rattle.fm_lattice.proofs.Behind.{less_of}
 

@@ -9,7 +9,7 @@ use Rattle.fm_records.specs.Sets.{IsMember}
 use Rattle.fm_records.specs.TableLaws.{IsBelowAll, Rises}
 use Rattle.fm_net.specs.declared.node.Node.{Node}
 use Rattle.fm_net.specs.Nodes.{node_cmp}
-use Rattle.fm_net.specs.NodeOrder.{node_total}
+use Rattle.fm_net.specs.laws.NodeOrder.{node_total}
 use Rattle.fm_net.specs.NetworkEquality.{same_node}
 use Rattle.fm_certificate.proofs.Alike.{same_itself, other_node}
 

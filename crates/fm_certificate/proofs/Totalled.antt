@@ -6,7 +6,7 @@ use Rattle.fm_lattice.specs.Maps.{lookup}
 use Rattle.fm_records.specs.Options.{or_else}
 use Rattle.fm_net.specs.declared.node.Node.{Node}
 use Rattle.fm_net.specs.Nodes.{node_cmp}
-use Rattle.fm_net.specs.NodeOrder.{node_exact}
+use Rattle.fm_net.specs.laws.NodeOrder.{node_exact}
 use Rattle.fm_net.specs.NetworkEquality.{same_node}
 use Rattle.fm_certificate.specs.Totals.{total_in}
 use Rattle.fm_certificate.proofs.Alike.{same_is}

@@ -5,11 +5,11 @@ use Rattle.std.specs.Ordering.{is_eq}
 use Rattle.std.proofs.lemmas.List.Sums.{sum_by-cons}
 use Rattle.fm_lattice.specs.Chains.{by_cases, by_order}
 use Rattle.fm_lattice.specs.Maps.{lookup, put, keep_new, IsRising, AreValues}
-use Rattle.fm_lattice.specs.MapLaws.{lookup_below, below_trans, rising_put}
+use Rattle.fm_lattice.specs.laws.MapLaws.{lookup_below, below_trans, rising_put}
 use Rattle.fm_records.specs.Options.{or_else}
 use Rattle.fm_net.specs.declared.node.Node.{Node}
 use Rattle.fm_net.specs.Nodes.{ends_cmp}
-use Rattle.fm_net.specs.NodeOrder.{ends_exact, ends_total}
+use Rattle.fm_net.specs.laws.NodeOrder.{ends_exact, ends_total}
 use Rattle.fm_net.specs.NetworkEquality.{same_node}
 use Rattle.fm_certificate.specs.Totals.{Entry, target, units_at, total_in, IsTotalled}
 use Rattle.fm_certificate.proofs.Alike.{same_itself}

@@ -1,6 +1,5 @@
 pub mod Flows
 pub mod Certificates
 pub mod Totals
-pub mod Outflow
-pub mod Checks
 pub mod PolicyNetwork
+pub mod inner

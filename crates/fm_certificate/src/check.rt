@@ -4,7 +4,7 @@ ghost use Rattle.std.specs.Prelude.{◌≡◌, ◌↔◌, ◌≤◌, IsTrue};
 ghost use Rattle.std.specs.List.{list_all};
 ghost use Rattle.fm_certificate.specs.Flows.{units_in, IsLeast};
 ghost use Rattle.fm_certificate.specs.Certificates.{potential_in, reduced_cost, AreSmall, IsCertified};
-ghost use Rattle.fm_certificate.specs.Checks.{IsComplementary, FitAll, AreOf, sends};
+ghost use Rattle.fm_certificate.specs.inner.Checks.{IsComplementary, FitAll, AreOf, sends};
 
 use crate::flow::Flow;
 use crate::potentials::Potentials;

@@ -4,7 +4,7 @@ ghost use Rattle.std.specs.Prelude.{◌≡◌, ◌<◌, ◌≤◌, ◌^◌, leng
 ghost use Rattle.fm_lattice.specs.Maps.{IsRising, AreValues};
 ghost use Rattle.fm_net.specs.Nodes.{ends_cmp};
 ghost use Rattle.fm_certificate.specs.Totals.{source, units_at};
-ghost use Rattle.fm_certificate.specs.Outflow.{NoneBelow};
+ghost use Rattle.fm_certificate.specs.inner.Outflow.{NoneBelow};
 
 use fm_net::node::Node;
 

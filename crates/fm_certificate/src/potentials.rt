@@ -4,7 +4,7 @@ ghost use Rattle.std.specs.Prelude.{◌≡◌, ◌↔◌, ◌<◌, ◌^◌, [], 
 ghost use Rattle.fm_lattice.specs.Maps.{lookup, put, keep_new, IsRising};
 ghost use Rattle.fm_net.specs.Nodes.{node_cmp};
 ghost use Rattle.fm_certificate.specs.Certificates.{potential_in};
-ghost use Rattle.fm_certificate.specs.Checks.{AreOf};
+ghost use Rattle.fm_certificate.specs.inner.Checks.{AreOf};
 
 use fm_lattice::join::OutOfMemory;
 use fm_lattice::sorted_vec::{get, insert};

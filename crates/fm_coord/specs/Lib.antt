@@ -3,7 +3,6 @@ pub mod Events
 pub mod Causes
 pub mod Replays
 pub mod States
-pub mod TallyCache
 pub mod Outputs
-pub mod StepLaws
-pub mod StateEqualityLaws
+pub mod inner
+pub mod laws

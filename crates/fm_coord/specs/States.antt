@@ -13,7 +13,7 @@ use Rattle.fm_coord.specs.declared.entry.Entry.{Entry}
 use Rattle.fm_coord.specs.declared.entry.Range.{Range}
 use Rattle.fm_coord.specs.declared.entry.Range.TheVariants.{Interval, Full}
 use Rattle.fm_coord.specs.declared.tally_cache.Tallied.{Tallied}
-use Rattle.fm_coord.specs.TallyCache.{IsTalliedFor}
+use Rattle.fm_coord.specs.inner.TallyCache.{IsTalliedFor}
 use Rattle.fm_coord.specs.Events.{Event, Replica, opening, happens}
 use Rattle.fm_coord.specs.Causes.{Bounds, cause, bounds_of}
 use Rattle.fm_coord.specs.Replays.{call_of, reply_of, replay, IsLegal}

@@ -5,7 +5,7 @@ ghost use Rattle.fm_records.specs.Table.{Table as Known};
 ghost use Rattle.fm_policy.specs.Keeping.{FollowsAfter};
 ghost use Rattle.fm_tally.specs.Tallies.{TallyIsFor};
 ghost use Rattle.fm_tally.specs.Unfinished.{AreUnfinished};
-ghost use Rattle.fm_coord.specs.TallyCache.{IsTalliedFor};
+ghost use Rattle.fm_coord.specs.inner.TallyCache.{IsTalliedFor};
 
 use fm_know::knowledge::Knowledge;
 use fm_know::laws::law_can_be;

@@ -3,7 +3,7 @@ use Rattle.std.proofs.Common.{◌≡◌, ◌∙◌, ap, Option, refl, sym, subst
 use Rattle.std.specs.Prelude.{ℤ}
 use Rattle.std.proofs.lemmas.Int.{ints}
 use Rattle.fm_cycles.specs.Walks.{Steps}
-use Rattle.fm_cycles.specs.Labels.{AreLabels, IsRelaxed, IsCorrected, IsCorrectedWithin, costs_of, parents_of, parents_in}
+use Rattle.fm_cycles.specs.inner.Labels.{AreLabels, IsRelaxed, IsCorrected, IsCorrectedWithin, costs_of, parents_of, parents_in}
 use Rattle.fm_cycles.specs.Found.{costs_in}
 use Rattle.std.specs.declared.vec.Vec.{Vec}
 use Rattle.std.specs.declared.alloc.Global.{Global}

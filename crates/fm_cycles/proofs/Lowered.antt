@@ -7,7 +7,7 @@ use lib.Signed.{◌<ℤ◌}
 use Rattle.std.proofs.lemmas.Int.{ints}
 use Rattle.fm_cycles.specs.Walks.{Costs, Steps, IsWalk, walk_cost}
 use Rattle.fm_cycles.specs.Residual.{residual, CanBeTaken, head_of, start_of, cost_by}
-use Rattle.fm_cycles.specs.Labels.{AreLabels, IsWalkBack, IsLowered}
+use Rattle.fm_cycles.specs.inner.Labels.{AreLabels, IsWalkBack, IsLowered}
 use Rattle.fm_cycles.specs.declared.indexed_arcs.IndexedArc.{IndexedArc}
 use Rattle.fm_cycles.specs.declared.indexed_arcs.ResidualArc.{ResidualArc}
 

@@ -9,8 +9,8 @@ use Rattle.std.proofs.lemmas.Bool.{cases_lt}
 use Rattle.fm_cycles.specs.Walks.{Costs, Steps, IsWalk, walk_cost, AreBounded, ArePotentials}
 use Rattle.fm_cycles.specs.Residual.{residual, cost_by, CanBeTaken, AreArcs}
 use Rattle.fm_cycles.specs.Found.{costs_in}
-use Rattle.fm_cycles.specs.Labels.{AreLabels, HasFallen, IsLabelSweep, IsCorrectedWithin, IsBoundedBelow, costs_of, parents_of}
-use Rattle.fm_cycles.specs.ParentGraph.{HasRoot}
+use Rattle.fm_cycles.specs.inner.Labels.{AreLabels, HasFallen, IsLabelSweep, IsCorrectedWithin, IsBoundedBelow, costs_of, parents_of}
+use Rattle.fm_cycles.specs.inner.ParentGraph.{HasRoot}
 use Rattle.fm_cycles.specs.declared.indexed_arcs.IndexedArc.{IndexedArc}
 use Rattle.fm_cycles.specs.declared.indexed_arcs.ResidualArc.{ResidualArc}
 use Rattle.fm_cycles.specs.declared.labels.Labels.{Labels}

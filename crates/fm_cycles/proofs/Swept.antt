@@ -4,7 +4,7 @@ use Rattle.std.specs.Prelude.{pos, ◌+ℤ◌, ◌≤ℤ◌, neg_ℤ}
 use Rattle.std.proofs.lemmas.Bool.{cases_lt}
 use Rattle.std.proofs.lemmas.Int.{ints}
 use Rattle.fm_cycles.specs.Walks.{Costs, Steps}
-use Rattle.fm_cycles.specs.Labels.{AreLabels, HasFallen, IsRelaxed, IsLabelSweep, costs_of, parents_of}
+use Rattle.fm_cycles.specs.inner.Labels.{AreLabels, HasFallen, IsRelaxed, IsLabelSweep, costs_of, parents_of}
 use Rattle.fm_cycles.specs.declared.indexed_arcs.ResidualArc.{ResidualArc}
 use Rattle.fm_cycles.specs.declared.labels.Labels.{Labels}
 

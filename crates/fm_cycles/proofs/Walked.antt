@@ -4,8 +4,8 @@ use Rattle.std.proofs.lemmas.List.{drop-append-le}
 use Rattle.std.specs.Prelude.{slice_get, slice_index}
 use Rattle.fm_cycles.specs.Walks.{Costs, Steps, TargetsOther, ShareNoNode, IsNegativeCycle}
 use Rattle.fm_cycles.specs.Residual.{residual, CanBeTaken, start_of, AreArcs}
-use Rattle.fm_cycles.specs.Labels.{AreLabels, IsWalkBack}
-use Rattle.fm_cycles.specs.ParentGraph.{value_count, visit_of, IsVisited, AreBefore, HasRoot, AreRooted, IsClosedAt, IsWalkedBack}
+use Rattle.fm_cycles.specs.inner.Labels.{AreLabels, IsWalkBack}
+use Rattle.fm_cycles.specs.inner.ParentGraph.{value_count, visit_of, IsVisited, AreBefore, HasRoot, AreRooted, IsClosedAt, IsWalkedBack}
 use Rattle.fm_cycles.specs.declared.parent_graph.Visit.{Visit}
 use Rattle.fm_cycles.specs.declared.indexed_arcs.IndexedArc.{IndexedArc}
 use Rattle.fm_cycles.specs.declared.indexed_arcs.ResidualArc.{ResidualArc}

@@ -4,7 +4,7 @@ ghost use Rattle.std.specs.Prelude.{◌≡◌, ◌<◌, ◌^◌, length, IfOk};
 ghost use Rattle.fm_cycles.specs.Walks.{AreBounded};
 ghost use Rattle.fm_cycles.specs.Residual.{residual, AreArcs};
 ghost use Rattle.fm_cycles.specs.Found.{costs_in, IsSearchResult};
-ghost use Rattle.fm_cycles.specs.ParentGraph.{IsSearched};
+ghost use Rattle.fm_cycles.specs.inner.ParentGraph.{IsSearched};
 
 use crate::check_potentials::are_potentials;
 use crate::indexed_arcs::{IndexedArc, ResidualArc};

@@ -5,7 +5,7 @@ ghost use Rattle.std.specs.Prelude.{◌≡◌, ◌<◌, ◌^◌, vec_len, length
 ghost use Rattle.fm_cycles.specs.Walks.{AreBounded};
 ghost use Rattle.fm_cycles.specs.Residual.{residual, AreArcs};
 ghost use Rattle.fm_cycles.specs.Found.{costs_in};
-ghost use Rattle.fm_cycles.specs.Labels.{costs_of, IsLoweredBy, KeepsFallen, HasFallen, IsRelaxed, IsLabelSweep, IsBoundedBelow};
+ghost use Rattle.fm_cycles.specs.inner.Labels.{costs_of, IsLoweredBy, KeepsFallen, HasFallen, IsRelaxed, IsLabelSweep, IsBoundedBelow};
 
 use crate::indexed_arcs::{IndexedArc, ResidualArc};
 use crate::lookup::{cost_at, units_at};

@@ -2,8 +2,8 @@
 
 ghost use Rattle.std.specs.Prelude.{◌≡◌, ◌<◌, length, IfOk, slice_index_or, None, [], drop};
 ghost use Rattle.fm_cycles.specs.Residual.{residual, AreArcs};
-ghost use Rattle.fm_cycles.specs.Labels.{parents_in, AreParents};
-ghost use Rattle.fm_cycles.specs.ParentGraph.{AreBefore, AreCyclesOf, IsWalkedBack};
+ghost use Rattle.fm_cycles.specs.inner.Labels.{parents_in, AreParents};
+ghost use Rattle.fm_cycles.specs.inner.ParentGraph.{AreBefore, AreCyclesOf, IsWalkedBack};
 
 use crate::indexed_arcs::{IndexedArc, ResidualArc};
 use crate::lookup::value_or;

@@ -5,8 +5,8 @@
 
 ghost use Rattle.std.specs.Prelude.{◌≡◌, ◌<◌, ◌^◌, vec_len, length, ℕ, ◌≤ℤ◌, pos, IfOk, OnOk};
 ghost use Rattle.fm_cycles.specs.Residual.{residual, AreArcs};
-ghost use Rattle.fm_cycles.specs.Labels.{costs_of, HasFirst, IsBoundedBelow, IsCorrected, IsCorrectedWithin};
-ghost use Rattle.fm_cycles.specs.ParentGraph.{AreNegative};
+ghost use Rattle.fm_cycles.specs.inner.Labels.{costs_of, HasFirst, IsBoundedBelow, IsCorrected, IsCorrectedWithin};
+ghost use Rattle.fm_cycles.specs.inner.ParentGraph.{AreNegative};
 
 use crate::indexed_arcs::{IndexedArc, ResidualArc};
 use crate::labels::{Labels, relax};

@@ -47,7 +47,7 @@ impl Packet {
 
 impl PartialEq for Packet {
     ghost use Rattle.fm_delta.specs.Packets.{same_packet};
-    ghost use Rattle.fm_delta.specs.PacketLaws.{packet_equivalence};
+    ghost use Rattle.fm_delta.specs.laws.PacketLaws.{packet_equivalence};
 
     ghost eq = { same_packet };
 

@@ -15,12 +15,12 @@ use Rattle.fm_records.specs.TableLaws.{some_none, IsBelowAll, Rises}
 use Rattle.fm_net.specs.declared.node.Node.{Node}
 use Rattle.fm_net.specs.declared.node.Node.TheVariants.{Sink}
 use Rattle.fm_net.specs.Nodes.{node_cmp, ends_cmp, IsInRange}
-use Rattle.fm_net.specs.NodeOrder.{node_total, node_exact, ends_total}
+use Rattle.fm_net.specs.laws.NodeOrder.{node_total, node_exact, ends_total}
 use Rattle.fm_net.specs.Net.{IsArc, IsArcKind, has_node}
-use Rattle.fm_net.specs.ListLaws.{has_member, member_has}
+use Rattle.fm_net.specs.laws.ListLaws.{has_member, member_has}
 use Rattle.fm_dimacs.specs.Text.{id_in, arc_line}
 use Rattle.fm_dimacs.specs.Syntax.{Place, Comments, Body, Allows, Reaches, IsAfterLast, IsNextNode, BreaksAfter}
-use Rattle.fm_dimacs.specs.Scan.{IsArcAmong, IsAfter, ids_of, numbers_at}
+use Rattle.fm_dimacs.specs.inner.Scan.{IsArcAmong, IsAfter, ids_of, numbers_at}
 use Rattle.fm_dimacs.proofs.Ids.{id_below, id_least, id_tells}
 use Rattle.fm_dimacs.proofs.Placed.{id_at}
 use Rattle.fm_dimacs.proofs.Leading.{Arc, nodes_of, ids_fit}

@@ -4,7 +4,7 @@ use Rattle.std.specs.Char.{is_ascii_digit}
 use Rattle.std.proofs.Math.Seq.{drop-cons}
 use Rattle.std.proofs.lemmas.Bool.{le-ltb, lt-ltb}
 use Rattle.std.proofs.lemmas.List.{take_all, drop_all, length-drop}
-use Rattle.fm_dimacs.specs.Scan.{digits_from, fitting}
+use Rattle.fm_dimacs.specs.inner.Scan.{digits_from, fitting}
 
 at_byte : (n i : ℕ) (bs : List ℕ) (b : Bool) → i < length bs → is_ascii_digit (get_or bs i 0) ≡ b
     → digits_from n (drop i bs) ≡ cond b (digits_from (n * 10 + (get_or bs i 0 - 48)) (drop (suc i) bs)) (n, get_or bs i 0 ∷ drop (suc i) bs)

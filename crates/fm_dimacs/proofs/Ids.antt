@@ -7,7 +7,7 @@ use Rattle.fm_lattice.specs.Chains.{by_cases}
 use Rattle.fm_records.specs.Sets.{IsMember}
 use Rattle.fm_net.specs.declared.node.Node.{Node}
 use Rattle.fm_net.specs.Nodes.{node_cmp}
-use Rattle.fm_net.specs.NodeOrder.{node_exact, node_total}
+use Rattle.fm_net.specs.laws.NodeOrder.{node_exact, node_total}
 use Rattle.fm_dimacs.specs.Text.{id_from}
 
 same_node : (m n : Node) → m ≡ n → node_cmp m n ≡ Equal

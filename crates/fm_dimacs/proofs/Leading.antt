@@ -8,12 +8,12 @@ use Rattle.fm_records.specs.Sets.{IsMember}
 use Rattle.fm_net.specs.declared.node.Node.{Node}
 use Rattle.fm_net.specs.declared.node.Node.TheVariants.{Sink, Unscheduled, Request, Machine, Task}
 use Rattle.fm_net.specs.Nodes.{node_cmp, IsInRange}
-use Rattle.fm_net.specs.NodeOrder.{node_exact, node_total}
+use Rattle.fm_net.specs.laws.NodeOrder.{node_exact, node_total}
 use Rattle.fm_net.specs.Net.{IsArc}
-use Rattle.fm_net.specs.ListLaws.{member_has}
+use Rattle.fm_net.specs.laws.ListLaws.{member_has}
 use Rattle.fm_dimacs.specs.Text.{node_line, problem_line, is_task_node, demand_line, supply_line, arc_line}
 use Rattle.fm_dimacs.specs.Syntax.{Place, Comments, Body, Allows, Reaches, IsNextNode, with_line, supplies_from, unit_lines}
-use Rattle.fm_dimacs.specs.Scan.{ids_of, node_at, problem_at, numbers_at}
+use Rattle.fm_dimacs.specs.inner.Scan.{ids_of, node_at, problem_at, numbers_at}
 use Rattle.fm_dimacs.proofs.Ids.{id_below, id_tells}
 use Rattle.fm_dimacs.proofs.ReadLines.{node_again, problem_again, numbers_again, numbers_line, Fit}
 

@@ -11,7 +11,7 @@ use Rattle.fm_lattice.specs.Chains.{by_cases}
 use Rattle.fm_records.specs.TableLaws.{IsBelowAll, Rises}
 use Rattle.fm_net.specs.declared.node.Node.{Node}
 use Rattle.fm_net.specs.Nodes.{node_cmp}
-use Rattle.fm_net.specs.NodeOrder.{node_total}
+use Rattle.fm_net.specs.laws.NodeOrder.{node_total}
 use Rattle.fm_dimacs.specs.Text.{id_from}
 
 index_le_two : (o : Ordering) → ordering_index o ≤ 2

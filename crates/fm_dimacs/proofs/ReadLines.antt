@@ -7,7 +7,7 @@ use Rattle.fm_net.specs.declared.node.Node.{Node}
 use Rattle.fm_net.specs.declared.node.Node.TheVariants.{Sink, Unscheduled, Request, Machine, Task}
 use Rattle.fm_net.specs.Nodes.{IsInRange}
 use Rattle.fm_dimacs.specs.Text.{node_line, problem_line}
-use Rattle.fm_dimacs.specs.Scan.{◌>>=◌, choose, past_text, number_at, id_at, request_at, named_at, kind_at, node_at, problem_at, numbers_at}
+use Rattle.fm_dimacs.specs.inner.Scan.{◌>>=◌, choose, past_text, number_at, id_at, request_at, named_at, kind_at, node_at, problem_at, numbers_at}
 use Rattle.fm_dimacs.proofs.Words.{Stops, bind_some, guard_some, after_takes, after_again, number_takes, number_again, id_takes, id_again}
 
 some_is : {A : Type 0} (x y : A) → Some x ≡ Some y → x ≡ y

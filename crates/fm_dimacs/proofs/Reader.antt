@@ -14,7 +14,7 @@ use Rattle.fm_net.specs.declared.node.Node.{Node}
 use Rattle.fm_net.specs.Nodes.{node_cmp, IsInRange}
 use Rattle.fm_dimacs.specs.Text.{node_line, problem_line, supply_line}
 use Rattle.fm_dimacs.specs.Syntax.{Place, Comments, Body, Reaches, IsAfterLast, IsNextNode, BreaksAfter, IsFault, with_line, supplies_from, unit_lines}
-use Rattle.fm_dimacs.specs.Scan.{Reads, past_text, node_at, problem_at}
+use Rattle.fm_dimacs.specs.inner.Scan.{Reads, past_text, node_at, problem_at}
 use Rattle.fm_dimacs.proofs.Leading.{next_in_range, same_node_line, node_no_problem}
 use Rattle.fm_dimacs.proofs.Words.{after_takes, after_again}
 use Rattle.fm_dimacs.proofs.ReadLines.{node_again, node_takes, problem_again, problem_takes}

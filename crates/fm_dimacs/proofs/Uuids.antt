@@ -8,7 +8,7 @@ use Rattle.std.proofs.lemmas.Str.{IsUtf8-from_ascii}
 use Rattle.uuid.specs.Text.{lower}
 use Rattle.uuid.proofs.TextLemmas.{by_index_length, hyphenated_ascii}
 use Rattle.fm_records.specs.Ids.{read_id, id_text}
-use Rattle.fm_dimacs.specs.Scan.{id_at, ◌>>=◌}
+use Rattle.fm_dimacs.specs.inner.Scan.{id_at, ◌>>=◌}
 
 pub id_text_long : (n : ℕ) → length (id_text n) ≡ 36
 id_text_long n = by_index_length 36 _

@@ -6,10 +6,10 @@ ghost use Rattle.fm_records.specs.TableLaws.{Rises};
 ghost use Rattle.fm_net.specs.declared.node.Node.{Node as NodeName};
 ghost use Rattle.fm_net.specs.Nodes.{node_cmp, ends_cmp};
 ghost use Rattle.fm_net.specs.Net.{IsArcKind, has_node};
-ghost use Rattle.fm_net.specs.NetworkIter.{arc_entry};
+ghost use Rattle.fm_net.specs.inner.NetworkIter.{arc_entry};
 ghost use Rattle.fm_dimacs.specs.Text.{arc_line, id_in};
 ghost use Rattle.fm_dimacs.specs.Syntax.{Body, Reaches, IsAfterLast, IsFault};
-ghost use Rattle.fm_dimacs.specs.Scan.{IsArcAmong, IsAfter, ids_of};
+ghost use Rattle.fm_dimacs.specs.inner.Scan.{IsArcAmong, IsAfter, ids_of};
 
 use crate::tokens;
 use fm_lattice::join::OutOfMemory;

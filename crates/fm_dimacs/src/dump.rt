@@ -5,7 +5,7 @@ ghost use Rattle.std.specs.List.{flat_map};
 ghost use Rattle.std.specs.Io.KnownBytes.{Appends};
 ghost use Rattle.fm_records.specs.TableLaws.{Rises};
 ghost use Rattle.fm_net.specs.Nodes.{node_cmp};
-ghost use Rattle.fm_net.specs.NetworkIter.{arc_entry};
+ghost use Rattle.fm_net.specs.inner.NetworkIter.{arc_entry};
 ghost use Rattle.fm_dimacs.specs.Sending.{AppendsPrefix, StopsBy, IsSent};
 ghost use Rattle.fm_dimacs.specs.Text.{node_line, problem_line, is_task_node, demand_line, supply_line, arc_line, lines_from, id_in, dump_text};
 

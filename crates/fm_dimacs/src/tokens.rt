@@ -4,7 +4,7 @@ ghost use Rattle.std.specs.Prelude.{◌≡◌, ℕ, ◌<◌, ◌^◌, ◌+◌, �
 ghost use Rattle.std.specs.Char.{is_ascii_digit};
 ghost use Rattle.fm_net.specs.declared.node.Node.{Node as NodeName};
 ghost use Rattle.fm_net.specs.Nodes.{IsInRange};
-ghost use Rattle.fm_dimacs.specs.Scan.{Reads, ReadsWithin, past_text, digits_from, fitting, number_at, id_at, request_at, named_at, kind_at, node_at, problem_at, numbers_at};
+ghost use Rattle.fm_dimacs.specs.inner.Scan.{Reads, ReadsWithin, past_text, digits_from, fitting, number_at, id_at, request_at, named_at, kind_at, node_at, problem_at, numbers_at};
 
 use fm_net::node::Node;
 use fm_records::ids::{JobId, MachineId, TaskId};

@@ -13,17 +13,17 @@ use Rattle.fm_lattice.specs.Maps.{lookup}
 use Rattle.fm_net.specs.declared.node.Node.{Node}
 use Rattle.fm_net.specs.declared.node.Node.TheVariants.{Request, Machine}
 use Rattle.fm_net.specs.Nodes.{node_cmp}
-use Rattle.fm_net.specs.NodeOrder.{node_exact, node_total}
+use Rattle.fm_net.specs.laws.NodeOrder.{node_exact, node_total}
 use Rattle.fm_net.specs.Net.{Net}
-use Rattle.fm_net.specs.KeptLists.{has_kept}
+use Rattle.fm_net.specs.inner.KeptLists.{has_kept}
 use Rattle.fm_net.specs.Touched.{is_among}
 use Rattle.fm_edit.specs.declared.task_index.TaskIndex.{TaskIndex}
 use Rattle.fm_edit.specs.declared.editor_state.EditorState.{EditorState}
 use Rattle.fm_edit.specs.declared.affected.Touched.{Touched}
 use Rattle.fm_edit.specs.CacheModel.{seen_in}
 use Rattle.fm_edit.specs.TaskIndex.{sum_in}
-use Rattle.fm_edit.specs.Affected.{has_touched, AffectedGrows}
-use Rattle.fm_edit.specs.Completing.{Completes, AddsSink, AddsPlaces, AddsPreferring, AddsMachines, is_request_node, is_machine, waiting_in}
+use Rattle.fm_edit.specs.inner.Affected.{has_touched, AffectedGrows}
+use Rattle.fm_edit.specs.inner.Completing.{Completes, AddsSink, AddsPlaces, AddsPreferring, AddsMachines, is_request_node, is_machine, waiting_in}
 use Rattle.fm_edit.proofs.Ranges.{less_said, below_zero}
 
 pub grows_then : (x y z : Touched) → AffectedGrows x y → AffectedGrows y z → AffectedGrows x z

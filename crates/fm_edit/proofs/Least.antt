@@ -5,7 +5,7 @@ use Rattle.std.specs.List.{list_any}
 use Rattle.std.specs.Ordering.{is_eq}
 use Rattle.std.specs.Cmp.{Equal-is}
 use Rattle.fm_lattice.specs.Maps.{lookup, IsRising, keep_new}
-use Rattle.fm_lattice.specs.MapLaws.{rising_put}
+use Rattle.fm_lattice.specs.laws.MapLaws.{rising_put}
 use Rattle.fm_records.specs.Options.{passes, when}
 use Rattle.fm_records.specs.Sets.{IsMember}
 use Rattle.fm_records.specs.TableLaws.{Rises}
@@ -13,14 +13,14 @@ use Rattle.fm_net.specs.declared.node.Node.{Node}
 use Rattle.fm_net.specs.declared.edit.Edit.{Edit}
 use Rattle.fm_net.specs.declared.edit.Edit.TheVariants.{DropArc, DropNode, PutNode, PutArc}
 use Rattle.fm_net.specs.Nodes.{node_cmp, ends_cmp}
-use Rattle.fm_net.specs.NodeOrder.{node_exact, node_total, ends_exact, ends_total}
+use Rattle.fm_net.specs.laws.NodeOrder.{node_exact, node_total, ends_exact, ends_total}
 use Rattle.fm_net.specs.Net.{Net, CanBeNet, has_node}
-use Rattle.fm_net.specs.ListLaws.{has_member, passes_kept}
-use Rattle.fm_net.specs.KeptLists.{has_inserted, rises_inserted}
-use Rattle.fm_net.specs.EditLaws.{member_found, stands_removed, rises_removed, at_removed, rising_removed, at_put}
+use Rattle.fm_net.specs.laws.ListLaws.{has_member, passes_kept}
+use Rattle.fm_net.specs.inner.KeptLists.{has_inserted, rises_inserted}
+use Rattle.fm_net.specs.laws.EditLaws.{member_found, stands_removed, rises_removed, at_removed, rising_removed, at_put}
 use Rattle.fm_net.specs.Edits.{Arc, after_edit, after_edits, joins, same_value, has_arc, gone_arcs, gone_nodes, new_nodes, new_arcs, drop_of, put_of, change}
 use Rattle.fm_edit.specs.Change.{edit_of, AreDistinctEdits}
-use Rattle.fm_edit.specs.LookLaws.{each_of_both, each_mapped}
+use Rattle.fm_edit.specs.laws.LookLaws.{each_of_both, each_mapped}
 use Rattle.fm_edit.proofs.Made.{not_both, same_itself}
 use Rattle.fm_edit.proofs.Once.{change_apart}
 use Rattle.fm_edit.proofs.Sums.{kept_member}

@@ -8,7 +8,7 @@ use Rattle.std.specs.Cmp.{Equal-is}
 use Rattle.fm_lattice.specs.Chains.{nat_same}
 use Rattle.fm_lattice.specs.Maps.{lookup}
 use Rattle.fm_records.specs.Options.{passes}
-use Rattle.fm_records.specs.PreferenceLaws.{one_more_preferred}
+use Rattle.fm_records.specs.laws.PreferenceLaws.{one_more_preferred}
 use Rattle.fm_edit.specs.declared.record_cache.CachedTask.{CachedTask}
 use Rattle.fm_edit.specs.CacheModel.{Sight, IsSeenTask, cached_live, prefers_in}
 use Rattle.fm_edit.specs.TaskIndex.{preferred_cmp}

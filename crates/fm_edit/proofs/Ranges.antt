@@ -13,7 +13,7 @@ use Rattle.std.proofs.lemmas.Cmp.{tied_itself}
 use Rattle.fm_lattice.specs.Chains.{nat_same, pair_same, by_cases, less_greater, greater_less}
 use Rattle.fm_lattice.specs.Chains.{TellsApart}
 use Rattle.fm_edit.specs.TaskIndex.{pair_cmp}
-use Rattle.fm_edit.specs.Listed.{listed_at, named_in}
+use Rattle.fm_edit.specs.inner.Listed.{listed_at, named_in}
 
 pub less_said : (a b : ℕ) → nat_cmp a b ≡ Less → a < b
 less_said a b e = grind (arith, nat_tests, e)

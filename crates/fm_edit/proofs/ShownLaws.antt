@@ -11,12 +11,12 @@ use Rattle.fm_net.specs.declared.node.Node.TheVariants.{Sink, Unscheduled, Reque
 use Rattle.fm_net.specs.Network.{is_live_of, waits_for, live_tasks, is_node, arc_of}
 use Rattle.fm_policy.specs.declared.node_facts.NodeFacts.TheVariants.{OfJob, OfRequest, OfMachine}
 use Rattle.fm_policy.specs.NodeFacts.{facts_of, arc_between}
-use Rattle.fm_policy.specs.FactsLaws as policy
-use Rattle.fm_edit.specs.LocalLaws.{counted}
+use Rattle.fm_policy.specs.laws.FactsLaws as policy
+use Rattle.fm_edit.specs.laws.LocalLaws.{counted}
 use Rattle.fm_edit.specs.CacheModel.{sight_of}
 use Rattle.fm_edit.specs.TaskIndex.{counts_at, weight_at}
 use Rattle.fm_edit.specs.EditorState.{sum_over, none_out}
-use Rattle.fm_edit.specs.CacheFacts.{facts_shown, node_shown, arc_shown}
+use Rattle.fm_edit.specs.inner.CacheFacts.{facts_shown, node_shown, arc_shown}
 
 and_yes : (b : Bool) → (b && true) ≡ b
 and_yes true = refl

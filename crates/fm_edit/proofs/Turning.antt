@@ -10,7 +10,7 @@ use Rattle.fm_policy.specs.Changes.{Keys}
 use Rattle.fm_edit.specs.declared.affected.Touched.{Touched}
 use Rattle.fm_edit.specs.Dirty.{AreDirtyTasks, turned_in, dirty_task, job_of_task, request_of_task, EitherSays, MayTurn}
 use Rattle.fm_edit.specs.CacheModel.{Sight, sight_of, job_node_in, request_node_in, holder_node_in}
-use Rattle.fm_edit.specs.Affected.{has_touched, IsNodeOf, IsTaskEnd, IsEndOf, TouchesOnlyDirty}
+use Rattle.fm_edit.specs.inner.Affected.{has_touched, IsNodeOf, IsTaskEnd, IsEndOf, TouchesOnlyDirty}
 use Rattle.fm_edit.proofs.Completed.{both_ways}
 
 module _ (k after : Table) (keys : Keys) (ds : List ℕ) (are : AreDirtyTasks k after keys ds) where

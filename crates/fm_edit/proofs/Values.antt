@@ -13,7 +13,7 @@ use Rattle.std.specs.declared.cmp.Ordering.TheVariants.{Less}
 use Rattle.fm_lattice.specs.Chains.{nat_same}
 use Rattle.std.specs.Map.{keys_of}
 use Rattle.fm_lattice.specs.Maps.{lookup, IsBelow, IsRising}
-use Rattle.fm_lattice.specs.MapLaws.{same_map}
+use Rattle.fm_lattice.specs.laws.MapLaws.{same_map}
 use Rattle.fm_records.specs.TableLaws.{IsBelowAll, Rises}
 use Rattle.fm_edit.specs.Dirty.{has_id}
 use Rattle.fm_edit.specs.CacheUpdate.{values_at, has_value, AreValuesOf}

@@ -11,7 +11,7 @@ use Rattle.fm_net.specs.Net.{Net}
 use Rattle.fm_net.specs.Network.{net_of}
 use Rattle.fm_edit.specs.CacheModel.{sight_of, seen_in, prefers_in}
 use Rattle.fm_edit.specs.TaskIndex.{is_indexed, counts_at, weight_at, lists, lists_preferred, sum_in}
-use Rattle.fm_edit.specs.CacheFacts.{facts_shown, node_shown, arc_shown}
+use Rattle.fm_edit.specs.inner.CacheFacts.{facts_shown, node_shown, arc_shown}
 use Rattle.fm_edit.specs.declared.shown.Ends.{Ends}
 
 -- what the tasks that are not out add up to at a node

@@ -8,7 +8,7 @@ ghost use Rattle.fm_net.specs.Nodes.{node_cmp, ends_cmp};
 ghost use Rattle.fm_net.specs.declared.node.Node.{Node as NodeName};
 ghost use Rattle.fm_edit.specs.Dirty.{has_id};
 ghost use Rattle.fm_edit.specs.CacheModel.{seen_in};
-ghost use Rattle.fm_edit.specs.Affected.{has_touched, has_pair, AffectedGrows, AffectsEnd, TouchesTask, IsNodeOf, IsTaskEnd, IsEndOf};
+ghost use Rattle.fm_edit.specs.inner.Affected.{has_touched, has_pair, AffectedGrows, AffectsEnd, TouchesTask, IsNodeOf, IsTaskEnd, IsEndOf};
 
 use crate::record_cache::RecordCache;
 use fm_lattice::join::OutOfMemory;

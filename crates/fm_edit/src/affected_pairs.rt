@@ -9,8 +9,8 @@ ghost use Rattle.fm_net.specs.Nodes.{node_cmp};
 ghost use Rattle.fm_net.specs.Touched.{is_among};
 ghost use Rattle.fm_edit.specs.CacheModel.{seen_in};
 ghost use Rattle.fm_edit.specs.TaskIndex.{lists_preferred};
-ghost use Rattle.fm_edit.specs.Affected.{has_pair, AffectedGrows};
-ghost use Rattle.fm_edit.specs.Completing.{Completes, AddsSink, AddsPlaces, AddsPreferring, AddsMachines, is_request_node, is_machine, waiting_in};
+ghost use Rattle.fm_edit.specs.inner.Affected.{has_pair, AffectedGrows};
+ghost use Rattle.fm_edit.specs.inner.Completing.{Completes, AddsSink, AddsPlaces, AddsPreferring, AddsMachines, is_request_node, is_machine, waiting_in};
 
 use crate::affected::Touched;
 use crate::editor_state::EditorState;

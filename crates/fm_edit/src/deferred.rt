@@ -214,7 +214,7 @@ fn few_of(now: &Knowledge) -> usize {
 
 impl NetKeeper for Deferred {
     ghost use Rattle.fm_edit.specs.DeferredModel.{is_fresh_deferred, DeferredIsFor, DeferredFollows, DeferredAbsorbs};
-    ghost use Rattle.fm_edit.specs.DeferringLaws.{fresh_deferred_follows};
+    ghost use Rattle.fm_edit.specs.laws.DeferringLaws.{fresh_deferred_follows};
 
     ghost fresh = { is_fresh_deferred };
 

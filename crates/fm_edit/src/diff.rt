@@ -6,7 +6,7 @@ ghost use Rattle.fm_net.specs.declared.edit.Edit.{Edit as EditName};
 ghost use Rattle.fm_net.specs.Edits.{joins, same_value, has_arc};
 ghost use Rattle.fm_net.specs.Touched.{put_at};
 ghost use Rattle.fm_edit.specs.EditorState.{node_by, arc_by, AreKnownBy};
-ghost use Rattle.fm_edit.specs.Diff.{arcs_that_go, nodes_that_go, nodes_that_come, arcs_that_come, edits_of};
+ghost use Rattle.fm_edit.specs.inner.Diff.{arcs_that_go, nodes_that_go, nodes_that_come, arcs_that_come, edits_of};
 
 use crate::affected::Touched;
 use crate::editor_state::EditorState;

@@ -11,7 +11,7 @@ ghost use Rattle.fm_policy.specs.Keeping.{FollowsAfter};
 ghost use Rattle.fm_edit.specs.Dirty.{CountsDirtyTasks};
 ghost use Rattle.fm_edit.specs.Lookups.{looks_of};
 ghost use Rattle.fm_edit.specs.EditorState.{Remembers, IsEditorState};
-ghost use Rattle.fm_edit.specs.Affected.{TouchesOnlyDirty};
+ghost use Rattle.fm_edit.specs.inner.Affected.{TouchesOnlyDirty};
 
 use crate::affected::Touched;
 use crate::affected_pairs::touch_pairs;

@@ -21,8 +21,8 @@ pub enum Keeper {
 }
 
 impl NetKeeper for Keeper {
-    ghost use Rattle.fm_edit.specs.Keepers.{is_fresh_keeper, KeeperIsFor, KeeperFollows};
-    ghost use Rattle.fm_edit.specs.KeeperLaws.{fresh_keeper_follows};
+    ghost use Rattle.fm_edit.specs.inner.Keepers.{is_fresh_keeper, KeeperIsFor, KeeperFollows};
+    ghost use Rattle.fm_edit.specs.laws.KeeperLaws.{fresh_keeper_follows};
 
     ghost fresh = { is_fresh_keeper };
 

@@ -11,7 +11,7 @@ use Rattle.fm_inbox.specs.Conservation.{weigh, SamePackets}
 use Rattle.fm_inbox.specs.Ports.{InboxModel, PortModel, IsPortOf, IsNewPortOf, after_put, all_put, all_taken}
 use Rattle.fm_inbox.proofs.Keeps.{weigh-append}
 use Rattle.fm_gossip.specs.Passing.{Passed, passing, all_sent, ArePassedOn}
-use Rattle.fm_gossip.specs.Used.{new_port, put_past, after_takes, used_port, used_ports, AreUsed, column}
+use Rattle.fm_gossip.specs.inner.Used.{new_port, put_past, after_takes, used_port, used_ports, AreUsed, column}
 
 pub used_last : (own at : ℕ) (m : Passed) (bs : List InboxModel) (b : InboxModel) → used_ports own at m (bs ++ b ∷ []) ≡ used_ports own at m bs ++ used_port (at + length bs == own) m b ∷ []
 used_last own at m [] b = ap (λ n. used_port (n == own) m b ∷ []) (let e : at ≡ at + 0 = omega arith in e)

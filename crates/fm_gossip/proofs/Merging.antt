@@ -13,7 +13,7 @@ use Rattle.fm_coord.specs.declared.entry.Call.TheVariants as call
 use Rattle.fm_coord.specs.declared.entry.Reply.TheVariants as reply
 use Rattle.fm_fleet.specs.Seats.{SeatModel, after_call}
 use Rattle.fm_gossip.specs.Served.{all_merged, sender_of, IsFirst, AreMerged}
-use Rattle.fm_gossip.specs.Used.{after_takes}
+use Rattle.fm_gossip.specs.inner.Used.{after_takes}
 
 -- packets were merged so far, and those of the others are still awaited
 pub record AreSoFar (others left : List ℕ) (s t : SeatModel) (q r : PortModel) : Type 0 where

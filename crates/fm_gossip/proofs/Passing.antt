@@ -12,7 +12,7 @@ use Rattle.fm_coord.specs.States.{history_entry}
 use Rattle.fm_fleet.specs.Seats.{SeatModel, after_call}
 use Rattle.fm_gossip.specs.Served.{all_told, all_merged, AreMerged}
 use Rattle.fm_gossip.specs.Passing.{merged_by, given_by, merges_in, cuts_in, passing, passed_in}
-use Rattle.fm_gossip.specs.Used.{new_port, used_ports}
+use Rattle.fm_gossip.specs.inner.Used.{new_port, used_ports}
 
 cuts_last : (es : List Entry) (e : Entry) → cuts_in (es ++ e ∷ []) ≡ cuts_in es ++ given_by e.reply
 cuts_last [] e = append-nil (given_by e.reply)

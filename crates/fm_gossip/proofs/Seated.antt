@@ -12,8 +12,8 @@ use Rattle.fm_coord.specs.declared.entry.Reply.TheVariants as reply
 use Rattle.fm_fleet.specs.Seats.{SeatModel, after_call}
 use Rattle.fm_gossip.specs.Served.{Task, member_task, all_told, all_merged, AreRounds, IsIntake, IsEnded, IsServed, new_seat, seat_in}
 use Rattle.fm_gossip.specs.Passing.{passed_in}
-use Rattle.fm_gossip.specs.Used.{new_port, used_ports}
-use Rattle.fm_gossip.specs.Works.{WorkModel, work, done_work, IsDone}
+use Rattle.fm_gossip.specs.inner.Used.{new_port, used_ports}
+use Rattle.fm_gossip.specs.inner.Works.{WorkModel, work, done_work, IsDone}
 
 told_number : (s : SeatModel) (ops : List Op) → (all_told s ops).number ≡ s.number
 told_number s [] = refl

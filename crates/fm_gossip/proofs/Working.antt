@@ -6,8 +6,8 @@ use Rattle.fm_inbox.specs.Ports.{InboxModel, PortPoolModel}
 use Rattle.fm_gossip.specs.Served.{AreServed}
 use Rattle.fm_gossip.specs.Members.{MemberModel, but_for, task_of}
 use Rattle.fm_gossip.specs.Passing.{passed_at}
-use Rattle.fm_gossip.specs.Used.{new_port, AreUsed}
-use Rattle.fm_gossip.specs.Works.{WorkModel, MemberEndModel, LinksModel, links, links_of, HaveOut, HaveDoors, linked_work, linked_works, works_of, AreDone, IsDoneUnless, AreDoneUnless, NoneRefused}
+use Rattle.fm_gossip.specs.inner.Used.{new_port, AreUsed}
+use Rattle.fm_gossip.specs.inner.Works.{WorkModel, MemberEndModel, LinksModel, links, links_of, HaveOut, HaveDoors, linked_work, linked_works, works_of, AreDone, IsDoneUnless, AreDoneUnless, NoneRefused}
 
 -- the links of one member more are made
 pub next_links : (numbers : List ℕ) (bs now : List InboxModel) (before more : List LinksModel) (n k : ℕ) (m : MemberModel) (its rest whole : List MemberModel) (l : LinksModel) → its ≡ m ∷ rest → more ≡ before ++ l ∷ [] → l ≡ links (but_for m.number numbers) n (map new_port bs) → now ≡ bs → k ≡ n + 1

@@ -3,7 +3,7 @@ ghost use Rattle.std.specs.Prelude.{◌≡◌, ◌+◌, ◌<◌, ◌^◌, ℕ, L
 ghost use Rattle.fm_inbox.specs.Ports.{InboxModel, after_put, after_take};
 ghost use Rattle.fm_gossip.specs.Served.{all_told, IsFirst, IsIntake, AreMerged};
 ghost use Rattle.fm_gossip.specs.Passing.{passing, passed_in};
-ghost use Rattle.fm_gossip.specs.Used.{new_port, used_ports, put_past, after_takes};
+ghost use Rattle.fm_gossip.specs.inner.Used.{new_port, used_ports, put_past, after_takes};
 ghost use Rattle.fm_gossip.specs.FleetFaults.{may_stop};
 
 use crate::stop_signal::StopSignal;

@@ -4,8 +4,8 @@ ghost use Rattle.fm_inbox.specs.Ports.{InboxModel, PortModel, IsPortOf, all_put,
 ghost use Rattle.fm_inbox.specs.Conservation.{SamePackets};
 ghost use Rattle.fm_gossip.specs.Passing.{ArePassedOn, passed_at};
 ghost use Rattle.fm_gossip.specs.FleetFaults.{may_stop};
-ghost use Rattle.fm_gossip.specs.Used.{AreUsed, column};
-ghost use Rattle.fm_gossip.specs.Works.{HaveOut};
+ghost use Rattle.fm_gossip.specs.inner.Used.{AreUsed, column};
+ghost use Rattle.fm_gossip.specs.inner.Works.{HaveOut};
 
 use fm_coord::coordinator::Coordinator;
 use fm_fleet::owned_port::{OwnedPort, PortPool};
@@ -26,7 +26,7 @@ pub(crate) struct MemberEnd<N: NetKeeper> {
 impl<N: NetKeeper> Model for MemberEnd<N> {
     ghost use Rattle.std.specs.Prelude.{map, IsTrue, IfSome};
     ghost use Rattle.fm_gossip.specs.FleetFaults.{may_stop};
-    ghost use Rattle.fm_gossip.specs.Works.{MemberEndModel, done_work};
+    ghost use Rattle.fm_gossip.specs.inner.Works.{MemberEndModel, done_work};
 
     ghost Value = { MemberEndModel };
 

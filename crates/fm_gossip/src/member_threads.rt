@@ -4,8 +4,8 @@ ghost use Rattle.fm_gossip.specs.Served.{AreServed};
 ghost use Rattle.fm_gossip.specs.Members.{member_number, member_tasks};
 ghost use Rattle.fm_gossip.specs.Passing.{passed_at, ArePassedOn};
 ghost use Rattle.fm_gossip.specs.FleetFaults.{may_stop, AreBack};
-ghost use Rattle.fm_gossip.specs.Used.{AreUsed};
-ghost use Rattle.fm_gossip.specs.Works.{links_of, HaveOut, IsDoneUnless, AreDoneUnless, NoneRefused};
+ghost use Rattle.fm_gossip.specs.inner.Used.{AreUsed};
+ghost use Rattle.fm_gossip.specs.inner.Works.{links_of, HaveOut, IsDoneUnless, AreDoneUnless, NoneRefused};
 
 use crate::member::Member;
 use crate::member_end::{MemberEnd, close_all};

@@ -6,10 +6,10 @@ ghost use Rattle.fm_fleet.specs.Audits.{StandInOne};
 ghost use Rattle.fm_fleet.specs.Seats.{AreNew, HasSeat};
 ghost use Rattle.fm_gossip.specs.Served.{IsIntake, AreRounds, new_seat, IsEnded};
 ghost use Rattle.fm_gossip.specs.Passing.{passed_in};
-ghost use Rattle.fm_gossip.specs.Used.{new_port, used_ports};
+ghost use Rattle.fm_gossip.specs.inner.Used.{new_port, used_ports};
 ghost use Rattle.fm_coord.specs.Causes.{first_some};
 ghost use Rattle.fm_gossip.specs.FleetFaults.{may_stop};
-ghost use Rattle.fm_gossip.specs.Works.{IsDoneUnless};
+ghost use Rattle.fm_gossip.specs.inner.Works.{IsDoneUnless};
 
 use crate::intake::{Intake, Taken, take_in};
 use crate::member_end::MemberEnd;
@@ -39,7 +39,7 @@ use std::thread::{Promise, Threads};
 pub(crate) struct Served<N: NetKeeper, G>(pub(crate) Snapshot<Work<N, G>>);
 
 impl<N: NetKeeper, G> Promise<MemberEnd<N>> for Served<N, G> {
-    ghost use Rattle.fm_gossip.specs.Works.{IsDoneUnless};
+    ghost use Rattle.fm_gossip.specs.inner.Works.{IsDoneUnless};
 
     ghost kept_by = { λ p d. IsDoneUnless p.0.value d };
 }

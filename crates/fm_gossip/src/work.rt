@@ -1,8 +1,8 @@
 //! What a node's thread is given.
 ghost use Rattle.std.specs.Prelude.{◌≡◌, ℕ, ◌+◌, ◌++◌, ◌<◌, ◌≤◌, length, map, vec_len, vec_capacity, IfOk, OnOk, IsOkUnless};
 ghost use Rattle.fm_gossip.specs.Members.{member_number, but_for};
-ghost use Rattle.fm_gossip.specs.Used.{new_port};
-ghost use Rattle.fm_gossip.specs.Works.{links, links_of, HaveOut, HaveDoors, linked_work, linked_works};
+ghost use Rattle.fm_gossip.specs.inner.Used.{new_port};
+ghost use Rattle.fm_gossip.specs.inner.Works.{links, links_of, HaveOut, HaveDoors, linked_work, linked_works};
 
 use crate::intake::Intake;
 use crate::member::Member;
@@ -30,7 +30,7 @@ pub(crate) struct Work<N: NetKeeper, G> {
 impl<N: NetKeeper, G> Model for Work<N, G> {
     ghost use Rattle.std.specs.Prelude.{◌≡◌, ◌<◌, [], map, vec_len};
     ghost use Rattle.fm_gossip.specs.Served.{member_task};
-    ghost use Rattle.fm_gossip.specs.Works.{WorkModel, work};
+    ghost use Rattle.fm_gossip.specs.inner.Works.{WorkModel, work};
 
     ghost Value = { WorkModel };
 
@@ -52,7 +52,7 @@ pub(crate) struct Links {
 
 impl Model for Links {
     ghost use Rattle.std.specs.Prelude.{◌<◌, map, vec_len};
-    ghost use Rattle.fm_gossip.specs.Works.{LinksModel, links};
+    ghost use Rattle.fm_gossip.specs.inner.Works.{LinksModel, links};
 
     ghost Value = { LinksModel };
 

@@ -1,7 +1,7 @@
 -- Reading and writing the tree by place.
 use Rattle.std.proofs.Common.{◌≡◌, ℕ, zero, suc, ◌<◌, All, List, [], ◌∷◌, length, get_or, ap, subst, sym, arith}
 use Rattle.fm_heuristics.specs.declared.knot.Knot.{Knot}
-use Rattle.fm_heuristics.specs.Trees.{IsKnot, depth_of}
+use Rattle.fm_heuristics.specs.inner.Trees.{IsKnot, depth_of}
 
 -- the node that is read at a place is as deep as the tree says
 pub depth_at : (knots : List Knot) (v : ℕ) (k : Knot) → v < length knots → k ≡ get_or knots v k → depth_of knots v ≡ k.depth

@@ -6,7 +6,7 @@
 //! simplex.
 
 ghost use Rattle.std.specs.Prelude.{◌≡◌, ◌<◌, ◌≤◌, All, vec_len, IfOk, OnOk, IsTrue, ◌+◌};
-ghost use Rattle.fm_heuristics.specs.Trees.{IsKnot, IsTied, depth_of};
+ghost use Rattle.fm_heuristics.specs.inner.Trees.{IsKnot, IsTied, depth_of};
 
 use crate::contracted::Contracted;
 use crate::knot::{Knot, LOOSE};
@@ -63,7 +63,7 @@ fn are_tied(links: &[Link], nodes: usize) -> bool
 }
 
 impl Tree {
-    ghost use Rattle.fm_heuristics.specs.Sizes.{KeepsSize};
+    ghost use Rattle.fm_heuristics.specs.inner.Sizes.{KeepsSize};
 
     /// The tree with which the contracted network begins. Broken if a link leads nowhere.
     pub(crate) fn of(alloc: Global, contracted: Contracted) -> Result<Self, Stop> {

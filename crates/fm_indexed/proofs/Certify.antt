@@ -16,12 +16,12 @@ use Rattle.fm_records.specs.TableLaws.{Rises}
 use Rattle.fm_net.specs.declared.node.Node.{Node}
 use Rattle.fm_net.specs.declared.node.Node.TheVariants as node
 use Rattle.fm_net.specs.Nodes.{node_cmp, ends_cmp}
-use Rattle.fm_net.specs.NodeOrder.{node_total}
+use Rattle.fm_net.specs.laws.NodeOrder.{node_total}
 use Rattle.fm_net.specs.Net.{Net, CanBeNet}
 use Rattle.fm_net.specs.NetworkEquality.{same_node}
 use Rattle.fm_certificate.specs.Certificates.{potential_in, IsCertified}
 use Rattle.fm_certificate.specs.Totals.{Entry, source, target, units_at}
-use Rattle.fm_certificate.specs.Checks.{AreOf, IsComplementary, FitAll, reduced_at, sends}
+use Rattle.fm_certificate.specs.inner.Checks.{AreOf, IsComplementary, FitAll, reduced_at, sends}
 use Rattle.fm_certificate.proofs.Certified.{certified}
 use Rattle.fm_cycles.specs.declared.indexed_arcs.IndexedArc.{IndexedArc}
 use Rattle.fm_cycles.specs.declared.indexed_arcs.ResidualArc.{ResidualArc}
@@ -32,7 +32,7 @@ use Rattle.fm_cycles.specs.Units.{inflow_at, outflow_at, units_with_end as numbe
 use Rattle.fm_indexed.specs.declared.node_ranges.NodeRanges.{NodeRanges}
 use Rattle.fm_indexed.specs.Numbered.{NetArc, IsArcOf, AreArcsOf, IsNumbered}
 use Rattle.fm_indexed.specs.Feasible.{IsConserved, IsFlowOf}
-use Rattle.fm_indexed.specs.Named.{named_units, named_potentials}
+use Rattle.fm_indexed.specs.inner.Named.{named_units, named_potentials}
 use Rattle.fm_indexed.proofs.Placed.{one_place, place_of_member, earlier_less}
 use Rattle.fm_indexed.proofs.KindsAt.{kind_is, kind_there}
 use Rattle.fm_indexed.proofs.Formed.{number_at_place, as_many}

@@ -11,9 +11,9 @@ use Rattle.fm_records.specs.Options.{or_else}
 use Rattle.fm_records.specs.TableLaws.{IsBelowAll, Rises}
 use Rattle.fm_net.specs.declared.node.Node.{Node}
 use Rattle.fm_net.specs.Nodes.{node_cmp}
-use Rattle.fm_net.specs.NodeOrder.{node_exact, node_total}
+use Rattle.fm_net.specs.laws.NodeOrder.{node_exact, node_total}
 use Rattle.fm_certificate.specs.Totals.{total_in}
-use Rattle.fm_indexed.specs.Named.{entered_by}
+use Rattle.fm_indexed.specs.inner.Named.{entered_by}
 use Rattle.fm_indexed.proofs.Placed.{earlier_less}
 
 nothing_left : (nodes : List Node) → entered_by nodes [] ≡ []

@@ -11,7 +11,7 @@ use Rattle.fm_certificate.specs.Totals.{Entry, target, units_at}
 use Rattle.fm_certificate.proofs.Alike.{other_node}
 use Rattle.fm_cycles.specs.declared.indexed_arcs.IndexedArc.{IndexedArc}
 use Rattle.fm_indexed.specs.Numbered.{NetArc, IsArcOf, AreArcsOf}
-use Rattle.fm_indexed.specs.Named.{named_units, named_potentials, name_at, named_ends, units_by}
+use Rattle.fm_indexed.specs.inner.Named.{named_units, named_potentials, name_at, named_ends, units_by}
 
 pub append_one : {A : Type 0} → (xs : List A) (x : A) (ys : List A) → xs ++ x ∷ ys ≡ (xs ++ x ∷ []) ++ ys
 append_one [] x ys = refl

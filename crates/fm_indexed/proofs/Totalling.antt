@@ -4,15 +4,15 @@ use Rattle.std.specs.Prelude.{slice_get, slice_index}
 use Rattle.std.proofs.lemmas.Option.{slice_get_within}
 use Rattle.fm_net.specs.declared.node.Node.{Node}
 use Rattle.fm_net.specs.Nodes.{node_cmp}
-use Rattle.fm_net.specs.NodeOrder.{node_exact, node_total}
-use Rattle.fm_net.specs.ListLaws.{has_member, member_has}
+use Rattle.fm_net.specs.laws.NodeOrder.{node_exact, node_total}
+use Rattle.fm_net.specs.laws.ListLaws.{has_member, member_has}
 use Rattle.fm_net.specs.Net.{Net, CanBeNet, has_node}
 use Rattle.fm_certificate.specs.Totals.{target, units_at, total_in, IsTotalled}
 use Rattle.fm_cycles.specs.declared.indexed_arcs.IndexedArc.{IndexedArc}
 use Rattle.fm_cycles.specs.Units.{inflow_at}
 use Rattle.fm_indexed.specs.declared.node_ranges.NodeRanges.{NodeRanges}
 use Rattle.fm_indexed.specs.Numbered.{IsNumbered}
-use Rattle.fm_indexed.specs.Named.{named_units, entered_by}
+use Rattle.fm_indexed.specs.inner.Named.{named_units, entered_by}
 use Rattle.fm_indexed.proofs.Placed.{place_of_member, member_at}
 use Rattle.fm_indexed.proofs.Naming.{named_rise, named_fit, enters_none}
 use Rattle.fm_indexed.proofs.Entered.{no_total, total_there}

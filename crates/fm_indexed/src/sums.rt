@@ -2,7 +2,7 @@
 
 ghost use Rattle.std.specs.Prelude.{◌≡◌, ◌<◌, ℕ, vec_len, slice_index, IfOk};
 ghost use Rattle.fm_cycles.specs.Units.{inflow_at, outflow_at, units_with_end};
-ghost use Rattle.fm_indexed.specs.ArcEnds.{node_at_end};
+ghost use Rattle.fm_indexed.specs.inner.ArcEnds.{node_at_end};
 
 use crate::indexed_network::IndexedNetwork;
 use fm_cycles::indexed_arcs::IndexedArc;

@@ -8,7 +8,7 @@ ghost use Rattle.fm_cycles.specs.Found.{costs_in};
 ghost use Rattle.fm_certificate.specs.Certificates.{IsCertified};
 ghost use Rattle.fm_indexed.specs.Numbered.{IsNumbered};
 ghost use Rattle.fm_indexed.specs.Feasible.{IsFlowOf};
-ghost use Rattle.fm_indexed.specs.Named.{name_at, named_units, named_potentials, units_by, entered_by};
+ghost use Rattle.fm_indexed.specs.inner.Named.{name_at, named_units, named_potentials, units_by, entered_by};
 
 use crate::indexed_network::IndexedNetwork;
 use crate::numbering::nodes_of;

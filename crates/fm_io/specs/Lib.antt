@@ -3,4 +3,4 @@ pub mod Lines
 pub mod LineReads
 pub mod Replies
 pub mod Runs
-pub mod LineExamples
+pub mod examples

@@ -9,7 +9,7 @@ use Rattle.std.proofs.lemmas.Cmp.{ranked}
 use Rattle.fm_lattice.specs.Chains.{nat_same, by_order}
 use Rattle.fm_lattice.specs.Joins.{max_join, option_join}
 use Rattle.fm_lattice.specs.Maps.{lookup}
-use Rattle.fm_lattice.specs.MapLaws.{lookup_join}
+use Rattle.fm_lattice.specs.laws.MapLaws.{lookup_join}
 use Rattle.fm_records.specs.declared.ops.Op.{Op}
 use Rattle.fm_records.specs.declared.ops.Op.TheVariants as op
 use Rattle.fm_records.specs.declared.ops.Phase.TheVariants.{Pending}
@@ -20,8 +20,8 @@ use Rattle.fm_records.specs.Options.{when, and_then, or_else, passes}
 use Rattle.fm_records.specs.Orders.{job_cmp, machine_cmp, report_cmp, progress_cmp}
 use Rattle.fm_records.specs.Table.{Table, TaskValue, MachineValue}
 use Rattle.fm_records.specs.Know.{initial_progress, table_of, job_in, state_in, progress_in, job, task, machine, machine_at, incarnation, state_at}
-use Rattle.fm_records.specs.LookupLaws.{lookup_job, lookup_task, lookup_machine}
-use Rattle.fm_records.specs.RangeLaws.{know_table}
+use Rattle.fm_records.specs.laws.LookupLaws.{lookup_job, lookup_task, lookup_machine}
+use Rattle.fm_records.specs.laws.RangeLaws.{know_table}
 use Rattle.fm_records.specs.OpsOfTable.{IsTable}
 use Rattle.fm_records.specs.Facts.{job_of, machine_state, incarnation_of, progress_of, attempt_of}
 use Rattle.fm_records.specs.Joined.{table_join, task_join, machine_join}

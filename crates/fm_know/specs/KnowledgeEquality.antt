@@ -13,7 +13,7 @@ use Rattle.fm_lattice.specs.Chains.{TellsApart, nat_same}
 use Rattle.fm_records.specs.declared.records.JobReg.{JobReg}
 use Rattle.fm_records.specs.declared.records.Spot.{Spot}
 use Rattle.fm_records.specs.Orders.{job_cmp, spec_cmp, progress_cmp, machine_cmp, report_cmp, spot_cmp, attempt_cmp}
-use Rattle.fm_records.specs.OrderLaws.{total_job, same_job, total_spec, same_spec, total_progress, same_progress, total_machine, same_machine, total_report, same_report, total_spot, same_spot, total_attempt, same_attempt}
+use Rattle.fm_records.specs.laws.OrderLaws.{total_job, same_job, total_spec, same_spec, total_progress, same_progress, total_machine, same_machine, total_report, same_report, total_spot, same_spot, total_attempt, same_attempt}
 use Rattle.fm_records.specs.Table.{Table, TaskValue, MachineValue}
 use Rattle.fm_records.specs.RecordEquality.{apart, pair_Decides, equivalence}
 

@@ -1,5 +1,5 @@
 pub mod Limits
 pub mod Winners
-pub mod Records
 pub mod KnowledgeEquality
 pub mod Mutators
+pub mod inner

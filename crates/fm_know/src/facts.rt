@@ -5,7 +5,7 @@ ghost use Rattle.std.specs.Ordering.{nat_cmp};
 ghost use Rattle.fm_lattice.specs.Maps.{lookup};
 ghost use Rattle.fm_records.specs.Facts.{job_of, spec_of, progress_of, is_done, live_spec, is_live, job_stands, open_state, is_open, is_present, used_of, winner_of, won_spot, holder_of, held_tasks, holds, request_of, load_of, spare_of};
 ghost use Rattle.fm_know.specs.Winners.{as_winner};
-ghost use Rattle.fm_know.specs.Records.{live_in, placed_in, holder_in, open_state_in};
+ghost use Rattle.fm_know.specs.inner.Records.{live_in, placed_in, holder_in, open_state_in};
 ghost use Rattle.fm_know.specs.Limits.{JobWithin, SpecWithin, StateWithin};
 
 use crate::knowledge::Knowledge;

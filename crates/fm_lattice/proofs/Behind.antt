@@ -8,7 +8,7 @@ use Rattle.std.proofs.lemmas.Bool.{cases_order}
 use Rattle.std.proofs.lemmas.List.{get_or_default}
 use Rattle.fm_lattice.specs.Chains.{TellsApart}
 use Rattle.fm_lattice.specs.Maps.{IsRising}
-use Rattle.fm_lattice.specs.SortedVec.{HasKeyAt, IsInsertionIndex}
+use Rattle.fm_lattice.specs.inner.SortedVec.{HasKeyAt, IsInsertionIndex}
 use Rattle.fm_lattice.proofs.Places.{rising_at}
 
 pub less_of : (o : Ordering) → is_lt o ≡ true → o ≡ Less

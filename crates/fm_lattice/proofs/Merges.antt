@@ -6,7 +6,7 @@ use Rattle.std.specs.declared.cmp.Ordering.TheVariants.{Less, Equal, Greater}
 use Rattle.std.proofs.lemmas.Cmp.{tied_itself}
 use Rattle.fm_lattice.specs.Chains.{TellsApart}
 use Rattle.fm_lattice.specs.Maps.{IsRising, map_join}
-use Rattle.fm_lattice.specs.MapLaws.{join_less, join_equal, join_greater, join_from_none}
+use Rattle.fm_lattice.specs.laws.MapLaws.{join_less, join_equal, join_greater, join_from_none}
 
 -- the head of what is left moves to the end of what is done
 pub moved : {X : Type 0} (out now rest whole : List X) (head : X) → now ≡ head ∷ rest → out ++ now ≡ whole → (out ++ head ∷ []) ++ rest ≡ whole

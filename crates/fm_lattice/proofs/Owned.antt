@@ -7,8 +7,8 @@ use Rattle.std.specs.declared.cmp.Ordering.TheVariants.{Less, Equal, Greater}
 use Rattle.std.proofs.lemmas.Cmp.{tied_itself}
 use Rattle.fm_lattice.specs.Chains.{TellsApart, by_order, by_cases, less_greater, greater_less}
 use Rattle.fm_lattice.specs.Maps.{IsBelow, IsRising, put}
-use Rattle.fm_lattice.specs.MapLaws.{below_trans}
-use Rattle.fm_lattice.specs.SortedVec.{HasKeyAt, IsInsertionIndex}
+use Rattle.fm_lattice.specs.laws.MapLaws.{below_trans}
+use Rattle.fm_lattice.specs.inner.SortedVec.{HasKeyAt, IsInsertionIndex}
 use Rattle.fm_lattice.specs.Stocks.{Stock}
 use Rattle.fm_lattice.specs.Blocks.{BeginsWith, BeginAbove, IsBlockFor, is_owned_home, GoesToOwned, GoToOwned}
 use Rattle.fm_lattice.proofs.Places.{below_at}

@@ -10,7 +10,7 @@ use Rattle.std.proofs.lemmas.Cmp.{tied_back, alike_right}
 use Rattle.std.proofs.lemmas.Bool.{cases_order}
 use Rattle.fm_lattice.specs.Chains.{TellsApart, by_cases, less_greater, greater_less}
 use Rattle.fm_lattice.specs.Maps.{lookup, IsBelow, IsRising, put}
-use Rattle.fm_lattice.specs.SortedVec.{HasKeyAt, IsInsertionIndex}
+use Rattle.fm_lattice.specs.inner.SortedVec.{HasKeyAt, IsInsertionIndex}
 
 module _ {K : Type 0} (cmp : K → K → Ordering) (total : IsTotalOrder cmp) where
   index_le_two : (o : Ordering) → ordering_index o ≤ 2

@@ -6,10 +6,10 @@ use Rattle.std.specs.declared.cmp.Ordering.{Ordering}
 use Rattle.fm_lattice.specs.Chains.{TellsApart}
 use Rattle.fm_lattice.specs.Joins.{JoinLaws}
 use Rattle.fm_lattice.specs.Maps.{IsMap, map_join}
-use Rattle.fm_lattice.specs.MapLaws.{is_map_join, map_laws}
+use Rattle.fm_lattice.specs.laws.MapLaws.{is_map_join, map_laws}
 use Rattle.fm_lattice.specs.Stocks.{Stock}
 use Rattle.fm_lattice.specs.Blocks.{pairs_of, AreHeaded, IsKept}
-use Rattle.fm_lattice.specs.StagedJoins.{outcome}
+use Rattle.fm_lattice.specs.inner.StagedJoins.{outcome}
 
 module _ {K V A : Type 0} (cmp : K → K → Ordering) (total : IsTotalOrder cmp) (same : TellsApart cmp) (join : V → V → V)
     (is_value : V → Type 0) (laws : JoinLaws is_value join) (bs now other after : List (K × Stock (K × V))) (len other_len : ℕ)

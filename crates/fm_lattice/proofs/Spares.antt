@@ -7,7 +7,7 @@ use Rattle.std.specs.declared.cmp.Ordering.{Ordering}
 use Rattle.fm_lattice.specs.Chains.{TellsApart}
 use Rattle.fm_lattice.specs.Joins.{option_join}
 use Rattle.fm_lattice.specs.Maps.{lookup, put, keep_new, IsRising}
-use Rattle.fm_lattice.specs.MapLaws.{lookup_put}
+use Rattle.fm_lattice.specs.laws.MapLaws.{lookup_put}
 use Rattle.fm_lattice.specs.Blocks.{HaveSpares}
 
 none_before : {V : Type 0} (join : V → V → V) (x y : Option V) → option_join join x y ≡ None → x ≡ None

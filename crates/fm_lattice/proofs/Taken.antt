@@ -10,7 +10,7 @@ use Rattle.std.specs.declared.cmp.Ordering.TheVariants.{Less}
 use Rattle.std.proofs.lemmas.Cmp.{tied_back, alike_right}
 use Rattle.fm_lattice.specs.Chains.{TellsApart, less_greater, greater_less}
 use Rattle.fm_lattice.specs.Maps.{IsBelow, IsRising, put}
-use Rattle.fm_lattice.specs.SortedVec.{HasKeyAt, IsInsertionIndex}
+use Rattle.fm_lattice.specs.inner.SortedVec.{HasKeyAt, IsInsertionIndex}
 use Rattle.fm_lattice.proofs.Places.{below_at}
 
 module _ {K V : Type 0} (cmp : K → K → Ordering) (total : IsTotalOrder cmp) (same : TellsApart cmp) where

@@ -1,10 +1,8 @@
 pub mod Chains
 pub mod Joins
-pub mod PlainLaws
 pub mod Maps
-pub mod MapLaws
-pub mod SortedVec
 pub mod Stocks
 pub mod Ownership
 pub mod Blocks
-pub mod StagedJoins
+pub mod inner
+pub mod laws

@@ -2,7 +2,7 @@
 
 ghost use Rattle.std.specs.Prelude.{◌≡◌};
 ghost use Rattle.fm_lattice.specs.Joins.{Any, IsOptionOf, IsPairOf, IsLexOf, max_join, min_join, option_join, pair_join, lex_join};
-ghost use Rattle.fm_lattice.specs.PlainLaws.{max_laws, min_laws, option_laws, pair_laws, lex_laws};
+ghost use Rattle.fm_lattice.specs.laws.PlainLaws.{max_laws, min_laws, option_laws, pair_laws, lex_laws};
 
 use crate::chain::Chain;
 use crate::join::{Join, OutOfMemory, copied};

@@ -2,7 +2,7 @@
 
 ghost use Rattle.std.specs.Prelude.{◌≡◌, ◌↔◌, ◌<◌, ◌^◌, List, [], ◌∷◌, length, IsTrue, IfOk, OnOk, OnErr, option_copied};
 ghost use Rattle.fm_lattice.specs.Maps.{IsMap, lookup, put, map_join, JoinsByKey};
-ghost use Rattle.fm_lattice.specs.MapLaws.{map_laws};
+ghost use Rattle.fm_lattice.specs.laws.MapLaws.{map_laws};
 
 use crate::block::Block;
 use crate::blocks::{comes_last, copied_blocks, make_room, shared_blocks, value_at, write};

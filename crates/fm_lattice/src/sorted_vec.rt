@@ -5,7 +5,7 @@ ghost use Rattle.std.specs.BTreeMap.{is_at};
 ghost use Rattle.std.specs.Map.{remove_entry};
 ghost use Rattle.fm_lattice.specs.Chains.{TellsApart};
 ghost use Rattle.fm_lattice.specs.Maps.{IsRising, lookup, put, keep_new};
-ghost use Rattle.fm_lattice.specs.SortedVec.{HasKeyAt, IsInsertionIndex};
+ghost use Rattle.fm_lattice.specs.inner.SortedVec.{HasKeyAt, IsInsertionIndex};
 
 use crate::chain::Chain;
 use crate::join::OutOfMemory;

@@ -3,7 +3,7 @@
 ghost use Rattle.std.specs.Prelude.{◌≡◌, List, true, IfOk, length};
 ghost use Rattle.fm_lattice.specs.Maps.{IsRising, map_join};
 ghost use Rattle.fm_lattice.specs.Blocks.{pairs_of, AreHeaded, IsKept};
-ghost use Rattle.fm_lattice.specs.StagedJoins.{IsReady, outcome};
+ghost use Rattle.fm_lattice.specs.inner.StagedJoins.{IsReady, outcome};
 
 use crate::block::Block;
 use crate::blocks::copied_blocks;

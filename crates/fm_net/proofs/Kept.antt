@@ -9,7 +9,7 @@ use Rattle.fm_records.specs.TableLaws.{Rises}
 use Rattle.fm_net.specs.declared.node.Node.{Node}
 use Rattle.fm_net.specs.declared.node.Node.TheVariants.{Sink}
 use Rattle.fm_net.specs.Nodes.{node_cmp, ends_cmp, IsInRange}
-use Rattle.fm_net.specs.NodeOrder.{node_exact, node_total, ends_exact}
+use Rattle.fm_net.specs.laws.NodeOrder.{node_exact, node_total, ends_exact}
 use Rattle.fm_net.specs.Net.{Net, CanBeNet, IsArc, IsTouched, has_node, arc_at, are_ends}
 
 -- an arc is unchanged if its ends are

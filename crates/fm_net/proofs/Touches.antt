@@ -7,9 +7,9 @@ use Rattle.fm_lattice.specs.Chains.{by_cases}
 use Rattle.fm_lattice.specs.Maps.{lookup}
 use Rattle.fm_net.specs.declared.node.Node.{Node}
 use Rattle.fm_net.specs.Nodes.{ends_cmp}
-use Rattle.fm_net.specs.NodeOrder.{ends_exact, ends_total}
+use Rattle.fm_net.specs.laws.NodeOrder.{ends_exact, ends_total}
 use Rattle.fm_net.specs.Net.{Net, IsTouched}
-use Rattle.fm_net.specs.Ends.{is_end}
+use Rattle.fm_net.specs.inner.Ends.{is_end}
 use Rattle.fm_net.specs.NetworkEquality.{same_node, node_Decides}
 
 abbrev Arcs : Type 0

@@ -6,7 +6,7 @@ ghost use Rattle.fm_net.specs.Nodes.{IsRequestInRange};
 ghost use Rattle.fm_net.specs.Net.{CanBeNet, IsArcKind, IsTouched, has_node, arc_at, sink_alone, with_node, without_node, with_arc, without_arc, are_ends};
 ghost use Rattle.std.specs.Map.{keys_of};
 ghost use Rattle.std.specs.List.{list_any};
-ghost use Rattle.fm_net.specs.Ends.{is_end};
+ghost use Rattle.fm_net.specs.inner.Ends.{is_end};
 
 use crate::hybrid_map::HybridMap;
 use crate::node::Node;

@@ -23,7 +23,7 @@ pub enum Node {
 }
 
 impl Chain for Node {
-    ghost use Rattle.fm_net.specs.NodeOrder.{node_exact};
+    ghost use Rattle.fm_net.specs.laws.NodeOrder.{node_exact};
 
     ghost same = { node_exact };
 }

@@ -3,7 +3,7 @@
 ghost use Rattle.std.specs.Prelude.{◌≡◌, length, ◌<◌, ◌^◌};
 ghost use Rattle.std.specs.Iterator.{YieldsFirst, YieldsFirstBy, item_count};
 ghost use Rattle.std.specs.Map.{keys_of};
-ghost use Rattle.fm_net.specs.NetworkIter.{arc_entry};
+ghost use Rattle.fm_net.specs.inner.NetworkIter.{arc_entry};
 
 use crate::hybrid_map::{HybridMap, Pairs};
 use crate::node::Node;

@@ -9,8 +9,8 @@ use Rattle.fm_records.specs.RecordEquality.{pair_Decides}
 use Rattle.fm_records.specs.Sets.{IsMember}
 use Rattle.fm_net.specs.declared.node.Node.{Node}
 use Rattle.fm_net.specs.Nodes.{ends_cmp}
-use Rattle.fm_net.specs.NodeOrder.{ends_total, ends_exact}
-use Rattle.fm_net.specs.ListLaws.{entry_member}
+use Rattle.fm_net.specs.laws.NodeOrder.{ends_total, ends_exact}
+use Rattle.fm_net.specs.laws.ListLaws.{entry_member}
 use Rattle.fm_net.specs.Net.{Net, arc_at}
 use Rattle.fm_net.specs.NetworkEquality.{same_node, same_ends, node_Decides}
 use Rattle.fm_certificate.specs.Flows.{leaving, entering}

@@ -8,16 +8,16 @@ use Rattle.std.proofs.lemmas.Cmp.{tied_itself}
 use Rattle.std.proofs.lemmas.List.Sums.{sum_by-cons}
 use Rattle.fm_lattice.specs.Chains.{by_cases, nat_same}
 use Rattle.fm_lattice.specs.Maps.{lookup, IsBelow, IsRising}
-use Rattle.fm_lattice.specs.MapLaws.{lookup_below}
+use Rattle.fm_lattice.specs.laws.MapLaws.{lookup_below}
 use Rattle.fm_records.specs.Ranges.{CanBe}
 use Rattle.fm_records.specs.Options.{when, and_then, or_else, passes}
 use Rattle.fm_records.specs.Sets.{IsMember}
 use Rattle.fm_records.specs.Table.{Table, TaskValue}
 use Rattle.fm_records.specs.Facts.{live_spec, is_live, holder_of, holds, attempt_of}
 use Rattle.fm_net.specs.Net.{CanBeNet}
-use Rattle.fm_net.specs.ListLaws.{entry_member}
+use Rattle.fm_net.specs.laws.ListLaws.{entry_member}
 use Rattle.fm_net.specs.Network.{is_held, net_of}
-use Rattle.fm_net.specs.NetworkLaws.{passes_some, live_entry, held_ends}
+use Rattle.fm_net.specs.laws.NetworkLaws.{passes_some, live_entry, held_ends}
 use Rattle.fm_certificate.proofs.Members.{member_lookup}
 use Rattle.fm_certificate.proofs.Sums.{sum_same, sum_both}
 use Rattle.fm_round.specs.declared.plan.Place.{Place}

@@ -15,7 +15,7 @@ use Rattle.fm_records.specs.TableLaws.{IsBelowAll, Rises}
 use Rattle.fm_net.specs.declared.node.Node.{Node}
 use Rattle.fm_net.specs.declared.node.Node.TheVariants.{Request, Machine}
 use Rattle.fm_net.specs.Nodes.{node_cmp, ends_cmp}
-use Rattle.fm_net.specs.NodeOrder.{node_total}
+use Rattle.fm_net.specs.laws.NodeOrder.{node_total}
 use Rattle.fm_round.specs.PlanOfFlow.{ArcUnits, seats_in, seats, machines_of}
 use Rattle.fm_paths.proofs.Orders.{AreFrom, NeverFalls}
 

@@ -15,7 +15,7 @@ use Rattle.fm_records.specs.Facts.{holder_of, holds}
 use Rattle.fm_tally.specs.declared.way.Way.{Way}
 use Rattle.fm_tally.specs.declared.way.Way.TheVariants.{ToJob, ByRequest, Straight}
 use Rattle.fm_paths.specs.TaskPaths.{goes_by, takes_slot}
-use Rattle.fm_planner.specs.Counts.{pair_of, moved_machine}
+use Rattle.fm_planner.specs.inner.Counts.{pair_of, moved_machine}
 
 -- a comparison of numbers, as a test of equality
 pub at_number : (q r : ℕ) → is_eq (nat_cmp q r) ≡ (q == r)

@@ -5,7 +5,7 @@ use Rattle.std.proofs.lemmas.List.Sums.{sum_by-cons}
 use Rattle.fm_lattice.specs.Chains.{by_cases, nat_same}
 use Rattle.fm_lattice.specs.Maps.{lookup}
 use Rattle.fm_records.specs.Sets.{IsMember}
-use Rattle.fm_planner.specs.Slackness.{AllOf}
+use Rattle.fm_planner.specs.inner.Slackness.{AllOf}
 
 no_some : {A P : Type 0} {a : A} → None ≡ Some a → P
 no_some e = absurd (let no : ⊥ = cc in no)

@@ -4,7 +4,7 @@ use Rattle.std.specs.Ordering.{nat_cmp}
 use Rattle.std.proofs.lemmas.Cmp.{ranked}
 use Rattle.std.specs.declared.cmp.Ordering.TheVariants.{Less}
 use Rattle.fm_lattice.specs.Maps.{IsBelow, IsRising}
-use Rattle.fm_planner.specs.Slackness.{AllOf, IsTop}
+use Rattle.fm_planner.specs.inner.Slackness.{AllOf, IsTop}
 
 module _ {A : Type 0} where
   pub all_map : (P Q : A → Type 0) (xs : List A) → ((x : A) → P x → Q x) → AllOf P xs → AllOf Q xs

@@ -11,7 +11,7 @@ use Rattle.fm_lattice.specs.Maps.{IsBelow, IsRising}
 use Rattle.fm_records.specs.Sets.{IsMember}
 use Rattle.fm_tally.specs.declared.way.Way.{Way}
 use Rattle.fm_tally.specs.declared.way.Way.TheVariants.{ToJob, ByRequest, Straight}
-use Rattle.fm_planner.specs.Slackness.{after_move, IsNext, GoInTurn}
+use Rattle.fm_planner.specs.inner.Slackness.{after_move, IsNext, GoInTurn}
 
 below_of : (k : ℕ) (e : ℕ × Way) (es : List (ℕ × Way)) → IsBelow nat_cmp k es → IsMember e es → k < e.0
 below_of k e [] b m = absurd m

@@ -5,7 +5,7 @@ ghost use Rattle.std.specs.Prelude.{◌≡◌, ◌≤◌, ◌<◌, ◌+◌, ◌�
 ghost use Rattle.std.specs.Ordering.{nat_cmp};
 ghost use Rattle.std.specs.BTreeMap.{get};
 ghost use Rattle.fm_search.specs.Claims.{rise_of, offer_of};
-ghost use Rattle.fm_planner.specs.Slackness.{AllOf, IsFairTask, IsFairMove, IsFairMachine, IsFairOffer, IsTop, IsFairAtRest, IsPreferredFairly, IsNoCheaper, HasRoom, GoesStraight, own_cost, straight_cost, load_in, HasFairSlots, HasMoreRoom, Leaves, Asks, GoInTurn, IsNext, after_move, fitting_tasks, Passes};
+ghost use Rattle.fm_planner.specs.inner.Slackness.{AllOf, IsFairTask, IsFairMove, IsFairMachine, IsFairOffer, IsTop, IsFairAtRest, IsPreferredFairly, IsNoCheaper, HasRoom, GoesStraight, own_cost, straight_cost, load_in, HasFairSlots, HasMoreRoom, Leaves, Asks, GoInTurn, IsNext, after_move, fitting_tasks, Passes};
 
 use crate::move_counts::Counts;
 use fm_know::knowledge::Knowledge;

@@ -3,7 +3,7 @@
 ghost use Rattle.std.specs.Prelude.{◌≡◌, ◌<◌, ◌+◌, ◌^◌, ℕ, cond, length, count_by, IfOk, OnOk};
 ghost use Rattle.std.specs.BTreeMap.{is_at};
 ghost use Rattle.fm_records.specs.Options.{passes};
-ghost use Rattle.fm_planner.specs.Counts.{count_in, pairs_in, arriving_in, leaving_in, pair_of, moved_machine, AreCounts, CountsMore};
+ghost use Rattle.fm_planner.specs.inner.Counts.{count_in, pairs_in, arriving_in, leaving_in, pair_of, moved_machine, AreCounts, CountsMore};
 
 use fm_know::knowledge::Knowledge;
 use fm_lattice::chain::Chain;

@@ -3,7 +3,7 @@ use Rattle.std.proofs.Common.{◌≡◌, ◌↔◌, ◌⊎◌, ℕ, Bool, true, 
 use Rattle.fm_records.specs.Table.{Table}
 use Rattle.fm_net.specs.declared.node.Node.{Node}
 use Rattle.fm_net.specs.Nodes.{ends_cmp}
-use Rattle.fm_net.specs.NodeOrder.{ends_exact, ends_total}
+use Rattle.fm_net.specs.laws.NodeOrder.{ends_exact, ends_total}
 use Rattle.std.specs.Ordering.{is_eq}
 use Rattle.std.specs.Cmp.{Equal-is}
 use Rattle.std.proofs.lemmas.Cmp.{tied_itself}

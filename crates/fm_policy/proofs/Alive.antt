@@ -6,12 +6,12 @@ use Rattle.fm_records.specs.Options.{passes}
 use Rattle.fm_records.specs.Ranges.{CanBe}
 use Rattle.fm_records.specs.Table.{Table}
 use Rattle.fm_records.specs.Facts.{live_spec, holder_of, is_live}
-use Rattle.fm_net.specs.BoundLaws.{spec_ranges}
-use Rattle.fm_net.specs.NetworkLaws.{mapped_from}
+use Rattle.fm_net.specs.laws.BoundLaws.{spec_ranges}
+use Rattle.fm_net.specs.laws.NetworkLaws.{mapped_from}
 use Rattle.fm_policy.specs.declared.node_facts.TaskFacts.{TaskFacts}
 use Rattle.fm_policy.specs.NodeFacts.{task_facts}
 use Rattle.fm_policy.specs.declared.live_task.LiveTask.{LiveTask}
-use Rattle.fm_policy.specs.LiveTasks.{live_task}
+use Rattle.fm_policy.specs.inner.LiveTasks.{live_task}
 
 module _ (k : Table) where
   parts : (t : ℕ) (x : LiveTask) → live_task k t ≡ Some x → (s : SpecReg) × (live_spec k t ≡ Some s) × (record { task = t; spec = s; holder = holder_of k t } ≡ x)

@@ -5,7 +5,7 @@ use Rattle.std.specs.Ordering.{nat_cmp, is_eq}
 use Rattle.std.specs.Cmp.{Equal-is}
 use Rattle.fm_lattice.specs.Chains.{nat_same}
 use Rattle.fm_lattice.specs.Maps.{lookup}
-use Rattle.fm_records.specs.PreferenceLaws.{one_more_preferred}
+use Rattle.fm_records.specs.laws.PreferenceLaws.{one_more_preferred}
 
 either : (a b : Bool) → (a || b) ≡ true → (b ≡ true) ⊎ (a ≡ true)
 either true b h = inr refl

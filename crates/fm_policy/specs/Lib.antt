@@ -1,13 +1,8 @@
 pub mod Building
-pub mod Tallying
 pub mod Keeping
-pub mod KeepingLaws
 pub mod Changes
-pub mod ChangeLaws
-pub mod LiveTasks
 pub mod Rooms
-pub mod RoomLaws
 pub mod Rules
 pub mod NodeFacts
-pub mod FactsLaws
-pub mod Surveys
+pub mod inner
+pub mod laws

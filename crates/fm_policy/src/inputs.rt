@@ -2,8 +2,8 @@
 
 ghost use Rattle.std.specs.Prelude.{◌≡◌, IfOk};
 ghost use Rattle.fm_policy.specs.NodeFacts.{job_facts, machine_facts};
-ghost use Rattle.fm_policy.specs.Surveys.{IsSurvey, open_machine, all_open};
-ghost use Rattle.fm_policy.specs.Tallying.{IsTally};
+ghost use Rattle.fm_policy.specs.inner.Surveys.{IsSurvey, open_machine, all_open};
+ghost use Rattle.fm_policy.specs.inner.Tallying.{IsTally};
 
 use crate::live_task::{LiveTask, live_tasks, waiting_requests};
 use crate::node_facts::{JobFacts, MachineFacts};

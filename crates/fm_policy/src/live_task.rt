@@ -5,7 +5,7 @@ ghost use Rattle.std.specs.List.{filter_map};
 ghost use Rattle.std.specs.Ordering.{nat_cmp};
 ghost use Rattle.fm_lattice.specs.Maps.{lookup};
 ghost use Rattle.fm_records.specs.Sets.{rising};
-ghost use Rattle.fm_policy.specs.LiveTasks.{live_task, all_live, waiting_request};
+ghost use Rattle.fm_policy.specs.inner.LiveTasks.{live_task, all_live, waiting_request};
 
 use crate::node_facts::TaskFacts;
 use fm_know::knowledge::Knowledge;

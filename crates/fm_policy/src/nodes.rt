@@ -3,7 +3,7 @@
 ghost use Rattle.std.specs.Prelude.{ℕ, OnOk};
 ghost use Rattle.fm_net.specs.declared.node.Node.{Node as NodeName};
 ghost use Rattle.fm_policy.specs.Building.{Adds, HasNode, HasNodes};
-ghost use Rattle.fm_policy.specs.Surveys.{IsSurvey};
+ghost use Rattle.fm_policy.specs.inner.Surveys.{IsSurvey};
 
 use crate::inputs::NetworkInputs;
 use crate::node_facts::NodeFacts;

@@ -6,8 +6,8 @@ ghost use Rattle.fm_net.specs.declared.node.Node.{Node as NodeName};
 ghost use Rattle.fm_net.specs.Network.{is_node, arc_of};
 ghost use Rattle.fm_policy.specs.Building.{Adds, HasNodes, HasWaiting, HasHolder, Covers, CoversJob, CoversMachine, CoversTask, CoversPreferred, CoversPlace};
 ghost use Rattle.fm_policy.specs.NodeFacts.{task_facts};
-ghost use Rattle.fm_policy.specs.LiveTasks.{live_task};
-ghost use Rattle.fm_policy.specs.Surveys.{IsSurvey};
+ghost use Rattle.fm_policy.specs.inner.LiveTasks.{live_task};
+ghost use Rattle.fm_policy.specs.inner.Surveys.{IsSurvey};
 
 use crate::inputs::NetworkInputs;
 use crate::laws::law_arcs;

@@ -2,8 +2,8 @@
 
 ghost use Rattle.std.specs.Prelude.{◌≡◌, ◌<◌, ◌+◌, ◌≤◌, ◌^◌, ℕ, cond, unwrap_or, IfOk, OnOk, length};
 ghost use Rattle.fm_records.specs.Facts.{load_of};
-ghost use Rattle.fm_policy.specs.LiveTasks.{all_live};
-ghost use Rattle.fm_policy.specs.Tallying.{live_count, held_in, count_of_job, request_on, IsTally};
+ghost use Rattle.fm_policy.specs.inner.LiveTasks.{all_live};
+ghost use Rattle.fm_policy.specs.inner.Tallying.{live_count, held_in, count_of_job, request_on, IsTally};
 
 use crate::arc_prices::machine_load;
 use crate::live_task::LiveTask;

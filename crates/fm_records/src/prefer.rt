@@ -8,7 +8,7 @@ ghost use Rattle.std.specs.Ordering.{as_partial_cmp, nat_cmp};
 ghost use Rattle.fm_lattice.specs.Maps.{lookup};
 ghost use Rattle.fm_records.specs.Preferences.{preferences_cmp, preferences_eq};
 ghost use Rattle.fm_records.specs.Ranges.{is_id, fits_row};
-ghost use Rattle.fm_records.specs.PreferenceLaws.{preferences_ties, total_preferences, equal_preferences, partial_preferences};
+ghost use Rattle.fm_records.specs.laws.PreferenceLaws.{preferences_ties, total_preferences, equal_preferences, partial_preferences};
 
 use crate::ids::MachineId;
 use std::cmp::Ordering;

@@ -27,7 +27,7 @@ pub struct JobReg {
 }
 
 impl Chain for JobReg {
-    ghost use Rattle.fm_records.specs.OrderLaws.{same_job};
+    ghost use Rattle.fm_records.specs.laws.OrderLaws.{same_job};
 
     ghost same = { same_job };
 }
@@ -105,7 +105,7 @@ pub struct SpecReg {
 }
 
 impl Chain for SpecReg {
-    ghost use Rattle.fm_records.specs.OrderLaws.{same_spec};
+    ghost use Rattle.fm_records.specs.laws.OrderLaws.{same_spec};
 
     ghost same = { same_spec };
 }
@@ -188,7 +188,7 @@ pub struct Progress {
 }
 
 impl Chain for Progress {
-    ghost use Rattle.fm_records.specs.OrderLaws.{same_progress};
+    ghost use Rattle.fm_records.specs.laws.OrderLaws.{same_progress};
 
     ghost same = { same_progress };
 }
@@ -239,7 +239,7 @@ pub struct MachineReg {
 }
 
 impl Chain for MachineReg {
-    ghost use Rattle.fm_records.specs.OrderLaws.{same_machine};
+    ghost use Rattle.fm_records.specs.laws.OrderLaws.{same_machine};
 
     ghost same = { same_machine };
 }
@@ -313,7 +313,7 @@ pub struct Report {
 }
 
 impl Chain for Report {
-    ghost use Rattle.fm_records.specs.OrderLaws.{same_report};
+    ghost use Rattle.fm_records.specs.laws.OrderLaws.{same_report};
 
     ghost same = { same_report };
 }
@@ -352,7 +352,7 @@ pub struct Spot {
 }
 
 impl Chain for Spot {
-    ghost use Rattle.fm_records.specs.OrderLaws.{same_spot};
+    ghost use Rattle.fm_records.specs.laws.OrderLaws.{same_spot};
 
     ghost same = { same_spot };
 }

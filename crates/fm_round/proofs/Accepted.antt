@@ -16,7 +16,7 @@ use Rattle.fm_round.specs.declared.plan.Preempt.{Preempt}
 use Rattle.fm_round.specs.declared.plan.Answer.{Answer}
 use Rattle.fm_round.specs.declared.plan.Answer.TheVariants.{Gone, Held, AttemptsSpent, Contested, NoSlot, NoRoom, Accepted}
 use Rattle.fm_round.specs.Admission.{told, is_accepted, last_attempt, has_proposal, is_full, is_open_at, place_ops, place_answer, preempt_ops, preempt_answer}
-use Rattle.fm_round.specs.MachineHoldings.{requests_of, share}
+use Rattle.fm_round.specs.inner.MachineHoldings.{requests_of, share}
 use Rattle.fm_round.proofs.After.{live_spec_of, after_place, after_preempt, requests_after, count_after}
 
 -- a rule that does not apply

@@ -18,7 +18,7 @@ use Rattle.fm_net.specs.Network.{is_held}
 use Rattle.fm_round.specs.declared.plan.Place.{Place}
 use Rattle.fm_round.specs.declared.plan.Preempt.{Preempt}
 use Rattle.fm_round.specs.Admission.{told, has_proposal, has_incarnation, is_open_at, place_ops, preempt_ops}
-use Rattle.fm_round.specs.AdmissionSteps.{winner_with, spot_of, winning_spot, is_spot_of}
+use Rattle.fm_round.specs.inner.AdmissionSteps.{winner_with, spot_of, winning_spot, is_spot_of}
 use Rattle.fm_round.proofs.Told.{told_more, told_table}
 use Rattle.fm_round.proofs.Weights.{weight, picked, counted, moved}
 use Rattle.fm_round.proofs.Keeps.{Keeps, keeps_both, live_from, holder_from, holds_kept}

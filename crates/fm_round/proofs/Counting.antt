@@ -15,7 +15,7 @@ use Rattle.fm_round.specs.declared.plan.Place.{Place}
 use Rattle.fm_records.specs.Facts.{request_of, holder_of, holds, held_tasks}
 use Rattle.fm_round.specs.declared.machine_holdings.Holding.{Holding}
 use Rattle.fm_round.specs.declared.machine_holdings.Holdings.{Holdings}
-use Rattle.fm_round.specs.MachineHoldings.{is_counted, holding_of, nothing_held, requests_of, share, AreCountedHoldings}
+use Rattle.fm_round.specs.inner.MachineHoldings.{is_counted, holding_of, nothing_held, requests_of, share, AreCountedHoldings}
 
 itself : (t : ℕ) → is_eq (nat_cmp t t) ≡ true
 itself t = ap is_eq (tied_itself nat_cmp_total t)

@@ -9,11 +9,11 @@ use Rattle.std.proofs.lemmas.Cmp.{tied_itself}
 use Rattle.std.proofs.lemmas.List.Elements.{filter_map-append}
 use Rattle.std.proofs.lemmas.List.Sums.{sum_by-append, sum_by-cons}
 use Rattle.fm_lattice.specs.Maps.{lookup, IsBelow, IsRising}
-use Rattle.fm_lattice.specs.MapLaws.{lookup_below}
+use Rattle.fm_lattice.specs.laws.MapLaws.{lookup_below}
 use Rattle.fm_net.specs.declared.node.Node.{Node}
 use Rattle.fm_net.specs.declared.node.Node.TheVariants.{Task, Request, Machine}
 use Rattle.fm_net.specs.Nodes.{ends_cmp}
-use Rattle.fm_net.specs.NodeOrder.{ends_total, ends_exact}
+use Rattle.fm_net.specs.laws.NodeOrder.{ends_total, ends_exact}
 use Rattle.fm_records.specs.Options.{when, or_else}
 use Rattle.fm_records.specs.Sets.{IsMember}
 use Rattle.fm_round.specs.declared.from_units.RequestUnit.{RequestUnit}

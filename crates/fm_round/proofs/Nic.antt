@@ -14,7 +14,7 @@ use Rattle.fm_round.specs.declared.plan.Preempt.{Preempt}
 use Rattle.fm_round.specs.declared.plan.Plan.{Plan}
 use Rattle.fm_round.specs.declared.plan.Answer.{Answer}
 use Rattle.fm_round.specs.Admission.{told, is_accepted, one_entry, in_turn, place_ops, place_answer, preempt_ops, preempt_answer, admission_of_places, admission_of_preempts, admission, got_place, is_within_nic}
-use Rattle.fm_round.specs.MachineHoldings.{requests_of, share}
+use Rattle.fm_round.specs.inner.MachineHoldings.{requests_of, share}
 use Rattle.fm_round.proofs.Told.{told_nothing, told_more, told_table}
 use Rattle.fm_round.proofs.Keeps.{Keeps, open_kept, used_kept}
 use Rattle.fm_round.proofs.After.{live_spec_of, after_place, after_preempt}

@@ -14,13 +14,13 @@ use Rattle.fm_lattice.specs.Maps.{lookup, IsBelow, IsRising}
 use Rattle.fm_net.specs.declared.node.Node.{Node}
 use Rattle.fm_net.specs.declared.node.Node.TheVariants.{Task, Request, Machine}
 use Rattle.fm_net.specs.Nodes.{ends_cmp}
-use Rattle.fm_net.specs.NodeOrder.{ends_total}
+use Rattle.fm_net.specs.laws.NodeOrder.{ends_total}
 use Rattle.fm_records.specs.Options.{when, and_then}
 use Rattle.fm_records.specs.Sets.{IsMember}
 use Rattle.fm_records.specs.Table.{Table}
 use Rattle.fm_round.specs.declared.from_units.RequestUnit.{RequestUnit}
 use Rattle.fm_round.specs.PlanOfFlow.{Wait, ArcUnits, wait_in, waits, tasks_of, machines_of, machine_for, place_at, place_of, place_in_plan}
-use Rattle.fm_round.specs.UnitQueues.{placed_next, HasNoRepeat}
+use Rattle.fm_round.specs.inner.UnitQueues.{placed_next, HasNoRepeat}
 
 -- one more
 pub mapped_more : {A B : Type 0} (f : A → Option B) (xs : List A) (x : A) → filter_map f (xs ++ x ∷ []) ≡ filter_map f xs ++ option_to_list (f x)

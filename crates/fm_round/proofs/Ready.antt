@@ -2,7 +2,7 @@
 use Rattle.std.proofs.Common.{◌≡◌, ℕ, ◌+◌, IsTrue, sym, ◌∙◌, ap}
 use Rattle.fm_records.specs.Table.{Table}
 use Rattle.fm_round.specs.declared.machine_holdings.Holdings.{Holdings}
-use Rattle.fm_round.specs.MachineHoldings.{is_counted, holding_of, share, AreCountedHoldings}
+use Rattle.fm_round.specs.inner.MachineHoldings.{is_counted, holding_of, share, AreCountedHoldings}
 use Rattle.fm_round.proofs.Accepted.{HoldMore}
 
 -- counts with a task more on machine n

@@ -7,11 +7,11 @@ use Rattle.fm_lattice.specs.Maps.{lookup}
 use Rattle.fm_records.specs.declared.records.MachineReg.{MachineReg}
 use Rattle.fm_records.specs.Table.{Table, TaskValue}
 use Rattle.fm_records.specs.Facts.{request_of, open_state, holds, held_tasks, load_of, spare_of}
-use Rattle.fm_net.specs.NetworkLaws.{held_ends, mapped_from, passes_some}
+use Rattle.fm_net.specs.laws.NetworkLaws.{held_ends, mapped_from, passes_some}
 use Rattle.fm_tally.specs.declared.tally.OpenMachine.{OpenMachine}
 use Rattle.fm_tally.specs.declared.tally.Tally.{Tally}
 use Rattle.fm_tally.specs.Tallies.{TallyIsFor}
-use Rattle.fm_round.specs.MachineHoldings.{requests_of}
+use Rattle.fm_round.specs.inner.MachineHoldings.{requests_of}
 
 some_none : {A P : Type 0} (a : A) → Some a ≡ None → P
 some_none a e = absurd (let no : ⊥ = cc in no)

@@ -8,21 +8,21 @@ use Rattle.std.proofs.lemmas.Cmp.{tied_itself}
 use Rattle.fm_lattice.specs.Chains.{nat_same, by_order, by_cases}
 use Rattle.fm_lattice.specs.Joins.{max_join, min_join, option_join}
 use Rattle.fm_lattice.specs.Maps.{lookup, put}
-use Rattle.fm_lattice.specs.MapLaws.{lookup_put}
+use Rattle.fm_lattice.specs.laws.MapLaws.{lookup_put}
 use Rattle.fm_records.specs.declared.ops.Op.TheVariants as op
 use Rattle.fm_records.specs.declared.ops.Phase.TheVariants.{Pending}
 use Rattle.fm_records.specs.declared.records.Progress.{Progress}
 use Rattle.fm_records.specs.declared.records.Spot.{Spot}
 use Rattle.fm_records.specs.Options.{and_then, or_else}
 use Rattle.fm_records.specs.Orders.{spec_cmp, progress_cmp, phase_cmp, spot_cmp, attempt_cmp}
-use Rattle.fm_records.specs.OrderLaws.{total_attempt, same_attempt}
+use Rattle.fm_records.specs.laws.OrderLaws.{total_attempt, same_attempt}
 use Rattle.fm_records.specs.Table.{Table, TaskValue}
 use Rattle.fm_records.specs.Know.{table_of, initial_progress}
 use Rattle.fm_records.specs.OpsOfTable.{IsTable}
 use Rattle.fm_records.specs.Joined.{task_join, spots_join, tasks_join, proposals_join}
 use Rattle.fm_records.specs.Facts.{spec_of, progress_of, attempt_of, winner_of, head_option}
 use Rattle.fm_round.specs.Admission.{told}
-use Rattle.fm_round.specs.AdmissionSteps.{winner_with}
+use Rattle.fm_round.specs.inner.AdmissionSteps.{winner_with}
 use Rattle.fm_round.proofs.Weights.{put_weighs}
 use Rattle.fm_round.proofs.Keeps.{Keeps}
 

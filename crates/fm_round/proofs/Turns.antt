@@ -6,7 +6,7 @@ use Rattle.fm_records.specs.OpsOfTable.{IsTable}
 use Rattle.fm_round.specs.declared.admission.AdmissionState.{AdmissionState}
 use Rattle.fm_round.specs.declared.plan.Answer.{Answer}
 use Rattle.fm_round.specs.Admission.{told, is_accepted, one_entry, in_turn}
-use Rattle.fm_round.specs.AdmissionSteps.{Took}
+use Rattle.fm_round.specs.inner.AdmissionSteps.{Took}
 use Rattle.fm_round.proofs.Told.{told_nothing, told_more}
 
 module _ {E : Type 0} (answer_to : Table → E → Answer) (ops_of : Table → E → List Op) (old : AdmissionState) (es : List E) where

@@ -7,7 +7,7 @@ use Rattle.std.specs.declared.cmp.Ordering.TheVariants.{Less, Equal}
 use Rattle.std.proofs.lemmas.Cmp.{tied_itself}
 use Rattle.std.proofs.lemmas.List.Sums.{sum_by-cons}
 use Rattle.fm_lattice.specs.Chains.{nat_same, by_order, by_cases}
-use Rattle.fm_lattice.specs.MapLaws.{lookup_below, below_trans}
+use Rattle.fm_lattice.specs.laws.MapLaws.{lookup_below, below_trans}
 use Rattle.fm_lattice.specs.Maps.{lookup, put, IsBelow, IsRising}
 
 not_below_itself : (t : ℕ) → nat_cmp t t ≡ Less → ⊥

@@ -1,10 +1,7 @@
 pub mod PlanEquality
-pub mod PlanEqualityLaws
 pub mod Admission
 pub mod Stopping
 pub mod PlanOfFlow
-pub mod PlanArcs
 pub mod Schedules
-pub mod UnitQueues
-pub mod AdmissionSteps
-pub mod MachineHoldings
+pub mod inner
+pub mod laws

@@ -8,10 +8,10 @@ ghost use Rattle.fm_records.specs.OpsOfTable.{IsTable};
 ghost use Rattle.fm_records.specs.Facts.{attempt_of, open_state};
 ghost use Rattle.fm_know.specs.Limits.{StateWithin};
 ghost use Rattle.fm_round.specs.Admission.{told, is_accepted, last_attempt, has_proposal, place_ops, place_answer, preempt_ops, preempt_answer, one_entry, admission_of_places, admission_of_preempts, admission, got_place, is_within_nic};
-ghost use Rattle.fm_round.specs.AdmissionSteps.{Took, IsAdmissionState};
+ghost use Rattle.fm_round.specs.inner.AdmissionSteps.{Took, IsAdmissionState};
 ghost use Rattle.fm_records.specs.Sets.{IsMember};
 ghost use Rattle.fm_round.specs.declared.plan.Place.{Place as Entry};
-ghost use Rattle.fm_round.specs.MachineHoldings.{is_counted, AreCountedHoldings};
+ghost use Rattle.fm_round.specs.inner.MachineHoldings.{is_counted, AreCountedHoldings};
 ghost use Rattle.fm_tally.specs.Tallies.{TallyIsFor};
 
 use crate::listed::Listed;

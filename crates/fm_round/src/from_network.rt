@@ -4,7 +4,7 @@ ghost use Rattle.std.specs.Prelude.{◌≡◌, ◌∷◌, ◌++◌, [], cond, fi
 ghost use Rattle.fm_net.specs.Network.{net_of};
 ghost use Rattle.fm_certificate.specs.Flows.{units_in, IsFeasible};
 ghost use Rattle.fm_round.specs.PlanOfFlow.{units_over, plan_of_flow};
-ghost use Rattle.fm_round.specs.PlanArcs.{is_asked, waiting_after, is_asked_after};
+ghost use Rattle.fm_round.specs.inner.PlanArcs.{is_asked, waiting_after, is_asked_after};
 
 use crate::from_units::plan_of;
 use crate::plan::Plan;

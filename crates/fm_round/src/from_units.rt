@@ -6,7 +6,7 @@ ghost use Rattle.fm_lattice.specs.Maps.{IsRising};
 ghost use Rattle.fm_net.specs.Nodes.{ends_cmp};
 ghost use Rattle.fm_net.specs.Network.{is_held};
 ghost use Rattle.fm_round.specs.PlanOfFlow.{wait_in, seats_in, unscheduled_in, waits, seats, tasks_of, machines_of, place_at, place_in_plan, preempt_of, plan_of_flow};
-ghost use Rattle.fm_round.specs.UnitQueues.{queue_of, placed_next, HasNoRepeat};
+ghost use Rattle.fm_round.specs.inner.UnitQueues.{queue_of, placed_next, HasNoRepeat};
 ghost use Rattle.fm_records.specs.Options.{and_then, when};
 
 use crate::listed::Listed;

@@ -9,7 +9,7 @@ ghost use Rattle.fm_records.specs.Facts.{only_if, holder_of, held_tasks};
 ghost use Rattle.fm_records.specs.Orders.{attempt_cmp};
 ghost use Rattle.fm_round.specs.declared.plan.Place.{Place as Entry};
 ghost use Rattle.fm_records.specs.Table.{Table as Known};
-ghost use Rattle.fm_round.specs.MachineHoldings.{is_counted, holding_of, requests_of, share, nothing_held, AreCountedHoldings};
+ghost use Rattle.fm_round.specs.inner.MachineHoldings.{is_counted, holding_of, requests_of, share, nothing_held, AreCountedHoldings};
 ghost use Rattle.fm_tally.specs.Tallies.{TallyIsFor};
 
 use crate::plan::Place;

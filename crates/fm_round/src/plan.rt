@@ -72,7 +72,7 @@ impl Plan {
 
 impl PartialEq for Plan {
     ghost use Rattle.fm_round.specs.PlanEquality.{same_plan};
-    ghost use Rattle.fm_round.specs.PlanEqualityLaws.{plan_equivalence};
+    ghost use Rattle.fm_round.specs.laws.PlanEqualityLaws.{plan_equivalence};
 
     ghost eq = { same_plan };
 
@@ -97,7 +97,7 @@ pub struct Admitted {
 
 impl PartialEq for Admitted {
     ghost use Rattle.fm_round.specs.PlanEquality.{same_admitted};
-    ghost use Rattle.fm_round.specs.PlanEqualityLaws.{admitted_equivalence};
+    ghost use Rattle.fm_round.specs.laws.PlanEqualityLaws.{admitted_equivalence};
 
     ghost eq = { same_admitted };
 

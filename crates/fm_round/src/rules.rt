@@ -4,8 +4,8 @@ ghost use Rattle.std.specs.Prelude.{◌≡◌, ◌<◌, ◌≤◌, ◌+◌, ◌^
 ghost use Rattle.fm_records.specs.Facts.{is_live, live_spec, is_open, is_present, attempt_of, spec_of, request_of, holds, has_room, passes};
 ghost use Rattle.fm_net.specs.Network.{is_held};
 ghost use Rattle.fm_round.specs.Admission.{told, last_attempt, has_proposal, has_incarnation, is_full, is_open_at, place_ops, place_answer, preempt_ops, preempt_answer};
-ghost use Rattle.fm_round.specs.AdmissionSteps.{winner_with, as_pair, spot_of, is_spot_of};
-ghost use Rattle.fm_round.specs.MachineHoldings.{is_counted, AreCountedHoldings};
+ghost use Rattle.fm_round.specs.inner.AdmissionSteps.{winner_with, as_pair, spot_of, is_spot_of};
+ghost use Rattle.fm_round.specs.inner.MachineHoldings.{is_counted, AreCountedHoldings};
 
 use crate::machine_holdings::Holdings;
 use crate::plan::{Answer, Place, Preempt};

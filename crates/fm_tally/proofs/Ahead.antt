@@ -5,7 +5,7 @@ use Rattle.std.specs.declared.cmp.Ordering.{Ordering}
 use Rattle.std.specs.declared.cmp.Ordering.TheVariants.{Less, Equal, Greater}
 use Rattle.fm_lattice.specs.Chains.{TellsApart, less_greater, greater_less}
 use Rattle.fm_lattice.specs.Maps.{lookup, IsRising}
-use Rattle.fm_lattice.specs.MapLaws.{below_trans, lookup_below}
+use Rattle.fm_lattice.specs.laws.MapLaws.{below_trans, lookup_below}
 
 module _ {K V : Type 0} (cmp : K → K → Ordering) (total : IsTotalOrder cmp) (same : TellsApart cmp) where
   -- a key after the first

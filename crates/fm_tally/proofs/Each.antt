@@ -8,7 +8,7 @@ use Rattle.std.proofs.lemmas.Cmp.{tied_itself}
 use Rattle.fm_lattice.specs.Chains.{by_cases, nat_same}
 use Rattle.fm_lattice.specs.Joins.{option_join}
 use Rattle.fm_lattice.specs.Maps.{lookup, put, keep_new, IsBelow, IsRising}
-use Rattle.fm_lattice.specs.MapLaws.{lookup_put}
+use Rattle.fm_lattice.specs.laws.MapLaws.{lookup_put}
 use Rattle.fm_records.specs.Options.{or_else, passes}
 
 module _ {V W : Type 0} (f : V → W) where

@@ -17,7 +17,7 @@ use Rattle.fm_records.specs.declared.records.Spot.{Spot}
 use Rattle.fm_records.specs.Know.{initial_progress}
 use Rattle.fm_records.specs.Facts.{head_option}
 use Rattle.fm_tally.specs.declared.unfinished.UnfinishedTask.{UnfinishedTask}
-use Rattle.fm_tally.specs.Sides.{is_under, is_over}
+use Rattle.fm_tally.specs.inner.Sides.{is_under, is_over}
 use Rattle.fm_tally.specs.Tallies.{unfinished_spec}
 use Rattle.fm_tally.specs.Unfinished.{task_with, unfinished_at, AreUnfinished, AreBehind}
 use Rattle.fm_tally.proofs.Sides.{AreUnder, told_at, rising_told, lookup_told, told_split, under_told}

@@ -7,10 +7,10 @@ use Rattle.std.specs.declared.cmp.Ordering.{Ordering}
 use Rattle.std.specs.declared.cmp.Ordering.TheVariants.{Less, Equal, Greater}
 use Rattle.fm_lattice.specs.Chains.{by_cases, nat_same, less_greater, greater_less}
 use Rattle.fm_lattice.specs.Maps.{lookup, IsBelow, IsRising}
-use Rattle.fm_lattice.specs.MapLaws.{below_trans}
-use Rattle.fm_net.specs.KeptLists.{lookup_kept, rising_kept}
+use Rattle.fm_lattice.specs.laws.MapLaws.{below_trans}
+use Rattle.fm_net.specs.inner.KeptLists.{lookup_kept, rising_kept}
 use Rattle.fm_records.specs.Options.{when, and_then}
-use Rattle.fm_tally.specs.Sides.{is_under, is_over}
+use Rattle.fm_tally.specs.inner.Sides.{is_under, is_over}
 
 module _ {V : Type 0} where
   -- each key is under the key x

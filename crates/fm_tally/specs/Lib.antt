@@ -1,5 +1,4 @@
-pub mod Holdings
 pub mod Tallies
-pub mod Sides
 pub mod Unfinished
 pub mod WinnerScan
+pub mod inner

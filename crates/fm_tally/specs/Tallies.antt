@@ -9,9 +9,9 @@ use Rattle.fm_records.specs.Options.{when, and_then, only_if, or_else, passes}
 use Rattle.fm_records.specs.Sets.{with_value}
 use Rattle.fm_records.specs.Table.{Table, TaskValue, MachineValue}
 use Rattle.fm_records.specs.Facts.{job_of, live_spec, open_state, holder_of, holds, held_tasks, request_of, load_of, spare_of, is_done}
-use Rattle.fm_know.specs.Records.{open_state_in}
+use Rattle.fm_know.specs.inner.Records.{open_state_in}
 use Rattle.fm_net.specs.Network.{is_held}
-use Rattle.fm_tally.specs.Holdings.{share_by}
+use Rattle.fm_tally.specs.inner.Holdings.{share_by}
 use Rattle.fm_tally.specs.declared.tally.LiveTask.{LiveTask}
 use Rattle.fm_tally.specs.declared.tally.OpenMachine.{OpenMachine}
 use Rattle.fm_tally.specs.declared.tally.Tally.{Tally}

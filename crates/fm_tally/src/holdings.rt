@@ -5,7 +5,7 @@ ghost use Rattle.std.specs.Ordering.{nat_cmp};
 ghost use Rattle.fm_lattice.specs.Maps.{lookup};
 ghost use Rattle.fm_records.specs.Options.{or_else};
 ghost use Rattle.fm_records.specs.declared.records.Spot.{Spot as At};
-ghost use Rattle.fm_tally.specs.Holdings.{requests_in, tasks_in, share_by, placed_by, names_open_machine, holding_nothing, nothing_on};
+ghost use Rattle.fm_tally.specs.inner.Holdings.{requests_in, tasks_in, share_by, placed_by, names_open_machine, holding_nothing, nothing_on};
 
 use crate::sorted::Sorted;
 use fm_know::knowledge::Knowledge;

@@ -2,7 +2,7 @@
 
 ghost use Rattle.std.specs.Prelude.{◌≡◌, [], Some, None, IfSome, IsNone, IfOk, OnOk, OnErr};
 ghost use Rattle.fm_lattice.specs.Maps.{lookup, put, keep_new, IsRising};
-ghost use Rattle.fm_lattice.specs.SortedVec.{HasKeyAt};
+ghost use Rattle.fm_lattice.specs.inner.SortedVec.{HasKeyAt};
 
 use fm_lattice::chain::Chain;
 use fm_lattice::join::OutOfMemory;

@@ -6,8 +6,8 @@ ghost use Rattle.fm_lattice.specs.Maps.{lookup};
 ghost use Rattle.fm_records.specs.declared.records.Spot.{Spot as At};
 ghost use Rattle.fm_records.specs.Facts.{is_present};
 ghost use Rattle.fm_records.specs.Options.{and_then, or_else, only_if};
-ghost use Rattle.fm_know.specs.Records.{open_state_in};
-ghost use Rattle.fm_tally.specs.Holdings.{requests_in, tasks_in, share_by, placed_by, names_open_machine, holding_nothing, nothing_on, AreHoldings};
+ghost use Rattle.fm_know.specs.inner.Records.{open_state_in};
+ghost use Rattle.fm_tally.specs.inner.Holdings.{requests_in, tasks_in, share_by, placed_by, names_open_machine, holding_nothing, nothing_on, AreHoldings};
 ghost use Rattle.fm_tally.specs.Tallies.{task_at, all_machines, spare_left, live_task_of, task_by, requests_by, tasks_by, open_by, TallyIsFor};
 ghost use Rattle.fm_tally.specs.Unfinished.{AreUnfinished};
 

@@ -10,7 +10,7 @@ ghost use Rattle.fm_records.specs.Orders.{attempt_cmp};
 ghost use Rattle.fm_tally.specs.Tallies.{unfinished_spec};
 ghost use Rattle.fm_tally.specs.Unfinished.{task_with, unfinished_at, AreUnfinished, AreBehind};
 ghost use Rattle.fm_tally.specs.WinnerScan.{winner_spot};
-ghost use Rattle.fm_tally.specs.Sides.{is_under, is_over};
+ghost use Rattle.fm_tally.specs.inner.Sides.{is_under, is_over};
 
 use crate::sorted::Sorted;
 use crate::winner_scan::Winners;

@@ -2,7 +2,7 @@
 
 ghost use Rattle.std.specs.Prelude.{◌≡◌, [], IsTrue, IfOk};
 ghost use Rattle.fm_records.specs.Know.{table_of};
-ghost use Rattle.fm_edit.specs.Keepers.{is_fresh_keeper, KeeperIsFor};
+ghost use Rattle.fm_edit.specs.inner.Keepers.{is_fresh_keeper, KeeperIsFor};
 
 use fm_coord::coordinator::Coordinator;
 use fm_coord::entry::Range;

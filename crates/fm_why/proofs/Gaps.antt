@@ -6,11 +6,11 @@ use borrow.Author.Differences.{up, down}
 use Rattle.std.proofs.Math.Nat.{add-mul, mul-le-mul_right, one-mul, mul-zero, mul_comm}
 use Rattle.std.proofs.lemmas.List.Sums.{sum_by-cons}
 use Rattle.fm_records.specs.Sets.{IsMember}
-use Rattle.fm_records.specs.RangeLaws.{inside}
+use Rattle.fm_records.specs.laws.RangeLaws.{inside}
 use Rattle.fm_net.specs.declared.node.Node.{Node}
 use Rattle.fm_net.specs.declared.node.Node.TheVariants.{Request, Machine, Task}
 use Rattle.fm_net.specs.Nodes.{ends_cmp}
-use Rattle.fm_net.specs.NodeOrder.{ends_exact, ends_total}
+use Rattle.fm_net.specs.laws.NodeOrder.{ends_exact, ends_total}
 use Rattle.fm_net.specs.Net.{Net, CanBeNet, arc_at}
 use Rattle.fm_certificate.specs.Flows.{Units, units_in, cost_of, IsFeasible}
 use Rattle.fm_certificate.specs.Certificates.{reduced_cost, potential_in, IsCertified}

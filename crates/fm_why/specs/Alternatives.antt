@@ -4,7 +4,7 @@ use Rattle.std.specs.List.{filter_map}
 use Rattle.fm_net.specs.declared.node.Node.{Node}
 use Rattle.fm_net.specs.declared.node.Node.TheVariants.{Task}
 use Rattle.fm_net.specs.Net.{Net}
-use Rattle.fm_certificate.specs.Checks.{PricedArc}
+use Rattle.fm_certificate.specs.inner.Checks.{PricedArc}
 use Rattle.fm_certificate.specs.Flows.{Units, cost_of, IsFeasible}
 use Rattle.fm_certificate.specs.Totals.{Entry}
 use Rattle.fm_why.specs.declared.reasons.Choice.{Choice}

@@ -3,5 +3,5 @@ pub mod MachineOptions
 pub mod Pricing
 pub mod Alternatives
 pub mod Remedies
-pub mod Schedule
 pub mod Reasons
+pub mod inner

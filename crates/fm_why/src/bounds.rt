@@ -6,7 +6,7 @@ ghost use Rattle.fm_certificate.specs.Certificates.{potential_in, reduced_cost, 
 ghost use Rattle.fm_net.specs.Net.{arc_at};
 ghost use Rattle.fm_why.specs.Running.{IsDearerOver};
 ghost use Rattle.fm_why.specs.MachineOptions.{cost_at, IsGap};
-ghost use Rattle.fm_why.specs.Schedule.{IsSchedule};
+ghost use Rattle.fm_why.specs.inner.Schedule.{IsSchedule};
 
 use crate::tighten::Paths;
 use fm_certificate::flow::Flow;

@@ -2,7 +2,7 @@
 
 ghost use Rattle.std.specs.Prelude.{◌≡◌, ◌↔◌, ◌<◌, IsTrue};
 ghost use Rattle.std.specs.List.{list_all};
-ghost use Rattle.fm_certificate.specs.Checks.{sends};
+ghost use Rattle.fm_certificate.specs.inner.Checks.{sends};
 ghost use Rattle.fm_certificate.specs.Flows.{units_in, IsFeasible};
 ghost use Rattle.fm_why.specs.Alternatives.{AreUnitsWithin};
 ghost use Rattle.fm_why.specs.Running.{Sends, RunsOn};

@@ -6,7 +6,7 @@ ghost use Rattle.std.specs.List.Sorted.{IsPermutation, IsNonDecreasingBy};
 ghost use Rattle.fm_net.specs.declared.node.Node.{Node as NodeName};
 ghost use Rattle.fm_why.specs.Running.{GoesOver, IsDearer, IsDearerIf};
 ghost use Rattle.fm_why.specs.MachineOptions.{IsOnlyRequest, cost_at, lesser, way_cost, machine_ways};
-ghost use Rattle.fm_why.specs.Schedule.{IsSchedule};
+ghost use Rattle.fm_why.specs.inner.Schedule.{IsSchedule};
 ghost use Rattle.fm_why.specs.Reasons.{IsChoice};
 
 use crate::bounds::{ArcGap, CertifiedFlow, more_over, toll_of};

@@ -5,7 +5,7 @@ ghost use Rattle.std.specs.List.{All};
 ghost use Rattle.fm_records.specs.Facts.{job_of, live_spec, holder_of};
 ghost use Rattle.fm_net.specs.Network.{net_of};
 ghost use Rattle.fm_certificate.specs.Certificates.{IsCertified};
-ghost use Rattle.fm_why.specs.Schedule.{IsSchedule};
+ghost use Rattle.fm_why.specs.inner.Schedule.{IsSchedule};
 ghost use Rattle.fm_why.specs.Remedies.{IsRemedy};
 ghost use Rattle.fm_why.specs.Reasons.{AreChoices, AreReasons};
 

@@ -9,11 +9,11 @@ use Rattle.std.proofs.lemmas.List.{append-nil}
 use Rattle.fm_lattice.specs.Chains.{nat_same, by_order, by_cases, less_greater}
 use Rattle.fm_lattice.specs.Joins.{min_join, Any}
 use Rattle.fm_lattice.specs.Maps.{IsBelow, IsRising, AreValues, IsMap, put}
-use Rattle.fm_lattice.specs.MapLaws.{rising_put}
+use Rattle.fm_lattice.specs.laws.MapLaws.{rising_put}
 use Rattle.fm_records.specs.declared.records.Spot.{Spot}
 use Rattle.fm_records.specs.Sets.{unless_empty}
 use Rattle.fm_records.specs.Orders.{spot_cmp, attempt_cmp}
-use Rattle.fm_records.specs.OrderLaws.{total_attempt, same_attempt}
+use Rattle.fm_records.specs.laws.OrderLaws.{total_attempt, same_attempt}
 use Rattle.fm_records.specs.Joined.{spots_join}
 use Rattle.fm_records.specs.OpsOfTable.{IsFull}
 use Rattle.fm_wire.specs.Grammar.{entry_cmp, flat_at, flat_of}

@@ -11,7 +11,7 @@ use Rattle.fm_records.specs.declared.records.MachineReg.{MachineReg}
 use Rattle.fm_records.specs.declared.records.Report.{Report}
 use Rattle.fm_records.specs.declared.records.SpecReg.{SpecReg}
 use Rattle.fm_records.specs.Orders.{phase_place, attempt_cmp}
-use Rattle.fm_records.specs.OrderLaws.{same_attempt}
+use Rattle.fm_records.specs.laws.OrderLaws.{same_attempt}
 use Rattle.std.proofs.lemmas.Bool.{eqb-true, eqb-false}
 use Rattle.fm_wire.specs.declared.version.Version.{Version}
 use Rattle.fm_wire.specs.declared.version.Version.TheVariants.{Fdg1, Fdg2}

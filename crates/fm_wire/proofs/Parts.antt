@@ -11,7 +11,7 @@ use Rattle.fm_wire.specs.declared.version.Version.{Version}
 use Rattle.fm_wire.specs.declared.version.Version.TheVariants.{Fdg2}
 use Rattle.fm_wire.specs.Formats.{Reading, ◌>>=◌, Format, bytes_of, ◌⨾◌}
 use Rattle.fm_wire.specs.Grammar.{Listed, header, jobs, task_list, machines, entry_list, body, word_of, version_word, packet}
-use Rattle.fm_wire.specs.Decoding.{rest_of, DecodeFails, FindsListed, Finds}
+use Rattle.fm_wire.specs.inner.Decoding.{rest_of, DecodeFails, FindsListed, Finds}
 
 -- ---- spelling
 

@@ -9,12 +9,12 @@ use Rattle.std.proofs.lemmas.Bool.{ltb-true, lt-ltb, leb-true, le-leb}
 use Rattle.std.proofs.lemmas.Cmp.{ranked}
 use Rattle.fm_lattice.specs.Chains.{nat_same}
 use Rattle.fm_lattice.specs.Maps.{IsBelow, IsRising}
-use Rattle.fm_lattice.specs.MapLaws.{below_trans}
+use Rattle.fm_lattice.specs.laws.MapLaws.{below_trans}
 use Rattle.fm_records.specs.declared.records.SpecReg.{SpecReg}
 use Rattle.fm_records.specs.Preferences.{rises_above, machines_rise}
 use Rattle.fm_records.specs.Ops.{is_price, is_preference}
 use Rattle.fm_records.specs.Ranges.{is_id, fits_row}
-use Rattle.fm_records.specs.LookupLaws.{both_true}
+use Rattle.fm_records.specs.laws.LookupLaws.{both_true}
 use Rattle.fm_wire.specs.declared.version.Version.{Version}
 use Rattle.fm_wire.specs.declared.version.Version.TheVariants.{Fdg1, Fdg2}
 use Rattle.fm_wire.specs.Grammar.{id, price_field, preferences, PrefersNone}

@@ -11,7 +11,7 @@ use Rattle.fm_lattice.specs.Chains.{less_greater}
 use Rattle.fm_lattice.specs.Maps.{put}
 use Rattle.std.specs.Int.{Width}
 use Rattle.fm_wire.specs.Formats.{Reading, ◌>>=◌, Format, bytes_of, comes_after, key_at, record_at, records_at}
-use Rattle.fm_wire.specs.Decoding.{rest_of}
+use Rattle.fm_wire.specs.inner.Decoding.{rest_of}
 use Rattle.fm_wire.proofs.Binds.{bind_ok, guard_ok, ok_is}
 
 rest_after : {A : Type 0} (e : A) (r : Reading (List A)) → rest_of (r >>= λ others. Ok (e ∷ others.0, others.1)) ≡ rest_of r

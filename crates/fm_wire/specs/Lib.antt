@@ -1,3 +1,3 @@
 pub mod Formats
 pub mod Grammar
-pub mod Decoding
+pub mod inner

@@ -5,7 +5,7 @@ ghost use Rattle.fm_wire.specs.declared.version.Version.{Version};
 ghost use Rattle.fm_wire.specs.declared.version.Version.TheVariants.{Fdg2};
 ghost use Rattle.fm_wire.specs.Formats.{Format};
 ghost use Rattle.fm_wire.specs.Grammar.{id, attempt, coordinator_field};
-ghost use Rattle.fm_wire.specs.Decoding.{DecodesTo};
+ghost use Rattle.fm_wire.specs.inner.Decoding.{DecodesTo};
 
 use crate::number_codecs::{put_u8, put_u32, put_u128, u8_at, u32_at, u128_at};
 use crate::version::Version;

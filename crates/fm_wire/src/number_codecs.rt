@@ -5,7 +5,7 @@
 ghost use Rattle.std.specs.Prelude.{◌≡◌, ◌++◌, ◌-◌, ◌^◌, ◌≤◌, OnOk, IfOk};
 ghost use Rattle.std.specs.Int.{w8, w32, w64, w128};
 ghost use Rattle.fm_wire.specs.Formats.{number_at, bytes_of};
-ghost use Rattle.fm_wire.specs.Decoding.{DecodesTo};
+ghost use Rattle.fm_wire.specs.inner.Decoding.{DecodesTo};
 
 use fm_lattice::join::OutOfMemory;
 

@@ -5,7 +5,7 @@ ghost use Rattle.std.specs.Ordering.{nat_cmp};
 ghost use Rattle.fm_wire.specs.declared.version.Version.TheVariants.{Fdg2};
 ghost use Rattle.fm_wire.specs.Formats.{record_at, records_at};
 ghost use Rattle.fm_wire.specs.Grammar.{id, price_field, preferences};
-ghost use Rattle.fm_wire.specs.Decoding.{DecodesTo};
+ghost use Rattle.fm_wire.specs.inner.Decoding.{DecodesTo};
 
 use crate::number_codecs::{put_u8, put_u32, put_u128, u8_at, u32_at};
 use crate::record_lists::key_at;

@@ -4,7 +4,7 @@ ghost use Rattle.std.specs.Prelude.{◌≡◌, ◌≤◌, ◌↔◌, None, IsOk,
 ghost use Rattle.fm_records.specs.Options.{or_else};
 ghost use Rattle.fm_records.specs.Ranges.{CanBe};
 ghost use Rattle.fm_wire.specs.Grammar.{header, body, version_word, packet, fault, IsPacket, Spells, IsSpelling};
-ghost use Rattle.fm_wire.specs.Decoding.{DecodesTo, Finds, FindsListed, rest_of};
+ghost use Rattle.fm_wire.specs.inner.Decoding.{DecodesTo, Finds, FindsListed, rest_of};
 
 use crate::decode_error::DecodeError;
 use crate::flat_proposals::proposals_in;

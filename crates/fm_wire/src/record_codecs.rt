@@ -3,7 +3,7 @@
 ghost use Rattle.std.specs.Prelude.{◌≡◌, ◌++◌, Option, OnOk, cond};
 ghost use Rattle.fm_wire.specs.Grammar.{job, spec, optional_spec, has_of, task, phase, flag, state, report, parts, parts_of, machine, spot};
 ghost use Rattle.fm_wire.specs.declared.version.Version.TheVariants.{Fdg2};
-ghost use Rattle.fm_wire.specs.Decoding.{DecodesTo};
+ghost use Rattle.fm_wire.specs.inner.Decoding.{DecodesTo};
 ghost use Rattle.fm_wire.specs.Formats.{bytes_of};
 ghost use Rattle.std.specs.Int.{w8};
 

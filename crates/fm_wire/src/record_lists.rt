@@ -3,7 +3,7 @@
 ghost use Rattle.std.specs.Prelude.{◌≡◌, ◌<◌, ◌^◌, ◌++◌, length, None, OnOk};
 ghost use Rattle.fm_wire.specs.declared.version.Version.TheVariants.{Fdg2};
 ghost use Rattle.fm_wire.specs.Formats.{comes_after, key_at, record_at, records_at, records};
-ghost use Rattle.fm_wire.specs.Decoding.{DecodesTo, Builds, rest_of};
+ghost use Rattle.fm_wire.specs.inner.Decoding.{DecodesTo, Builds, rest_of};
 
 use crate::codec::{Codec, VersionedCodec};
 use crate::decode_error::DecodeError;

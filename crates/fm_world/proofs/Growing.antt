@@ -8,7 +8,7 @@ use Rattle.std.proofs.lemmas.List.{append-nil, append_assoc, take_more, map-appe
 use Rattle.fm_records.specs.Sets.{IsMember}
 use Rattle.fm_delta.specs.declared.packet.Packet.{Packet}
 use Rattle.fm_delta.specs.Packets.{same_packet}
-use Rattle.fm_delta.specs.PacketLaws.{packet_Decides}
+use Rattle.fm_delta.specs.laws.PacketLaws.{packet_Decides}
 use Rattle.fm_coord.specs.declared.entry.Call.{Call}
 use Rattle.fm_coord.specs.declared.entry.Call.TheVariants as call
 use Rattle.fm_coord.specs.declared.entry.Entry.{Entry}
@@ -20,7 +20,7 @@ use Rattle.fm_world.specs.declared.step.Act.TheVariants as act
 use Rattle.fm_world.specs.declared.step.Step.{Step}
 use Rattle.fm_coord.specs.Numbers.{AreDistinct}
 use Rattle.fm_world.specs.Listings.{StopsAfter, IsStuck, Made, entries_at, packet_in, packets_of, IsGiven, Follows, act_for, step_for, steps_for, CannotGo, number_in, Continues, history_at, history_in, IsListing}
-use Rattle.fm_world.specs.Sweeps.{AreStopped, act_asked, AreTaken, IsSwept, IsOneTaken, AreFirstTaken, made_at}
+use Rattle.fm_world.specs.inner.Sweeps.{AreStopped, act_asked, AreTaken, IsSwept, IsOneTaken, AreFirstTaken, made_at}
 use Rattle.fm_world.specs.Represents.{state_with}
 
 steps_more : (ps : List Packet) (ms ns : List Made) → steps_for ps (ms ++ ns) ≡ steps_for ps ms ++ steps_for (ps ++ packets_of ms) ns

@@ -4,7 +4,7 @@ use Rattle.std.specs.Prelude.{cond}
 use Rattle.std.proofs.lemmas.Bool.{lt-ltb, le-ltb}
 use Rattle.std.proofs.lemmas.List.{append-nil, append_assoc}
 use Rattle.fm_coord.specs.States.{State}
-use Rattle.fm_world.specs.Sweeps.{left_at}
+use Rattle.fm_world.specs.inner.Sweeps.{left_at}
 
 -- of no coordinators none is left
 pub left_none : {C : Type 0} (f : C → State) (xs : List C) (ns : List ℕ) → length xs ≡ 0 → (l : List ℕ) → l ≡ l ++ left_at (map f xs) ns

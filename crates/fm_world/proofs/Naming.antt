@@ -13,8 +13,8 @@ use Rattle.std.specs.declared.cmp.Ordering.TheVariants.{Equal}
 use Rattle.std.proofs.lemmas.Bool.Decides.{nat_tests}
 use Rattle.fm_delta.specs.declared.packet.Packet.{Packet}
 use Rattle.fm_delta.specs.Packets.{same_packet}
-use Rattle.fm_delta.specs.PacketLaws.{packet_Decides}
-use Rattle.fm_world.specs.Names.{name_of, name_cmp, AreOthers, StartsAt, AreNamed}
+use Rattle.fm_delta.specs.laws.PacketLaws.{packet_Decides}
+use Rattle.fm_world.specs.inner.Names.{name_of, name_cmp, AreOthers, StartsAt, AreNamed}
 
 names_told : (a b : ℕ × ℕ) → is_at (name_cmp a) b ≡ true → a ≡ b
 names_told a b is = exact_pairs nat_cmp nat_cmp exact_unsigned exact_unsigned a b ((Equal-is (name_cmp a b)).0 is)

@@ -14,7 +14,7 @@ use Rattle.fm_world.specs.declared.step.Step.{Step}
 use Rattle.fm_world.specs.Worlds.{run_of, AreAccepted}
 use Rattle.fm_world.specs.Represents.{state_of, number_of, state_with, WorldRepresents}
 use Rattle.fm_world.specs.Listings.{Made, entries_at, history_in, history_at, CannotGo, IsListing, IsWhole, IsWholeRun, Halts, IsStuck, AreCoordinators, number_in, new_world_of, left_of, packets_of}
-use Rattle.fm_world.specs.Sweeps.{AreTaken, IsSwept, AreFirstTaken, rest_at, count_left, Moves, IsVisit, AreStopped, left_at, made_at}
+use Rattle.fm_world.specs.inner.Sweeps.{AreTaken, IsSwept, AreFirstTaken, rest_at, count_left, Moves, IsVisit, AreStopped, left_at, made_at}
 use Rattle.fm_world.proofs.Growing.{swept_more, swept_listing, swept_stuck}
 use Rattle.fm_world.proofs.Maximal.{stuck_maximal}
 use Rattle.fm_world.proofs.Running.{whole_runs, same_numbers}

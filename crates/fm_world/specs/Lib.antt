@@ -1,9 +1,6 @@
 pub mod Worlds
-pub mod Calls
 pub mod Represents
 pub mod Agreement
-pub mod AgreementExamples
 pub mod Listings
-pub mod Names
-pub mod Sweeps
-pub mod ListingExamples
+pub mod inner
+pub mod examples

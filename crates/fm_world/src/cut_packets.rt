@@ -21,7 +21,7 @@ pub(crate) struct CutPackets {
 impl Model for CutPackets {
     ghost use Rattle.std.specs.Prelude.{List};
     ghost use Rattle.fm_delta.specs.declared.packet.Packet.{Packet};
-    ghost use Rattle.fm_world.specs.Names.{AreNamed};
+    ghost use Rattle.fm_world.specs.inner.Names.{AreNamed};
 
     ghost Value = { List Packet };
 

@@ -8,7 +8,7 @@ ghost use Rattle.fm_coord.specs.Replays.{seen_packet};
 ghost use Rattle.fm_coord.specs.States.{bounds, Represents};
 ghost use Rattle.fm_world.specs.Worlds.{event_asked, cause_here};
 ghost use Rattle.fm_world.specs.Represents.{view_shown, IsActed};
-ghost use Rattle.fm_world.specs.Calls.{call_asked, HasRoomFor, IsSpelled, refusal_asked};
+ghost use Rattle.fm_world.specs.inner.Calls.{call_asked, HasRoomFor, IsSpelled, refusal_asked};
 
 use crate::step::Act;
 use fm_coord::coordinator::Coordinator;

@@ -1,7 +1,7 @@
 //! Entries taken as steps.
 
 ghost use Rattle.std.specs.Prelude.{◌≡◌, ◌≤◌, [], IfOk, length, drop};
-ghost use Rattle.fm_world.specs.Sweeps.{act_asked, IsOneTaken, AreFirstTaken};
+ghost use Rattle.fm_world.specs.inner.Sweeps.{act_asked, IsOneTaken, AreFirstTaken};
 ghost use Rattle.fm_world.specs.Listings.{CannotGo};
 
 use crate::cut_packets::CutPackets;

@@ -4,7 +4,7 @@ ghost use Rattle.std.specs.Prelude.{◌≡◌, ◌<◌, ◌++◌, length, map, I
 ghost use Rattle.fm_coord.specs.Numbers.{AreDistinct};
 ghost use Rattle.fm_world.specs.Represents.{state_of, number_of};
 ghost use Rattle.fm_world.specs.Listings.{Halts};
-ghost use Rattle.fm_world.specs.Sweeps.{IsSwept, IsVisit, IsSweep, AreStopped, left_at};
+ghost use Rattle.fm_world.specs.inner.Sweeps.{IsSwept, IsVisit, IsSweep, AreStopped, left_at};
 
 use crate::linearization::Linearization;
 use crate::step::Step;

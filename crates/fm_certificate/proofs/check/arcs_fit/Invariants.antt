@@ -1,5 +1,5 @@
 use Rattle.std.proofs.Common.{◌↔◌}
-use Rattle.fm_certificate.specs.Checks.{FitAll}
+use Rattle.fm_certificate.specs.inner.Checks.{FitAll}
 use Rattle.fm_certificate.proofs.check.arcs_fit.Given as goal
 
 abbrev pub invariant-loop-from : goal.invariant-loop-from

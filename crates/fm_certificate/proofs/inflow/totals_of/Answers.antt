@@ -3,7 +3,7 @@ use Rattle.std.specs.BTreeMap as tree
 use Rattle.std.proofs.lemmas.Iterator.Adapters.{fact_from_collect, YieldsList-from_vec}
 use Rattle.fm_records.specs.Options.{or_else}
 use Rattle.fm_net.specs.Nodes.{node_cmp}
-use Rattle.fm_net.specs.NodeOrder.{node_total}
+use Rattle.fm_net.specs.laws.NodeOrder.{node_total}
 use Rattle.fm_certificate.proofs.Inserted.{inserted}
 use Rattle.fm_certificate.proofs.inflow.totals_of.Goals as goal
 

@@ -8,8 +8,8 @@ use Rattle.std.specs.declared.alloc.Global.{Global}
 use Rattle.fm_cycles.specs.Walks.{IsNegativeCycle}
 use Rattle.fm_cycles.specs.Residual.{residual}
 use Rattle.fm_cycles.specs.Found.{costs_in}
-use Rattle.fm_cycles.specs.Labels.{HasFallen, IsCorrectedWithin, costs_of, parents_of}
-use Rattle.fm_cycles.specs.ParentGraph.{HasRoot, AreNegative, AreCyclesOf}
+use Rattle.fm_cycles.specs.inner.Labels.{HasFallen, IsCorrectedWithin, costs_of, parents_of}
+use Rattle.fm_cycles.specs.inner.ParentGraph.{HasRoot, AreNegative, AreCyclesOf}
 use Rattle.fm_cycles.specs.declared.indexed_arcs.ResidualArc.{ResidualArc}
 use Rattle.fm_cycles.proofs.Searched.{start, above, quickened, done, again, none_at, none_fell, some_fell, no_items}
 use Rattle.fm_cycles.proofs.cycle_search.search_on.Goals as goal

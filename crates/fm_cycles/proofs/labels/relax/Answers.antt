@@ -3,7 +3,7 @@ use Rattle.std.specs.Prelude.{ℕ, slice_get, ◌≤ℤ◌, ◌-ℤ◌, neg_ℤ,
 use Rattle.std.proofs.lemmas.Int.{ints}
 use Rattle.std.proofs.lemmas.Option.{slice_get-get_or}
 use Rattle.std.proofs.lemmas.Bool.{ltb-true, lt-ltb}
-use Rattle.fm_cycles.specs.Labels.{costs_of, HasFallen}
+use Rattle.fm_cycles.specs.inner.Labels.{costs_of, HasFallen}
 use Rattle.fm_cycles.specs.declared.indexed_arcs.IndexedArc.{IndexedArc}
 use Rattle.fm_cycles.proofs.Lowered.{taken, above, falls}
 use Rattle.fm_cycles.proofs.labels.relax.Goals as goal

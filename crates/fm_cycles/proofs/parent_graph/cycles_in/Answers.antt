@@ -1,8 +1,8 @@
 use Rattle.std.proofs.Common.{◌≡◌, ◌∙◌, ap, ◌+◌, ◌++◌, List, [], ◌∷◌, Option, Some, None, ℕ, sym, subst, length, drop, rules}
 use lib.ListN.{take}
 use Rattle.fm_cycles.specs.Residual.{residual}
-use Rattle.fm_cycles.specs.Labels.{parents_in}
-use Rattle.fm_cycles.specs.ParentGraph.{IsWalkedBack}
+use Rattle.fm_cycles.specs.inner.Labels.{parents_in}
+use Rattle.fm_cycles.specs.inner.ParentGraph.{IsWalkedBack}
 use Rattle.fm_cycles.specs.declared.parent_graph.Visit.{Visit}
 use Rattle.std.specs.declared.vec.Vec.{Vec}
 use Rattle.std.specs.declared.alloc.Global.{Global}

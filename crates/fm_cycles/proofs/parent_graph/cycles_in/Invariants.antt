@@ -1,6 +1,6 @@
 use Rattle.std.proofs.Common.{length}
 use Rattle.fm_cycles.specs.Residual.{residual}
-use Rattle.fm_cycles.specs.Labels.{parents_in}
+use Rattle.fm_cycles.specs.inner.Labels.{parents_in}
 use Rattle.fm_cycles.proofs.Traced.{SoFar}
 use Rattle.fm_cycles.proofs.parent_graph.cycles_in.Given as goal
 

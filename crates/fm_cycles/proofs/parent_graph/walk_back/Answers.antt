@@ -1,7 +1,7 @@
 use Rattle.std.proofs.Common.{◌≡◌, Some, None, List, [], ◌∷◌, ◌++◌, sym, subst, length, set, rules, arith}
 use Rattle.fm_cycles.specs.Residual.{residual}
-use Rattle.fm_cycles.specs.Labels.{parents_in}
-use Rattle.fm_cycles.specs.ParentGraph.{visit_of, IsWalkedBack}
+use Rattle.fm_cycles.specs.inner.Labels.{parents_in}
+use Rattle.fm_cycles.specs.inner.ParentGraph.{visit_of, IsWalkedBack}
 use Rattle.fm_cycles.specs.declared.indexed_arcs.ResidualArc.{ResidualArc}
 use Rattle.fm_cycles.proofs.Walked.{State, begin, advanced, short, ended, came, closed_here}
 use Rattle.fm_cycles.proofs.parent_graph.walk_back.Goals as goal

@@ -1,6 +1,6 @@
 use Rattle.std.proofs.Common.{◌-◌, length}
-use Rattle.fm_cycles.specs.Labels.{parents_in}
-use Rattle.fm_cycles.specs.ParentGraph.{value_count}
+use Rattle.fm_cycles.specs.inner.Labels.{parents_in}
+use Rattle.fm_cycles.specs.inner.ParentGraph.{value_count}
 use Rattle.fm_cycles.proofs.Walked.{State}
 use Rattle.fm_cycles.proofs.parent_graph.walk_back.Given as goal
 

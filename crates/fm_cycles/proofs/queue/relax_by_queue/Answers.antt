@@ -1,7 +1,7 @@
 use Rattle.std.proofs.Common.{◌+◌, ◌*◌, ◌^◌, refl, rules, arith}
 use Rattle.std.proofs.lemmas.Int.{ints}
 use Rattle.fm_cycles.specs.Residual.{residual}
-use Rattle.fm_cycles.specs.Labels.{IsCorrectedWithin}
+use Rattle.fm_cycles.specs.inner.Labels.{IsCorrectedWithin}
 use Rattle.fm_cycles.proofs.Corrected.{same, moved, joined_within}
 use Rattle.fm_cycles.proofs.queue.relax_by_queue.Goals as goal
 

@@ -1,6 +1,6 @@
 use Rattle.std.proofs.Common.{◌*◌, ◌^◌}
 use Rattle.fm_cycles.specs.Residual.{residual}
-use Rattle.fm_cycles.specs.Labels.{IsCorrectedWithin}
+use Rattle.fm_cycles.specs.inner.Labels.{IsCorrectedWithin}
 use Rattle.fm_cycles.proofs.queue.relax_by_queue.Given as goal
 
 abbrev pub invariant-loop-pass : goal.invariant-loop-pass

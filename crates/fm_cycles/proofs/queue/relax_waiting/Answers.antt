@@ -1,7 +1,7 @@
 use Rattle.std.proofs.Common.{◌≡◌, ◌<◌, ◌+◌, ◌^◌, length, rules, arith}
 use Rattle.std.proofs.lemmas.Int.{ints}
 use Rattle.fm_cycles.specs.Residual.{residual}
-use Rattle.fm_cycles.specs.Labels.{IsCorrected}
+use Rattle.fm_cycles.specs.inner.Labels.{IsCorrected}
 use Rattle.fm_cycles.proofs.Corrected.{joined}
 use Rattle.fm_cycles.proofs.queue.relax_waiting.Goals as goal
 

@@ -1,6 +1,6 @@
 use Rattle.std.proofs.Common.{ℕ, ◌<◌, ◌≤◌, ◌+◌, ◌^◌, length}
 use Rattle.fm_cycles.specs.Residual.{residual}
-use Rattle.fm_cycles.specs.Labels.{IsCorrected}
+use Rattle.fm_cycles.specs.inner.Labels.{IsCorrected}
 use Rattle.fm_cycles.proofs.queue.relax_waiting.Given as goal
 
 abbrev pub invariant-loop-left : goal.invariant-loop-left

@@ -1,7 +1,7 @@
 use Rattle.std.proofs.Common.{◌≡◌, ◌+◌, ◌^◌, None, length, refl, sym, subst, rules, arith}
 use Rattle.std.proofs.lemmas.Int.{ints}
 use Rattle.fm_cycles.specs.Residual.{residual}
-use Rattle.fm_cycles.specs.Labels.{IsCorrected}
+use Rattle.fm_cycles.specs.inner.Labels.{IsCorrected}
 use Rattle.fm_cycles.specs.declared.labels.Labels.{Labels}
 use Rattle.fm_cycles.proofs.Corrected.{moved, one_more, longer}
 use Rattle.fm_cycles.proofs.queue.scan.Goals as goal

@@ -1,5 +1,5 @@
 use Rattle.fm_cycles.specs.Residual.{residual}
-use Rattle.fm_cycles.specs.Labels.{IsCorrected}
+use Rattle.fm_cycles.specs.inner.Labels.{IsCorrected}
 use Rattle.fm_cycles.proofs.queue.scan.Given as goal
 
 abbrev pub invariant-loop-place : goal.invariant-loop-place

@@ -1,7 +1,7 @@
 -- The line's numbers are the arc's, and tell it from all others.
 use Rattle.std.proofs.Common.{◌≡◌, [], sym, ◌∙◌, subst, arith}
-use Rattle.fm_net.specs.NetworkIter.{arc_entry}
-use Rattle.fm_dimacs.specs.Scan.{IsAfter}
+use Rattle.fm_net.specs.inner.NetworkIter.{arc_entry}
+use Rattle.fm_dimacs.specs.inner.Scan.{IsAfter}
 use Rattle.fm_dimacs.proofs.Arcs.{no_numbers, same_numbers, arc_stands}
 use Rattle.fm_dimacs.proofs.Leading.{ids_tell}
 use Rattle.fm_dimacs.proofs.arc_lines.next_arc.Goals as goal

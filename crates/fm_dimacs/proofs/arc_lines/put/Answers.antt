@@ -1,6 +1,6 @@
 -- The arc comes last, so that it is put at the end.
 use Rattle.std.proofs.Common.{ap, ◌∙◌}
-use Rattle.fm_net.specs.NetworkIter.{arc_entry}
+use Rattle.fm_net.specs.inner.NetworkIter.{arc_entry}
 use Rattle.fm_dimacs.proofs.Arcs.{put_last}
 use Rattle.fm_dimacs.proofs.arc_lines.put.Goals as goal
 

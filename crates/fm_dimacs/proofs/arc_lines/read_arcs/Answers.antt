@@ -1,7 +1,7 @@
 -- Each arc leads on from those before it; if none comes next, the line is broken.
 use Rattle.std.proofs.Common.{◌≡◌, ◌+◌, ◌++◌, ◌∷◌, [], refl, sym, ap, ◌∙◌, subst, arith}
-use Rattle.fm_net.specs.NetworkIter.{arc_entry}
-use Rattle.fm_dimacs.specs.Scan.{IsAfter}
+use Rattle.fm_net.specs.inner.NetworkIter.{arc_entry}
+use Rattle.fm_dimacs.specs.inner.Scan.{IsAfter}
 use Rattle.fm_dimacs.proofs.Arcs.{arc_broken, arc_leads, arc_room, is_after_last, last_ends, last_more}
 use Rattle.fm_dimacs.proofs.arc_lines.read_arcs.Goals as goal
 

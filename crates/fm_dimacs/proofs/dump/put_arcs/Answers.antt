@@ -1,6 +1,6 @@
 use Rattle.std.proofs.Common.{◌++◌, ◌∙◌, append_assoc, ap, sym}
 use Rattle.std.specs.List.{flat_map}
-use Rattle.fm_net.specs.NetworkIter.{arc_entry}
+use Rattle.fm_net.specs.inner.NetworkIter.{arc_entry}
 use Rattle.fm_dimacs.specs.Text.{arc_line}
 use Rattle.fm_dimacs.proofs.Sent.{appends_more, stopped_later}
 use Rattle.fm_dimacs.proofs.dump.put_arcs.Goals as goal

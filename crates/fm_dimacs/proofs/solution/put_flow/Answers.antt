@@ -1,7 +1,7 @@
 use Rattle.std.proofs.Common.{◌++◌, ◌∙◌, append_assoc, ap, sym}
 use Rattle.std.specs.List.{flat_map}
 use Rattle.fm_certificate.specs.Flows.{units_in}
-use Rattle.fm_net.specs.NetworkIter.{arc_entry}
+use Rattle.fm_net.specs.inner.NetworkIter.{arc_entry}
 use Rattle.fm_dimacs.specs.Solution.{flow_line}
 use Rattle.fm_dimacs.proofs.Sent.{appends_more, stopped_later}
 use Rattle.fm_dimacs.proofs.solution.put_flow.Goals as goal

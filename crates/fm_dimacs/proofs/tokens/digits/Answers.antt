@@ -1,7 +1,7 @@
 -- The number so far is that of the digits before a byte that is none; it is too great if it does not fit.
 use Rattle.std.proofs.Common.{◌≡◌, ◌+◌, ◌-◌, ◌*◌, ◌^◌, ◌<◌, ◌≤◌, false, true, Some, sym, ap, ◌∙◌, length, get_or, drop, arith}
 use Rattle.std.specs.Char.{is_ascii_digit}
-use Rattle.fm_dimacs.specs.Scan.{digits_from, fitting}
+use Rattle.fm_dimacs.specs.inner.Scan.{digits_from, fitting}
 use Rattle.fm_dimacs.proofs.Digits.{stops, goes_on, ends, too_great, fits, whole_rest}
 use Rattle.fm_dimacs.proofs.tokens.digits.Goals as goal
 

@@ -1,6 +1,6 @@
 -- The rest goes on from the number so far as the whole does from the first digit.
 use Rattle.std.proofs.Common.{◌≡◌, ◌<◌, ◌^◌, drop}
-use Rattle.fm_dimacs.specs.Scan.{digits_from}
+use Rattle.fm_dimacs.specs.inner.Scan.{digits_from}
 use Rattle.fm_dimacs.proofs.tokens.digits.Given as goal
 
 abbrev pub invariant-loop-i : goal.invariant-loop-i

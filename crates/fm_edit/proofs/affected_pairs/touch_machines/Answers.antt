@@ -3,7 +3,7 @@ use Rattle.std.specs.Prelude.{is_some}
 use Rattle.std.specs.Ordering.{nat_cmp}
 use Rattle.fm_lattice.specs.Maps.{lookup}
 use Rattle.fm_net.specs.declared.node.Node.TheVariants.{Machine}
-use Rattle.fm_edit.specs.Affected.{has_pair}
+use Rattle.fm_edit.specs.inner.Affected.{has_pair}
 use Rattle.fm_edit.proofs.Completed.{both_ways, ended_on}
 use Rattle.fm_edit.proofs.affected_pairs.touch_machines.Goals as goal
 

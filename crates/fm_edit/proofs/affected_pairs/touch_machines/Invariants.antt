@@ -4,7 +4,7 @@ use Rattle.std.specs.Ordering.{nat_cmp}
 use Rattle.std.specs.BTreeMap.{get}
 use Rattle.fm_lattice.specs.Maps.{lookup}
 use Rattle.fm_net.specs.declared.node.Node.TheVariants.{Machine}
-use Rattle.fm_edit.specs.Affected.{has_pair, AffectedGrows}
+use Rattle.fm_edit.specs.inner.Affected.{has_pair, AffectedGrows}
 use Rattle.fm_edit.proofs.affected_pairs.touch_machines.Given as goal
 
 abbrev pub invariant-loop-machine : goal.invariant-loop-machine

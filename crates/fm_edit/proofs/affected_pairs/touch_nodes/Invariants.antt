@@ -2,8 +2,8 @@ use Rattle.std.proofs.Common.{◌≡◌, true, false, drop}
 use Rattle.fm_net.specs.declared.node.Node.{Node}
 use Rattle.fm_net.specs.Nodes.{node_cmp}
 use Rattle.fm_net.specs.Touched.{is_among}
-use Rattle.fm_edit.specs.Affected.{AffectedGrows}
-use Rattle.fm_edit.specs.Completing.{AddsSink, AddsPlaces, AddsPreferring, AddsMachines}
+use Rattle.fm_edit.specs.inner.Affected.{AffectedGrows}
+use Rattle.fm_edit.specs.inner.Completing.{AddsSink, AddsPlaces, AddsPreferring, AddsMachines}
 use Rattle.fm_edit.proofs.affected_pairs.touch_nodes.Given as goal
 
 abbrev pub invariant-loop-node : goal.invariant-loop-node

@@ -1,7 +1,7 @@
 use Rattle.std.proofs.Common.{◌∙◌, ◌++◌, ap}
 use Rattle.std.specs.Prelude.{filter, reverse}
 use Rattle.std.specs.List.{list_any}
-use Rattle.fm_edit.specs.Completing.{is_request_node, is_machine, waiting_in}
+use Rattle.fm_edit.specs.inner.Completing.{is_request_node, is_machine, waiting_in}
 use Rattle.fm_edit.proofs.Completed.{completes}
 use Rattle.fm_edit.proofs.affected_pairs.touch_pairs.Goals as goal
 

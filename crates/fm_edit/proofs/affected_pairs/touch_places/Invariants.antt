@@ -2,7 +2,7 @@ use Rattle.std.proofs.Common.{◌≡◌, true, false, drop}
 use Rattle.fm_net.specs.declared.node.Node.{Node}
 use Rattle.fm_net.specs.Nodes.{node_cmp}
 use Rattle.fm_net.specs.Touched.{is_among}
-use Rattle.fm_edit.specs.Affected.{has_pair, AffectedGrows}
+use Rattle.fm_edit.specs.inner.Affected.{has_pair, AffectedGrows}
 use Rattle.fm_edit.proofs.affected_pairs.touch_places.Given as goal
 
 abbrev pub invariant-loop-request : goal.invariant-loop-request

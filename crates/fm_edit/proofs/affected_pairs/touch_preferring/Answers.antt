@@ -4,8 +4,8 @@ use Rattle.std.specs.Ordering.{nat_cmp, is_eq}
 use Rattle.std.specs.Cmp.{nat_cmp_total, Equal-is}
 use Rattle.fm_lattice.specs.Chains.{nat_same}
 use Rattle.fm_net.specs.declared.node.Node.TheVariants.{Machine, Task}
-use Rattle.fm_edit.specs.Listed.{named_in}
-use Rattle.fm_edit.specs.Affected.{has_pair}
+use Rattle.fm_edit.specs.inner.Listed.{named_in}
+use Rattle.fm_edit.specs.inner.Affected.{has_pair}
 use Rattle.fm_edit.proofs.Completed.{grows_then, walked_on, none_to_come}
 use Rattle.fm_edit.proofs.Ranges.{listed_named}
 use Rattle.fm_edit.proofs.affected_pairs.touch_preferring.Goals as goal

@@ -2,9 +2,9 @@ use Rattle.std.proofs.Common.{◌∙◌, ap, sym, inl, inr}
 use Rattle.std.specs.Prelude.{◌||◌}
 use Rattle.std.specs.Ordering.{nat_cmp, is_eq}
 use Rattle.fm_net.specs.Nodes.{node_cmp}
-use Rattle.fm_net.specs.NodeOrder.{node_exact, node_total}
+use Rattle.fm_net.specs.laws.NodeOrder.{node_exact, node_total}
 use Rattle.fm_edit.specs.Dirty.{has_id}
-use Rattle.fm_edit.specs.Listed.{named_in}
+use Rattle.fm_edit.specs.inner.Listed.{named_in}
 use Rattle.fm_edit.proofs.Ranges.{listed_named, named_listed, moved}
 use Rattle.fm_edit.proofs.Values.{kept_true, came_in, came_of}
 use Rattle.fm_edit.proofs.dirty.add_listed.Goals as goal

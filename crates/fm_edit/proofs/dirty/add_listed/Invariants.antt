@@ -2,7 +2,7 @@ use Rattle.std.proofs.Common.{◌≡◌, ℕ, true}
 use Rattle.std.specs.Prelude.{◌||◌}
 use Rattle.fm_net.specs.Nodes.{node_cmp}
 use Rattle.fm_edit.specs.Dirty.{has_id}
-use Rattle.fm_edit.specs.Listed.{named_in, listed_at}
+use Rattle.fm_edit.specs.inner.Listed.{named_in, listed_at}
 use Rattle.fm_edit.proofs.dirty.add_listed.Given as goal
 
 abbrev pub invariant-loop-pair : goal.invariant-loop-pair

@@ -1,6 +1,6 @@
 use Rattle.std.proofs.Common.{ap, sym, ◌∙◌}
 use Rattle.fm_inbox.specs.declared.owned_port.OwnedPort.{OwnedPort}
-use Rattle.fm_gossip.specs.Used.{after_takes}
+use Rattle.fm_gossip.specs.inner.Used.{after_takes}
 use Rattle.fm_gossip.proofs.Columns.{on_ok, passed_through}
 use Rattle.fm_gossip.proofs.intake.pass_on.Goals as goal
 

@@ -1,6 +1,6 @@
 use Rattle.std.proofs.Common.{map, ap, ◌∙◌}
 use Rattle.fm_gossip.specs.Passing.{passed_at}
-use Rattle.fm_gossip.specs.Works.{MemberEndModel}
+use Rattle.fm_gossip.specs.inner.Works.{MemberEndModel}
 use Rattle.fm_gossip.proofs.Columns.{on_ok, column_step}
 use Rattle.fm_gossip.proofs.member_end.+take_last.Goals as goal
 

@@ -1,6 +1,6 @@
 use Rattle.std.proofs.Common.{◌≡◌, map, length}
 use Rattle.fm_gossip.specs.Passing.{passed_at}
-use Rattle.fm_gossip.specs.Works.{HaveOut}
+use Rattle.fm_gossip.specs.inner.Works.{HaveOut}
 use Rattle.fm_gossip.proofs.Columns.{AreClosed}
 use Rattle.fm_gossip.proofs.member_end.close_all.Given as goal
 

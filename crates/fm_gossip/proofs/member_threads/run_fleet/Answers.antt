@@ -3,8 +3,8 @@ use Rattle.std.proofs.lemmas.List.{length-map}
 use Rattle.fm_gossip.specs.Served.{AreServed}
 use Rattle.fm_gossip.specs.Members.{member_number, member_tasks}
 use Rattle.fm_gossip.specs.Passing.{passed_at, ArePassedOn}
-use Rattle.fm_gossip.specs.Used.{AreUsed}
-use Rattle.fm_gossip.specs.Works.{HaveOut, NoneRefused}
+use Rattle.fm_gossip.specs.inner.Used.{AreUsed}
+use Rattle.fm_gossip.specs.inner.Works.{HaveOut, NoneRefused}
 use Rattle.fm_gossip.proofs.Columns.{written}
 use Rattle.fm_gossip.proofs.Working.{all_used, all_served, as_many, length-links_of, linked_for}
 use Rattle.fm_gossip.proofs.member_threads.run_fleet.Goals as goal

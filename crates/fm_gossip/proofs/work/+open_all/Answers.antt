@@ -1,6 +1,6 @@
 use Rattle.std.proofs.Common.{◌+◌, ap, subst, ◌∙◌}
 use Rattle.fm_inbox.specs.Ports.{InboxModel}
-use Rattle.fm_gossip.specs.Works.{HaveOut}
+use Rattle.fm_gossip.specs.inner.Works.{HaveOut}
 use Rattle.fm_gossip.proofs.Columns.{on_ok}
 use Rattle.fm_gossip.proofs.work.+open_all.Goals as goal
 

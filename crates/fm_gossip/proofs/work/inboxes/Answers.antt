@@ -1,5 +1,5 @@
 use Rattle.std.proofs.Common.{sym, subst, arith}
-use Rattle.fm_gossip.specs.Works.{HaveOut}
+use Rattle.fm_gossip.specs.inner.Works.{HaveOut}
 use Rattle.fm_gossip.proofs.Working.{have_out_last}
 use Rattle.fm_gossip.proofs.work.inboxes.Goals as goal
 

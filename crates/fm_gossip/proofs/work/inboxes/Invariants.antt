@@ -1,5 +1,5 @@
 use Rattle.std.specs.Prelude.{◌≡◌, vec_len}
-use Rattle.fm_gossip.specs.Works.{HaveOut}
+use Rattle.fm_gossip.specs.inner.Works.{HaveOut}
 use Rattle.fm_gossip.proofs.work.inboxes.Given as goal
 
 abbrev pub invariant-loop-i : goal.invariant-loop-i

@@ -1,6 +1,6 @@
 use Rattle.std.specs.Prelude.{◌≡◌, ◌++◌, drop, map, length, vec_len}
 use Rattle.fm_gossip.specs.Members.{member_number}
-use Rattle.fm_gossip.specs.Works.{links_of, HaveOut}
+use Rattle.fm_gossip.specs.inner.Works.{links_of, HaveOut}
 use Rattle.fm_gossip.proofs.work.link.Given as goal
 
 abbrev pub invariant-loop-member : goal.invariant-loop-member

@@ -1,5 +1,5 @@
 use Rattle.std.proofs.Common.{◌<◌, ◌+◌, vec_len}
-use Rattle.fm_heuristics.specs.Trees.{depth_of}
+use Rattle.fm_heuristics.specs.inner.Trees.{depth_of}
 use Rattle.fm_heuristics.proofs.pivots.cycle_of.Given as goal
 
 abbrev pub invariant-up : goal.invariant-up

@@ -3,7 +3,7 @@ use Rattle.std.specs.Prelude.{vec_len, slice_get, slice_index, slice_set}
 use Rattle.std.proofs.lemmas.List.{get_or_default}
 use Rattle.std.proofs.lemmas.Option.{slice_get-get_or}
 use Rattle.fm_cycles.specs.declared.indexed_arcs.IndexedArc.{IndexedArc}
-use Rattle.fm_indexed.specs.ArcEnds.{node_at_end}
+use Rattle.fm_indexed.specs.inner.ArcEnds.{node_at_end}
 use Rattle.fm_indexed.proofs.Summed.{AddUp, add_one, skip_one, add_fits}
 use Rattle.fm_indexed.proofs.Ends.{end_below}
 use Rattle.fm_indexed.proofs.sums.sums_of.Goals as goal

@@ -1,6 +1,6 @@
 -- The sums so far, with what is still to come, are the whole.
 use Rattle.std.proofs.Common.{◌≡◌, vec_len}
-use Rattle.fm_indexed.specs.ArcEnds.{node_at_end}
+use Rattle.fm_indexed.specs.inner.ArcEnds.{node_at_end}
 use Rattle.fm_indexed.proofs.Summed.{AddUp}
 use Rattle.fm_indexed.proofs.sums.sums_of.Given as goal
 

@@ -2,7 +2,7 @@ use Rattle.std.proofs.Common.{List, ℕ, sym, subst}
 use Rattle.std.specs.Prelude.{ℤ}
 use Rattle.fm_net.specs.declared.node.Node.{Node}
 use Rattle.fm_certificate.specs.Certificates.{IsCertified}
-use Rattle.fm_indexed.specs.Named.{named_units}
+use Rattle.fm_indexed.specs.inner.Named.{named_units}
 use Rattle.fm_indexed.proofs.Certify.{is_certified}
 use Rattle.fm_indexed.proofs.Naming.{named_rise, valued_rise}
 use Rattle.fm_indexed.proofs.to_named.certified.Goals as goal

@@ -1,7 +1,7 @@
 use Rattle.std.proofs.Common.{◌≡◌, ◌∙◌, ◌++◌, ◌∷◌, [], ◌+◌, ℕ, List, suc, drop, ap, sym, arith}
 use Rattle.std.specs.Prelude.{slice_index}
 use Rattle.fm_net.specs.declared.node.Node.{Node}
-use Rattle.fm_indexed.specs.Named.{entered_by}
+use Rattle.fm_indexed.specs.inner.Named.{entered_by}
 use Rattle.fm_indexed.proofs.Naming.{append_one}
 use Rattle.fm_indexed.proofs.Entered.{passed_by, taken_up}
 use Rattle.fm_indexed.proofs.to_named.entered_of.Goals as goal

@@ -6,7 +6,7 @@ use Rattle.fm_net.specs.Nodes.{node_cmp}
 use Rattle.fm_certificate.specs.Totals.{Entry, IsTotalled}
 use Rattle.fm_cycles.specs.declared.indexed_arcs.IndexedArc.{IndexedArc}
 use Rattle.fm_indexed.specs.Numbered.{NetArc, AreArcsOf}
-use Rattle.fm_indexed.specs.Named.{named_units, units_by, entered_by}
+use Rattle.fm_indexed.specs.inner.Named.{named_units, units_by, entered_by}
 use Rattle.fm_indexed.proofs.Naming.{by_names}
 use Rattle.fm_indexed.proofs.Entered.{entered_rise}
 use Rattle.fm_indexed.proofs.Totalling.{totalled}

@@ -3,7 +3,7 @@ use Rattle.std.specs.Prelude.{ℤ}
 use Rattle.fm_lattice.specs.Maps.{IsRising}
 use Rattle.fm_net.specs.declared.node.Node.{Node}
 use Rattle.fm_net.specs.Nodes.{node_cmp}
-use Rattle.fm_indexed.specs.Named.{named_potentials}
+use Rattle.fm_indexed.specs.inner.Named.{named_potentials}
 use Rattle.fm_indexed.proofs.Naming.{valued_rise}
 use Rattle.fm_indexed.proofs.to_named.potentials_of.Goals as goal
 

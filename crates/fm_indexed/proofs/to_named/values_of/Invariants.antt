@@ -1,6 +1,6 @@
 -- The nodes so far, and those to come, are the whole.
 use Rattle.std.proofs.Common.{◌≡◌, ◌++◌, drop}
-use Rattle.fm_indexed.specs.Named.{named_potentials}
+use Rattle.fm_indexed.specs.inner.Named.{named_potentials}
 use Rattle.fm_indexed.proofs.to_named.values_of.Given as goal
 
 abbrev pub invariant-loop-place : goal.invariant-loop-place

@@ -1,5 +1,5 @@
 use Rattle.std.proofs.Common.{◌≡◌, ◌-◌, suc, subst, arith}
-use Rattle.fm_lattice.specs.SortedVec.{IsInsertionIndex}
+use Rattle.fm_lattice.specs.inner.SortedVec.{IsInsertionIndex}
 use Rattle.fm_lattice.proofs.InBlocks.{blocks_rise, block_at, block_first, block_before}
 use Rattle.fm_lattice.proofs.Owned.{home_at, home_first, home_before}
 use Rattle.fm_lattice.proofs.blocks.block_of.Goals as goal

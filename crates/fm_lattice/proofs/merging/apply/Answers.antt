@@ -1,7 +1,7 @@
 use Rattle.std.proofs.Common.{◌≡◌, ◌∙◌, ap, arith, length}
 use Rattle.std.specs.Vec.Iter.{into_iter_items}
 use Rattle.fm_lattice.specs.Maps.{put, keep_new}
-use Rattle.fm_lattice.specs.MapLaws.{rising_put}
+use Rattle.fm_lattice.specs.laws.MapLaws.{rising_put}
 use Rattle.fm_lattice.specs.Blocks.{pairs_of}
 use Rattle.fm_lattice.proofs.Spares.{spares_put}
 use Rattle.fm_lattice.proofs.Owned.{still_owned}

@@ -1,6 +1,6 @@
 use Rattle.std.proofs.Common.{◌≡◌, get_or, sym, ◌∙◌, ap, Some, subst}
 use Rattle.fm_lattice.specs.Maps.{keep_new, IsRising}
-use Rattle.fm_lattice.specs.MapLaws.{rising_put}
+use Rattle.fm_lattice.specs.laws.MapLaws.{rising_put}
 use Rattle.fm_lattice.proofs.Places.{lookup_at, lookup_gap, put_at, put_gap}
 use Rattle.fm_lattice.proofs.sorted_vec.insert.Goals as goal
 

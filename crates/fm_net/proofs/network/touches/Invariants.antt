@@ -1,6 +1,6 @@
 use Rattle.std.proofs.Common.{◌≡◌, length}
 use Rattle.std.specs.List.{list_any}
-use Rattle.fm_net.specs.Ends.{is_end}
+use Rattle.fm_net.specs.inner.Ends.{is_end}
 use Rattle.fm_net.proofs.network.touches.Given as goal
 
 abbrev pub invariant-loop-ends : goal.invariant-loop-ends

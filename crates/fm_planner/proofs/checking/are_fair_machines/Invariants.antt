@@ -1,5 +1,5 @@
 use Rattle.std.proofs.Common.{drop}
-use Rattle.fm_planner.specs.Slackness.{AllOf, IsFairMachine}
+use Rattle.fm_planner.specs.inner.Slackness.{AllOf, IsFairMachine}
 use Rattle.fm_planner.proofs.checking.are_fair_machines.Given as goal
 
 abbrev pub invariant-loop-machine : goal.invariant-loop-machine

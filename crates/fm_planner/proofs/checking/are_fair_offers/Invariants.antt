@@ -1,5 +1,5 @@
 use Rattle.std.proofs.Common.{drop}
-use Rattle.fm_planner.specs.Slackness.{AllOf, IsFairOffer}
+use Rattle.fm_planner.specs.inner.Slackness.{AllOf, IsFairOffer}
 use Rattle.fm_planner.proofs.checking.are_fair_offers.Given as goal
 
 abbrev pub invariant-loop-request : goal.invariant-loop-request

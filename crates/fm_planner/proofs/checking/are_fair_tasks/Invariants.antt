@@ -1,5 +1,5 @@
 use Rattle.std.proofs.Common.{drop}
-use Rattle.fm_planner.specs.Slackness.{AllOf, IsFairTask}
+use Rattle.fm_planner.specs.inner.Slackness.{AllOf, IsFairTask}
 use Rattle.fm_planner.proofs.checking.are_fair_tasks.Given as goal
 
 abbrev pub invariant-loop-task : goal.invariant-loop-task

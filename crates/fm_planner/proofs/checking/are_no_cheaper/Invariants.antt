@@ -1,5 +1,5 @@
 use Rattle.std.proofs.Common.{drop}
-use Rattle.fm_planner.specs.Slackness.{AllOf, IsNoCheaper}
+use Rattle.fm_planner.specs.inner.Slackness.{AllOf, IsNoCheaper}
 use Rattle.fm_planner.proofs.checking.are_no_cheaper.Given as goal
 
 abbrev pub invariant-loop-machine : goal.invariant-loop-machine

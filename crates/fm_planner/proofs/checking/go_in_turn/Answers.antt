@@ -3,7 +3,7 @@ use Rattle.std.specs.Ordering.{nat_cmp}
 use Rattle.std.specs.BTreeMap.{get}
 use Rattle.std.proofs.lemmas.List.{drop_more}
 use Rattle.fm_tally.specs.declared.way.Way.{Way}
-use Rattle.fm_planner.specs.Slackness.{GoInTurn}
+use Rattle.fm_planner.specs.inner.Slackness.{GoInTurn}
 use Rattle.fm_planner.proofs.Turns.{go_on}
 use Rattle.fm_planner.proofs.checking.go_in_turn.Goals as goal
 

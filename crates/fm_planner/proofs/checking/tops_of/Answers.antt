@@ -2,7 +2,7 @@ use Rattle.std.proofs.Common.{◌≡◌, ◌∙◌, ◌≤◌, ◌<◌, ◌^◌,
 use Rattle.std.specs.Ordering.{nat_cmp}
 use Rattle.std.proofs.lemmas.List.{drop_more, drop_all, append-nil}
 use Rattle.fm_lattice.specs.Maps.{IsRising}
-use Rattle.fm_planner.specs.Slackness.{AllOf, IsTop}
+use Rattle.fm_planner.specs.inner.Slackness.{AllOf, IsTop}
 use Rattle.fm_planner.proofs.Tops.{all_map, all_both, top_before, raised}
 use Rattle.fm_planner.proofs.checking.tops_of.Goals as goal
 

@@ -1,5 +1,5 @@
 use Rattle.std.proofs.Common.{◌≡◌, ◌≤◌, ◌++◌, ℕ, List, drop}
-use Rattle.fm_planner.specs.Slackness.{AllOf, IsTop}
+use Rattle.fm_planner.specs.inner.Slackness.{AllOf, IsTop}
 use Rattle.fm_planner.proofs.checking.tops_of.Given as goal
 
 abbrev pub invariant-loop-request : goal.invariant-loop-request

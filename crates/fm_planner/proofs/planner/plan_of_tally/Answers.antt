@@ -1,11 +1,11 @@
 use Rattle.std.proofs.Common.{◌≡◌, ◌∙◌, ◌<◌, ◌^◌, length, sym, ap, subst, arith}
 use Rattle.std.specs.Ordering.{nat_cmp}
 use Rattle.fm_lattice.specs.Maps.{IsRising}
-use Rattle.fm_net.specs.BoundLaws.{net_can_be}
+use Rattle.fm_net.specs.laws.BoundLaws.{net_can_be}
 use Rattle.fm_round.specs.Schedules.{IsPlanOf}
 use Rattle.fm_paths.specs.Moves.{plan_of_moves}
 use Rattle.fm_search.specs.Claims.{price_of, offer_of}
-use Rattle.fm_planner.specs.Counts.{AreCounts}
+use Rattle.fm_planner.specs.inner.Counts.{AreCounts}
 use Rattle.fm_planner.proofs.Shown.{are_moves, fit_moves, are_fair, go_in_turn}
 use Rattle.fm_planner.proofs.planner.plan_of_tally.Goals as goal
 

@@ -3,7 +3,7 @@ use Rattle.std.specs.List.{filter_map, cons_option}
 use Rattle.std.specs.Ordering.{nat_cmp}
 use Rattle.fm_lattice.specs.Maps.{lookup, IsRising}
 use Rattle.fm_records.specs.Table.{TaskValue}
-use Rattle.fm_policy.specs.LiveTasks.{live_task}
+use Rattle.fm_policy.specs.inner.LiveTasks.{live_task}
 use Rattle.fm_policy.proofs.Walked.{lookup_met}
 use Rattle.fm_policy.proofs.live_task.live_tasks.Goals as goal
 

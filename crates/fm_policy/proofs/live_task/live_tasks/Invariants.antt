@@ -1,7 +1,7 @@
 use Rattle.std.proofs.Common.{◌≡◌, ◌++◌, ℕ, List}
 use Rattle.std.specs.List.{filter_map}
 use Rattle.fm_records.specs.Table.{TaskValue}
-use Rattle.fm_policy.specs.LiveTasks.{live_task, all_live}
+use Rattle.fm_policy.specs.inner.LiveTasks.{live_task, all_live}
 use Rattle.fm_policy.proofs.live_task.live_tasks.Given as goal
 
 abbrev pub invariant-loop-task : goal.invariant-loop-task

@@ -1,7 +1,7 @@
 use Rattle.std.proofs.Common.{◌≡◌, ◌∙◌, ◌∷◌, ◌+◌, drop, sym, ap, subst, rules}
 use Rattle.std.proofs.lemmas.List.{drop_more, drop_all}
 use Rattle.std.specs.List.{filter_map, cons_option}
-use Rattle.fm_policy.specs.LiveTasks.{waiting_request}
+use Rattle.fm_policy.specs.inner.LiveTasks.{waiting_request}
 use Rattle.fm_policy.proofs.Named.{AllNamed, named_more, named_all}
 use Rattle.fm_policy.proofs.live_task.waiting_requests.Goals as goal
 use Rattle.fm_policy.proofs.live_task.waiting_requests.Goals.{in-Some+in_ok-insert, in_default}

@@ -1,6 +1,6 @@
 use Rattle.std.proofs.Common.{drop}
 use Rattle.std.specs.List.{filter_map}
-use Rattle.fm_policy.specs.LiveTasks.{waiting_request}
+use Rattle.fm_policy.specs.inner.LiveTasks.{waiting_request}
 use Rattle.fm_policy.proofs.Named.{AllNamed}
 use Rattle.fm_policy.proofs.live_task.waiting_requests.Given as goal
 

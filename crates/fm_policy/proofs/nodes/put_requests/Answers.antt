@@ -3,10 +3,10 @@ use Rattle.std.proofs.lemmas.List.{take_all}
 use Rattle.std.specs.List.{filter_map}
 use Rattle.std.specs.Ordering.{nat_cmp}
 use Rattle.fm_records.specs.Sets.{IsMember, rising}
-use Rattle.fm_net.specs.BoundLaws.{spec_ranges}
+use Rattle.fm_net.specs.laws.BoundLaws.{spec_ranges}
 use Rattle.fm_net.specs.declared.node.Node.TheVariants.{Request}
 use Rattle.fm_policy.specs.Building.{Stands}
-use Rattle.fm_policy.specs.LiveTasks.{waiting_request}
+use Rattle.fm_policy.specs.inner.LiveTasks.{waiting_request}
 use Rattle.fm_policy.proofs.Adds.{adds_then, adds_node, stands_now}
 use Rattle.fm_policy.proofs.Counted.{listed_request, request_listed, request_of_live}
 use Rattle.fm_policy.proofs.Members.{member_at, member_take}

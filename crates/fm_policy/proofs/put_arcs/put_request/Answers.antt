@@ -4,8 +4,8 @@ use Rattle.fm_policy.specs.declared.node_facts.MachineFacts.{MachineFacts}
 use Rattle.fm_net.specs.declared.node.Node.TheVariants.{Request, Machine}
 use Rattle.fm_policy.specs.Building.{CoversPlace}
 use Rattle.fm_policy.specs.NodeFacts.{machine_facts, request_machine_arc}
-use Rattle.fm_policy.specs.FactsLaws.{arc_is}
-use Rattle.fm_policy.specs.Surveys.{open_machine}
+use Rattle.fm_policy.specs.laws.FactsLaws.{arc_is}
+use Rattle.fm_policy.specs.inner.Surveys.{open_machine}
 use Rattle.fm_policy.proofs.Adds.{adds_then}
 use Rattle.fm_policy.proofs.Covered.{place_still}
 use Rattle.fm_policy.proofs.Opened.{its_facts, open_named, found_open, place_open}

@@ -5,7 +5,7 @@ use Rattle.std.specs.List.{filter_map}
 use Rattle.std.specs.Ordering.{nat_cmp}
 use Rattle.fm_records.specs.Sets.{rising}
 use Rattle.fm_policy.specs.Building.{CoversPlace}
-use Rattle.fm_policy.specs.LiveTasks.{waiting_request}
+use Rattle.fm_policy.specs.inner.LiveTasks.{waiting_request}
 use Rattle.fm_policy.proofs.Adds.{adds_then}
 use Rattle.fm_policy.proofs.Counted.{listed_request, request_listed}
 use Rattle.fm_policy.proofs.Covered.{place_still}

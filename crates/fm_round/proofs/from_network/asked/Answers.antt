@@ -2,7 +2,7 @@ use Rattle.std.proofs.Common.{◌≡◌, ◌∷◌, ◌++◌, cond, List, ℕ, s
 use Rattle.std.specs.Prelude.{filter, map}
 use Rattle.fm_net.specs.declared.node.Node.{Node}
 use Rattle.fm_certificate.specs.Flows.{units_in}
-use Rattle.fm_round.specs.PlanArcs.{is_asked, is_asked_after}
+use Rattle.fm_round.specs.inner.PlanArcs.{is_asked, is_asked_after}
 use Rattle.fm_round.proofs.Asked.{IsWalk, walk_on, asks_for, kept_one}
 use Rattle.fm_round.proofs.from_network.asked.Goals as goal
 

@@ -3,7 +3,7 @@ use Rattle.std.specs.Prelude.{filter, map}
 use Rattle.fm_net.specs.declared.node.Node.{Node}
 use Rattle.fm_certificate.specs.Flows.{units_in}
 use Rattle.fm_round.specs.PlanOfFlow.{units_over}
-use Rattle.fm_round.specs.PlanArcs.{is_asked}
+use Rattle.fm_round.specs.inner.PlanArcs.{is_asked}
 use Rattle.fm_round.proofs.Asked.{IsWalk}
 use Rattle.fm_round.proofs.from_network.asked.Given as goal
 

@@ -3,7 +3,7 @@ use Rattle.std.specs.Prelude.{option_to_list}
 use Rattle.std.specs.List.{filter_map}
 use Rattle.std.proofs.lemmas.List.{take_more, drop_more, take-append-drop}
 use Rattle.fm_round.specs.PlanOfFlow.{waits, tasks_of, machines_of, place_in_plan}
-use Rattle.fm_round.specs.UnitQueues.{queue_of, placed_next, HasNoRepeat}
+use Rattle.fm_round.specs.inner.UnitQueues.{queue_of, placed_next, HasNoRepeat}
 use Rattle.fm_round.proofs.Pairing.{mapped_more, placed_as, left_behind}
 use Rattle.fm_round.proofs.from_units.places_of.Goals as goal
 

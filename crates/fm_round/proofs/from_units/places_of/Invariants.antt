@@ -1,7 +1,7 @@
 use Rattle.std.proofs.Common.{◌≡◌, ℕ, take, drop, length}
 use Rattle.std.specs.List.{filter_map}
 use Rattle.fm_round.specs.PlanOfFlow.{waits, tasks_of, machines_of, place_in_plan}
-use Rattle.fm_round.specs.UnitQueues.{queue_of}
+use Rattle.fm_round.specs.inner.UnitQueues.{queue_of}
 use Rattle.fm_round.proofs.from_units.places_of.Given as goal
 
 abbrev pub invariant-loop-arc : goal.invariant-loop-arc

@@ -3,7 +3,7 @@ use Rattle.std.specs.Prelude.{option_map}
 use Rattle.fm_know.specs.Winners.{as_winner}
 use Rattle.fm_records.specs.declared.records.Spot.{Spot}
 use Rattle.fm_records.specs.Facts.{winner_of}
-use Rattle.fm_round.specs.AdmissionSteps.{winner_with, as_pair, winning_spot, is_spot_of}
+use Rattle.fm_round.specs.inner.AdmissionSteps.{winner_with, as_pair, winning_spot, is_spot_of}
 use Rattle.fm_round.proofs.After.{live_spec_of, place_holds}
 use Rattle.fm_round.proofs.rules.would_hold.Goals as goal
 

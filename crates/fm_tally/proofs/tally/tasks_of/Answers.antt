@@ -5,13 +5,13 @@ use Rattle.std.specs.Cmp.{nat_cmp_total}
 use Rattle.std.proofs.lemmas.List.{drop_more, drop_all, take-append-drop}
 use Rattle.fm_lattice.specs.Chains.{nat_same}
 use Rattle.fm_lattice.specs.Maps.{lookup, IsRising}
-use Rattle.fm_lattice.specs.MapLaws.{same_map}
+use Rattle.fm_lattice.specs.laws.MapLaws.{same_map}
 use Rattle.fm_records.specs.Options.{and_then}
 use Rattle.fm_records.specs.Facts.{live_spec}
-use Rattle.fm_net.specs.NetworkLaws.{came_from, mapped_from}
+use Rattle.fm_net.specs.laws.NetworkLaws.{came_from, mapped_from}
 use Rattle.fm_tally.specs.declared.tally.LiveTask.{LiveTask}
 use Rattle.fm_tally.specs.declared.unfinished.UnfinishedTask.{UnfinishedTask}
-use Rattle.fm_tally.specs.Holdings.{placed_by, requests_in, tasks_in}
+use Rattle.fm_tally.specs.inner.Holdings.{placed_by, requests_in, tasks_in}
 use Rattle.fm_tally.specs.Tallies.{task_at, task_by, unfinished_spec}
 use Rattle.fm_tally.specs.Unfinished.{unfinished_at}
 use Rattle.fm_tally.proofs.Counting.{IsCounting, counting_begins, counting_next, counting_ends, live_unfinished}

@@ -1,7 +1,7 @@
 use Rattle.std.proofs.Common.{◌≡◌, ◌++◌, drop, length}
 use Rattle.fm_records.specs.declared.records.Spot.{Spot}
 use Rattle.fm_records.specs.Facts.{is_present}
-use Rattle.fm_tally.specs.Holdings.{names_open_machine}
+use Rattle.fm_tally.specs.inner.Holdings.{names_open_machine}
 use Rattle.fm_tally.specs.Tallies.{task_at}
 use Rattle.fm_tally.proofs.Counting.{IsCounting}
 use Rattle.fm_tally.proofs.Rows.{rows}

@@ -2,7 +2,7 @@ use Rattle.std.proofs.Common.{◌≡◌, ◌∙◌, ◌++◌, ◌∷◌, sym, ap
 use Rattle.std.specs.Ordering.{nat_cmp}
 use Rattle.std.specs.declared.cmp.Ordering.TheVariants.{Equal, Greater}
 use Rattle.fm_lattice.specs.Maps.{IsRising}
-use Rattle.fm_tally.specs.Sides.{is_under, is_over}
+use Rattle.fm_tally.specs.inner.Sides.{is_under, is_over}
 use Rattle.fm_tally.proofs.Sides.{none_under, all_over, met_under, met_over, beyond}
 use Rattle.fm_tally.proofs.unfinished.move_under.Goals as goal
 

@@ -1,7 +1,7 @@
 use Rattle.std.proofs.Common.{◌≡◌, ◌++◌, filter, length}
 use Rattle.std.specs.Ordering.{nat_cmp}
 use Rattle.fm_lattice.specs.Maps.{IsRising}
-use Rattle.fm_tally.specs.Sides.{is_under, is_over}
+use Rattle.fm_tally.specs.inner.Sides.{is_under, is_over}
 use Rattle.fm_tally.proofs.unfinished.move_under.Given as goal
 
 abbrev pub invariant-pairs : goal.invariant-pairs

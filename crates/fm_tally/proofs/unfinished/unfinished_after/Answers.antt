@@ -4,7 +4,7 @@ use Rattle.std.specs.Ordering.{nat_cmp}
 use Rattle.std.proofs.lemmas.List.{drop_more, drop_all}
 use Rattle.fm_lattice.specs.Maps.{IsRising}
 use Rattle.fm_tally.specs.declared.unfinished.UnfinishedTask.{UnfinishedTask}
-use Rattle.fm_tally.specs.Sides.{is_under}
+use Rattle.fm_tally.specs.inner.Sides.{is_under}
 use Rattle.fm_tally.specs.Unfinished.{unfinished_at, AreUnfinished}
 use Rattle.fm_tally.proofs.Sides.{rising_rest}
 use Rattle.fm_tally.proofs.Following.{IsFollowing, following_begins, following_on, following_ends}

@@ -1,7 +1,7 @@
 use Rattle.std.proofs.Common.{rules, tests}
 use Rattle.std.proofs.lemmas.Iterator.Consumers.{YieldsList-from_first}
 use Rattle.std.proofs.lemmas.Iterator.Search.{all_from_yields_List}
-use Rattle.fm_certificate.specs.Checks.{sends}
+use Rattle.fm_certificate.specs.inner.Checks.{sends}
 use Rattle.fm_why.proofs.feasible.nodes_send.Goals as goal
 
 pub returns : goal.returns

@@ -1,7 +1,7 @@
 use Rattle.std.proofs.Common.{◌≡◌, ◌∙◌, refl, sym, subst}
 use Rattle.std.proofs.lemmas.Result.{err_from_is_err_and}
 use Rattle.fm_wire.specs.Grammar.{body, packet}
-use Rattle.fm_wire.specs.Decoding.{DecodesTo, rest_of}
+use Rattle.fm_wire.specs.inner.Decoding.{DecodesTo, rest_of}
 use Rattle.fm_wire.proofs.Parts.{packet_rest}
 use Rattle.fm_wire.proofs.reading.rest_of_packet.Goals as goal
 

@@ -1,7 +1,7 @@
 use Rattle.std.proofs.Common.{None}
 use Rattle.std.proofs.lemmas.Result.{err_from_is_err_and}
 use Rattle.fm_wire.specs.Formats.{records_at}
-use Rattle.fm_wire.specs.Decoding.{rest_of}
+use Rattle.fm_wire.specs.inner.Decoding.{rest_of}
 use Rattle.fm_wire.proofs.Walks.{walk_goes_on, walk_ends, walk_done}
 use Rattle.fm_wire.proofs.record_lists.rest_of_records.Goals as goal
 

@@ -1,6 +1,6 @@
 use Rattle.std.proofs.Common.{◌≡◌, ◌-◌, None}
 use Rattle.fm_wire.specs.Formats.{records_at}
-use Rattle.fm_wire.specs.Decoding.{rest_of}
+use Rattle.fm_wire.specs.inner.Decoding.{rest_of}
 use Rattle.fm_wire.proofs.record_lists.rest_of_records.Given as goal
 
 abbrev pub invariant-loop : goal.invariant-loop

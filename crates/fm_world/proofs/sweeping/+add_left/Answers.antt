@@ -1,6 +1,6 @@
 use Rattle.std.proofs.Common.{rules, ◌≡◌, ◌<◌, ◌≤◌, ◌∙◌, ◌++◌, ◌∷◌, [], length, map, OnOk, ap, sym, subst}
 use Rattle.fm_world.specs.Represents.{state_of}
-use Rattle.fm_world.specs.Sweeps.{left_at}
+use Rattle.fm_world.specs.inner.Sweeps.{left_at}
 use Rattle.fm_world.proofs.Left.{left_none, left_nowhere, left_first, left_further}
 use Rattle.fm_world.proofs.sweeping.+add_left.Goals.{then-place-history+in_ok-push, else-place-history}
 use Rattle.fm_world.proofs.sweeping.+add_left.Goals as goal

@@ -1,6 +1,6 @@
 use Rattle.std.proofs.Common.{map}
 use Rattle.fm_world.specs.Represents.{state_of}
-use Rattle.fm_world.specs.Sweeps.{IsSwept, count_left}
+use Rattle.fm_world.specs.inner.Sweeps.{IsSwept, count_left}
 use Rattle.fm_world.proofs.sweeping.sweep_all.Given as goal
 
 abbrev pub invariant-loop : goal.invariant-loop

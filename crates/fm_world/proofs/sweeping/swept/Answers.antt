@@ -2,7 +2,7 @@ use Rattle.std.proofs.Common.{rules, ◌≡◌, ◌∙◌, ◌++◌, ℕ, List, 
 use Rattle.std.proofs.Math.ListN.{replicate}
 use Rattle.std.proofs.lemmas.List.{length-map, take-append-le, take_all}
 use Rattle.fm_world.specs.Represents.{state_of}
-use Rattle.fm_world.specs.Sweeps.{IsSwept, AreStopped, left_at}
+use Rattle.fm_world.specs.inner.Sweeps.{IsSwept, AreStopped, left_at}
 use Rattle.fm_world.proofs.Visits.{swept_first, halts}
 use Rattle.fm_world.proofs.sweeping.swept.Goals as goal
 

@@ -3,7 +3,7 @@ use Rattle.std.proofs.Common.{◌≡◌, ◌∙◌, ap, arith, ◌+◌, ◌*◌,
 use Rattle.fm_lattice.specs.Maps.{lookup}
 use Rattle.fm_net.specs.declared.node.Node.{Node}
 use Rattle.fm_net.specs.Nodes.{ends_cmp}
-use Rattle.fm_net.specs.NodeOrder.{ends_exact}
+use Rattle.fm_net.specs.laws.NodeOrder.{ends_exact}
 use Rattle.fm_net.specs.NetworkEquality.{same_node}
 use Rattle.fm_certificate.specs.Totals.{target, units_at, total_in}
 use Rattle.fm_certificate.proofs.Units.{units_on, units_bound, flow_put, part_of, or_zero}

@@ -1,4 +1,4 @@
-use Rattle.fm_net.specs.NodeOrder.{ends_exact}
+use Rattle.fm_net.specs.laws.NodeOrder.{ends_exact}
 use Rattle.fm_certificate.proofs.flow.Flow.units_near.Goals as goal
 
 pub get_hinted-requires-clause-exact : goal.get_hinted-requires-clause-exact

@@ -1,6 +1,6 @@
 use Rattle.std.proofs.Common.{◌↔◌}
 use Rattle.std.specs.Slice.Iter.{iter_rest}
-use Rattle.fm_certificate.specs.Checks.{AreOf}
+use Rattle.fm_certificate.specs.inner.Checks.{AreOf}
 use Rattle.fm_certificate.proofs.potentials.Potentials.are_of.Given as goal
 
 abbrev pub invariant-loop-node : goal.invariant-loop-node

@@ -1,4 +1,4 @@
-use Rattle.fm_net.specs.NodeOrder.{node_exact}
+use Rattle.fm_net.specs.laws.NodeOrder.{node_exact}
 use Rattle.fm_certificate.proofs.potentials.Potentials.at.Goals as goal
 
 pub get-requires-clause-exact : goal.get-requires-clause-exact

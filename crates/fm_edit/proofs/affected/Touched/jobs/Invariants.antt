@@ -2,7 +2,7 @@ use Rattle.std.proofs.Common.{◌≡◌, ◌⊎◌, ℕ, true, false, drop}
 use Rattle.fm_net.specs.declared.node.Node.TheVariants.{Unscheduled}
 use Rattle.fm_net.specs.declared.node.Node.{Node}
 use Rattle.fm_edit.specs.Dirty.{has_id}
-use Rattle.fm_edit.specs.Affected.{AffectedGrows, has_touched, IsNodeOf}
+use Rattle.fm_edit.specs.inner.Affected.{AffectedGrows, has_touched, IsNodeOf}
 use Rattle.fm_edit.proofs.affected.Touched.jobs.Given as goal
 
 abbrev pub invariant-loop-job : goal.invariant-loop-job

@@ -1,7 +1,7 @@
 use Rattle.std.proofs.Common.{inl, inr}
 use Rattle.std.specs.Ordering.{is_eq}
 use Rattle.std.specs.Cmp.{Equal-is}
-use Rattle.fm_net.specs.NodeOrder.{node_exact}
+use Rattle.fm_net.specs.laws.NodeOrder.{node_exact}
 use Rattle.fm_net.specs.Nodes.{node_cmp}
 use Rattle.fm_edit.proofs.Values.{kept_true, came_from}
 use Rattle.fm_edit.proofs.affected.Touched.node.Goals as goal

@@ -1,7 +1,7 @@
 use Rattle.std.proofs.Common.{ap, inl, inr}
 use Rattle.std.specs.Ordering.{is_eq}
 use Rattle.std.specs.Cmp.{Equal-is}
-use Rattle.fm_net.specs.NodeOrder.{ends_exact}
+use Rattle.fm_net.specs.laws.NodeOrder.{ends_exact}
 use Rattle.fm_net.specs.Nodes.{ends_cmp}
 use Rattle.fm_edit.proofs.Values.{kept_true, came_from}
 use Rattle.fm_edit.proofs.affected.Touched.pair.Goals as goal

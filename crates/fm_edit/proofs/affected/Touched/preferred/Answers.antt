@@ -4,7 +4,7 @@ use Rattle.std.specs.Ordering.{nat_cmp}
 use Rattle.std.proofs.lemmas.List.{take_all}
 use Rattle.fm_lattice.specs.Maps.{lookup}
 use Rattle.fm_net.specs.declared.node.Node.TheVariants.{Machine, Task}
-use Rattle.fm_edit.specs.Affected.{has_pair}
+use Rattle.fm_edit.specs.inner.Affected.{has_pair}
 use Rattle.fm_edit.proofs.Completed.{grows_then}
 use Rattle.fm_edit.proofs.Preferring.{among_more}
 use Rattle.fm_edit.proofs.affected.Touched.preferred.Goals as goal

@@ -4,7 +4,7 @@ use Rattle.std.specs.Ordering.{nat_cmp}
 use Rattle.fm_lattice.specs.Maps.{lookup}
 use Rattle.fm_net.specs.declared.node.Node.{Node}
 use Rattle.fm_net.specs.declared.node.Node.TheVariants.{Machine, Task}
-use Rattle.fm_edit.specs.Affected.{AffectedGrows, has_pair}
+use Rattle.fm_edit.specs.inner.Affected.{AffectedGrows, has_pair}
 use Rattle.fm_edit.proofs.affected.Touched.preferred.Given as goal
 
 abbrev pub invariant-loop-entry : goal.invariant-loop-entry

@@ -3,7 +3,7 @@ use Rattle.fm_net.specs.declared.node.Node.{Node}
 use Rattle.fm_net.specs.declared.node.Node.TheVariants.{Task}
 use Rattle.fm_edit.specs.Dirty.{has_id}
 use Rattle.fm_edit.specs.CacheModel.{seen_in}
-use Rattle.fm_edit.specs.Affected.{AffectedGrows, TouchesTask, has_touched, has_pair, IsNodeOf, IsEndOf}
+use Rattle.fm_edit.specs.inner.Affected.{AffectedGrows, TouchesTask, has_touched, has_pair, IsNodeOf, IsEndOf}
 use Rattle.fm_edit.proofs.affected.Touched.tasks.Given as goal
 
 abbrev pub invariant-loop-task : goal.invariant-loop-task

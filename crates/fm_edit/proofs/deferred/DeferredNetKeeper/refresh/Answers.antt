@@ -1,5 +1,5 @@
 use Rattle.std.proofs.Common.{◌∙◌, sym}
-use Rattle.fm_edit.specs.DeferringLaws.{fresh_deferred_follows}
+use Rattle.fm_edit.specs.laws.DeferringLaws.{fresh_deferred_follows}
 use Rattle.fm_edit.proofs.Late.{fresh_is_for}
 use Rattle.fm_edit.proofs.deferred.DeferredNetKeeper.refresh.Goals as goal
 

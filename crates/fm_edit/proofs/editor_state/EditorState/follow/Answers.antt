@@ -13,7 +13,7 @@ use Rattle.fm_edit.specs.Dirty.{has_id, AreDirtyTasks}
 use Rattle.fm_edit.specs.CacheModel.{seen_in}
 use Rattle.fm_edit.specs.CacheUpdate.{values_at}
 use Rattle.fm_edit.specs.EditorState.{Counts, Remembers}
-use Rattle.fm_edit.specs.Affected.{has_touched, TouchesTask, IsNodeOf, IsEndOf}
+use Rattle.fm_edit.specs.inner.Affected.{has_touched, TouchesTask, IsNodeOf, IsEndOf}
 use Rattle.fm_edit.proofs.Followed.{seen_as, five, after_can_be, base, turned, turned_is, spots_as, all_found, only_dirty, dirty_as_seen, counts_on, all_touched}
 use Rattle.fm_edit.proofs.Turning.{only_turning}
 use Rattle.fm_edit.proofs.editor_state.EditorState.follow.Goals as goal

@@ -1,7 +1,7 @@
 use Rattle.std.proofs.Common.{true, subst}
 use Rattle.fm_policy.specs.Keeping.{FollowsAfter}
 use Rattle.fm_edit.specs.declared.keepers.Keeper.{Keeper}
-use Rattle.fm_edit.specs.Keepers.{KeeperFollows}
+use Rattle.fm_edit.specs.inner.Keepers.{KeeperFollows}
 use Rattle.fm_edit.proofs.keepers.KeeperNetKeeper.absorb.Goals as goal
 
 pub returns-in-Defers-clause-keeps_up : goal.returns-in-Defers-clause-keeps_up

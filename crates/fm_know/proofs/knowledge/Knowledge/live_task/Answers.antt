@@ -2,7 +2,7 @@ use Rattle.std.proofs.Common.{◌≡◌, true, cond, Some, None, ◌∙◌, ap}
 use Rattle.std.specs.Prelude.{option_map}
 use Rattle.fm_records.specs.Facts.{live_spec, holder_of}
 use Rattle.fm_records.specs.Options.{passes}
-use Rattle.fm_know.specs.Records.{placed_in}
+use Rattle.fm_know.specs.inner.Records.{placed_in}
 use Rattle.fm_know.proofs.Found.{live_found, holder_found}
 use Rattle.fm_know.proofs.knowledge.Knowledge.live_task.Goals as goal
 

@@ -1,6 +1,6 @@
 use Rattle.std.proofs.Common.{length, sym, ◌∙◌, ap, subst}
 use Rattle.fm_lattice.specs.Maps.{IsMap, lookup, map_join}
-use Rattle.fm_lattice.specs.MapLaws.{lookup_join}
+use Rattle.fm_lattice.specs.laws.MapLaws.{lookup_join}
 use Rattle.fm_lattice.specs.Blocks.{pairs_of}
 use Rattle.fm_lattice.proofs.Planned.{planned_pairs, planned_kept}
 use Rattle.fm_lattice.proofs.map.JoinMap.join_into.Goals as goal

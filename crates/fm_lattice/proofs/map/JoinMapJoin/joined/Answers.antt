@@ -1,6 +1,6 @@
 use Rattle.std.proofs.Common.{◌≡◌, subst}
 use Rattle.fm_lattice.specs.Maps.{IsMap, map_join}
-use Rattle.fm_lattice.specs.MapLaws.{is_map_join, lookup_join}
+use Rattle.fm_lattice.specs.laws.MapLaws.{is_map_join, lookup_join}
 use Rattle.fm_lattice.specs.Blocks.{pairs_of}
 use Rattle.fm_lattice.proofs.map.JoinMapJoin.joined.Goals as goal
 

@@ -1,9 +1,9 @@
 use Rattle.std.proofs.Common.{◌∙◌, ap, refl, sym, subst, arith}
 use Rattle.std.specs.Map.{keys_of}
 use Rattle.fm_lattice.specs.Maps.{lookup, keep_new, IsRising}
-use Rattle.fm_lattice.specs.MapLaws.{rising_put}
+use Rattle.fm_lattice.specs.laws.MapLaws.{rising_put}
 use Rattle.fm_net.specs.Nodes.{ends_cmp}
-use Rattle.fm_net.specs.NodeOrder.{ends_exact, ends_total}
+use Rattle.fm_net.specs.laws.NodeOrder.{ends_exact, ends_total}
 use Rattle.fm_net.specs.Net.{Net, has_node}
 use Rattle.fm_net.proofs.Kept.{after_put_arc}
 use Rattle.fm_net.proofs.Said.{arc_with}

@@ -3,7 +3,7 @@ use Rattle.std.specs.Ordering.{nat_cmp}
 use Rattle.std.specs.BTreeMap.{is_at}
 use Rattle.fm_records.specs.Options.{passes}
 use Rattle.fm_records.specs.Orders.{attempt_cmp}
-use Rattle.fm_planner.specs.Counts.{pairs_in, arriving_in, leaving_in}
+use Rattle.fm_planner.specs.inner.Counts.{pairs_in, arriving_in, leaving_in}
 use Rattle.fm_planner.proofs.Counted.{pair_counts, machine_counts, holder_counts}
 use Rattle.fm_planner.proofs.move_counts.Counts.add.Goals as goal
 

@@ -5,7 +5,7 @@ use Rattle.std.proofs.lemmas.List.Sums.{sum_by_more}
 use Rattle.fm_records.specs.Facts.{holds}
 use Rattle.fm_tally.specs.declared.way.Way.{Way}
 use Rattle.fm_paths.specs.TaskPaths.{goes_by, takes_slot}
-use Rattle.fm_planner.specs.Counts.{AreCounts}
+use Rattle.fm_planner.specs.inner.Counts.{AreCounts}
 use Rattle.fm_planner.proofs.move_counts.Counts.of.Goals as goal
 
 at_most_one : (b : Bool) → cond {A = ℕ} b 1 0 ≤ 1

@@ -1,5 +1,5 @@
 use Rattle.std.proofs.Common.{ℕ, ◌≤◌, take}
-use Rattle.fm_planner.specs.Counts.{pairs_in, arriving_in, leaving_in, AreCounts}
+use Rattle.fm_planner.specs.inner.Counts.{pairs_in, arriving_in, leaving_in, AreCounts}
 use Rattle.fm_planner.proofs.move_counts.Counts.of.Given as goal
 
 abbrev pub invariant-loop-task : goal.invariant-loop-task

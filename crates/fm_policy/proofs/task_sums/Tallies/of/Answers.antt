@@ -4,8 +4,8 @@ use Rattle.std.proofs.lemmas.List.Sums.{sum_by_more}
 use Rattle.std.specs.Prelude.{sum_by, ◌==◌}
 use Rattle.fm_records.specs.Options.{passes}
 use Rattle.fm_policy.specs.declared.live_task.LiveTask.{LiveTask}
-use Rattle.fm_policy.specs.LiveTasks.{live_task}
-use Rattle.fm_policy.specs.Tallying.{count_of_job, request_on}
+use Rattle.fm_policy.specs.inner.LiveTasks.{live_task}
+use Rattle.fm_policy.specs.inner.Tallying.{count_of_job, request_on}
 use Rattle.fm_policy.proofs.Alive.{task_named, its_request}
 use Rattle.fm_policy.proofs.Summed.{live_counted, held_summed}
 use Rattle.fm_policy.proofs.Surveyed.{AllFound, found_at, all_found}

@@ -1,6 +1,6 @@
 use Rattle.std.proofs.Common.{◌≡◌, ℕ, ◌*◌, ◌≤◌, ◌^◌, take}
 use Rattle.std.specs.Prelude.{sum_by}
-use Rattle.fm_policy.specs.Tallying.{live_count, held_in, count_of_job, request_on}
+use Rattle.fm_policy.specs.inner.Tallying.{live_count, held_in, count_of_job, request_on}
 use Rattle.fm_policy.proofs.task_sums.Tallies.of.Given as goal
 
 abbrev pub invariant-loop-task : goal.invariant-loop-task

@@ -2,7 +2,7 @@ use Rattle.std.proofs.Common.{sym, subst, arith}
 use Rattle.fm_records.specs.OpsOfTable.{IsTable}
 use Rattle.fm_records.specs.Facts.{spec_of, request_of}
 use Rattle.fm_round.specs.Admission.{told, place_ops}
-use Rattle.fm_round.specs.MachineHoldings.{AreCountedHoldings}
+use Rattle.fm_round.specs.inner.MachineHoldings.{AreCountedHoldings}
 use Rattle.fm_round.proofs.Results.{on_ok, both_ok}
 use Rattle.fm_round.proofs.Told.{told_table}
 use Rattle.fm_round.proofs.Accepted.{good_place, holds_little, place_holdings}

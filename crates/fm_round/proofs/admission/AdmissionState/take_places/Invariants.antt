@@ -2,8 +2,8 @@ use Rattle.std.proofs.Common.{drop, IsTrue}
 use Rattle.fm_records.specs.Sets.{IsMember}
 use Rattle.fm_round.specs.declared.plan.Place.{Place}
 use Rattle.fm_round.specs.Admission.{place_answer, place_ops}
-use Rattle.fm_round.specs.AdmissionSteps.{IsAdmissionState}
-use Rattle.fm_round.specs.MachineHoldings.{is_counted, AreCountedHoldings}
+use Rattle.fm_round.specs.inner.AdmissionSteps.{IsAdmissionState}
+use Rattle.fm_round.specs.inner.MachineHoldings.{is_counted, AreCountedHoldings}
 use Rattle.fm_round.proofs.Turns.{Ahead}
 use Rattle.fm_round.proofs.admission.AdmissionState.take_places.Given as goal
 

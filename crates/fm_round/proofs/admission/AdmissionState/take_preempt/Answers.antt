@@ -1,6 +1,6 @@
 use Rattle.std.proofs.Common.{sym, ◌∙◌, subst}
 use Rattle.fm_round.specs.Admission.{one_entry, preempt_ops}
-use Rattle.fm_round.specs.AdmissionSteps.{Took}
+use Rattle.fm_round.specs.inner.AdmissionSteps.{Took}
 use Rattle.fm_round.proofs.Results.{on_ok}
 use Rattle.fm_round.proofs.Turns.{took_refused}
 use Rattle.fm_round.proofs.admission.AdmissionState.take_preempt.Goals as goal

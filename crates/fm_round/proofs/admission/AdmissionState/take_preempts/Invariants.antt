@@ -1,6 +1,6 @@
 use Rattle.std.proofs.Common.{drop}
 use Rattle.fm_round.specs.Admission.{preempt_answer, preempt_ops}
-use Rattle.fm_round.specs.AdmissionSteps.{IsAdmissionState}
+use Rattle.fm_round.specs.inner.AdmissionSteps.{IsAdmissionState}
 use Rattle.fm_round.proofs.Turns.{Ahead}
 use Rattle.fm_round.proofs.admission.AdmissionState.take_preempts.Given as goal
 

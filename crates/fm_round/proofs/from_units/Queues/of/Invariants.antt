@@ -1,6 +1,6 @@
 use Rattle.std.proofs.Common.{◌≡◌, ℕ, take}
 use Rattle.fm_round.specs.PlanOfFlow.{machines_of}
-use Rattle.fm_round.specs.UnitQueues.{queue_of}
+use Rattle.fm_round.specs.inner.UnitQueues.{queue_of}
 use Rattle.fm_round.proofs.from_units.Queues.of.Given as goal
 
 abbrev pub invariant-loop-seat : goal.invariant-loop-seat

@@ -3,7 +3,7 @@ use Rattle.std.specs.Ordering.{nat_cmp}
 use Rattle.std.specs.BTreeMap.{get}
 use Rattle.std.proofs.lemmas.List.{drop_more}
 use Rattle.fm_records.specs.Facts.{held_tasks}
-use Rattle.fm_round.specs.MachineHoldings.{requests_of}
+use Rattle.fm_round.specs.inner.MachineHoldings.{requests_of}
 use Rattle.fm_round.proofs.Counting.{counted_on, put_right}
 use Rattle.fm_round.proofs.machine_holdings.Holdings.by.Goals as goal
 

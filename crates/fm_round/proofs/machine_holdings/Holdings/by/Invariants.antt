@@ -4,7 +4,7 @@ use Rattle.fm_records.specs.Sets.{IsMember}
 use Rattle.fm_records.specs.Table.{Table}
 use Rattle.fm_tally.specs.Tallies.{TallyIsFor}
 use Rattle.fm_round.specs.declared.plan.Place.{Place}
-use Rattle.fm_round.specs.MachineHoldings.{is_counted, AreCountedHoldings}
+use Rattle.fm_round.specs.inner.MachineHoldings.{is_counted, AreCountedHoldings}
 use Rattle.fm_round.proofs.machine_holdings.Holdings.by.Given as goal
 
 abbrev pub invariant-loop-place : goal.invariant-loop-place

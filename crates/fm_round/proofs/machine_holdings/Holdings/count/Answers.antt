@@ -3,7 +3,7 @@ use Rattle.std.specs.Ordering.{nat_cmp}
 use Rattle.fm_lattice.specs.Maps.{IsRising}
 use Rattle.fm_records.specs.Options.{only_if}
 use Rattle.fm_records.specs.Facts.{holder_of}
-use Rattle.fm_round.specs.MachineHoldings.{is_counted}
+use Rattle.fm_round.specs.inner.MachineHoldings.{is_counted}
 use Rattle.fm_tally.proofs.Walk.{IsWalk, first_row, first_entries, walk_on, walk_begins}
 use Rattle.fm_round.proofs.Counting.{IsCounting, counting_begins, counting_skips, counting_adds}
 use Rattle.fm_round.proofs.machine_holdings.Holdings.count.Goals as goal

@@ -1,5 +1,5 @@
 use Rattle.std.proofs.Common.{◌≡◌, ℕ}
-use Rattle.fm_round.specs.MachineHoldings.{is_counted}
+use Rattle.fm_round.specs.inner.MachineHoldings.{is_counted}
 use Rattle.fm_round.proofs.Counting.{IsCounting}
 use Rattle.fm_tally.proofs.Walk.{IsWalk}
 use Rattle.fm_round.proofs.machine_holdings.Holdings.count.Given as goal

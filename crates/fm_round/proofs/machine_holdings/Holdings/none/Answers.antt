@@ -2,7 +2,7 @@ use Rattle.std.proofs.Common.{◌≡◌, ◌+◌, ◌∷◌, refl, sym, ◌∙�
 use Rattle.std.specs.Ordering.{nat_cmp}
 use Rattle.std.specs.BTreeMap.{get}
 use Rattle.std.proofs.lemmas.List.{drop_more}
-use Rattle.fm_round.specs.MachineHoldings.{nothing_held}
+use Rattle.fm_round.specs.inner.MachineHoldings.{nothing_held}
 use Rattle.fm_round.proofs.Counting.{counted_on, put_nothing}
 use Rattle.fm_round.proofs.machine_holdings.Holdings.none.Goals as goal
 

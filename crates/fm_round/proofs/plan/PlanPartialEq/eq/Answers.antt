@@ -1,7 +1,7 @@
 use Rattle.std.proofs.Common.{◌≡◌, subst, sym, rules}
 use Rattle.std.specs.Bool.{Decides}
 use Rattle.fm_round.specs.PlanEquality.{same_plan}
-use Rattle.fm_round.specs.PlanEqualityLaws.{plan_Decides}
+use Rattle.fm_round.specs.laws.PlanEqualityLaws.{plan_Decides}
 use Rattle.fm_round.proofs.plan.PlanPartialEq.eq.Goals as goal
 
 pub returns-then-eq-clause-exact : goal.returns-then-eq-clause-exact

@@ -3,7 +3,7 @@ use Rattle.std.specs.Prelude.{◌==◌, ◌&&◌}
 use Rattle.std.specs.Ordering.{nat_cmp}
 use Rattle.fm_lattice.specs.Maps.{lookup}
 use Rattle.fm_records.specs.Options.{or_else, passes}
-use Rattle.fm_tally.specs.Holdings.{requests_in, tasks_in}
+use Rattle.fm_tally.specs.inner.Holdings.{requests_in, tasks_in}
 use Rattle.fm_tally.proofs.Each.{grown, tested}
 use Rattle.fm_tally.proofs.holdings.Holdings.hold.Goals as goal
 

@@ -1,7 +1,7 @@
 use Rattle.std.proofs.Common.{◌≡◌, ◌∙◌, ap, sym, subst, rules}
 use Rattle.std.specs.Ordering.{nat_cmp}
 use Rattle.fm_lattice.specs.Maps.{lookup, IsRising}
-use Rattle.fm_tally.specs.Holdings.{nothing_on}
+use Rattle.fm_tally.specs.inner.Holdings.{nothing_on}
 use Rattle.fm_tally.proofs.Each.{each, rising_each, lookup_each}
 use Rattle.fm_tally.proofs.holdings.Holdings.none.Goals as goal
 

@@ -1,5 +1,5 @@
 use Rattle.std.proofs.Common.{◌≡◌, ◌++◌}
-use Rattle.fm_tally.specs.Holdings.{nothing_on}
+use Rattle.fm_tally.specs.inner.Holdings.{nothing_on}
 use Rattle.fm_tally.proofs.Each.{each}
 use Rattle.fm_tally.proofs.holdings.Holdings.none.Given as goal
 

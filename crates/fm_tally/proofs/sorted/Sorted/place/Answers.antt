@@ -1,7 +1,7 @@
 use Rattle.std.proofs.Common.{◌≡◌, ◌∙◌, ap, sym, subst, rules, IfErr}
 use Rattle.std.proofs.lemmas.List.Sorted.{answers_always}
 use Rattle.fm_lattice.specs.Maps.{lookup, IsRising}
-use Rattle.fm_lattice.specs.SortedVec.{IsInsertionIndex}
+use Rattle.fm_lattice.specs.inner.SortedVec.{IsInsertionIndex}
 use Rattle.fm_lattice.proofs.Places.{searched, lookup_gap}
 use Rattle.fm_tally.proofs.sorted.Sorted.place.Goals as goal
 

@@ -1,6 +1,6 @@
 use Rattle.std.proofs.Common.{◌≡◌, ◌∙◌, ap, sym, subst, rules, get_or, slice_set}
 use Rattle.fm_lattice.specs.Maps.{keep_new, IsRising}
-use Rattle.fm_lattice.specs.MapLaws.{rising_put}
+use Rattle.fm_lattice.specs.laws.MapLaws.{rising_put}
 use Rattle.fm_lattice.proofs.Places.{put_at}
 use Rattle.fm_tally.proofs.sorted.Sorted.replace.Goals as goal
 

@@ -6,7 +6,7 @@ use Rattle.fm_lattice.specs.Maps.{lookup, IsRising}
 use Rattle.fm_records.specs.declared.records.Spot.{Spot}
 use Rattle.fm_records.specs.Options.{or_else}
 use Rattle.fm_records.specs.Orders.{attempt_cmp}
-use Rattle.fm_records.specs.OrderLaws.{total_attempt, same_attempt}
+use Rattle.fm_records.specs.laws.OrderLaws.{total_attempt, same_attempt}
 use Rattle.fm_records.specs.Facts.{head_option}
 use Rattle.fm_tally.proofs.Ahead.{before}
 use Rattle.fm_tally.proofs.winner_scan.Winners.spot.Goals as goal

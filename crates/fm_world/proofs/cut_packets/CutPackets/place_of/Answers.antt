@@ -3,7 +3,7 @@ use Rattle.std.specs.Prelude.{position, option_map}
 use Rattle.std.specs.Map.{lookup}
 use Rattle.std.specs.BTreeMap.{is_at}
 use Rattle.fm_delta.specs.Packets.{same_packet}
-use Rattle.fm_world.specs.Names.{name_of, name_cmp, AreOthers, StartsAt, AreNamed}
+use Rattle.fm_world.specs.inner.Names.{name_of, name_cmp, AreOthers, StartsAt, AreNamed}
 use Rattle.fm_world.proofs.Naming.{none_there, there_after}
 use Rattle.fm_world.proofs.cut_packets.CutPackets.place_of.Goals as goal
 

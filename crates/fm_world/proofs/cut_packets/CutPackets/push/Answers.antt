@@ -2,7 +2,7 @@ use Rattle.std.proofs.Common.{rules, ◌≡◌, ◌++◌, ◌∷◌, [], None, �
 use Rattle.std.specs.Prelude.{IsSome}
 use Rattle.std.specs.Map.{lookup}
 use Rattle.std.specs.BTreeMap.{is_at}
-use Rattle.fm_world.specs.Names.{name_of, name_cmp, AreNamed}
+use Rattle.fm_world.specs.inner.Names.{name_of, name_cmp, AreNamed}
 use Rattle.fm_world.proofs.Naming.{named_again, named_new}
 use Rattle.fm_world.proofs.cut_packets.CutPackets.push.Goals.{then-not-contains_key+in_ok-insert, else-not-contains_key}
 use Rattle.fm_world.proofs.cut_packets.CutPackets.push.Goals as goal

@@ -2,7 +2,7 @@ use Rattle.std.proofs.Common.{rules, ◌≡◌, ◌∙◌, ◌++◌, ◌∷◌, 
 use Rattle.fm_world.specs.declared.step.Act.{Act}
 use Rattle.fm_coord.specs.declared.entry.Reply.TheVariants as reply
 use Rattle.fm_world.specs.Listings.{packet_in}
-use Rattle.fm_world.specs.Sweeps.{act_asked}
+use Rattle.fm_world.specs.inner.Sweeps.{act_asked}
 use Rattle.fm_world.proofs.Growing.{asked_can, asked_not, given_none}
 use Rattle.fm_world.proofs.linearization.Linearization.take.Goals as goal
 

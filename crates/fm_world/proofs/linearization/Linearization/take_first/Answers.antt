@@ -1,5 +1,5 @@
 use Rattle.std.proofs.Common.{rules, ◌<◌, length, true, arith}
-use Rattle.fm_world.specs.Sweeps.{IsOneTaken}
+use Rattle.fm_world.specs.inner.Sweeps.{IsOneTaken}
 use Rattle.fm_world.proofs.Growing.{one_further}
 use Rattle.fm_world.proofs.linearization.Linearization.take_first.Goals as goal
 

@@ -1,4 +1,4 @@
-use Rattle.fm_world.specs.Sweeps.{AreFirstTaken}
+use Rattle.fm_world.specs.inner.Sweeps.{AreFirstTaken}
 use Rattle.fm_world.proofs.linearization.Linearization.take_first.Given as goal
 
 abbrev pub invariant-loop-taken : goal.invariant-loop-taken

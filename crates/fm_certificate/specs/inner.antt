@@ -1,0 +1,2 @@
+pub mod Outflow
+pub mod Checks

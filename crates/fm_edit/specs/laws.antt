@@ -1,0 +1,4 @@
+pub mod DeferringLaws
+pub mod LocalLaws
+pub mod KeeperLaws
+pub mod LookLaws

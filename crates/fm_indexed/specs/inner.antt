@@ -1,0 +1,2 @@
+pub mod ArcEnds
+pub mod Named

@@ -1,0 +1,2 @@
+pub mod SortedVec
+pub mod StagedJoins

@@ -1,0 +1,3 @@
+pub mod NetworkIter
+pub mod Ends
+pub mod KeptLists

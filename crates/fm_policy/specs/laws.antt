@@ -1,0 +1,4 @@
+pub mod KeepingLaws
+pub mod ChangeLaws
+pub mod RoomLaws
+pub mod FactsLaws

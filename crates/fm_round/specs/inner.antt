@@ -1,0 +1,4 @@
+pub mod PlanArcs
+pub mod UnitQueues
+pub mod AdmissionSteps
+pub mod MachineHoldings

@@ -1,0 +1,2 @@
+pub mod AgreementExamples
+pub mod ListingExamples
