@@ -12,7 +12,7 @@ use Rattle.fm_net.specs.declared.node.Node.{Node}
 use Rattle.fm_net.specs.declared.node.Node.TheVariants.{Sink, Unscheduled, Request, Machine, Task}
 use Rattle.fm_net.specs.Nodes.{node_cmp, ends_cmp}
 use Rattle.fm_net.specs.laws.NodeOrder.{node_exact, node_total, ends_exact, ends_total}
-use Rattle.fm_net.specs.laws.ListLaws.{has_member, member_has}
+use Rattle.fm_net.proofs.ListLaws.{has_member, member_has}
 use Rattle.fm_net.specs.Net.{Net, CanBeNet, IsArc, IsArcKind, has_node, arc_at}
 use Rattle.fm_net.specs.NetworkEquality.{same_node}
 use Rattle.fm_certificate.proofs.Alike.{other_node}

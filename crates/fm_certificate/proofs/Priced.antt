@@ -5,7 +5,7 @@ use Rattle.std.proofs.lemmas.List.Sums.{sum_by-cons}
 use Rattle.std.proofs.Math.Nat.{mul-le-mul, mul-suc, zero-mul}
 use Rattle.fm_records.specs.declared.records.MachineReg.{MachineReg}
 use Rattle.fm_records.specs.Options.{when, and_then}
-use Rattle.fm_records.specs.laws.RangeLaws.{when_value}
+use Rattle.fm_records.proofs.RangeLaws.{when_value}
 use Rattle.fm_records.specs.Sets.{IsMember}
 use Rattle.fm_records.specs.Table.{Table}
 use Rattle.fm_records.specs.Ranges.{CanBe}
@@ -14,8 +14,8 @@ use Rattle.fm_net.specs.declared.node.Node.{Node}
 use Rattle.fm_net.specs.declared.node.Node.TheVariants.{Sink, Unscheduled, Request, Machine, Task}
 use Rattle.fm_net.specs.Net.{Net, CanBeNet, arc_at}
 use Rattle.fm_net.specs.Network.{is_held, is_live_of, waits_for, is_node, places, place_arc, preferred_arc, arc_of}
-use Rattle.fm_net.specs.laws.NetworkLaws.{came_from, mapped_from, where_true, preferred_from, is_network_of}
-use Rattle.fm_net.specs.laws.BoundLaws.{state_ranges}
+use Rattle.fm_net.proofs.NetworkLaws.{came_from, mapped_from, where_true, preferred_from, is_network_of}
+use Rattle.fm_net.proofs.BoundLaws.{state_ranges}
 use Rattle.fm_certificate.specs.Flows.{Units, cost_of, IsFeasible}
 use Rattle.fm_certificate.specs.PolicyNetwork.{IsBuilt}
 use Rattle.fm_certificate.proofs.Exchange.{Arc}

@@ -18,7 +18,7 @@ use Rattle.fm_coord.specs.Causes.{cause}
 use Rattle.fm_coord.specs.Replays.{seen_packet, call_of, reply_of}
 use Rattle.fm_coord.specs.States.{State, bounds, history_entry, took, gave, after_trim, with_entry, cut_packet, after, Represents, IsEventAt}
 use Rattle.fm_coord.specs.Outputs.{reply_to, answer_to}
-use Rattle.fm_coord.specs.laws.StepLaws.{no_fault, many, same_bounds, packet_is, stands_after}
+use Rattle.fm_coord.proofs.StepLaws.{no_fault, many, same_bounds, packet_is, stands_after}
 
 module _ (s : State) (r : Replica) (st : Represents s r) (by : ℕ) (new : State) where
   is_event : (event : Event) (reply : Reply) → cause (bounds s) (call_of event) ≡ None → reply ≡ reply_of r event → new ≡ after s (history_entry by (call_of event) reply) (call_of event) → IsEventAt r by event reply new

@@ -3,7 +3,7 @@ use Rattle.std.proofs.Common.{◌≡◌, ◌≤◌, ◌<◌, ℕ, ◌+◌, false
 use Rattle.fm_records.specs.declared.ops.Op.{Op}
 use Rattle.fm_records.specs.Know.{table_of}
 use Rattle.fm_records.specs.OpsOfTable.{IsTable}
-use Rattle.fm_records.specs.laws.SpelledLaws.{know_ops}
+use Rattle.fm_records.proofs.SpelledLaws.{know_ops}
 use Rattle.fm_delta.specs.declared.packet.Packet.{Packet}
 use Rattle.fm_round.specs.declared.plan.Plan.{Plan}
 use Rattle.fm_round.specs.Admission.{admission}
@@ -17,7 +17,7 @@ use Rattle.fm_coord.specs.Events as event
 use Rattle.fm_coord.specs.Causes.{cause, Bounds}
 use Rattle.fm_coord.specs.Replays.{call_of, event_of, reply_of, after_entry, replay, IsLegal}
 use Rattle.fm_coord.specs.States.{State, new_state, history_entry, bounds, took, gave, after_trim, with_entry, cut_packet, after, Represents, replay_of, IsCoordinator}
-use Rattle.fm_coord.specs.laws.StepLaws.{no_fault, second_is_none, test_failed, replay_more, legal_more, many, same_bounds, packet_is, stands_after}
+use Rattle.fm_coord.proofs.StepLaws.{no_fault, second_is_none, test_failed, replay_more, legal_more, many, same_bounds, packet_is, stands_after}
 
 pub new_is : (number limit : ℕ) → IsCoordinator (new_state number limit)
 new_is number limit = record {

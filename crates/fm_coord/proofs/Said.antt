@@ -6,7 +6,7 @@ use Rattle.std.specs.Result.{OnOk, OnErr, IfOk}
 use Rattle.std.specs.Io.KnownBytes.{Appends}
 use Rattle.fm_records.specs.declared.ops.Op.{Op}
 use Rattle.fm_records.specs.declared.refusal.Refusal.{Refusal}
-use Rattle.fm_records.specs.laws.LookupLaws.{both_true}
+use Rattle.fm_records.proofs.LookupLaws.{both_true}
 use Rattle.fm_records.specs.Ops.{op_fault}
 use Rattle.fm_records.specs.Ranges.{fields_fit, in_range, all_in_range}
 use Rattle.fm_round.specs.declared.plan.Admitted.{Admitted}

@@ -12,9 +12,9 @@ use Rattle.fm_records.specs.Table.{Table}
 use Rattle.fm_records.specs.Ranges.{CanBe}
 use Rattle.fm_records.specs.Joined.{table_join}
 use Rattle.fm_policy.specs.Changes.{Keys, changed_keys, changed_tasks, joined_keys}
-use Rattle.fm_policy.specs.laws.ChangeLaws.{task_same, proposal_same}
+use Rattle.fm_policy.proofs.ChangeLaws.{task_same, proposal_same}
 use Rattle.fm_policy.specs.Keeping.{FollowsAfter}
-use Rattle.fm_policy.specs.laws.KeepingLaws.{took_on}
+use Rattle.fm_policy.proofs.KeepingLaws.{took_on}
 use Rattle.fm_tally.specs.declared.unfinished.UnfinishedTask.{UnfinishedTask}
 use Rattle.fm_tally.specs.Unfinished.{AreUnfinished, AreBehind}
 

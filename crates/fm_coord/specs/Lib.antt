@@ -5,4 +5,3 @@ pub mod Replays
 pub mod States
 pub mod Outputs
 pub mod inner
-pub mod laws

@@ -12,10 +12,10 @@ use Rattle.fm_records.specs.Know.{table_of}
 use Rattle.fm_records.specs.OpsOfTable.{ops}
 use Rattle.fm_records.specs.Ranges.{CanBe}
 use Rattle.fm_records.specs.Joined.{table_join}
-use Rattle.fm_records.specs.laws.JoinedLaws.{join_can_be, table_laws}
-use Rattle.fm_records.specs.laws.UnionLaws.{know_append}
-use Rattle.fm_records.specs.laws.SpelledLaws.{know_ops}
-use Rattle.fm_records.specs.laws.RangeLaws.{know_can_be}
+use Rattle.fm_records.proofs.JoinedLaws.{join_can_be, table_laws}
+use Rattle.fm_records.proofs.UnionLaws.{know_append}
+use Rattle.fm_records.proofs.SpelledLaws.{know_ops}
+use Rattle.fm_records.proofs.RangeLaws.{know_can_be}
 use Rattle.fm_delta.specs.Deltas.{joined_from, joined_all}
 
 -- each of the deltas can be

@@ -17,7 +17,7 @@ use Rattle.fm_net.specs.declared.node.Node.TheVariants.{Sink}
 use Rattle.fm_net.specs.Nodes.{node_cmp, ends_cmp, IsInRange}
 use Rattle.fm_net.specs.laws.NodeOrder.{node_total, node_exact, ends_total}
 use Rattle.fm_net.specs.Net.{IsArc, IsArcKind, has_node}
-use Rattle.fm_net.specs.laws.ListLaws.{has_member, member_has}
+use Rattle.fm_net.proofs.ListLaws.{has_member, member_has}
 use Rattle.fm_dimacs.specs.Text.{id_in, arc_line}
 use Rattle.fm_dimacs.specs.Syntax.{Place, Comments, Body, Allows, Reaches, IsAfterLast, IsNextNode, BreaksAfter}
 use Rattle.fm_dimacs.specs.inner.Scan.{IsArcAmong, IsAfter, ids_of, numbers_at}

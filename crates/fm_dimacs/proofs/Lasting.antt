@@ -15,7 +15,7 @@ use Rattle.fm_net.specs.declared.node.Node.TheVariants.{Sink, Unscheduled, Reque
 use Rattle.fm_net.specs.Nodes.{node_cmp, ends_cmp, IsInRange}
 use Rattle.fm_net.specs.laws.NodeOrder.{node_total, node_exact, ends_total}
 use Rattle.fm_net.specs.Net.{Net, CanBeNet, IsArc}
-use Rattle.fm_net.specs.laws.ListLaws.{has_member, member_has}
+use Rattle.fm_net.proofs.ListLaws.{has_member, member_has}
 use Rattle.fm_dimacs.specs.Text.{node_line, problem_line, arc_line, lines_from, dump_text}
 use Rattle.fm_dimacs.specs.Syntax.{Place, Comments, Body, Allows, Reaches, IsAfterLast, IsNextNode, IsNextArc, unit_lines}
 use Rattle.fm_dimacs.proofs.Leading.{Arc}

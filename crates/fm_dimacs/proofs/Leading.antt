@@ -10,7 +10,7 @@ use Rattle.fm_net.specs.declared.node.Node.TheVariants.{Sink, Unscheduled, Reque
 use Rattle.fm_net.specs.Nodes.{node_cmp, IsInRange}
 use Rattle.fm_net.specs.laws.NodeOrder.{node_exact, node_total}
 use Rattle.fm_net.specs.Net.{IsArc}
-use Rattle.fm_net.specs.laws.ListLaws.{member_has}
+use Rattle.fm_net.proofs.ListLaws.{member_has}
 use Rattle.fm_dimacs.specs.Text.{node_line, problem_line, is_task_node, demand_line, supply_line, arc_line}
 use Rattle.fm_dimacs.specs.Syntax.{Place, Comments, Body, Allows, Reaches, IsNextNode, with_line, supplies_from, unit_lines}
 use Rattle.fm_dimacs.specs.inner.Scan.{ids_of, node_at, problem_at, numbers_at}

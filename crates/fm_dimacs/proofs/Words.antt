@@ -11,7 +11,7 @@ use Rattle.std.proofs.lemmas.Slice.Eq.{bytes_eq-Decides}
 use Rattle.std.proofs.lemmas.Str.{digit_value_digit}
 use Rattle.std.proofs.lemmas.Str.Parse.{digit_from_value}
 use Rattle.fm_records.specs.Ids.{read_id, id_text}
-use Rattle.fm_records.specs.laws.IdLaws.{text_read}
+use Rattle.fm_records.proofs.IdLaws.{text_read}
 use Rattle.fm_dimacs.specs.inner.Scan.{◌>>=◌, past_text, digits_from, fitting, number_at, id_at}
 use Rattle.fm_dimacs.proofs.Digits.{grows}
 use Rattle.fm_dimacs.proofs.Uuids.{id_text_long}

@@ -7,7 +7,7 @@ use Rattle.std.specs.Ordering.{nat_cmp}
 use Rattle.fm_records.specs.declared.records.SpecReg.{SpecReg}
 use Rattle.fm_records.specs.declared.records.MachineReg.{MachineReg}
 use Rattle.fm_records.specs.Options.{when, and_then, only_if, passes}
-use Rattle.fm_records.specs.laws.LookupLaws.{both_true}
+use Rattle.fm_records.proofs.LookupLaws.{both_true}
 use Rattle.fm_records.specs.TableLaws.{Rises}
 use Rattle.fm_records.specs.Table.{Table, MachineValue}
 use Rattle.fm_records.specs.Facts.{spec_of, live_spec, holder_of, holds, open_state, spare_of}
@@ -15,12 +15,12 @@ use Rattle.fm_net.specs.declared.node.Node.{Node}
 use Rattle.fm_net.specs.declared.node.Node.TheVariants.{Sink, Unscheduled, Request, Machine, Task}
 use Rattle.fm_net.specs.Nodes.{node_cmp, ends_cmp}
 use Rattle.fm_net.specs.Network.{is_held, is_live_of, waits_for, is_node, place_arc, room_arc, preferred_arc, arc_of, net_of}
-use Rattle.fm_net.specs.laws.NetworkLaws.{passes_some, only_if_some, is_network_of}
+use Rattle.fm_net.proofs.NetworkLaws.{passes_some, only_if_some, is_network_of}
 use Rattle.fm_net.specs.Touched.{Touches}
 use Rattle.fm_policy.specs.Changes.{Keys}
 use Rattle.fm_edit.specs.declared.affected.Touched.{Touched}
 use Rattle.fm_edit.specs.Dirty.{SameBeyond, has_id, dirty_task, IsDirtyMachine, job_of_task, request_of_task, prefers, MayTurn, MayDiffer}
-use Rattle.fm_edit.specs.laws.LocalLaws.{node_same, arc_same, request_arc_same, state_same, prefers_same}
+use Rattle.fm_edit.proofs.LocalLaws.{node_same, arc_same, request_arc_same, state_same, prefers_same}
 use Rattle.fm_edit.specs.CacheModel.{sight_of}
 use Rattle.fm_edit.specs.inner.Affected.{has_touched, has_pair, TouchesTask}
 use Rattle.fm_edit.proofs.Completed.{both_ways}

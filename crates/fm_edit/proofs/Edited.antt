@@ -5,11 +5,11 @@ use Rattle.fm_records.specs.Ranges.{CanBe}
 use Rattle.fm_net.specs.declared.node.Node.{Node}
 use Rattle.fm_net.specs.Net.{Net, CanBeNet, has_node, arc_at}
 use Rattle.fm_net.specs.Network.{net_of}
-use Rattle.fm_net.specs.laws.NetworkLaws.{is_network_of}
-use Rattle.fm_net.specs.laws.BoundLaws.{net_can_be}
+use Rattle.fm_net.proofs.NetworkLaws.{is_network_of}
+use Rattle.fm_net.proofs.BoundLaws.{net_can_be}
 use Rattle.fm_net.specs.Edits.{change}
 use Rattle.fm_net.specs.Touched.{Touches}
-use Rattle.fm_net.specs.laws.TouchedLaws.{touched_is_change}
+use Rattle.fm_net.proofs.TouchedLaws.{touched_is_change}
 use Rattle.fm_edit.specs.declared.editor_state.EditorState.{EditorState}
 use Rattle.fm_edit.specs.CacheModel.{seen_in}
 use Rattle.fm_edit.specs.TaskIndex.{sum_in}

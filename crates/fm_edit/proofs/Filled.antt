@@ -8,10 +8,10 @@ use Rattle.fm_records.specs.TableLaws.{Rises, rises_rising}
 use Rattle.fm_records.specs.Table.{Table}
 use Rattle.fm_records.specs.Know.{table_of}
 use Rattle.fm_records.specs.Ranges.{CanBe}
-use Rattle.fm_records.specs.laws.RangeLaws.{know_can_be}
+use Rattle.fm_records.proofs.RangeLaws.{know_can_be}
 use Rattle.fm_records.specs.OpsOfTable.{ops}
-use Rattle.fm_records.specs.laws.SpelledLaws.{know_ops}
-use Rattle.fm_records.specs.laws.UnionLaws.{know_append}
+use Rattle.fm_records.proofs.SpelledLaws.{know_ops}
+use Rattle.fm_records.proofs.UnionLaws.{know_append}
 use Rattle.fm_records.specs.Joined.{table_join}
 use Rattle.fm_net.specs.declared.node.Node.{Node}
 use Rattle.fm_net.specs.declared.node.Node.TheVariants.{Sink, Unscheduled, Request, Machine, Task}

@@ -12,29 +12,29 @@ use Rattle.fm_records.specs.declared.records.SpecReg.{SpecReg}
 use Rattle.fm_records.specs.declared.records.MachineReg.{MachineReg}
 use Rattle.fm_records.specs.declared.records.Spot.{Spot}
 use Rattle.fm_records.specs.Options.{when, and_then, only_if, or_else, passes}
-use Rattle.fm_records.specs.laws.LookupLaws.{both_true}
+use Rattle.fm_records.proofs.LookupLaws.{both_true}
 use Rattle.fm_records.specs.Orders.{attempt_cmp}
 use Rattle.fm_records.specs.TableLaws.{Rises}
 use Rattle.fm_records.specs.Table.{Table, TaskValue, MachineValue}
 use Rattle.fm_records.specs.Ranges.{CanBe, all_in_range}
 use Rattle.fm_records.specs.OpsOfTable.{task_ops, entry_ops}
-use Rattle.fm_records.specs.laws.RangeLaws.{task_in_range, entries_in_range}
+use Rattle.fm_records.proofs.RangeLaws.{task_in_range, entries_in_range}
 use Rattle.fm_records.specs.Know.{initial_progress}
 use Rattle.fm_records.specs.Joined.{table_join}
-use Rattle.fm_records.specs.laws.JoinedLaws.{table_laws}
+use Rattle.fm_records.proofs.JoinedLaws.{table_laws}
 use Rattle.fm_records.specs.Facts.{head_option, job_of, spec_of, live_spec, attempt_of, won_spot, is_present}
 use Rattle.fm_net.specs.declared.node.Node.{Node}
 use Rattle.fm_net.specs.declared.node.Node.TheVariants.{Unscheduled, Request, Machine, Task}
 use Rattle.fm_net.specs.Nodes.{node_cmp, ends_cmp}
 use Rattle.fm_net.specs.Net.{Net, has_node}
 use Rattle.fm_net.specs.Network.{is_node, net_of}
-use Rattle.fm_net.specs.laws.NetworkLaws.{passes_some, only_if_some, is_network_of}
+use Rattle.fm_net.proofs.NetworkLaws.{passes_some, only_if_some, is_network_of}
 use Rattle.fm_net.specs.Touched.{Touches}
 use Rattle.fm_policy.specs.Changes.{Keys, changed_keys}
 use Rattle.fm_edit.specs.declared.task_index.TaskIndex.{TaskIndex}
 use Rattle.fm_edit.specs.declared.affected.Touched.{Touched}
 use Rattle.fm_edit.specs.Dirty.{SameBeyond, AreDirtyTasks, turned_in, has_id, dirty_task, prefers, job_of_task, won_machine}
-use Rattle.fm_edit.specs.laws.LocalLaws.{same_beyond}
+use Rattle.fm_edit.proofs.LocalLaws.{same_beyond}
 use Rattle.fm_edit.specs.CacheModel.{Sight, sight_of, seen_in}
 use Rattle.fm_edit.specs.declared.record_cache.RecordCache.{RecordCache}
 use Rattle.fm_edit.specs.CacheUpdate.{values_at, turns, standing, same_standing}

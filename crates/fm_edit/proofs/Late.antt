@@ -3,13 +3,13 @@ use Rattle.std.proofs.Common.{◌≡◌, ◌∙◌, Bool, true, false, Option, S
 use Rattle.std.specs.Prelude.{◌&&◌, IsTrue}
 use Rattle.fm_records.specs.Table.{Table}
 use Rattle.fm_records.specs.Ranges.{CanBe}
-use Rattle.fm_records.specs.laws.LookupLaws.{both_true}
+use Rattle.fm_records.proofs.LookupLaws.{both_true}
 use Rattle.fm_records.specs.Joined.{table_join}
 use Rattle.fm_net.specs.Net.{Net}
 use Rattle.fm_net.specs.Network.{net_of}
 use Rattle.fm_policy.specs.Changes.{Keys, changed_keys, joined_keys, has_no_keys}
 use Rattle.fm_policy.specs.Keeping.{FollowsAfter}
-use Rattle.fm_policy.specs.laws.KeepingLaws.{took_on}
+use Rattle.fm_policy.proofs.KeepingLaws.{took_on}
 use Rattle.fm_edit.specs.declared.editor.Editor.{Editor}
 use Rattle.fm_edit.specs.EditorModel.{is_fresh_editor, IsFor}
 use Rattle.fm_edit.specs.DeferredModel.{was_fresh, HasNetworkOf, CanFollow}

@@ -15,12 +15,12 @@ use Rattle.fm_net.specs.declared.edit.Edit.TheVariants.{DropArc, DropNode, PutNo
 use Rattle.fm_net.specs.Nodes.{node_cmp, ends_cmp}
 use Rattle.fm_net.specs.laws.NodeOrder.{node_exact, node_total, ends_exact, ends_total}
 use Rattle.fm_net.specs.Net.{Net, CanBeNet, has_node}
-use Rattle.fm_net.specs.laws.ListLaws.{has_member, passes_kept}
+use Rattle.fm_net.proofs.ListLaws.{has_member, passes_kept}
 use Rattle.fm_net.specs.inner.KeptLists.{has_inserted, rises_inserted}
-use Rattle.fm_net.specs.laws.EditLaws.{member_found, stands_removed, rises_removed, at_removed, rising_removed, at_put}
+use Rattle.fm_net.proofs.EditLaws.{member_found, stands_removed, rises_removed, at_removed, rising_removed, at_put}
 use Rattle.fm_net.specs.Edits.{Arc, after_edit, after_edits, joins, same_value, has_arc, gone_arcs, gone_nodes, new_nodes, new_arcs, drop_of, put_of, change}
 use Rattle.fm_edit.specs.Change.{edit_of, AreDistinctEdits}
-use Rattle.fm_edit.specs.laws.LookLaws.{each_of_both, each_mapped}
+use Rattle.fm_edit.proofs.LookLaws.{each_of_both, each_mapped}
 use Rattle.fm_edit.proofs.Made.{not_both, same_itself}
 use Rattle.fm_edit.proofs.Once.{change_apart}
 use Rattle.fm_edit.proofs.Sums.{kept_member}

@@ -17,3 +17,5 @@ pub mod ShownLaws
 pub mod Sums
 pub mod Turning
 pub mod Values
+pub mod LocalLaws
+pub mod LookLaws

@@ -12,14 +12,14 @@ use Rattle.fm_net.specs.Nodes.{node_cmp, ends_cmp}
 use Rattle.fm_net.specs.laws.NodeOrder.{node_exact, node_total, ends_exact, ends_total}
 use Rattle.fm_net.specs.Net.{Net, has_node}
 use Rattle.fm_net.specs.Network.{net_of}
-use Rattle.fm_net.specs.laws.NetworkLaws.{is_network_of}
-use Rattle.fm_net.specs.laws.ListLaws.{has_member, passes_kept}
-use Rattle.fm_net.specs.laws.EditLaws.{member_found}
+use Rattle.fm_net.proofs.NetworkLaws.{is_network_of}
+use Rattle.fm_net.proofs.ListLaws.{has_member, passes_kept}
+use Rattle.fm_net.proofs.EditLaws.{member_found}
 use Rattle.fm_net.specs.Edits.{Arc, joins, same_value, has_arc, gone_arcs, gone_nodes, new_nodes, new_arcs, drop_of, put_of, change}
 use Rattle.fm_policy.specs.Changes.{Keys}
 use Rattle.fm_edit.specs.Dirty.{SameBeyond, MayTurn, MayDiffer, MayMake}
-use Rattle.fm_edit.specs.laws.LocalLaws.{node_same, arc_same}
-use Rattle.fm_edit.specs.laws.LookLaws.{each_of_both, each_mapped}
+use Rattle.fm_edit.proofs.LocalLaws.{node_same, arc_same}
+use Rattle.fm_edit.proofs.LookLaws.{each_of_both, each_mapped}
 use Rattle.fm_edit.proofs.Sums.{kept_member}
 
 pub not_both : {P : Type 0} (b : Bool) → b ≡ true → not b ≡ true → P

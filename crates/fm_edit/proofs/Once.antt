@@ -14,12 +14,12 @@ use Rattle.fm_net.specs.declared.edit.Edit.TheVariants.{DropNode, PutNode}
 use Rattle.fm_net.specs.Nodes.{node_cmp, ends_cmp}
 use Rattle.fm_net.specs.laws.NodeOrder.{node_exact, node_total, ends_exact, ends_total}
 use Rattle.fm_net.specs.Net.{Net, CanBeNet, has_node}
-use Rattle.fm_net.specs.laws.ListLaws.{has_member, passes_kept, rises_kept}
+use Rattle.fm_net.proofs.ListLaws.{has_member, passes_kept, rises_kept}
 use Rattle.fm_net.specs.inner.KeptLists.{rising_kept}
-use Rattle.fm_net.specs.laws.EditLaws.{member_found}
+use Rattle.fm_net.proofs.EditLaws.{member_found}
 use Rattle.fm_net.specs.Edits.{Arc, joins, has_arc, gone_arcs, gone_nodes, new_nodes, new_arcs, drop_of, put_of, change}
 use Rattle.fm_edit.specs.Change.{edit_of, AreDistinctEdits}
-use Rattle.fm_edit.specs.laws.LookLaws.{each_of_both, each_mapped}
+use Rattle.fm_edit.proofs.LookLaws.{each_of_both, each_mapped}
 use Rattle.fm_edit.proofs.Sums.{kept_member}
 
 abbrev IsOther : Edit → Edit → Type 0

@@ -11,8 +11,8 @@ use Rattle.fm_net.specs.declared.node.Node.TheVariants.{Sink, Unscheduled, Reque
 use Rattle.fm_net.specs.Network.{is_live_of, waits_for, live_tasks, is_node, arc_of}
 use Rattle.fm_policy.specs.declared.node_facts.NodeFacts.TheVariants.{OfJob, OfRequest, OfMachine}
 use Rattle.fm_policy.specs.NodeFacts.{facts_of, arc_between}
-use Rattle.fm_policy.specs.laws.FactsLaws as policy
-use Rattle.fm_edit.specs.laws.LocalLaws.{counted}
+use Rattle.fm_policy.proofs.FactsLaws as policy
+use Rattle.fm_edit.proofs.LocalLaws.{counted}
 use Rattle.fm_edit.specs.CacheModel.{sight_of}
 use Rattle.fm_edit.specs.TaskIndex.{counts_at, weight_at}
 use Rattle.fm_edit.specs.EditorState.{sum_over, none_out}

@@ -14,19 +14,19 @@ use Rattle.std.specs.declared.cmp.Ordering.TheVariants.{Less}
 use Rattle.fm_records.specs.Options.{and_then, only_if, passes}
 use Rattle.fm_records.specs.Sets.{IsMember}
 use Rattle.fm_records.specs.TableLaws.{IsBelowAll, Rises}
-use Rattle.fm_records.specs.laws.LookupLaws.{both_true}
+use Rattle.fm_records.proofs.LookupLaws.{both_true}
 use Rattle.fm_records.specs.Table.{Table, TaskValue}
 use Rattle.fm_records.specs.Ranges.{CanBe}
 use Rattle.fm_records.specs.Facts.{spec_of, progress_of, is_done, job_stands, live_spec, is_present, won_spot, holder_of, request_of}
 use Rattle.fm_net.specs.declared.node.Node.{Node}
 use Rattle.fm_net.specs.declared.node.Node.TheVariants.{Sink, Unscheduled, Request, Machine, Task}
-use Rattle.fm_net.specs.laws.BoundLaws.{spec_ranges}
-use Rattle.fm_net.specs.laws.ListLaws.{passes_kept}
-use Rattle.fm_net.specs.laws.NetworkLaws.{live_entry}
+use Rattle.fm_net.proofs.BoundLaws.{spec_ranges}
+use Rattle.fm_net.proofs.ListLaws.{passes_kept}
+use Rattle.fm_net.proofs.NetworkLaws.{live_entry}
 use Rattle.fm_policy.specs.Changes.{Keys}
 use Rattle.fm_edit.specs.declared.task_index.TaskIndex.{TaskIndex}
 use Rattle.fm_edit.specs.Dirty.{SameBeyond, has_id, dirty_task}
-use Rattle.fm_edit.specs.laws.LocalLaws.{same_kept, live_same, holder_same, spec_same, won_same, prefers_same}
+use Rattle.fm_edit.proofs.LocalLaws.{same_kept, live_same, holder_same, spec_same, won_same, prefers_same}
 use Rattle.fm_edit.specs.CacheModel.{Sight, sight_of, prefers_in}
 use Rattle.fm_edit.specs.TaskIndex.{is_indexed, counts_at, weight_at, amount_at, lists, lists_preferred, sum_in}
 use Rattle.fm_edit.specs.EditorState.{sum_over, also_out, Counts}

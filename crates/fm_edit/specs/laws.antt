@@ -1,4 +1,2 @@
 pub mod DeferringLaws
-pub mod LocalLaws
 pub mod KeeperLaws
-pub mod LookLaws

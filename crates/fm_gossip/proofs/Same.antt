@@ -7,8 +7,8 @@ use Rattle.fm_records.specs.Sets.{IsMember}
 use Rattle.fm_records.specs.Table.{Table}
 use Rattle.fm_records.specs.Know.{table_of}
 use Rattle.fm_records.specs.Joined.{table_join}
-use Rattle.fm_records.specs.laws.UnionLaws.{know_append}
-use Rattle.fm_records.specs.laws.SetExtensionality.{know_same}
+use Rattle.fm_records.proofs.UnionLaws.{know_append}
+use Rattle.fm_records.proofs.SetExtensionality.{know_same}
 use Rattle.fm_coord.specs.declared.entry.Call.TheVariants as call
 use Rattle.fm_coord.specs.declared.entry.Reply.TheVariants as reply
 use Rattle.fm_coord.specs.Numbers.{AreDistinct}

@@ -7,7 +7,7 @@ use Rattle.fm_net.specs.declared.node.Node.{Node}
 use Rattle.fm_net.specs.declared.node.Node.TheVariants as node
 use Rattle.fm_net.specs.Nodes.{node_cmp}
 use Rattle.fm_net.specs.laws.NodeOrder.{node_exact, node_total}
-use Rattle.fm_net.specs.laws.ListLaws.{member_has, member_behind}
+use Rattle.fm_net.proofs.ListLaws.{member_has, member_behind}
 use Rattle.fm_net.specs.Net.{Net, CanBeNet, IsArc, IsArcKind}
 use Rattle.fm_certificate.proofs.Least.{arc_member}
 use Rattle.fm_cycles.specs.declared.indexed_arcs.IndexedArc.{IndexedArc}

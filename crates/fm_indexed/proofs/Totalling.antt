@@ -5,7 +5,7 @@ use Rattle.std.proofs.lemmas.Option.{slice_get_within}
 use Rattle.fm_net.specs.declared.node.Node.{Node}
 use Rattle.fm_net.specs.Nodes.{node_cmp}
 use Rattle.fm_net.specs.laws.NodeOrder.{node_exact, node_total}
-use Rattle.fm_net.specs.laws.ListLaws.{has_member, member_has}
+use Rattle.fm_net.proofs.ListLaws.{has_member, member_has}
 use Rattle.fm_net.specs.Net.{Net, CanBeNet, has_node}
 use Rattle.fm_certificate.specs.Totals.{target, units_at, total_in, IsTotalled}
 use Rattle.fm_cycles.specs.declared.indexed_arcs.IndexedArc.{IndexedArc}

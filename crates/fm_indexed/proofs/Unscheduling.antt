@@ -11,10 +11,10 @@ use Rattle.fm_net.specs.declared.node.Node.{Node}
 use Rattle.fm_net.specs.declared.node.Node.TheVariants as node
 use Rattle.fm_net.specs.Nodes.{node_cmp}
 use Rattle.fm_net.specs.laws.NodeOrder.{node_exact, node_total}
-use Rattle.fm_net.specs.laws.ListLaws.{has_member}
+use Rattle.fm_net.proofs.ListLaws.{has_member}
 use Rattle.fm_net.specs.Net.{Net, CanBeNet, has_node}
 use Rattle.fm_net.specs.Network.{IsNetworkOf, net_of}
-use Rattle.fm_net.specs.laws.NetworkLaws.{is_network_of}
+use Rattle.fm_net.proofs.NetworkLaws.{is_network_of}
 use Rattle.fm_net.specs.NetworkEquality.{same_node}
 use Rattle.fm_records.specs.Table.{Table}
 use Rattle.fm_certificate.specs.Totals.{source, target}

@@ -10,8 +10,8 @@ use Rattle.fm_lattice.specs.Chains.{nat_same}
 use Rattle.fm_lattice.specs.Maps.{lookup, IsBelow, IsRising}
 use Rattle.fm_records.specs.declared.records.SpecReg.{SpecReg}
 use Rattle.fm_records.specs.declared.records.JobReg.{JobReg}
-use Rattle.fm_records.specs.laws.LookupLaws.{both_true}
-use Rattle.fm_records.specs.laws.RangeLaws.{when_value}
+use Rattle.fm_records.proofs.LookupLaws.{both_true}
+use Rattle.fm_records.proofs.RangeLaws.{when_value}
 use Rattle.fm_records.specs.Sets.{IsMember}
 use Rattle.fm_records.specs.Table.{Table, TaskValue}
 use Rattle.fm_records.specs.Facts.{job_of, spec_of, live_spec, is_live}
@@ -19,10 +19,10 @@ use Rattle.fm_net.specs.declared.node.Node.{Node}
 use Rattle.fm_net.specs.declared.node.Node.TheVariants.{Sink, Unscheduled, Request, Machine, Task}
 use Rattle.fm_net.specs.Nodes.{ends_cmp}
 use Rattle.fm_net.specs.laws.NodeOrder.{ends_exact, ends_total}
-use Rattle.fm_net.specs.laws.ListLaws.{entry_member}
+use Rattle.fm_net.proofs.ListLaws.{entry_member}
 use Rattle.fm_net.specs.Net.{Net, CanBeNet, has_node, arc_at}
 use Rattle.fm_net.specs.Network.{is_live_of, is_held, live_tasks, is_node, arc_of, IsNetworkOf}
-use Rattle.fm_net.specs.laws.NetworkLaws.{passes_some, only_if_some, where_true, live_entry}
+use Rattle.fm_net.proofs.NetworkLaws.{passes_some, only_if_some, where_true, live_entry}
 use Rattle.fm_net.specs.NetworkEquality.{same_node, node_Decides}
 use Rattle.fm_certificate.specs.Totals.{source, target}
 use Rattle.fm_certificate.proofs.Alike.{same_itself}

@@ -20,8 +20,8 @@ use Rattle.fm_records.specs.Options.{when, and_then, or_else, passes}
 use Rattle.fm_records.specs.Orders.{job_cmp, machine_cmp, report_cmp, progress_cmp}
 use Rattle.fm_records.specs.Table.{Table, TaskValue, MachineValue}
 use Rattle.fm_records.specs.Know.{initial_progress, table_of, job_in, state_in, progress_in, job, task, machine, machine_at, incarnation, state_at}
-use Rattle.fm_records.specs.laws.LookupLaws.{lookup_job, lookup_task, lookup_machine}
-use Rattle.fm_records.specs.laws.RangeLaws.{know_table}
+use Rattle.fm_records.proofs.LookupLaws.{lookup_job, lookup_task, lookup_machine}
+use Rattle.fm_records.proofs.RangeLaws.{know_table}
 use Rattle.fm_records.specs.OpsOfTable.{IsTable}
 use Rattle.fm_records.specs.Facts.{job_of, machine_state, incarnation_of, progress_of, attempt_of}
 use Rattle.fm_records.specs.Joined.{table_join, task_join, machine_join}

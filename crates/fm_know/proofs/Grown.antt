@@ -12,8 +12,8 @@ use Rattle.fm_records.specs.Orders.{job_cmp, attempt_cmp}
 use Rattle.fm_records.specs.Know.{table_of}
 use Rattle.fm_records.specs.Joined.{table_join, task_join, machine_join, spots_join}
 use Rattle.fm_records.specs.Ranges.{CanBe}
-use Rattle.fm_records.specs.laws.UnionLaws.{know_append}
-use Rattle.fm_records.specs.laws.JoinedLaws.{join_can_be}
+use Rattle.fm_records.proofs.UnionLaws.{know_append}
+use Rattle.fm_records.proofs.JoinedLaws.{join_can_be}
 
 module _ {A E : Type 0} (k l : Table) (x : CanBe k) (y : CanBe l) where
   pub all_grown : (r : Result A E) (j : List (ℕ × JobReg)) (t : List (ℕ × TaskValue)) (m : List (ℕ × MachineValue))

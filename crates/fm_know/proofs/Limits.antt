@@ -12,7 +12,7 @@ use Rattle.fm_records.specs.declared.records.MachineReg.{MachineReg}
 use Rattle.fm_records.specs.Table.{Table, TaskValue, MachineValue}
 use Rattle.fm_records.specs.OpsOfTable.{job_op, spec_op, machine_op, task_ops, machine_ops}
 use Rattle.fm_records.specs.Ranges.{CanBe, in_range, all_in_range}
-use Rattle.fm_records.specs.laws.RangeLaws.{job_in_range, task_in_range, machine_in_range}
+use Rattle.fm_records.proofs.RangeLaws.{job_in_range, task_in_range, machine_in_range}
 use Rattle.fm_records.specs.Options.{and_then, only_if}
 use Rattle.fm_records.specs.Facts.{job_of, spec_of, live_spec, machine_state, open_state}
 use Rattle.fm_know.specs.Limits.{JobWithin, SpecWithin, StateWithin}

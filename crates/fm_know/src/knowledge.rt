@@ -142,7 +142,7 @@ impl Knowledge {
 impl Join for Knowledge {
     ghost use Rattle.fm_records.specs.Ranges.{CanBe};
     ghost use Rattle.fm_records.specs.Joined.{table_join};
-    ghost use Rattle.fm_records.specs.laws.JoinedLaws.{table_laws};
+    ghost use Rattle.fm_records.proofs.JoinedLaws.{table_laws};
 
     ghost is_value = { CanBe };
 

@@ -8,3 +8,9 @@ pub mod Made
 pub mod Shown
 pub mod Copied
 pub mod Refilled
+pub mod BoundLaws
+pub mod EditLaws
+pub mod ListLaws
+pub mod NetworkLaws
+pub mod SetNetworkLaws
+pub mod TouchedLaws

@@ -4,7 +4,7 @@ use Rattle.std.proofs.lemmas.List.{take_more, drop_more}
 use Rattle.fm_net.specs.declared.edit.Edit.{Edit}
 use Rattle.fm_net.specs.Net.{Net}
 use Rattle.fm_net.specs.Edits.{after_edit, after_edits, MayEdit, MayEditAll}
-use Rattle.fm_net.specs.laws.EditLaws.{after_both}
+use Rattle.fm_net.proofs.EditLaws.{after_both}
 
 -- the edit at a place comes after those before it and before those after it
 module _ (es : List Edit) (k : ℕ) (e : Edit) (lt : k < length es) (is : e ≡ get_or es k e) where

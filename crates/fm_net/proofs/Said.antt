@@ -16,7 +16,7 @@ use Rattle.fm_net.specs.Nodes.{node_cmp, ends_cmp}
 use Rattle.fm_net.specs.laws.NodeOrder.{node_exact, node_total, ends_total}
 use Rattle.fm_net.specs.Net.{Net, has_node, arc_at, with_node, without_node, with_arc, without_arc, remove_node, are_ends}
 use Rattle.fm_net.specs.inner.KeptLists.{has_inserted, rises_inserted}
-use Rattle.fm_net.specs.laws.EditLaws.{at_put, at_removed, stands_removed, rises_removed}
+use Rattle.fm_net.proofs.EditLaws.{at_put, at_removed, stands_removed, rises_removed}
 
 -- networks of the same lists are the same
 pub same_lists : (m n : Net) → m.nodes ≡ n.nodes → m.arcs ≡ n.arcs → m ≡ n

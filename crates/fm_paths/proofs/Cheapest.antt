@@ -3,7 +3,7 @@ use Rattle.std.proofs.Common.{◌≡◌, ◌∙◌, ap, sym, subst, refl, inl, i
 use Rattle.std.specs.Prelude.{pos, ◌-ℤ◌, flat_map}
 use Rattle.std.proofs.lemmas.Int.{ints}
 use Rattle.std.proofs.lemmas.List.Sums.{sum_by-cons}
-use Rattle.fm_records.specs.laws.RangeLaws.{when_value}
+use Rattle.fm_records.proofs.RangeLaws.{when_value}
 use Rattle.fm_records.specs.Ranges.{CanBe}
 use Rattle.fm_records.specs.Sets.{IsMember}
 use Rattle.fm_records.specs.Options.{or_else}
@@ -14,7 +14,7 @@ use Rattle.fm_net.specs.declared.node.Node.TheVariants.{Sink, Unscheduled, Reque
 use Rattle.fm_net.specs.Nodes.{number}
 use Rattle.fm_net.specs.Net.{Net, CanBeNet, arc_at}
 use Rattle.fm_net.specs.Network.{is_node, arc_of, net_of}
-use Rattle.fm_net.specs.laws.NetworkLaws.{mapped_from, where_true, room_from, is_network_of}
+use Rattle.fm_net.proofs.NetworkLaws.{mapped_from, where_true, room_from, is_network_of}
 use Rattle.fm_net.specs.NetworkEquality.{same_ends}
 use Rattle.fm_certificate.specs.Flows.{Units, IsFeasible, IsLeast}
 use Rattle.fm_certificate.proofs.Least.{shown_is_least}

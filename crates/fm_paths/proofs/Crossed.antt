@@ -10,7 +10,7 @@ use Rattle.fm_records.specs.Sets.{IsMember}
 use Rattle.fm_net.specs.declared.node.Node.{Node}
 use Rattle.fm_net.specs.Nodes.{ends_cmp}
 use Rattle.fm_net.specs.laws.NodeOrder.{ends_total, ends_exact}
-use Rattle.fm_net.specs.laws.ListLaws.{entry_member}
+use Rattle.fm_net.proofs.ListLaws.{entry_member}
 use Rattle.fm_net.specs.Net.{Net, arc_at}
 use Rattle.fm_net.specs.NetworkEquality.{same_node, same_ends, node_Decides}
 use Rattle.fm_certificate.specs.Flows.{leaving, entering}

@@ -2,15 +2,15 @@
 use Rattle.std.proofs.Common.{◌≡◌, ◌∙◌, ap, sym, refl, ℕ, ◌+◌, ◌-◌, ◌≤◌, Bool, true, false, cond, not, ◌==◌, ◌&&◌, Some, None, IsTrue, eq-eqb, eqb-true, arith}
 use Rattle.fm_records.specs.declared.records.SpecReg.{SpecReg}
 use Rattle.fm_records.specs.declared.records.JobReg.{JobReg}
-use Rattle.fm_records.specs.laws.LookupLaws.{both_true, when_is_true}
-use Rattle.fm_records.specs.laws.RangeLaws.{when_value}
+use Rattle.fm_records.proofs.LookupLaws.{both_true, when_is_true}
+use Rattle.fm_records.proofs.RangeLaws.{when_value}
 use Rattle.fm_records.specs.Options.{when, and_then, passes}
 use Rattle.fm_records.specs.Table.{Table}
 use Rattle.fm_records.specs.Facts.{job_of, live_spec, is_live, holder_of, holds, load_of}
 use Rattle.fm_net.specs.declared.node.Node.{Node}
 use Rattle.fm_net.specs.declared.node.Node.TheVariants.{Sink, Unscheduled, Request, Machine, Task}
 use Rattle.fm_net.specs.Network.{is_held, is_live_of, waits_for, preferred_arc, arc_of}
-use Rattle.fm_net.specs.laws.NetworkLaws.{passes_some, mapped_from, where_true, came_from, ends_of}
+use Rattle.fm_net.proofs.NetworkLaws.{passes_some, mapped_from, where_true, came_from, ends_of}
 use Rattle.fm_paths.specs.TaskPaths.{Way, ToJob, ByRequest, Straight, MayGo}
 use Rattle.fm_paths.specs.Prices.{first_node, cost_beyond, cost_from, AreCheapest, AreFair}
 use Rattle.fm_paths.proofs.Stands.{job_arc}

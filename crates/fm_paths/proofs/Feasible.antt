@@ -7,17 +7,17 @@ use Rattle.std.specs.Cmp.{nat_cmp_total}
 use Rattle.std.proofs.lemmas.List.Sums.{sum_by-cons}
 use Rattle.fm_lattice.specs.Chains.{nat_same}
 use Rattle.fm_records.specs.declared.records.SpecReg.{SpecReg}
-use Rattle.fm_records.specs.laws.RangeLaws.{when_value}
+use Rattle.fm_records.proofs.RangeLaws.{when_value}
 use Rattle.fm_records.specs.Ranges.{CanBe}
 use Rattle.fm_records.specs.Sets.{IsMember}
 use Rattle.fm_records.specs.Table.{Table, TaskValue}
 use Rattle.fm_records.specs.Facts.{live_spec, is_live, open_state}
 use Rattle.fm_net.specs.declared.node.Node.{Node}
 use Rattle.fm_net.specs.declared.node.Node.TheVariants.{Sink, Unscheduled, Request, Machine, Task}
-use Rattle.fm_net.specs.laws.ListLaws.{entry_member}
+use Rattle.fm_net.proofs.ListLaws.{entry_member}
 use Rattle.fm_net.specs.Net.{CanBeNet}
 use Rattle.fm_net.specs.Network.{is_live_of, live_tasks, is_node, arc_of, net_of}
-use Rattle.fm_net.specs.laws.NetworkLaws.{passes_some, mapped_from, where_true, live_entry, ends_of, is_network_of}
+use Rattle.fm_net.proofs.NetworkLaws.{passes_some, mapped_from, where_true, live_entry, ends_of, is_network_of}
 use Rattle.fm_net.specs.NetworkEquality.{same_node, same_ends}
 use Rattle.fm_certificate.specs.Flows.{leaving, IsFeasible}
 use Rattle.fm_certificate.proofs.Sums.{sum_same}

@@ -8,8 +8,8 @@ use Rattle.std.proofs.lemmas.List.Sums.{sum_by-cons}
 use Rattle.fm_lattice.specs.Chains.{nat_same}
 use Rattle.fm_lattice.specs.Maps.{IsRising}
 use Rattle.fm_records.specs.declared.records.SpecReg.{SpecReg}
-use Rattle.fm_records.specs.laws.LookupLaws.{both_true, when_is_true}
-use Rattle.fm_records.specs.laws.RangeLaws.{when_value}
+use Rattle.fm_records.proofs.LookupLaws.{both_true, when_is_true}
+use Rattle.fm_records.proofs.RangeLaws.{when_value}
 use Rattle.fm_records.specs.Ranges.{CanBe}
 use Rattle.fm_records.specs.Options.{when}
 use Rattle.fm_records.specs.Sets.{IsMember}
@@ -19,10 +19,10 @@ use Rattle.fm_net.specs.declared.node.Node.{Node}
 use Rattle.fm_net.specs.declared.node.Node.TheVariants.{Sink, Unscheduled, Request, Machine, Task}
 use Rattle.fm_net.specs.Nodes.{ends_cmp}
 use Rattle.fm_net.specs.laws.NodeOrder.{ends_exact}
-use Rattle.fm_net.specs.laws.ListLaws.{entry_member, member_mapped, member_of_one}
+use Rattle.fm_net.proofs.ListLaws.{entry_member, member_mapped, member_of_one}
 use Rattle.fm_net.specs.Net.{CanBeNet}
 use Rattle.fm_net.specs.Network.{arc_of, net_of}
-use Rattle.fm_net.specs.laws.NetworkLaws.{passes_some, live_entry, is_network_of}
+use Rattle.fm_net.proofs.NetworkLaws.{passes_some, live_entry, is_network_of}
 use Rattle.fm_net.specs.NetworkEquality.{same_ends}
 use Rattle.fm_round.specs.PlanOfFlow.{ArcUnits, units_over, unscheduled_in, preempt_of, plan_of_flow}
 use Rattle.fm_round.proofs.Over.{rising_over}

@@ -15,9 +15,9 @@ use Rattle.fm_records.specs.Sets.{IsMember}
 use Rattle.fm_records.specs.Table.{Table, TaskValue}
 use Rattle.fm_records.specs.Facts.{live_spec, is_live, holder_of, holds, attempt_of}
 use Rattle.fm_net.specs.Net.{CanBeNet}
-use Rattle.fm_net.specs.laws.ListLaws.{entry_member}
+use Rattle.fm_net.proofs.ListLaws.{entry_member}
 use Rattle.fm_net.specs.Network.{is_held, net_of}
-use Rattle.fm_net.specs.laws.NetworkLaws.{passes_some, live_entry, held_ends}
+use Rattle.fm_net.proofs.NetworkLaws.{passes_some, live_entry, held_ends}
 use Rattle.fm_certificate.proofs.Members.{member_lookup}
 use Rattle.fm_certificate.proofs.Sums.{sum_same, sum_both}
 use Rattle.fm_round.specs.declared.plan.Place.{Place}

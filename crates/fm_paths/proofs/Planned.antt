@@ -6,8 +6,8 @@ use Rattle.std.specs.Ordering.{nat_cmp}
 use Rattle.std.proofs.lemmas.Bool.{cases_lt}
 use Rattle.std.proofs.lemmas.List.Sums.{sum_by-cons}
 use Rattle.fm_lattice.specs.Maps.{lookup}
-use Rattle.fm_records.specs.laws.LookupLaws.{both_true, when_is_true}
-use Rattle.fm_records.specs.laws.RangeLaws.{when_value}
+use Rattle.fm_records.proofs.LookupLaws.{both_true, when_is_true}
+use Rattle.fm_records.proofs.RangeLaws.{when_value}
 use Rattle.fm_records.specs.Ranges.{CanBe}
 use Rattle.fm_records.specs.Options.{when, and_then, or_else}
 use Rattle.fm_records.specs.Sets.{IsMember}
@@ -17,10 +17,10 @@ use Rattle.fm_net.specs.declared.node.Node.{Node}
 use Rattle.fm_net.specs.declared.node.Node.TheVariants.{Sink, Unscheduled, Request, Machine, Task}
 use Rattle.fm_net.specs.Nodes.{ends_cmp}
 use Rattle.fm_net.specs.laws.NodeOrder.{ends_exact, ends_total}
-use Rattle.fm_net.specs.laws.ListLaws.{entry_member}
+use Rattle.fm_net.proofs.ListLaws.{entry_member}
 use Rattle.fm_net.specs.Net.{CanBeNet}
 use Rattle.fm_net.specs.Network.{is_held, net_of}
-use Rattle.fm_net.specs.laws.NetworkLaws.{is_network_of}
+use Rattle.fm_net.proofs.NetworkLaws.{is_network_of}
 use Rattle.fm_certificate.proofs.Members.{member_lookup}
 use Rattle.fm_round.specs.declared.plan.Place.{Place}
 use Rattle.fm_round.specs.PlanOfFlow.{Wait, ArcUnits, units, units_over, wait_in, waits, seats, tasks_of, machines_of, machine_for, place_at, place_of, place_in_plan, plan_of_flow}

@@ -8,10 +8,10 @@ use Rattle.fm_records.specs.Options.{passes}
 use Rattle.fm_records.specs.Ranges.{CanBe}
 use Rattle.fm_records.specs.Table.{Table}
 use Rattle.fm_records.specs.Facts.{open_state, holder_of, holds}
-use Rattle.fm_net.specs.laws.BoundLaws.{job_prices}
+use Rattle.fm_net.proofs.BoundLaws.{job_prices}
 use Rattle.fm_net.specs.Net.{CanBeNet}
 use Rattle.fm_net.specs.Network.{room_arc, preferred_arc, net_of}
-use Rattle.fm_net.specs.laws.NetworkLaws.{passes_some, came_from, mapped_from, room_from, held_ends}
+use Rattle.fm_net.proofs.NetworkLaws.{passes_some, came_from, mapped_from, room_from, held_ends}
 use Rattle.fm_round.specs.Schedules.{IsPlanOf}
 use Rattle.fm_paths.specs.TaskPaths.{ByRequest, Straight}
 use Rattle.fm_paths.specs.Prices.{AreFair}

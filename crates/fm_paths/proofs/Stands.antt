@@ -5,7 +5,7 @@ use Rattle.std.specs.List.{sum_by, filter_map, cons_option}
 use Rattle.std.proofs.lemmas.List.Sums.{sum_by-cons}
 use Rattle.fm_records.specs.declared.records.SpecReg.{SpecReg}
 use Rattle.fm_records.specs.declared.records.JobReg.{JobReg}
-use Rattle.fm_records.specs.laws.LookupLaws.{both_true}
+use Rattle.fm_records.proofs.LookupLaws.{both_true}
 use Rattle.fm_records.specs.Options.{when}
 use Rattle.fm_records.specs.Sets.{IsMember}
 use Rattle.fm_records.specs.Table.{Table, TaskValue}
@@ -13,7 +13,7 @@ use Rattle.fm_records.specs.Facts.{job_of, spec_of, live_spec, is_live, open_sta
 use Rattle.fm_net.specs.declared.node.Node.{Node}
 use Rattle.fm_net.specs.declared.node.Node.TheVariants.{Sink, Unscheduled, Request, Machine, Task}
 use Rattle.fm_net.specs.Network.{is_held, is_live_of, live_tasks, is_node, room_arc, arc_of, net_of}
-use Rattle.fm_net.specs.laws.NetworkLaws.{passes_some, only_if_some, room_from, ends_of, is_network_of}
+use Rattle.fm_net.proofs.NetworkLaws.{passes_some, only_if_some, room_from, ends_of, is_network_of}
 use Rattle.fm_paths.specs.TaskPaths.{Way, ToJob, ByRequest, Straight, path_arcs_of, path_arcs, ways_of, MayGo, HasArcsOf}
 
 -- members of lists in turn

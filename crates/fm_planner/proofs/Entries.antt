@@ -9,7 +9,7 @@ use Rattle.fm_records.specs.Options.{when, and_then, passes}
 use Rattle.fm_records.specs.Table.{Table}
 use Rattle.fm_records.specs.Facts.{job_of, live_spec, is_live, open_state, holder_of, holds, load_of, spare_of, request_of, held_tasks}
 use Rattle.fm_net.specs.Network.{is_held, room_arc, place_arc}
-use Rattle.fm_net.specs.laws.NetworkLaws.{came_from, mapped_from}
+use Rattle.fm_net.proofs.NetworkLaws.{came_from, mapped_from}
 use Rattle.fm_tally.specs.declared.tally.LiveTask.{LiveTask}
 use Rattle.fm_tally.specs.declared.tally.OpenMachine.{OpenMachine}
 use Rattle.fm_tally.specs.Tallies.{has_any, task_at, open_machine_at}

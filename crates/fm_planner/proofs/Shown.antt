@@ -8,13 +8,13 @@ use Rattle.fm_records.specs.declared.records.JobReg.{JobReg}
 use Rattle.fm_records.specs.declared.records.MachineReg.{MachineReg}
 use Rattle.fm_records.specs.Options.{or_else, passes, and_then, when}
 use Rattle.fm_records.specs.Ranges.{CanBe}
-use Rattle.fm_records.specs.laws.LookupLaws.{both_true}
+use Rattle.fm_records.proofs.LookupLaws.{both_true}
 use Rattle.fm_records.specs.Table.{Table}
 use Rattle.fm_records.specs.Facts.{job_of, live_spec, is_live, open_state, holder_of, holds, load_of}
-use Rattle.fm_net.specs.laws.ListLaws.{entry_member}
+use Rattle.fm_net.proofs.ListLaws.{entry_member}
 use Rattle.fm_net.specs.declared.node.Node.TheVariants.{Unscheduled, Request, Machine, Task}
 use Rattle.fm_net.specs.Network.{is_node, is_held, is_live_of, waits_for, room_arc, preferred_arc, arc_of}
-use Rattle.fm_net.specs.laws.NetworkLaws.{passes_some, came_from, mapped_from, room_from}
+use Rattle.fm_net.proofs.NetworkLaws.{passes_some, came_from, mapped_from, room_from}
 use Rattle.fm_certificate.proofs.Members.{member_lookup}
 use Rattle.std.specs.Cmp.{nat_cmp_total}
 use Rattle.fm_tally.specs.declared.tally.LiveTask.{LiveTask}

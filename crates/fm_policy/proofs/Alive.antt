@@ -6,8 +6,8 @@ use Rattle.fm_records.specs.Options.{passes}
 use Rattle.fm_records.specs.Ranges.{CanBe}
 use Rattle.fm_records.specs.Table.{Table}
 use Rattle.fm_records.specs.Facts.{live_spec, holder_of, is_live}
-use Rattle.fm_net.specs.laws.BoundLaws.{spec_ranges}
-use Rattle.fm_net.specs.laws.NetworkLaws.{mapped_from}
+use Rattle.fm_net.proofs.BoundLaws.{spec_ranges}
+use Rattle.fm_net.proofs.NetworkLaws.{mapped_from}
 use Rattle.fm_policy.specs.declared.node_facts.TaskFacts.{TaskFacts}
 use Rattle.fm_policy.specs.NodeFacts.{task_facts}
 use Rattle.fm_policy.specs.declared.live_task.LiveTask.{LiveTask}

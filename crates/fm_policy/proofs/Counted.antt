@@ -17,7 +17,7 @@ use Rattle.fm_net.specs.declared.node.Node.TheVariants.{Unscheduled, Request}
 use Rattle.fm_net.specs.Network.{is_node, is_live_of, waits_for, live_tasks}
 use Rattle.fm_policy.specs.declared.live_task.LiveTask.{LiveTask}
 use Rattle.fm_policy.specs.inner.LiveTasks.{live_task, all_live, waiting_request}
-use Rattle.fm_net.specs.laws.NetworkLaws.{passes_some, only_if_some}
+use Rattle.fm_net.proofs.NetworkLaws.{passes_some, only_if_some}
 use Rattle.fm_policy.proofs.Parts.{spec_tested}
 use Rattle.fm_policy.proofs.Finished.{some_found, and_left, and_right}
 use Rattle.fm_policy.proofs.Listed.{HasKey, listed}

@@ -16,8 +16,8 @@ use Rattle.fm_lattice.specs.Joins.{max_join}
 use Rattle.fm_records.specs.Orders.{job_cmp, attempt_cmp}
 use Rattle.fm_records.specs.laws.OrderLaws.{same_attempt}
 use Rattle.fm_records.specs.Joined.{task_join, machine_join, spots_join, table_join}
-use Rattle.fm_records.specs.laws.JoinedLaws.{join_can_be}
-use Rattle.fm_net.specs.laws.ListLaws.{same_rising}
+use Rattle.fm_records.proofs.JoinedLaws.{join_can_be}
+use Rattle.fm_net.proofs.ListLaws.{same_rising}
 use Rattle.fm_policy.specs.Changes.{Keys, changed_keys, joined_keys, is_nil, has_no_keys}
 use Rattle.fm_policy.proofs.Named.{has, has_rising, again, swapped, rises_said}
 

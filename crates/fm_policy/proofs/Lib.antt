@@ -14,3 +14,7 @@ mod Preferred
 mod Examples
 pub mod Walked
 mod Keys
+pub mod ChangeLaws
+pub mod FactsLaws
+pub mod KeepingLaws
+pub mod RoomLaws

@@ -10,7 +10,7 @@ use Rattle.fm_lattice.specs.Chains.{by_order, by_cases, nat_same}
 use Rattle.fm_records.specs.Sets.{insert_once, rising}
 use Rattle.fm_records.specs.TableLaws.{IsBelowAll, Rises, rises_rising}
 use Rattle.std.specs.Cmp.{nat_cmp_total}
-use Rattle.fm_net.specs.laws.ListLaws.{same_rising}
+use Rattle.fm_net.proofs.ListLaws.{same_rising}
 
 abbrev pub has : List ℕ → ℕ → Bool
 has xs q = list_any (λ x. is_eq (nat_cmp q x)) xs

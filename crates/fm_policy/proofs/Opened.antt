@@ -8,7 +8,7 @@ use Rattle.fm_records.specs.Table.{Table}
 use Rattle.fm_records.specs.Facts.{job_of, spec_of, live_spec, open_state, is_open}
 use Rattle.fm_net.specs.declared.node.Node.TheVariants.{Sink, Request, Machine}
 use Rattle.fm_net.specs.Network.{arc_of}
-use Rattle.fm_net.specs.laws.NetworkLaws.{passes_some, only_if_some, where_true, ends_of}
+use Rattle.fm_net.proofs.NetworkLaws.{passes_some, only_if_some, where_true, ends_of}
 use Rattle.fm_policy.specs.declared.node_facts.MachineFacts.{MachineFacts}
 use Rattle.fm_policy.specs.NodeFacts.{machine_facts}
 use Rattle.fm_policy.specs.inner.Surveys.{open_machine}

@@ -13,7 +13,7 @@ use Rattle.fm_records.specs.Options.{and_then, only_if, passes}
 use Rattle.fm_records.specs.Table.{Table, TaskValue}
 use Rattle.fm_records.specs.Facts.{live_spec, spec_of, is_present, won_spot, holder_of, holds, held_tasks, request_of}
 use Rattle.fm_net.specs.Network.{is_live_of, live_tasks}
-use Rattle.fm_net.specs.laws.NetworkLaws.{only_if_some}
+use Rattle.fm_net.proofs.NetworkLaws.{only_if_some}
 use Rattle.fm_policy.specs.declared.live_task.LiveTask.{LiveTask}
 use Rattle.fm_policy.specs.inner.LiveTasks.{live_task, all_live}
 use Rattle.fm_policy.specs.inner.Tallying.{count_of_job, request_on}

@@ -5,4 +5,3 @@ pub mod Rooms
 pub mod Rules
 pub mod NodeFacts
 pub mod inner
-pub mod laws

@@ -1,14 +1,2 @@
 pub mod PreferenceLaws
 pub mod OrderLaws
-pub mod SetLaws
-pub mod GreatestLaws
-pub mod LookupLaws
-pub mod KnowLaws
-pub mod SetExtensionality
-pub mod UnionLaws
-pub mod SpelledLaws
-pub mod RangeLaws
-pub mod FactLaws
-pub mod SetFactLaws
-pub mod JoinedLaws
-pub mod IdLaws

@@ -11,7 +11,7 @@ use Rattle.std.proofs.lemmas.Cmp.{tied_itself}
 use Rattle.fm_lattice.specs.Maps.{IsBelow, IsRising}
 use Rattle.fm_records.specs.Options.{when, and_then, passes}
 use Rattle.fm_records.specs.Sets.{IsMember}
-use Rattle.fm_records.specs.laws.LookupLaws.{when_is_true, both_true}
+use Rattle.fm_records.proofs.LookupLaws.{when_is_true, both_true}
 use Rattle.fm_records.specs.Table.{Table}
 use Rattle.fm_records.specs.Facts.{live_spec, holds}
 use Rattle.fm_net.specs.declared.node.Node.{Node}
@@ -20,9 +20,9 @@ use Rattle.fm_net.specs.Nodes.{ends_cmp}
 use Rattle.fm_net.specs.laws.NodeOrder.{ends_total, ends_exact}
 use Rattle.fm_net.specs.Net.{Net, arc_at}
 use Rattle.fm_net.specs.Network.{is_held, waits_for, preferred_arc, arc_of, net_of}
-use Rattle.fm_net.specs.laws.NetworkLaws.{came_from, is_network_of}
-use Rattle.fm_net.specs.laws.ListLaws.{any_of, some_member, entry_member}
-use Rattle.fm_net.specs.laws.EditLaws.{member_found}
+use Rattle.fm_net.proofs.NetworkLaws.{came_from, is_network_of}
+use Rattle.fm_net.proofs.ListLaws.{any_of, some_member, entry_member}
+use Rattle.fm_net.proofs.EditLaws.{member_found}
 use Rattle.fm_round.specs.declared.from_units.RequestUnit.{RequestUnit}
 use Rattle.fm_round.specs.PlanOfFlow.{ArcUnits, Wait, units_over, wait_in, seats_in, unscheduled_in, waits, seats, place_at, place_of, place_in_plan, preempt_of, plan_of_flow}
 use Rattle.fm_round.specs.inner.PlanArcs.{waits_by, has_request, is_asked, waiting_after, is_asked_after}

@@ -7,7 +7,7 @@ use Rattle.fm_lattice.specs.Maps.{lookup}
 use Rattle.fm_records.specs.declared.records.MachineReg.{MachineReg}
 use Rattle.fm_records.specs.Table.{Table, TaskValue}
 use Rattle.fm_records.specs.Facts.{request_of, open_state, holds, held_tasks, load_of, spare_of}
-use Rattle.fm_net.specs.laws.NetworkLaws.{held_ends, mapped_from, passes_some}
+use Rattle.fm_net.proofs.NetworkLaws.{held_ends, mapped_from, passes_some}
 use Rattle.fm_tally.specs.declared.tally.OpenMachine.{OpenMachine}
 use Rattle.fm_tally.specs.declared.tally.Tally.{Tally}
 use Rattle.fm_tally.specs.Tallies.{TallyIsFor}

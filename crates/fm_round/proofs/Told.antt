@@ -5,9 +5,9 @@ use Rattle.fm_records.specs.Table.{Table}
 use Rattle.fm_records.specs.Know.{table_of}
 use Rattle.fm_records.specs.Joined.{table_join}
 use Rattle.fm_records.specs.OpsOfTable.{ops, IsTable}
-use Rattle.fm_records.specs.laws.UnionLaws.{know_append}
-use Rattle.fm_records.specs.laws.SpelledLaws.{know_ops}
-use Rattle.fm_records.specs.laws.RangeLaws.{know_table}
+use Rattle.fm_records.proofs.UnionLaws.{know_append}
+use Rattle.fm_records.proofs.SpelledLaws.{know_ops}
+use Rattle.fm_records.proofs.RangeLaws.{know_table}
 use Rattle.fm_round.specs.Admission.{told}
 
 pub told_is : (k : Table) (new : List Op) → table_join k (table_of new) ≡ told k new

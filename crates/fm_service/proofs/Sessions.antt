@@ -6,7 +6,7 @@ use Rattle.fm_records.specs.declared.refusal.Refusal.{Refusal}
 use Rattle.fm_records.specs.declared.refusal.Refusal.TheVariants.{BadScript}
 use Rattle.fm_records.specs.Ranges.{CanBe}
 use Rattle.fm_records.specs.OpsOfTable.{ops}
-use Rattle.fm_records.specs.laws.SpelledLaws.{know_ops}
+use Rattle.fm_records.proofs.SpelledLaws.{know_ops}
 use Rattle.fm_delta.specs.declared.packet.Packet.{Packet}
 use Rattle.fm_coord.specs.Replays.{seen_packet}
 use Rattle.fm_world.specs.declared.step.Act.{Act as WorldAct}

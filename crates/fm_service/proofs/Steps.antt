@@ -19,7 +19,7 @@ use Rattle.fm_coord.specs.Events.{Replica, packet_of}
 use Rattle.fm_coord.specs.Events as event
 use Rattle.fm_coord.specs.Replays.{seen_packet}
 use Rattle.fm_coord.specs.States.{State, bounds, Represents}
-use Rattle.fm_coord.specs.laws.StepLaws.{same_bounds}
+use Rattle.fm_coord.proofs.StepLaws.{same_bounds}
 use Rattle.fm_world.specs.declared.step.Act.{Act}
 use Rattle.fm_world.specs.declared.step.Act.TheVariants as act
 use Rattle.fm_world.specs.Worlds.{WorldOfSets, with_number, event_asked, cause_at, cause_of, refusal_of}

@@ -6,12 +6,12 @@ use Rattle.std.specs.Ordering.{nat_cmp}
 use Rattle.std.proofs.lemmas.List.Sums.{sum_by-cons}
 use Rattle.fm_lattice.specs.Maps.{lookup, IsRising}
 use Rattle.fm_records.specs.declared.records.SpecReg.{SpecReg}
-use Rattle.fm_records.specs.laws.LookupLaws.{both_true}
+use Rattle.fm_records.proofs.LookupLaws.{both_true}
 use Rattle.fm_records.specs.Know.{initial_progress}
 use Rattle.fm_records.specs.Options.{and_then, only_if, or_else, passes, when}
 use Rattle.fm_records.specs.Table.{Table, TaskValue}
 use Rattle.fm_records.specs.Facts.{request_of, holds, held_tasks, spec_of, live_spec, job_stands, progress_of, is_done, is_present, won_spot}
-use Rattle.fm_net.specs.laws.NetworkLaws.{only_if_some, came_from, mapped_from}
+use Rattle.fm_net.proofs.NetworkLaws.{only_if_some, came_from, mapped_from}
 use Rattle.fm_tally.specs.declared.holdings.Holdings.{Holdings}
 use Rattle.fm_tally.specs.declared.unfinished.UnfinishedTask.{UnfinishedTask}
 use Rattle.fm_tally.specs.inner.Holdings.{requests_in, tasks_in, AreHoldings}

@@ -2,12 +2,12 @@
 use Rattle.std.proofs.Common.{◌≡◌, ap, sym, refl, ℕ, true, cond, not, Some, None, option_map}
 use Rattle.fm_records.specs.declared.records.SpecReg.{SpecReg}
 use Rattle.fm_records.specs.declared.records.JobReg.{JobReg}
-use Rattle.fm_records.specs.laws.LookupLaws.{both_true}
+use Rattle.fm_records.proofs.LookupLaws.{both_true}
 use Rattle.fm_records.specs.Options.{and_then, only_if, passes}
 use Rattle.fm_records.specs.Table.{Table}
 use Rattle.fm_records.specs.Facts.{job_of, spec_of, live_spec, is_present, won_spot, holder_of}
 use Rattle.fm_net.specs.Network.{is_held}
-use Rattle.fm_net.specs.laws.NetworkLaws.{passes_some, only_if_some}
+use Rattle.fm_net.proofs.NetworkLaws.{passes_some, only_if_some}
 use Rattle.fm_tally.specs.declared.tally.LiveTask.{LiveTask}
 use Rattle.fm_tally.specs.Tallies.{has_any, task_at}
 

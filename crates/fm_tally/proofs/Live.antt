@@ -14,7 +14,7 @@ use Rattle.fm_records.specs.Know.{initial_progress}
 use Rattle.fm_records.specs.Table.{Table, TaskValue, MachineValue}
 use Rattle.fm_records.specs.Facts.{is_done, job_of, job_stands, progress_of, is_present, winner_of, won_spot, holder_of, holds, request_of, held_tasks, open_state, load_of, used_of}
 use Rattle.fm_know.specs.inner.Records.{open_state_in}
-use Rattle.fm_net.specs.laws.NetworkLaws.{came_from, mapped_from}
+use Rattle.fm_net.proofs.NetworkLaws.{came_from, mapped_from}
 use Rattle.fm_tally.specs.declared.holdings.Holdings.{Holdings}
 use Rattle.fm_tally.specs.declared.tally.LiveTask.{LiveTask}
 use Rattle.fm_tally.specs.declared.tally.OpenMachine.{OpenMachine}

@@ -6,7 +6,7 @@ use borrow.Author.Differences.{up, down}
 use Rattle.std.proofs.Math.Nat.{add-mul, mul-le-mul_right, one-mul, mul-zero, mul_comm}
 use Rattle.std.proofs.lemmas.List.Sums.{sum_by-cons}
 use Rattle.fm_records.specs.Sets.{IsMember}
-use Rattle.fm_records.specs.laws.RangeLaws.{inside}
+use Rattle.fm_records.proofs.RangeLaws.{inside}
 use Rattle.fm_net.specs.declared.node.Node.{Node}
 use Rattle.fm_net.specs.declared.node.Node.TheVariants.{Request, Machine, Task}
 use Rattle.fm_net.specs.Nodes.{ends_cmp}

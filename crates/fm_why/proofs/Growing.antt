@@ -19,14 +19,14 @@ use Rattle.fm_records.specs.Options.{when, and_then, or_else, only_if, passes}
 use Rattle.fm_records.specs.Orders.{machine_cmp, report_cmp}
 use Rattle.fm_records.specs.Table.{Table, MachineValue}
 use Rattle.fm_records.specs.Know.{table_of, state_in, machine, machine_at, incarnation, state_at}
-use Rattle.fm_records.specs.laws.LookupLaws.{lookup_machine, when_is_true}
-use Rattle.fm_records.specs.laws.RangeLaws.{know_table, inside, when_value}
+use Rattle.fm_records.proofs.LookupLaws.{lookup_machine, when_is_true}
+use Rattle.fm_records.proofs.RangeLaws.{know_table, inside, when_value}
 use Rattle.fm_records.specs.OpsOfTable.{IsTable}
 use Rattle.fm_records.specs.Joined.{machine_join}
 use Rattle.fm_records.specs.Facts.{machine_state, incarnation_of, used_of, open_state, is_open, is_present, is_live, won_spot, holder_of, request_of, load_of, spare_of, has_room}
 use Rattle.fm_know.specs.Mutators.{next_version, state_version, next_machine_op}
 use Rattle.fm_know.proofs.AfterTelling.{state_told, incarnation_told}
-use Rattle.fm_net.specs.laws.NetworkLaws.{came_from, mapped_from, only_if_some}
+use Rattle.fm_net.proofs.NetworkLaws.{came_from, mapped_from, only_if_some}
 use Rattle.fm_why.specs.declared.reasons.Change.{Change}
 use Rattle.fm_why.specs.declared.reasons.Change.TheVariants.{Bandwidth}
 use Rattle.fm_why.specs.Remedies.{more_slots, more_bandwidth, change_op, with_op}

@@ -21,10 +21,10 @@ use Rattle.fm_records.specs.Table.{Table, MachineValue}
 use Rattle.fm_records.specs.Facts.{job_of, live_spec, holder_of, has_room, spare_of, open_state, load_of}
 use Rattle.fm_net.specs.declared.node.Node.{Node}
 use Rattle.fm_net.specs.declared.node.Node.TheVariants.{Sink, Unscheduled, Request, Machine, Task}
-use Rattle.fm_net.specs.laws.ListLaws.{member_passing, member_mapped, entry_member}
+use Rattle.fm_net.proofs.ListLaws.{member_passing, member_mapped, entry_member}
 use Rattle.fm_net.specs.Net.{Net, CanBeNet, IsArcKind, has_node, arc_at}
 use Rattle.fm_net.specs.Network.{is_held, is_live_of, arc_of, net_of}
-use Rattle.fm_net.specs.laws.NetworkLaws.{where_true, passes_some, came_from, open_entry, is_network_of}
+use Rattle.fm_net.proofs.NetworkLaws.{where_true, passes_some, came_from, open_entry, is_network_of}
 use Rattle.fm_net.specs.laws.NodeOrder.{ends_exact, ends_total}
 use Rattle.fm_net.specs.Nodes.{ends_cmp}
 use Rattle.fm_net.specs.NetworkEquality.{same_node, node_Decides}

@@ -6,15 +6,15 @@ use Rattle.std.proofs.lemmas.Bool.{eqb-true}
 use Rattle.fm_records.specs.declared.records.SpecReg.{SpecReg}
 use Rattle.fm_records.specs.declared.records.MachineReg.{MachineReg}
 use Rattle.fm_records.specs.Options.{when, and_then, passes}
-use Rattle.fm_records.specs.laws.LookupLaws.{when_is_true, both_true}
-use Rattle.fm_records.specs.laws.RangeLaws.{inside}
+use Rattle.fm_records.proofs.LookupLaws.{when_is_true, both_true}
+use Rattle.fm_records.proofs.RangeLaws.{inside}
 use Rattle.fm_records.specs.Table.{Table}
 use Rattle.fm_records.specs.Facts.{live_spec, holder_of, holds, is_open, open_state, spare_of, load_of, has_room}
 use Rattle.fm_net.specs.declared.node.Node.{Node}
 use Rattle.fm_net.specs.declared.node.Node.TheVariants.{Request, Machine, Task}
 use Rattle.fm_net.specs.Net.{arc_at}
 use Rattle.fm_net.specs.Network.{is_held, waits_for, is_node, room_arc, place_arc, preferred_arc, arc_of, net_of}
-use Rattle.fm_net.specs.laws.NetworkLaws.{where_true, Room, room_from, preferred_from, ends_of, is_network_of}
+use Rattle.fm_net.proofs.NetworkLaws.{where_true, Room, room_from, preferred_from, ends_of, is_network_of}
 use Rattle.fm_certificate.specs.Flows.{Units}
 use Rattle.fm_why.specs.Running.{RunsOn}
 use Rattle.fm_why.specs.MachineOptions.{lesser, has_way, machine_ways, roomy, IsOnlyRequest}

@@ -13,7 +13,7 @@ use Rattle.fm_net.specs.declared.node.Node.{Node}
 use Rattle.fm_net.specs.declared.node.Node.TheVariants.{Sink, Unscheduled, Request, Machine, Task}
 use Rattle.fm_net.specs.Nodes.{node_cmp, ends_cmp}
 use Rattle.fm_net.specs.laws.NodeOrder.{node_exact, node_total, ends_exact, ends_total}
-use Rattle.fm_net.specs.laws.ListLaws.{member_has}
+use Rattle.fm_net.proofs.ListLaws.{member_has}
 use Rattle.fm_net.specs.Net.{Net, has_node}
 use Rattle.fm_net.specs.NetworkEquality.{same_node}
 use Rattle.fm_certificate.specs.inner.Checks.{PricedArc, sends}

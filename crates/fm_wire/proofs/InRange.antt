@@ -19,8 +19,8 @@ use Rattle.fm_records.specs.Ops.{op_fault}
 use Rattle.fm_records.specs.Table.{TaskValue, MachineValue}
 use Rattle.fm_records.specs.OpsOfTable.{job_op, spec_op, progress_op, machine_op, report_op, propose_op, task_ops, machine_ops, entry_ops, has_part}
 use Rattle.fm_records.specs.Ranges.{is_id, is_count, is_attempt, fits_row, fields_fit, in_range, all_in_range}
-use Rattle.fm_records.specs.laws.LookupLaws.{both_true}
-use Rattle.fm_records.specs.laws.RangeLaws.{all_pass, both_pass}
+use Rattle.fm_records.proofs.LookupLaws.{both_true}
+use Rattle.fm_records.proofs.RangeLaws.{all_pass, both_pass}
 use Rattle.fm_wire.specs.Formats.{◌⨾◌, part}
 use Rattle.fm_delta.specs.declared.packet.Packet.{Packet}
 use Rattle.fm_wire.specs.declared.version.Version.{Version}

@@ -12,7 +12,7 @@ use Rattle.fm_lattice.specs.laws.MapLaws.{below_trans}
 use Rattle.std.specs.Prelude.{nat_le, ◌&&◌}
 use Rattle.std.proofs.lemmas.Bool.{ltb-false, le-ltb, leb-true, le-leb}
 use Rattle.std.proofs.lemmas.List.{take_at, drop_at, take-append-drop, length-append, length-take}
-use Rattle.fm_records.specs.laws.LookupLaws.{both_true}
+use Rattle.fm_records.proofs.LookupLaws.{both_true}
 use Rattle.fm_wire.specs.Formats.{◌>>=◌, Format, bytes_of, number_at, number_field, constant, leading, ◌⨾◌, seen_as, part, by_tag, comes_after, key_at, record_at, records_at, with_count, records}
 use Rattle.fm_wire.proofs.Binds.{bind_ok, guard_ok, ok_is}
 use Rattle.fm_wire.proofs.Walks.{less_is}

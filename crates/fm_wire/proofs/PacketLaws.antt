@@ -12,8 +12,8 @@ use Rattle.fm_records.specs.declared.records.Spot.{Spot}
 use Rattle.fm_records.specs.Orders.{attempt_cmp}
 use Rattle.fm_records.specs.OpsOfTable.{job_op, job_ops, task_ops, machine_ops, entry_ops, IsFull}
 use Rattle.fm_records.specs.Ranges.{in_range, all_in_range, CanBe}
-use Rattle.fm_records.specs.laws.LookupLaws.{both_true}
-use Rattle.fm_records.specs.laws.RangeLaws.{all_pass, both_pass}
+use Rattle.fm_records.proofs.LookupLaws.{both_true}
+use Rattle.fm_records.proofs.RangeLaws.{all_pass, both_pass}
 use Rattle.fm_delta.specs.declared.packet.Packet.{Packet}
 use Rattle.fm_wire.specs.Formats.{◌⨾◌, fault_place}
 use Rattle.fm_wire.specs.declared.version.Version.{Version}

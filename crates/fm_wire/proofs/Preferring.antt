@@ -14,7 +14,7 @@ use Rattle.fm_records.specs.declared.records.SpecReg.{SpecReg}
 use Rattle.fm_records.specs.Preferences.{rises_above, machines_rise}
 use Rattle.fm_records.specs.Ops.{is_price, is_preference}
 use Rattle.fm_records.specs.Ranges.{is_id, fits_row}
-use Rattle.fm_records.specs.laws.LookupLaws.{both_true}
+use Rattle.fm_records.proofs.LookupLaws.{both_true}
 use Rattle.fm_wire.specs.declared.version.Version.{Version}
 use Rattle.fm_wire.specs.declared.version.Version.TheVariants.{Fdg1, Fdg2}
 use Rattle.fm_wire.specs.Grammar.{id, price_field, preferences, PrefersNone}

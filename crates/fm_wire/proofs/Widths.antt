@@ -5,7 +5,7 @@ use Rattle.std.proofs.Math.Nat.{div-div-eq-div-mul}
 use Rattle.std.proofs.lemmas.Bool.{cases_lt}
 use Rattle.std.proofs.lemmas.List.{take-append-drop, length-take, length-drop, get_or-drop, get_or-take, get_or_past}
 use Rattle.std.proofs.lemmas.Nat.{be_bytes_4, be_bytes_8, from_be_bytes-to_be_bytes_4, from_be_bytes-to_be_bytes_8, div-mul-add}
-use Rattle.fm_records.specs.laws.IdLaws.{from_bytes}
+use Rattle.fm_records.proofs.IdLaws.{from_bytes}
 use Rattle.fm_wire.specs.Formats.{bytes_of}
 
 abbrev pub IsBytes : List ℕ → Type 0

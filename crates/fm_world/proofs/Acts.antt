@@ -19,7 +19,7 @@ use Rattle.fm_coord.specs.Causes.{cause, refusal_for}
 use Rattle.fm_coord.specs.Replays.{seen_packet, call_of, reply_of}
 use Rattle.fm_coord.specs.States.{State, bounds, Represents, IsEventAt}
 use Rattle.fm_coord.specs.Outputs.{answer_to}
-use Rattle.fm_coord.specs.laws.StepLaws.{no_fault, same_bounds, packet_is}
+use Rattle.fm_coord.proofs.StepLaws.{no_fault, same_bounds, packet_is}
 use Rattle.fm_world.specs.declared.step.Act.{Act}
 use Rattle.fm_world.specs.declared.step.Act.TheVariants as act
 use Rattle.fm_world.specs.Worlds.{spelled_out, event_asked, after_maybe, cut_by, cause_here}

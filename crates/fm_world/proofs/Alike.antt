@@ -8,10 +8,10 @@ use Rattle.fm_records.specs.declared.ops.Op.{Op}
 use Rattle.fm_records.specs.Sets.{IsMember}
 use Rattle.fm_records.specs.Know.{table_of}
 use Rattle.fm_records.specs.OpsOfTable.{ops}
-use Rattle.fm_records.specs.laws.SpelledLaws.{know_ops}
-use Rattle.fm_records.specs.laws.RangeLaws.{know_table}
+use Rattle.fm_records.proofs.SpelledLaws.{know_ops}
+use Rattle.fm_records.proofs.RangeLaws.{know_table}
 use Rattle.fm_records.specs.Joined.{table_join}
-use Rattle.fm_records.specs.laws.UnionLaws.{know_append}
+use Rattle.fm_records.proofs.UnionLaws.{know_append}
 use Rattle.fm_delta.specs.declared.packet.Packet.{Packet}
 use Rattle.fm_delta.specs.Packets.{same_packet}
 use Rattle.fm_delta.specs.laws.PacketLaws.{packet_Decides}

@@ -5,7 +5,7 @@ use Rattle.std.proofs.lemmas.Bool.{eqb-false}
 use Rattle.std.proofs.lemmas.List.Quantifiers.{position-Some}
 use Rattle.std.proofs.lemmas.List.Sums.{fails_before_first}
 use Rattle.fm_records.specs.Sets.{IsMember}
-use Rattle.fm_coord.specs.laws.StepLaws.{test_failed}
+use Rattle.fm_coord.proofs.StepLaws.{test_failed}
 use Rattle.fm_coord.specs.States.{WithKeeper}
 use Rattle.fm_coord.specs.Numbers.{AreDistinct}
 use Rattle.fm_world.specs.Represents.{number_of}

@@ -3,7 +3,7 @@ use Rattle.std.proofs.Common.{◌≡◌, ◌<◌, ◌≤◌, ◌==◌, ℕ, zero
 use Rattle.std.specs.List.{position_or_len}
 use Rattle.std.proofs.lemmas.List.Quantifiers.{position-Some}
 use Rattle.std.proofs.lemmas.List.Sums.{fails_before_first}
-use Rattle.fm_coord.specs.laws.StepLaws.{test_failed}
+use Rattle.fm_coord.proofs.StepLaws.{test_failed}
 use Rattle.fm_coord.specs.Events.{Replica}
 use Rattle.fm_coord.specs.States.{State, WithKeeper, Represents}
 use Rattle.fm_world.specs.Worlds.{with_number, changed_at}

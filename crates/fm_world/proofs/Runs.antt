@@ -6,8 +6,8 @@ use Rattle.std.specs.Io.KnownBytes.{Appends}
 use Rattle.fm_records.specs.declared.refusal.Refusal.{Refusal}
 use Rattle.fm_records.specs.Know.{table_of}
 use Rattle.fm_records.specs.Facts.{winner_of}
-use Rattle.fm_records.specs.laws.FactLaws.{winner_is}
-use Rattle.fm_records.specs.laws.SetExtensionality.{know_same}
+use Rattle.fm_records.proofs.FactLaws.{winner_is}
+use Rattle.fm_records.proofs.SetExtensionality.{know_same}
 use Rattle.fm_net.specs.Network.{net_of}
 use Rattle.fm_dimacs.specs.Text.{dump_text}
 use Rattle.fm_coord.specs.Events.{Replica}

@@ -6,7 +6,7 @@ use Rattle.fm_records.specs.Table.{Table}
 use Rattle.fm_records.specs.Know.{table_of}
 use Rattle.fm_records.specs.OpsOfTable.{ops}
 use Rattle.fm_records.specs.Joined.{table_join}
-use Rattle.fm_records.specs.laws.UnionLaws.{know_append}
+use Rattle.fm_records.proofs.UnionLaws.{know_append}
 use Rattle.fm_delta.specs.declared.packet.Packet.{Packet}
 use Rattle.fm_coord.specs.declared.entry.Call.TheVariants as call
 use Rattle.fm_coord.specs.Events.{Sent, Replica, happens}

@@ -4,7 +4,7 @@ use Rattle.std.specs.Bool.{Decides}
 use Rattle.std.specs.Cmp.{IsPartialEquivalence}
 use Rattle.std.proofs.Common.{ap, eq-eqb}
 use Rattle.std.proofs.lemmas.Bool.{eqb-true}
-use Rattle.fm_records.specs.laws.LookupLaws.{both_true}
+use Rattle.fm_records.proofs.LookupLaws.{both_true}
 use Rattle.fm_records.specs.RecordEquality.{equivalence}
 use Rattle.fm_know.specs.KnowledgeEquality.{same_table, table_Decides}
 use Rattle.fm_delta.specs.declared.packet.Packet.{Packet}

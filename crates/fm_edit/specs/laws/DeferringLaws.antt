@@ -3,10 +3,10 @@ use Rattle.std.proofs.Common.{◌≡◌, ℕ, Bool, true, List, [], ◌∷◌, O
 use Rattle.std.specs.Prelude.{◌&&◌, IsTrue}
 use Rattle.fm_records.specs.Table.{Table}
 use Rattle.fm_records.specs.Ranges.{CanBe}
-use Rattle.fm_records.specs.laws.LookupLaws.{both_true}
+use Rattle.fm_records.proofs.LookupLaws.{both_true}
 use Rattle.fm_net.specs.Net.{Net}
 use Rattle.fm_policy.specs.Changes.{Keys, no_keys, is_nil, has_no_keys}
-use Rattle.fm_policy.specs.laws.KeepingLaws.{took_none}
+use Rattle.fm_policy.proofs.KeepingLaws.{took_none}
 use Rattle.fm_edit.specs.declared.deferred.Deferred.{Deferred}
 use Rattle.fm_edit.specs.declared.editor.Editor.{Editor}
 use Rattle.fm_edit.specs.EditorModel.{is_fresh_editor, IsFor}

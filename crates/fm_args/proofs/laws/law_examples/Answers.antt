@@ -1,6 +1,6 @@
 use Rattle.std.proofs.Common.{refl, ap, Some, None}
 use Rattle.std.specs.Option.{option_map_or}
-use Rattle.fm_records.specs.laws.IdLaws.{text_read}
+use Rattle.fm_records.proofs.IdLaws.{text_read}
 use Rattle.fm_args.specs.Invocation.{run, why, wrong}
 use Rattle.clap.proofs.OnLiterals.{clap_on_literals}
 use Rattle.fm_args.proofs.laws.law_examples.Goals as goal

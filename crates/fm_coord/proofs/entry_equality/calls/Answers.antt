@@ -1,6 +1,6 @@
 use Rattle.std.proofs.Common.{◌≡◌, sym, subst, rules}
 use Rattle.std.specs.Bool.{Decides}
-use Rattle.fm_coord.specs.laws.StateEqualityLaws.{same_call, call_Decides}
+use Rattle.fm_coord.proofs.StateEqualityLaws.{same_call, call_Decides}
 use Rattle.fm_coord.proofs.entry_equality.calls.Goals as goal
 
 pub returns : goal.returns

@@ -1,6 +1,6 @@
 use Rattle.std.proofs.Common.{◌≡◌, sym, subst, rules}
 use Rattle.std.specs.Bool.{Decides}
-use Rattle.fm_coord.specs.laws.StateEqualityLaws.{same_entry, entry_Decides}
+use Rattle.fm_coord.proofs.StateEqualityLaws.{same_entry, entry_Decides}
 use Rattle.fm_coord.proofs.entry_equality.entries.Goals as goal
 
 pub returns : goal.returns

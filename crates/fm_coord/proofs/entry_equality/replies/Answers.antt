@@ -1,6 +1,6 @@
 use Rattle.std.proofs.Common.{◌≡◌, sym, subst, rules}
 use Rattle.std.specs.Bool.{Decides}
-use Rattle.fm_coord.specs.laws.StateEqualityLaws.{same_reply, reply_Decides}
+use Rattle.fm_coord.proofs.StateEqualityLaws.{same_reply, reply_Decides}
 use Rattle.fm_coord.proofs.entry_equality.replies.Goals as goal
 
 pub returns : goal.returns

@@ -1,4 +1,4 @@
-use Rattle.fm_coord.specs.laws.StepLaws.{same_bounds, stands_after}
+use Rattle.fm_coord.proofs.StepLaws.{same_bounds, stands_after}
 use Rattle.fm_coord.proofs.laws.law_step.Goals as goal
 
 pub returns-clause-causes : goal.returns-clause-causes

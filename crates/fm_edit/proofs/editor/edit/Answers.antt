@@ -1,6 +1,6 @@
 use Rattle.std.proofs.Common.{◌≡◌, ◌∙◌, ap, sym, subst}
 use Rattle.fm_net.specs.Edits.{after_edits, change, MayEditAll}
-use Rattle.fm_net.specs.laws.EditLaws.{change_may, change_gives}
+use Rattle.fm_net.proofs.EditLaws.{change_may, change_gives}
 use Rattle.fm_net.specs.Net.{Net}
 use Rattle.fm_net.specs.Network.{net_of}
 use Rattle.fm_edit.proofs.Edited.{now_can_be, edits_are}

@@ -1,4 +1,4 @@
-use Rattle.fm_edit.specs.laws.LocalLaws.{load_same, spare_same}
+use Rattle.fm_edit.proofs.LocalLaws.{load_same, spare_same}
 use Rattle.fm_edit.proofs.laws.law_clean_machine.Goals as goal
 
 pub returns-clause-load : goal.returns-clause-load

@@ -1,4 +1,4 @@
-use Rattle.fm_edit.specs.laws.LocalLaws.{live_same, holder_same}
+use Rattle.fm_edit.proofs.LocalLaws.{live_same, holder_same}
 use Rattle.fm_edit.proofs.laws.law_clean_task.Goals as goal
 
 pub returns-clause-live : goal.returns-clause-live

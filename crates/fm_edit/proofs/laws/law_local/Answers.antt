@@ -1,4 +1,4 @@
-use Rattle.fm_edit.specs.laws.LocalLaws.{node_same, arc_same}
+use Rattle.fm_edit.proofs.LocalLaws.{node_same, arc_same}
 use Rattle.fm_edit.proofs.laws.law_local.Goals as goal
 
 pub returns-clause-nodes : goal.returns-clause-nodes

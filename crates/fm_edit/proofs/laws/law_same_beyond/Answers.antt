@@ -1,4 +1,4 @@
-use Rattle.fm_edit.specs.laws.LocalLaws.{same_beyond}
+use Rattle.fm_edit.proofs.LocalLaws.{same_beyond}
 use Rattle.fm_edit.proofs.laws.law_same_beyond.Goals as goal
 
 pub returns : goal.returns

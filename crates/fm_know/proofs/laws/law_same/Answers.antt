@@ -1,5 +1,5 @@
 use Rattle.std.proofs.Common.{sym, ◌∙◌}
-use Rattle.fm_records.specs.laws.SetExtensionality.{know_same}
+use Rattle.fm_records.proofs.SetExtensionality.{know_same}
 use Rattle.fm_know.proofs.laws.law_same.Goals as goal
 
 pub returns : goal.returns

@@ -1,4 +1,4 @@
-use Rattle.fm_net.specs.laws.BoundLaws.{net_can_be}
+use Rattle.fm_net.proofs.BoundLaws.{net_can_be}
 use Rattle.fm_net.proofs.laws.law_can_be_net.Goals as goal
 
 pub returns : goal.returns

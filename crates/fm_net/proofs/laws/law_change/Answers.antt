@@ -1,4 +1,4 @@
-use Rattle.fm_net.specs.laws.EditLaws.{change_may, change_gives}
+use Rattle.fm_net.proofs.EditLaws.{change_may, change_gives}
 use Rattle.fm_net.proofs.laws.law_change.Goals as goal
 
 pub returns-clause-may : goal.returns-clause-may

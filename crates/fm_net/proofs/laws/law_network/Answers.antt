@@ -1,4 +1,4 @@
-use Rattle.fm_net.specs.laws.NetworkLaws.{network_is}
+use Rattle.fm_net.proofs.NetworkLaws.{network_is}
 use Rattle.fm_net.proofs.laws.law_network.Goals as goal
 
 pub returns : goal.returns

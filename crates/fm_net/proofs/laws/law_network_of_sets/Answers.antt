@@ -1,4 +1,4 @@
-use Rattle.fm_net.specs.laws.SetNetworkLaws.{set_network_is}
+use Rattle.fm_net.proofs.SetNetworkLaws.{set_network_is}
 use Rattle.fm_net.proofs.laws.law_network_of_sets.Goals as goal
 
 pub returns : goal.returns

@@ -1,4 +1,4 @@
-use Rattle.fm_net.specs.laws.TouchedLaws.{touched_is_change}
+use Rattle.fm_net.proofs.TouchedLaws.{touched_is_change}
 use Rattle.fm_net.proofs.laws.law_touched.Goals as goal
 
 pub returns : goal.returns

@@ -1,7 +1,7 @@
 use Rattle.std.proofs.Common.{◌≡◌, ◌∙◌, ◌<◌, ◌^◌, length, sym, ap, subst, arith}
 use Rattle.std.specs.Ordering.{nat_cmp}
 use Rattle.fm_lattice.specs.Maps.{IsRising}
-use Rattle.fm_net.specs.laws.BoundLaws.{net_can_be}
+use Rattle.fm_net.proofs.BoundLaws.{net_can_be}
 use Rattle.fm_round.specs.Schedules.{IsPlanOf}
 use Rattle.fm_paths.specs.Moves.{plan_of_moves}
 use Rattle.fm_search.specs.Claims.{price_of, offer_of}

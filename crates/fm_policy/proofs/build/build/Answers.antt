@@ -1,6 +1,6 @@
 use Rattle.std.proofs.Common.{ℕ, subst, sym}
 use Rattle.fm_net.specs.Network.{IsNetworkOf}
-use Rattle.fm_net.specs.laws.NetworkLaws.{network_is}
+use Rattle.fm_net.proofs.NetworkLaws.{network_is}
 use Rattle.fm_policy.specs.Building.{IsPart}
 use Rattle.fm_policy.proofs.Adds.{adds_then}
 use Rattle.fm_policy.proofs.Covered.{nodes_still, job_still, machine_still, place_still}

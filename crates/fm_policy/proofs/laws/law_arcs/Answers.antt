@@ -1,6 +1,6 @@
 use Rattle.std.proofs.Common.{◌≡◌, ◌∙◌, ◌<◌, ◌^◌, length, ap, subst, rules}
-use Rattle.fm_net.specs.laws.BoundLaws.{net_can_be}
-use Rattle.fm_net.specs.laws.NetworkLaws.{ends_of, is_network_of}
+use Rattle.fm_net.proofs.BoundLaws.{net_can_be}
+use Rattle.fm_net.proofs.NetworkLaws.{ends_of, is_network_of}
 use Rattle.fm_policy.proofs.laws.law_arcs.Goals as goal
 
 pub returns : goal.returns

@@ -1,4 +1,4 @@
-use Rattle.fm_policy.specs.laws.FactsLaws.{there_is, arc_is}
+use Rattle.fm_policy.proofs.FactsLaws.{there_is, arc_is}
 use Rattle.fm_policy.proofs.laws.law_facts.Goals as goal
 
 pub returns-clause-nodes : goal.returns-clause-nodes

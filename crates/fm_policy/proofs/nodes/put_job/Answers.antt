@@ -2,7 +2,7 @@ use Rattle.std.proofs.Common.{◌≡◌, ◌∙◌, true, sym, ap}
 use Rattle.fm_net.specs.declared.node.Node.TheVariants.{Unscheduled}
 use Rattle.fm_policy.specs.declared.node_facts.NodeFacts.TheVariants.{OfJob}
 use Rattle.fm_policy.specs.NodeFacts.{is_there}
-use Rattle.fm_policy.specs.laws.FactsLaws.{there_is}
+use Rattle.fm_policy.proofs.FactsLaws.{there_is}
 use Rattle.fm_policy.proofs.Adds.{adds_node}
 use Rattle.fm_policy.proofs.nodes.put_job.Goals as goal
 

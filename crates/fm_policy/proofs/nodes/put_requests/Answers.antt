@@ -3,7 +3,7 @@ use Rattle.std.proofs.lemmas.List.{take_all}
 use Rattle.std.specs.List.{filter_map}
 use Rattle.std.specs.Ordering.{nat_cmp}
 use Rattle.fm_records.specs.Sets.{IsMember, rising}
-use Rattle.fm_net.specs.laws.BoundLaws.{spec_ranges}
+use Rattle.fm_net.proofs.BoundLaws.{spec_ranges}
 use Rattle.fm_net.specs.declared.node.Node.TheVariants.{Request}
 use Rattle.fm_policy.specs.Building.{Stands}
 use Rattle.fm_policy.specs.inner.LiveTasks.{waiting_request}

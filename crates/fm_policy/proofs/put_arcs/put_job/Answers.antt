@@ -2,7 +2,7 @@ use Rattle.std.proofs.Common.{◌∙◌, ap}
 use Rattle.std.specs.Prelude.{is_some}
 use Rattle.fm_net.specs.declared.node.Node.TheVariants.{Sink, Unscheduled}
 use Rattle.fm_policy.specs.NodeFacts.{live_arc}
-use Rattle.fm_policy.specs.laws.FactsLaws.{arc_is}
+use Rattle.fm_policy.proofs.FactsLaws.{arc_is}
 use Rattle.fm_policy.proofs.Parts.{job_to_sink}
 use Rattle.fm_policy.proofs.put_arcs.put_job.Goals as goal
 

@@ -1,7 +1,7 @@
 use Rattle.std.proofs.Common.{◌∙◌, ap}
 use Rattle.fm_net.specs.declared.node.Node.TheVariants.{Sink, Machine}
 use Rattle.fm_policy.specs.NodeFacts.{slots_arc}
-use Rattle.fm_policy.specs.laws.FactsLaws.{arc_is}
+use Rattle.fm_policy.proofs.FactsLaws.{arc_is}
 use Rattle.fm_policy.proofs.Opened.{open_leads}
 use Rattle.fm_policy.proofs.put_arcs.put_machine.Goals as goal
 

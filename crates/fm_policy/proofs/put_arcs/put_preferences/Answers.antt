@@ -6,7 +6,7 @@ use Rattle.fm_lattice.specs.Maps.{lookup}
 use Rattle.fm_net.specs.declared.node.Node.TheVariants.{Machine, Task}
 use Rattle.fm_policy.specs.Building.{CoversPreferred}
 use Rattle.fm_policy.specs.NodeFacts.{machine_arc}
-use Rattle.fm_policy.specs.laws.FactsLaws.{arc_is}
+use Rattle.fm_policy.proofs.FactsLaws.{arc_is}
 use Rattle.fm_policy.proofs.Adds.{adds_then}
 use Rattle.fm_policy.proofs.Parts.{preferred_needs}
 use Rattle.fm_policy.proofs.Covered.{preferred_still}

@@ -4,7 +4,7 @@ use Rattle.fm_policy.specs.declared.node_facts.MachineFacts.{MachineFacts}
 use Rattle.fm_net.specs.declared.node.Node.TheVariants.{Request, Machine}
 use Rattle.fm_policy.specs.Building.{CoversPlace}
 use Rattle.fm_policy.specs.NodeFacts.{machine_facts, request_machine_arc}
-use Rattle.fm_policy.specs.laws.FactsLaws.{arc_is}
+use Rattle.fm_policy.proofs.FactsLaws.{arc_is}
 use Rattle.fm_policy.specs.inner.Surveys.{open_machine}
 use Rattle.fm_policy.proofs.Adds.{adds_then}
 use Rattle.fm_policy.proofs.Covered.{place_still}

@@ -5,7 +5,7 @@ use Rattle.fm_records.specs.Facts.{holder_of}
 use Rattle.fm_net.specs.declared.node.Node.TheVariants.{Unscheduled, Task}
 use Rattle.fm_policy.specs.Building.{HasArcTo, HasHolder}
 use Rattle.fm_policy.specs.NodeFacts.{job_arc}
-use Rattle.fm_policy.specs.laws.FactsLaws.{arc_is}
+use Rattle.fm_policy.proofs.FactsLaws.{arc_is}
 use Rattle.fm_policy.proofs.Adds.{adds_then}
 use Rattle.fm_policy.proofs.Alive.{its_spec, its_holder, told_live}
 use Rattle.fm_policy.proofs.Opened.{live_job}

@@ -1,7 +1,7 @@
 use Rattle.std.proofs.Common.{◌∙◌, sym}
 use Rattle.fm_net.specs.declared.node.Node.TheVariants.{Request, Task}
 use Rattle.fm_policy.specs.NodeFacts.{waiting_arc}
-use Rattle.fm_policy.specs.laws.FactsLaws.{arc_is}
+use Rattle.fm_policy.proofs.FactsLaws.{arc_is}
 use Rattle.fm_policy.proofs.Adds.{adds_then}
 use Rattle.fm_policy.proofs.Parts.{request_is_node}
 use Rattle.fm_policy.proofs.put_arcs.put_waiting.Goals as goal

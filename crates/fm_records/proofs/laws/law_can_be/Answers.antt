@@ -1,4 +1,4 @@
-use Rattle.fm_records.specs.laws.RangeLaws.{know_table, know_can_be}
+use Rattle.fm_records.proofs.RangeLaws.{know_table, know_can_be}
 use Rattle.fm_records.proofs.laws.law_can_be.Goals as goal
 
 pub returns : goal.returns

@@ -1,5 +1,5 @@
-use Rattle.fm_records.specs.laws.LookupLaws.{lookup_job}
-use Rattle.fm_records.specs.laws.FactLaws.{spec_is, progress_is, incarnation_is, state_is, report_is, entry_is, winner_is}
+use Rattle.fm_records.proofs.LookupLaws.{lookup_job}
+use Rattle.fm_records.proofs.FactLaws.{spec_is, progress_is, incarnation_is, state_is, report_is, entry_is, winner_is}
 use Rattle.fm_records.proofs.laws.law_facts.Goals as goal
 
 pub returns : goal.returns

@@ -1,4 +1,4 @@
-use Rattle.fm_records.specs.laws.SetFactLaws.{stands_is, live_is, opened_is, holder_is, load_is, spare_is, room_is}
+use Rattle.fm_records.proofs.SetFactLaws.{stands_is, live_is, opened_is, holder_is, load_is, spare_is, room_is}
 use Rattle.fm_records.proofs.laws.law_facts_of_sets.Goals as goal
 
 pub returns : goal.returns

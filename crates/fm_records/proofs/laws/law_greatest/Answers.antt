@@ -1,4 +1,4 @@
-use Rattle.fm_records.specs.laws.GreatestLaws.{greatest_is, least_is}
+use Rattle.fm_records.proofs.GreatestLaws.{greatest_is, least_is}
 use Rattle.fm_records.proofs.laws.law_greatest.Goals as goal
 
 pub returns : goal.returns

@@ -1,6 +1,6 @@
 use Rattle.std.proofs.Common.{sym, subst}
 use Rattle.fm_records.specs.Characterized.{IsKnow}
-use Rattle.fm_records.specs.laws.KnowLaws.{know_is, is_know}
+use Rattle.fm_records.proofs.KnowLaws.{know_is, is_know}
 use Rattle.fm_records.proofs.laws.law_known.Goals as goal
 
 pub returns : goal.returns

@@ -1,5 +1,5 @@
 use Rattle.std.proofs.Common.{sym}
-use Rattle.fm_records.specs.laws.SpelledLaws.{know_ops}
+use Rattle.fm_records.proofs.SpelledLaws.{know_ops}
 use Rattle.fm_records.proofs.laws.law_ops.Goals as goal
 
 pub returns : goal.returns

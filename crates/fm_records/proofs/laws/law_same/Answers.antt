@@ -1,4 +1,4 @@
-use Rattle.fm_records.specs.laws.SetExtensionality.{know_same}
+use Rattle.fm_records.proofs.SetExtensionality.{know_same}
 use Rattle.fm_records.proofs.laws.law_same.Goals as goal
 
 pub returns : goal.returns

@@ -1,4 +1,4 @@
-use Rattle.fm_records.specs.laws.JoinedLaws.{table_laws}
+use Rattle.fm_records.proofs.JoinedLaws.{table_laws}
 use Rattle.fm_records.proofs.laws.law_tables.Goals as goal
 
 pub returns : goal.returns

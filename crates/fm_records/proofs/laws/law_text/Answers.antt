@@ -1,4 +1,4 @@
-use Rattle.fm_records.specs.laws.IdLaws.{text_read}
+use Rattle.fm_records.proofs.IdLaws.{text_read}
 use Rattle.fm_records.proofs.laws.law_text.Goals as goal
 
 pub returns : goal.returns

@@ -1,4 +1,4 @@
-use Rattle.fm_records.specs.laws.UnionLaws.{know_append}
+use Rattle.fm_records.proofs.UnionLaws.{know_append}
 use Rattle.fm_records.proofs.laws.law_union.Goals as goal
 
 pub returns : goal.returns

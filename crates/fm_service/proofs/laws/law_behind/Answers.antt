@@ -1,7 +1,7 @@
 use Rattle.std.proofs.Common.{◌≡◌, List, Bool, true, false, cond, refl, sym, ap}
 use Rattle.fm_records.specs.declared.ops.Op.{Op}
 use Rattle.fm_records.specs.Know.{table_of}
-use Rattle.fm_records.specs.laws.SpelledLaws.{know_ops}
+use Rattle.fm_records.proofs.SpelledLaws.{know_ops}
 use Rattle.fm_delta.specs.declared.packet.Packet.{Packet}
 use Rattle.fm_delta.specs.Packets.{same_packet}
 use Rattle.fm_delta.specs.laws.PacketLaws.{packet_Decides}

@@ -1,5 +1,5 @@
 use Rattle.std.proofs.Common.{ap}
-use Rattle.fm_records.specs.laws.SetExtensionality.{know_same}
+use Rattle.fm_records.proofs.SetExtensionality.{know_same}
 use Rattle.fm_net.specs.Network.{net_of}
 use Rattle.fm_dimacs.specs.Text.{dump_text}
 use Rattle.fm_query.specs.WinnersText.{winners_text}

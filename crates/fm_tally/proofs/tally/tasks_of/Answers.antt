@@ -8,7 +8,7 @@ use Rattle.fm_lattice.specs.Maps.{lookup, IsRising}
 use Rattle.fm_lattice.specs.laws.MapLaws.{same_map}
 use Rattle.fm_records.specs.Options.{and_then}
 use Rattle.fm_records.specs.Facts.{live_spec}
-use Rattle.fm_net.specs.laws.NetworkLaws.{came_from, mapped_from}
+use Rattle.fm_net.proofs.NetworkLaws.{came_from, mapped_from}
 use Rattle.fm_tally.specs.declared.tally.LiveTask.{LiveTask}
 use Rattle.fm_tally.specs.declared.unfinished.UnfinishedTask.{UnfinishedTask}
 use Rattle.fm_tally.specs.inner.Holdings.{placed_by, requests_in, tasks_in}

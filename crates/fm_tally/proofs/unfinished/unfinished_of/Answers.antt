@@ -3,7 +3,7 @@ use Rattle.std.specs.List.{cons_option}
 use Rattle.std.specs.Ordering.{nat_cmp}
 use Rattle.fm_lattice.specs.Maps.{lookup, IsRising}
 use Rattle.fm_records.specs.Options.{and_then}
-use Rattle.fm_net.specs.laws.NetworkLaws.{came_from, mapped_from}
+use Rattle.fm_net.proofs.NetworkLaws.{came_from, mapped_from}
 use Rattle.fm_tally.specs.declared.unfinished.UnfinishedTask.{UnfinishedTask}
 use Rattle.fm_tally.specs.Tallies.{unfinished_spec}
 use Rattle.fm_tally.specs.Unfinished.{unfinished_at}

@@ -4,7 +4,7 @@ use Rattle.std.proofs.Math.Seq.{take-suc-set}
 use Rattle.std.specs.Prelude.{nat_le}
 use Rattle.std.specs.Ordering.{nat_cmp}
 use Rattle.std.proofs.lemmas.Result.{err_from_is_err_and}
-use Rattle.fm_records.specs.laws.RangeLaws.{when_value}
+use Rattle.fm_records.proofs.RangeLaws.{when_value}
 use Rattle.fm_wire.specs.Formats.{record_at, records_at}
 use Rattle.fm_wire.specs.Grammar.{id, price_field}
 use Rattle.fm_wire.proofs.Walks.{with_front, read_begins, read_goes_on, read_ends, read_done}

@@ -1,7 +1,7 @@
 use Rattle.std.proofs.Common.{◌≡◌, Ok, ap, sym, subst, ◌∙◌, arith}
 use Rattle.std.proofs.lemmas.Result.{err_from_is_err_and}
 use Rattle.fm_records.specs.Ids.{is_coordinator}
-use Rattle.fm_records.specs.laws.RangeLaws.{when_value}
+use Rattle.fm_records.proofs.RangeLaws.{when_value}
 use Rattle.fm_records.specs.Ranges.{CanBe}
 use Rattle.fm_records.specs.Table.{Table}
 use Rattle.fm_wire.specs.Grammar.{Listed, lists_of, flat_of}

@@ -3,7 +3,7 @@ use Rattle.std.proofs.lemmas.Result.{IfOk-weaker}
 use Rattle.fm_coord.specs.Replays.{seen_packet}
 use Rattle.fm_coord.specs.Events.{packet_of}
 use Rattle.fm_coord.specs.States.{cut_packet}
-use Rattle.fm_coord.specs.laws.StepLaws.{packet_is}
+use Rattle.fm_coord.proofs.StepLaws.{packet_is}
 use Rattle.fm_coord.proofs.coordinator.Coordinator.packet_for.Goals as goal
 
 pub returns-clause-seen : goal.returns-clause-seen

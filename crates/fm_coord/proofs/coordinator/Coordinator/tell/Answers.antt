@@ -8,7 +8,7 @@ use Rattle.fm_coord.specs.declared.entry.Call.TheVariants as call
 use Rattle.fm_coord.specs.declared.entry.Reply.TheVariants as reply
 use Rattle.fm_coord.specs.Causes.{cause, room_fault}
 use Rattle.fm_coord.specs.States.{State, bounds, history_entry, took, IsCoordinator}
-use Rattle.fm_coord.specs.laws.StepLaws.{no_cause}
+use Rattle.fm_coord.proofs.StepLaws.{no_cause}
 use Rattle.fm_coord.proofs.Keeps.{keeps_tell}
 use Rattle.fm_coord.proofs.Happens.{told}
 use Rattle.fm_coord.proofs.coordinator.Coordinator.tell.Goals as goal

@@ -5,7 +5,7 @@ use Rattle.fm_coord.specs.declared.entry.Call.TheVariants as call
 use Rattle.fm_coord.specs.declared.entry.Reply.TheVariants as reply
 use Rattle.fm_coord.specs.Causes.{room_fault, floor_fault}
 use Rattle.fm_coord.specs.States.{State, bounds, history_entry, after_trim, IsCoordinator}
-use Rattle.fm_coord.specs.laws.StepLaws.{no_cause}
+use Rattle.fm_coord.proofs.StepLaws.{no_cause}
 use Rattle.fm_coord.proofs.Said.{same_state}
 use Rattle.fm_coord.proofs.Keeps.{keeps_trim}
 use Rattle.fm_coord.proofs.Happens.{let_below}

@@ -1,5 +1,5 @@
 use Rattle.std.proofs.Common.{◌∙◌, subst, sym}
-use Rattle.fm_policy.specs.laws.KeepingLaws.{took_none}
+use Rattle.fm_policy.proofs.KeepingLaws.{took_none}
 use Rattle.fm_tally.specs.Tallies.{TallyIsFor}
 use Rattle.fm_tally.specs.Unfinished.{AreUnfinished}
 use Rattle.fm_coord.proofs.tally_cache.Tallied.refresh.Goals as goal

@@ -1,6 +1,6 @@
 use Rattle.std.proofs.Common.{◌∷◌, [], sym, subst, refl}
 use Rattle.fm_records.specs.Ranges.{CanBe}
-use Rattle.fm_records.specs.laws.RangeLaws.{know_can_be}
+use Rattle.fm_records.proofs.RangeLaws.{know_can_be}
 use Rattle.fm_know.proofs.knowledge.Knowledge.delta_of.Goals as goal
 
 pub invariant_of-result : goal.invariant_of-result

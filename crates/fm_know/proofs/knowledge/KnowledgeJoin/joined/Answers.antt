@@ -1,4 +1,4 @@
-use Rattle.fm_records.specs.laws.JoinedLaws.{join_can_be}
+use Rattle.fm_records.proofs.JoinedLaws.{join_can_be}
 use Rattle.fm_know.proofs.knowledge.KnowledgeJoin.joined.Goals as goal
 
 pub invariant_of-result : goal.invariant_of-result

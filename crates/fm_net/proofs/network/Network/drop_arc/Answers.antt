@@ -1,7 +1,7 @@
 use Rattle.std.proofs.Common.{◌∙◌, ap, refl, sym, subst}
 use Rattle.std.specs.Map.{keys_of}
 use Rattle.fm_lattice.specs.Maps.{lookup, IsRising}
-use Rattle.fm_net.specs.laws.EditLaws.{rising_removed}
+use Rattle.fm_net.proofs.EditLaws.{rising_removed}
 use Rattle.fm_net.specs.Nodes.{ends_cmp}
 use Rattle.fm_net.specs.Net.{Net}
 use Rattle.fm_net.proofs.Kept.{after_drop_arc}

@@ -1,6 +1,6 @@
 use Rattle.std.proofs.Common.{◌≡◌, ◌∷◌, [], sym, ◌∙◌, ap, subst, true, IsTrue, rules}
 use Rattle.fm_records.specs.Ranges.{in_range, all_in_range}
-use Rattle.fm_records.specs.laws.RangeLaws.{all_pass}
+use Rattle.fm_records.proofs.RangeLaws.{all_pass}
 use Rattle.fm_records.specs.OpsOfTable.{IsTable}
 use Rattle.fm_round.specs.Admission.{told, preempt_ops}
 use Rattle.fm_round.proofs.Results.{both_ok}

@@ -2,7 +2,7 @@ use Rattle.std.proofs.Common.{◌∙◌, ap}
 use Rattle.std.specs.Ordering.{nat_cmp}
 use Rattle.fm_lattice.specs.Maps.{lookup}
 use Rattle.fm_records.specs.Facts.{open_state}
-use Rattle.fm_net.specs.laws.NetworkLaws.{mapped_from, open_entry}
+use Rattle.fm_net.proofs.NetworkLaws.{mapped_from, open_entry}
 use Rattle.fm_tally.specs.declared.tally.OpenMachine.{OpenMachine}
 use Rattle.fm_tally.specs.Tallies.{open_machine_at}
 use Rattle.fm_tally.proofs.Rows.{lookup_rows}

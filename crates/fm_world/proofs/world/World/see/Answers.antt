@@ -1,7 +1,7 @@
 use Rattle.std.proofs.Common.{◌==◌, position, ap, ◌∙◌, subst}
 use Rattle.fm_coord.specs.declared.entry.Call.TheVariants as call
 use Rattle.fm_coord.specs.Causes.{refusal_for}
-use Rattle.fm_coord.specs.laws.StepLaws.{same_bounds}
+use Rattle.fm_coord.proofs.StepLaws.{same_bounds}
 use Rattle.fm_world.specs.declared.step.Act.TheVariants as act
 use Rattle.fm_world.specs.Represents.{number_of, IsReached}
 use Rattle.fm_world.proofs.Reached.{reached_by}

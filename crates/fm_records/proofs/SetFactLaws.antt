@@ -12,8 +12,8 @@ use Rattle.fm_records.specs.Table.{TaskValue}
 use Rattle.fm_records.specs.Know.{greatest_progress, spec, progress, task_value, task, table_of}
 use Rattle.fm_records.specs.Facts.{is_done, request_of, live_spec, is_live, job_stands, open_state, is_open, is_present, won_spot, winner_of, holder_of, holds, held_tasks, used_of, load_of, spare_of, has_room}
 use Rattle.fm_records.specs.SetFacts.{is_active_job, live, state_if_up, present, won, holder, is_held_by, tasks, tasks_held, use_reported, request_asked, load, spare, room}
-use Rattle.fm_records.specs.laws.LookupLaws.{none_some, lookup_job}
-use Rattle.fm_records.specs.laws.FactLaws.{spec_part, spec_is, progress_is, incarnation_is, state_is, report_is, winner_is}
+use Rattle.fm_records.proofs.LookupLaws.{none_some, lookup_job}
+use Rattle.fm_records.proofs.FactLaws.{spec_part, spec_is, progress_is, incarnation_is, state_is, report_is, winner_is}
 
 -- Sums, counts and tests over the rows of a table, by their keys.
 

@@ -11,8 +11,8 @@ use Rattle.fm_records.specs.declared.records.SpecReg.{SpecReg}
 use Rattle.fm_records.specs.declared.records.MachineReg.{MachineReg}
 use Rattle.fm_records.specs.Options.{when, and_then, only_if, passes}
 use Rattle.fm_records.specs.Sets.{IsMember, rising}
-use Rattle.fm_records.specs.laws.LookupLaws.{when_is_true, both_true}
-use Rattle.fm_records.specs.laws.RangeLaws.{inside, when_value}
+use Rattle.fm_records.proofs.LookupLaws.{when_is_true, both_true}
+use Rattle.fm_records.proofs.RangeLaws.{inside, when_value}
 use Rattle.fm_records.specs.TableLaws.{rising_table, lookup_table, rises_rising, member_rising}
 use Rattle.fm_records.specs.Table.{Table, TaskValue, MachineValue}
 use Rattle.fm_records.specs.Facts.{spec_of, machine_state, live_spec, is_live, open_state, is_open, is_present, won_spot, holder_of, holds, load_of, spare_of}
@@ -21,7 +21,7 @@ use Rattle.fm_net.specs.declared.node.Node.TheVariants.{Sink, Unscheduled, Reque
 use Rattle.fm_net.specs.Nodes.{node_cmp, ends_cmp}
 use Rattle.fm_net.specs.laws.NodeOrder.{node_exact, node_total, ends_exact, ends_total}
 use Rattle.fm_net.specs.Net.{Net, IsArcKind}
-use Rattle.fm_net.specs.laws.ListLaws.{any_of, some_member, member_before, member_behind, member_passing, passes_kept, member_mapped, member_of_one, entry_member, has_member, member_has, rises_kept, same_rising}
+use Rattle.fm_net.proofs.ListLaws.{any_of, some_member, member_before, member_behind, member_passing, passes_kept, member_mapped, member_of_one, entry_member, has_member, member_has, rises_kept, same_rising}
 use Rattle.fm_net.specs.Network.{is_held, is_live_of, waits_for, some_task, is_node, places, place_arc, room_arc, preferred_arc, arc_of, IsNetworkOf, names_of_task, names, nodes_of, pairs, net_of}
 
 none : {A P : Type 0} {a : A} → None ≡ Some a → P

@@ -30,11 +30,11 @@ use Rattle.fm_records.specs.Know.{job_in, spec_in, progress_in, incarnation_in, 
 use Rattle.fm_records.specs.OpsOfTable.{each, job_op, job_ops, spec_op, progress_op, task_ops, machine_op, report_op, machine_ops, propose_op, entry_ops, ops, has_part, IsFull, IsTable}
 use Rattle.fm_records.specs.Ranges.{is_id, fits_row, fields_fit, in_range, all_in_range, CanBe}
 use Rattle.fm_records.specs.Characterized.{IsGreatest, IsGreatestOf, IsLeastMember, IsLeastOf}
-use Rattle.fm_records.specs.laws.SetLaws.{member_from, member_kept}
-use Rattle.fm_records.specs.laws.GreatestLaws.{greatest_is, least_is}
+use Rattle.fm_records.proofs.SetLaws.{member_from, member_kept}
+use Rattle.fm_records.proofs.GreatestLaws.{greatest_is, least_is}
 use Rattle.fm_records.specs.TableLaws.{some_none, rising_table}
-use Rattle.fm_records.specs.laws.LookupLaws.{none_some, when_is_true, both_true, lookup_job, lookup_task, lookup_machine, lookup_entry, lookup_entries}
-use Rattle.fm_records.specs.laws.KnowLaws.{know_is}
+use Rattle.fm_records.proofs.LookupLaws.{none_some, when_is_true, both_true, lookup_job, lookup_task, lookup_machine, lookup_entry, lookup_entries}
+use Rattle.fm_records.proofs.KnowLaws.{know_is}
 
 both_hold : (a b : Bool) → a ≡ true → b ≡ true → a && b ≡ true
 both_hold a b p q = rw (p, q) refl

@@ -2,10 +2,10 @@
 use Rattle.std.proofs.Common.{◌≡◌, ◌∙◌, true, [], refl, sym, ap}
 use Rattle.fm_records.specs.Table.{Table}
 use Rattle.fm_records.specs.Ranges.{CanBe}
-use Rattle.fm_records.specs.laws.RangeLaws.{know_can_be}
+use Rattle.fm_records.proofs.RangeLaws.{know_can_be}
 use Rattle.fm_records.specs.Know.{table_of}
 use Rattle.fm_records.specs.Joined.{table_join}
-use Rattle.fm_records.specs.laws.JoinedLaws.{table_laws}
+use Rattle.fm_records.proofs.JoinedLaws.{table_laws}
 use Rattle.fm_policy.specs.Changes.{Keys, no_keys, changed_keys, joined_keys}
 use Rattle.fm_policy.specs.Keeping.{FollowsAfter}
 

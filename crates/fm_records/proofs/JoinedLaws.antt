@@ -7,10 +7,10 @@ use Rattle.fm_records.specs.Know.{table_of}
 use Rattle.fm_records.specs.OpsOfTable.{ops}
 use Rattle.fm_records.specs.Ranges.{in_range, CanBe}
 use Rattle.fm_records.specs.Joined.{table_join}
-use Rattle.fm_records.specs.laws.SetExtensionality.{know_same}
-use Rattle.fm_records.specs.laws.UnionLaws.{know_append}
-use Rattle.fm_records.specs.laws.SpelledLaws.{know_ops}
-use Rattle.fm_records.specs.laws.RangeLaws.{all_pass, know_can_be}
+use Rattle.fm_records.proofs.SetExtensionality.{know_same}
+use Rattle.fm_records.proofs.UnionLaws.{know_append}
+use Rattle.fm_records.proofs.SpelledLaws.{know_ops}
+use Rattle.fm_records.proofs.RangeLaws.{all_pass, know_can_be}
 use Rattle.fm_lattice.specs.Joins.{JoinLaws}
 
 module _ {R : Type 0} where

@@ -8,7 +8,7 @@ use Rattle.fm_records.specs.Options.{passes}
 use Rattle.fm_records.specs.Sets.{IsMember}
 use Rattle.fm_records.specs.Table.{Table}
 use Rattle.fm_records.specs.Facts.{attempt_of}
-use Rattle.fm_net.specs.laws.ListLaws.{has_member}
+use Rattle.fm_net.proofs.ListLaws.{has_member}
 use Rattle.fm_policy.specs.Changes.{Keys}
 use Rattle.fm_edit.specs.declared.look.Key.{Key}
 use Rattle.fm_edit.specs.declared.look.Key.TheVariants.{Job, Task, Machine, Winner}

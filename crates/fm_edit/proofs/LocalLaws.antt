@@ -22,10 +22,10 @@ use Rattle.fm_records.specs.Joined.{table_join}
 use Rattle.fm_records.specs.Facts.{head_option, job_of, spec_of, progress_of, attempt_of, used_of, winner_of, is_done, job_stands, live_spec, is_live, open_state, is_present, won_spot, holder_of, holds, held_tasks, request_of, load_of, spare_of}
 use Rattle.fm_net.specs.declared.node.Node.{Node}
 use Rattle.fm_net.specs.declared.node.Node.TheVariants.{Sink, Unscheduled, Request, Machine, Task}
-use Rattle.fm_net.specs.laws.ListLaws.{entry_member, member_mapped, has_member}
+use Rattle.fm_net.proofs.ListLaws.{entry_member, member_mapped, has_member}
 use Rattle.fm_net.specs.Network.{is_held, is_live_of, waits_for, some_task, live_tasks, is_node, places, room_arc, preferred_arc, arc_of}
 use Rattle.fm_policy.specs.Changes.{Keys, changed_tasks, changed_keys}
-use Rattle.fm_policy.specs.laws.ChangeLaws.{join_nothing, task_same, proposal_same}
+use Rattle.fm_policy.proofs.ChangeLaws.{join_nothing, task_same, proposal_same}
 use Rattle.fm_net.specs.inner.KeptLists.{lookup_kept, rising_kept}
 use Rattle.fm_edit.specs.Dirty.{SameBeyond, has_id, job_of_task, request_of_task, won_machine, prefers, dirty_task, IsDirtyJob, IsDirtyMachine, IsDirtyRequest, MayTurn, MayDiffer}
 

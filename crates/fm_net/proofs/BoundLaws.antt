@@ -10,19 +10,19 @@ use Rattle.fm_records.specs.declared.records.JobReg.{JobReg}
 use Rattle.fm_records.specs.declared.records.SpecReg.{SpecReg}
 use Rattle.fm_records.specs.declared.records.MachineReg.{MachineReg}
 use Rattle.fm_records.specs.Options.{when, and_then}
-use Rattle.fm_records.specs.laws.LookupLaws.{when_is_true, both_true}
+use Rattle.fm_records.proofs.LookupLaws.{when_is_true, both_true}
 use Rattle.fm_records.specs.OpsOfTable.{spec_op, machine_op, task_ops, machine_ops}
 use Rattle.fm_records.specs.Ranges.{in_range, all_in_range, CanBe}
-use Rattle.fm_records.specs.laws.RangeLaws.{when_value, job_in_range, task_in_range, machine_in_range}
+use Rattle.fm_records.proofs.RangeLaws.{when_value, job_in_range, task_in_range, machine_in_range}
 use Rattle.fm_records.specs.Table.{Table, TaskValue, MachineValue}
 use Rattle.fm_records.specs.Facts.{job_of, live_spec, open_state, load_of, holds}
 use Rattle.fm_net.specs.declared.node.Node.{Node}
 use Rattle.fm_net.specs.declared.node.Node.TheVariants.{Sink, Unscheduled, Request, Machine, Task}
 use Rattle.fm_net.specs.Nodes.{IsInRange}
 use Rattle.fm_net.specs.Net.{CanBeNet}
-use Rattle.fm_net.specs.laws.ListLaws.{some_member}
+use Rattle.fm_net.proofs.ListLaws.{some_member}
 use Rattle.fm_net.specs.Network.{is_held, is_live_of, waits_for, is_node, places, preferred_arc, arc_of, net_of}
-use Rattle.fm_net.specs.laws.NetworkLaws.{passes_some, mapped_from, where_true, live_entry, open_entry, room_from, preferred_from, ends_of, is_network_of}
+use Rattle.fm_net.proofs.NetworkLaws.{passes_some, mapped_from, where_true, live_entry, open_entry, room_from, preferred_from, ends_of, is_network_of}
 
 none : {A P : Type 0} {a : A} → None ≡ Some a → P
 none e = absurd (let no : ⊥ = cc in no)

@@ -23,8 +23,8 @@ use Rattle.fm_records.specs.declared.records.Spot.{Spot}
 use Rattle.fm_records.specs.Sets.{all_of, unless_empty}
 use Rattle.fm_records.specs.laws.OrderLaws.{total_attempt, same_attempt}
 use Rattle.fm_records.specs.TableLaws.{rising_table}
-use Rattle.fm_records.specs.laws.LookupLaws.{lookup_entry}
-use Rattle.fm_records.specs.laws.KnowLaws.{is_know}
+use Rattle.fm_records.proofs.LookupLaws.{lookup_entry}
+use Rattle.fm_records.proofs.KnowLaws.{is_know}
 use Rattle.fm_records.specs.Orders.{job_cmp, spec_cmp, progress_cmp, machine_cmp, report_cmp, spot_cmp, attempt_cmp}
 use Rattle.fm_records.specs.Table.{Table, TaskValue, MachineValue}
 use Rattle.fm_records.specs.Know.{when, job_in, spec_in, progress_in, incarnation_in, state_in, report_in, spot_in, coordinator_named, entry, entries, job, task, task_value, machine, table_of}

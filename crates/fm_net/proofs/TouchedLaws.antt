@@ -12,7 +12,7 @@ use Rattle.fm_net.specs.declared.node.Node.{Node}
 use Rattle.fm_net.specs.Nodes.{node_cmp, ends_cmp}
 use Rattle.fm_net.specs.laws.NodeOrder.{node_exact, node_total, ends_exact, ends_total}
 use Rattle.fm_net.specs.Net.{Net, has_node, CanBeNet}
-use Rattle.fm_net.specs.laws.ListLaws.{rises_kept, same_rising}
+use Rattle.fm_net.proofs.ListLaws.{rises_kept, same_rising}
 use Rattle.fm_net.specs.declared.edit.Edit.TheVariants.{DropArc, DropNode, PutNode}
 use Rattle.fm_net.specs.Edits.{Arc, joins, same_value, has_arc, gone_arcs, new_arcs, drop_of, put_of, change}
 use Rattle.fm_net.specs.inner.KeptLists.{rising_kept, lookup_kept, has, has_kept}

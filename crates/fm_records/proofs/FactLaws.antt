@@ -18,10 +18,10 @@ use Rattle.fm_records.specs.laws.OrderLaws.{total_spot}
 use Rattle.fm_records.specs.Know.{initial_progress, coordinator_in, spot_in, coordinator_named, spec, greatest_progress, progress, incarnation, state_at, report_at, state, report, task_value, machine_at, entry, winner, table_of}
 use Rattle.fm_records.specs.Facts.{head_option, spec_of, progress_of, incarnation_of, machine_state, report_of, entries_of, winner_of}
 use Rattle.fm_records.specs.Characterized.{IsLeastOf}
-use Rattle.fm_records.specs.laws.SetLaws.{member_from, member_kept}
-use Rattle.fm_records.specs.laws.GreatestLaws.{least_is}
-use Rattle.fm_records.specs.laws.LookupLaws.{none_some, when_is_true, both_true, lookup_task, lookup_machine, lookup_entry, lookup_entries}
-use Rattle.fm_records.specs.laws.RangeLaws.{inside, when_value, least_member, all_of_some, spots_rise}
+use Rattle.fm_records.proofs.SetLaws.{member_from, member_kept}
+use Rattle.fm_records.proofs.GreatestLaws.{least_is}
+use Rattle.fm_records.proofs.LookupLaws.{none_some, when_is_true, both_true, lookup_task, lookup_machine, lookup_entry, lookup_entries}
+use Rattle.fm_records.proofs.RangeLaws.{inside, when_value, least_member, all_of_some, spots_rise}
 use Rattle.fm_lattice.specs.Chains.{nat_same, by_cases, greater_less}
 use Rattle.fm_lattice.specs.Joins.{min_join}
 use Rattle.fm_lattice.specs.Maps.{lookup, IsRising}

@@ -13,10 +13,10 @@ use Rattle.fm_records.specs.Sets.{HaveSameMembers, all_of, table, unless_empty}
 use Rattle.fm_records.specs.Orders.{job_cmp, spec_cmp, progress_cmp, machine_cmp, report_cmp, spot_cmp}
 use Rattle.fm_records.specs.laws.OrderLaws.{total_job, same_job, total_spec, same_spec, total_progress, same_progress, total_machine, same_machine, total_report, same_report, total_spot, same_spot}
 use Rattle.fm_records.specs.Know.{job_in, spec_in, progress_in, incarnation_in, state_in, report_in, spot_in, coordinator_named, task_value, task, machine, entry, table_of}
-use Rattle.fm_records.specs.laws.SetLaws.{all_of_same, same_members_kept}
+use Rattle.fm_records.proofs.SetLaws.{all_of_same, same_members_kept}
 use Rattle.fm_records.specs.TableLaws.{rising_table}
-use Rattle.fm_records.specs.laws.LookupLaws.{lookup_entry}
-use Rattle.fm_records.specs.laws.KnowLaws.{know_is, is_know}
+use Rattle.fm_records.proofs.LookupLaws.{lookup_entry}
+use Rattle.fm_records.proofs.KnowLaws.{know_is, is_know}
 
 module _ (S T : List Op) (same : HaveSameMembers S T) where
   one : {R : Type 0} (join : R → R → R) → JoinLaws Any join → (f : Op → Option R) → all_of join (filter_map f S) ≡ all_of join (filter_map f T)

@@ -3,7 +3,7 @@ use Rattle.std.specs.Prelude.{◌≡◌, ℕ, Bool, ◌==◌, ◌&&◌}
 use Rattle.std.specs.Bool.{Decides}
 use Rattle.std.proofs.Common.{ap, eq-eqb, rules}
 use Rattle.std.proofs.lemmas.Bool.{eqb-true}
-use Rattle.fm_records.specs.laws.LookupLaws.{both_true}
+use Rattle.fm_records.proofs.LookupLaws.{both_true}
 use Rattle.fm_records.specs.Table.{Table}
 use Rattle.fm_records.specs.RecordEquality.{op_Decides}
 use Rattle.fm_know.specs.KnowledgeEquality.{same_table, table_Decides}

@@ -19,7 +19,7 @@ use Rattle.fm_net.specs.declared.node.Node.TheVariants.{Sink, Unscheduled, Reque
 use Rattle.fm_net.specs.Nodes.{node_cmp, ends_cmp, IsInRange, IsRequestInRange}
 use Rattle.fm_net.specs.laws.NodeOrder.{node_exact, node_total, ends_exact, ends_total}
 use Rattle.fm_net.specs.Net.{Net, has_node, arc_at, IsTouched, CanBeNet, with_node, without_node, with_arc, without_arc, remove_node, remove_arc}
-use Rattle.fm_net.specs.laws.ListLaws.{same_rising, has_member, passes_kept}
+use Rattle.fm_net.proofs.ListLaws.{same_rising, has_member, passes_kept}
 use Rattle.fm_net.specs.declared.edit.Edit.{Edit}
 use Rattle.fm_net.specs.declared.edit.Edit.TheVariants.{DropNode, PutNode}
 use Rattle.fm_net.specs.Edits.{Arc, after_edit, after_edits, MayPutArc, MayEdit, MayEditAll, joins, same_value, has_arc, gone_arcs, gone_nodes, new_nodes, new_arcs, drop_of, put_of, change}

@@ -13,7 +13,7 @@ use Rattle.fm_records.specs.Table.{Table}
 use Rattle.fm_records.specs.Know.{job_named, task_named, machine_named, attempt_named, job, task, machine, entries, table_of}
 use Rattle.fm_records.specs.Characterized.{IsKnow}
 use Rattle.fm_records.specs.TableLaws.{rising_table}
-use Rattle.fm_records.specs.laws.LookupLaws.{lookup_job, lookup_task, lookup_machine, lookup_entries}
+use Rattle.fm_records.proofs.LookupLaws.{lookup_job, lookup_task, lookup_machine, lookup_entries}
 
 pub know_is : (S : List Op) → IsKnow S (table_of S)
 know_is S = record {

@@ -29,10 +29,10 @@ use Rattle.fm_records.specs.laws.OrderLaws.{total_job, same_job, total_spec, sam
 use Rattle.fm_records.specs.Table.{MachineValue}
 use Rattle.fm_records.specs.Know.{initial_progress, job_in, spec_in, progress_in, incarnation_in, state_in, report_in, spot_in, coordinator_named, job, spec, greatest_progress, incarnation, state_at, report_at, task_value, task, machine_at, machine, entry, entries, table_of}
 use Rattle.fm_records.specs.Joined.{task_join, parts_join, machine_join, table_join}
-use Rattle.fm_records.specs.laws.SetLaws.{all_of-append, absorbs}
+use Rattle.fm_records.proofs.SetLaws.{all_of-append, absorbs}
 use Rattle.fm_records.specs.TableLaws.{some_none, rising_table}
-use Rattle.fm_records.specs.laws.LookupLaws.{lookup_entry, names_member, none_some, when_is_true, both_true}
-use Rattle.fm_records.specs.laws.KnowLaws.{know_is, is_know}
+use Rattle.fm_records.proofs.LookupLaws.{lookup_entry, names_member, none_some, when_is_true, both_true}
+use Rattle.fm_records.proofs.KnowLaws.{know_is, is_know}
 
 -- nothing is below (0, Pending)
 none_below : (n : ℕ) → nat_cmp n 0 ≡ Less → ⊥

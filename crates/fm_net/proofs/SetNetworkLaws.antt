@@ -9,13 +9,13 @@ use Rattle.fm_records.specs.declared.records.SpecReg.{SpecReg}
 use Rattle.fm_records.specs.Options.{when, and_then, passes}
 use Rattle.fm_records.specs.Know.{task, table_of}
 use Rattle.fm_records.specs.SetFacts.{holder, tasks}
-use Rattle.fm_records.specs.laws.LookupLaws.{lookup_job}
-use Rattle.fm_records.specs.laws.SetFactLaws.{any_rows, count_rows, live_is, is_live_is, opened_is, is_open_is, holder_is, held_by_is, not_live, load_is, spare_is}
+use Rattle.fm_records.proofs.LookupLaws.{lookup_job}
+use Rattle.fm_records.proofs.SetFactLaws.{any_rows, count_rows, live_is, is_live_is, opened_is, is_open_is, holder_is, held_by_is, not_live, load_is, spare_is}
 use Rattle.fm_net.specs.declared.node.Node.{Node}
 use Rattle.fm_net.specs.declared.node.Node.TheVariants.{Sink, Unscheduled, Request, Machine, Task}
 use Rattle.fm_net.specs.Net.{Net}
 use Rattle.fm_net.specs.Network.{is_held, is_live_of, waits_for, some_task, live_tasks, is_node, places, room_arc, arc_of, IsNetworkOf, net_of}
-use Rattle.fm_net.specs.laws.NetworkLaws.{network_is}
+use Rattle.fm_net.proofs.NetworkLaws.{network_is}
 use Rattle.fm_net.specs.SetNetwork.{has_holder, live_of, waiting, is_node_in, room_in, arc_in, IsNetworkOfSet}
 
 is_there : {A : Type 0} (o : Option A) → passes (λ a. true) o ≡ is_some o

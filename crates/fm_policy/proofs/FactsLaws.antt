@@ -13,7 +13,7 @@ use Rattle.fm_net.specs.declared.node.Node.{Node}
 use Rattle.fm_net.specs.declared.node.Node.TheVariants.{Sink, Unscheduled, Request, Machine, Task}
 use Rattle.fm_net.specs.Network.{is_node, is_held, is_live_of, live_tasks, arc_of}
 use Rattle.fm_policy.specs.NodeFacts.{facts_of, node_of, is_there, arc_between}
-use Rattle.fm_policy.specs.laws.RoomLaws.{room_fits}
+use Rattle.fm_policy.proofs.RoomLaws.{room_fits}
 
 none_more : (n : ℕ) → 0 + n ≡ n
 none_more n = omega arith

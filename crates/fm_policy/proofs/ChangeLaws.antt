@@ -15,7 +15,7 @@ use Rattle.fm_records.specs.TableLaws.{member_rising}
 use Rattle.fm_records.specs.Table.{Table, TaskValue}
 use Rattle.fm_records.specs.OpsOfTable.{IsTable}
 use Rattle.fm_records.specs.Joined.{table_join}
-use Rattle.fm_net.specs.laws.ListLaws.{entry_member, member_before, member_behind, member_mapped}
+use Rattle.fm_net.proofs.ListLaws.{entry_member, member_before, member_behind, member_mapped}
 use Rattle.fm_policy.specs.Changes.{changed_tasks}
 
 pub join_nothing : {V : Type 0} (join : V → V → V) (o p : Option V) → p ≡ None → option_join join o p ≡ o

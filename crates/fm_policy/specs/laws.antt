@@ -1,4 +1,0 @@
-pub mod KeepingLaws
-pub mod ChangeLaws
-pub mod RoomLaws
-pub mod FactsLaws
