@@ -1,6 +1,6 @@
 """What happens to a cluster from outside, in simulated time: machines come, fail and return, jobs of tasks come and are withdrawn.
 
-A life is drawn from a seed, or read from a trace. bench/README.md names the sources of the parameters, and has the trace's form.
+A life is drawn from a seed, or read from a trace. bench/living/README.md names the sources of the parameters, and has the trace's form.
 """
 import bisect
 import collections

@@ -20,7 +20,7 @@ SIMULATED = """Time, machines, jobs, tasks, their run times and the bandwidth th
 and run times are drawn from distributions with heavy tails, machines fail far more often than real ones, and reports lag. Nothing is sent over
 a network: packets go from process to process, and each is on its way for a millisecond. The coordinators are real: each is a process of
 <code>firmament follow</code>, and simulated time contains what each answer took. With several, each is taken to run on a machine of its own.
-Parameters and their sources are in <code>bench/README.md</code>."""
+Parameters and their sources are in <code>bench/living/README.md</code>."""
 NOTES = """A round plans and admits by what the coordinator knows when it begins; the next one begins when it ended, if something was told or can still
 be placed. Latency is from a task's arrival to the end of the round that places it first, so it contains the rest of the round before; tasks of the
 start are not counted. A turn is all that a coordinator does between two times when it is free: it exchanges packets, is renewed, is told what came,
