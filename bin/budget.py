@@ -73,10 +73,13 @@ def compared(work):
 
 
 def write(work):
-    """Makes the budget what this run took, with room in the two bounds."""
+    """Makes the budget what this run took, with room in the two bounds, if it proved every crate. Says what was done."""
+    if not set(stands_on()) <= {name for name, kinds in work.items() if "proof" in kinds}:
+        return "budget: not written, since not every crate was proved in this run: add --anew"
     unit = work[UNIT[0]][UNIT[1]]
     units = {name: {kind: round(spent / unit, 2) for kind, spent in sorted(kinds.items())} for name, kinds in sorted(work.items())}
     total = sum(sum(kinds.values()) for kinds in units.values())
     chain, _ = longest(stands_on(), {name: kinds["proof"] for name, kinds in units.items() if "proof" in kinds})
     made = {"work": round(ROOM * total, 1), "chain": round(ROOM * chain, 1), "tasks": units}
     FILE.write_text(json.dumps(made, indent=1) + "\n")
+    return f"budget: written to {FILE.name}"

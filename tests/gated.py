@@ -106,6 +106,8 @@ def budgets():
             faster = {name: {kind: spent / 3 for kind, spent in kinds.items()} for name, kinds in work.items()}
             yield "another machine is within it", budget.compared(faster)[1]
             part = {name: kinds for name, kinds in work.items() if name != "b"}
+            written = budget.FILE.read_text()
+            yield "part of a run is not written", "not written" in budget.write(part) and budget.FILE.read_text() == written
             yield "part of a run is not compared", budget.compared(part) == (["budget: not compared, since not every crate was proved in this run"], True)
         finally:
             budget.FILE, budget.stands_on = file, stands_on
