@@ -20,7 +20,7 @@ pub(crate) fn after<'a>(bytes: &'a [u8], text: &[u8]) -> Option<&'a [u8]>
 }
 
 // A number of 64 bits without leading zeros.
-#[tactic(auto, unfolding(crate::specs::Scan::number_at))]
+#[tactic(auto, unfolding(crate::specs::inner::Scan::number_at))]
 fn number(bytes: &[u8]) -> Option<(u64, &[u8])>
     ensures { Reads (λ x. (x.0, x.1.now)) result (number_at bytes.now) }
 {
@@ -65,7 +65,7 @@ fn with_digit(number: u64, digit: u8) -> Option<u64>
 }
 
 // The numbers of an arc's line: the IDs of its ends, the capacity and the cost.
-#[tactic(auto, unfolding(crate::specs::Scan::numbers_at))]
+#[tactic(auto, unfolding(crate::specs::inner::Scan::numbers_at))]
 pub(crate) fn numbers(bytes: &[u8]) -> Option<((u64, u64, u64, u64), &[u8])>
     ensures { Reads (λ x. (x.0, x.1.now)) result (numbers_at bytes.now) }
 {
@@ -82,7 +82,7 @@ pub(crate) fn numbers(bytes: &[u8]) -> Option<((u64, u64, u64, u64), &[u8])>
 }
 
 // The number of arcs of the problem line with this number of nodes.
-#[tactic(auto, unfolding(crate::specs::Scan::problem_at))]
+#[tactic(auto, unfolding(crate::specs::inner::Scan::problem_at))]
 pub(crate) fn problem(nodes: u64, bytes: &[u8]) -> Option<(u64, &[u8])>
     ensures { Reads (λ x. (x.0, x.1.now)) result (problem_at nodes bytes.now) }
 {
@@ -99,7 +99,7 @@ pub(crate) fn problem(nodes: u64, bytes: &[u8]) -> Option<(u64, &[u8])>
 }
 
 // A request, and the line's end.
-#[tactic(auto, unfolding(crate::specs::Scan::request_at))]
+#[tactic(auto, unfolding(crate::specs::inner::Scan::request_at))]
 fn request(bytes: &[u8]) -> Option<(Node, &[u8])>
     ensures reads { Reads (λ x. (x.0, x.1.now)) result (request_at bytes.now) }
     ensures in_range { IfSome result (λ x. IsInRange x.0) }
@@ -114,7 +114,7 @@ fn request(bytes: &[u8]) -> Option<(Node, &[u8])>
 }
 
 // A UUID in lower case with hyphens.
-#[tactic(auto, unfolding(crate::specs::Scan::id_at), using(crate::proofs::Uuids::short_no_id, crate::proofs::Uuids::no_text_no_id))]
+#[tactic(auto, unfolding(crate::specs::inner::Scan::id_at), using(crate::proofs::Uuids::short_no_id, crate::proofs::Uuids::no_text_no_id))]
 fn id(alloc: Global, bytes: &[u8]) -> Result<Option<(u128, &[u8])>, Refusal>
     ensures reads { ReadsWithin (λ x. (x.0, x.1.now)) result (id_at bytes.now) }
     ensures fits { IfOk result (λ found. IfSome found (λ x. x.0 < 2 ^ 128)) }
@@ -138,7 +138,7 @@ fn id(alloc: Global, bytes: &[u8]) -> Result<Option<(u128, &[u8])>, Refusal>
 }
 
 // The id that a node is named by, and the line's end.
-#[tactic(auto, unfolding(crate::specs::Scan::named_at))]
+#[tactic(auto, unfolding(crate::specs::inner::Scan::named_at))]
 fn named(alloc: Global, bytes: &[u8]) -> Result<Option<(u128, &[u8])>, Refusal>
     ensures reads { (node : ℕ → NodeName) → ReadsWithin (λ x. (node x.0, x.1.now)) result (named_at node bytes.now) }
     ensures fits { IfOk result (λ found. IfSome found (λ x. x.0 < 2 ^ 128)) }
@@ -150,7 +150,7 @@ fn named(alloc: Global, bytes: &[u8]) -> Result<Option<(u128, &[u8])>, Refusal>
 }
 
 // A node's kind and name, and the line's end.
-#[tactic(auto, unfolding(crate::specs::Scan::kind_at))]
+#[tactic(auto, unfolding(crate::specs::inner::Scan::kind_at))]
 fn kind(alloc: Global, bytes: &[u8]) -> Result<Option<(Node, &[u8])>, Refusal>
     ensures reads { ReadsWithin (λ x. (x.0, x.1.now)) result (kind_at bytes.now) }
     ensures in_range { IfOk result (λ found. IfSome found (λ x. IsInRange x.0)) }
@@ -177,7 +177,7 @@ fn kind(alloc: Global, bytes: &[u8]) -> Result<Option<(Node, &[u8])>, Refusal>
 }
 
 // The comment of the node with the ID.
-#[tactic(auto, unfolding(crate::specs::Scan::node_at))]
+#[tactic(auto, unfolding(crate::specs::inner::Scan::node_at))]
 pub(crate) fn node(alloc: Global, id: u64, bytes: &[u8]) -> Result<Option<(Node, &[u8])>, Refusal>
     ensures reads { ReadsWithin (λ x. (x.0, x.1.now)) result (node_at id bytes.now) }
     ensures in_range { IfOk result (λ found. IfSome found (λ x. IsInRange x.0)) }
