@@ -104,7 +104,7 @@ pub record ReadJobs (bytes : List ℕ) (h : ℕ × ℕ) (js : JobList) (b : List
 pub record ReadTasks (v : Version) (bytes : List ℕ) (h : ℕ × ℕ) (js : JobList) (ts : TaskList) (c : List ℕ) : Type 0 where
   pub after : List ℕ
   pub before : ReadJobs bytes h js after
-  pub task_list : (task_list v).read after ≡ Ok (ts, c)
+  pub tasks : (task_list v).read after ≡ Ok (ts, c)
 
 pub record ReadMachines (v : Version) (bytes : List ℕ) (h : ℕ × ℕ) (js : JobList) (ts : TaskList) (ms : MachineList) (d : List ℕ) : Type 0 where
   pub after : List ℕ
@@ -112,7 +112,7 @@ pub record ReadMachines (v : Version) (bytes : List ℕ) (h : ℕ × ℕ) (js : 
   pub machines : machines.read after ≡ Ok (ms, d)
 
 pub reads_body : (v : Version) (bytes : List ℕ) (h : ℕ × ℕ) (js : JobList) (ts : TaskList) (ms : MachineList) (d : List ℕ) (es : EntryList) (rest : List ℕ) → ReadMachines v bytes h js ts ms d → entry_list.read d ≡ Ok (es, rest)
-    → (body v).read bytes ≡ Ok (record { sender = h.0; number = h.1; jobs = js; task_list = ts; machines = ms; entry_list = es }, rest)
+    → (body v).read bytes ≡ Ok (record { sender = h.0; number = h.1; jobs = js; tasks = ts; machines = ms; entries = es }, rest)
 unfolding body
 reads_body v bytes h js ts ms d es rest m e =
     let t = m.before in

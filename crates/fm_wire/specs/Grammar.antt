@@ -89,7 +89,7 @@ state = seen_as (count ⨾ coordinator_field ⨾ flag ⨾ number_field w32 1 100
 
 -- number, used
 unfoldable pub report : Format Report
-report = seen_as (count ⨾ price_field) (λ f. record { number_field = f.0; used = f.1 }) (λ r. (r.number, r.used))
+report = seen_as (count ⨾ price_field) (λ f. record { number = f.0; used = f.1 }) (λ r. (r.number, r.used))
 
 -- which parts follow: 1 a state, 2 a report, 3 a state and then a report
 abbrev pub parts_of : Option MachineReg × Option Report → ℕ
@@ -112,11 +112,11 @@ spot = seen_as (id ⨾ count) (λ f. record { machine = f.0; incarnation = f.1 }
 -- a packet whose proposals are in one list, each under its task, attempt and coordinator
 pub record Listed : Type 0 where
   pub sender : ℕ
-  pub number_field : ℕ
+  pub number : ℕ
   pub jobs : List (ℕ × JobReg)
-  pub task_list : List (ℕ × TaskValue)
+  pub tasks : List (ℕ × TaskValue)
   pub machines : List (ℕ × MachineValue)
-  pub entry_list : List (((ℕ × ℕ) × ℕ) × Spot)
+  pub entries : List (((ℕ × ℕ) × ℕ) × Spot)
 
 -- by task, attempt and coordinator
 abbrev pub entry_cmp : (ℕ × ℕ) × ℕ → (ℕ × ℕ) × ℕ → Ordering
@@ -159,7 +159,7 @@ entry_list = records entry_cmp ((id ⨾ attempt) ⨾ coordinator_field) spot
 -- a packet as a version spells it
 unfoldable pub body : Version → Format Listed
 body v = seen_as (header ⨾ jobs ⨾ task_list v ⨾ machines ⨾ entry_list)
-    (λ f. record { sender = f.0.0; number_field = f.0.1; jobs = f.1.0; task_list = f.1.1.0; machines = f.1.1.1.0; entry_list = f.1.1.1.1 })
+    (λ f. record { sender = f.0.0; number = f.0.1; jobs = f.1.0; tasks = f.1.1.0; machines = f.1.1.1.0; entries = f.1.1.1.1 })
     (λ p. ((p.sender, p.number), (p.jobs, (p.tasks, (p.machines, p.entries)))))
 
 -- the word that names a version, the four bytes "FDG1" or "FDG2", and the version that is named
@@ -194,12 +194,12 @@ fault = fault_in packet
 -- records of each kind than 64 bits count, as any memory does
 pub record IsPacket (p : Packet) : Type 0 where
   pub sender : IsTrue (is_coordinator p.sender)
-  pub number_field : p.number < 2 ^ 64
+  pub number : p.number < 2 ^ 64
   pub value : CanBe p.value
   pub jobs : length p.value.jobs < 2 ^ 64
-  pub task_list : length p.value.tasks < 2 ^ 64
+  pub tasks : length p.value.tasks < 2 ^ 64
   pub machines : length p.value.machines < 2 ^ 64
-  pub entry_list : length (flat_of p.value.proposals) < 2 ^ 64
+  pub entries : length (flat_of p.value.proposals) < 2 ^ 64
 
 -- the spec prefers no machine
 abbrev pub PrefersNone : Option SpecReg → Type 0

@@ -10,7 +10,7 @@ use Rattle.fm_gossip.specs.inner.Used.{new_port, used_ports}
 
 -- what a member is to do, at which place it is, and its ports, by the places of their inboxes
 pub record WorkModel : Type 0 where
-  pub member_task : Task
+  pub task : Task
   pub place : ℕ
   pub ports : List PortModel
 

@@ -5,7 +5,7 @@ use Rattle.fm_wire.proofs.record_lists.records_at.Given as goal
 
 abbrev pub invariant-loop : goal.invariant-loop
 invariant-loop g l =
-    let read = records_at g.K.Ord.cmp g.K.Spelled.format (g.V.Recorded.format l.version) in
+    let read = records_at g.K.Ord.cmp g.K.Codec.format (g.V.VersionedCodec.format l.version) in
     record {
       so_far : with_front l.map (read (l.count - l.counter) l.last l.rest) ≡ read l.count None l.bytes;
       end : IsEnd g.K.Ord.cmp g.met.K.Ord.total l.last l.map;
