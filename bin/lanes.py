@@ -13,7 +13,7 @@ CALM = 10
 # minutes of a line that budget.json does not know, and the share of its minutes that a proof takes with all processors
 OF_A_LINE, WITH_ALL = 0.0025, 0.6
 # what a further job takes of the memory of the first, and what tasks take at most of the memory that the toolchain reckons, as measured
-OF_A_JOB, OF_RECKONED = 0.2, 0.7
+OF_A_JOB, OF_RECKONED = 0.25, 0.8
 # the jobs of the first proof while other tasks could run
 FIRST = 2
 
