@@ -14,6 +14,8 @@ CALM = 10
 OF_A_LINE, WITH_ALL = 0.0025, 0.6
 # what a further job takes of the memory of the first, and what tasks take at most of the memory that the toolchain reckons, as measured
 OF_A_JOB, OF_RECKONED = 0.25, 0.8
+# and what a check of many wrong bodies takes more than a proof
+OF_EDITS = 1.7
 # the jobs of the first proof while other tasks could run
 FIRST = 2
 
@@ -71,6 +73,7 @@ class Lanes:
                 self.left.remove(key)
                 self.given[key] = call(self.given, 1)
                 return True
+            needs *= OF_EDITS if key[1] == "edits" else 1
             room = self.memory - sum(held for _, held in self.running.values())
             if lacks or not self.is_free(key):
                 continue
