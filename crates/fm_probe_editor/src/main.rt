@@ -42,8 +42,17 @@ fn main(rt: HostRuntime) -> Result<(), anyhow::Error> {
 // Shows or times an edit for each delta.
 fn edits(rt: &HostRuntime, script: &Script, is_timed: bool) -> Result<(), anyhow::Error> {
     let mut followed = Followed::new(rt.alloc())?;
+    follow_all(rt, &mut followed, script, is_timed)
+}
+
+fn follow_all(
+    rt: &HostRuntime,
+    followed: &mut Followed,
+    script: &Script,
+    is_timed: bool,
+) -> Result<(), anyhow::Error> {
     for step in &script.steps {
-        follow(rt, &mut followed, step.act, is_timed)?;
+        follow(rt, followed, step.act, is_timed)?;
     }
     Ok(())
 }
@@ -78,8 +87,16 @@ fn steps(rt: &HostRuntime, script: &Script, look: Look) -> Result<(), anyhow::Er
 // Tells two coordinators the operations, and looks at each cut.
 fn looks(rt: &HostRuntime, script: &Script) -> Result<(), anyhow::Error> {
     let mut looked = Looked::new(rt.alloc())?;
+    look_at_all(rt, &mut looked, script)
+}
+
+fn look_at_all(
+    rt: &HostRuntime,
+    looked: &mut Looked,
+    script: &Script,
+) -> Result<(), anyhow::Error> {
     for step in &script.steps {
-        looked_at(rt, &mut looked, step.act)?;
+        looked_at(rt, looked, step.act)?;
     }
     Ok(())
 }
