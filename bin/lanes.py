@@ -1,15 +1,17 @@
 """How the gate's tasks are laid out over processors and memory.
 
 Proofs come first, and of these the one with the most minutes of others behind it. It gets two jobs while other tasks are ready, since each
-further job costs a fifth more work, and else as many as there are processors; the other proofs share what is left. Wrong bodies and tests
-run at a lower priority in what the proofs leave free, so they never hold a proof up. A task without work ends at once. Minutes are those of budget.json, or estimated by lines.
+further job costs a fifth more work, and else as many as there are processors. The other proofs share what is left, at a lower priority, so
+they do not hold the first one up. Wrong bodies and tests run at a still lower one in what the proofs leave free. What mostly waits runs
+beside these, and takes no processor's place. A task without work ends at once. Minutes are those of budget.json, or estimated by lines.
 """
+import contextlib
 import os
 import threading
 from concurrent.futures import FIRST_COMPLETED, ThreadPoolExecutor, wait
 
-# how much lower the priority is of what no proof waits for
-CALM = 10
+# how much lower the priority is of a proof that others have more to wait for, and of what no proof waits for
+LATER, CALM = 5, 10
 # minutes of a line that budget.json does not know, and the share of its minutes that a proof takes with all processors
 OF_A_LINE, WITH_ALL = 0.0025, 0.6
 # what a further job takes of the memory of the first, and what tasks take at most of the memory that the toolchain reckons, as measured
@@ -18,11 +20,14 @@ OF_A_JOB, OF_RECKONED = 0.25, 0.8
 OF_EDITS = 1.7
 # the jobs of the first proof while other tasks could run
 FIRST = 2
+# the tasks that mostly wait: the tests with a broker take a minute and a half of a processor in ten
+IDLE = {("tests/run", "brokered")}
 
 
-def calmly(call, *given):
-    """The call at a lower priority, which the processes that it starts have too."""
-    os.setpriority(os.PRIO_PROCESS, threading.get_native_id(), CALM)
+def at_priority(lower, call, *given):
+    """The call at a priority so much lower than that of this process, which the processes that it starts have too."""
+    own = os.getpriority(os.PRIO_PROCESS, os.getpid())
+    os.setpriority(os.PRIO_PROCESS, threading.get_native_id(), own + lower)
     return call(*given)
 
 
@@ -50,19 +55,22 @@ class Lanes:
     def ready(self):
         return [key for key in self.left if all(low in self.given for low in self.tasks[key][0])]
 
+    def is_first(self, key, ready):
+        """Whether a proof has a longer chain behind it than all others that run or are ready."""
+        return all(self.behind[key] > self.behind[it] for it in (*self.running, *ready) if is_proof(it) and it != key)
+
     def jobs(self, key, ready, room):
-        """How many jobs a proof gets: two, or all if nothing else could run, if it has the longest chain behind it, and else its share."""
+        """How many jobs a proof gets: two, or all if nothing else could run, if it is the first, and else its share."""
         others = [it for it in (*self.running, *ready) if is_proof(it) and it != key]
-        is_first = all(self.behind[key] > self.behind[it] for it in others)
         has_fillers = not all(map(is_proof, ready))
-        wanted = (FIRST if has_fillers else self.processors) if is_first else self.processors // (1 + len(others))
+        wanted = (FIRST if has_fillers else self.processors) if self.is_first(key, ready) else self.processors // (1 + len(others))
         most = 1 + int((room / self.tasks[key][2] - 1) / OF_A_JOB)
         return max(1, min(wanted, most, 4))
 
     def is_free(self, key):
         """Whether one more task may run by the processors: a proof if there are fewer proofs, and another task if there are fewer tasks."""
-        same = [it for it in self.running if is_proof(it)] if is_proof(key) else self.running
-        return len(same) < self.processors
+        same = [it for it in self.running if is_proof(it)] if is_proof(key) else self.running.keys() - IDLE
+        return key in IDLE or len(same) < self.processors
 
     def begin(self, pools):
         """Starts all tasks that there is room for. A proof that lacks memory keeps the others from taking it."""
@@ -80,16 +88,20 @@ class Lanes:
             if self.running and needs > room:
                 lacks = is_proof(key)
                 continue
-            jobs = self.jobs(key, self.ready(), room) if is_proof(key) else 1
-            words = (call, self.given, jobs) if is_proof(key) else (calmly, call, self.given, jobs)
+            ready = self.ready()
+            jobs = self.jobs(key, ready, room) if is_proof(key) else 1
+            lower = (0 if self.is_first(key, ready) else LATER) if is_proof(key) else CALM
             self.left.remove(key)
-            self.running[key] = pools[is_proof(key)].submit(*words), needs * (1 + OF_A_JOB * (jobs - 1))
+            started = pools[lower].submit(at_priority, lower, call, self.given, jobs)
+            self.running[key] = started, needs * (1 + OF_A_JOB * (jobs - 1))
         return False
 
     def run(self):
-        with ThreadPoolExecutor(self.processors) as proofs, ThreadPoolExecutor(self.processors) as others:
+        # a thread cannot raise its priority again, so each has threads of its own
+        with contextlib.ExitStack() as stack:
+            pools = {lower: stack.enter_context(ThreadPoolExecutor(self.processors + len(IDLE))) for lower in (0, LATER, CALM)}
             while self.left or self.running:
-                if self.begin({True: proofs, False: others}):
+                if self.begin(pools):
                     continue
                 ended = wait([it for it, _ in self.running.values()], return_when=FIRST_COMPLETED).done
                 for key in [key for key, (it, _) in self.running.items() if it in ended]:

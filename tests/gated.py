@@ -1,5 +1,6 @@
 """Tests of how the gate lays out its work and counts it: bin/lanes.py, bin/budget.py, bin/checked.py and bin/beside.py, on tasks that are made up."""
 import json
+import os
 import pathlib
 import sys
 import tempfile
@@ -14,12 +15,15 @@ import budget
 import checked
 import lanes
 
+# the lowest priority that a system has
+LOWEST = 19
+
 
 class Tasks:
     """Made-up tasks that note when each runs, with how many jobs, and beside which others."""
 
     def __init__(self):
-        self.tasks, self.order, self.jobs, self.beside, self.now, self.lock = {}, [], {}, [], set(), threading.Lock()
+        self.tasks, self.order, self.jobs, self.priorities, self.beside, self.now, self.lock = {}, [], {}, {}, [], set(), threading.Lock()
 
     def add(self, name, kind, waits=(), lines=1, memory=1, gives=True):
         self.tasks[name, kind] = list(waits), lines, memory, lambda given, jobs: self.ran((name, kind), jobs, gives)
@@ -28,6 +32,7 @@ class Tasks:
         with self.lock:
             self.order.append(key)
             self.jobs[key] = jobs
+            self.priorities[key] = os.getpriority(os.PRIO_PROCESS, threading.get_native_id())
             self.now.add(key)
             self.beside.append(set(self.now))
         time.sleep(0.01)
@@ -84,7 +89,23 @@ def laid_out():
     for number in range(4):
         made.add(f"crate{number}", "proof")
     made.run(minutes={("crate2", "proof"): 5})
+    made.add("crate2", "edits")
+    made.run(minutes={("crate2", "proof"): 5})
+    keys = ("crate2", "proof"), ("crate0", "proof"), ("crate3", "proof"), ("crate2", "edits")
+    own = os.getpriority(os.PRIO_PROCESS, 0)
+    yield "the first proof has the highest priority, and what no proof waits for the lowest", (
+        [made.priorities[key] for key in keys] == [min(LOWEST, own + lower) for lower in (0, lanes.LATER, lanes.LATER, lanes.CALM)])
+    made = Tasks()
+    for number in range(4):
+        made.add(f"crate{number}", "proof")
+    made.run(minutes={("crate2", "proof"): 5})
     yield "the others get one each", [made.jobs[f"crate{it}", "proof"] for it in (0, 1, 3)] == [1, 1, 1] and made.jobs["crate2", "proof"] == 4
+    made = Tasks()
+    idle = next(iter(lanes.IDLE))
+    for key in (("crate0", "edits"), ("crate1", "edits"), idle, ("crate2", "edits")):
+        made.add(*key)
+    made.run(processors=1)
+    yield "what mostly waits takes no processor's place", {idle} < max(made.beside, key=len) and max(len(it - lanes.IDLE) for it in made.beside) == 1
     made = Tasks()
     made.add("low", "proof", gives=False)
     made.add("low", "tests", lines=0)
