@@ -1,6 +1,7 @@
 #!/usr/bin/env python3
 """Tests of bin/bridge on a real broker, by name, for tests/run: its words, its lines, its parts by themselves,
-journals, signals and TLS. Those of what it outlives are in tests/outlived.py.
+journals, signals and TLS. Those of what it outlives are in tests/outlived.py, those of a day's use in
+tests/operated.py, and those of what it relays in tests/relayed.py.
 
     tests/bridged.py [--program FILE] [--kills N] [GROUP..]
 
@@ -24,7 +25,9 @@ ROOT = pathlib.Path(__file__).resolve().parent.parent
 sys.path[:0] = [str(ROOT / "bench"), str(ROOT / "tests"), str(ROOT / "bin")]
 import brokers
 import hostile
+import operated
 import outlived
+import relayed
 from bridging import claims, follower, lines as lines_of, mailbox, packets, settings
 from brokers import QUICK, Bridge, Broker, told as tell, until
 from clustered import agree, cluster, ended, is_refused, refused, running, told_to
@@ -89,7 +92,7 @@ REFUSED = [
 LINES = [
     *((line, b"refusal 16\n") for line in REFUSED), (b'{"at":1,"take":"46"}', b"refusal 6\n"), (b'{"at":2,"ask":"graph"}', b"refusal 8\n"),
     (b'{"at":1,"cut":{}}', b"0\nok\n"), (b'{"at":1,"ask":"winners"}', b"ok\n"), (b'{"ask":"agree"}', b"same\nok\n"),
-    (b'{"at":1,"round":true}', b"ok\n"), (b'{"at":1,"ask":"stops"}', b"ok\n"),
+    (b'{"at":1,"round":true}', b"ok\n"), (b'{"at":1,"ask":"stops"}', b"ok\n"), (b'{"at":1,"ask":"end"}', b"end 0 1\nok\n"),
     (b'{"at":1,"ask":"why","task":"%s"}' % UNKNOWN, b"task %s is not known\nok\n" % UNKNOWN),
     (b'{"at":1,"ask":"why","task":"7"}', b"refusal 16\n")]
 
@@ -280,7 +283,7 @@ def skipped(_program):
     yield "a bridge without paho-mqtt", is_refused((done.returncode, done.stdout, done.stderr), 10, b"python3-paho-mqtt")
 
 
-GROUPS = {"parts": parts, "words": words, "lines": lines, **outlived.GROUPS, "journals": journals, "signals": signals,
+GROUPS = {"parts": parts, "words": words, "lines": lines, **outlived.GROUPS, **operated.GROUPS, **relayed.GROUPS, "journals": journals, "signals": signals,
           "secrets": secrets, "example": example, "skipped": skipped}
 
 

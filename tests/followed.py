@@ -21,7 +21,7 @@ import witness
 
 RENEW_AFTER = 100000
 MOST_ENTRIES = 1000000
-TOPICS = "graph", "solve", "plan", "winners", "stops"
+TOPICS = "graph", "solve", "plan", "winners", "stops", "end"
 STRANGE, NO_PACKET, NOBODY = 16, 6, 8
 END = re.compile(rb"ok\n|refusal [0-9]+\n")
 PLACE = re.compile(r"place (\S{36}) (\S{36}) ([0-9]+)(?: \S+)?")
@@ -322,6 +322,8 @@ class Stream:
             return "".join(line + "\n" for line in plan_lines(plan_seen(known, seen)))
         if topic == "stops":
             return "".join(stops(known, at))
+        if topic == "end":
+            return "end %d %d\n" % (self.world.coordinators[at].floor, len(self.world.coordinators[at].sets))
         return "".join({"graph": reference.graph, "winners": reference.winners}[topic](known))
 
     def why(self, at, task, seen):

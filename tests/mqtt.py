@@ -104,8 +104,8 @@ class Way:
     """One direction of a connection: packets go on from a source to a sink, and messages of the cluster meet with
     faults."""
 
-    def __init__(self, proxy, near, far):
-        self.proxy, self.near, self.far, self.held = proxy, near, far, None
+    def __init__(self, proxy, near, far, is_up):
+        self.proxy, self.near, self.far, self.is_up, self.held = proxy, near, far, is_up, None
         self.source = near.socket.makefile("rb")
 
     def run(self):
@@ -118,9 +118,14 @@ class Way:
             end.close()
 
     def pass_on(self, kind, flags, body):
-        frame, fault = framed(kind, flags, body), None
+        fault = None
         if kind == PUBLISH:
             fault = self.proxy.fault()
+            if self.is_up and self.proxy.keeps_nothing:
+                flags &= ~1
+            if not self.is_up:
+                self.proxy.count(topic_of(body), len(body))
+        frame = framed(kind, flags, body)
         if fault == "dropped":
             # its sender believes that it arrived
             if flags & 6:
@@ -145,12 +150,14 @@ class Way:
 
 
 class Proxy:
-    """A proxy on a port of its own. Of a hundred messages so many meet with each fault, drawn by a seed."""
+    """A proxy on a port of its own. Of a hundred messages so many meet with each fault, drawn by a seed. If it keeps nothing, the broker
+    relays what is to be kept, and keeps none of it. It counts the bytes of messages from the broker by their kind."""
 
     def __init__(self, port, seed=1, dropped=0, repeated=0, held=0):
         self.port_behind, self.chance = port, random.Random("proxy %s" % seed)
         self.faults = {"dropped": dropped, "repeated": repeated, "held": held}
         self.made = dict.fromkeys(self.faults, 0)
+        self.keeps_nothing, self.received = False, {}
         self.door = socket.create_server(("127.0.0.1", 0))
         self.port, self.is_cut, self.ends, self.lock = self.door.getsockname()[1], False, [], threading.Lock()
         threading.Thread(target=self.run, daemon=True).start()
@@ -172,6 +179,11 @@ class Proxy:
                     return fault
                 drawn -= share
         return None
+
+    def count(self, topic, size):
+        kind = topic.split("/")[-2]
+        with self.lock:
+            self.received[kind] = self.received.get(kind, 0) + size
 
     def heal(self):
         self.faults = dict.fromkeys(self.faults, 0)
@@ -203,5 +215,5 @@ class Proxy:
                 continue
             ends = End(near), End(far)
             self.ends += ends
-            for way in Way(self, *ends), Way(self, *ends[::-1]):
+            for way in Way(self, *ends, True), Way(self, *ends[::-1], False):
                 threading.Thread(target=way.run, daemon=True).start()

@@ -184,7 +184,8 @@ def kills(program, count=KILLS):
         for _ in range(count):
             with Bridge(broker.port, 1, *words, program=program) as bridge:
                 bridge.write(b"".join(tell(1, op) for op in told[place:place + 40]))
-                until(lambda: bridge.count() > 0, chance.uniform(0, 1.5), pause=0.005)
+                # half of the kills come behind an answer, however slow the machine is, and the others at any moment
+                until(lambda: bridge.count() > 0, brokers.PATIENCE if chance.random() < 0.5 else chance.uniform(0, 1.5), pause=0.005)
                 time.sleep(chance.uniform(0, 0.1))
                 bridge.kill()
                 place, rate = place + bridge.count(), rate + [bridge.count()]

@@ -5,7 +5,7 @@ import subprocess
 
 ROOT = pathlib.Path(__file__).resolve().parent.parent
 # pages, each with how many commands it shows at least
-PAGES = {"README.md": 5, "docs/why.md": 2}
+PAGES = {"README.md": 5, "docs/why.md": 1}
 
 
 def shown(text):

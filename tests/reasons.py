@@ -12,10 +12,10 @@ import sys
 ROOT = pathlib.Path(__file__).resolve().parent.parent
 sys.path += [str(ROOT / name) for name in ("bench", "bin", "tests")]
 import drawn
+import forced
 import networks
 import reference
 import schedules
-import whys
 import witness
 
 KNOWN = re.compile(r"room .* of (\d+) machines that are known")
@@ -117,7 +117,7 @@ def wrong_moves(network, flow, text):
         kind = "U" if waits else "R" if request else "M"
         goes[named[name]] = next(node for node in network.out[named[name]] if network.nodes[node].kind == kind
                                  and (not machine or network.nodes[node].name == machine))
-    balance, arcs = whys.problem(network)
+    balance, arcs = forced.problem(network)
     cost = witness.least_cost(balance, [arc for arc in arcs if goes.get(arc[0], arc[1]) == arc[1]])
     return None if cost == int(found[2]) else "with these moves a schedule costs %d, not %s" % (cost, found[2])
 
@@ -180,7 +180,7 @@ def places_by_flows(known, task):
     """What a least schedule costs, and how much dearer it is with the task at each place, by the solver of tests/witness.py."""
     network = networks.read_dump("".join(reference.graph(known)))
     node = next(node for node in network.of_kind("T") if network.nodes[node].name == reference.name(task))
-    least = witness.least_cost(*whys.problem(network))
+    least = witness.least_cost(*forced.problem(network))
     return least, {place and reference.number(place): more for place, (_, more) in facts_by_flows(network, least, node).places.items()}
 
 
@@ -193,9 +193,9 @@ def places_by_schedules(known, task):
 def facts_by_flows(network, least, task):
     """The facts on a task of a network, by the solver of tests/witness.py: it is forced along each of its ways."""
     found = {}
-    for place, ways in whys.routes(network, task).items():
+    for place, ways in forced.routes(network, task).items():
         own = min(sum(network.arcs[ends].cost for ends in zip(way, way[1:])) for way in ways)
-        found[place] = own, min(whys.forced(network, way) for way in ways) - least
+        found[place] = own, min(forced.least_cost(network, way) for way in ways) - least
     request = int(network.nodes[network.next_of(task, "R")].name)
     return Facts(network.nodes[task].name, request, found[None][0], least, found)
 
@@ -205,7 +205,7 @@ def texts_by_flows(known, task):
     def facts_of(task):
         network = networks.read_dump("".join(reference.graph(known)))
         node = next(node for node in network.of_kind("T") if network.nodes[node].name == reference.name(task))
-        return facts_by_flows(network, witness.least_cost(*whys.problem(network)), node)
+        return facts_by_flows(network, witness.least_cost(*forced.problem(network)), node)
     return texts(known, task, facts_of)
 
 
@@ -290,10 +290,10 @@ def far(run, links):
     script, waiting = chained(links)
     network = networks.read_dump(run("graph", script))
     task = next(node for node in network.of_kind("T") if network.nodes[node].name == reference.name(waiting))
-    least, ways = witness.least_cost(*whys.problem(network)), whys.routes(network, task)
+    least, ways = witness.least_cost(*forced.problem(network)), forced.routes(network, task)
     lines = CHOICE.findall(run("why", script, reference.name(waiting)))
     for machine, exact, bound, found in lines:
-        more = min(whys.forced(network, way) for way in ways[machine]) - least
+        more = min(forced.least_cost(network, way) for way in ways[machine]) - least
         most = bound if exact else found or more
         yield "a chain of %d to machine ..%s costs %d more" % (links, machine[-3:], more), int(bound) <= more <= int(most)
     beyond = sum(found != "" for _, _, _, found in lines)

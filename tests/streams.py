@@ -158,7 +158,7 @@ STRANGE = [
     b'{"at":1,"deliver":"\xed\xa0\x80"}', b'{"at":1,"deliver":"\\ud800"}', b"\xef\xbb\xbf" + GRAPH, GRAPH + b"x", GRAPH + GRAPH,
     GRAPH[:-1], b"\0" + GRAPH, b"[" * 200, b'{"a":' * 200, b'{"at":1,"ask":"graph"' + b"\0" + b"}", b'{"coordinators":{1,2}}']
 # what a number without a coordinator is refused for, before all else that is wrong
-AT_NOBODY = ('"ask":"graph"', '"ask":"stops"', '"ask":"why","task":"%s"' % TASK, '"news":true', '"round":true', '"trim":9',
+AT_NOBODY = ('"ask":"graph"', '"ask":"stops"', '"ask":"end"', '"ask":"why","task":"%s"' % TASK, '"news":true', '"round":true', '"trim":9',
              '"deliver":"none"', '"cut":{}', '"cut":{"from":2,"to":1}')
 NO_PACKETS = b"", b"46", b"46444732", hostile.PACKET[:-1].hex().encode(), hostile.PACKET.hex().encode() + b"00"
 NO_INTERVALS = '"trim":1', '"cut":{"from":1,"to":0}', '"cut":{"from":0,"to":1}', '"cut":{"name":"p","from":0,"to":18446744073709551615}'
@@ -210,9 +210,11 @@ def packet_forms(program):
     """A packet is taken in with digits of either case, in both versions, with a number and a sender of anywhere."""
     told = {reference.operation(kind, {**fields, **({"prefer": []} if kind == "spec" else {})}) for kind, fields in hostile.OPERATIONS.items()}
     newer, older = (reference.packed(reference.Packet(64, 2 ** 64 - 1, told), version)[1].strip() for version in (b"FDG2", b"FDG1"))
-    wanted = answers(program, lines(OPEN, *map(tell, hostile.OPERATIONS), *asks([1])))[-6:-1]
+    # the packet is one delta, and what was told is several
+    questions = asks([1], tuple(topic for topic in followed.TOPICS if topic != "end"))
+    wanted = answers(program, lines(OPEN, *map(tell, hostile.OPERATIONS), *questions))[-6:-1]
     for name, digits in ("newer", newer), ("older", older), ("in upper case", newer.upper()), ("in both", newer[:99] + newer[99:].upper()):
-        text = lines(OPEN, {"at": 1, "take": digits}, *asks([1]))
+        text = lines(OPEN, {"at": 1, "take": digits}, *questions)
         yield judged("a packet %s" % name, program, text)
         yield "a packet %s is all that was told" % name, answers(program, text)[2:-1] == wanted
     for place in range(0, len(newer), 7):

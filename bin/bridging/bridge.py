@@ -1,4 +1,5 @@
 """A bridge: one coordinator, its operator's lines, and the packets that it exchanges with the others."""
+import contextlib
 import os
 import random
 import signal
@@ -12,20 +13,23 @@ from bridging.answers import Answers
 from bridging.broker import Broker
 from bridging.claims import Claim
 from bridging.coordinator import Coordinator, most_packet, take_line
+from bridging.conversations import Conversations
 from bridging.endings import BROKER_REFUSES, JOURNAL_FAILED, NOT_ALL_SENT, NUMBER_TAKEN, OUTPUT_FAILED, WELL, Failure
-from bridging.follower import is_accepted, usual_program
+from bridging.follower import Waits, is_accepted, usual_program
 from bridging.inbox import Inbox
 from bridging.journal import Journal
-from bridging.lines import Lines
+from bridging.listening import Listener
 from bridging.mailbox import Mailbox
 from bridging.outbox import Outbox
 from bridging.packets import number_of
 from bridging.settings import Settings, read_settings
-from bridging.telling import Counts, Telling
+from bridging.telling import Clocks, Counts, Telling
 
 # so many lines are told at once
 AT_ONCE = 512
 LONGEST_SLEEP = 1.0
+# how a line of a journal is answered that is not what was written: no JSON, no packet, or a field out of its range
+DAMAGED = (b"refusal 16\n", b"refusal 6\n", b"refusal 2\n")
 # a claim that did not come back is made again after so many seconds
 ASKED_AGAIN = 2.0
 # how many others may begin to send their states at the same time is spread over so many seconds
@@ -36,20 +40,21 @@ class Bridge:
     """The loop of a bridge runs in one thread, which alone speaks with the follower. Other threads read lines, write
     answers, and keep the connection."""
 
-    def __init__(self, settings: Settings) -> None:
-        self._settings, self._counts = settings, Counts()
-        self._telling = Telling(settings.number, settings.is_json)
-        self._wake, self._stopping = threading.Condition(threading.RLock()), False
+    def __init__(self, settings: Settings, telling: Telling) -> None:
+        self._settings, self._counts, self._telling = settings, Counts(), telling
+        self._wake, self._stopping, self._stops_at = threading.Condition(threading.RLock()), False, float("inf")
         limit = most_packet(settings.number)
         self._mailbox = Mailbox(self._wake, settings.queue, limit)
         self._claim = Claim(settings.number)
         self._broker = Broker(settings, self._mailbox, self._claim)
         self._outbox = Outbox(self._broker, settings, self._counts, self._telling, limit)
         self._inbox = Inbox(settings.number, self._outbox, self._counts, self._telling)
-        self._lines, self._answers = Lines(0, self._wake), Answers(1, self._wake)
+        self._conversations, self._answers = Conversations(self._wake), Answers()
+        self._listener: Optional[Listener] = None
         self._journal: Optional[Journal] = None
+        self._are_read: Optional[bool] = None
         self._connection = self._turn = self._accepted = 0
-        self._has_begun = False
+        self._has_begun = self._is_new_connection = False
         self._answered: list[tuple[float, int]] = []
         self._oldest, self._back_at, self._refresh_at = 0.0, time.monotonic(), time.monotonic() + settings.refresh
         self._report_at = time.monotonic() + settings.report if settings.report else float("inf")
@@ -58,27 +63,43 @@ class Bridge:
 
     def run(self, program: str) -> int:
         """Runs with the program to the end of the lines, or until a signal. Answers the status."""
-        asked = self._settings
-        self._coordinator = Coordinator(program, asked.number, asked.renew_after, asked.connect_wait)
-        try:
+        self._program = program
+        with contextlib.ExitStack() as ending:
+            if self._settings.listen is not None:
+                self._listener = Listener(self._settings.listen)
+                ending.callback(self._listener.close)
+            self._coordinator = self._made_coordinator()
+            ending.callback(self._close)
             self._begin()
             self._has_begun = True
-            self._lines.start()
-            while not (self._stopping or (self._lines.is_ended() and not self._settings.stays)):
+            self._conversations.operator.lines.start()
+            if self._listener is not None:
+                self._listener.start(self._conversations)
+            while not (self._stopping or self._are_lines_ended()):
                 self._rest()
                 self._step()
             return self._end()
-        finally:
-            self._answers.close(self._settings.end_wait)
-            self._broker.close()
-            self._coordinator.close()
-            if self._has_begun:
-                self._telling.count("ended", self._counts)
+
+    def _close(self) -> None:
+        """Ends all that runs, whatever happened before."""
+        if self._listener is not None:
+            self._listener.close()
+        self._finish_answers()
+        self._broker.close()
+        self._coordinator.close()
+        if self._has_begun:
+            self._telling.count("ended", self._counts)
+
+    def _made_coordinator(self) -> Coordinator:
+        asked = self._settings
+        waits = Waits(asked.connect_wait, asked.follower_wait, lambda: self._stops_at)
+        return Coordinator(self._program, asked.number, asked.renew_after, waits)
 
     def stop(self, *_signal: object) -> None:
         """Ends the bridge once it sent what it has. In a handler of signals: the lock may be held by the thread that
         it interrupts."""
         self._stopping = True
+        self._stops_at = min(self._stops_at, time.monotonic() + self._settings.end_wait)
         with self._wake:
             self._wake.notify_all()
 
@@ -87,14 +108,14 @@ class Bridge:
         self._broker.connect()
         self._connection = self._broker.connection
         self._claim_number()
-        lines: Sequence[bytes] = []
-        if self._settings.journal is not None:
-            self._journal = Journal(self._settings.journal, self._settings.cluster, self._settings.number)
-            lines = self._journal.lines
-            self._tell_again(lines)
+        lines, asked = 0, self._settings
+        if asked.journal is not None:
+            self._journal = Journal(asked.journal, asked.cluster, asked.number, asked.salvages)
+            lines = self._tell_again(self._journal)
         place = f"{self._settings.host}:{self._settings.port}, cluster {self._settings.cluster}"
-        self._telling.say("connected", f"connected to {place}; {len(lines)} lines of a journal told", lines=len(lines))
+        self._telling.say("connected", f"connected to {place}; {lines} lines of a journal told", lines=lines)
         self._exchange()
+        self._fetch_states()
         self._inbox.is_foreign = False
         self._outbox.last_state = self._inbox.own_state
         if self._coordinator.deltas:
@@ -123,18 +144,50 @@ class Bridge:
         self._claim.run()
         self._turn = self._claim.came_back
 
+    def _fetch_states(self) -> None:
+        """Fetches the states that the broker keeps and that say something new, and takes them in, if they come in time."""
+        if self._broker.hear_states(self._inbox.sources.numbers() | {self._settings.number}):
+            self._broker.claim(is_new=False)
+            end = time.monotonic() + self._settings.connect_wait
+            while not self._claim.is_back() and not self._claim.is_lost and not self._stopping and time.monotonic() < end:
+                with self._wake:
+                    self._wake.wait(0.02)
+            self._exchange()
+
     def _taken(self) -> str:
         return f"the number {self._settings.number} of cluster {self._settings.cluster} is taken by another bridge"
 
-    def _tell_again(self, lines: Sequence[bytes]) -> None:
-        """Tells the lines of a journal, which are sent with the next state."""
-        for first in range(0, len(lines), AT_ONCE):
-            answers, _ = self._coordinator.tell(lines[first:first + AT_ONCE])
-            refused = next((place for place, answer in enumerate(answers) if not is_accepted(answer)), None)
-            if refused is not None:
-                answer = answers[refused].decode().strip()
-                raise Failure(JOURNAL_FAILED, f"line {first + refused + 2} of the journal is answered by {answer}")
+    def _tell_again(self, journal: Journal) -> int:
+        """Tells the lines of a journal, which are sent with the next state: those before the first that is refused if the
+        journal is to be salvaged. Answers how many."""
+        lines = journal.lines
+        told, answer = self._tell_accepted(lines)
+        if answer is not None:
+            why = f"line {told + 2} of the journal is answered by {answer.decode().strip()}"
+            if answer not in DAMAGED:
+                raise Failure(JOURNAL_FAILED, why)
+            journal.salvage(lines[:told], why)
+            # the lines behind the damage may have been told with it
+            self._coordinator.close()
+            self._coordinator = self._made_coordinator()
+            self._tell_accepted(lines[:told])
+        if journal.aside is not None:
+            self._telling.say("salvaged", f"the journal is damaged: the {told} lines before the damage were told, and the damaged file "
+                                          f"is {journal.aside}", lines=told, aside=str(journal.aside))
+        journal.lines = []
         self._coordinator.own = self._coordinator.deltas
+        return told
+
+    def _tell_accepted(self, lines: Sequence[bytes]) -> tuple[int, Optional[bytes]]:
+        """Tells lines until one is not accepted. Answers how many were, and how the next one was answered, if there is one."""
+        told = 0
+        while told < len(lines):
+            answers, _ = self._coordinator.tell(lines[told:told + AT_ONCE])
+            for answer in answers:
+                if not is_accepted(answer):
+                    return told, answer
+                told += 1
+        return told, None
 
     def _end(self) -> int:
         """Sends what is left, as long as the broker takes it in time. It is sent also if the number turned out to be
@@ -148,16 +201,28 @@ class Bridge:
         if self._claim.is_lost:
             self._telling.say("failed", self._taken(), status=NUMBER_TAKEN)
             return NUMBER_TAKEN
-        if self._answers.is_broken:
-            self._telling.say("output", "standard output cannot be written")
+        if not self._finish_answers():
+            output = self._conversations.operator.writer
+            why = "cannot be written" if output.is_broken else f"is not read: {output.unread} bytes of answers are left"
+            self._telling.say("output", f"standard output {why}")
             return OUTPUT_FAILED
         if not self._is_all_sent():
             self._telling.say("unsent", "not all that was accepted is known to be with the broker")
             return NOT_ALL_SENT
         return WELL
 
+    def _finish_answers(self) -> bool:
+        """Waits for the answers to be read, as long as something of them is. Whether all were."""
+        if self._are_read is None:
+            self._are_read = self._conversations.finish(self._settings.end_wait)
+        return self._are_read
+
     def _is_all_sent(self) -> bool:
         return self._coordinator.own_news() == 0 and self._outbox.is_empty() and not self._answers.are_waiting()
+
+    def _are_lines_ended(self) -> bool:
+        """Whether no more lines can come."""
+        return self._conversations.operator.lines.is_ended() and not self._settings.stays
 
     # one turn of the loop
 
@@ -173,10 +238,10 @@ class Bridge:
 
     def _has_work(self) -> bool:
         """Whether a step would do something now, as far as other threads know of it."""
-        can_tell = self._lines.is_waiting() and self._answers.has_room() and not self._stopping
+        can_tell = not self._stopping and self._answers.has_room() and self._conversations.is_waiting()
         return (can_tell or self._mailbox.has_news() or self._is_exchange_due()
                 or (self._claim.is_lost and not self._stopping) or self._connection != self._broker.connection
-                or bool(self._claim.newcomers))
+                or bool(self._claim.newcomers) or self._conversations.are_ending())
 
     def _step(self) -> None:
         self._look_at_connection()
@@ -185,46 +250,62 @@ class Bridge:
         if self._is_exchange_due():
             self._exchange()
         if self._outbox.is_state_due() and self._can_send_state() and not self._coordinator.own_news():
-            self._send_state(self._coordinator.cut_state())
+            began = Clocks()
+            self._send_state(self._coordinator.cut_state(), began)
         if self._outbox.is_unheard_of() and not self._coordinator.own_news():
             # news of nothing, by whose number the others see that they need the state
             self._outbox.send_news(self._coordinator.cut_news(with_state=False)[0])
         if self._can_send_state():
-            self._broker.hear_states(self._inbox.coverage.missing() | {self._settings.number})
+            self._broker.hear_states(self._inbox.sources.numbers() | {self._settings.number})
         self._answers.let_go(self._outbox.confirmed if self._settings.is_confirmed else self._accepted)
+        for unread in self._conversations.tidy():
+            self._counts.cut_off += 1
+            self._telling.say("cut_off", f"a client that did not read {unread} bytes of answers is cut off", bytes=unread)
         self._look_at_times()
 
     def _tell(self) -> None:
         """Tells lines that wait. What they come to is in the journal before an answer goes out."""
-        if self._answers.is_broken or self._claim.is_lost:
+        if self._conversations.operator.writer.is_broken or self._claim.is_lost:
             self._stopping = True
         if self._stopping or not self._answers.has_room():
             return
         room = max(1, self._settings.cut_count - self._coordinator.own_news())
-        lines, before = self._lines.take(min(AT_ONCE, room)), self._coordinator.deltas
-        if not lines:
+        taken, before = self._conversations.take(min(AT_ONCE, room)), self._coordinator.deltas
+        if not taken:
             return
         if not self._coordinator.own_news():
             self._oldest = time.monotonic()
-        answers, again = self._coordinator.tell(lines)
+        answers, again = self._coordinator.tell([line for _, line in taken])
+        self._conversations.put_back(taken[len(answers):])
         if self._journal is not None and again:
             self._journal.add(again)
             self._counts.journaled += len(again)
-        self._accepted += self._coordinator.deltas - before
-        if self._settings.is_traced:
-            self._answered.append((time.time(), self._coordinator.deltas - before))
+        self._count_accepted(self._coordinator.deltas - before)
         told = sum(map(is_accepted, answers))
         self._counts.told += told
         self._counts.refused_lines += len(answers) - told
-        self._answers.put(self._accepted, b"".join(answers))
+        for (conversation, _), answer in zip(taken, answers):
+            self._answers.put(self._accepted, answer, conversation)
         if self._journal is not None and self._journal.is_long():
             self._shorten(self._journal)
+
+    def _count_accepted(self, added: int) -> None:
+        """So many deltas were added, and perhaps something else was changed by a line of an unknown kind."""
+        if self._coordinator.may_have_changed:
+            self._coordinator.may_have_changed, self._outbox.is_stale = False, True
+            self._outbox.want_state(self._settings.state_interval)
+            added = max(1, added)
+        self._accepted += added
+        if self._settings.is_traced:
+            self._answered.append((time.time(), added))
 
     def _shorten(self, journal: Journal) -> None:
         """Rewrites the journal as one packet of all that is known, if a line can hand that over."""
         packet = self._coordinator.cut_state()
         if len(packet) <= most_packet(self._settings.number):
-            journal.replace(take_line(self._settings.number, packet))
+            why = journal.replace(take_line(self._settings.number, packet))
+            if why is not None:
+                self._telling.say("journal", f"the journal cannot be rewritten, which is put off: {why}")
         else:
             journal.put_off()
 
@@ -236,7 +317,7 @@ class Bridge:
         if not news:
             return self._mailbox.has_packets() or self._coordinator.is_to_renew() or is_back
         return (news >= self._settings.cut_count or time.monotonic() - self._oldest >= self._settings.cut_interval
-                or self._mailbox.load() > 0.5 or self._stopping or self._lines.is_ended() or is_back)
+                or self._mailbox.load() > 0.5 or self._stopping or self._are_lines_ended() or is_back)
 
     def _exchange(self) -> None:
         """Cuts its own news and sends it, and then takes in what came."""
@@ -254,6 +335,9 @@ class Bridge:
             self._turn = turn
             if self._inbox.own_state != self._outbox.last_state and self._coordinator.deltas:
                 self._outbox.is_gone()
+            elif self._is_new_connection or self._inbox.own_digest != self._outbox.digest:
+                self._tell_digest()
+            self._is_new_connection = False
         if self._inbox.is_foreign:
             self._inbox.is_foreign = False
             self._counts.foreign += 1
@@ -263,12 +347,13 @@ class Bridge:
     def _send_news(self) -> None:
         """Cuts and sends its own news, and a state behind it if that is due."""
         self._outbox.want_news()
+        began = Clocks()
         packet, state = self._coordinator.cut_news(self._outbox.is_state_due() and self._can_send_state())
         self._outbox.send_news(packet)
         self._trace("cut", number=number_of(packet), answered=self._answered)
         self._answered = []
         if state is not None:
-            self._send_state(state)
+            self._send_state(state, began)
 
     def _hear(self, with_packets: bool) -> None:
         """Looks at what came, and takes packets in."""
@@ -284,7 +369,7 @@ class Bridge:
             self._telling.say("full", f"{dropped} packets came while {self._settings.queue} waited, and were dropped: "
                                       "the states that the broker keeps are asked for again", dropped=dropped)
             for sender in mail.dropped:
-                self._inbox.coverage.missed(sender)
+                self._inbox.sources.missed(sender)
             self._refresh_at = min(self._refresh_at, time.monotonic() + 1)
         wanted = self._inbox.wanted(mail.parcels)
         if wanted:
@@ -298,11 +383,14 @@ class Bridge:
             self._telling.say(event, event, **more)
 
     def _can_send_state(self) -> bool:
-        """Whether the broker is there, and what it kept came."""
-        return self._broker.is_connected and self._claim.is_back()
+        """Whether the broker is there, and what it kept came and was looked at."""
+        return self._broker.is_connected and self._claim.is_back() and self._turn == self._claim.came_back
 
-    def _send_state(self, packet: bytes) -> None:
-        if not self._outbox.send_state(packet, self._accepted):
+    def _send_state(self, packet: bytes, began: Clocks) -> None:
+        """Sends a state, whose cut began then, if a line can hand it over."""
+        is_small = self._outbox.send_state(packet, self._accepted)
+        self._trace("state", bytes=len(packet), **began.passed())
+        if not is_small:
             most = most_packet(self._settings.number)
             why = f"the state has {len(packet)} bytes, and no line can hand over more than {most}"
             if self._settings.is_confirmed:
@@ -313,17 +401,25 @@ class Bridge:
 
     def _look_at_connection(self) -> None:
         if self._connection != self._broker.connection:
-            self._connection = self._broker.connection
+            self._connection, self._is_new_connection = self._broker.connection, True
             self._outbox.lost()
             self._counts.lost_connections += 1
-            self._inbox.coverage.forget()
-            self._inbox.own_state = None
+            self._inbox.sources.forget()
+            self._inbox.forget_own()
             self._telling.say("connection", "the connection was lost and is made again", connection=self._connection)
+        if not self._claim.newcomers:
+            return
         while self._claim.newcomers:
             # who comes, or comes back, may have sent what was not heard here
-            self._inbox.coverage.missed(self._claim.newcomers.popleft())
-            if self._outbox.is_stale:
-                self._outbox.want_state(0, delay=random.uniform(0, SPREAD))
+            self._inbox.sources.missed(self._claim.newcomers.popleft())
+        if self._outbox.is_stale:
+            self._outbox.want_state(0, delay=random.uniform(0, SPREAD))
+        self._tell_digest()
+
+    def _tell_digest(self) -> None:
+        """Tells those that came, or came back, what its last state says, if nothing came after that."""
+        if not self._outbox.is_stale:
+            self._outbox.send_digest()
 
     def _look_at_times(self) -> None:
         now = time.monotonic()
@@ -333,8 +429,8 @@ class Bridge:
             self._outbox.lost()
             self._broker.drop()
         if self._outbox.is_unkept():
-            self._telling.say("unkept", "a state was sent and did not come back: the broker may have a limit for "
-                                        "messages, or not let this user write it")
+            self._telling.say("unkept", "a state was sent, and did not come back or is not kept: the broker may have a limit for "
+                                        "messages, keep none, or not let this user write it")
         if self._claim.is_back() or not self._broker.is_connected:
             self._back_at = now
         if now >= self._refresh_at or now - self._back_at > self._settings.ack_wait:
@@ -347,7 +443,8 @@ class Bridge:
         """Asks for all states again, and makes its own current."""
         self._refresh_at, self._back_at = now + self._settings.refresh, now
         if self._broker.is_connected:
-            self._inbox.own_state = None
+            self._inbox.forget_own()
+            self._inbox.sources.refresh()
             if self._outbox.is_stale:
                 self._outbox.want_state(0)
             self._broker.ask_again(is_new=False)
@@ -374,10 +471,14 @@ def main(given: Sequence[str]) -> int:
         program = settings.program or usual_program()
         if settings.program is None and not kept.is_proved():
             telling.say("unproved", "runs the unproved build, since there is no proved program, or a source is newer")
-        bridge = Bridge(settings)
-        for number in signal.SIGTERM, signal.SIGINT:
-            signal.signal(number, bridge.stop)
+        bridge = Bridge(settings, telling)
+        for number in signal.SIGTERM, signal.SIGINT, signal.SIGHUP:
+            # nohup has a hangup ignored
+            if number != signal.SIGHUP or signal.getsignal(number) != signal.SIG_IGN:
+                signal.signal(number, bridge.stop)
         return bridge.run(program)
     except Failure as failure:
         telling.say("failed", str(failure), status=failure.status)
         return failure.status
+    finally:
+        telling.close()

@@ -10,6 +10,7 @@ import paho.mqtt.client as paho
 from paho.mqtt.subscribeoptions import SubscribeOptions
 
 from bridging.claims import Claim
+from bridging.digests import digest_in
 from bridging.endings import BROKER_REFUSES, NO_BROKER, Failure
 from bridging.mailbox import Mailbox, Message, Parcel
 from bridging.packets import NUMBERS
@@ -172,10 +173,20 @@ class Broker:
         number = LABELS.get(label)
         if number is None:
             self._mailbox.put_strange()
+        elif kind.endswith("/digest"):
+            self._heard_digest(number, message)
         elif not kind.endswith("/hello"):
             self._mailbox.put(Parcel(number, message.payload, kind.endswith("/state"), bool(message.retain)))
         else:
             self._heard_claim(client, number, message.payload)
+
+    def _heard_digest(self, number: int, message: paho.MQTTMessage) -> None:
+        try:
+            # one that is taken away from the broker comes as no bytes
+            if message.payload:
+                self._mailbox.put_digest(number, digest_in(message.payload), bool(message.retain))
+        except ValueError:
+            self._mailbox.put_strange()
 
     def _heard_claim(self, client: paho.Client, number: int, text: bytes) -> None:
         try:
@@ -190,29 +201,41 @@ class Broker:
     # what the bridge asks for
 
     def ask_again(self, is_new: bool) -> None:
-        """Has the broker send the states that it keeps once more, and behind them the claim."""
-        client, self._states = self._client, set(NUMBERS)
-        topics = [(self.topic(kind), self._option(kind)) for kind in ("hello", "deltas")]
-        client.subscribe(topics + [(self.topic("state", number), self._option("state")) for number in NUMBERS])
-        client.publish(self.topic("hello", self._settings.number), self._claim.ask(is_new), QOS)
+        """Has the broker send the digests that it keeps once more, and its own state, and behind them the claim."""
+        own = self._settings.number
+        topics = [(self.topic(kind), self._option(kind)) for kind in ("hello", "deltas", "digest")]
+        self._client.subscribe([*topics, (self.topic("state", own), self._option("state"))])
+        if not is_new:
+            # what is still to come is asked for again
+            self._client.unsubscribe([self.topic("state", number) for number in NUMBERS if number != own])
+        self._states = {own}
+        self.claim(is_new)
 
-    def hear_states(self, numbers: set[int]) -> None:
-        """Has the broker send the states of these coordinators alone."""
-        if numbers == self._states:
-            return
+    def claim(self, is_new: bool) -> None:
+        """Sends the claim, which comes back behind all that was asked for before."""
+        self._client.publish(self.topic("hello", self._settings.number), self._claim.ask(is_new), QOS)
+
+    def ask_for_own_state(self) -> None:
+        """Has the broker send the state that it keeps on the coordinator's own topic."""
+        self._states = self._states | {self._settings.number}
+        self._client.subscribe([(self.topic("state", self._settings.number), self._option("state"))])
+
+    def hear_states(self, numbers: set[int]) -> bool:
+        """Has the broker send the states of these coordinators alone. Whether they are more than before."""
         more, less = numbers - self._states, self._states - numbers
         self._states = numbers
         if more:
             self._client.subscribe([(self.topic("state", number), self._option("state")) for number in sorted(more)])
         if less:
             self._client.unsubscribe([self.topic("state", number) for number in sorted(less)])
+        return bool(more)
 
     def _option(self, kind: str) -> Any:
         """How a topic is subscribed to: in version 5 without the packets that were sent from here."""
         return SubscribeOptions(QOS, noLocal=kind == "deltas") if self._settings.version == 5 else QOS
 
     def publish(self, kind: str, packet: bytes) -> Message:
-        """Sends a packet on the topic of the kind, to be kept by the broker if it is a state."""
+        """Sends a packet on the topic of the kind, to be kept by the broker if it is a state, or the digest of one."""
         client, connection = self._client, self.connection
-        sent = client.publish(self.topic(kind, self._settings.number), packet, QOS, retain=kind == "state")
+        sent = client.publish(self.topic(kind, self._settings.number), packet, QOS, retain=kind != "deltas")
         return connection, sent.mid

@@ -13,11 +13,14 @@ from collections.abc import Sequence
 from typing import Optional
 
 from bridging.endings import FOLLOWER_ENDED, Failure
-from bridging.follower import MOST_LINE, NO_LINE, Follower, is_accepted
+from bridging.follower import MOST_LINE, NO_LINE, Follower, Waits, is_accepted
 from bridging.lines import Kind, kind_of
+from bridging.packets import number_of
 
+# so many bytes of answers are worked out at once
+MOST_AT_ONCE = 1 << 22
 # lines that are passed over at once have about so many bytes
-AT_ONCE = 1 << 20
+PORTION = 1 << 20
 # the follower renews itself when its history is full, which would change the numbers of deltas: so it is never let
 # come there
 FULL_HISTORY, MOST_ENTRIES = 1000000, 900000
@@ -35,43 +38,84 @@ def most_packet(number: int) -> int:
 class Coordinator:
     """Deltas are numbered as in a stream, and entries counted as there, so that it is renewed before its history is full."""
 
-    def __init__(self, program: str, number: int, renew_after: int, patience: float) -> None:
+    def __init__(self, program: str, number: int, renew_after: int, waits: Waits) -> None:
         self.number, self._renew_after, self._renews_at = number, renew_after, renew_after
-        self._follower = Follower(program, number, FULL_HISTORY, patience)
+        self._follower = Follower(program, number, FULL_HISTORY, waits)
         self.deltas = self.own = self._entries = 0
+        # a line that the bridge does not know was accepted, so what is known may be something else
+        self.may_have_changed = False
 
     def own_news(self) -> int:
         """How many deltas of its own were not cut yet: all from `own` on."""
         return self.deltas - self.own
 
-    def tell(self, lines: Sequence[bytes]) -> tuple[list[bytes], list[bytes]]:
-        """The answers to an operator's lines, and the lines that say again what the accepted ones did. A line that
-        asks for what the bridge does itself is refused here, as one of no kind."""
-        kinds = [kind_of(line) for line in lines]
-        asked = [line for line, kind in zip(lines, kinds) if kind is not Kind.OURS]
-        heard = iter(self._follower.ask(asked))
+    def tell(self, lines: Sequence[bytes], most: int = MOST_AT_ONCE) -> tuple[list[bytes], list[bytes]]:
+        """The answers to an operator's lines, in order, and the lines that say again what the accepted ones did. Once
+        the answers have `most` bytes, or before a round, which may take long, no more lines are told, and there are
+        fewer answers than lines."""
+        answers: list[bytes] = []
+        again: list[bytes] = []
+        kinds, size = [kind_of(line) for line in lines], 0
+        for first, end in parts(kinds):
+            if size >= most or (answers and kinds[first] is Kind.ROUND):
+                break
+            some = self._tell(lines[first:end], kinds[first:end], again)
+            answers += some
+            size += sum(map(len, some))
+        return answers, again
+
+    def _tell(self, lines: Sequence[bytes], kinds: Sequence[Kind], again: list[bytes]) -> list[bytes]:
+        """The answers to lines of which only the last may be other than what is told. A line that asks for what the bridge
+        does itself is refused here, as one of no kind."""
+        heard = iter(self._follower.ask([line for line, kind in zip(lines, kinds) if kind is not Kind.OURS]))
         answers = [NO_LINE if kind is Kind.OURS else next(heard) for kind in kinds]
         # questions add no entry, but it does no harm to count them
         self._entries += sum(map(is_accepted, answers))
-        again: list[bytes] = []
-        rounds: list[tuple[int, int]] = []
-        for line, kind, answer in zip(lines, kinds, answers):
-            if not is_accepted(answer):
-                continue
-            if kind is Kind.STRANGE:
-                raise Failure(FOLLOWER_ENDED, "the follower accepted a line that the bridge cannot read")
-            if kind is Kind.CUT:
+        told = [line for line, kind, answer in zip(lines, kinds, answers) if kind is Kind.TELL and is_accepted(answer)]
+        again += told
+        self.deltas += len(told)
+        if is_accepted(answers[-1]):
+            if kinds[-1] is Kind.CUT:
                 self._skip()
-            if kind in (Kind.TELL, Kind.ROUND):
-                if kind is Kind.ROUND and b" accepted\n" in answer:
-                    rounds.append((len(again), self.deltas))
-                again += [line] if kind is Kind.TELL or b" accepted\n" in answer else []
+            elif kinds[-1] is Kind.ROUND:
                 self.deltas += 1
-        # a round that is done again may come to something else, so what came of it is kept in its place
-        for place, delta in rounds:
-            again[place] = take_line(self.number, self._cut({"from": delta, "to": delta + 1}))
+                again += self._deltas_again(self.deltas - 1) if b" accepted\n" in answers[-1] else []
+            elif kinds[-1] is Kind.STRANGE:
+                again += self._count_again()
+        return answers
+
+    def _deltas_again(self, first: int) -> list[bytes]:
+        """A line that says what the deltas from that one on have: a round that is done again may come to something
+        else."""
+        line = take_line(self.number, self._cut({"from": first, "to": self.deltas}))
+        self._skip()
+        return [line]
+
+    def _count_again(self) -> list[bytes]:
+        """Counts deltas and packets after an accepted line of a kind that is not known here. Behind the last delta no cut
+        is accepted; if the counts went down the coordinator is renewed. Answers lines that say what was added."""
+        before, self.may_have_changed = self.deltas, True
+        if not self._can_cut(self.deltas):
+            self._renew_now()
+            return [take_line(self.number, self.cut_state())]
+        while self._can_cut(self.deltas + 1):
+            self.deltas += 1
+        number = number_of(self._skip())
+        if number is not None and number % 2:
             self._skip()
-        return answers, again
+        return self._deltas_again(before) if self.deltas > before else []
+
+    def _can_cut(self, delta: int) -> bool:
+        """Whether there are so many deltas."""
+        line = json.dumps({"at": self.number, "cut": {"from": delta, "to": delta}}).encode()
+        answer, = self._follower.ask([line])
+        return is_accepted(answer)
+
+    def _renew_now(self) -> None:
+        answer, = self._follower.ask([b'{"renew":true}'])
+        if not is_accepted(answer):
+            raise Failure(FOLLOWER_ENDED, "the follower accepted a line that the bridge cannot read, and cannot be renewed")
+        self.deltas = self.own = self._entries = 1
 
     # packets
 
@@ -83,9 +127,9 @@ class Coordinator:
         self._entries += 1
         return bytes.fromhex(answer.partition(b"\n")[0].decode())
 
-    def _skip(self) -> None:
-        """Takes a number for a packet that is not sent."""
-        self._cut({"from": self.deltas, "to": self.deltas})
+    def _skip(self) -> bytes:
+        """Takes a number for a packet that is not sent, which is answered."""
+        return self._cut({"from": self.deltas, "to": self.deltas})
 
     def cut_news(self, with_state: bool) -> tuple[bytes, Optional[bytes]]:
         """A packet of its own deltas since the last such cut, and behind it one of all that it knows if that is
@@ -134,12 +178,26 @@ class Coordinator:
         self._follower.close()
 
 
+def parts(kinds: Sequence[Kind]) -> list[tuple[int, int]]:
+    """Where the parts of lines begin and end that are told together: in each only the last one's answer may be long, or
+    needs more than to be counted, and a round is a part alone."""
+    found, begin = [], 0
+    for place, kind in enumerate(kinds):
+        if kind is Kind.ROUND and place > begin:
+            found.append((begin, place))
+            begin = place
+        if kind not in (Kind.TELL, Kind.OURS) or place == len(kinds) - 1:
+            found.append((begin, place + 1))
+            begin = place + 1
+    return found
+
+
 def portions(lines: Sequence[bytes]) -> list[list[bytes]]:
     """The lines in order, in lists of limited size."""
     found: list[list[bytes]] = []
-    size = AT_ONCE
+    size = PORTION
     for line in lines:
-        if size >= AT_ONCE:
+        if size >= PORTION:
             found.append([])
             size = 0
         found[-1].append(line)

@@ -1,9 +1,11 @@
 """The process `firmament follow`: lines go in, and each is answered."""
+import dataclasses
 import os
 import re
 import selectors
 import subprocess
-from collections.abc import Sequence
+import time
+from collections.abc import Callable, Sequence
 from typing import Optional
 
 import kept
@@ -13,7 +15,13 @@ from bridging.endings import FOLLOWER_ENDED, NO_PROGRAM, Failure
 MOST_LINE = 67108864
 # what ends an answer
 END = re.compile(rb"^(?:ok|refusal [0-9]+)\n", re.MULTILINE)
+# so many bytes of a line decide whether it is such an end: no number of a refusal is longer
+LONGEST_END = 64
 PIECE = 1 << 16
+# the time is looked at so often while nothing comes
+TICK = 0.2
+# once the bridge has to end, a follower that is silent for so many seconds is not waited for
+SHORT = 1.0
 OK = b"ok\n"
 NO_LINE = b"refusal 16\n"
 
@@ -31,11 +39,57 @@ def usual_program() -> str:
     return kept.ROOT + "/bin/firmament"
 
 
+class Silent(Failure):
+    """The follower did not answer in time."""
+
+
+@dataclasses.dataclass(frozen=True)
+class Waits:
+    """How many seconds a follower may take to begin, and to answer; and by when it must have answered at any rate."""
+
+    beginning: float
+    answer: float
+    end: Callable[[], float]
+
+
+class Splitter:
+    """Splits what a follower writes into answers. Each byte is looked at a fixed number of times, however long an answer
+    or a line is: only the piece that comes is searched, and of a line that has no end yet the first bytes are kept."""
+
+    def __init__(self) -> None:
+        self._pieces: list[bytes] = []
+        self._line = b""
+
+    def feed(self, piece: bytes) -> list[bytes]:
+        """The answers that end in the piece."""
+        found: list[bytes] = []
+        first = piece.find(b"\n") + 1
+        self._line += piece[:min(first or len(piece), max(0, LONGEST_END - len(self._line)))]
+        if not first:
+            self._pieces.append(piece)
+            return found
+        begin = self._close(piece, 0, first, found) if END.fullmatch(self._line) else 0
+        for end in END.finditer(piece, first):
+            begin = self._close(piece, begin, end.end(), found)
+        if begin < len(piece):
+            self._pieces.append(piece[begin:])
+        last = piece.rfind(b"\n") + 1
+        self._line = piece[last:last + LONGEST_END]
+        return found
+
+    def _close(self, piece: bytes, begin: int, end: int, found: list[bytes]) -> int:
+        """Puts the answer that ends there to those that were found, and answers where the next one begins."""
+        self._pieces.append(piece[begin:end])
+        found.append(b"".join(self._pieces))
+        self._pieces.clear()
+        return end
+
+
 class Follower:
     """The process, with one coordinator of the number. Its memory, histories and renewals are those of
     docs/formats.md."""
 
-    def __init__(self, program: str, number: int, renew_after: int, patience: float) -> None:
+    def __init__(self, program: str, number: int, renew_after: int, waits: Waits) -> None:
         command = [program, "follow", "--renew-after", str(renew_after)]
         pipe = subprocess.PIPE
         try:
@@ -46,26 +100,32 @@ class Follower:
             raise Failure(NO_PROGRAM, f"no program at {program}, which bin/build makes ({why.strerror})") from None
         assert self._run.stdin is not None and self._run.stdout is not None
         self._into, self._from = self._run.stdin, self._run.stdout
-        self._heard, self._scanned = bytearray(), 0
+        self._splitter, self._waits = Splitter(), waits
         for end in self._into, self._from:
             os.set_blocking(end.fileno(), False)
-        if self.ask([b'{"coordinators":[%d]}' % number], patience) != [OK]:
+        try:
+            begun = self.ask([b'{"coordinators":[%d]}' % number], waits.beginning) == [OK]
+        except Silent:
+            begun = False
+        if not begun:
             self._run.kill()
             raise Failure(NO_PROGRAM, f"{program} does not begin a stream of coordinator {number}")
 
     def ask(self, lines: Sequence[bytes], patience: Optional[float] = None) -> list[bytes]:
-        """The answers to the lines, one each, in order, or those that came before none came for so many seconds.
-        Writes and reads at the same time, so neither pipe can stop the other."""
+        """The answers to the lines, one each, in order. Writes and reads at the same time, so neither pipe can stop the
+        other. If nothing can be written or read for so many seconds, or until the bridge has to end, the process is
+        ended."""
         left = memoryview(b"".join(line + b"\n" for line in lines))
         answers: list[bytes] = []
+        patience, last = patience or self._waits.answer, time.monotonic()
         with selectors.DefaultSelector() as ready:
             ready.register(self._from, selectors.EVENT_READ)
             if left:
                 ready.register(self._into, selectors.EVENT_WRITE)
             while len(answers) < len(lines):
-                events = ready.select(patience)
-                if not events:
-                    break
+                events = ready.select(TICK)
+                last = time.monotonic() if events else last
+                self._look_at_time(time.monotonic() - last, patience)
                 for key, _ in events:
                     if key.fileobj is self._from:
                         answers += self._read()
@@ -74,6 +134,14 @@ class Follower:
                     if not left:
                         ready.unregister(self._into)
         return answers
+
+    def _look_at_time(self, silent: float, patience: float) -> None:
+        """Ends the process if it was silent for too long."""
+        if silent < patience and (silent < SHORT or time.monotonic() < self._waits.end()):
+            return
+        self._run.kill()
+        waited = f"for {patience:g} s" if silent >= patience else "until the bridge had to end"
+        raise Silent(FOLLOWER_ENDED, f"the follower answered nothing {waited}")
 
     def _write(self, piece: memoryview) -> int:
         try:
@@ -88,14 +156,7 @@ class Follower:
         piece = os.read(self._from.fileno(), PIECE)
         if not piece:
             raise self._ended()
-        self._heard += piece
-        found, begin = [], 0
-        for end in END.finditer(self._heard, self._scanned):
-            found.append(bytes(self._heard[begin:end.end()]))
-            begin = end.end()
-        del self._heard[:begin]
-        self._scanned = self._heard.rfind(b"\n") + 1
-        return found
+        return self._splitter.feed(piece)
 
     def _ended(self) -> Failure:
         self._run.kill()

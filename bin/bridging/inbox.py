@@ -2,6 +2,7 @@
 from collections.abc import Sequence
 from typing import Optional
 
+from bridging.digests import Digest, Sources
 from bridging.mailbox import Parcel
 from bridging.outbox import Outbox
 from bridging.packets import Coverage, Seen, content_of, digest_of, number_of
@@ -14,27 +15,49 @@ class Inbox:
 
     def __init__(self, number: int, outbox: Outbox, counts: Counts, telling: Telling) -> None:
         self._number, self._outbox, self._counts, self._telling = number, outbox, counts, telling
-        self._digests, self._seen, self.coverage = Seen(), Seen(), Coverage()
+        self._digests, self._seen, self._coverage = Seen(), Seen(), Coverage()
+        self.sources = Sources(self._coverage, self._is_known)
+        # the state on the coordinator's own topic that the broker had kept when it was last asked, and the digest beside it
         self.own_state: Optional[bytes] = None
+        self.own_digest: Optional[Digest] = None
         self.is_foreign = False
+
+    def forget_own(self) -> None:
+        """The broker is asked again for what it keeps on the coordinator's own topics."""
+        self.own_state = self.own_digest = None
 
     def wanted(self, parcels: Sequence[Parcel]) -> list[Parcel]:
         """Those of the packets that are to be taken in."""
         return [parcel for parcel in parcels if self._is_wanted(parcel)]
 
+    def _is_known(self, content: bytes) -> bool:
+        """Whether what a state says, by its digest, was taken in or sent."""
+        return content in self._seen or self._outbox.says(content)
+
+    def _hear_digest(self, parcel: Parcel, digest: Digest) -> None:
+        if parcel.sender == self._number:
+            self.own_digest = digest if parcel.was_kept else self.own_digest
+        elif not self.sources.hear(parcel.sender, digest, parcel.was_kept):
+            self._seen.add(digest.content)
+            self._counts.not_fetched += 1
+
     def _is_wanted(self, parcel: Parcel) -> bool:
+        if parcel.digest is not None:
+            self._hear_digest(parcel, parcel.digest)
+            return False
         digest = digest_of(parcel.packet)
         if parcel.sender == self._number and parcel.is_state:
-            self.own_state = digest
-            self._outbox.came_back(digest)
+            self.own_state = digest if parcel.was_kept else self.own_state
+            self._outbox.came_back(digest, parcel.was_kept)
         if parcel.sender == self._number and self._outbox.is_own(digest):
             return False
         self._counts.received += 1
         self._counts.received_bytes += len(parcel.packet)
         number, content = number_of(parcel.packet), content_of(parcel.packet)
         if parcel.is_state:
-            is_covered = self.coverage.covers(parcel.sender, number, parcel.was_kept)
-            if is_covered or content in self._seen or self._outbox.says(content):
+            is_covered = self._coverage.covers(parcel.sender, number, parcel.was_kept)
+            self.sources.came(parcel.sender, content)
+            if is_covered or self._is_known(content):
                 self._counts.covered += 1
                 return False
             self.is_foreign = self.is_foreign or parcel.sender == self._number
@@ -42,7 +65,7 @@ class Inbox:
             self._counts.repeated += 1
             return False
         else:
-            self.coverage.news(parcel.sender, number)
+            self.sources.news(parcel.sender, number)
         self._digests.add(digest)
         self._seen.add(content)
         return True
@@ -53,7 +76,7 @@ class Inbox:
         for parcel, is_taken in zip(parcels, taken):
             if not is_taken:
                 self._counts.refused += 1
-                self.coverage.missed(parcel.sender)
+                self.sources.missed(parcel.sender)
                 self._seen.remove(content_of(parcel.packet))
                 self._digests.remove(digest_of(parcel.packet))
                 kind = "state" if parcel.is_state else "packet"

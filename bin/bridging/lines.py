@@ -1,13 +1,14 @@
 """Lines from an operator or a feeder: what each may ask for, and the thread that reads them."""
 import collections
 import enum
+import itertools
 import json
-import os
 import threading
+from typing import Optional
 
+from bridging.descriptors import read_piece
 from bridging.follower import MOST_LINE
 
-PIECE = 1 << 16
 # so many lines, and bytes, wait at most; then nothing more is read until some were told
 MOST_WAITING, MOST_BYTES = 4096, 2 * MOST_LINE
 
@@ -46,15 +47,25 @@ def kind_of(line: bytes) -> Kind:
     return KINDS.get(asked, Kind.STRANGE)
 
 
+class Room:
+    """How many bytes of lines wait, and how many of lines that have no end yet: of one conversation, or of several together."""
+
+    def __init__(self) -> None:
+        self.waiting = self.unfinished = 0
+
+
 class Lines:
     """Lines that are read from a descriptor in a thread, and wait here. A line of too many bytes is read to its end
     and comes as an empty one, which the follower refuses for the same cause."""
 
-    def __init__(self, descriptor: int, wake: threading.Condition) -> None:
-        self._descriptor, self._wake = descriptor, wake
-        self._waiting: collections.deque[bytes] = collections.deque()
-        self._bytes, self._ended = 0, False
-        self._piece, self._is_long = bytearray(), False
+    _arrivals = itertools.count(1)
+
+    def __init__(self, descriptor: int, wake: threading.Condition, room: Optional[Room] = None) -> None:
+        self._descriptor, self._wake, self._room = descriptor, wake, room or Room()
+        # each with when it came, among those of all conversations
+        self._waiting: collections.deque[tuple[int, bytes]] = collections.deque()
+        self._ended = self._is_dropped = False
+        self._piece, self._is_long, self._counted = bytearray(), False, 0
 
     def start(self) -> None:
         threading.Thread(target=self._read_all, daemon=True).start()
@@ -62,14 +73,32 @@ class Lines:
     def take(self, most: int) -> list[bytes]:
         """The next lines, at most so many."""
         with self._wake:
-            taken = [self._waiting.popleft() for _ in range(min(most, len(self._waiting)))]
-            self._bytes -= sum(map(len, taken))
+            taken = [self._waiting.popleft()[1] for _ in range(min(most, len(self._waiting)))]
+            self._room.waiting -= sum(map(len, taken))
             if taken:
                 self._wake.notify_all()
         return taken
 
+    def put_back(self, lines: list[bytes]) -> None:
+        """Lines that were taken and are to be taken again, before all others."""
+        with self._wake:
+            self._waiting.extendleft((0, line) for line in reversed(lines))
+            self._room.waiting += sum(map(len, lines))
+
+    def drop(self) -> None:
+        """Lines that wait are not told any more, and none comes."""
+        with self._wake:
+            self._is_dropped = True
+            self._room.waiting -= sum(len(line) for _, line in self._waiting)
+            self._waiting.clear()
+            self._wake.notify_all()
+
     def is_waiting(self) -> bool:
         return bool(self._waiting)
+
+    def arrival(self) -> int:
+        """When the next line came, which waits."""
+        return self._waiting[0][0]
 
     def is_ended(self) -> bool:
         """Whether there are no more lines, and none waits."""
@@ -77,13 +106,14 @@ class Lines:
 
     def _read_all(self) -> None:
         try:
-            while piece := os.read(self._descriptor, PIECE):
+            while piece := read_piece(self._descriptor):
                 self._put(self._split(piece))
             if self._piece or self._is_long:
                 self._put(self._split(b"\n"))
         except OSError:
             pass
         with self._wake:
+            self._room.unfinished -= self._counted
             self._ended = True
             self._wake.notify_all()
 
@@ -92,14 +122,24 @@ class Lines:
         *ends, rest = piece.split(b"\n")
         lines = []
         for end in ends:
-            self._grow(end)
+            self._grow(end, 0)
             lines.append(b"" if self._is_long else bytes(self._piece))
             self._piece, self._is_long = bytearray(), False
-        self._grow(rest)
+        if ends and self._counted:
+            with self._wake:
+                self._room.unfinished -= self._counted
+                self._counted = 0
+        self._grow(rest, len(rest))
         return lines
 
-    def _grow(self, piece: bytes) -> None:
+    def _grow(self, piece: bytes, counted: int) -> None:
+        """The line goes on with the piece, of which so many bytes stay, since the line has no end yet."""
         self._is_long = self._is_long or len(self._piece) + len(piece) > MOST_LINE
+        if counted and not self._is_long:
+            with self._wake:
+                self._is_long = self._room.unfinished + counted > MOST_LINE
+                self._counted += 0 if self._is_long else counted
+                self._room.unfinished += 0 if self._is_long else counted
         if self._is_long:
             self._piece = bytearray()
         else:
@@ -108,9 +148,13 @@ class Lines:
     def _put(self, lines: list[bytes]) -> None:
         with self._wake:
             for line in lines:
-                while self._waiting and (len(self._waiting) >= MOST_WAITING or self._bytes + len(line) > MOST_BYTES):
+                while not self._is_dropped and (len(self._waiting) >= MOST_WAITING or self._is_full(len(line))):
                     self._wake.notify_all()
                     self._wake.wait()
-                self._waiting.append(line)
-                self._bytes += len(line)
+                if not self._is_dropped:
+                    self._waiting.append((next(self._arrivals), line))
+                    self._room.waiting += len(line)
             self._wake.notify_all()
+
+    def _is_full(self, size: int) -> bool:
+        return self._room.waiting > 0 and self._room.waiting + size > MOST_BYTES

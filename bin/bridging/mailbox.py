@@ -2,6 +2,9 @@
 import collections
 import dataclasses
 import threading
+from typing import Optional
+
+from bridging.digests import Digest
 
 # what waits has at most so many bytes, whatever the bound on its count
 MOST_BYTES = 1 << 26
@@ -11,12 +14,14 @@ Message = tuple[int, int]
 
 @dataclasses.dataclass(frozen=True)
 class Parcel:
-    """A packet that came: of whose topic, whether it is a state, and whether the broker had kept it."""
+    """A packet that came: of whose topic, whether it is a state, and whether the broker had kept it. Or no packet, and the
+    digest of a state."""
 
     sender: int
     packet: bytes
     is_state: bool
     was_kept: bool
+    digest: Optional[Digest] = None
 
 
 @dataclasses.dataclass
@@ -39,14 +44,14 @@ class Mailbox:
     def __init__(self, wake: threading.Condition, most: int, most_packet: int) -> None:
         self._wake, self._most, self._most_packet = wake, most, most_packet
         self._mail, self._bytes, self._count = Mail(), 0, 0
-        # by number, or by sender if it is a state: a later state of a sender takes the place of one that still waits
-        self._parcels: dict[tuple[bool, int], Parcel] = {}
+        # by number, or by sender if it is a state or a digest: a later one of a sender takes the place of one that still waits
+        self._parcels: dict[tuple[str, int], Parcel] = {}
 
     def put(self, parcel: Parcel) -> None:
         size = len(parcel.packet)
         with self._wake:
             self._count += 1
-            key = parcel.is_state, parcel.sender if parcel.is_state else self._count
+            key = ("state", parcel.sender) if parcel.is_state else ("news", self._count)
             if size > self._most_packet:
                 self._mail.too_large += 1
             # a state that is taken away from the broker comes as no bytes
@@ -58,6 +63,14 @@ class Mailbox:
                     self._bytes += size
                 else:
                     self._mail.dropped[parcel.sender] += 1
+            self._wake.notify_all()
+
+    def put_digest(self, sender: int, digest: Digest, was_kept: bool) -> None:
+        with self._wake:
+            key = "digest", sender
+            old = self._parcels.pop(key, None)
+            was_kept = was_kept and not (old is not None and old.digest == digest and not old.was_kept)
+            self._parcels[key] = Parcel(sender, b"", False, was_kept, digest)
             self._wake.notify_all()
 
     def put_strange(self) -> None:

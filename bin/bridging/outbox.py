@@ -5,40 +5,48 @@ import time
 from typing import Optional
 
 from bridging.broker import Broker
-from bridging.mailbox import Message
-from bridging.packets import Seen, content_of, digest_of
+from bridging.digests import Digest
+from bridging.mailbox import MOST_BYTES, Message
+from bridging.packets import Seen, content_of, digest_of, number_of
 from bridging.settings import Settings
 from bridging.telling import Counts, Telling
 
 
 @dataclasses.dataclass(frozen=True)
 class InFlight:
-    """A state that was sent and did not come back yet: its digest and that of what it says, how many accepted lines
-    it has, and when."""
+    """A state that was sent and is not known to be kept: its digest and that of what it says, how many accepted lines
+    it has, and when. Whether it came back, so that the kept copy was asked for."""
 
     digest: bytes
     content: bytes
     accepted: int
     sent: float
+    is_asked_for: bool = False
 
 
 class Outbox:
     """Packets of news are sent once; they are not acknowledged by who takes them in, and not sent again. A state
-    says all that they say, so if one cannot be sent it is left to the state. A state is known to be kept once it
-    came back from the broker."""
+    says all that they say, so if one cannot be sent it is left to the state.
+
+    A state that comes back was relayed, and may not be kept. So the first one of each connection is asked for again, and is
+    known to be kept once the broker sends it as one that it kept. Later ones are believed to be kept once they came back, until
+    the next refresh finds another or none."""
 
     def __init__(self, broker: Broker, settings: Settings, counts: Counts, telling: Telling, most_packet: int) -> None:
         self._broker, self._settings, self._counts, self._telling = broker, settings, counts, telling
         self._most_packet = most_packet
-        self._waiting: dict[Message, float] = {}
+        # when what the broker did not acknowledge yet was sent, and how many bytes it has
+        self._waiting: dict[Message, tuple[float, int]] = {}
+        self._bytes = 0
         self._sent, self._said = Seen(), Seen()
         self._in_flight: Optional[InFlight] = None
         self._kept: Optional[bytes] = None
         self._due: Optional[float] = None
         self._last_time = -settings.state_interval
         self.last_state: Optional[bytes] = None
+        self.digest: Optional[Digest] = None
         self.is_stale, self.is_too_large, self.confirmed = False, False, 0
-        self._has_left = False
+        self._has_left = self._is_retaining = False
 
     # news
 
@@ -46,7 +54,7 @@ class Outbox:
         if self._has_room() and len(packet) <= self._most_packet:
             self._has_left = False
             self._sent.add(digest_of(packet))
-            self._waiting[self._broker.publish("deltas", packet)] = time.monotonic()
+            self._publish("deltas", packet)
             self._counts.sent += 1
             self._counts.sent_bytes += len(packet)
         else:
@@ -56,7 +64,11 @@ class Outbox:
         self.is_stale = True
 
     def _has_room(self) -> bool:
-        return self._broker.is_connected and len(self._waiting) < self._settings.queue
+        return self._broker.is_connected and len(self._waiting) < self._settings.queue and self._bytes < MOST_BYTES
+
+    def _publish(self, kind: str, packet: bytes) -> None:
+        self._waiting[self._broker.publish(kind, packet)] = time.monotonic(), len(packet)
+        self._bytes += len(packet)
 
     def is_unheard_of(self) -> bool:
         """Whether news was left to a state that the broker now keeps, and others do not know yet that they miss
@@ -73,7 +85,7 @@ class Outbox:
 
     def acknowledge(self, messages: list[Message]) -> None:
         for message in messages:
-            self._waiting.pop(message, None)
+            self._bytes -= self._waiting.pop(message, (0.0, 0))[1]
 
     # states
 
@@ -96,30 +108,43 @@ class Outbox:
         if content == self._kept:
             self.confirmed = max(self.confirmed, accepted)
             return True
-        self.last_state = digest_of(packet)
+        self.digest, self.last_state = Digest(content, number_of(packet) or 0), digest_of(packet)
         self._sent.add(self.last_state)
         self._said.add(content)
-        self._waiting[self._broker.publish("state", packet)] = now
+        # the digest goes first: one that is newer than the state that is kept costs a look at the state, one that is older would hide it
+        self.send_digest()
+        self._publish("state", packet)
         self._in_flight = InFlight(self.last_state, content, accepted, now)
         self._counts.states_sent += 1
         self._counts.states_sent_bytes += len(packet)
         return True
 
+    def send_digest(self) -> None:
+        """Sends the digest of the last state, which comes to those that connected meanwhile as one that is not old."""
+        if self.digest is not None and self._broker.is_connected:
+            self._publish("digest", self.digest.text())
+
     def says(self, content: bytes) -> bool:
         """Whether a state was sent from here that said the same."""
         return content in self._said
 
-    def came_back(self, digest: bytes) -> None:
-        """A state on the coordinator's own topic came from the broker."""
-        if self._in_flight is not None and digest == self._in_flight.digest:
-            self.confirmed, self._kept = max(self.confirmed, self._in_flight.accepted), self._in_flight.content
+    def came_back(self, digest: bytes, was_kept: bool) -> None:
+        """A state on the coordinator's own topic came from the broker, which kept it or relayed it."""
+        state = self._in_flight
+        if state is None or digest != state.digest:
+            if digest != self.last_state:
+                self._kept = None
+        elif was_kept or self._is_retaining:
+            self._is_retaining = True
+            self.confirmed, self._kept = max(self.confirmed, state.accepted), state.content
             self._in_flight = None
-        elif digest != self.last_state:
-            self._kept = None
+        elif not state.is_asked_for:
+            self._in_flight = dataclasses.replace(state, is_asked_for=True)
+            self._broker.ask_for_own_state()
 
     def is_gone(self) -> None:
         """The broker does not keep the state that was sent last."""
-        self._kept, self.is_stale = None, True
+        self._kept, self.is_stale, self._is_retaining = None, True, False
         self.want_state(0)
 
     # what goes wrong
@@ -132,15 +157,16 @@ class Outbox:
             self.want_state(0)
         self._counts.unacknowledged += len(self._waiting)
         self._waiting.clear()
-        self._in_flight = None
+        self._bytes = 0
+        self._in_flight, self._is_retaining = None, False
 
     def is_stuck(self) -> bool:
         """Whether the broker did not acknowledge something in time."""
         oldest = next(iter(self._waiting.values()), None)
-        return oldest is not None and time.monotonic() - oldest > self._settings.ack_wait
+        return oldest is not None and time.monotonic() - oldest[0] > self._settings.ack_wait
 
     def is_unkept(self) -> bool:
-        """Whether a state was sent and did not come back in time; it is then sent again."""
+        """Whether a state was sent and is not known to be kept in time; it is then sent again."""
         if self._in_flight is None or time.monotonic() - self._in_flight.sent <= self._settings.ack_wait:
             return False
         self._in_flight = None

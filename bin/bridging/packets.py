@@ -78,13 +78,22 @@ class Coverage:
         """A packet of the sender was not taken in."""
         self._heard[sender].is_current = False
 
+    def is_covered(self, sender: int, number: int) -> bool:
+        """Whether a state of the sender that was sent just now, with the number, says nothing that did not come before."""
+        heard = self._heard[sender]
+        return heard.is_current and number == heard.last
+
+    def reached(self, sender: int, number: int) -> None:
+        """All that a state of the sender says, with the number, is known."""
+        heard = self._heard[sender]
+        heard.last, heard.is_current = number, True
+
     def covers(self, sender: int, number: Optional[int], was_kept: bool) -> bool:
         """Whether a state of the sender says nothing that did not come before."""
-        heard = self._heard[sender]
         if was_kept or number is None:
             return False
-        is_covered = heard.is_current and number == heard.last
-        heard.last, heard.is_current = number, True
+        is_covered = self.is_covered(sender, number)
+        self.reached(sender, number)
         return is_covered
 
     def missing(self) -> set[int]:

@@ -9,6 +9,8 @@ from typing import NoReturn, Optional
 from bridging.endings import WRONG_WORDS
 
 FORBIDDEN = "+#/"
+# a path of a socket has at most so many bytes
+MOST_PATH = 107
 MOST_NAME = 200
 PORT, TLS_PORT = 1883, 8883
 
@@ -29,6 +31,7 @@ class Settings:
     cert: Optional[str]
     key: Optional[str]
     journal: Optional[pathlib.Path]
+    salvages: bool
     is_confirmed: bool
     cut_count: int
     cut_interval: float
@@ -38,8 +41,10 @@ class Settings:
     connect_wait: float
     claim_wait: float
     ack_wait: float
+    follower_wait: float
     end_wait: float
     stays: bool
+    listen: Optional[str]
     renew_after: int
     program: Optional[str]
     is_json: bool
@@ -107,20 +112,28 @@ question, or a cut of all that is known. The bridge does the rest itself, and re
 """
 STATUSES = """\
 Statuses: 0 all was sent; 2 wrong words; 10 no paho-mqtt; 11 no program; 12 no broker; 13 the broker refuses;
-14 the number is taken; 15 the follower ended; 16 the journal failed; 17 not all is known to be sent;
-18 standard output failed. docs/several-machines.md says what `ok` guarantees, and what the topics are.
+14 the number is taken; 15 the follower ended, or does not answer; 16 the journal failed; 17 not all is known to be sent;
+18 answers could not be written, or were not read; 19 no socket for clients. docs/several-machines.md says what `ok` guarantees, and
+what the topics are.
+
+Bounds of what waits, in bytes: lines that were read, 128 MiB of standard input and as much of all clients, and of lines that have no
+end yet 64 MiB each; answers that wait to be confirmed, and that wait to be read by one reader, 16 MiB each and one answer; answers that
+are worked out at once, 4 MiB and one answer; packets that came, and packets for the broker, 64 MiB each and one packet; what is said on
+standard error, 1 MiB. Beyond these bounds no lines are read, a client that does not read is cut off, packets are left to a state, and
+what would be said is counted and left out. There are at most 64 clients at once.
 """
 # names of times and counts, how each is read, what it is if it is not given, and what it is for
 TIMES: tuple[tuple[str, Callable[[str], float], float, str], ...] = (
     ("--cut-count", whole(1, 100000), 1000, "cuts a packet after so many lines"),
     ("--cut-interval", seconds(0), 0.2, "or once a line waits so long"),
     ("--state-interval", seconds(0), 5, "sends all that is known once there is news and the last state is so old"),
-    ("--refresh", seconds(0.1), 60, "asks the broker for all states again after so long"),
+    ("--refresh", seconds(0.1), 60, "asks the broker after so long which states it keeps, and fetches what is new"),
     ("--queue", whole(1, 30000), 1000, "so many packets wait at most, in and out each"),
     ("--connect-wait", seconds(0.1), 10, "so long for the first connection, and for the follower to begin"),
     ("--claim-wait", seconds(0), 1, "so long for another bridge with the number to answer"),
     ("--ack-wait", seconds(0.1), 20, "so long for the broker to acknowledge"),
-    ("--end-wait", seconds(0), 20, "so long to send what is left in the end"),
+    ("--follower-wait", seconds(0.1), 600, "so long for the follower to answer a line; behind a signal, --end-wait"),
+    ("--end-wait", seconds(0), 20, "so long to send what is left in the end, and for each next part of the answers to be read"),
     ("--renew-after", whole(1, 800000), 100000, "renews the coordinator after so many entries of its history"),
     ("--report", seconds(0), 0, "says all counts so often; in the end alone if it is 0"))
 
@@ -134,18 +147,23 @@ def parser() -> argparse.ArgumentParser:
     kept = words.add_argument_group("what is kept")
     kept.add_argument("--journal", type=pathlib.Path, metavar="FILE",
                       help="answers ok once a line is in this file on the disk; started with it, goes on from there")
+    kept.add_argument("--salvage", action="store_true", dest="salvages",
+                      help="takes what stands before the damage of a damaged journal, and keeps the damaged file aside")
     kept.add_argument("--confirmed", action="store_true", dest="is_confirmed",
-                      help="answers ok once a state with the line came back from the broker, which is to keep it")
+                      help="answers ok once a state with the line came back from the broker, which was seen to keep one")
     times = words.add_argument_group("times, in seconds, and counts")
     for name, read, value, about in TIMES:
         times.add_argument(name, type=read, default=value, metavar="X", help=f"{about} ({value:g})")
     other = words.add_argument_group("other")
     other.add_argument("--stay", action="store_true", dest="stays",
-                       help="goes on at the end of standard input, until SIGTERM or SIGINT")
+                       help="goes on at the end of standard input, until SIGTERM, SIGINT or SIGHUP")
+    other.add_argument("--listen", metavar="PATH",
+                       help="takes clients on a Unix socket at PATH (mode 0660), each with lines and answers of its own, and goes on at "
+                            "the end of standard input")
     other.add_argument("--json", action="store_true", dest="is_json",
                        help="says on standard error what it does as JSON, an object a line")
     other.add_argument("--trace", action="store_true", dest="is_traced",
-                       help="says of each packet when its lines were answered, and when it was taken in")
+                       help="says of each packet when its lines were answered and when it was taken in, and of each state what it took")
     other.add_argument("--program", metavar="FILE", help="the program `firmament` (what bin/firmament runs)")
     return words
 
@@ -171,6 +189,11 @@ def read_settings(given: Sequence[str]) -> Settings:
     is_tls = bool(is_tls or asked["ca"] or asked["cert"])
     if asked["key"] and not asked["cert"]:
         words.error("--key is that of a certificate, which --cert names")
+    if asked["salvages"] and not asked["journal"]:
+        words.error("--salvage is of a journal, which --journal names")
+    if asked["listen"] is not None and not 0 < len(os.fsencode(asked["listen"])) <= MOST_PATH:
+        words.error(f"--listen wants a path of 1 to {MOST_PATH} bytes")
+    asked["stays"] = asked["stays"] or asked["listen"] is not None
     if secret and asked["user"] is None:
         words.error("--password-file wants --user")
     try:

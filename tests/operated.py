@@ -1,0 +1,573 @@
+"""Tests of bin/bridge as an operator uses it for a day, by name, for tests/bridged.py: long lines, slow readers, followers that hang,
+damaged journals, and many clients."""
+import contextlib
+import fcntl
+import os
+import pathlib
+import re
+import signal
+import socket
+import stat
+import subprocess
+import tempfile
+import threading
+import time
+import types
+
+import brokers
+from bridging import descriptors, follower, lines as lines_of
+from brokers import QUICK, Bridge, Broker, told as tell, until
+from clustered import agree, cluster, is_refused, refused, running, told_to
+
+
+def made(folder, name, text):
+    """A program with the text, in the folder."""
+    file = pathlib.Path(folder) / name
+    file.write_text(text)
+    file.chmod(0o700)
+    return str(file)
+
+
+# bytes that are looked at
+
+class Counted(bytes):
+    """Bytes that were read, which count how many of them are looked at."""
+
+    looked = 0
+
+    def _count(self, many):
+        Counted.looked += many
+
+    def find(self, some, start=0):
+        found = super().find(some, start)
+        self._count((len(self) if found < 0 else found + 1) - start)
+        return found
+
+    def rfind(self, some):
+        found = super().rfind(some)
+        self._count(len(self) - max(found, 0))
+        return found
+
+    def split(self, some):
+        self._count(len(self))
+        return super().split(some)
+
+    def __getitem__(self, place):
+        found = super().__getitem__(place)
+        self._count(len(found) if isinstance(found, bytes) else 1)
+        return found
+
+
+class CountedPattern:
+    """A pattern that counts the bytes of the texts that it searches."""
+
+    def __init__(self, pattern):
+        self._pattern = pattern
+
+    def finditer(self, text, start=0):
+        Counted.looked += len(text) - start
+        return self._pattern.finditer(text, start)
+
+    def fullmatch(self, text):
+        Counted.looked += len(text)
+        return self._pattern.fullmatch(text)
+
+
+@contextlib.contextmanager
+def counting():
+    """What the follower's and the operator's pipes hand over counts what is looked at."""
+    system = types.SimpleNamespace(**vars(os))
+    system.read = lambda *words: Counted(os.read(*words))
+    pattern = follower.END
+    follower.os = descriptors.os = system
+    follower.END = CountedPattern(pattern)
+    Counted.looked = 0
+    try:
+        yield
+    finally:
+        follower.os = descriptors.os = os
+        follower.END = pattern
+
+
+# a state of 7 MB, as a line of digits
+STATE = 14_000_000
+LONG = """#!/usr/bin/env python3
+import sys
+for line in sys.stdin.buffer:
+    text = b"" if b"coordinators" in line else b"7" * %d + b"\\n"
+    sys.stdout.buffer.write(text + b"ok\\n")
+    sys.stdout.buffer.flush()
+""" % STATE
+
+
+def looked_at(_program):
+    """No line costs more than its length: each byte of a long answer, and of a long line, is looked at a few times."""
+    with tempfile.TemporaryDirectory() as folder, counting():
+        process = follower.Follower(made(folder, "long", LONG), 1, 1000, follower.Waits(30, 30, lambda: float("inf")))
+        answer, = process.ask([b"{}"])
+        process.close()
+        yield "the answer is whole", len(answer) == STATE + 4
+        yield "an answer of %d bytes: %d were looked at" % (STATE, Counted.looked), STATE <= Counted.looked <= 5 * STATE
+    with counting():
+        reader, writer = os.pipe()
+        source, found = lines_of.Lines(reader, threading.Condition()), []
+        source.start()
+        with os.fdopen(writer, "wb") as into:
+            into.write(b"7" * STATE + b"\n")
+        until(lambda: found.extend(source.take(2)) or source.is_ended())
+        os.close(reader)
+        yield "the line is whole", list(map(len, found)) == [STATE]
+        yield "a line of %d bytes: %d were looked at" % (STATE, Counted.looked), STATE <= Counted.looked <= 5 * STATE
+    yield from split_anywhere()
+
+
+def split_anywhere():
+    """Answers are the same wherever the pieces end, and what only looks like an end is none."""
+    answers = [b"ok\n", b"refusal 16\n", b"okay\n ok\nrefusal x\n" + b"ok" * 99 + b"\nok\n", b"\nrefusal 123456789\n", b"not ok\nok\n"]
+    text = b"".join(answers)
+    for size in (1, 2, 3, 5, 64, len(text)):
+        splitter = follower.Splitter()
+        found = [answer for first in range(0, len(text), size) for answer in splitter.feed(text[first:first + size])]
+        yield "answers in pieces of %d" % size, found == answers
+
+
+# readers and writers that are slow, do not block, or are not there
+
+# answers a question by so many bytes, whatever is asked, hangs at a round, and cuts packets of nothing
+ANSWERING = """#!/usr/bin/env python3
+import sys, time
+count = 0
+for line in sys.stdin.buffer:
+    text = b""
+    if b'"ask"' in line:
+        text = b"7" * {size} + b"\\n"
+    elif b'"cut"' in line:
+        count += 1
+        text = b"4644473201%016x\\n" % count
+    elif b'"round"' in line:
+        time.sleep(600)
+    sys.stdout.buffer.write(text + b"ok\\n")
+    sys.stdout.buffer.flush()
+"""
+ASK = b'{"at":1,"ask":"graph"}\n'
+
+
+@contextlib.contextmanager
+def one_bridge(program, *words, **streams):
+    """A broker, and the process of a bridge with the number 1, whose streams are as given, else pipes."""
+    with contextlib.ExitStack() as stack:
+        broker = stack.enter_context(Broker(stack.enter_context(tempfile.TemporaryDirectory())))
+        command = [brokers.BRIDGE, "--cluster", "test", "--number", "1", "--broker", f"127.0.0.1:{broker.port}", *QUICK]
+        given = {"stdin": subprocess.PIPE, "stdout": subprocess.PIPE, "stderr": subprocess.DEVNULL, **streams}
+        run = subprocess.Popen([*command, "--program", program, *words], bufsize=0, **given)
+        try:
+            yield broker, run
+        finally:
+            run.kill()
+            run.wait()
+            for stream in run.stdin, run.stdout, run.stderr:
+                if stream is not None:
+                    stream.close()
+
+
+def read_slowly(descriptor, pause, found=None):
+    """All that can be read, in pieces of 64 KiB, with a pause before each; at the end of `found` if it is given."""
+    found = bytearray() if found is None else found
+    while piece := os.read(descriptor, 1 << 16):
+        found += piece
+        time.sleep(pause)
+    return found
+
+
+def slow_readers(_program):
+    """Answers are written to the end, however slowly they are read, or the status says that they were not."""
+    with tempfile.TemporaryDirectory() as folder:
+        answering = made(folder, "answering", ANSWERING.format(size=100_000))
+        with one_bridge(answering, "--end-wait", "1") as (_, run):
+            run.stdin.write(ASK * 391)
+            run.stdin.close()
+            found = read_slowly(run.stdout.fileno(), 0.008).count(b"ok\n")
+            yield "of 391 answers %d were read slowly, with status %s" % (found, run.wait()), (found, run.returncode) == (391, 0)
+        with one_bridge(answering, "--end-wait", "1", stderr=subprocess.PIPE) as (_, run):
+            run.stdin.write(ASK * 9)
+            run.stdin.close()
+            status, said = run.wait(timeout=60), run.stderr.read()
+            yield "nobody reads: status %d, %r" % (status, said[-200:]), status == 18 and b"bytes of answers are left" in said
+        yield from not_blocking(answering)
+
+
+def not_blocking(answering):
+    """Standard input and output that do not block are waited for."""
+    reader, writer = os.pipe()
+    os.set_blocking(reader, False)
+    with one_bridge(answering, stdin=reader) as (_, run):
+        os.close(reader)
+        for _ in range(3):
+            time.sleep(0.5)
+            with contextlib.suppress(BrokenPipeError):
+                os.write(writer, ASK)
+        os.close(writer)
+        found = read_slowly(run.stdout.fileno(), 0).count(b"ok\n")
+        yield "input that does not block: %d answers, status %d" % (found, run.wait()), (found, run.returncode) == (3, 0)
+    reader, writer = os.pipe()
+    os.set_blocking(writer, False)
+    with one_bridge(answering, stdout=writer) as (_, run):
+        os.close(writer)
+        run.stdin.write(ASK * 20)
+        run.stdin.close()
+        time.sleep(1)
+        found = read_slowly(reader, 0.001).count(b"ok\n")
+        os.close(reader)
+        yield "output that does not block: %d answers, status %d" % (found, run.wait()), (found, run.returncode) == (20, 0)
+
+
+def unread_errors(program):
+    """Standard error that nobody reads stops no answers."""
+    told = list(cluster(60))
+    with one_bridge(program, "--trace", "--json", "--cut-count", "1", stderr=subprocess.PIPE) as (_, run):
+        # a pipe that is full after some twenty lines
+        fcntl.fcntl(run.stderr, fcntl.F_SETPIPE_SZ, 4096)
+        threading.Thread(target=run.stdin.write, args=[b"".join(tell(1, op) for op in told)], daemon=True).start()
+        heard = bytearray()
+        threading.Thread(target=read_slowly, args=[run.stdout.fileno(), 0, heard], daemon=True).start()
+        is_answered = until(lambda: heard.count(b"ok\n") >= len(told), 30)
+        yield "%d of %d answers while nobody reads standard error" % (heard.count(b"ok\n"), len(told)), bool(is_answered)
+        run.send_signal(signal.SIGTERM)
+        yield "and it ends", run.wait(timeout=60) == 0
+
+
+def peak(run):
+    """How many megabytes a process had at most, once that stays the same for a second."""
+    def now():
+        text = pathlib.Path(f"/proc/{run.pid}/status").read_text()
+        return int(re.search(r"VmHWM:\s*([0-9]+) kB", text)[1]) // 1024
+    last, since = now(), time.monotonic()
+    while time.monotonic() - since < 1:
+        time.sleep(0.1)
+        if now() != last:
+            last, since = now(), time.monotonic()
+    return last
+
+
+MOST_MEGABYTES = 150
+
+
+def memory_kept(_program):
+    """Answers that nobody reads, and answers that wait to be confirmed, take no more memory than --help says."""
+    with tempfile.TemporaryDirectory() as folder:
+        answering = made(folder, "answering", ANSWERING.format(size=1_200_000))
+        with one_bridge(answering) as (_, run):
+            run.stdin.write(ASK * 400)
+            os.read(run.stdout.fileno(), 1)
+            most = peak(run)
+            yield "400 answers of 1.2 MB that are not read: %d MB" % most, most < MOST_MEGABYTES
+        with one_bridge(answering, "--confirmed") as (broker, run):
+            run.stdin.write(ASK)
+            os.read(run.stdout.fileno(), 1)
+            threading.Thread(target=read_slowly, args=[run.stdout.fileno(), 0], daemon=True).start()
+            broker.kill()
+            run.stdin.write(tell(1, next(cluster(0))) + ASK * 400)
+            most = peak(run)
+            yield "400 answers of 1.2 MB that are not confirmed: %d MB" % most, most < MOST_MEGABYTES
+
+
+# followers that hang, signals, and lines of a kind that the bridge does not know
+
+def hangs(program):
+    """A follower that hangs is waited for so long as --follower-wait says, and after a signal as --end-wait says; a hangup ends a bridge
+    once it sent what it has."""
+    with tempfile.TemporaryDirectory() as folder:
+        answering = made(folder, "answering", ANSWERING.format(size=1))
+        for words, by in (["--follower-wait", "1"], None), (["--end-wait", "1"], signal.SIGTERM):
+            with one_bridge(answering, *words, stderr=subprocess.PIPE) as (_, run):
+                run.stdin.write(ASK)
+                os.read(run.stdout.fileno(), 9)
+                run.stdin.write(b'{"at":1,"round":true}\n')
+                if by is not None:
+                    time.sleep(0.3)
+                    run.send_signal(by)
+                try:
+                    status = run.wait(timeout=20)
+                except subprocess.TimeoutExpired:
+                    # who hangs holds standard error too
+                    yield "a follower that hangs, %s" % by, False
+                    continue
+                said = run.stderr.read()
+                yield "a follower that hangs, %s: %s, %r" % (by, status, said[-300:]), status == 15 and b"answered nothing" in said
+    told = list(cluster(20))
+    with running(program, [1, 2], each={1: ["--cut-interval", "3600", "--state-interval", "3600"]}) as (_, bridges):
+        yield "told", told_to(bridges[:1], told)
+        bridges[0].run.send_signal(signal.SIGHUP)
+        yield "a hangup ends it well", bridges[0].run.wait(timeout=60) == 0
+        yield "and it sent what it had", agree(bridges[1:], told, 10)
+
+
+# accepts a line of a kind of its own, which tells an operation, cuts a packet, or changes nothing
+UNKNOWN_KINDS = """#!/usr/bin/env python3
+import subprocess, sys
+pipe = subprocess.PIPE
+run = subprocess.Popen([{program!r}, *sys.argv[1:]], stdin=pipe, stdout=pipe)
+for line in sys.stdin.buffer:
+    if b'"quiet"' in line:
+        answer = [b"as you like\\n", b"ok\\n"]
+    else:
+        run.stdin.write(line.replace(b'"also"', b'"tell"').replace(b'"packet"', b'"cut"'))
+        run.stdin.flush()
+        answer = []
+        while not answer or not answer[-1].startswith((b"ok", b"refusal")):
+            answer.append(run.stdout.readline())
+    sys.stdout.buffer.write(b"".join(answer))
+    sys.stdout.buffer.flush()
+"""
+
+
+def unknown_kinds(program):
+    """A line of a kind that the bridge does not know, and the follower accepts, is answered, and what it changed is sent and kept."""
+    told = list(cluster(11))
+    with tempfile.TemporaryDirectory() as folder, running(program, [2]) as (broker, (other,)):
+        newer = made(folder, "newer", UNKNOWN_KINDS.format(program=str(program)))
+        journal = ["--journal", f"{folder}/journal"]
+        with Bridge(broker.port, 1, *QUICK, *journal, program=newer) as bridge:
+            yield "one that changes nothing", bridge.ask('{"at":1,"quiet":true}') == b"as you like\nok\n"
+            yield "one that cuts a packet", bridge.ask('{"at":1,"packet":{}}').endswith(b"\nok\n")
+            bridge.heard.clear()
+            for first in range(0, len(told), 2):
+                known, unknown = (tell(1, op) for op in told[first:first + 2])
+                bridge.write(known + unknown.replace(b'"tell"', b'"also"'))
+                yield "told by both kinds", bool(until(lambda: bridge.heard.endswith(b"ok\nok\n"), 10))
+                bridge.heard.clear()
+            yield "all is known to both", agree([bridge, other], told, 20)
+            bridge.kill()
+        broker.kill()
+        broker.forget()
+        broker.start()
+        with Bridge(broker.port, 1, *QUICK, *journal, "--cut-interval", "3600", program=program) as bridge:
+            yield "all is in the journal", agree([bridge], told, 20)
+
+
+# journals
+
+PAGE = 4096
+
+
+def salvaged(program):
+    """A journal with a page of zeros is refused, and with --salvage what stands before the page is told, and the damaged file is kept."""
+    told = list(cluster(90))
+    lines = [tell(1, op) for op in told]
+    with tempfile.TemporaryDirectory() as folder, running(program, []) as (broker, _):
+        file = pathlib.Path(folder) / "journal"
+        words = [*QUICK, "--claim-wait", "0", "--journal", str(file)]
+        with Bridge(broker.port, 1, *words, program=program) as bridge:
+            yield "told", told_to([bridge], told)
+            bridge.kill()
+        broker.kill()
+        broker.forget()
+        broker.start()
+        whole = file.read_bytes()
+        for name, page in (("its head", 0), ("a page of its middle", len(whole) // 2 // PAGE)):
+            damaged = whole[:page * PAGE] + bytes(PAGE) + whole[(page + 1) * PAGE:]
+            before = damaged[:page * PAGE].count(b"\n") - 1 if page else 0
+            file.write_bytes(damaged)
+            found = refused(broker.port, "--number", "1", *words, program=program)
+            yield "%s is zero: %r" % (name, found[2]), is_refused(found, 16, b"--salvage")
+            with Bridge(broker.port, 1, *words, "--salvage", program=program) as bridge:
+                yield "%s is zero: the %d lines before it are told" % (name, before), agree([bridge], told[:before], 10)
+                yield "%s is zero: told again" % name, told_to([bridge], told[before:before + 2])
+                bridge.kill()
+            kept = sorted(pathlib.Path(folder).glob("journal.damaged-*"))
+            yield "%s is zero: the damaged file is kept" % name, bool(kept) and kept[-1].read_bytes() == damaged
+            goes_on = file.read_bytes().partition(b"\n")[2] == b"".join(lines[:before + 2])
+            yield "%s is zero: and the journal goes on" % name, goes_on
+            broker.kill()
+            broker.forget()
+            broker.start()
+        yield from kept_apart(broker, program, file, words)
+
+
+def kept_apart(broker, program, file, words):
+    """What is no damage of this journal is not salvaged."""
+    file.write_bytes(b'{"fetohamu": "journal", "cluster": "test", "number": 2}\n' + tell(2, next(cluster(0))))
+    before = file.read_bytes()
+    found = refused(broker.port, "--number", "1", *words, "--salvage", program=program)
+    yield "a journal of another number is not salvaged", is_refused(found, 16, b"no journal of this") and file.read_bytes() == before
+    found = refused(broker.port, "--number", "1", "--salvage", program=program)
+    yield "--salvage without a journal", is_refused(found, 2, b"--salvage")
+
+
+def full_disks(program):
+    """A journal that cannot be rewritten since the disk is full is rewritten later, and one that is a symbolic link stays one."""
+    # of members that it does not know a line may have many
+    told = [{kind: {**fields, "note": "x" * 8000} for kind, fields in op.items()} for op in cluster(90)]
+    with tempfile.TemporaryDirectory() as folder, running(program, []) as (broker, _):
+        place, link = pathlib.Path(folder) / "elsewhere", pathlib.Path(folder) / "journal"
+        place.mkdir()
+        link.symlink_to(place / "real")
+        # a device that is full stands where the file is to be written, by both names
+        for name in folder + "/journal.new", f"{place}/real.new":
+            os.symlink("/dev/full", name)
+        with Bridge(broker.port, 1, *QUICK, "--journal", str(link), program=program) as bridge:
+            yield "told on", all([told_to([bridge], told[first:first + 10]) for first in range(0, len(told), 10)])
+            texts = [said["text"] for said in bridge.events() if said["event"] == "journal"]
+            yield "that the disk was full is said: %s" % texts, len(texts) == 1 and "No space left" in texts[0]
+            bridge.kill()
+        size, lines_told = (place / "real").stat().st_size, sum(len(tell(1, op)) for op in told)
+        yield "it was rewritten later: %d bytes for %d" % (size, lines_told), size < lines_told
+        yield "the link is still a link", link.is_symlink()
+        broker.kill()
+        broker.forget()
+        broker.start()
+        with Bridge(broker.port, 1, *QUICK, "--journal", str(place / "real"), program=program) as bridge:
+            yield "nothing is lost", agree([bridge], told)
+            held = refused(broker.port, "--number", "2", "--claim-wait", "0", "--journal", str(link), program=program)
+            yield "it is in use by both names", is_refused(held, 16, b"in use")
+
+
+# clients of a socket
+
+class Talk:
+    """A client on a socket, whose answers are collected."""
+
+    def __init__(self, path):
+        self.socket, self.heard = socket.socket(socket.AF_UNIX), bytearray()
+        self.socket.settimeout(30)
+        self.socket.connect(str(path))
+
+    def __enter__(self):
+        return self
+
+    def __exit__(self, *_):
+        self.socket.close()
+
+    def write(self, text):
+        self.socket.sendall(text)
+
+    def ask(self, text, count=1):
+        """The answers to so many lines."""
+        self.write(text)
+        begin = len(self.heard)
+        while len(re.findall(rb"(?m)^(?:ok|refusal [0-9]+)\n", self.heard[begin:])) < count:
+            piece = self.socket.recv(1 << 16)
+            if not piece:
+                break
+            self.heard += piece
+        return bytes(self.heard[begin:])
+
+    def rest(self):
+        """What comes until the end, behind which this end says no more."""
+        self.socket.shutdown(socket.SHUT_WR)
+        found = bytearray()
+        with contextlib.suppress(ConnectionResetError):
+            while piece := self.socket.recv(1 << 16):
+                found += piece
+        return bytes(found)
+
+
+def clients(program):
+    """Clients of a socket, and standard input, each have their own answers in order; standard input may end before."""
+    # four lines for standard input, and 16 for each client
+    told = list(cluster(41))
+    with tempfile.TemporaryDirectory() as folder, running(program, [2]) as (broker, (other,)):
+        path = pathlib.Path(folder) / "door"
+        with Bridge(broker.port, 1, *QUICK, "--listen", str(path), program=program) as bridge:
+            yield "standard input is one of them", told_to([bridge], told[:4])
+            yield "the mode of the socket", stat.S_IMODE(path.stat().st_mode) == 0o660
+            with Talk(path) as one, Talk(path) as two, Talk(path) as three:
+                yield "what clients may not", two.ask(b'{"renew":true}\nx\n{"at":1,"news":true}\n', 3) == b"refusal 16\n" * 3
+                for first in range(4, len(told), 3):
+                    for client, op in zip((one, two, three), told[first:first + 3]):
+                        client.write(tell(1, op))
+                found = [client.ask(b"", 16) for client in (one, two, three)]
+                yield "each is answered: %r" % found, found == [b"ok\n" * 16] * 3
+                mixed = one.ask(b'{"ask":"agree"}\nx\n' + tell(1, told[0]) + b'{"ask":"agree"}\n', 4)
+                yield "in the order of its lines", mixed == b"same\nok\nrefusal 16\nok\nsame\nok\n"
+                bridge.run.stdin.close()
+                three.write(tell(1, told[0]) * 3)
+                yield "one that says no more is answered to the end", three.rest() == b"ok\n" * 3
+                two.write(b'{"at":1,"ask":"gr')
+                two.socket.close()
+                yield "all is known to both", two is not None and agree([other], told)
+                yield "it goes on at the end of standard input", one.ask(b'{"ask":"agree"}\n') == b"same\nok\n"
+                found = refused(broker.port, "--number", "3", "--listen", str(path), program=program)
+                yield "a socket that is answered: %r" % found[2], is_refused(found, 19, b"another process listens")
+                bridge.run.send_signal(signal.SIGTERM)
+                yield "it ends well, and takes its socket away", bridge.run.wait(timeout=60) == 0 and not path.exists()
+                yield "its clients see the end", one.rest() == b""
+        yield from sockets(broker, program, path)
+
+
+def sockets(broker, program, path):
+    """A socket that nobody answers is replaced; what is none is not, and what is wrong is said at once."""
+    with Bridge(broker.port, 1, *QUICK, "--listen", str(path), program=program) as bridge:
+        until(path.exists)
+        yield "told", told_to([bridge], list(cluster(1)))
+        bridge.kill()
+    yield "the socket of one that was killed is there", path.exists()
+    with Bridge(broker.port, 1, *QUICK, "--listen", str(path), program=program) as bridge:
+        yield "and is replaced", told_to([bridge], list(cluster(1)))
+        with Talk(path) as client:
+            yield "by one that answers", client.ask(b'{"ask":"agree"}\n') == b"same\nok\n"
+    path.unlink()
+    path.write_text("a file")
+    for name, place, status in (("a file", str(path), 19), ("no folder", f"{path}s/none", 19), ("a long path", "x" * 108, 2),
+                                ("no path", "", 2)):
+        found = refused(broker.port, "--number", "3", "--listen", place, program=program)
+        yield "%s: %r" % (name, found[2]), is_refused(found, status, b"")
+    yield "the file is still there", path.read_text() == "a file"
+
+
+def unfinished(_program):
+    """Lines of clients that have no end yet share a bound: one that goes beyond it is read to its end and refused, and the others are
+    whole."""
+    most, lines_of.MOST_LINE = lines_of.MOST_LINE, 100
+    try:
+        with contextlib.ExitStack() as stack:
+            wake, room, clients = threading.Condition(), lines_of.Room(), []
+            for _ in range(2):
+                reader, writer = os.pipe()
+                stack.callback(os.close, reader)
+                source = lines_of.Lines(reader, wake, room)
+                source.start()
+                clients.append((source, stack.enter_context(os.fdopen(writer, "wb", 0))))
+            (one, into_one), (two, into_two) = clients
+            into_one.write(b"1" * 60)
+            yield "the first part of a line is counted", bool(until(lambda: room.unfinished == 60, 10))
+            into_two.write(b"2" * 60)
+            time.sleep(0.1)
+            into_two.write(b"2\nnext\n")
+            found = []
+            until(lambda: found.extend(two.take(9)) or len(found) == 2, 10)
+            yield "one line too many is empty", found == [b"", b"next"]
+            into_one.write(b"1\n")
+            yield "the other is whole", bool(until(lambda: one.is_waiting(), 10)) and one.take(9) == [b"1" * 61]
+            yield "and nothing is left", (room.unfinished, room.waiting) == (0, 0)
+            for _, into in clients:
+                into.close()
+            yield "both end", bool(until(lambda: one.is_ended() and two.is_ended(), 10))
+    finally:
+        lines_of.MOST_LINE = most
+
+
+def deaf_clients(_program):
+    """A client that does not read is cut off behind 16 MiB of answers, and one that reads gets them all; the others go on."""
+    with tempfile.TemporaryDirectory() as folder:
+        answering, path = made(folder, "answering", ANSWERING.format(size=1_000_000)), f"{folder}/door"
+        with one_bridge(answering, "--listen", path, "--json", stderr=subprocess.PIPE) as (_, run):
+            until(lambda: os.path.exists(path))
+            with Talk(path) as deaf, Talk(path) as reader:
+                deaf.write(ASK * 300)
+                reader.write(ASK * 60)
+                found = reader.rest()
+                yield "one that reads has %d answers of 60" % found.count(b"ok\n"), found.count(b"ok\n") == 60
+                got = deaf.rest()
+                yield "one that does not read has %d bytes of 300 MB" % len(got), len(got) < 20 << 20
+            yield "it took %d MB" % peak(run), peak(run) < MOST_MEGABYTES
+            with Talk(path) as last:
+                yield "the others go on", len(last.ask(ASK)) == 1_000_004
+            run.send_signal(signal.SIGTERM)
+            said, status = run.stderr.read(), run.wait(timeout=60)
+            yield "and it is said: %d, %r" % (status, said[-300:]), status == 0 and b'"cut_off"' in said
+
+
+GROUPS = {"looked_at": looked_at, "slow_readers": slow_readers, "unread_errors": unread_errors, "memory_kept": memory_kept, "hangs": hangs,
+          "unknown_kinds": unknown_kinds, "salvaged": salvaged, "full_disks": full_disks, "clients": clients, "unfinished": unfinished,
+          "deaf_clients": deaf_clients}
