@@ -9,7 +9,8 @@ use Rattle.fm_args.specs.declared.words.Question.{Question}
 use Rattle.fm_args.specs.declared.words.Question.TheVariants as question
 use Rattle.fm_args.specs.Invocation.{Text, agree, ask, fleet, follow, pack, run, unpack, why, wrong}
 use Rattle.fm_args.specs.CommandLine.{Form, asks, commands, default_renew_after, fleets, follows, telling_of_words, most_renew_after, nothing, packs, whys}
-use Rattle.fm_args.specs.Parser.{tellings, told_as, told_with}
+use Rattle.fm_args.specs.Parser.{told_as, told_with}
+use Rattle.fm_args.specs.inner.ParserOutcomes.{tellings}
 use Rattle.fm_args.proofs.Leaf.{built_with, helper}
 use Rattle.fm_args.proofs.Entering.{enter}
 use Rattle.fm_args.proofs.Bare.{bare}

@@ -10,7 +10,8 @@ use Rattle.clap.proofs.OnLiterals.{clap_on_literals}
 use Rattle.clap.proofs.FaultLemmas.{stopped_fault}
 use Rattle.clap.proofs.WalkLemmas.{walk_stopped}
 use Rattle.fm_args.specs.Invocation.{Text}
-use Rattle.fm_args.specs.Parser.{firmament, tellings, told_as, told_of_subcommand, told_or}
+use Rattle.fm_args.specs.Parser.{firmament, told_as, told_of_subcommand}
+use Rattle.fm_args.specs.inner.ParserOutcomes.{tellings, told_or}
 use Rattle.fm_args.proofs.Leaf.{leaf_from, start}
 
 abbrev pub all : App

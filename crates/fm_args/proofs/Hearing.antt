@@ -12,7 +12,8 @@ use Rattle.fm_lattice.specs.declared.join.OutOfMemory.{OutOfMemory}
 use Rattle.fm_args.specs.declared.words.Words.{Words}
 use Rattle.fm_args.specs.Invocation.{Telling, Text, help, page, told_of, wrong}
 use Rattle.fm_args.specs.CommandLine.{Form, ask_for_refusals, ask_for_version, command_named, commands, telling_of_words, telling_of, telling_of_first, look_of, look_telling}
-use Rattle.fm_args.specs.Parser.{IsOneOf, asks_for_help, begins_with_help, firmament, tellings, told_of_error, told_at_error}
+use Rattle.fm_args.specs.Parser.{asks_for_help, begins_with_help, firmament, told_of_error, told_at_error}
+use Rattle.fm_args.specs.inner.ParserOutcomes.{IsOneOf, tellings}
 use Rattle.fm_args.proofs.Same.{flipped}
 use Rattle.fm_args.proofs.Commands.{Each, IsTold, each_told}
 use Rattle.fm_args.proofs.Others.{other, single}

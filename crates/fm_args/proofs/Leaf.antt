@@ -8,7 +8,8 @@ use Rattle.clap.specs.Simple.{filled, help_rule, new_shape}
 use Rattle.clap.specs.Walk.{Held, Waiting, Walk, arg_by_long, arg_by_short, finished, idle, option, positional, settled, subcommand_met, walked}
 use Rattle.clap.specs.Faults.{check_fault, defaults_fault, settle_fault, turn_fault, walk_fault}
 use Rattle.fm_args.specs.Invocation.{Telling, Text}
-use Rattle.fm_args.specs.Parser.{told_of_error, told_or}
+use Rattle.fm_args.specs.Parser.{told_of_error}
+use Rattle.fm_args.specs.inner.ParserOutcomes.{told_or}
 
 abbrev ended : Shape → Walk → Kinds
 ended s end = or_else (settle_fault s.rules s.args_override_self end.held)

@@ -8,7 +8,7 @@ use Rattle.clap.specs.Walk.{Names, answers_to}
 use Rattle.clap.proofs.OnLiterals.{clap_on_literals}
 use Rattle.fm_args.specs.Invocation.{Telling, Text, wrong}
 use Rattle.fm_args.specs.CommandLine.{Form, dashes, long, short, plain, command_named, commands, look_of, look_telling}
-use Rattle.fm_args.specs.Parser.{IsOneOf, tellings}
+use Rattle.fm_args.specs.inner.ParserOutcomes.{IsOneOf, tellings}
 use Rattle.fm_args.proofs.Entering.{all}
 use Rattle.fm_args.proofs.Looks.{by_look, is_end, letter_in}
 

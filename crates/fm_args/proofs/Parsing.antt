@@ -8,7 +8,8 @@ use Rattle.clap.specs.declared.error.ErrorKind.TheVariants as kind
 use Rattle.clap.specs.declared.parser.matches.ArgMatches.{ArgMatches}
 use Rattle.clap.proofs.OnLiterals.{clap_on_literals}
 use Rattle.fm_args.specs.Invocation.{Telling, Text}
-use Rattle.fm_args.specs.Parser.{IsOneOf, firmament, tellings, told_of_error, told_of_subcommand, told_or}
+use Rattle.fm_args.specs.Parser.{firmament, told_of_error, told_of_subcommand}
+use Rattle.fm_args.specs.inner.ParserOutcomes.{IsOneOf, tellings, told_or}
 
 firmament_is_simple : is_simple firmament ≡ true
 unfolding clap_on_literals

@@ -1,3 +1,4 @@
 pub mod Invocation
 pub mod CommandLine
 pub mod Parser
+pub mod inner

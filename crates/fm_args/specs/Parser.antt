@@ -1,20 +1,19 @@
 -- The commands as the kit's `clap` has them, and what it may make of words. What comes of it is `telling_of_first`, which needs
 -- none of this.
-use Rattle.std.specs.Prelude.{◌≡◌, ◌⊎◌, ◌^◌, ◌&&◌, ℕ, Bool, true, false, pos, nat_le, nat_lt, IfOk, Result}
-use Rattle.std.specs.Prelude.{List, [], ◌∷◌, map, fold, find, codes, bytes_eq}
+use Rattle.std.specs.Prelude.{◌^◌, ◌&&◌, ℕ, Bool, true, false, pos, nat_le, nat_lt}
+use Rattle.std.specs.Prelude.{List, [], ◌∷◌, fold, find, codes, bytes_eq}
 use Rattle.std.specs.Prelude.{Option, Some, None, option_and_then, if◌then◌else◌}
 use Rattle.std.specs.Option.{option_map_or}
 use Rattle.std.specs.Str.Parse.{digits_value, without_leading_plus}
 use Rattle.clap.specs.ValueTests.{is_numeral}
-use Rattle.clap.specs.Words.{App, Kinds, Row, Rule, fault_of, first_of, one_of, subcommand_of}
+use Rattle.clap.specs.Words.{App, Row, Rule, first_of, one_of}
 use Rattle.clap.specs.Words.{new_app, new_rule, with_rule, with_subcommand}
 use Rattle.clap.specs.declared.builder.ArgAction.TheVariants.{Set}
 use Rattle.clap.specs.declared.builder.value_parser.ValueParser.TheVariants as parser
 use Rattle.clap.specs.declared.error.ErrorKind.{ErrorKind}
 use Rattle.clap.specs.declared.error.ErrorKind.TheVariants as kind
-use Rattle.fm_args.specs.declared.words.Words.{Words}
-use Rattle.fm_args.specs.Invocation.{Telling, Text, help, told_of, wrong}
-use Rattle.fm_args.specs.CommandLine.{Form, ArgumentKind, nothing, one_name, one_number, name_and_number, commands, telling_of_first, is_topic}
+use Rattle.fm_args.specs.Invocation.{Telling, Text, help, wrong}
+use Rattle.fm_args.specs.CommandLine.{Form, ArgumentKind, nothing, one_name, one_number, name_and_number, commands, is_topic}
 
 -- ---- the commands
 
@@ -97,21 +96,3 @@ asks_for_help _ = false
 -- of words that begin with `help` the parser does not say which it is
 abbrev pub told_at_error : List Text → ErrorKind → Telling
 told_at_error all k = if begins_with_help all then (if asks_for_help all then help else wrong) else told_of_error k
-
--- ---- what may be made of the words
-
--- a parser that finds faults tells one of them, and else what the matches tell
-abbrev pub told_or : Kinds → Telling → List Telling
-told_or [] t = t ∷ []
-told_or (k ∷ ks) t = map told_of_error (k ∷ ks)
-
-abbrev pub tellings : List Text → List Telling
-tellings all = told_or (fault_of firmament all) (told_of_subcommand (subcommand_of firmament all))
-
-abbrev pub IsOneOf : Telling → List Telling → Type 0
-IsOneOf t [] = ⊥
-IsOneOf t (x ∷ xs) = (t ≡ x) ⊎ IsOneOf t xs
-
--- what was made of the words is what they ask for by the first of them
-abbrev pub IsHeard : {E : Type 0} → List Text → Result Words E → Type 0
-IsHeard all r = IfOk r (λ w. told_of w ≡ telling_of_first all)

@@ -1,4 +1,6 @@
 //! Words that ask for a page, and not for a command: those that begin with `help`, and `--version`.
+//!
+//! The parser's contract does not say of which words that begin with `help` its text is help. So the words decide here.
 
 ghost use Rattle.std.specs.Prelude.{◌≡◌, map, string_bytes};
 ghost use Rattle.fm_args.specs.CommandLine.{ask_for_refusals, ask_for_version, is_topic};

@@ -1,4 +1,4 @@
-//! The meaning of the parser's answer.
+//! The meaning of the parser's answer: commands as data, so that nothing behind this knows words of a command line.
 
 ghost use Rattle.std.specs.Prelude.{◌≡◌, ◌≢◌, IfOk, codes, map, option_map, string_bytes};
 ghost use Rattle.clap.specs.Words.{first_of, found_of, kind_of, rows_of, subcommand_rows_of};

@@ -2,7 +2,7 @@
 
 ghost use Rattle.std.specs.Prelude.{◌≡◌, IfOk, IsOkUnless, IsTrue, Ok, false, map, string_bytes};
 ghost use Rattle.fm_args.specs.CommandLine.{ask_for_refusals, telling_of};
-ghost use Rattle.fm_args.specs.Parser.{IsHeard};
+ghost use Rattle.fm_args.specs.inner.ParserOutcomes.{IsHeard};
 ghost use Rattle.fm_args.specs.Invocation.{told_of};
 ghost use Rattle.fm_args.specs.declared.words.Words.TheVariants as asked;
 
@@ -16,8 +16,9 @@ use std::alloc::Global;
 /// The most rounds that a fleet may be asked for.
 pub const MOST_ROUNDS: i64 = 1_000;
 
-/// After how many entries of a history coordinators that are kept running are renewed, if no number is given. An
-/// entry takes about a kilobyte, so that a history takes some 100 MB; renewing them copies what they know once.
+/// After how many entries of a history coordinators that are kept running are renewed, if no number is given. An entry
+/// takes about a kilobyte, so that a history takes some 100 MB. Renewing them lists the keys of all that they know, and
+/// copies the records that are in no shared block, once.
 pub const DEFAULT_RENEW_AFTER: u32 = 100_000;
 
 /// The greatest number that may be given: as many entries as a history can have.
@@ -34,8 +35,8 @@ pub enum Command<'a> {
     Pack { name: &'a str },
     /// Print the records of a packet.
     Unpack,
-    /// Say why the task of the id, as a number, waits or runs, by what that coordinator knows, the first that the script
-    /// lists if none is named.
+    /// Say why the task of the id, as a number, waits or runs, by what that coordinator knows, the first that the
+    /// script lists if none is named.
     Why { task: u128, at: Option<u8> },
 }
 

@@ -3,11 +3,12 @@ use Rattle.std.proofs.Common.{◌≡◌, ◌∙◌, ap, sym, refl, true, false}
 use Rattle.std.specs.Ordering.{is_eq}
 use Rattle.std.specs.declared.cmp.Ordering.TheVariants.{Less, Equal, Greater}
 use Rattle.std.proofs.lemmas.Cmp.{tied_itself}
-use Rattle.fm_lattice.specs.Chains.{by_cases}
+use Rattle.fm_lattice.specs.laws.ChainLaws.{by_cases}
 use Rattle.fm_net.specs.declared.node.Node.{Node}
 use Rattle.fm_net.specs.Nodes.{node_cmp}
 use Rattle.fm_net.specs.laws.NodeOrder.{node_exact, node_total}
-use Rattle.fm_net.specs.NetworkEquality.{same_node, node_Decides}
+use Rattle.fm_net.specs.NetworkEquality.{same_node}
+use Rattle.fm_net.specs.laws.NetworkEqualityLaws.{node_Decides}
 
 pub same_itself : (n : Node) → same_node n n ≡ true
 same_itself n = (node_Decides n n).1 refl

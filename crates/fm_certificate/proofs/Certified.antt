@@ -1,13 +1,12 @@
 -- What the checker's walks find is that the flow is certified, and nothing less.
-use Rattle.std.proofs.Common.{◌≡◌, ◌∙◌, ◌≤◌, ap, sym, subst, refl, inl, inr, ℕ, ◌^◌, Bool, true, false, cond, ◌&&◌, List, [], ◌∷◌, Some, IsTrue, arith}
+use Rattle.std.proofs.Common.{◌≡◌, ◌∙◌, ◌≤◌, sym, subst, refl, inl, inr, ℕ, ◌^◌, Bool, true, false, cond, List, [], ◌∷◌, Some, IsTrue}
 use Rattle.std.specs.Prelude.{ℤ}
 use Rattle.std.specs.Int.RustNames.{unsigned_abs}
-use Rattle.std.specs.List.{sum_by, list_all}
+use Rattle.std.specs.List.{list_all}
 use Rattle.std.specs.Map.{keys_of}
 use Rattle.std.specs.Ordering.{is_eq}
 use Rattle.std.specs.Cmp.{unsigned_Decides}
-use Rattle.std.proofs.lemmas.List.Sums.{sum_by-cons}
-use Rattle.fm_lattice.specs.Chains.{by_cases}
+use Rattle.fm_lattice.specs.laws.ChainLaws.{by_cases}
 use Rattle.fm_lattice.specs.Maps.{lookup, IsRising}
 use Rattle.fm_records.specs.Options.{or_else}
 use Rattle.fm_records.specs.Sets.{IsMember}
@@ -15,24 +14,14 @@ use Rattle.fm_net.specs.declared.node.Node.{Node}
 use Rattle.fm_net.specs.declared.node.Node.TheVariants.{Sink, Unscheduled, Request, Machine, Task}
 use Rattle.fm_net.specs.Nodes.{node_cmp, ends_cmp}
 use Rattle.fm_net.specs.laws.NodeOrder.{node_exact, node_total, ends_exact, ends_total}
-use Rattle.fm_net.proofs.ListLaws.{has_member, member_has}
-use Rattle.fm_net.specs.Net.{Net, CanBeNet, has_node}
-use Rattle.fm_net.specs.NetworkEquality.{same_node}
-use Rattle.fm_certificate.specs.Flows.{units_in, leaving, entering, is_between}
+use Rattle.fm_net.proofs.ListLaws.{has_member}
+use Rattle.fm_net.specs.Net.{Net, CanBeNet}
+use Rattle.fm_certificate.specs.Flows.{units_in, is_between}
 use Rattle.fm_certificate.specs.Certificates.{AreSmall, IsCertified}
 use Rattle.fm_certificate.specs.Totals.{Entry, source, target, units_at}
 use Rattle.fm_certificate.specs.inner.Checks.{PricedArc, AreOf, IsComplementary, FitAll, reduced_at, sends}
 use Rattle.fm_certificate.proofs.Members.{member_lookup}
-use Rattle.fm_certificate.proofs.Sums.{sum_same}
-
-first_key : {K : Type 0} (j k : K) (js ks : List K) → j ∷ js ≡ k ∷ ks → j ≡ k
-first_key j k js ks e = cc
-
-other_keys : {K : Type 0} (j k : K) (js ks : List K) → j ∷ js ≡ k ∷ ks → js ≡ ks
-other_keys j k js ks e = cc
-
-no_keys : {K P : Type 0} (k : K) (ks : List K) → [] ≡ k ∷ ks → P
-no_keys k ks e = absurd (let no : ⊥ = cc in no)
+use Rattle.fm_certificate.proofs.Balanced.{first_key, other_keys, no_keys, entry_units, leaves, enters, feasible_by}
 
 -- Nodes beside potentials.
 
@@ -90,70 +79,18 @@ module _ (potentials : List (Node × ℤ)) where
       let first = first_key e.0 a.0 (keys_of es) (keys_of arcs) keys in
       (first, fit e a (inl refl) (inl refl) first, fit_all es arcs (other_keys e.0 a.0 (keys_of es) (keys_of arcs) keys) (λ d b m l. fit d b (inr m) (inr l)))
 
--- a sum over keys
-same_sum : (h : Node × Node → ℕ) (es : List Entry) (arcs : List PricedArc) → keys_of es ≡ keys_of arcs → sum_by (λ (a : PricedArc). h a.0) arcs ≡ sum_by (λ (e : Entry). h e.0) es
-same_sum h [] [] keys = refl
-same_sum h [] (a ∷ arcs) keys = no_keys a.0 (keys_of arcs) keys
-same_sum h (e ∷ es) [] keys = no_keys e.0 (keys_of es) (sym keys)
-same_sum h (e ∷ es) (a ∷ arcs) keys =
-    let first = ap h (first_key e.0 a.0 (keys_of es) (keys_of arcs) keys) in
-    let rest = same_sum h es arcs (other_keys e.0 a.0 (keys_of es) (keys_of arcs) keys) in
-    omega (arith, sum_by-cons (λ (b : PricedArc). h b.0) a arcs, sum_by-cons (λ (d : Entry). h d.0) e es)
-
--- what a test says of members
-all_member : (test : Node → Bool) (n : Node) (ns : List Node) → list_all test ns ≡ true → IsMember n ns → test n ≡ true
-all_member test n [] h m = absurd m
-all_member test n (k ∷ ns) h m =
-    elim (test k) as (λ b. test k ≡ b → (b && list_all test ns) ≡ true → test n ≡ true) [
-      | true ↦ λ e g. elim m [ inl is ↦ ap test (sym is) ∙ e | inr later ↦ all_member test n ns g later ]
-      | false ↦ λ _ g. absurd (let no : ⊥ = cc in no)
-    ] refl h
-
 all_of : (test : Node → Bool) (ns : List Node) → ((n : Node) → IsMember n ns → test n ≡ true) → list_all test ns ≡ true
 all_of test [] h = refl
 all_of test (n ∷ ns) h = let rest = all_of test ns (λ k m. h k (inr m)) in let first = h n (inl refl) in rw first rest
 
 module _ (net : Net) (can : CanBeNet net) (flow : List Entry) (rises : IsRising ends_cmp flow) (potentials : List (Node × ℤ)) (nodes_rise : IsRising node_cmp potentials) where
-  -- the units of the flow's map are its entries
-  entry_units : (e : Entry) → IsMember e flow → units_in flow e.0.0 e.0.1 ≡ e.1
-  entry_units e m = ap (or_else 0) (member_lookup ends_cmp ends_total ends_exact e flow rises m)
-
-  -- what the arcs have at a node is what the entries have
-  flow_sum : (end : Node × Node → Node) (n : Node) → keys_of flow ≡ keys_of net.arcs → sum_by (λ (a : PricedArc). cond (same_node (end a.0) n) (units_in flow a.0.0 a.0.1) 0) net.arcs ≡ units_at end flow n
-  flow_sum end n keys =
-      same_sum (λ k. cond (same_node (end k) n) (units_in flow k.0 k.1) 0) flow net.arcs keys
-      ∙ sum_same _ _ flow (λ e m. ap (λ units. cond (same_node (end e.0) n) units 0) (entry_units e m))
-
-  leaves : keys_of flow ≡ keys_of net.arcs → (n : Node) → leaving net (units_in flow) n ≡ units_at source flow n
-  leaves keys n = flow_sum source n keys
-
-  enters : keys_of flow ≡ keys_of net.arcs → (n : Node) → entering net (units_in flow) n ≡ units_at target flow n
-  enters keys n = flow_sum target n keys
-
   module _ (of : AreOf potentials net.nodes) (fit : FitAll potentials flow net.arcs) (sent : list_all (sends flow) net.nodes ≡ true) where
     keys : keys_of flow ≡ keys_of net.arcs
     keys = fit_keys potentials flow net.arcs fit
 
-    sends_at : (n : Node) → IsTrue (has_node net n) → sends flow n ≡ true
-    sends_at n h = all_member (sends flow) n net.nodes sent (member_has node_cmp node_total node_exact n net.nodes h)
-
-    passed : (n : Node) → units_at target flow n ≡ units_at source flow n → entering net (units_in flow) n ≡ leaving net (units_in flow) n
-    passed n h = enters keys n ∙ h ∙ sym (leaves keys n)
-
-    kept : (n : Node) → IsTrue (has_node net n) → IsTrue (is_between n) → entering net (units_in flow) n ≡ leaving net (units_in flow) n
-    kept Sink h b = absurd (let no : ⊥ = cc in no)
-    kept (Unscheduled j) h b = passed (Unscheduled j) ((unsigned_Decides _ _).0 (sends_at (Unscheduled j) h))
-    kept (Request r) h b = passed (Request r) ((unsigned_Decides _ _).0 (sends_at (Request r) h))
-    kept (Machine m) h b = passed (Machine m) ((unsigned_Decides _ _).0 (sends_at (Machine m) h))
-    kept (Task t) h b = absurd (let no : ⊥ = cc in no)
-
     pub certified : IsCertified net flow potentials
     certified = record {
-      feasible = record {
-        within = λ from to arc h. (fit_at potentials flow net.arcs fit (from, to) arc h).within;
-        sent = λ t h. leaves keys (Task t) ∙ (unsigned_Decides _ _).0 (sends_at (Task t) h);
-        kept = kept;
-      };
+      feasible = feasible_by net flow rises keys (λ from to arc h. (fit_at potentials flow net.arcs fit (from, to) arc h).within) sent;
       arcs = keys;
       nodes = of_keys potentials net.nodes of;
       small = of_small potentials net.nodes of;
@@ -169,19 +106,19 @@ module _ (net : Net) (can : CanBeNet net) (flow : List Entry) (rises : IsRising 
     certified_fit =
         fit_all potentials flow net.arcs cert.arcs (λ e a m l same.
         let arc = member_lookup ends_cmp ends_total ends_exact a net.arcs can.arcs_rise l in
-        let units : units_in flow a.0.0 a.0.1 ≡ e.1 = subst (λ (k : Node × Node). units_in flow k.0 k.1 ≡ e.1) same (entry_units e m) in
+        let units : units_in flow a.0.0 a.0.1 ≡ e.1 = subst (λ (k : Node × Node). units_in flow k.0 k.1 ≡ e.1) same (entry_units net flow rises cert.arcs e m) in
         subst (λ u. IsComplementary u a.1.0 (reduced_at potentials a)) units
         (record { within = cert.feasible.within a.0.0 a.0.1 a.1 arc; no_gain = cert.no_gain a.0.0 a.0.1 a.1 arc; no_waste = cert.no_waste a.0.0 a.0.1 a.1 arc }))
 
     balanced : (n : Node) → IsMember n net.nodes → IsTrue (is_between n) → units_at target flow n ≡ units_at source flow n
-    balanced n m b = sym (enters cert.arcs n) ∙ cert.feasible.kept n (has_member node_cmp node_total node_exact n net.nodes m) b ∙ leaves cert.arcs n
+    balanced n m b = sym (enters net flow rises cert.arcs n) ∙ cert.feasible.kept n (has_member node_cmp node_total node_exact n net.nodes m) b ∙ leaves net flow rises cert.arcs n
 
     sends_all : (n : Node) → IsMember n net.nodes → sends flow n ≡ true
     sends_all Sink m = refl
     sends_all (Unscheduled j) m = (unsigned_Decides _ _).1 (balanced (Unscheduled j) m refl)
     sends_all (Request r) m = (unsigned_Decides _ _).1 (balanced (Request r) m refl)
     sends_all (Machine q) m = (unsigned_Decides _ _).1 (balanced (Machine q) m refl)
-    sends_all (Task t) m = (unsigned_Decides _ _).1 (sym (leaves cert.arcs (Task t)) ∙ cert.feasible.sent t (has_member node_cmp node_total node_exact (Task t) net.nodes m))
+    sends_all (Task t) m = (unsigned_Decides _ _).1 (sym (leaves net flow rises cert.arcs (Task t)) ∙ cert.feasible.sent t (has_member node_cmp node_total node_exact (Task t) net.nodes m))
 
     pub certified_sends : list_all (sends flow) net.nodes ≡ true
     certified_sends = all_of (sends flow) net.nodes sends_all

@@ -4,7 +4,7 @@ use Rattle.std.specs.List.{sum_by}
 use Rattle.std.proofs.Math.Nat.{mul-zero, mul-add}
 use Rattle.std.proofs.lemmas.List.Sums.{sum_by-cons}
 use Rattle.fm_records.specs.Sets.{IsMember}
-use Rattle.fm_records.specs.TableLaws.{Rises}
+use Rattle.fm_records.specs.Rising.{Rises}
 use Rattle.fm_net.specs.declared.node.Node.{Node}
 use Rattle.fm_net.specs.Nodes.{node_cmp}
 use Rattle.fm_net.specs.NetworkEquality.{same_node}

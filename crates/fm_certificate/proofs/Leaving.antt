@@ -7,7 +7,7 @@ use Rattle.std.specs.declared.cmp.Ordering.TheVariants.{Less, Equal}
 use Rattle.std.proofs.lemmas.Bool.{cases_order}
 use Rattle.std.proofs.lemmas.Cmp.{tied_itself}
 use Rattle.std.proofs.lemmas.List.Sums.{sum_by-cons}
-use Rattle.fm_lattice.specs.Chains.{by_cases, greater_less}
+use Rattle.fm_lattice.specs.laws.ChainLaws.{by_cases, greater_less}
 use Rattle.fm_lattice.specs.Maps.{IsBelow, IsRising}
 use Rattle.fm_lattice.proofs.Places.{rising_at}
 use Rattle.fm_net.specs.declared.node.Node.{Node}

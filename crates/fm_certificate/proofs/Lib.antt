@@ -6,6 +6,7 @@ pub mod Least
 pub mod Totalled
 pub mod Units
 pub mod Small
+pub mod Balanced
 pub mod Certified
 pub mod Dearer
 pub mod Priced

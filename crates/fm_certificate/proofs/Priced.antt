@@ -13,7 +13,7 @@ use Rattle.fm_records.specs.Facts.{job_of, live_spec, open_state, spare_of, hold
 use Rattle.fm_net.specs.declared.node.Node.{Node}
 use Rattle.fm_net.specs.declared.node.Node.TheVariants.{Sink, Unscheduled, Request, Machine, Task}
 use Rattle.fm_net.specs.Net.{Net, CanBeNet, arc_at}
-use Rattle.fm_net.specs.Network.{is_held, is_live_of, waits_for, is_node, places, place_arc, preferred_arc, arc_of}
+use Rattle.fm_net.specs.Network.{is_held, is_live_of, waits_for, is_node, capacity_for, place_arc, preferred_arc, arc_of}
 use Rattle.fm_net.proofs.NetworkLaws.{came_from, mapped_from, where_true, preferred_from, is_network_of}
 use Rattle.fm_net.proofs.BoundLaws.{state_ranges}
 use Rattle.fm_certificate.specs.Flows.{Units, cost_of, IsFeasible}
@@ -34,7 +34,7 @@ free capacity arc e = inl (sym (ap (λ (v : ℕ × ℕ). v.1) e))
 small : (v arc : ℕ × ℕ) → v ≡ arc → v.0 ≤ 1000 → IsModest arc
 small v arc e h = inr (subst (λ (w : ℕ × ℕ). w.0 ≤ 1000) e h)
 
-few_places : (state : MachineReg) (spare r : ℕ) → places state spare r ≤ state.slots
+few_places : (state : MachineReg) (spare r : ℕ) → capacity_for state spare r ≤ state.slots
 few_places state spare r = elim (r == 0) as (λ b. cond b state.slots (min state.slots (spare / r)) ≤ state.slots) [ true ↦ omega arith | false ↦ omega arith ]
 
 module _ (k : Table) (is : CanBe k) where

@@ -3,7 +3,8 @@ use Rattle.std.proofs.Common.{◌≡◌, ◌≤◌, ◌<◌, ◌∙◌, ap, refl
 use Rattle.std.specs.Prelude.{Option, unwrap_or}
 use Rattle.std.specs.Ordering.{is_eq}
 use Rattle.std.proofs.lemmas.List.Sums.{sum_by-cons}
-use Rattle.fm_lattice.specs.Chains.{by_cases, by_order}
+use Rattle.fm_lattice.specs.Chains.{by_order}
+use Rattle.fm_lattice.specs.laws.ChainLaws.{by_cases}
 use Rattle.fm_lattice.specs.Maps.{lookup, put, keep_new, IsRising, AreValues}
 use Rattle.fm_lattice.specs.laws.MapLaws.{lookup_below, below_trans, rising_put}
 use Rattle.fm_records.specs.Options.{or_else}

@@ -1,11 +1,16 @@
-//! The checker of certificates, by complementary slackness.
+//! The checker of certificates: whether a flow is least is seen without trust in whoever computed it.
+//!
+//! A solver is long, and this is a few walks over nodes and arcs. Potentials certify a feasible flow if they meet
+//! complementary slackness at each arc (Ahuja, Magnanti and Orlin, "Network flows", 1993): then no feasible flow costs
+//! less. A solver that also answers potentials is a certifying algorithm (McConnell, Mehlhorn, Näher and Schweitzer,
+//! 2011).
 
 ghost use Rattle.std.specs.Prelude.{◌≡◌, ◌↔◌, ◌≤◌, IsTrue};
-ghost use Rattle.std.specs.List.{list_all};
 ghost use Rattle.fm_certificate.specs.Flows.{units_in, IsLeast};
 ghost use Rattle.fm_certificate.specs.Certificates.{potential_in, reduced_cost, AreSmall, IsCertified};
-ghost use Rattle.fm_certificate.specs.inner.Checks.{IsComplementary, FitAll, AreOf, sends};
+ghost use Rattle.fm_certificate.specs.inner.Checks.{IsComplementary, FitAll, AreOf};
 
+use crate::feasible::nodes_send;
 use crate::flow::Flow;
 use crate::potentials::Potentials;
 use fm_net::network::Network;
@@ -64,24 +69,4 @@ fn fits(units: u64, capacity: u64, reduced: i128) -> bool
     ensures { IsTrue result ↔ IsComplementary units capacity reduced }
 {
     units <= capacity && (units == capacity || reduced >= 0) && (units == 0 || reduced <= 0)
-}
-
-// Whether each task sends one unit, and each node between tasks and sink what enters it.
-fn nodes_send(network: &Network, flow: &Flow) -> bool
-    ensures { result ≡ list_all (sends flow.now) network.now.nodes }
-{
-    network.nodes().all(|node| sends(flow, &node))
-}
-
-// Whether the node sends what it has to.
-fn sends(flow: &Flow, node: &Node) -> bool
-    ensures { result ≡ sends flow.now node.now }
-{
-    match node {
-        Node::Sink => true,
-        Node::Task(_) => flow.leaving(node) == 1,
-        Node::Unscheduled(_) | Node::Request(_) | Node::Machine(_) => {
-            flow.entering(node) == flow.leaving(node)
-        }
-    }
 }

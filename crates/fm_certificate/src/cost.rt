@@ -1,4 +1,7 @@
-//! What a flow costs.
+//! What a flow costs: the sum of cost times units over all arcs.
+//!
+//! A flow of a network has the network's arcs as its keys, in the same order. So the units of each arc are looked for
+//! at its own place first: O(arcs), and a search for each only if the keys are others.
 
 ghost use Rattle.std.specs.Prelude.{◌≡◌, ◌*◌};
 ghost use Rattle.fm_certificate.specs.PolicyNetwork.{IsBuilt};

@@ -1,4 +1,8 @@
-//! Units on arcs.
+//! Flows: units on arcs, with what enters each node beside them.
+//!
+//! To check a flow is to compare what enters and what leaves each node. The arcs that leave a node lie side by side,
+//! since keys are in order of where arcs come from (`outflow`). Those that enter it lie anywhere, so their sum is kept
+//! for each node (`inflow`).
 
 ghost use Rattle.std.specs.Prelude.{◌≡◌, ◌≤◌, ◌<◌, ◌^◌, List, length, IfOk, OnOk, OnErr, [], IsTrue, ◌↔◌};
 ghost use Rattle.fm_lattice.specs.Maps.{lookup, put, keep_new, IsRising};

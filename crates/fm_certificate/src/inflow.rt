@@ -1,4 +1,7 @@
-//! Running totals of units by node.
+//! What enters each node, as running totals, since the arcs that enter a node lie anywhere in a flow.
+//!
+//! Without them, each question would be a walk over all arcs. Each put changes one total, O(log n). Room for a new
+//! total is made before the units change, so that a refusal leaves the flow as it was.
 
 ghost use Rattle.std.specs.Prelude.{◌≡◌, ◌≤◌, ◌<◌, ◌+◌, ◌^◌, cond, IsSome, IfOk, OnOk};
 ghost use Rattle.fm_lattice.specs.Maps.{lookup, IsRising};

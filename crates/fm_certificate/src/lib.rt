@@ -3,6 +3,7 @@
 
 pub mod check;
 pub mod cost;
+pub mod feasible;
 pub mod flow;
 pub mod flow_iter;
 mod inflow;

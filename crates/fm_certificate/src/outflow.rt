@@ -1,4 +1,4 @@
-//! The arcs that leave a node, which lie side by side.
+//! The arcs that leave a node, which lie side by side, so that a binary search finds them.
 
 ghost use Rattle.std.specs.Prelude.{◌≡◌, ◌<◌, ◌≤◌, ◌^◌, length, drop};
 ghost use Rattle.fm_lattice.specs.Maps.{IsRising, AreValues};

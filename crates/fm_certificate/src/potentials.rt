@@ -1,4 +1,7 @@
-//! Potentials of nodes.
+//! Potentials of nodes, which show that a flow is least.
+//!
+//! In a certificate none is beyond 2^100 in size, so that each reduced cost fits 128 bits. They are in node order, so
+//! one walk along the network's nodes shows whether each has its potential.
 
 ghost use Rattle.std.specs.Prelude.{◌≡◌, ◌↔◌, ◌<◌, ◌^◌, [], length, IsTrue, OnOk, OnErr};
 ghost use Rattle.fm_lattice.specs.Maps.{lookup, put, keep_new, IsRising};

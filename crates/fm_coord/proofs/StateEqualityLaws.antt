@@ -5,8 +5,9 @@ use Rattle.std.proofs.Common.{ap, eq-eqb, rules}
 use Rattle.std.proofs.lemmas.Bool.{eqb-true}
 use Rattle.fm_records.proofs.LookupLaws.{both_true}
 use Rattle.fm_records.specs.Table.{Table}
-use Rattle.fm_records.specs.RecordEquality.{op_Decides}
-use Rattle.fm_know.specs.KnowledgeEquality.{same_table, table_Decides}
+use Rattle.fm_records.specs.laws.RecordEqualityLaws.{op_Decides}
+use Rattle.fm_know.specs.KnowledgeEquality.{same_table}
+use Rattle.fm_know.specs.laws.KnowledgeEqualityLaws.{table_Decides}
 use Rattle.fm_delta.specs.laws.PacketLaws.{packet_Decides}
 use Rattle.fm_round.specs.laws.PlanEqualityLaws.{plan_Decides, admitted_Decides}
 use Rattle.fm_coord.specs.declared.entry.Range.{Range}

@@ -8,7 +8,7 @@ use Rattle.fm_records.specs.Know.{table_of}
 use Rattle.fm_records.specs.Joined.{table_join}
 use Rattle.fm_records.proofs.UnionLaws.{know_append}
 use Rattle.fm_delta.specs.Deltas.{end_of, joined_all}
-use Rattle.fm_delta.specs.GroupLaws.{joined_union}
+use Rattle.fm_delta.proofs.GroupLaws.{joined_union}
 use Rattle.fm_round.specs.Admission.{admission}
 use Rattle.fm_coord.specs.declared.entry.Call.{Call}
 use Rattle.fm_coord.specs.declared.entry.Entry.{Entry}

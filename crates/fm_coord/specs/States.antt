@@ -1,5 +1,5 @@
 -- The state of a coordinator, how calls change it, and for which replica it stands.
-use Rattle.std.specs.Prelude.{◌≡◌, ◌≤◌, ℕ, ◌+◌, Bool, IsTrue, List, [], ◌∷◌, ◌++◌, length, drop, map, None}
+use Rattle.std.specs.Prelude.{◌≡◌, ◌≤◌, ℕ, ◌+◌, List, [], ◌∷◌, ◌++◌, length, drop, map, None}
 use Rattle.fm_records.specs.Table.{Table}
 use Rattle.fm_records.specs.Know.{table_of}
 use Rattle.fm_records.specs.Joined.{table_join}
@@ -12,8 +12,6 @@ use Rattle.fm_coord.specs.declared.entry.Reply.{Reply}
 use Rattle.fm_coord.specs.declared.entry.Entry.{Entry}
 use Rattle.fm_coord.specs.declared.entry.Range.{Range}
 use Rattle.fm_coord.specs.declared.entry.Range.TheVariants.{Interval, Full}
-use Rattle.fm_coord.specs.declared.tally_cache.Tallied.{Tallied}
-use Rattle.fm_coord.specs.inner.TallyCache.{IsTalliedFor}
 use Rattle.fm_coord.specs.Events.{Event, Replica, opening, happens}
 use Rattle.fm_coord.specs.Causes.{Bounds, cause, bounds_of}
 use Rattle.fm_coord.specs.Replays.{call_of, reply_of, replay, IsLegal}
@@ -118,10 +116,3 @@ pub record IsCoordinator (s : State) : Type 0 where
   pub within : length s.history ≤ s.limit
   pub end_within : end_of s.deltas ≤ length s.history
   pub cuts_within : s.cuts ≤ length s.history
-
--- and its keeper is stale, or for what it knows; if it is said to follow, it follows what is known; and so does its tally
-pub record HasKeeper (s : State) (fresh : Bool) (is_for : Table → Type 0) (said : Bool) (follows : Table → Type 0) (kept : Tallied) : Type 0 where
-  pub coordinator : IsCoordinator s
-  pub keeper : IsTrue fresh → is_for s.knowledge
-  pub kept_up : IsTrue said → follows s.knowledge
-  pub tallied : IsTalliedFor s.knowledge kept

@@ -1,1 +1,2 @@
 pub mod TallyCache
+pub mod KeeperStates

@@ -1,4 +1,4 @@
-//! One transition for all calls.
+//! One transition for all calls, by which worlds and nodes make any call, and contracts speak of all of them at once.
 
 ghost use Rattle.std.specs.Prelude.{◌≡◌, ◌⊎◌, ◌++◌, ◌∷◌, [], None, IsOk, IfOk, IfErr, OnOk, OnErr};
 ghost use Rattle.fm_coord.specs.Events.{Event, Replica};

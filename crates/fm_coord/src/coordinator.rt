@@ -1,5 +1,9 @@
-//! One coordinator with its history: a replica of a delta-state CRDT, by basic anti-entropy in the transitive mode
-//! (Almeida, Shoker and Baquero, 2018).
+//! One coordinator with its history: a replica of a delta-state CRDT, with the keeper of its network.
+//!
+//! The protocol is basic anti-entropy in the transitive mode (Almeida, Shoker and Baquero, 2018). What is told and what
+//! is merged are both kept as deltas, and so go on to others. A call checks and allocates first and then changes all,
+//! so that a refusal changes nothing but whether the network is fresh. The history has each accepted call, and all else
+//! follows from it.
 
 ghost use Rattle.std.specs.Prelude.{◌≡◌, ◌≤◌, ◌<◌, ◌+◌, ◌^◌, ◌↔◌, ◌∷◌, ◌++◌, [], length, is_none, IsTrue, Some, None, IsOk, IsOkUnless, IfOk, IfSome, IfErr, OnOk, OnErr};
 ghost use Rattle.std.specs.List.{list_all};
@@ -60,7 +64,8 @@ pub struct Coordinator<N: NetKeeper> {
 }
 
 impl<N: NetKeeper> Model for Coordinator<N> {
-    ghost use Rattle.fm_coord.specs.States.{WithKeeper, HasKeeper};
+    ghost use Rattle.fm_coord.specs.States.{WithKeeper};
+    ghost use Rattle.fm_coord.specs.inner.KeeperStates.{HasKeeper};
 
     ghost Value = { WithKeeper N };
 
@@ -374,7 +379,8 @@ impl<N: NetKeeper> Coordinator<N> {
     /// Drops the deltas below n, which then can no longer be cut. BadInterval if n is below the floor or above the
     /// end, HistoryFull, OutOfMemory; then nothing has changed.
     pub fn trim(&mut self, by: u32, n: u64) -> Result<(), Refusal>
-        ensures ok { OnOk result (self.new.state ≡ after_trim self.old.state n (history_entry by (Call.Trim n) Reply.Nothing)) }
+        ensures ok { OnOk result (self.new.state
+            ≡ after_trim self.old.state n (history_entry by (Call.Trim n) Reply.Nothing)) }
         ensures keeper { self.new.keeper ≡ self.old.keeper }
         ensures within { IsOk result → cause (bounds self.old.state) (Call.Trim n) ≡ None }
         ensures event { (r : Replica) → Represents self.old.state r

@@ -1,4 +1,6 @@
-//! What a history is made of.
+//! What a history is made of: each accepted call with its reply, so that a replay can be compared with what happened.
+//!
+//! Replies share what they hold with the caller and the coordinator: a packet, what was admitted, or what a view saw.
 
 use fm_delta::packet::Packet;
 use fm_know::knowledge::Knowledge;

@@ -4,7 +4,7 @@ ghost use Rattle.std.specs.Prelude.{◌≡◌, ◌↔◌, IsTrue};
 
 use crate::entry::{Call, Entry, Reply};
 
-/// Whether two calls are the same. O(n log n) in what they hold, as all here.
+/// Whether two calls are the same. O(n) in what they hold, as all here.
 pub fn calls(call: &Call, other: &Call) -> bool
     ensures { IsTrue result ↔ (call.now ≡ other.now) }
 {

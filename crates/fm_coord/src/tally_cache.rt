@@ -1,4 +1,9 @@
-//! The tally of what a coordinator knows, kept between calls.
+//! The tally of what a coordinator knows, kept between calls, so that a round does not look up all tasks again.
+//!
+//! What is told drops the tally, but not the unfinished tasks from which it was made, which do not depend on jobs and
+//! machines. The keys of the deltas since are kept, and the next tally looks up only the tasks that changed
+//! (incremental view maintenance). If there are more keys than a quarter of the tasks, a walk over all costs less, and
+//! nothing is kept.
 
 ghost use Rattle.std.specs.Prelude.{◌≡◌, true, IfOk, IfSome};
 ghost use Rattle.fm_records.specs.Table.{Table as Known};

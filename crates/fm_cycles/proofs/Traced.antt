@@ -8,7 +8,8 @@ use Rattle.std.proofs.lemmas.List.Elements.{All-nil, All-cons, All-append}
 use Rattle.std.specs.declared.vec.Vec.{Vec}
 use Rattle.std.specs.declared.alloc.Global.{Global}
 use Rattle.fm_cycles.specs.Walks.{Steps, IsNegativeCycle}
-use Rattle.fm_cycles.specs.inner.ParentGraph.{value_count, visit_of, IsVisited, AreBefore, AreRooted, IsWalkedBack, AreNegative, AreCyclesOf}
+use Rattle.fm_cycles.specs.inner.ParentGraph.{value_count, visit_of, IsVisited, AreBefore, AreRooted, IsWalkedBack, AreCyclesOf}
+use Rattle.fm_cycles.specs.Found.{AreNegative}
 use Rattle.fm_cycles.specs.declared.indexed_arcs.ResidualArc.{ResidualArc}
 use Rattle.fm_cycles.specs.declared.parent_graph.Visit.{Visit}
 use Rattle.fm_cycles.proofs.Counts.{marked_most}

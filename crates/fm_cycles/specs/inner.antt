@@ -1,2 +1,4 @@
 pub mod Labels
 pub mod ParentGraph
+pub mod SentUnits
+pub mod OpenWalks

@@ -1,4 +1,8 @@
-//! Whether numbers are potentials.
+//! Whether numbers are potentials: then no cycle of negative cost is left, and none need be searched for.
+//!
+//! It is one walk over the arcs. A further unit must save nothing where one fits, and one unit less must save nothing
+//! where there is one (complementary slackness). Each search begins with this test, so a first flow that comes with its
+//! potentials costs no search.
 
 ghost use Rattle.std.specs.Prelude.{◌≡◌, ◌<◌, ◌^◌, ◌≤ℤ◌, ◌⊎◌, ◌↔◌, false, IsTrue, length, pos};
 ghost use lib.Signed.{◌<ℤ◌};

@@ -1,10 +1,14 @@
-//! The search for a cycle of negative cost.
+//! The search for cycles of negative cost, around which a flow gets cheaper, or for potentials, if there is none.
+//!
+//! It is the Bellman-Ford algorithm (Ford, 1956; Bellman, 1958) with a parent at each node. To wait for as many sweeps
+//! over the arcs as there are nodes would show a cycle late, so cycles are looked for among the parents after each
+//! sweep. After four sweeps a queue (Moore, 1959) runs between two sweeps. O(nodes * arcs) at worst, with memory
+//! O(nodes + arcs).
 
 ghost use Rattle.std.specs.Prelude.{◌≡◌, ◌<◌, ◌^◌, length, IfOk};
 ghost use Rattle.fm_cycles.specs.Walks.{AreBounded};
 ghost use Rattle.fm_cycles.specs.Residual.{residual, AreArcs};
-ghost use Rattle.fm_cycles.specs.Found.{costs_in, IsSearchResult};
-ghost use Rattle.fm_cycles.specs.inner.ParentGraph.{IsSearched};
+ghost use Rattle.fm_cycles.specs.Found.{costs_in, IsSearched};
 
 use crate::check_potentials::are_potentials;
 use crate::indexed_arcs::{IndexedArc, ResidualArc};
@@ -13,25 +17,23 @@ use crate::parent_graph::cycles_in;
 use crate::queue::relax_by_queue;
 use std::alloc::{AllocError, Global};
 
-/// What a search finds.
+/// What a search finds: cycles of negative cost, no two of which share a node, each with its last step first; and the
+/// costs at which the search ended, one for each node: potentials if there is no cycle. With potentials no arc with room
+/// costs less than 0, and none with units more.
 #[derive(Debug, Drop)]
-pub enum Found {
-    /// A potential for each node: with them no arc with room costs less than 0, and none with units more.
-    Potentials(Vec<i128>),
-    /// The steps of a cycle of negative cost, the last one first.
-    Cycle(Vec<ResidualArc>),
+pub struct Searched {
+    pub cycles: Vec<Vec<ResidualArc>>,
+    pub costs: Vec<i128>,
 }
 
-/// Cycles of negative cost, no two of which share a node, and the costs at which the search ended: potentials if
-/// there is no cycle.
-#[derive(Debug, Drop)]
-pub(crate) struct Searched {
-    pub(crate) cycles: Vec<Vec<ResidualArc>>,
-    pub(crate) costs: Vec<i128>,
-}
-
-/// As `search`, with every cycle that its labels have, and the costs also if there are cycles.
-pub(crate) fn search_on(
+/// Potentials that show the units to be a least flow, or cycles of negative cost around which they become cheaper. The
+/// caller must pass arcs between the nodes, fewer than 2^63 of these, and a number for each to start from, none beyond
+/// 2^64 in size: from potentials the search only confirms them. Refused if memory runs out, and for nothing else.
+///
+/// The Bellman-Ford algorithm (Ford, 1956; Bellman, 1958) with parents, looking for cycles after each sweep over the
+/// arcs. After four sweeps a queue (Moore, 1959) runs between two sweeps. Time O(nodes * arcs) at worst, since there
+/// are at most as many sweeps as nodes. Memory O(nodes), with the queue O(nodes + arcs).
+pub fn search(
     alloc: Global,
     nodes: usize,
     arcs: &[IndexedArc],
@@ -81,33 +83,5 @@ pub(crate) fn search_on(
             });
         }
         sweeps += 1;
-    }
-}
-
-/// Potentials that show the units to be a least flow, or a cycle of negative cost around which they become cheaper. The
-/// caller must pass arcs between the nodes, fewer than 2^63 of these, and a number for each to start from, none beyond
-/// 2^64 in size: from potentials the search only confirms them. Refused if memory runs out, and for nothing else.
-///
-/// The Bellman-Ford algorithm (Ford, 1956; Bellman, 1958) with parents, looking for a cycle after each sweep over the
-/// arcs. After four sweeps a queue (Moore, 1959) runs between two sweeps. Time O(nodes * arcs) at worst, since there
-/// are at most as many sweeps as nodes. Memory O(nodes), with the queue O(nodes + arcs).
-pub fn search(
-    alloc: Global,
-    nodes: usize,
-    arcs: &[IndexedArc],
-    units: &[u64],
-    first: Vec<i128>,
-) -> Result<Found, AllocError>
-    requires arcs { AreArcs arcs.now nodes }
-    requires few { nodes < 2 ^ 63 }
-    requires sized { length first.items ≡ nodes }
-    requires small { AreBounded (2 ^ 64) (costs_in first.items) }
-    ensures { IfOk result (λ found. IsSearchResult (residual arcs.now units.now) nodes found) }
-{
-    let Searched { cycles, costs } = search_on(alloc, nodes, arcs, units, first)?;
-    let mut cycles = cycles;
-    match cycles.pop() {
-        Some(steps) => Ok(Found::Cycle(steps)),
-        None => Ok(Found::Potentials(costs)),
     }
 }

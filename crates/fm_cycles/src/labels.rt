@@ -1,5 +1,8 @@
-//! Labels of a label-correcting search: the cost at each node and the step by which it fell last. They are corrected in
-//! place, one arc after the other.
+//! Labels of a label-correcting search: the cost at each node, and its parent, the step by which the cost fell last.
+//!
+//! Labels are corrected in place, one arc after another, so within one sweep a cost falls along all arcs of a walk that
+//! come in its order. Sweeps go forwards and backwards by turns (Yen, 1970). Only a lesser cost replaces a label, so a
+//! cycle of parents is always one of negative cost.
 
 ghost use Rattle.std.specs.Prelude.{◌≡◌, ◌<◌, ◌^◌, vec_len, length, ℕ, ◌≤ℤ◌, pos};
 ghost use Rattle.fm_cycles.specs.Walks.{AreBounded};

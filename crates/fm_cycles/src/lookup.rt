@@ -1,4 +1,4 @@
-//! Values at places, with a default beyond the end.
+//! Values at places, with a default beyond the end, so that no read can fail.
 
 ghost use Rattle.std.specs.Prelude.{◌≡◌, slice_index, slice_index_or};
 ghost use Rattle.fm_cycles.specs.Found.{costs_in};

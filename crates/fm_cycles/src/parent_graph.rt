@@ -1,4 +1,9 @@
-//! The walks back over parents, and the cycles into which they run.
+//! The cycles of the parents, each of which is a cycle of negative cost, in whatever order arcs were relaxed.
+//!
+//! They are looked for after each sweep, and not after each step: the amortized search of Cherkassky and Goldberg
+//! ("Negative-cycle detection algorithms", 1999). From each node a walk goes back over parents until it meets a node
+//! that was visited before. It has found a cycle if that visit was its own. So each node is visited once, O(nodes), and
+//! no two cycles share a node.
 
 ghost use Rattle.std.specs.Prelude.{◌≡◌, ◌<◌, length, IfOk, slice_index_or, None, [], drop};
 ghost use Rattle.fm_cycles.specs.Residual.{residual, AreArcs};

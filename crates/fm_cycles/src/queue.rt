@@ -6,7 +6,7 @@
 ghost use Rattle.std.specs.Prelude.{◌≡◌, ◌<◌, ◌^◌, vec_len, length, ℕ, ◌≤ℤ◌, pos, IfOk, OnOk};
 ghost use Rattle.fm_cycles.specs.Residual.{residual, AreArcs};
 ghost use Rattle.fm_cycles.specs.inner.Labels.{costs_of, HasFirst, IsBoundedBelow, IsCorrected, IsCorrectedWithin};
-ghost use Rattle.fm_cycles.specs.inner.ParentGraph.{AreNegative};
+ghost use Rattle.fm_cycles.specs.Found.{AreNegative};
 
 use crate::indexed_arcs::{IndexedArc, ResidualArc};
 use crate::labels::{Labels, relax};
@@ -141,7 +141,7 @@ fn relax_waiting(
 }
 
 /// Relaxes arcs until the labels have a cycle, no node waits, or it was done for long enough, and returns the cycles.
-/// Does nothing before the first sweeps are done. O(arcs) in time and memory. Refused if memory runs out.
+/// Does nothing before the first sweeps are done. O(nodes + arcs) in time and memory. Refused if memory runs out.
 pub(crate) fn relax_by_queue(
     alloc: Global,
     arcs: &[IndexedArc],

@@ -4,7 +4,8 @@ use Rattle.std.specs.Result.{IfOk}
 use Rattle.fm_records.specs.Table.{Table}
 use Rattle.fm_records.specs.Ranges.{CanBe}
 use Rattle.fm_records.specs.Joined.{table_join}
-use Rattle.fm_delta.specs.GroupLaws.{IsJoinOf, join_one, join_parts}
+use Rattle.fm_delta.proofs.GroupLaws.{join_one, join_parts}
+use Rattle.fm_delta.specs.inner.JoinedDeltas.{IsJoinOf}
 
 pub one : {E : Type 0} (r : Result Table E) (d : Table) → CanBe d → IfOk r (λ k. k ≡ d) → IfOk r (λ k. IsJoinOf k (d ∷ []))
 one (Ok k) d p same = subst (λ t. IsJoinOf t (d ∷ [])) (sym same) (join_one d p)

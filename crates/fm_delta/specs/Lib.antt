@@ -1,4 +1,4 @@
 pub mod Deltas
-pub mod GroupLaws
 pub mod Packets
 pub mod laws
+pub mod inner

@@ -1,4 +1,8 @@
-//! Buffers of deltas, in the order in which they came.
+//! Buffers of deltas, so that a coordinator can send a peer what it lacks instead of all that it knows.
+//!
+//! Deltas are numbered from 0 in the order in which they came. `cut` joins those of an interval into a delta group
+//! (Almeida, Shoker and Baquero, 2018), by divide and conquer, O(s log d) for d deltas with s entries. `trim` drops the
+//! first deltas, and a later cut from below that floor is refused, since it would lack some of what it is asked for.
 
 ghost use Rattle.std.specs.Prelude.{◌≡◌, ◌+◌, ◌≤◌, ◌<◌, ◌^◌, [], ◌∷◌, List, Ok, Err, None, if◌then◌else◌, map, drop, IsOk, IfOk, IfErr, OnOk, OnErr};
 ghost use Rattle.std.specs.List.{slice_range};
@@ -8,7 +12,7 @@ ghost use Rattle.fm_records.specs.Options.{or_else};
 ghost use Rattle.fm_records.specs.Sets.{union};
 ghost use Rattle.fm_records.specs.Know.{table_of};
 ghost use Rattle.fm_delta.specs.Deltas.{end_of, with_delta, with_floor, between, joined_all, cut_fault, can_trim};
-ghost use Rattle.fm_delta.specs.GroupLaws.{IsJoinOf};
+ghost use Rattle.fm_delta.specs.inner.JoinedDeltas.{IsJoinOf};
 
 use fm_know::knowledge::Knowledge;
 use fm_lattice::join::{Join, OutOfMemory};

@@ -8,10 +8,11 @@ use Rattle.std.specs.declared.cmp.Ordering.{Ordering}
 use Rattle.std.specs.declared.cmp.Ordering.TheVariants.{Less, Equal, Greater}
 use Rattle.std.proofs.lemmas.Cmp.{tied_itself}
 use Rattle.std.proofs.lemmas.List.{get_or_default, length-append}
-use Rattle.fm_lattice.specs.Chains.{less_greater}
+use Rattle.fm_lattice.specs.laws.ChainLaws.{less_greater}
 use Rattle.fm_lattice.specs.Maps.{put, keep_new, IsBelow, IsRising}
 use Rattle.fm_records.specs.Sets.{IsMember, insert_once}
-use Rattle.fm_records.specs.TableLaws.{some_none, IsBelowAll, Rises}
+use Rattle.fm_records.proofs.TableLaws.{some_none}
+use Rattle.fm_records.specs.Rising.{IsBelowAll, Rises}
 use Rattle.fm_net.specs.declared.node.Node.{Node}
 use Rattle.fm_net.specs.declared.node.Node.TheVariants.{Sink}
 use Rattle.fm_net.specs.Nodes.{node_cmp, ends_cmp, IsInRange}
@@ -19,7 +20,7 @@ use Rattle.fm_net.specs.laws.NodeOrder.{node_total, node_exact, ends_total}
 use Rattle.fm_net.specs.Net.{IsArc, IsArcKind, has_node}
 use Rattle.fm_net.proofs.ListLaws.{has_member, member_has}
 use Rattle.fm_dimacs.specs.Text.{id_in, arc_line}
-use Rattle.fm_dimacs.specs.Syntax.{Place, Comments, Body, Allows, Reaches, IsAfterLast, IsNextNode, BreaksAfter}
+use Rattle.fm_dimacs.specs.Syntax.{LineState, Comments, Body, Allows, Reaches, IsAfterLast, IsNextNode, BreaksAfter}
 use Rattle.fm_dimacs.specs.inner.Scan.{IsArcAmong, IsAfter, ids_of, numbers_at}
 use Rattle.fm_dimacs.proofs.Ids.{id_below, id_least, id_tells}
 use Rattle.fm_dimacs.proofs.Placed.{id_at}
@@ -76,7 +77,7 @@ next_sound : (nodes : List Node) (n : Node) → Sound nodes → IsNextNode nodes
 next_sound [] n s h = record { rise = (tt, tt); in_range = (subst IsInRange (sym h) tt, tt) }
 next_sound (m ∷ ms) n s h = record { rise = rises_more node_cmp node_total (m ∷ ms) n s.rise h.0; in_range = all_more IsInRange (m ∷ ms) n s.in_range h.1 }
 
-step_sound : (p q : Place) (line : List ℕ) → Sound (nodes_of p) → Allows p line q → Sound (nodes_of q)
+step_sound : (p q : LineState) (line : List ℕ) → Sound (nodes_of p) → Allows p line q → Sound (nodes_of q)
 step_sound (Comments nodes) q line s h = elim h [
   | inl x ↦ subst (λ z. Sound (nodes_of z)) (sym x.3) (next_sound nodes x.0 s x.1)
   | inr x ↦ subst (λ z. Sound (nodes_of z)) (sym x.4) s
@@ -85,7 +86,7 @@ step_sound (Body nodes (u ∷ us) arcs left) q line s h = subst (λ z. Sound (no
 step_sound (Body nodes [] arcs (suc left)) q line s h = subst (λ z. Sound (nodes_of z)) (sym h.3) s
 step_sound (Body nodes [] arcs zero) q line s h = absurd h
 
-leads_sound : (k : ℕ) (p q : Place) (text rest : List ℕ) → Sound (nodes_of p) → Reaches k p text q rest → Sound (nodes_of q)
+leads_sound : (k : ℕ) (p q : LineState) (text rest : List ℕ) → Sound (nodes_of p) → Reaches k p text q rest → Sound (nodes_of q)
 leads_sound zero p q text rest s h = subst (λ z. Sound (nodes_of z)) h.0 s
 leads_sound (suc k) p q text rest s h = leads_sound k h.1 q h.2 rest (step_sound p h.1 h.0 s h.4) h.5
 
@@ -97,7 +98,7 @@ first_next : (nodes : List Node) (n : Node) → IsNextNode nodes n → ((d : Nod
 first_next [] n h first d = h
 first_next (m ∷ ms) n h first d = first d (omega arith)
 
-step_first : (p q : Place) (line : List ℕ) → ((d : Node) → 0 < length (nodes_of p) → get_or (nodes_of p) 0 d ≡ Sink) → Allows p line q → (d : Node) → 0 < length (nodes_of q) → get_or (nodes_of q) 0 d ≡ Sink
+step_first : (p q : LineState) (line : List ℕ) → ((d : Node) → 0 < length (nodes_of p) → get_or (nodes_of p) 0 d ≡ Sink) → Allows p line q → (d : Node) → 0 < length (nodes_of q) → get_or (nodes_of q) 0 d ≡ Sink
 step_first (Comments nodes) q line first h = elim h [
   | inl x ↦ subst (λ z. (d : Node) → 0 < length (nodes_of z) → get_or (nodes_of z) 0 d ≡ Sink) (sym x.3) (λ d some. first_next nodes x.0 x.1 first d)
   | inr x ↦ subst (λ z. (d : Node) → 0 < length (nodes_of z) → get_or (nodes_of z) 0 d ≡ Sink) (sym x.4) first
@@ -106,7 +107,7 @@ step_first (Body nodes (u ∷ us) arcs left) q line first h = subst (λ z. (d : 
 step_first (Body nodes [] arcs (suc left)) q line first h = subst (λ z. (d : Node) → 0 < length (nodes_of z) → get_or (nodes_of z) 0 d ≡ Sink) (sym h.3) first
 step_first (Body nodes [] arcs zero) q line first h = absurd h
 
-pub leads_first : (k : ℕ) (p q : Place) (text rest : List ℕ) → ((d : Node) → 0 < length (nodes_of p) → get_or (nodes_of p) 0 d ≡ Sink) → Reaches k p text q rest → (d : Node) → 0 < length (nodes_of q) → get_or (nodes_of q) 0 d ≡ Sink
+pub leads_first : (k : ℕ) (p q : LineState) (text rest : List ℕ) → ((d : Node) → 0 < length (nodes_of p) → get_or (nodes_of p) 0 d ≡ Sink) → Reaches k p text q rest → (d : Node) → 0 < length (nodes_of q) → get_or (nodes_of q) 0 d ≡ Sink
 leads_first zero p q text rest first h = subst (λ z. (d : Node) → 0 < length (nodes_of z) → get_or (nodes_of z) 0 d ≡ Sink) h.0 first
 leads_first (suc k) p q text rest first h = leads_first k h.1 q h.2 rest (step_first p h.1 h.0 first h.4) h.5
 

@@ -6,7 +6,7 @@ use Rattle.std.proofs.lemmas.List.{length-append}
 use Rattle.fm_net.specs.declared.node.Node.TheVariants.{Sink}
 use Rattle.fm_net.specs.Net.{sink_alone}
 use Rattle.fm_dimacs.specs.Text.{dump_text, node_line, problem_line}
-use Rattle.fm_dimacs.specs.Syntax.{Place, Comments, Body, Allows, Reaches, IsMalformedAt, BreaksAt}
+use Rattle.fm_dimacs.specs.Syntax.{LineState, Comments, Body, Allows, Reaches, IsMalformedAt, BreaksAt}
 use Rattle.fm_dimacs.proofs.Leading.{line_some}
 
 first_line : node_line 1 Sink ≡ codes "c 1 S\n"
@@ -33,7 +33,7 @@ sink_lines = (
   (codes "p min 1 0\n", Body (Sink ∷ []) [] [] 0, [], refl, inr (0, omega arith, omega arith, sym second_line, refl), (refl, refl)),
 )
 
-nothing_stands : (p : Place) → (line behind : List ℕ) (next : Place) → [] ≡ line ++ behind → Allows p line next → length line ≡ 0
+nothing_stands : (p : LineState) → (line behind : List ℕ) (next : LineState) → [] ≡ line ++ behind → Allows p line next → length line ≡ 0
 nothing_stands p line behind next e h = omega (arith, ap length e, length-append line behind)
 
 nothing_after : (nodes : List _) → IsMalformedAt (Comments nodes) []

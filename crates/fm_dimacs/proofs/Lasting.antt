@@ -6,10 +6,10 @@ use Rattle.std.specs.declared.cmp.Ordering.{Ordering}
 use Rattle.std.specs.declared.cmp.Ordering.TheVariants.{Less, Equal, Greater}
 use Rattle.std.proofs.lemmas.Cmp.{tied_itself}
 use Rattle.std.proofs.lemmas.List.{append-nil, length-append}
-use Rattle.fm_lattice.specs.Chains.{less_greater}
+use Rattle.fm_lattice.specs.laws.ChainLaws.{less_greater}
 use Rattle.fm_lattice.specs.Maps.{lookup, IsBelow, IsRising}
 use Rattle.fm_records.specs.Sets.{IsMember}
-use Rattle.fm_records.specs.TableLaws.{IsBelowAll, Rises}
+use Rattle.fm_records.specs.Rising.{IsBelowAll, Rises}
 use Rattle.fm_net.specs.declared.node.Node.{Node}
 use Rattle.fm_net.specs.declared.node.Node.TheVariants.{Sink, Unscheduled, Request, Machine, Task}
 use Rattle.fm_net.specs.Nodes.{node_cmp, ends_cmp, IsInRange}
@@ -17,13 +17,13 @@ use Rattle.fm_net.specs.laws.NodeOrder.{node_total, node_exact, ends_total}
 use Rattle.fm_net.specs.Net.{Net, CanBeNet, IsArc}
 use Rattle.fm_net.proofs.ListLaws.{has_member, member_has}
 use Rattle.fm_dimacs.specs.Text.{node_line, problem_line, arc_line, lines_from, dump_text}
-use Rattle.fm_dimacs.specs.Syntax.{Place, Comments, Body, Allows, Reaches, IsAfterLast, IsNextNode, IsNextArc, unit_lines}
+use Rattle.fm_dimacs.specs.Syntax.{LineState, Comments, Body, Allows, Reaches, IsAfterLast, IsNextNode, IsNextArc, unit_lines}
 use Rattle.fm_dimacs.proofs.Leading.{Arc}
 use Rattle.fm_dimacs.proofs.Whole.{text_of, body_text, dump_is}
 
 -- ---- lines behind lines
 
-pub leads_on : (j k : ℕ) (p q r : Place) (text b c : List ℕ) → Reaches j p text q b → Reaches k q b r c → Reaches (j + k) p text r c
+pub leads_on : (j k : ℕ) (p q r : LineState) (text b c : List ℕ) → Reaches j p text q b → Reaches k q b r c → Reaches (j + k) p text r c
 leads_on zero k p q r text b c h g =
     let same : k ≡ 0 + k = omega arith in
     subst (λ m. Reaches m p text r c) same (subst (λ z. Reaches k z text r c) (sym h.0) (subst (λ t. Reaches k q t r c) (sym h.1) g))
@@ -31,11 +31,11 @@ leads_on (suc j) k p q r text b c h g =
     let next : suc (j + k) ≡ suc j + k = omega arith in
     subst (λ m. Reaches m p text r c) next (h.0, h.1, h.2, h.3, h.4, leads_on j k h.1 q r h.2 b c h.5 g)
 
-pub leads_one : (p q : Place) (text line behind : List ℕ) → text ≡ line ++ behind → Allows p line q → Reaches 1 p text q behind
+pub leads_one : (p q : LineState) (text line behind : List ℕ) → text ≡ line ++ behind → Allows p line q → Reaches 1 p text q behind
 leads_one p q text line behind e h = (line, q, behind, e, h, (refl, refl))
 
 -- one more line at the end
-pub leads_more : (j : ℕ) (p q r : Place) (text b line c : List ℕ) → Reaches j p text q b → b ≡ line ++ c → Allows q line r → Reaches (j + 1) p text r c
+pub leads_more : (j : ℕ) (p q r : LineState) (text b line c : List ℕ) → Reaches j p text q b → b ≡ line ++ c → Allows q line r → Reaches (j + 1) p text r c
 leads_more j p q r text b line c h e g = leads_on j 1 p q r text b c h (leads_one q r b line c e g)
 
 -- ---- what comes after a last one

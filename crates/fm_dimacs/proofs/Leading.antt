@@ -12,7 +12,7 @@ use Rattle.fm_net.specs.laws.NodeOrder.{node_exact, node_total}
 use Rattle.fm_net.specs.Net.{IsArc}
 use Rattle.fm_net.proofs.ListLaws.{member_has}
 use Rattle.fm_dimacs.specs.Text.{node_line, problem_line, is_task_node, demand_line, supply_line, arc_line}
-use Rattle.fm_dimacs.specs.Syntax.{Place, Comments, Body, Allows, Reaches, IsNextNode, with_line, supplies_from, unit_lines}
+use Rattle.fm_dimacs.specs.Syntax.{LineState, Comments, Body, Allows, Reaches, IsNextNode, with_line, supplies_from, unit_lines}
 use Rattle.fm_dimacs.specs.inner.Scan.{ids_of, node_at, problem_at, numbers_at}
 use Rattle.fm_dimacs.proofs.Ids.{id_below, id_tells}
 use Rattle.fm_dimacs.proofs.ReadLines.{node_again, problem_again, numbers_again, numbers_line, Fit}
@@ -20,11 +20,11 @@ use Rattle.fm_dimacs.proofs.ReadLines.{node_again, problem_again, numbers_again,
 abbrev pub Arc : Type 0
 Arc = (Node × Node) × (ℕ × ℕ)
 
-abbrev pub nodes_of : Place → List Node
+abbrev pub nodes_of : LineState → List Node
 nodes_of (Comments nodes) = nodes
 nodes_of (Body nodes units arcs left) = nodes
 
-abbrev pub units_of : Place → List (List ℕ)
+abbrev pub units_of : LineState → List (List ℕ)
 units_of (Comments nodes) = []
 units_of (Body nodes units arcs left) = units
 
@@ -32,7 +32,7 @@ abbrev pub IsNonEmpty : List ℕ → Type 0
 IsNonEmpty line = 0 < length line
 
 -- numbers of 64 bits are enough for the IDs, and no line that is to come is empty
-pub record Small (p : Place) (text : List ℕ) : Type 0 where
+pub record Small (p : LineState) (text : List ℕ) : Type 0 where
   pub room : length (nodes_of p) + length text < 2 ^ 64
   pub units : AllByRecursion IsNonEmpty (units_of p)
 
@@ -61,7 +61,7 @@ arc_line_some : (nodes : List Node) (arc : Arc) → 0 < length (arc_line nodes a
 arc_line_some nodes arc = omega arith
 
 -- no line is empty
-pub line_some : (p q : Place) (line : List ℕ) → AllByRecursion IsNonEmpty (units_of p) → Allows p line q → 0 < length line
+pub line_some : (p q : LineState) (line : List ℕ) → AllByRecursion IsNonEmpty (units_of p) → Allows p line q → 0 < length line
 line_some (Comments nodes) q line all h = elim h [
   | inl x ↦ subst IsNonEmpty (sym x.2) (node_line_some (length nodes + 1) x.0)
   | inr x ↦ subst IsNonEmpty (sym x.3) (problem_line_some (length nodes) x.0)
@@ -70,7 +70,7 @@ line_some (Body nodes (u ∷ us) arcs left) q line all h = subst IsNonEmpty (sym
 line_some (Body nodes [] arcs (suc left)) q line all h = subst IsNonEmpty (sym h.2) (arc_line_some nodes h.0)
 line_some (Body nodes [] arcs zero) q line all h = absurd h
 
-pub next_small : (p q : Place) (line behind : List ℕ) → Small p (line ++ behind) → Allows p line q → Small q behind
+pub next_small : (p q : LineState) (line behind : List ℕ) → Small p (line ++ behind) → Allows p line q → Small q behind
 next_small (Comments nodes) q line behind s h =
     let some = line_some (Comments nodes) q line s.units h in
     let whole = length-append line behind in
@@ -110,7 +110,7 @@ ids_tell nodes others more a b is js e =
 -- ---- one way on
 
 -- what the next line leads to
-pub record SameStep (q r : Place) (b c : List ℕ) : Type 0 where
+pub record SameStep (q r : LineState) (b c : List ℕ) : Type 0 where
   pub place : q ≡ r
   pub behind : b ≡ c
 
@@ -142,7 +142,7 @@ same_arc_line nodes others more x y b c few p q e =
     let same = pair_is (ids_of nodes x, b) (ids_of nodes y, c) (sym (numbers_again (ids_of nodes x) b (ids_fit nodes others x few p)) ∙ ap numbers_at e ∙ numbers_again (ids_of nodes y) c (ids_fit nodes more y few q)) in
     (ids_tell nodes others more x y p q (ap (λ z. z.0) same), ap (λ z. z.1) same)
 
-pub one_step : (p q r : Place) (text k l b c : List ℕ) → Small p text → text ≡ k ++ b → text ≡ l ++ c → Allows p k q → Allows p l r → SameStep q r b c
+pub one_step : (p q r : LineState) (text k l b c : List ℕ) → Small p text → text ≡ k ++ b → text ≡ l ++ c → Allows p k q → Allows p l r → SameStep q r b c
 one_step (Comments nodes) q r text k l b c s e f h g =
     let some : 0 < length text = omega (arith, ap length e, length-append k b, line_some (Comments nodes) q k tt h) in
     let room = s.room in
@@ -173,11 +173,11 @@ one_step (Body nodes [] arcs zero) q r text k l b c s e f h g = absurd h
 
 -- ---- many lines
 
-pub record Onward (j k : ℕ) (q r : Place) (b c : List ℕ) : Type 0 where
+pub record Onward (j k : ℕ) (q r : LineState) (b c : List ℕ) : Type 0 where
   pub leads : Reaches (k - j) q b r c
 
 -- two ways of so many lines are one, as far as both go
-pub onward : (j k : ℕ) (p q r : Place) (text b c : List ℕ) → Small p text → j ≤ k → Reaches j p text q b → Reaches k p text r c → Onward j k q r b c
+pub onward : (j k : ℕ) (p q r : LineState) (text b c : List ℕ) → Small p text → j ≤ k → Reaches j p text q b → Reaches k p text r c → Onward j k q r b c
 onward zero k p q r text b c s le h g =
     let none : k ≡ k - 0 = omega arith in
     record { leads = subst (λ m. Reaches m q b r c) none (subst (λ z. Reaches k z b r c) h.0 (subst (λ t. Reaches k p t r c) h.1 g)) }

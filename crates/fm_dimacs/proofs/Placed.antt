@@ -7,8 +7,8 @@ use Rattle.std.specs.declared.cmp.Ordering.TheVariants.{Less, Equal, Greater}
 use Rattle.std.proofs.lemmas.List.{get_or_default}
 use Rattle.std.proofs.lemmas.Cmp.{alike_right}
 use Rattle.std.proofs.lemmas.Bool.{cases_order}
-use Rattle.fm_lattice.specs.Chains.{by_cases}
-use Rattle.fm_records.specs.TableLaws.{IsBelowAll, Rises}
+use Rattle.fm_lattice.specs.laws.ChainLaws.{by_cases}
+use Rattle.fm_records.specs.Rising.{IsBelowAll, Rises}
 use Rattle.fm_net.specs.declared.node.Node.{Node}
 use Rattle.fm_net.specs.Nodes.{node_cmp}
 use Rattle.fm_net.specs.laws.NodeOrder.{node_total}

@@ -7,13 +7,13 @@ use Rattle.std.specs.declared.cmp.Ordering.{Ordering}
 use Rattle.std.specs.declared.cmp.Ordering.TheVariants.{Less}
 use Rattle.std.proofs.Math.Seq.{drop-cons}
 use Rattle.std.proofs.lemmas.List.{length-append}
-use Rattle.fm_records.specs.TableLaws.{some_none}
+use Rattle.fm_records.proofs.TableLaws.{some_none}
 use Rattle.fm_records.specs.declared.refusal.Refusal.{Refusal}
 use Rattle.fm_records.specs.declared.refusal.Refusal.TheVariants.{OutOfMemory, BadDimacs}
 use Rattle.fm_net.specs.declared.node.Node.{Node}
 use Rattle.fm_net.specs.Nodes.{node_cmp, IsInRange}
 use Rattle.fm_dimacs.specs.Text.{node_line, problem_line, supply_line}
-use Rattle.fm_dimacs.specs.Syntax.{Place, Comments, Body, Reaches, IsAfterLast, IsNextNode, BreaksAfter, IsFault, with_line, supplies_from, unit_lines}
+use Rattle.fm_dimacs.specs.Syntax.{LineState, Comments, Body, Reaches, IsAfterLast, IsNextNode, BreaksAfter, IsFault, with_line, supplies_from, unit_lines}
 use Rattle.fm_dimacs.specs.inner.Scan.{Reads, past_text, node_at, problem_at}
 use Rattle.fm_dimacs.proofs.Leading.{next_in_range, same_node_line, node_no_problem}
 use Rattle.fm_dimacs.proofs.Words.{after_takes, after_again}
@@ -77,7 +77,7 @@ out_of_order nodes text m rest fits r e never =
     })
 
 -- a fault behind good lines
-pub fault_behind : (lines n behind : ℕ) (p q : Place) (text rest : List ℕ) (refusal : Refusal) → behind ≡ lines + n → Reaches n p text q rest → IsFault behind q rest refusal → IsFault lines p text refusal
+pub fault_behind : (lines n behind : ℕ) (p q : LineState) (text rest : List ℕ) (refusal : Refusal) → behind ≡ lines + n → Reaches n p text q rest → IsFault behind q rest refusal → IsFault lines p text refusal
 fault_behind lines n behind p q text rest OutOfMemory e h f = tt
 fault_behind lines n behind p q text rest (BadDimacs line) e h f = broken_behind lines n line p q text rest h (subst (λ m. BreaksAfter m q rest line) e f)
 fault_behind lines n behind p q text rest _ e h f = absurd f
@@ -130,7 +130,7 @@ pub unit_room : (line text rest : List ℕ) → (length line == 0) ≡ false →
 unit_room line text rest some e = let other = eqb-false (length line) 0 some in omega (arith, ap length (after_takes line text rest e), length-append line rest)
 
 -- a call that passes on the refusal of another
-pub fault_passed : {T : Type 0} (r : Result T Refusal) (refusal : Refusal) (lines : ℕ) (p : Place) (text : List ℕ) → IsErrAnd r (λ e. e ≡ refusal) → IsFault lines p text refusal → IfErr r (IsFault lines p text)
+pub fault_passed : {T : Type 0} (r : Result T Refusal) (refusal : Refusal) (lines : ℕ) (p : LineState) (text : List ℕ) → IsErrAnd r (λ e. e ≡ refusal) → IsFault lines p text refusal → IfErr r (IsFault lines p text)
 fault_passed (Ok x) refusal lines p text h f = absurd h
 fault_passed (Err e) refusal lines p text h f = subst (IsFault lines p text) (sym h) f
 

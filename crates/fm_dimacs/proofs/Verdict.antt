@@ -6,7 +6,7 @@ use Rattle.std.proofs.lemmas.List.{length-append}
 use Rattle.fm_net.specs.declared.node.Node.{Node}
 use Rattle.fm_net.specs.Net.{Net, CanBeNet}
 use Rattle.fm_dimacs.specs.Text.{node_line, problem_line, arc_line, lines_from, dump_text}
-use Rattle.fm_dimacs.specs.Syntax.{Place, Comments, Body, Allows, Reaches, MayEnd, IsMalformedAt, BreaksAfter, BreaksAt, unit_lines}
+use Rattle.fm_dimacs.specs.Syntax.{LineState, Comments, Body, Allows, Reaches, MayEnd, IsMalformedAt, BreaksAfter, BreaksAt, unit_lines}
 use Rattle.fm_dimacs.proofs.Leading.{Arc, nodes_of, units_of, IsNonEmpty, Small, units_some, line_some, onward}
 use Rattle.fm_dimacs.proofs.Whole.{text_of, dump_is}
 use Rattle.fm_dimacs.proofs.Lasting.{leads_on, network_leads}
@@ -14,15 +14,15 @@ use Rattle.fm_dimacs.proofs.Lasting.{leads_on, network_leads}
 small_start : (text : List ℕ) → length text < 2 ^ 64 → Small (Comments []) text
 small_start text fits = record { room = omega arith; units = tt }
 
-abbrev end_of : Net → Place
+abbrev end_of : Net → LineState
 end_of net = Body net.nodes [] net.arcs 0
 
 -- nothing leads on from the end, and something from each place before it
-end_alone : (k : ℕ) (net : Net) (q : Place) (rest : List ℕ) → 0 < k → Reaches k (end_of net) [] q rest → ⊥
+end_alone : (k : ℕ) (net : Net) (q : LineState) (rest : List ℕ) → 0 < k → Reaches k (end_of net) [] q rest → ⊥
 end_alone zero net q rest some h = omega arith
 end_alone (suc k) net q rest some h = h.4
 
-stuck_apart : (k : ℕ) (q : Place) (rest : List ℕ) (net : Net) → Reaches k q rest (end_of net) [] → IsMalformedAt q rest → ⊥
+stuck_apart : (k : ℕ) (q : LineState) (rest : List ℕ) (net : Net) → Reaches k q rest (end_of net) [] → IsMalformedAt q rest → ⊥
 stuck_apart zero q rest net h stuck = stuck.no_end (subst (λ z. MayEnd z rest) (sym h.0) (subst (λ t. MayEnd (end_of net) t) (sym h.1) tt))
 stuck_apart (suc k) q rest net h stuck = stuck.no_line h.0 h.2 h.1 h.3 h.4
 
@@ -57,7 +57,7 @@ one_end : (k : ℕ) (m n : Net) → Reaches k (end_of m) [] (end_of n) [] → en
 one_end zero m n h = h.0
 one_end (suc k) m n h = absurd h.4
 
-abbrev arcs_of : Place → List Arc
+abbrev arcs_of : LineState → List Arc
 arcs_of (Comments nodes) = []
 arcs_of (Body nodes units arcs left) = arcs
 
@@ -77,7 +77,7 @@ one_text m n can may fits e =
       | inr most ↦ sym (end_tells n m (one_end (j - k) n m (onward k j (Comments []) (end_of n) (end_of m) text [] [] (small_start text fits) most second first).leads))
     ]
 
-stays : (k : ℕ) (q r : Place) (text rest : List ℕ) → Reaches k q text r rest → IsMalformedAt q text → k ≡ 0
+stays : (k : ℕ) (q r : LineState) (text rest : List ℕ) → Reaches k q text r rest → IsMalformedAt q text → k ≡ 0
 stays zero q r text rest h stuck = refl
 stays (suc k) q r text rest h stuck = absurd (stuck.no_line h.0 h.2 h.1 h.3 h.4)
 
@@ -97,7 +97,7 @@ one_broken text a b fits x y =
 
 -- ---- for the reader's parts
 
-next_units : (p q : Place) (line : List ℕ) → AllByRecursion IsNonEmpty (units_of p) → Allows p line q → AllByRecursion IsNonEmpty (units_of q)
+next_units : (p q : LineState) (line : List ℕ) → AllByRecursion IsNonEmpty (units_of p) → Allows p line q → AllByRecursion IsNonEmpty (units_of q)
 next_units (Comments nodes) q line all h = elim h [
   | inl x ↦ subst (λ z. AllByRecursion IsNonEmpty (units_of z)) (sym x.3) tt
   | inr x ↦ subst (λ z. AllByRecursion IsNonEmpty (units_of z)) (sym x.4) (units_some nodes)
@@ -107,14 +107,14 @@ next_units (Body nodes [] arcs (suc left)) q line all h = subst (λ z. AllByRecu
 next_units (Body nodes [] arcs zero) q line all h = absurd h
 
 -- each line takes a byte at least
-pub takes_bytes : (k : ℕ) (p q : Place) (text rest : List ℕ) → AllByRecursion IsNonEmpty (units_of p) → Reaches k p text q rest → k + length rest ≤ length text
+pub takes_bytes : (k : ℕ) (p q : LineState) (text rest : List ℕ) → AllByRecursion IsNonEmpty (units_of p) → Reaches k p text q rest → k + length rest ≤ length text
 takes_bytes zero p q text rest all h = omega (arith, ap length h.1)
 takes_bytes (suc k) p q text rest all h =
     let later = takes_bytes k h.1 q h.2 rest (next_units p h.1 h.0 all h.4) h.5 in
     omega (arith, later, ap length h.3, length-append h.0 h.2, line_some p h.1 h.0 all h.4)
 
 -- a fault behind good lines
-pub broken_behind : (lines n line : ℕ) (p q : Place) (text rest : List ℕ) → Reaches n p text q rest → BreaksAfter (lines + n) q rest line → BreaksAfter lines p text line
+pub broken_behind : (lines n line : ℕ) (p q : LineState) (text rest : List ℕ) → Reaches n p text q rest → BreaksAfter (lines + n) q rest line → BreaksAfter lines p text line
 broken_behind lines n line p q text rest h b = record {
   good = n + b.good;
   place = b.place;
@@ -125,5 +125,5 @@ broken_behind lines n line p q text rest h b = record {
 }
 
 -- the next line is broken
-pub broken_here : (lines line : ℕ) (p : Place) (text : List ℕ) → line ≡ lines + 1 → IsMalformedAt p text → BreaksAfter lines p text line
+pub broken_here : (lines line : ℕ) (p : LineState) (text : List ℕ) → line ≡ lines + 1 → IsMalformedAt p text → BreaksAfter lines p text line
 broken_here lines line p text e stuck = record { good = 0; place = p; rest = text; number = omega (arith, e); before = (refl, refl); stuck = stuck }

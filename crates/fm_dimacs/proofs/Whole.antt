@@ -5,7 +5,7 @@ use Rattle.std.specs.List.{flat_map}
 use Rattle.std.proofs.lemmas.List.{append-nil, length-append}
 use Rattle.fm_net.specs.declared.node.Node.{Node}
 use Rattle.fm_dimacs.specs.Text.{node_line, problem_line, is_task_node, demand_line, supply_line, arc_line, lines_from, dump_text}
-use Rattle.fm_dimacs.specs.Syntax.{Place, Comments, Body, Reaches, with_line, supplies_from, unit_lines}
+use Rattle.fm_dimacs.specs.Syntax.{LineState, Comments, Body, Reaches, with_line, supplies_from, unit_lines}
 use Rattle.fm_dimacs.proofs.Leading.{Arc}
 
 abbrev pub text_of : List (List ℕ) → List ℕ
@@ -37,11 +37,11 @@ dump_is nodes arcs =
 
 -- ---- what is to come, up to the end
 
-abbrev pub Remains : Place → List ℕ → List Node → List Arc → Type 0
+abbrev pub Remains : LineState → List ℕ → List Node → List Arc → Type 0
 Remains (Comments before) text nodes arcs = (more : List Node) × (nodes ≡ before ++ more) × (text ≡ lines_from node_line (length before + 1) more ++ body_text nodes arcs)
 Remains (Body of units before left) text nodes arcs = (more : List Arc) × (of ≡ nodes) × (arcs ≡ before ++ more) × (length more ≡ left) × (text ≡ text_of units ++ flat_map (arc_line nodes) more)
 
-pub remains : (k : ℕ) (p : Place) (text : List ℕ) (nodes : List Node) (arcs : List Arc) → Reaches k p text (Body nodes [] arcs 0) [] → Remains p text nodes arcs
+pub remains : (k : ℕ) (p : LineState) (text : List ℕ) (nodes : List Node) (arcs : List Arc) → Reaches k p text (Body nodes [] arcs 0) [] → Remains p text nodes arcs
 remains zero p text nodes arcs h = subst (λ z. Remains z text nodes arcs) (sym h.0) ([], refl, sym (append-nil arcs), refl, h.1)
 remains (suc k) (Comments before) text nodes arcs h =
     let rest = remains k h.1 h.2 nodes arcs h.5 in

@@ -43,12 +43,12 @@ unit_lines nodes = with_line (demand_line (count_by is_task_node nodes)) (suppli
 
 -- a place in a text: behind the comments of these nodes; or behind the problem line, where these lines of demand and
 -- supplies are to come, these arcs came, and so many are to come
-pub data Place : Type 0 where
-  Comments : (nodes : List Node) → Place
-  Body : (nodes : List Node) (units : List (List ℕ)) (arcs : List ((Node × Node) × (ℕ × ℕ))) (left : ℕ) → Place
+pub data LineState : Type 0 where
+  Comments : (nodes : List Node) → LineState
+  Body : (nodes : List Node) (units : List (List ℕ)) (arcs : List ((Node × Node) × (ℕ × ℕ))) (left : ℕ) → LineState
 
 -- the line is allowed at the place, and leads to the next one
-abbrev pub Allows : Place → List ℕ → Place → Type 0
+abbrev pub Allows : LineState → List ℕ → LineState → Type 0
 -- the next node's comment; or, behind a comment, the problem line with the number of comments, and a number of arcs
 Allows (Comments nodes) line next =
     ((node : Node) × IsNextNode nodes node × (line ≡ node_line (length nodes + 1) node) × (next ≡ Comments (nodes ++ (node ∷ []))))
@@ -62,24 +62,24 @@ Allows (Body nodes [] arcs (suc left)) line next =
 Allows (Body nodes [] arcs zero) line next = ⊥
 
 -- from one place in the text to another by so many lines, each of which is allowed at its place
-abbrev pub Reaches : ℕ → Place → List ℕ → Place → List ℕ → Type 0
+abbrev pub Reaches : ℕ → LineState → List ℕ → LineState → List ℕ → Type 0
 Reaches zero from text to rest = (from ≡ to) × (text ≡ rest)
-Reaches (suc n) from text to rest = (line : List ℕ) × (next : Place) × (behind : List ℕ) × (text ≡ line ++ behind) × Allows from line next × Reaches n next behind to rest
+Reaches (suc n) from text to rest = (line : List ℕ) × (next : LineState) × (behind : List ℕ) × (text ≡ line ++ behind) × Allows from line next × Reaches n next behind to rest
 
 -- nothing is to come, and nothing comes
-abbrev pub MayEnd : Place → List ℕ → Type 0
+abbrev pub MayEnd : LineState → List ℕ → Type 0
 MayEnd (Body nodes [] arcs zero) [] = Unit {0}
 MayEnd _ _ = ⊥
 
 -- the text does not go on as it may at the place, by a line or by its end
-pub record IsMalformedAt (place : Place) (text : List ℕ) : Type 0 where
-  pub no_line : (line behind : List ℕ) (next : Place) → text ≡ line ++ behind → Allows place line next → ⊥
+pub record IsMalformedAt (place : LineState) (text : List ℕ) : Type 0 where
+  pub no_line : (line behind : List ℕ) (next : LineState) → text ≡ line ++ behind → Allows place line next → ⊥
   pub no_end : MayEnd place text → ⊥
 
 -- the first line that breaks a rule, behind so many lines that break none: it is not allowed there, or is missing
-pub record BreaksAfter (lines : ℕ) (start : Place) (text : List ℕ) (line : ℕ) : Type 0 where
+pub record BreaksAfter (lines : ℕ) (start : LineState) (text : List ℕ) (line : ℕ) : Type 0 where
   pub good : ℕ
-  pub place : Place
+  pub place : LineState
   pub rest : List ℕ
   pub number : line ≡ lines + good + 1
   pub before : Reaches good start text place rest
@@ -90,7 +90,7 @@ abbrev pub BreaksAt : List ℕ → ℕ → Type 0
 BreaksAt = BreaksAfter 0 (Comments [])
 
 -- why a text was not read: there was no memory, or the line is the first that breaks a rule
-abbrev pub IsFault : ℕ → Place → List ℕ → Refusal → Type 0
+abbrev pub IsFault : ℕ → LineState → List ℕ → Refusal → Type 0
 IsFault lines start text OutOfMemory = Unit {0}
 IsFault lines start text (BadDimacs line) = BreaksAfter lines start text line
 IsFault lines start text _ = ⊥

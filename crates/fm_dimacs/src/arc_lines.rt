@@ -1,8 +1,11 @@
-//! The lines of arcs.
+//! The lines of arcs, read in order.
+//!
+//! A text is of a network only if its arcs rise, so each is put after the one before. The first line that does not come
+//! after it, or that no network can have, is refused.
 
 ghost use Rattle.std.specs.Prelude.{◌≡◌, ◌≤◌, ◌<◌, ◌^◌, ◌+◌, ◌++◌, ◌∷◌, ◌↔◌, ℕ, List, [], IsTrue, IfOk, IfErr, IfSome, IfNone, OnOk, OnErr, length, MatchOption};
 ghost use Rattle.std.specs.Ordering.{on};
-ghost use Rattle.fm_records.specs.TableLaws.{Rises};
+ghost use Rattle.fm_records.specs.Rising.{Rises};
 ghost use Rattle.fm_net.specs.declared.node.Node.{Node as NodeName};
 ghost use Rattle.fm_net.specs.Nodes.{node_cmp, ends_cmp};
 ghost use Rattle.fm_net.specs.Net.{IsArcKind, has_node};

@@ -1,9 +1,13 @@
-//! The text of a network.
+//! The text of a network: in DIMACS lines (1991), which other solvers read, and with one text for each network.
+//!
+//! Comments name the nodes, whose IDs are their places in node order. Arcs come in the network's order. So two networks
+//! are the same if their texts are. IDs are found near those of the line before, and by a search only if they are not
+//! there.
 
 ghost use Rattle.std.specs.Prelude.{◌≡◌, ◌++◌, ◌∷◌, [], OnOk, OnErr, IfErr, IfSome, IsOkUnless, count_by, codes, decimal, length, string_bytes};
 ghost use Rattle.std.specs.List.{flat_map};
 ghost use Rattle.std.specs.Io.KnownBytes.{Appends};
-ghost use Rattle.fm_records.specs.TableLaws.{Rises};
+ghost use Rattle.fm_records.specs.Rising.{Rises};
 ghost use Rattle.fm_net.specs.Nodes.{node_cmp};
 ghost use Rattle.fm_net.specs.inner.NetworkIter.{arc_entry};
 ghost use Rattle.fm_dimacs.specs.Sending.{AppendsPrefix, StopsBy, IsSent};

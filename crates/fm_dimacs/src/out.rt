@@ -1,4 +1,7 @@
-//! Outputs of bytes.
+//! Outputs of bytes, which may take a part of what they are given, or fail.
+//!
+//! Each `put` says how many bytes were accepted, so that after a failure it is known which prefix of a text was
+//! written. `Over` makes an output of any writer.
 
 ghost use Rattle.std.specs.Prelude.{◌≡◌, ◌≤◌, ◌||◌, ℕ, List, Bool, Option, false, not, length, take};
 ghost use Rattle.std.specs.Io.KnownBytes.{Appends, Keeps};

@@ -1,10 +1,13 @@
-//! The network that a text is of.
+//! The network that a text is of, or the first line that breaks a rule.
+//!
+//! A network has one text, so the reader accepts no other. Nodes and arcs are in order, numbers have no leading zeros,
+//! and the lines of demand and supplies are as `dump` writes them.
 
 ghost use Rattle.std.specs.Prelude.{◌≡◌, ◌≤◌, ◌<◌, ◌^◌, ◌+◌, ◌++◌, ◌∷◌, ◌↔◌, ℕ, List, [], IsTrue, IfOk, IfErr, IfSome, IfNone, OnOk, length, drop, MatchOption, MatchResult};
 ghost use Rattle.std.specs.List.{AllByRecursion};
 ghost use Rattle.fm_records.specs.declared.refusal.Refusal.TheVariants as refusal;
 ghost use Rattle.fm_net.specs.declared.node.Node.{Node as NodeName};
-ghost use Rattle.fm_records.specs.TableLaws.{Rises};
+ghost use Rattle.fm_records.specs.Rising.{Rises};
 ghost use Rattle.fm_net.specs.Nodes.{IsInRange, node_cmp};
 ghost use Rattle.fm_net.specs.Net.{Net, CanBeNet};
 ghost use Rattle.fm_dimacs.specs.Text.{node_line, dump_text};

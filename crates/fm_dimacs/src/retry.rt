@@ -1,4 +1,4 @@
-//! Writes that are made again after an interrupt.
+//! Writes that are made again after an interrupt, which is no failure: a signal came before anything was written.
 
 ghost use Rattle.std.specs.Prelude.{◌≡◌, ◌≤◌, length, take};
 ghost use Rattle.std.specs.Io.KnownBytes.{Appends};

@@ -1,9 +1,12 @@
-//! The text of a flow.
+//! The text of a flow: its cost, and a line for each arc with units, by the IDs of the network's text.
+//!
+//! Units and IDs are looked for near those of the arc before first, so that a flow of the network is written in
+//! O(arcs).
 
 ghost use Rattle.std.specs.Prelude.{◌≡◌, ◌++◌, IfOk, OnOk, OnErr, IfErr, IsOkUnless, string_bytes};
 ghost use Rattle.std.specs.List.{flat_map};
 ghost use Rattle.std.specs.Io.KnownBytes.{Appends};
-ghost use Rattle.fm_records.specs.TableLaws.{Rises};
+ghost use Rattle.fm_records.specs.Rising.{Rises};
 ghost use Rattle.fm_net.specs.Nodes.{node_cmp};
 ghost use Rattle.fm_net.specs.inner.NetworkIter.{arc_entry};
 ghost use Rattle.fm_certificate.specs.PolicyNetwork.{IsBuilt};

@@ -1,4 +1,7 @@
-//! Reading a text from its front.
+//! Reading a text from its front: each reader returns what it found and the text after it.
+//!
+//! A number or an id has one spelling here, so numbers with leading zeros, and UUIDs in other forms than lower case
+//! with hyphens, are refused.
 
 ghost use Rattle.std.specs.Prelude.{◌≡◌, ℕ, ◌<◌, ◌^◌, ◌+◌, ◌-◌, ◌*◌, true, SomeIff, IfOk, IfSome};
 ghost use Rattle.std.specs.Char.{is_ascii_digit};

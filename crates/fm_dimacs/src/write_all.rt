@@ -1,4 +1,4 @@
-//! Writing complete pieces.
+//! Writing complete pieces to an output that may take a part of each.
 
 ghost use Rattle.std.specs.Prelude.{IsOkUnless};
 ghost use Rattle.fm_dimacs.specs.Sending.{IsSent};

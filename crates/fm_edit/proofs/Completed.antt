@@ -8,14 +8,14 @@ use Rattle.std.specs.declared.ops.Bound.TheVariants.{Included, Excluded}
 use Rattle.std.specs.BTreeMap.{get}
 use Rattle.std.specs.BTreeMap.Range.{range_contains}
 use Rattle.std.proofs.lemmas.List.Sorted.{list_any-IsPermutation, IsPermutation-reverse}
-use Rattle.fm_lattice.specs.Chains.{by_cases, greater_less, nat_same}
+use Rattle.fm_lattice.specs.laws.ChainLaws.{by_cases, greater_less, nat_same}
 use Rattle.fm_lattice.specs.Maps.{lookup}
 use Rattle.fm_net.specs.declared.node.Node.{Node}
 use Rattle.fm_net.specs.declared.node.Node.TheVariants.{Request, Machine}
 use Rattle.fm_net.specs.Nodes.{node_cmp}
 use Rattle.fm_net.specs.laws.NodeOrder.{node_exact, node_total}
 use Rattle.fm_net.specs.Net.{Net}
-use Rattle.fm_net.specs.inner.KeptLists.{has_kept}
+use Rattle.fm_net.proofs.KeptLists.{has_kept}
 use Rattle.fm_net.specs.Touched.{is_among}
 use Rattle.fm_edit.specs.declared.task_index.TaskIndex.{TaskIndex}
 use Rattle.fm_edit.specs.declared.editor_state.EditorState.{EditorState}

@@ -8,7 +8,7 @@ use Rattle.fm_records.specs.declared.records.SpecReg.{SpecReg}
 use Rattle.fm_records.specs.declared.records.MachineReg.{MachineReg}
 use Rattle.fm_records.specs.Options.{when, and_then, only_if, passes}
 use Rattle.fm_records.proofs.LookupLaws.{both_true}
-use Rattle.fm_records.specs.TableLaws.{Rises}
+use Rattle.fm_records.specs.Rising.{Rises}
 use Rattle.fm_records.specs.Table.{Table, MachineValue}
 use Rattle.fm_records.specs.Facts.{spec_of, live_spec, holder_of, holds, open_state, spare_of}
 use Rattle.fm_net.specs.declared.node.Node.{Node}

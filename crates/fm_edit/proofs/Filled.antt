@@ -3,8 +3,9 @@ use Rattle.std.proofs.Common.{◌≡◌, ◌∙◌, ◌++◌, ℕ, Bool, true, f
 use Rattle.std.specs.Prelude.{◌&&◌, not}
 use Rattle.std.specs.Ordering.{nat_cmp}
 use Rattle.std.specs.Cmp.{nat_cmp_total}
-use Rattle.fm_lattice.specs.Chains.{nat_same}
-use Rattle.fm_records.specs.TableLaws.{Rises, rises_rising}
+use Rattle.fm_lattice.specs.laws.ChainLaws.{nat_same}
+use Rattle.fm_records.proofs.TableLaws.{rises_rising}
+use Rattle.fm_records.specs.Rising.{Rises}
 use Rattle.fm_records.specs.Table.{Table}
 use Rattle.fm_records.specs.Know.{table_of}
 use Rattle.fm_records.specs.Ranges.{CanBe}

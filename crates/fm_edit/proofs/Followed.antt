@@ -6,7 +6,7 @@ use Rattle.std.specs.Ordering.{nat_cmp, is_eq}
 use Rattle.std.specs.Cmp.{Equal-is}
 use Rattle.std.specs.List.{list_any}
 use Rattle.std.specs.BTreeMap.{get}
-use Rattle.fm_lattice.specs.Chains.{nat_same}
+use Rattle.fm_lattice.specs.laws.ChainLaws.{nat_same}
 use Rattle.fm_lattice.specs.Maps.{lookup}
 use Rattle.fm_records.specs.declared.records.SpecReg.{SpecReg}
 use Rattle.fm_records.specs.declared.records.MachineReg.{MachineReg}
@@ -14,7 +14,7 @@ use Rattle.fm_records.specs.declared.records.Spot.{Spot}
 use Rattle.fm_records.specs.Options.{when, and_then, only_if, or_else, passes}
 use Rattle.fm_records.proofs.LookupLaws.{both_true}
 use Rattle.fm_records.specs.Orders.{attempt_cmp}
-use Rattle.fm_records.specs.TableLaws.{Rises}
+use Rattle.fm_records.specs.Rising.{Rises}
 use Rattle.fm_records.specs.Table.{Table, TaskValue, MachineValue}
 use Rattle.fm_records.specs.Ranges.{CanBe, all_in_range}
 use Rattle.fm_records.specs.OpsOfTable.{task_ops, entry_ops}
@@ -37,8 +37,10 @@ use Rattle.fm_edit.specs.Dirty.{SameBeyond, AreDirtyTasks, turned_in, has_id, di
 use Rattle.fm_edit.proofs.LocalLaws.{same_beyond}
 use Rattle.fm_edit.specs.CacheModel.{Sight, sight_of, seen_in}
 use Rattle.fm_edit.specs.declared.record_cache.RecordCache.{RecordCache}
-use Rattle.fm_edit.specs.CacheUpdate.{values_at, turns, standing, same_standing}
-use Rattle.fm_edit.specs.TaskIndex.{lists, sum_in, ListsAtOne}
+use Rattle.fm_edit.specs.CacheUpdate.{turns, standing, same_standing}
+use Rattle.fm_edit.specs.inner.CachedValues.{values_at}
+use Rattle.fm_edit.specs.TaskIndex.{lists, sum_in}
+use Rattle.fm_edit.specs.inner.TaskIndexParts.{ListsAtOne}
 use Rattle.fm_edit.specs.EditorState.{none_out, Counts}
 use Rattle.fm_edit.specs.inner.CacheFacts.{node_shown}
 use Rattle.fm_edit.specs.inner.Affected.{has_touched, AffectedGrows, AffectsEnd, TouchesTask}

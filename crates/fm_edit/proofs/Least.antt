@@ -8,7 +8,7 @@ use Rattle.fm_lattice.specs.Maps.{lookup, IsRising, keep_new}
 use Rattle.fm_lattice.specs.laws.MapLaws.{rising_put}
 use Rattle.fm_records.specs.Options.{passes, when}
 use Rattle.fm_records.specs.Sets.{IsMember}
-use Rattle.fm_records.specs.TableLaws.{Rises}
+use Rattle.fm_records.specs.Rising.{Rises}
 use Rattle.fm_net.specs.declared.node.Node.{Node}
 use Rattle.fm_net.specs.declared.edit.Edit.{Edit}
 use Rattle.fm_net.specs.declared.edit.Edit.TheVariants.{DropArc, DropNode, PutNode, PutArc}
@@ -16,7 +16,8 @@ use Rattle.fm_net.specs.Nodes.{node_cmp, ends_cmp}
 use Rattle.fm_net.specs.laws.NodeOrder.{node_exact, node_total, ends_exact, ends_total}
 use Rattle.fm_net.specs.Net.{Net, CanBeNet, has_node}
 use Rattle.fm_net.proofs.ListLaws.{has_member, passes_kept}
-use Rattle.fm_net.specs.inner.KeptLists.{has_inserted, rises_inserted}
+use Rattle.fm_net.proofs.KeptLists.{has_inserted}
+use Rattle.fm_records.proofs.TableLaws.{rises_insert}
 use Rattle.fm_net.proofs.EditLaws.{member_found, stands_removed, rises_removed, at_removed, rising_removed, at_put}
 use Rattle.fm_net.specs.Edits.{Arc, after_edit, after_edits, joins, same_value, has_arc, gone_arcs, gone_nodes, new_nodes, new_arcs, drop_of, put_of, change}
 use Rattle.fm_edit.specs.Change.{edit_of, AreDistinctEdits}
@@ -53,7 +54,7 @@ record Rise (net : Net) : Type 0 where
 still_rises : (e : Edit) (net : Net) → Rise net → Rise (after_edit e net)
 still_rises (DropArc from to) net r = record { nodes = r.nodes; arcs = rising_removed (from, to) net.arcs r.arcs }
 still_rises (DropNode n) net r = record { nodes = rises_removed n net.nodes r.nodes; arcs = r.arcs }
-still_rises (PutNode n) net r = record { nodes = rises_inserted node_cmp node_total node_exact n net.nodes r.nodes; arcs = r.arcs }
+still_rises (PutNode n) net r = record { nodes = rises_insert node_cmp node_total node_exact n net.nodes r.nodes; arcs = r.arcs }
 still_rises (PutArc from to capacity cost) net r = record { nodes = r.nodes; arcs = rising_put ends_cmp ends_total ends_exact keep_new (from, to) (capacity, cost) net.arcs r.arcs }
 
 untouched : (e : Edit) (net : Net) → Rise net → (a : Node) (b : Option Node) → is_of a b e ≡ false → says (after_edit e net) a b ≡ says net a b

@@ -4,14 +4,15 @@ use Rattle.std.proofs.Common.{◌≡◌, ◌∙◌, ℕ, Bool, true, false, cond
 use Rattle.std.specs.Prelude.{◌&&◌, ◌||◌, ◌==◌, option_map}
 use Rattle.std.specs.Ordering.{nat_cmp, is_eq, ordering_then}
 use Rattle.std.specs.Cmp.{Equal-is}
-use Rattle.fm_lattice.specs.Chains.{nat_same}
+use Rattle.fm_lattice.specs.laws.ChainLaws.{nat_same}
 use Rattle.fm_records.specs.declared.records.SpecReg.{SpecReg}
 use Rattle.fm_records.specs.declared.records.Spot.{Spot}
 use Rattle.fm_records.specs.Options.{passes}
 use Rattle.fm_net.specs.declared.node.Node.{Node}
 use Rattle.fm_net.specs.declared.node.Node.TheVariants.{Sink, Unscheduled, Request, Machine, Task}
 use Rattle.fm_edit.specs.TaskIndex.{listed_cmp, is_indexed}
-use Rattle.fm_edit.specs.CacheModel.{Sight, cached_spec, job_node_in, spot_node_in}
+use Rattle.fm_edit.specs.CacheModel.{Sight, cached_spec}
+use Rattle.fm_edit.specs.inner.CachedNodes.{job_node_in, spot_node_in}
 use Rattle.fm_edit.proofs.Preferring.{both_equal}
 
 same_numbers : (a b : ℕ) → is_eq (nat_cmp a b) ≡ (a == b)

@@ -6,7 +6,7 @@ use Rattle.std.specs.Cmp.{nat_cmp_total}
 use Rattle.std.proofs.Common.{sym, ap, ◌∙◌, inl, inr, arith}
 use Rattle.std.proofs.lemmas.Bool.{eqb-true}
 use Rattle.std.proofs.lemmas.List.Sums.{sum_by-cons}
-use Rattle.fm_lattice.specs.Chains.{nat_same}
+use Rattle.fm_lattice.specs.laws.ChainLaws.{nat_same}
 use Rattle.fm_lattice.specs.Maps.{lookup}
 use Rattle.fm_lattice.specs.laws.MapLaws.{same_map, rising_join, lookup_join}
 use Rattle.fm_records.specs.declared.records.JobReg.{JobReg}
@@ -23,10 +23,10 @@ use Rattle.fm_records.specs.Facts.{head_option, job_of, spec_of, progress_of, at
 use Rattle.fm_net.specs.declared.node.Node.{Node}
 use Rattle.fm_net.specs.declared.node.Node.TheVariants.{Sink, Unscheduled, Request, Machine, Task}
 use Rattle.fm_net.proofs.ListLaws.{entry_member, member_mapped, has_member}
-use Rattle.fm_net.specs.Network.{is_held, is_live_of, waits_for, some_task, live_tasks, is_node, places, room_arc, preferred_arc, arc_of}
+use Rattle.fm_net.specs.Network.{is_held, is_live_of, waits_for, some_task, live_tasks, is_node, capacity_for, room_arc, preferred_arc, arc_of}
 use Rattle.fm_policy.specs.Changes.{Keys, changed_tasks, changed_keys}
 use Rattle.fm_policy.proofs.ChangeLaws.{join_nothing, task_same, proposal_same}
-use Rattle.fm_net.specs.inner.KeptLists.{lookup_kept, rising_kept}
+use Rattle.fm_net.proofs.KeptLists.{lookup_kept, rising_kept}
 use Rattle.fm_edit.specs.Dirty.{SameBeyond, has_id, job_of_task, request_of_task, won_machine, prefers, dirty_task, IsDirtyJob, IsDirtyMachine, IsDirtyRequest, MayTurn, MayDiffer}
 
 -- What a delta does not name, it does not change.
@@ -292,7 +292,7 @@ module _ (k after : Table) (keys : Keys) (turned : List ℕ) (same : SameBeyond 
   node_same (Task t) h = ap (λ o. passes (λ s. true) o) (live_same t (either_false (dirty t) h))
 
   room_same : (r m : ℕ) → ¬ IsDirtyMachine k after keys turned m → room_arc after r m ≡ room_arc k r m
-  room_same r m h = λ i. and_then (λ state. and_then (λ spare. when (nat_le r spare) (places state spare r, r + load_same m h i)) (spare_same m h i)) (state_same m h i)
+  room_same r m h = λ i. and_then (λ state. and_then (λ spare. when (nat_le r spare) (capacity_for state spare r, r + load_same m h i)) (spare_same m h i)) (state_same m h i)
 
   pub prefers_same : (t : ℕ) → dirty t ≡ false → (m : ℕ) → prefers after m t ≡ prefers k m t
   prefers_same t e m = λ i. passes (λ s. is_some (lookup nat_cmp m s.prefer)) (live_same t e i) && not (passes (λ m. true) (holder_same t e i))

@@ -6,7 +6,7 @@ use Rattle.std.proofs.lemmas.Cmp.{tied_itself}
 use Rattle.fm_lattice.specs.Maps.{IsBelow, IsRising}
 use Rattle.fm_records.specs.Options.{or_else}
 use Rattle.fm_records.specs.Sets.{IsMember}
-use Rattle.fm_records.specs.TableLaws.{IsBelowAll, Rises}
+use Rattle.fm_records.specs.Rising.{IsBelowAll, Rises}
 use Rattle.fm_net.specs.declared.node.Node.{Node}
 use Rattle.fm_net.specs.declared.node.Node.TheVariants.{Sink}
 use Rattle.fm_net.specs.declared.edit.Edit.{Edit}
@@ -15,7 +15,7 @@ use Rattle.fm_net.specs.Nodes.{node_cmp, ends_cmp}
 use Rattle.fm_net.specs.laws.NodeOrder.{node_exact, node_total, ends_exact, ends_total}
 use Rattle.fm_net.specs.Net.{Net, CanBeNet, has_node}
 use Rattle.fm_net.proofs.ListLaws.{has_member, passes_kept, rises_kept}
-use Rattle.fm_net.specs.inner.KeptLists.{rising_kept}
+use Rattle.fm_net.proofs.KeptLists.{rising_kept}
 use Rattle.fm_net.proofs.EditLaws.{member_found}
 use Rattle.fm_net.specs.Edits.{Arc, joins, has_arc, gone_arcs, gone_nodes, new_nodes, new_arcs, drop_of, put_of, change}
 use Rattle.fm_edit.specs.Change.{edit_of, AreDistinctEdits}

@@ -5,12 +5,13 @@ use Rattle.std.specs.Ordering.{nat_cmp, is_eq, ordering_then}
 use Rattle.std.specs.declared.cmp.Ordering.{Ordering}
 use Rattle.std.specs.declared.cmp.Ordering.TheVariants.{Less, Equal, Greater}
 use Rattle.std.specs.Cmp.{Equal-is}
-use Rattle.fm_lattice.specs.Chains.{nat_same}
+use Rattle.fm_lattice.specs.laws.ChainLaws.{nat_same}
 use Rattle.fm_lattice.specs.Maps.{lookup}
 use Rattle.fm_records.specs.Options.{passes}
 use Rattle.fm_records.specs.laws.PreferenceLaws.{one_more_preferred}
 use Rattle.fm_edit.specs.declared.record_cache.CachedTask.{CachedTask}
-use Rattle.fm_edit.specs.CacheModel.{Sight, IsSeenTask, cached_live, prefers_in}
+use Rattle.fm_edit.specs.CacheModel.{Sight, cached_live, prefers_in}
+use Rattle.fm_edit.specs.inner.CachedNodes.{IsSeenTask}
 use Rattle.fm_edit.specs.TaskIndex.{preferred_cmp}
 use Rattle.fm_edit.proofs.Ranges.{swapped}
 

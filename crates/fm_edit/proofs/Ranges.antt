@@ -10,9 +10,9 @@ use Rattle.std.specs.declared.cmp.Ordering.TheVariants.{Less}
 use Rattle.std.specs.declared.ops.Bound.TheVariants.{Included}
 use Rattle.std.specs.BTreeMap.Range.{range_contains}
 use Rattle.std.proofs.lemmas.Cmp.{tied_itself}
-use Rattle.fm_lattice.specs.Chains.{nat_same, pair_same, by_cases, less_greater, greater_less}
+use Rattle.fm_lattice.specs.laws.ChainLaws.{nat_same, pair_same, by_cases, less_greater, greater_less}
 use Rattle.fm_lattice.specs.Chains.{TellsApart}
-use Rattle.fm_edit.specs.TaskIndex.{pair_cmp}
+use Rattle.fm_edit.specs.inner.TaskIndexParts.{pair_cmp}
 use Rattle.fm_edit.specs.inner.Listed.{listed_at, named_in}
 
 pub less_said : (a b : ℕ) → nat_cmp a b ≡ Less → a < b

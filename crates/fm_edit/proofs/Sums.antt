@@ -6,14 +6,14 @@ use Rattle.std.specs.Ordering.{nat_cmp, is_eq}
 use Rattle.std.specs.Cmp.{nat_cmp_total, Equal-is}
 use Rattle.std.proofs.lemmas.List.Sums.{sum_by-cons, length-filter, count_by-le-length}
 use Rattle.std.proofs.lemmas.Cmp.{tied_itself, tied_back}
-use Rattle.fm_lattice.specs.Chains.{nat_same, by_cases, less_greater, greater_less}
+use Rattle.fm_lattice.specs.laws.ChainLaws.{nat_same, by_cases, less_greater, greater_less}
 use Rattle.fm_lattice.specs.Maps.{lookup, IsBelow, IsRising}
 use Rattle.fm_lattice.specs.laws.MapLaws.{below_trans, lookup_below}
 use Rattle.fm_records.specs.declared.records.SpecReg.{SpecReg}
 use Rattle.std.specs.declared.cmp.Ordering.TheVariants.{Less}
 use Rattle.fm_records.specs.Options.{and_then, only_if, passes}
 use Rattle.fm_records.specs.Sets.{IsMember}
-use Rattle.fm_records.specs.TableLaws.{IsBelowAll, Rises}
+use Rattle.fm_records.specs.Rising.{IsBelowAll, Rises}
 use Rattle.fm_records.proofs.LookupLaws.{both_true}
 use Rattle.fm_records.specs.Table.{Table, TaskValue}
 use Rattle.fm_records.specs.Ranges.{CanBe}
@@ -28,8 +28,10 @@ use Rattle.fm_edit.specs.declared.task_index.TaskIndex.{TaskIndex}
 use Rattle.fm_edit.specs.Dirty.{SameBeyond, has_id, dirty_task}
 use Rattle.fm_edit.proofs.LocalLaws.{same_kept, live_same, holder_same, spec_same, won_same, prefers_same}
 use Rattle.fm_edit.specs.CacheModel.{Sight, sight_of, prefers_in}
-use Rattle.fm_edit.specs.TaskIndex.{is_indexed, counts_at, weight_at, amount_at, lists, lists_preferred, sum_in}
-use Rattle.fm_edit.specs.EditorState.{sum_over, also_out, Counts}
+use Rattle.fm_edit.specs.TaskIndex.{is_indexed, counts_at, weight_at, lists, lists_preferred, sum_in}
+use Rattle.fm_edit.specs.inner.TaskIndexParts.{amount_at}
+use Rattle.fm_edit.specs.EditorState.{sum_over, Counts}
+use Rattle.fm_edit.specs.inner.EditorFacts.{also_out}
 
 nothing : (n : ℕ) → 0 + n ≡ n
 nothing n = omega arith

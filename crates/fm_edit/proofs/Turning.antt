@@ -9,7 +9,8 @@ use Rattle.fm_net.specs.declared.node.Node.TheVariants.{Unscheduled, Request, Ma
 use Rattle.fm_policy.specs.Changes.{Keys}
 use Rattle.fm_edit.specs.declared.affected.Touched.{Touched}
 use Rattle.fm_edit.specs.Dirty.{AreDirtyTasks, turned_in, dirty_task, job_of_task, request_of_task, EitherSays, MayTurn}
-use Rattle.fm_edit.specs.CacheModel.{Sight, sight_of, job_node_in, request_node_in, holder_node_in}
+use Rattle.fm_edit.specs.CacheModel.{Sight, sight_of}
+use Rattle.fm_edit.specs.inner.CachedNodes.{job_node_in, request_node_in, holder_node_in}
 use Rattle.fm_edit.specs.inner.Affected.{has_touched, IsNodeOf, IsTaskEnd, IsEndOf, TouchesOnlyDirty}
 use Rattle.fm_edit.proofs.Completed.{both_ways}
 

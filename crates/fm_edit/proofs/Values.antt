@@ -10,13 +10,13 @@ use Rattle.std.specs.Cmp.{Equal-is, nat_cmp_total}
 use Rattle.std.proofs.lemmas.Cmp.{tied_itself}
 use Rattle.std.specs.declared.cmp.Ordering.{Ordering}
 use Rattle.std.specs.declared.cmp.Ordering.TheVariants.{Less}
-use Rattle.fm_lattice.specs.Chains.{nat_same}
+use Rattle.fm_lattice.specs.laws.ChainLaws.{nat_same}
 use Rattle.std.specs.Map.{keys_of}
 use Rattle.fm_lattice.specs.Maps.{lookup, IsBelow, IsRising}
 use Rattle.fm_lattice.specs.laws.MapLaws.{same_map}
-use Rattle.fm_records.specs.TableLaws.{IsBelowAll, Rises}
+use Rattle.fm_records.specs.Rising.{IsBelowAll, Rises}
 use Rattle.fm_edit.specs.Dirty.{has_id}
-use Rattle.fm_edit.specs.CacheUpdate.{values_at, has_value, AreValuesOf}
+use Rattle.fm_edit.specs.inner.CachedValues.{values_at, has_value, AreValuesOf}
 
 pub drop_next : {X : Type 0} (xs : List X) (i : ℕ) (x : X) → i < length xs → x ≡ get_or xs i x → drop i xs ≡ x ∷ drop (i + 1) xs
 drop_next xs i x h e = drop-cons xs i x h ∙ ap (λ z. z ∷ drop (suc i) xs) (sym e) ∙ ap (λ n. x ∷ drop n xs) (sym (add-one i))

@@ -1,6 +1,6 @@
 -- What an Editor has in sight of a table: its records, and of each task the spot that the winner of its present attempt
 -- names. The facts on these are those of the table. Own.
-use Rattle.std.specs.Prelude.{◌≡◌, ℕ, Bool, true, cond, not, ◌==◌, ◌&&◌, is_some, Option, None, option_map}
+use Rattle.std.specs.Prelude.{ℕ, Bool, true, cond, not, ◌==◌, ◌&&◌, is_some, Option, None, option_map}
 use Rattle.std.specs.Ordering.{nat_cmp}
 use Rattle.std.specs.BTreeMap.{get}
 use Rattle.fm_lattice.specs.Maps.{lookup}
@@ -13,10 +13,7 @@ use Rattle.fm_records.specs.Options.{and_then, only_if, passes, or_else}
 use Rattle.fm_records.specs.Know.{initial_progress}
 use Rattle.fm_records.specs.Table.{Table, TaskValue, MachineValue}
 use Rattle.fm_records.specs.Facts.{job_of, won_spot, is_done}
-use Rattle.fm_net.specs.declared.node.Node.{Node}
-use Rattle.fm_net.specs.declared.node.Node.TheVariants.{Unscheduled, Request, Machine}
 use Rattle.fm_edit.specs.declared.record_cache.RecordCache.{RecordCache}
-use Rattle.fm_edit.specs.declared.record_cache.CachedTask.{CachedTask}
 
 pub record Sight : Type 0 where
   pub job : ℕ → Option JobReg
@@ -35,23 +32,12 @@ seen_in s = record { job = get nat_cmp s.jobs; task = get nat_cmp s.tasks; machi
 abbrev pub cached_spec : Sight → ℕ → Option SpecReg
 cached_spec s t = and_then (λ v. v.0) (s.task t)
 
--- the nodes of the job that a task's spec names, and of the machine that the winner of its present attempt names
-abbrev pub job_node_in : Sight → ℕ → Option Node
-job_node_in s t = option_map (λ r. Unscheduled r.job) (cached_spec s t)
-
-abbrev pub spot_node_in : Sight → ℕ → Option Node
-spot_node_in s t = option_map (λ p. Machine p.machine) (s.spot t)
-
 abbrev pub cached_progress : Sight → ℕ → Progress
 cached_progress s t = or_else initial_progress (option_map (λ v. v.1) (s.task t))
 
 -- the spec of a live task
 abbrev pub cached_live : Sight → ℕ → Option SpecReg
 cached_live s t = only_if (λ r. not r.withdrawn && passes (λ j. not j.withdrawn) (s.job r.job) && not (is_done (cached_progress s t).phase)) (cached_spec s t)
-
--- the same of a task's record
-abbrev pub cached_live_record : Sight → TaskValue → Option SpecReg
-cached_live_record s v = only_if (λ r. not r.withdrawn && passes (λ j. not j.withdrawn) (s.job r.job) && not (is_done v.1.phase)) v.0
 
 -- the state of an open machine
 abbrev pub open_in : Sight → ℕ → Option MachineReg
@@ -65,29 +51,6 @@ present_in s p = passes (λ r. true) (open_in s p.machine) && passes (λ i. i ==
 abbrev pub cached_holder : Sight → ℕ → Option ℕ
 cached_holder s t = cond (passes (λ r. true) (cached_live s t)) (option_map (λ p. p.machine) (only_if (present_in s) (s.spot t))) None
 
--- the machine of the spot that a task's winner names, if the task is live and the machine there to hold it
-abbrev pub held_at : Sight → Bool → Option Spot → Option ℕ
-held_at s live spot = cond live (option_map (λ p. p.machine) (only_if (present_in s) spot)) None
-
 -- a live task that no machine holds prefers the machine
 abbrev pub prefers_in : Sight → ℕ → ℕ → Bool
 prefers_in s m t = passes (λ r. is_some (lookup nat_cmp m r.prefer)) (cached_live s t) && not (passes (λ h. true) (cached_holder s t))
-
--- the reported use
-abbrev pub used_in : Sight → ℕ → ℕ
-used_in s m = or_else 0 (option_map (λ r. r.used) (and_then (λ v. v.1.1) (s.machine m)))
-
--- the nodes of the request of a task's spec, and of the machine that holds it
-abbrev pub request_node_in : Sight → ℕ → Option Node
-request_node_in s t = option_map (λ r. Request r.request) (cached_spec s t)
-
-abbrev pub holder_node_in : Sight → ℕ → Option Node
-holder_node_in s t = option_map Machine (cached_holder s t)
-
--- what was found of a task is what is in sight of it
-pub record IsSeenTask (s : Sight) (t : ℕ) (x : CachedTask) : Type 0 where
-  pub job : x.job ≡ job_node_in s t
-  pub request : x.request ≡ request_node_in s t
-  pub spot : x.spot ≡ spot_node_in s t
-  pub live : x.live ≡ cached_live s t
-  pub holder : x.holder ≡ cached_holder s t

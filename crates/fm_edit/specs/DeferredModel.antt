@@ -1,10 +1,10 @@
 -- What a keeper is that takes in keys and edits or builds when the network is read: fresh or stale, and for which
 -- table. Own.
-use Rattle.std.specs.Prelude.{◌≡◌, ◌⊎◌, ◌&&◌, Bool, true, false, Option, Some, None, IsTrue}
+use Rattle.std.specs.Prelude.{◌≡◌, ◌&&◌, Bool, true, Option, Some, None, IsTrue}
 use Rattle.fm_records.specs.Table.{Table}
 use Rattle.fm_net.specs.Net.{Net}
 use Rattle.fm_net.specs.Network.{net_of}
-use Rattle.fm_policy.specs.Changes.{Keys, joined_keys, has_no_keys}
+use Rattle.fm_policy.specs.Changes.{Keys, has_no_keys}
 use Rattle.fm_policy.specs.Keeping.{FollowsAfter}
 use Rattle.fm_edit.specs.declared.deferred.Deferred.{Deferred}
 use Rattle.fm_edit.specs.declared.editor.Editor.{Editor}
@@ -34,9 +34,3 @@ CanFollow None built net pending k = IsTrue (built && has_no_keys pending) → n
 
 abbrev pub DeferredFollows : Deferred → Table → Type 0
 DeferredFollows d k = CanFollow d.editor d.built d.network d.pending k
-
--- the keys are pending, and nothing else changed; or all is forgotten, and the next look builds
-abbrev pub DeferredAbsorbs : Deferred → Keys → Deferred → Type 0
-DeferredAbsorbs old keys new =
-    ((new.editor ≡ old.editor) × (new.pending ≡ joined_keys old.pending keys) × (new.edits ≡ old.edits) × (new.builds ≡ old.builds))
-    ⊎ ((new.editor ≡ None) × (new.built ≡ false) × (new.edits ≡ old.edits) × (new.builds ≡ old.builds))

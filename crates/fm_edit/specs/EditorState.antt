@@ -1,18 +1,13 @@
 -- What an Editor remembers of a table: a line for each index, which function of the table it is. Own.
-use Rattle.std.specs.Prelude.{◌≡◌, ℕ, Bool, false, not, ◌&&◌, ◌||◌, Option, IfSome, filter, sum_by}
-use Rattle.std.specs.Ordering.{nat_cmp, is_eq}
+use Rattle.std.specs.Prelude.{◌≡◌, ℕ, Bool, false, not, ◌&&◌, filter, sum_by}
 use Rattle.fm_records.specs.Table.{Table}
 use Rattle.fm_net.specs.declared.node.Node.{Node}
-use Rattle.fm_policy.specs.declared.node_facts.NodeFacts.{NodeFacts}
-use Rattle.fm_policy.specs.NodeFacts.{node_of}
 use Rattle.fm_edit.specs.declared.task_index.TaskIndex.{TaskIndex}
 use Rattle.fm_edit.specs.declared.editor_state.EditorState.{EditorState}
 use Rattle.fm_net.specs.Net.{Net}
 use Rattle.fm_net.specs.Network.{net_of}
 use Rattle.fm_edit.specs.CacheModel.{sight_of, seen_in, prefers_in}
 use Rattle.fm_edit.specs.TaskIndex.{is_indexed, counts_at, weight_at, lists, lists_preferred, sum_in}
-use Rattle.fm_edit.specs.inner.CacheFacts.{facts_shown, node_shown, arc_shown}
-use Rattle.fm_edit.specs.declared.shown.Ends.{Ends}
 
 -- what the tasks that are not out add up to at a node
 abbrev pub sum_over : (ℕ → Bool) → Table → Node → ℕ
@@ -21,9 +16,6 @@ sum_over out k n = sum_by (λ e. weight_at n e.1.0) (filter (λ e. counts_at (si
 -- no task is out, and one more is
 abbrev pub none_out : ℕ → Bool
 none_out t = false
-
-abbrev pub also_out : ℕ → (ℕ → Bool) → ℕ → Bool
-also_out t out q = is_eq (nat_cmp q t) || out q
 
 -- the tasks that are not out are listed where they are to be, and count
 pub record Counts (out : ℕ → Bool) (k : Table) (x : TaskIndex) : Type 0 where
@@ -36,24 +28,6 @@ pub record Counts (out : ℕ → Bool) (k : Table) (x : TaskIndex) : Type 0 wher
 pub record Remembers (k : Table) (m : EditorState) : Type 0 where
   pub sees : seen_in m.seen ≡ sight_of k
   pub counts : Counts none_out k m.index
-
--- what a memory tells of nodes, and the nodes and arcs that follow from that
-abbrev pub facts_by : EditorState → Node → NodeFacts
-facts_by m = facts_shown (seen_in m.seen) (sum_in m.index)
-
-abbrev pub node_by : EditorState → Node → Bool
-node_by m = node_shown (seen_in m.seen) (sum_in m.index)
-
-abbrev pub arc_by : EditorState → Node → Node → Option (ℕ × ℕ)
-arc_by m = arc_shown (seen_in m.seen) (sum_in m.index)
-
--- what was found of a node is what the memory tells of it; and so of two ends, if they were found
-abbrev pub IsKnownBy : EditorState → NodeFacts → Type 0
-IsKnownBy m x = x ≡ facts_by m (node_of x)
-
-pub record AreKnownBy (m : EditorState) (ends : Ends) : Type 0 where
-  pub from : IfSome ends.from (IsKnownBy m)
-  pub to : IfSome ends.to (IsKnownBy m)
 
 -- the memory is of the table, and the network is the table's
 pub record IsEditorState (m : EditorState) (net : Net) (k : Table) : Type 0 where

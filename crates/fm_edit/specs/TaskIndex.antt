@@ -1,5 +1,5 @@
 -- Where tasks are listed, and where they count for how much. Own.
-use Rattle.std.specs.Prelude.{◌≡◌, List, ℕ, Bool, false, cond, not, ◌==◌, ◌&&◌, Option, true, unwrap_or}
+use Rattle.std.specs.Prelude.{ℕ, Bool, false, not, ◌==◌, ◌&&◌, Option, true, unwrap_or}
 use Rattle.std.specs.BTreeMap.{get}
 use Rattle.std.specs.List.{list_any}
 use Rattle.std.specs.Ordering.{nat_cmp, is_eq, on, then_cmp}
@@ -11,7 +11,6 @@ use Rattle.fm_net.specs.declared.node.Node.{Node}
 use Rattle.fm_net.specs.declared.node.Node.TheVariants.{Unscheduled, Request, Machine}
 use Rattle.fm_net.specs.Nodes.{node_cmp}
 use Rattle.fm_edit.specs.declared.task_index.TaskIndex.{TaskIndex}
-use Rattle.fm_edit.specs.Dirty.{has_id}
 use Rattle.fm_edit.specs.CacheModel.{Sight, cached_spec, cached_live, cached_holder}
 
 -- a task is listed at the job that its spec names, and at the machine that the winner of its present attempt names
@@ -32,13 +31,6 @@ abbrev pub weight_at : Node → Option SpecReg → ℕ
 weight_at (Machine m) spec = request_of spec
 weight_at _ spec = 1
 
-abbrev pub amount_at : Sight → Node → ℕ → ℕ
-amount_at s n t = cond (counts_at s n t) (weight_at n (cached_spec s t)) 0
-
--- the order of pairs of a key and a task: in the list of tasks by node, and by machine that they prefer
-abbrev pub pair_cmp : {K : Type 0} → (K → K → Ordering) → K × ℕ → K × ℕ → Ordering
-pair_cmp cmp = then_cmp (on (λ p. p.0) cmp) (on (λ p. p.1) nat_cmp)
-
 abbrev pub listed_cmp : Node × ℕ → Node × ℕ → Ordering
 listed_cmp = then_cmp (on (λ p. p.0) node_cmp) (on (λ p. p.1) nat_cmp)
 
@@ -54,7 +46,3 @@ lists_preferred x m t = list_any (λ p. is_eq (preferred_cmp (m, t) p)) x.prefer
 
 abbrev pub sum_in : TaskIndex → Node → ℕ
 sum_in x n = unwrap_or (get node_cmp x.sums n) 0
-
--- the task is listed at the node of one of the ids
-abbrev pub ListsAtOne : TaskIndex → (ℕ → Node) → List ℕ → ℕ → Type 0
-ListsAtOne x node ids t = (i : ℕ) × (has_id ids i ≡ true) × (lists x (node i) t ≡ true)

@@ -4,3 +4,8 @@ pub mod Listed
 pub mod Diff
 pub mod CacheFacts
 pub mod Affected
+pub mod CachedNodes
+pub mod CachedValues
+pub mod DeferredAbsorbs
+pub mod EditorFacts
+pub mod TaskIndexParts

@@ -1,9 +1,12 @@
-//! The nodes and pairs of nodes that a delta touches.
+//! The nodes and pairs of nodes that a delta touches: nothing else differs between the networks before and after it.
+//!
+//! Dirty tasks are touched with where their arcs lead, once as they were seen before the delta and once as they are
+//! after it. What is touched and does not differ gives no edit, so touching more than what differs costs time alone.
 
 ghost use Rattle.std.specs.Prelude.{◌≡◌, ◌⊎◌, ℕ, true, false, is_some, Some, OnOk};
 ghost use Rattle.std.specs.Ordering.{nat_cmp};
 ghost use Rattle.fm_lattice.specs.Maps.{lookup};
-ghost use Rattle.fm_records.specs.TableLaws.{Rises};
+ghost use Rattle.fm_records.specs.Rising.{Rises};
 ghost use Rattle.fm_net.specs.Nodes.{node_cmp, ends_cmp};
 ghost use Rattle.fm_net.specs.declared.node.Node.{Node as NodeName};
 ghost use Rattle.fm_edit.specs.Dirty.{has_id};

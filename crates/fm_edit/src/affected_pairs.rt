@@ -1,4 +1,7 @@
-//! The pairs of ends that touched nodes add.
+//! The pairs of ends that touched nodes add: arcs that change although no task at them is dirty.
+//!
+//! If the load of a machine changes, so do its arcs from all requests for which tasks wait, and from all tasks that
+//! wait and prefer it. If a request comes or goes as a node, so do its arcs to all machines.
 
 ghost use Rattle.std.specs.Prelude.{◌≡◌, ◌<◌, ◌^◌, ◌++◌, ℕ, true, filter, is_some, reverse, IsTrue, IfOk, OnOk};
 ghost use Rattle.std.specs.List.{list_any};

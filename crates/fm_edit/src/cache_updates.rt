@@ -7,7 +7,7 @@ ghost use Rattle.fm_lattice.specs.Maps.{lookup};
 ghost use Rattle.fm_records.specs.Table.{MachineValue};
 ghost use Rattle.fm_records.specs.Facts.{job_of, won_spot, attempt_of};
 ghost use Rattle.fm_edit.specs.Dirty.{has_id};
-ghost use Rattle.fm_edit.specs.CacheUpdate.{values_at, has_value, AreValuesOf};
+ghost use Rattle.fm_edit.specs.inner.CachedValues.{values_at, has_value, AreValuesOf};
 ghost use Rattle.fm_edit.specs.declared.look.Key.{Key as KeyName};
 
 use crate::look::Look;

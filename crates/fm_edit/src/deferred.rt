@@ -1,4 +1,9 @@
-//! A keeper that collects keys, and edits or builds when its network is read.
+//! A keeper that collects keys, and edits or builds when its network is read (deferred view maintenance).
+//!
+//! An edit after each delta is wasted if nobody reads, and after many deltas building is cheaper than edits. So this
+//! keeper waits for a read: few changed records are edited in, and after many the network is built. The Editor's memory
+//! is made only once reads with few changes came in a row. After each Editor that made few edits the wait is twice as
+//! long, at most 64 reads. Deferred view maintenance is that of Colby, Griffin, Libkin, Mumick and Trickey (1996).
 
 ghost use Rattle.std.specs.Prelude.{◌≡◌, [], true, false, None, is_some, IsTrue, IfOk, OnOk, OnErr};
 ghost use Rattle.fm_records.specs.Know.{table_of};
@@ -6,7 +11,8 @@ ghost use Rattle.fm_net.specs.Network.{net_of};
 ghost use Rattle.fm_policy.specs.Changes.{no_keys};
 ghost use Rattle.fm_policy.specs.Keeping.{FollowsAfter};
 ghost use Rattle.fm_edit.specs.EditorModel.{one_more};
-ghost use Rattle.fm_edit.specs.DeferredModel.{is_fresh_deferred, DeferredIsFor, DeferredFollows, DeferredAbsorbs};
+ghost use Rattle.fm_edit.specs.DeferredModel.{is_fresh_deferred, DeferredIsFor, DeferredFollows};
+ghost use Rattle.fm_edit.specs.inner.DeferredAbsorbs.{DeferredAbsorbs};
 
 use crate::editor::Editor;
 use fm_know::knowledge::Knowledge;
@@ -213,7 +219,8 @@ fn few_of(now: &Knowledge) -> usize {
 }
 
 impl NetKeeper for Deferred {
-    ghost use Rattle.fm_edit.specs.DeferredModel.{is_fresh_deferred, DeferredIsFor, DeferredFollows, DeferredAbsorbs};
+    ghost use Rattle.fm_edit.specs.DeferredModel.{is_fresh_deferred, DeferredIsFor, DeferredFollows};
+    ghost use Rattle.fm_edit.specs.inner.DeferredAbsorbs.{DeferredAbsorbs};
     ghost use Rattle.fm_edit.specs.laws.DeferringLaws.{fresh_deferred_follows};
 
     ghost fresh = { is_fresh_deferred };

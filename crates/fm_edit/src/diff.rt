@@ -1,11 +1,14 @@
-//! The edits of what was touched, in order.
+//! The edits of what was touched, in order: arcs that go, nodes that go, nodes that come, arcs that come or differ.
+//!
+//! In this order no arc is ever without one of its nodes. Each pair that was touched is compared with the network:
+//! O(log n) for each, and a node that was the last to be looked up is not looked up again.
 
 ghost use Rattle.std.specs.Prelude.{◌≡◌, ◌++◌, ◌∷◌, [], not, option_map, IfOk, OnOk};
 ghost use Rattle.fm_records.specs.Options.{passes, when};
 ghost use Rattle.fm_net.specs.declared.edit.Edit.{Edit as EditName};
 ghost use Rattle.fm_net.specs.Edits.{joins, same_value, has_arc};
 ghost use Rattle.fm_net.specs.Touched.{put_at};
-ghost use Rattle.fm_edit.specs.EditorState.{node_by, arc_by, AreKnownBy};
+ghost use Rattle.fm_edit.specs.inner.EditorFacts.{node_by, arc_by, AreKnownBy};
 ghost use Rattle.fm_edit.specs.inner.Diff.{arcs_that_go, nodes_that_go, nodes_that_come, arcs_that_come, edits_of};
 
 use crate::affected::Touched;

@@ -1,13 +1,18 @@
-//! Which machines turned, and which tasks are dirty.
+//! Which machines turned, and which tasks are dirty: a delta can change no other task.
+//!
+//! A task is live by its own record and its job's, and held by its winner's and its machine's. So the tasks of the
+//! delta are dirty, those listed at a job of the delta, and those listed at a machine that opened, closed or got
+//! another incarnation. A report alone makes no task dirty.
 
 ghost use Rattle.std.specs.Prelude.{◌≡◌, ◌⊎◌, ◌<◌, ◌^◌, ℕ, true, Some, filter, map, IfOk, OnOk};
 ghost use Rattle.std.specs.Ordering.{nat_cmp};
-ghost use Rattle.fm_records.specs.TableLaws.{Rises};
+ghost use Rattle.fm_records.specs.Rising.{Rises};
 ghost use Rattle.fm_net.specs.declared.node.Node.{Node as NodeName};
 ghost use Rattle.fm_edit.specs.Dirty.{has_id};
 ghost use Rattle.fm_edit.specs.CacheModel.{seen_in};
 ghost use Rattle.fm_edit.specs.CacheUpdate.{standing, standing_of, same_standing, turns};
-ghost use Rattle.fm_edit.specs.TaskIndex.{lists, ListsAtOne};
+ghost use Rattle.fm_edit.specs.TaskIndex.{lists};
+ghost use Rattle.fm_edit.specs.inner.TaskIndexParts.{ListsAtOne};
 
 use crate::record_cache::RecordCache;
 use crate::task_index::TaskIndex;

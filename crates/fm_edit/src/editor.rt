@@ -1,4 +1,9 @@
-//! A keeper that edits its network: incremental view maintenance.
+//! A keeper that edits its network after each delta (incremental view maintenance: Gupta and Mumick, 1995).
+//!
+//! To build the network again costs what is known, even if a delta has one record. An Editor remembers the records that
+//! it looked up, and where tasks are listed and counted. After a delta it takes the dirty tasks out of these lists,
+//! looks up the changed records, and puts the tasks back. Then it compares what was touched with the network: a delta
+//! costs what it changes.
 
 ghost use Rattle.std.specs.Prelude.{◌≡◌, ◌++◌, [], true, false, IsTrue, IfOk, OnOk, OnErr};
 ghost use Rattle.fm_records.specs.Know.{table_of};
@@ -161,7 +166,8 @@ impl NetKeeper for Editor {
         ensures err { OnErr result (is_fresh_editor self.new ≡ false) }
         ensures stale { is_fresh_editor self.old ≡ false → is_fresh_editor self.new ≡ false }
         ensures edits { IsTrue (is_fresh_editor self.old) → OnOk result (self.new.edits ≡ one_more self.old.edits) }
-        ensures keeps_up { FollowsAfter true (λ k. IsTrue (is_fresh_editor self.old) → IsFor self.old k) now.now changed.now
+        ensures keeps_up { FollowsAfter true (λ k. IsTrue (is_fresh_editor self.old) → IsFor self.old k)
+            now.now changed.now
             → IsTrue (is_fresh_editor self.new) → IsFor self.new now.now }
         ensures absorbs { Unit {0} }
     {

@@ -1,4 +1,4 @@
-//! What an Editor remembers.
+//! What an Editor remembers, and how it follows a delta: dirty tasks leave as they were, and come back as they are.
 
 ghost use Rattle.std.specs.Prelude.{◌≡◌, ◌<◌, ◌^◌, ◌++◌, [], true, length, IfOk, OnOk};
 ghost use Rattle.fm_records.specs.Know.{table_of};

@@ -1,4 +1,4 @@
-//! Keepers of any kind.
+//! Keepers of any kind in one type, so that coordinators with different ones can be in one world.
 
 use crate::deferred::Deferred;
 use crate::editor::Editor;

@@ -1,5 +1,6 @@
-//! Networks that are edited instead of rebuilt (incremental view maintenance: Gupta and Mumick, 1995): what a delta
-//! can change, and looking up single records.
+//! Networks that are edited instead of rebuilt, what a delta can change in them, and looking up single records.
+//!
+//! To maintain a view by what changed is incremental view maintenance (Gupta and Mumick, 1995).
 #![tactic(auto)]
 
 mod affected;

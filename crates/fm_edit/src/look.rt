@@ -1,4 +1,4 @@
-//! Looking up records, and storing their keys.
+//! Looking up records, and storing their keys, so that contracts can say what an edit looks up, and what it does not.
 
 ghost use Rattle.std.specs.Prelude.{◌≡◌, List, [], ◌∷◌, ◌++◌, option_map, IfOk, OnOk, OnErr};
 ghost use Rattle.std.specs.Ordering.{nat_cmp};

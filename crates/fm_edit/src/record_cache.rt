@@ -1,4 +1,7 @@
-//! The records as they were last seen.
+//! The records as they were last seen, since what is known has only the present ones.
+//!
+//! An Editor has to take a task out of the lists and sums in which it was, and the delta has been merged already when
+//! the Editor follows it.
 
 ghost use Rattle.std.specs.Prelude.{◌≡◌, ◌&&◌, ℕ, true, ◌<◌, ◌^◌, [], not, is_some, option_map, length, Some};
 ghost use Rattle.fm_records.specs.Know.{table_of};
@@ -7,7 +10,8 @@ ghost use Rattle.fm_lattice.specs.Maps.{lookup, IsRising};
 ghost use Rattle.fm_records.specs.Table.{Table};
 ghost use Rattle.fm_records.specs.Options.{passes};
 ghost use Rattle.fm_net.specs.declared.node.Node.{Node as NodeName};
-ghost use Rattle.fm_edit.specs.CacheModel.{IsSeenTask, sight_of, seen_in, cached_live_record, cached_live, held_at, open_in, present_in, cached_holder, used_in};
+ghost use Rattle.fm_edit.specs.CacheModel.{sight_of, seen_in, cached_live, open_in, present_in, cached_holder};
+ghost use Rattle.fm_edit.specs.inner.CachedNodes.{IsSeenTask, cached_live_record, held_at, used_in};
 
 use fm_know::facts::is_done;
 use fm_net::node::Node;

@@ -1,8 +1,8 @@
-//! What the remembered records tell of single nodes, and the arcs between them.
+//! What the remembered records tell of single nodes, and the arcs between them, by the rules of the policy.
 
 ghost use Rattle.std.specs.Prelude.{◌≡◌, IfSome};
 ghost use Rattle.fm_net.specs.declared.node.Node.{Node as NodeName};
-ghost use Rattle.fm_edit.specs.EditorState.{facts_by, node_by, arc_by, IsKnownBy, AreKnownBy};
+ghost use Rattle.fm_edit.specs.inner.EditorFacts.{facts_by, node_by, arc_by, IsKnownBy, AreKnownBy};
 
 use crate::editor_state::EditorState;
 use fm_net::node::Node;

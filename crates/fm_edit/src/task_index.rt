@@ -1,19 +1,25 @@
-//! Where tasks are listed, and their sums.
+//! Where tasks are listed, and their sums, so that a delta leads to its tasks without a walk over all of them.
+//!
+//! Tasks are listed by job, by their winner's machine and, while they wait, by each machine that they prefer. The sums
+//! are the live tasks of a job, the tasks that wait for a request, and the requests that a machine holds. A task leaves
+//! or enters all of these in O(log n).
 
 ghost use Rattle.std.specs.Prelude.{◌≡◌, ℕ, Bool, ◌+◌, ◌-◌, ◌<◌, ◌^◌, ◌&&◌, true, false, is_some, [], cond, length, min, OnOk};
 ghost use Rattle.fm_records.specs.Know.{table_of};
 ghost use Rattle.std.specs.Ordering.{is_eq, nat_cmp};
 ghost use Rattle.fm_lattice.specs.Maps.{lookup};
 ghost use Rattle.fm_records.specs.Options.{passes};
-ghost use Rattle.fm_records.specs.TableLaws.{Rises};
+ghost use Rattle.fm_records.specs.Rising.{Rises};
 ghost use Rattle.fm_records.specs.Table.{Table};
 ghost use Rattle.fm_records.specs.Ranges.{CanBe};
 ghost use Rattle.fm_net.specs.declared.node.Node.{Node as NodeName};
 ghost use Rattle.fm_net.specs.Nodes.{node_cmp};
-ghost use Rattle.fm_edit.specs.CacheModel.{Sight, IsSeenTask, sight_of, seen_in, prefers_in};
+ghost use Rattle.fm_edit.specs.CacheModel.{Sight, sight_of, seen_in, prefers_in};
+ghost use Rattle.fm_edit.specs.inner.CachedNodes.{IsSeenTask};
 ghost use Rattle.fm_edit.specs.Dirty.{has_id};
 ghost use Rattle.fm_edit.specs.EditorState.{none_out, Counts};
-ghost use Rattle.fm_edit.specs.TaskIndex.{is_indexed, listed_cmp, lists, lists_preferred, sum_in, amount_at};
+ghost use Rattle.fm_edit.specs.TaskIndex.{is_indexed, listed_cmp, lists, lists_preferred, sum_in};
+ghost use Rattle.fm_edit.specs.inner.TaskIndexParts.{amount_at};
 
 use crate::record_cache::{CachedTask, RecordCache};
 use fm_lattice::join::OutOfMemory;

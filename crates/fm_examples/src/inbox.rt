@@ -8,8 +8,8 @@ use fm_inbox::owned_port::{OwnedPort, PortPool};
 use fm_records::refusal::Refusal;
 use std::sync::Wait;
 
-/// Closes an inbox after its threads gave all doors back: each packet that was put was taken as often. The caller must
-/// pass doors of this inbox. NotMine(0) if one is missing, InboxFull if a packet is left.
+/// Closes an inbox after its threads gave all ports back: each packet that was put was taken as often. The caller must
+/// pass ports of this inbox. NotMine(0) if one is missing, InboxFull if a packet is left.
 pub fn drained<R: Wait>(rt: &R, inbox: PortPool, out: Vec<OwnedPort>) -> Result<(), Refusal>
     requires { All (λ d. IsPortOf inbox.inbox d.port) out.items }
     ensures same { OnOk result (SamePackets (all_put (map (λ d. d.port) out.items))

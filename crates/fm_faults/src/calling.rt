@@ -84,16 +84,50 @@ fn see(coordinator: &mut Either, by: u32) -> Result<(), Refusal> {
     Ok(())
 }
 
-/// The call is made of a coordinator.
-pub(crate) fn called(memory: Memory, kind: Kind, asked: Asked) -> Result<Verdict, Refusal> {
+/// What a coordinator itself is asked for.
+#[derive(Clone, Copy, Drop)]
+pub(crate) enum Direct {
+    Call(Asked),
+    Shown,
+    Dumped,
+}
+
+/// A coordinator is asked, and then compared with another one. Each is owned by a function without a further exit, since a
+/// proof takes long for each exit that drops a coordinator.
+pub(crate) fn tried(memory: Memory, kind: Kind, direct: Direct) -> Result<Verdict, Refusal> {
     let mut coordinator = made(memory, kind, 1)?;
-    let refusal = refused(memory, &mut coordinator, asked)?;
-    let is_lost = is_lost(&coordinator, kind);
-    let is_right = if refusal.is_some() {
-        is_as_before(memory, &mut coordinator)?
-    } else {
-        is_as_after(memory, asked, &mut coordinator)?
-    };
+    tried_beside_other(memory, kind, direct, &mut coordinator)
+}
+
+// How the other one keeps its network makes no difference.
+fn tried_beside_other(
+    memory: Memory,
+    kind: Kind,
+    direct: Direct,
+    coordinator: &mut Either,
+) -> Result<Verdict, Refusal> {
+    let mut other = made(memory, Kind::Builds, 1)?;
+    match direct {
+        Direct::Call(asked) => called(memory, kind, asked, coordinator, &mut other),
+        Direct::Shown => viewed(memory, coordinator, &mut other),
+        Direct::Dumped => dumped(memory, coordinator, &mut other),
+    }
+}
+
+// The call is made. If it is refused, the coordinator is to be as the other one, else as that one after the same call.
+fn called(
+    memory: Memory,
+    kind: Kind,
+    asked: Asked,
+    coordinator: &mut Either,
+    other: &mut Either,
+) -> Result<Verdict, Refusal> {
+    let refusal = refused(memory, coordinator, asked)?;
+    let is_lost = is_lost(coordinator, kind);
+    if refusal.is_none() {
+        make(other, 0, asked.call(memory.alloc)?)?;
+    }
+    let is_right = are_alike(memory.alloc, coordinator, other)?;
     Ok(judged(refusal, is_right).with_stale(is_lost))
 }
 
@@ -110,39 +144,32 @@ fn refused(
     Ok(refusal)
 }
 
-// Whether the coordinator is as one that was not asked. How that one keeps its network makes no difference.
-fn is_as_before(memory: Memory, coordinator: &mut Either) -> Result<bool, Refusal> {
-    let mut wanted = made(memory, Kind::Builds, 1)?;
-    are_alike(memory.alloc, coordinator, &mut wanted)
-}
-
-// Whether the coordinator is as one that was asked so with ample memory.
-fn is_as_after(memory: Memory, asked: Asked, coordinator: &mut Either) -> Result<bool, Refusal> {
-    let mut wanted = made(memory, Kind::Builds, 1)?;
-    make(&mut wanted, 0, asked.call(memory.alloc)?)?;
-    are_alike(memory.alloc, coordinator, &mut wanted)
-}
-
-/// A view is asked for, whose network is looked at.
-pub(crate) fn viewed(memory: Memory, kind: Kind) -> Result<Verdict, Refusal> {
-    let mut coordinator = made(memory, kind, 1)?;
+// A view is asked for, whose network is looked at. If it is refused, the coordinator is to be as the other one.
+fn viewed(
+    memory: Memory,
+    coordinator: &mut Either,
+    other: &mut Either,
+) -> Result<Verdict, Refusal> {
     memory.refuse();
-    let answer = view(&mut coordinator, 0);
+    let answer = view(coordinator, 0);
     memory.give();
     match answer {
         Ok(seen) => Ok(judged(None, is_right_view(memory.alloc, &seen)?)),
         Err(refusal) => {
-            let is_right = is_as_before(memory, &mut coordinator)?;
+            let is_right = are_alike(memory.alloc, coordinator, other)?;
             Ok(judged(Some(refusal), is_right))
         }
     }
 }
 
-/// The network of a coordinator is written.
-pub(crate) fn dumped(memory: Memory, kind: Kind) -> Result<Verdict, Refusal> {
-    let mut coordinator = made(memory, kind, 1)?;
-    let (refusal, is_written) = dumps(memory, &mut coordinator)?;
-    let is_right = is_as_before(memory, &mut coordinator)?;
+// The network of the coordinator is written, which is then to be as the other one.
+fn dumped(
+    memory: Memory,
+    coordinator: &mut Either,
+    other: &mut Either,
+) -> Result<Verdict, Refusal> {
+    let (refusal, is_written) = dumps(memory, coordinator)?;
+    let is_right = are_alike(memory.alloc, coordinator, other)?;
     Ok(judged(refusal, is_written && is_right))
 }
 

@@ -48,14 +48,27 @@ pub(crate) fn asked<R: Wait>(
     kind: Kind,
     wanted: Wanted,
 ) -> Result<Verdict, Refusal> {
-    let coordinator = begun(memory, kind, 1)?;
-    let Left {
-        mut closed,
+    let mut left = picked(rt, memory, begun(memory, kind, 1)?, wanted)?;
+    verdict_of(memory, kind, wanted, &mut left)
+}
+
+// The node is closed and audited, and its coordinator is looked at.
+fn verdict_of(
+    memory: Memory,
+    kind: Kind,
+    wanted: Wanted,
+    left: &mut Left,
+) -> Result<Verdict, Refusal> {
+    let is_listed = audit(&left.closed).is_ok();
+    let is_lost = is_lost(&left.closed.coordinator, kind);
+    let refusal = left.refusal;
+    let verdict = looked_at(
+        memory,
+        &mut left.closed.coordinator,
+        wanted,
         refusal,
-    } = picked(rt, memory, coordinator, wanted)?;
-    let is_listed = audit(&closed).is_ok();
-    let is_lost = is_lost(&closed.coordinator, kind);
-    let verdict = looked_at(memory, &mut closed.coordinator, wanted, refusal, is_listed)?;
+        is_listed,
+    )?;
     Ok(verdict.with_stale(is_lost))
 }
 
@@ -264,15 +277,28 @@ fn round(alloc: Global, coordinator: &mut Either) -> Result<(), Refusal> {
 
 /// A node is made of a coordinator, which is returned if that is refused.
 pub(crate) fn made_node(memory: Memory) -> Result<Verdict, Refusal> {
-    let coordinator = begun(memory, Kind::Edits, 1)?;
-    let (mut kept, refusal) = picked_node(memory, coordinator)?;
-    let is_right = is_as_begun(memory, &mut kept)?;
-    Ok(judged(refusal, is_right))
+    let (mut kept, refusal) = picked_node(memory, begun(memory, Kind::Edits, 1)?)?;
+    judged_beside_begun(memory, &mut kept, refusal)
 }
 
-fn is_as_begun(memory: Memory, coordinator: &mut Either) -> Result<bool, Refusal> {
+// The coordinator is to be as one that no node was made of.
+fn judged_beside_begun(
+    memory: Memory,
+    coordinator: &mut Either,
+    refusal: Option<Refusal>,
+) -> Result<Verdict, Refusal> {
     let mut wanted = begun(memory, Kind::Builds, 1)?;
-    are_alike(memory.alloc, coordinator, &mut wanted)
+    judged_beside(memory.alloc, coordinator, &mut wanted, refusal)
+}
+
+fn judged_beside(
+    alloc: Global,
+    coordinator: &mut Either,
+    wanted: &mut Either,
+    refusal: Option<Refusal>,
+) -> Result<Verdict, Refusal> {
+    let is_right = are_alike(alloc, coordinator, wanted)?;
+    Ok(judged(refusal, is_right))
 }
 
 fn picked_node(memory: Memory, coordinator: Either) -> Result<(Either, Option<Refusal>), Refusal> {

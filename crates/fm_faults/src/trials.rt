@@ -1,6 +1,6 @@
 //! Calls that are tried, each with a name.
 
-use crate::calling::{self, Asked};
+use crate::calling::{self, Asked, Direct};
 use crate::coordinators::Kind;
 use crate::memory::Memory;
 use crate::seats::{self, Wanted};
@@ -154,9 +154,9 @@ impl Kept {
     // Makes it.
     fn made<R: Wait>(&self, rt: &R, memory: Memory, kind: Kind) -> Result<Verdict, Refusal> {
         match self {
-            Kept::Asked(asked) => calling::called(memory, kind, *asked),
-            Kept::Shown => calling::viewed(memory, kind),
-            Kept::Dumped => calling::dumped(memory, kind),
+            Kept::Asked(asked) => calling::tried(memory, kind, Direct::Call(*asked)),
+            Kept::Shown => calling::tried(memory, kind, Direct::Shown),
+            Kept::Dumped => calling::tried(memory, kind, Direct::Dumped),
             Kept::BySeat(asked) => seats::asked(rt, memory, kind, Wanted::Call(*asked)),
             Kept::Round => seats::asked(rt, memory, kind, Wanted::Round),
         }

@@ -4,7 +4,8 @@ use Rattle.std.proofs.lemmas.Bool.{cases_lt, ltb-true}
 use Rattle.std.proofs.lemmas.Option.{slice_get_within, get_or_from_slice_get}
 use Rattle.fm_coord.specs.declared.entry.Entry.{Entry}
 use Rattle.fm_fleet.specs.declared.seat.SeatLog.{SeatLog}
-use Rattle.fm_fleet.specs.Audits.{Matches, IsAudited, IsLeastDiffering, IsFirstStrange, lesser_of}
+use Rattle.fm_fleet.specs.Audits.{Matches, IsAudited, IsLeastDiffering, IsFirstStrange}
+use Rattle.fm_fleet.specs.inner.FirstRefusal.{lesser_of}
 
 one_place : {A : Type 0} (xs : List A) (i : ℕ) (x y : A) → slice_get xs i ≡ Some x → slice_get xs i ≡ Some y → x ≡ y
 one_place xs i x y p q = sym (get_or_from_slice_get xs i x x p) ∙ get_or_from_slice_get xs i y x q

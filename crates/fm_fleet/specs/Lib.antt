@@ -3,3 +3,4 @@ pub use Rattle.fm_inbox.specs.Ports
 pub mod Seats
 pub mod Rounds
 pub mod Audits
+pub mod inner

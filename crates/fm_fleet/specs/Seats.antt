@@ -7,9 +7,8 @@ use Rattle.fm_coord.specs.declared.entry.Reply.{Reply}
 use Rattle.fm_coord.specs.declared.entry.Entry.{Entry}
 use Rattle.fm_coord.specs.Causes.{Bounds, refusal_for}
 use Rattle.fm_coord.specs.States.{State, history_entry}
-use Rattle.fm_coord.specs.Outputs.{reply_to, answer_to}
+use Rattle.fm_coord.specs.Outputs.{answer_to}
 use Rattle.fm_coord.specs.declared.output.CallOutput.{CallOutput}
-use Rattle.fm_coord.specs.declared.entry.Reply.TheVariants as reply
 use Rattle.fm_fleet.specs.declared.seat.SeatLog.{SeatLog}
 
 -- a seat's number, and the entries of its accepted calls
@@ -24,19 +23,17 @@ seen_seat number log = record { number = number; log = log }
 abbrev pub after_call : SeatModel → Call → Reply → SeatModel
 after_call s call reply = seen_seat s.number (s.log ++ history_entry s.number call reply ∷ [])
 
--- a refusal that a coordinator may answer to a call: out of memory, or the call's cause at some bounds
+-- a refusal that a coordinator may answer to a call: out of memory, or the call's cause at some bounds. That these bounds are the
+-- coordinator's is not said, since other threads change them: so HistoryFull may come at any time, and Trimmed with any floor
 abbrev pub MayRefuse : Call → Refusal → Type 0
 MayRefuse call refusal = (refusal ≡ OutOfMemory) ⊎ ((b : Bounds) × (refusal ≡ refusal_for b call))
 
--- what a call may be answered: what some coordinator answers to it that has so many entries at least
+-- what a call may be answered: what some coordinator answers to it that has so many entries at least. That it is the coordinator of
+-- the node is not said, since no clause sees what a lock has: an audit of the closed node finds it out
 pub record IsPossibleAnswer (least : ℕ) (call : Call) (answer : CallOutput) : Type 0 where
   pub state : State
   pub is : answer ≡ answer_to state call
   pub later : least ≤ length state.history
-
--- such a call is answered with nothing more than that it is done
-abbrev pub AnswersNothing : Call → Type 0
-AnswersNothing call = (s : State) → reply_to (answer_to s call) ≡ reply.Nothing
 
 -- so many seats, numbered from 1, that called nothing yet
 abbrev pub AreNew : ℕ → List SeatModel → Type 0
@@ -50,13 +47,13 @@ HasSeat number seats = (i : ℕ) × (s : SeatModel) × (slice_get seats i ≡ So
 abbrev pub IsMissing : ℕ → List SeatModel → ℕ → Type 0
 IsMissing n seats k = (0 < k) × (k < n + 1) × (¬ (HasSeat k seats)) × ((j : ℕ) → j + 1 < k → HasSeat (j + 1) seats)
 
--- the seat whose log it is
+-- the seat whose list it is
 abbrev pub seat_of : SeatLog → SeatModel
 seat_of l = seen_seat l.seat l.entries.items
 
 abbrev pub length_of : SeatLog → ℕ
 length_of l = length l.entries.items
 
--- the logs are in the order of the numbers of their seats, from 1
+-- the lists are in the order of the numbers of their seats, from 1
 abbrev pub AreNumbered : List SeatLog → Type 0
 AreNumbered logs = (i : ℕ) (l : SeatLog) → slice_get logs i ≡ Some l → l.seat ≡ i + 1

@@ -1,10 +1,14 @@
-//! Whether a closed node's history agrees with the lists of its seats: a linearization of their calls (Herlihy and
-//! Wing, 1990), by the order in which they held the lock.
+//! Whether a closed node's history agrees with its seats' lists, so that what threads did can be trusted afterwards.
+//!
+//! It shows a linearization of their calls (Herlihy and Wing, 1990), by the order in which they held the lock. Each
+//! seat's entries in the history must be its list, in order, and each entry must be of some seat. It only reads, and
+//! allocates nothing.
 ghost use Rattle.std.specs.Prelude.{◌≡◌, ◌∷◌, ◌<◌, ◌↔◌, ℕ, List, drop, slice_get, Some, IsTrue, IsOk, IfErr, OnOk, MatchOption};
 ghost use Rattle.fm_records.specs.declared.refusal.Refusal.TheVariants.{NotMine};
 ghost use Rattle.fm_coord.specs.declared.entry.Entry.{Entry as Listed};
 ghost use Rattle.fm_fleet.specs.declared.seat.SeatLog.{SeatLog as Log};
-ghost use Rattle.fm_fleet.specs.Audits.{of_seat, Matches, IsListed, IsAudited, IsLeastDiffering, IsNotAudited, StandInOne, lesser_of};
+ghost use Rattle.fm_fleet.specs.Audits.{of_seat, Matches, IsListed, IsAudited, IsLeastDiffering, IsNotAudited, StandInOne};
+ghost use Rattle.fm_fleet.specs.inner.FirstRefusal.{lesser_of};
 
 use crate::closing::Closed;
 use crate::seat::SeatLog;
@@ -55,7 +59,7 @@ fn after(history: &[Entry], base: usize) -> &[Entry]
     }
 }
 
-// Whether the seat's entries are the log.
+// Whether the seat's entries are those of the list.
 fn matches(made: &[Entry], log: &SeatLog) -> bool
     ensures { IsTrue result ↔ Matches made.now log.now }
 {
@@ -76,7 +80,7 @@ fn is_log(made: &[Entry], seat: u32, log: &[Entry]) -> bool
     rest.is_empty()
 }
 
-// What is left of a log after an entry. If the entry is the seat's, the log must go on with it.
+// What is left of a list after an entry. If the entry is the seat's, the list must go on with it.
 fn rest_after<'a>(seat: u32, entry: &Entry, log: &'a [Entry]) -> Option<&'a [Entry]>
     ensures { MatchOption result ((es : List Listed) → ¬ (of_seat seat (entry.now ∷ es) ≡ log.now))
         (λ left. (es : List Listed) → (of_seat seat (entry.now ∷ es) ≡ log.now) ↔ (of_seat seat es ≡ left.now)) }
@@ -96,7 +100,7 @@ fn rest_after<'a>(seat: u32, entry: &Entry, log: &'a [Entry]) -> Option<&'a [Ent
     }
 }
 
-// The least seat whose log is not what the entries have of it.
+// The least seat whose list is not what the entries have of it.
 fn least_differing(made: &[Entry], logs: &[SeatLog]) -> Option<u32>
     ensures { MatchOption result ((i : ℕ) (l : Log) → slice_get logs.now i ≡ Some l → Matches made.now l)
         (λ k. IsLeastDiffering made.now logs.now k) }
@@ -120,7 +124,7 @@ fn lesser(least: Option<u32>, seat: u32) -> u32
     }
 }
 
-// Whether some log is of the seat.
+// Whether some list is of the seat.
 fn is_listed(logs: &[SeatLog], seat: u32) -> bool
     ensures { IsTrue result ↔ IsListed logs.now seat }
 {

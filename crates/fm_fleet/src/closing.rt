@@ -1,4 +1,8 @@
-//! Closing a node: its coordinator, and the list of each seat.
+//! Closing a node: its coordinator, and the list of each seat, once all seats are back and nobody can call it any more.
+//!
+//! Each seat has a part of the ledger of calls. Joined, the parts account for all calls, so the history has grown by as
+//! many entries as the lists have together. Memory for it is reserved when the node is made, so closing allocates
+//! nothing.
 ghost use Rattle.std.specs.Prelude.{◌≡◌, ◌<◌, ◌≤◌, ◌+◌, ℕ, length, vec_len, vec_capacity, slice_get, Some, map, sum_by, MatchOption, IfOk, IfErr};
 ghost use Rattle.std.specs.List.Sorted.{IsPermutation};
 ghost use Rattle.fm_records.specs.declared.refusal.Refusal.TheVariants.{NotMine};
@@ -26,16 +30,6 @@ pub struct NotClosed<N: NetKeeper, L: NodeName> {
     pub refusal: Refusal,
     pub node: Node<N, L>,
     pub seats: Vec<Seat<L>>,
-}
-
-impl<N: NetKeeper, L: NodeName> NotClosed<N, L> {
-    /// The coordinator of the node that was not closed, with what its seats did. The seats are dropped. It allocates nothing.
-    pub fn into_coordinator(self) -> Coordinator<N> {
-        let NotClosed { node, .. } = self;
-        let Node { desk, .. } = node;
-        let LockedCoordinator { coordinator, .. } = desk.into_inner();
-        coordinator
-    }
 }
 
 /// Closes a node with all its seats, and returns their lists, by the numbers of the seats. The history has grown by

@@ -1,4 +1,8 @@
 //! What is under a node's lock: the coordinator, with the book of the calls that seats made.
+//!
+//! No contract of the lock says in which state a thread finds the coordinator. So a book is under it too, which counts
+//! exactly the entries of the history since the start. Each seat has a share of that count: a seat that made n calls
+//! knows that the history has at least n entries more.
 ghost use Rattle.std.specs.Prelude.{◌≡◌, ◌<◌, ◌≤◌, ◌+◌, length, IfOk, IfErr, OnOk, OnErr};
 ghost use Rattle.fm_coord.specs.Causes.{refusal_for};
 ghost use Rattle.fm_coord.specs.States.{bounds, history_entry, with_entry, after};
@@ -57,7 +61,8 @@ impl<N: NetKeeper, L: NodeName> LockedCoordinator<N, L> {
     pub fn see(&mut self, by: u32, share: &mut Share<L>) -> Result<TallyView, Refusal>
         requires { 0 < share.old.parts }
         ensures ok { IfOk result (λ sight. self.new.coordinator.state
-            ≡ with_entry self.old.coordinator.state (history_entry by Call.View (reply.Seen sight.at sight.knowledge))) }
+            ≡ with_entry self.old.coordinator.state
+            (history_entry by Call.View (reply.Seen sight.at sight.knowledge))) }
         ensures knowledge { IfOk result (λ sight. sight.knowledge ≡ self.old.coordinator.state.knowledge) }
         ensures tally { IfOk result (λ sight. TallyIsFor sight.knowledge sight.tally) }
         ensures later { IfOk result (λ sight. L.base + share.old.amount ≤ sight.at) }

@@ -1,9 +1,14 @@
 //! Nodes: coordinators that threads share, each by a seat of its own.
+//!
+//! Calls of one coordinator must come one after another, so a lock is held for each call alone, and never while a plan
+//! is made. What a seat keeps of a call, its copy and the place in its list, is allocated before the lock is taken. So
+//! once the coordinator accepted a call, nothing can fail, and history and list agree.
 ghost use Rattle.std.specs.Prelude.{◌≡◌, ◌<◌, ◌≤◌, ◌+◌, [], length, vec_len, vec_capacity, IfOk, IfErr, OnOk, OnErr};
 ghost use Rattle.fm_net.specs.Network.{net_of};
 ghost use Rattle.fm_coord.specs.Outputs.{reply_to};
 ghost use Rattle.fm_tally.specs.Tallies.{TallyIsFor};
-ghost use Rattle.fm_fleet.specs.Seats.{after_call, MayRefuse, IsPossibleAnswer, AnswersNothing, AreNew};
+ghost use Rattle.fm_fleet.specs.Seats.{after_call, MayRefuse, IsPossibleAnswer, AreNew};
+ghost use Rattle.fm_fleet.specs.inner.PlainCalls.{AnswersNothing};
 
 use crate::locked_coordinator::LockedCoordinator;
 use crate::owners::{another, listed};

@@ -1,4 +1,6 @@
-//! One more owner of an answer.
+//! One more owner of an answer, which must not fail: the call is accepted already.
+//!
+//! Nothing but the count of owners can run out, near 2^63. Then it waits until another owner is gone.
 ghost use Rattle.std.specs.Prelude.{◌≡◌};
 ghost use Rattle.fm_coord.specs.Outputs.{reply_to};
 

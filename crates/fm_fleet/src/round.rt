@@ -1,18 +1,17 @@
 //! Rounds in threads: a view is planned for while the node is unlocked, and the plan is committed.
+//!
+//! A plan may take long, and other threads go on meanwhile. What they did can make entries of the plan void, which
+//! admission finds when the plan is committed: optimistic concurrency control (Kung and Robinson, 1981).
 ghost use Rattle.std.specs.Prelude.{◌≡◌, IfOk, IfErr};
-ghost use Rattle.fm_net.specs.Network.{net_of};
-ghost use Rattle.fm_round.specs.Schedules.{IsPlanOf};
 ghost use Rattle.fm_fleet.specs.Rounds.{IsRound, IsRefusedRound};
 
 use crate::node::Node;
 use crate::seat::{NodeName, Seat};
 use fm_coord::shared::Shared;
-use fm_coord::view::View;
-use fm_planner::network_plan::least_plan;
 use fm_planner::plan_source;
 use fm_policy::keeper::NetKeeper;
 use fm_records::refusal::Refusal;
-use fm_round::plan::{Admitted, Plan};
+use fm_round::plan::Admitted;
 use std::alloc::Global;
 use std::sync::Wait;
 
@@ -51,14 +50,4 @@ pub fn run_round<N: NetKeeper, L: NodeName, G: Gate, R: Wait>(
         return Err(Refusal::OutOfMemory);
     };
     node.commit(rt, seat, made.plan)
-}
-
-/// The plan of a least flow of the network that was seen. The caller must ensure that the network is that of the
-/// knowledge, as in each view. Refused only if memory runs out.
-pub fn plan_for(alloc: Global, view: &View) -> Result<Plan, Refusal>
-    requires { view.now.network ≡ net_of view.now.knowledge }
-    ensures ok { IfOk result (λ plan. IsPlanOf view.now.knowledge plan) }
-    ensures err { IfErr result (λ refusal. refusal ≡ Refusal.OutOfMemory) }
-{
-    least_plan(alloc, view.knowledge.get(), view.network.get())
 }

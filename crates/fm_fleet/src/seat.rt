@@ -1,4 +1,7 @@
-//! Seats: the right to call a node, and the answers.
+//! Seats: the right of one thread to call a node, with the list of its accepted calls.
+//!
+//! There are as many seats as the node was made with, and each is used by one thread at a time. So calls under a number
+//! are all in one list, in order, and the lists can be compared with the history afterwards (`audit`).
 ghost use Rattle.std.specs.Prelude.{◌≡◌, ℕ};
 
 use fm_coord::entry::Entry;

@@ -1,4 +1,7 @@
-//! The solver.
+//! The solver: least flows with potentials that certify them, whatever the heuristics answer.
+//!
+//! A heuristic gives a first flow, which in most cases is least already. Cycle cancelling (Klein, 1967) confirms that,
+//! or improves the flow until it is least. So a fault in a heuristic costs time, and never gives a wrong flow.
 
 ghost use Rattle.std.specs.Prelude.{◌≡◌, IfOk, IfErr};
 ghost use Rattle.fm_certificate.specs.PolicyNetwork.{IsBuilt};

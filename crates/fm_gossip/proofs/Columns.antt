@@ -23,7 +23,7 @@ pub on_ok : {T E : Type 0} {P Q : Type 0} (r : Result T E) → (P → Q) → OnO
 on_ok (Ok x) f h = f h
 on_ok (Err e) f h = h
 
--- the last door of one member, and then those of the members after it
+-- the last port of one member, and then those of the members after it
 pub column_step : (coords : List Passed) (ports : List (List PortModel)) (m : Passed) (ms : List Passed) (qs now : List PortModel) (qss nows : List (List PortModel)) (old mid new : List PortModel) → coords ≡ m ∷ ms → ports ≡ qs ∷ qss
     → ((ps : List PortModel) (q : PortModel) → qs ≡ ps ++ q ∷ [] → (now ≡ ps) × (mid ≡ old ++ q ∷ []))
     → ((at : ℕ) (bs : List InboxModel) (b : InboxModel) → AreUsed at (bs ++ b ∷ []) ms qss → AreUsed at bs ms nows × (new ≡ mid ++ column (length bs) at b ms))
@@ -123,11 +123,11 @@ all_closed bs ms ports none closed = λ i m there. closed.passed i m (omega (ari
 pub none_closed : (bs : List InboxModel) (ms : List Passed) (ports : List (List PortModel)) → length bs ≡ length ms → AreUsed 0 bs ms ports → AreClosed bs ms ports
 none_closed bs ms ports long used = record { used = used; passed = λ i m le there. absurd (omega (arith, le, long, slice_get_within ms i m there)) }
 
-pub its_doors : {D : Type 0} (port : D → PortModel) (ds : List D) (own : ℕ) (b : InboxModel) (ms : List Passed) → map port ds ≡ column own 0 b ms → All (λ d. IsPortOf b (port d)) ds
-its_doors port [] own b ms is = All-nil (λ d. IsPortOf b (port d))
-its_doors port (d ∷ ds) own b ms is = all_of port (IsPortOf b) (d ∷ ds) (subst (All (IsPortOf b)) (sym is) (column_ports own 0 b ms))
+pub its_ports : {D : Type 0} (port : D → PortModel) (ds : List D) (own : ℕ) (b : InboxModel) (ms : List Passed) → map port ds ≡ column own 0 b ms → All (λ d. IsPortOf b (port d)) ds
+its_ports port [] own b ms is = All-nil (λ d. IsPortOf b (port d))
+its_ports port (d ∷ ds) own b ms is = all_of port (IsPortOf b) (d ∷ ds) (subst (All (IsPortOf b)) (sym is) (column_ports own 0 b ms))
 
--- what taking the last doors comes to
+-- what taking the last ports comes to
 pub taken_now : (whole bs : List InboxModel) (b : InboxModel) (ms now : List Passed) (ports before nows : List (List PortModel)) (none col : List PortModel) → whole ≡ bs ++ b ∷ [] → now ≡ ms → before ≡ ports → none ≡ [] → AreClosed whole ms ports
     → ((at : ℕ) (bs : List InboxModel) (b : InboxModel) → AreUsed at (bs ++ b ∷ []) now before → AreUsed at bs now nows × (col ≡ none ++ column (length bs) at b now))
     → AreUsed 0 bs ms nows × (col ≡ column (length bs) 0 b ms)
@@ -179,7 +179,7 @@ length-put_past : (own at : ℕ) (p : Packet) (qs : List PortModel) → length (
 length-put_past own at p [] = refl
 length-put_past own at p (q ∷ qs) = ap suc (length-put_past own (at + 1) p qs)
 
--- what a member's doors are once it passed its packet on and got those of the others
+-- what a member's ports are once it passed its packet on and got those of the others
 pub passed_through : {D : Type 0} (port : D → PortModel) (before puts : List D) (own : ℕ) (its last : D) (p : Packet) (got : List Packet) → own < length before → its ≡ get_or puts own its → map port puts ≡ put_past own 0 p (map port before) → port last ≡ after_takes (port its) got
     → (bs : List InboxModel) → map port before ≡ map new_port bs → map port (set puts own last) ≡ used_ports own 0 (passing (p ∷ []) got) bs
 passed_through port before puts own its last p got within is put took bs new =

@@ -9,7 +9,8 @@ use Rattle.fm_coord.specs.States.{State}
 use Rattle.fm_fleet.specs.declared.seat.SeatLog.{SeatLog}
 use Rattle.fm_fleet.specs.Seats.{SeatModel, seen_seat, seat_of, HasSeat, IsMissing, AreNumbered}
 use Rattle.fm_fleet.specs.Audits.{of_seat, StandInOne}
-use Rattle.fm_gossip.specs.Served.{IsEnded, seat_in}
+use Rattle.fm_gossip.specs.Served.{seat_in}
+use Rattle.fm_gossip.specs.inner.EndedMember.{IsEnded}
 
 -- the log whose seat is among those that the logs have
 log_of : (logs : List SeatLog) (seat : SeatModel) → Contains (map seat_of logs) seat → (k : ℕ) × (l : SeatLog) × (slice_get logs k ≡ Some l) × (seat_of l ≡ seat)

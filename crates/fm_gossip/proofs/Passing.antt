@@ -54,8 +54,8 @@ of_intake s u t tells others p merged cut empty =
     let merges : merges_in t.log ≡ merged.packets = ap (λ (z : SeatModel). merges_in z.log) merged.merges ∙ merged_merges u merged.packets ∙ ap (λ z. z ++ merged.packets) none in
     λ i. passing (cuts i) (merges i)
 
-pub doors_after : (place : ℕ) (s u t : SeatModel) (tells : List Op) (others : List ℕ) (p given : Packet) (merged : AreMerged others u t) (before after wrote : List PortModel) → u ≡ after_call (all_told s tells) (call.Cut Full) (reply.Packet p) → given ≡ p → after ≡ wrote
+pub ports_after : (place : ℕ) (s u t : SeatModel) (tells : List Op) (others : List ℕ) (p given : Packet) (merged : AreMerged others u t) (before after wrote : List PortModel) → u ≡ after_call (all_told s tells) (call.Cut Full) (reply.Packet p) → given ≡ p → after ≡ wrote
     → ((bs : List InboxModel) → before ≡ map new_port bs → wrote ≡ used_ports place 0 (passing (given ∷ []) merged.packets) bs)
     → (bs : List InboxModel) → s.log ≡ [] → before ≡ map new_port bs → after ≡ used_ports place 0 (passed_in t) bs
-doors_after place s u t tells others p given merged before after wrote cut same is used bs empty new =
+ports_after place s u t tells others p given merged before after wrote cut same is used bs empty new =
     is ∙ used bs new ∙ ap (λ q. used_ports place 0 (passing (q ∷ []) merged.packets) bs) same ∙ ap (λ m. used_ports place 0 m bs) (sym (of_intake s u t tells others p merged cut empty))

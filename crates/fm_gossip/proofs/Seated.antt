@@ -10,7 +10,8 @@ use Rattle.fm_coord.specs.declared.entry.Range.TheVariants.{Full}
 use Rattle.fm_coord.specs.declared.entry.Call.TheVariants as call
 use Rattle.fm_coord.specs.declared.entry.Reply.TheVariants as reply
 use Rattle.fm_fleet.specs.Seats.{SeatModel, after_call}
-use Rattle.fm_gossip.specs.Served.{Task, member_task, all_told, all_merged, AreRounds, IsIntake, IsEnded, IsServed, new_seat, seat_in}
+use Rattle.fm_gossip.specs.Served.{Task, member_task, all_told, all_merged, AreRounds, IsIntake, IsServed, new_seat, seat_in}
+use Rattle.fm_gossip.specs.inner.EndedMember.{IsEnded}
 use Rattle.fm_gossip.specs.Passing.{passed_in}
 use Rattle.fm_gossip.specs.inner.Used.{new_port, used_ports}
 use Rattle.fm_gossip.specs.inner.Works.{WorkModel, work, done_work, IsDone}

@@ -16,7 +16,8 @@ use Rattle.fm_coord.specs.Causes.{Bounds, first_some, refusal_for}
 use Rattle.fm_fleet.specs.Seats.{SeatModel, MayRefuse}
 use Rattle.fm_round.specs.Schedules.{IsPlanOf}
 use Rattle.fm_fleet.specs.Rounds.{IsRefusedRound}
-use Rattle.fm_gossip.specs.FleetFaults.{may_stop, may_be_first}
+use Rattle.fm_gossip.specs.FleetFaults.{may_stop}
+use Rattle.fm_gossip.specs.inner.FirstFaults.{may_be_first}
 
 of_room : (full : Bool) → IsTrue (may_stop (or_else OutOfMemory (first_some None (when full HistoryFull))))
 of_room true = refl

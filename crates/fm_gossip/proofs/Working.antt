@@ -7,7 +7,7 @@ use Rattle.fm_gossip.specs.Served.{AreServed}
 use Rattle.fm_gossip.specs.Members.{MemberModel, but_for, task_of}
 use Rattle.fm_gossip.specs.Passing.{passed_at}
 use Rattle.fm_gossip.specs.inner.Used.{new_port, AreUsed}
-use Rattle.fm_gossip.specs.inner.Works.{WorkModel, MemberEndModel, LinksModel, links, links_of, HaveOut, HaveDoors, linked_work, linked_works, works_of, AreDone, IsDoneUnless, AreDoneUnless, NoneRefused}
+use Rattle.fm_gossip.specs.inner.Works.{WorkModel, MemberEndModel, LinksModel, links, links_of, HaveOut, HavePorts, linked_work, linked_works, works_of, AreDone, IsDoneUnless, AreDoneUnless, NoneRefused}
 
 -- the links of one member more are made
 pub next_links : (numbers : List ℕ) (bs now : List InboxModel) (before more : List LinksModel) (n k : ℕ) (m : MemberModel) (its rest whole : List MemberModel) (l : LinksModel) → its ≡ m ∷ rest → more ≡ before ++ l ∷ [] → l ≡ links (but_for m.number numbers) n (map new_port bs) → now ≡ bs → k ≡ n + 1
@@ -118,17 +118,17 @@ module _ (numbers : List ℕ) (rounds : ℕ) (bs : List InboxModel) (ms : List M
   pub as_many : length ds ≡ length ms
   as_many = count_of numbers rounds bs 0 ms ds done_unless
 
--- inboxes of which fewer doors are out than they have ports have a door each
-pub have_doors : (ports out : ℕ) (bs : List PortPoolModel) → out < ports → HaveOut ports out bs → HaveDoors bs
-have_doors ports out [] fewer h = tt
-have_doors ports out (b ∷ bs) fewer h = (rw (h.0, h.1) fewer, have_doors ports out bs fewer h.2)
+-- inboxes of which fewer ports are out than they have ports have a port each
+pub have_ports : (ports out : ℕ) (bs : List PortPoolModel) → out < ports → HaveOut ports out bs → HavePorts bs
+have_ports ports out [] fewer h = tt
+have_ports ports out (b ∷ bs) fewer h = (rw (h.0, h.1) fewer, have_ports ports out bs fewer h.2)
 
 -- one inbox more
 pub have_out_last : (ports out : ℕ) (bs : List PortPoolModel) (b : PortPoolModel) → HaveOut ports out bs → b.inbox.ports ≡ ports → b.out ≡ out → HaveOut ports out (bs ++ b ∷ [])
 have_out_last ports out [] b h many some_out = (many, some_out, tt)
 have_out_last ports out (c ∷ bs) b h many some_out = (h.0, h.1, have_out_last ports out bs b h.2 many some_out)
 
--- the last inbox of which all doors are out
+-- the last inbox of which all ports are out
 pub last_out : (ports out : ℕ) (bs whole : List PortPoolModel) (b : PortPoolModel) → whole ≡ bs ++ b ∷ [] → HaveOut ports out whole → HaveOut ports out bs × (b.inbox.ports ≡ ports)
 last_out ports out bs whole b is h = parted bs (subst (HaveOut ports out) is h) where
   parted : (bs : List PortPoolModel) → HaveOut ports out (bs ++ b ∷ []) → HaveOut ports out bs × (b.inbox.ports ≡ ports)

@@ -32,6 +32,6 @@ told_by_others ps s = merged_in s (of_others s.number ps)
 abbrev pub after_exchange : List State → List State
 after_exchange ss = map (told_by_others (map whole_packet ss)) (map cut_off ss)
 
--- why an exchange is refused: memory ran out, or a history is full
+-- by which numbers an exchange is refused: out of memory, or a full history. That a history is full is not said
 abbrev pub StopsExchange : Refusal → Type 0
 StopsExchange r = (r ≡ OutOfMemory) ⊎ (r ≡ HistoryFull)

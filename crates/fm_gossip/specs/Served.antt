@@ -69,14 +69,6 @@ new_seat number = seen_seat number []
 abbrev pub seat_in : List Entry → ℕ → SeatModel
 seat_in history number = seen_seat number (of_seat number history)
 
--- the history of a coordinator is legal, and each entry is one of the first two of these seats; each of them has its own entries
-pub record IsEnded (n most : ℕ) (seats : List SeatModel) (s : State) : Type 0 where
-  pub number : s.number ≡ n
-  pub limit : s.limit ≡ most
-  pub legal : IsLegal (opening s.number s.limit) s.history
-  pub seats_match : (i : ℕ) (seat : SeatModel) → slice_get seats i ≡ Some seat → seat ≡ seat_in s.history seat.number
-  pub no_other : (i : ℕ) (e : Entry) → slice_get s.history i ≡ Some e → (e.by ≡ 1) ⊎ (e.by ≡ 2)
-
 -- a coordinator did what it was to do: each entry of its legal history is of seat 1, its intake, or of seat 2, its rounds
 pub record IsServed (t : Task) (s : State) : Type 0 where
   pub number : s.number ≡ t.number

@@ -1,4 +1,7 @@
-//! Coordinators that exchange all that they know: anti-entropy, one round with complete states.
+//! Coordinators that exchange all that they know: anti-entropy (Demers et al., 1987), one round with complete states.
+//!
+//! Each cuts all that it knows before any of them merges, so that afterwards all know the same, whatever they knew
+//! before.
 ghost use Rattle.std.specs.Prelude.{◌≡◌, ◌++◌, map, IfErr, OnOk};
 ghost use Rattle.fm_gossip.specs.Exchanges.{whole_packet, cut_off, merged_in, of_others, told_by_others, after_exchange, StopsExchange};
 

@@ -1,4 +1,8 @@
-//! Intakes: what a coordinator's first thread does.
+//! Intakes: what a coordinator's first thread does, which tells its operations and exchanges packets with all others.
+//!
+//! It puts its packet into all other inboxes before it waits for theirs, so no two intakes wait for each other. It
+//! awaits one packet of each other coordinator, and refuses any other packet. It counts the rings of the bell before it
+//! looks into its inbox, and waits for one more if that is empty, so that no packet is missed.
 ghost use Rattle.std.specs.Prelude.{◌≡◌, ◌+◌, ◌<◌, ◌^◌, ℕ, List, [], ◌∷◌, length, map, cond, vec_len, slice_get, Some, None, IsTrue, IfOk, IfErr, IfSome, OnOk, MatchOption};
 ghost use Rattle.fm_inbox.specs.Ports.{InboxModel, after_put, after_take};
 ghost use Rattle.fm_gossip.specs.Served.{all_told, IsFirst, IsIntake, AreMerged};
@@ -18,20 +22,20 @@ use fm_records::ops::Op;
 use fm_records::refusal::Refusal;
 use std::sync::Wait;
 
-/// What is to be told, from which others a packet comes, and a door to each inbox; the coordinator's own is at the place.
+/// What is to be told, from which others a packet comes, and a port to each inbox; that of its own is at index `place`.
 #[derive(Drop)]
 pub(crate) struct Intake {
     pub(crate) tells: Vec<Op>,
     pub(crate) senders: Vec<CoordId>,
     pub(crate) place: usize,
-    pub(crate) doors: Vec<OwnedPort>,
+    pub(crate) ports: Vec<OwnedPort>,
 }
 
-/// What an intake leaves: its seat, its doors, and why it ended early, if it did.
+/// What an intake leaves: its seat, its ports, and why it ended early, if it did.
 #[derive(Drop)]
 pub(crate) struct Taken<L: NodeName> {
     pub(crate) seat: Seat<L>,
-    pub(crate) doors: Vec<OwnedPort>,
+    pub(crate) ports: Vec<OwnedPort>,
     pub(crate) refusal: Option<Refusal>,
 }
 
@@ -45,11 +49,11 @@ pub(crate) fn take_in<N: NetKeeper, L: NodeName, R: Wait>(
     intake: Intake,
     halt: &StopSignal,
 ) -> Taken<L>
-    requires { intake.place < vec_len intake.doors }
+    requires { intake.place < vec_len intake.ports }
     ensures intake { result.refusal ≡ None → IsIntake intake.tells.items intake.senders.items seat result.seat }
-    ensures doors { result.refusal ≡ None → (bs : List InboxModel) → seat.log ≡ []
-        → map (λ d. d.port) intake.doors.items ≡ map new_port bs
-        → map (λ d. d.port) result.doors.items ≡ used_ports intake.place 0 (passed_in result.seat) bs }
+    ensures ports { result.refusal ≡ None → (bs : List InboxModel) → seat.log ≡ []
+        → map (λ d. d.port) intake.ports.items ≡ map new_port bs
+        → map (λ d. d.port) result.ports.items ≡ used_ports intake.place 0 (passed_in result.seat) bs }
     ensures number { result.seat.number ≡ seat.number }
     ensures cause { IfSome result.refusal (λ refusal. IsTrue (may_stop refusal)) }
 {
@@ -57,21 +61,21 @@ pub(crate) fn take_in<N: NetKeeper, L: NodeName, R: Wait>(
         tells,
         senders,
         place,
-        mut doors,
+        mut ports,
     } = intake;
     match exchange(
-        rt, node, &mut seat, &tells, senders, &mut doors, place, halt,
+        rt, node, &mut seat, &tells, senders, &mut ports, place, halt,
     ) {
         Ok(()) => Taken {
             seat,
-            doors,
+            ports,
             refusal: None,
         },
         Err(refusal) => {
             halt.stop(rt, refusal);
             Taken {
                 seat,
-                doors,
+                ports,
                 refusal: Some(refusal),
             }
         }
@@ -86,21 +90,21 @@ fn exchange<N: NetKeeper, L: NodeName, R: Wait>(
     seat: &mut Seat<L>,
     tells: &[Op],
     senders: Vec<CoordId>,
-    doors: &mut [OwnedPort],
+    ports: &mut [OwnedPort],
     place: usize,
     halt: &StopSignal,
 ) -> Result<(), Refusal>
-    requires { place < length doors.old }
+    requires { place < length ports.old }
     ensures intake { OnOk result (IsIntake tells.now senders.items seat.old seat.new) }
-    ensures doors { OnOk result ((bs : List InboxModel) → seat.old.log ≡ []
-        → map (λ d. d.port) doors.old ≡ map new_port bs
-        → map (λ d. d.port) doors.new ≡ used_ports place 0 (passed_in seat.new) bs) }
+    ensures ports { OnOk result ((bs : List InboxModel) → seat.old.log ≡ []
+        → map (λ d. d.port) ports.old ≡ map new_port bs
+        → map (λ d. d.port) ports.new ≡ used_ports place 0 (passed_in seat.new) bs) }
     ensures number { seat.new.number ≡ seat.old.number }
     ensures cause { IfErr result (λ refusal. IsTrue (may_stop refusal)) }
 {
     tell_all(rt, node, seat, tells)?;
     let packet = node.cut(rt, seat, Range::Full)?;
-    pass_on(rt, node, seat, doors, place, packet.get(), senders, halt)
+    pass_on(rt, node, seat, ports, place, packet.get(), senders, halt)
 }
 
 // Tells all operations, in order.
@@ -128,57 +132,57 @@ fn pass_on<N: NetKeeper, L: NodeName, R: Wait>(
     rt: &R,
     node: &Node<N, L>,
     seat: &mut Seat<L>,
-    doors: &mut [OwnedPort],
+    ports: &mut [OwnedPort],
     place: usize,
     packet: &Packet,
     senders: Vec<CoordId>,
     halt: &StopSignal,
 ) -> Result<(), Refusal>
-    requires { place < length doors.old }
+    requires { place < length ports.old }
     ensures merged { OnOk result ((merged : AreMerged senders.items seat.old seat.new)
-        × ((bs : List InboxModel) → map (λ d. d.port) doors.old ≡ map new_port bs
-        → map (λ d. d.port) doors.new ≡ used_ports place 0 (passing (packet.now ∷ []) merged.packets) bs)) }
+        × ((bs : List InboxModel) → map (λ d. d.port) ports.old ≡ map new_port bs
+        → map (λ d. d.port) ports.new ≡ used_ports place 0 (passing (packet.now ∷ []) merged.packets) bs)) }
     ensures number { seat.new.number ≡ seat.old.number }
     ensures cause { IfErr result (λ refusal. IsTrue (may_stop refusal)) }
 {
-    put_all(rt, doors, 0, place, packet)?;
+    put_all(rt, ports, 0, place, packet)?;
     halt.ring(rt);
-    merge_all(rt, node, seat, &mut doors[place], senders, halt)
+    merge_all(rt, node, seat, &mut ports[place], senders, halt)
 }
 
-// Puts a copy through each door but the one at the place `own`. The first door is at the place `at`.
+// Puts a copy through each port but the one at the index `own`. The first port is at the index `at`.
 fn put_all<R: Wait>(
     rt: &R,
-    doors: &mut [OwnedPort],
+    ports: &mut [OwnedPort],
     at: usize,
     own: usize,
     packet: &Packet,
 ) -> Result<(), Refusal>
-    requires { at + length doors.old < 2 ^ 64 }
-    ensures put { OnOk result (map (λ d. d.port) doors.new ≡ put_past own at packet.now (map (λ d. d.port) doors.old)) }
+    requires { at + length ports.old < 2 ^ 64 }
+    ensures put { OnOk result (map (λ d. d.port) ports.new ≡ put_past own at packet.now (map (λ d. d.port) ports.old)) }
     ensures cause { IfErr result (λ refusal. IsTrue (may_stop refusal)) }
 {
-    let Some((door, rest)) = doors.split_first_mut() else {
+    let Some((port, rest)) = ports.split_first_mut() else {
         return Ok(());
     };
-    put_unless(rt, at == own, door, packet)?;
+    put_unless(rt, at == own, port, packet)?;
     put_all(rt, rest, at + 1, own, packet)
 }
 
-// Puts a copy through the door, unless that is the member's own.
+// Puts a copy through the port, unless that is the member's own.
 fn put_unless<R: Wait>(
     rt: &R,
     is_own: bool,
-    door: &mut OwnedPort,
+    port: &mut OwnedPort,
     packet: &Packet,
 ) -> Result<(), Refusal>
-    ensures put { OnOk result (door.new.port ≡ cond is_own door.old.port (after_put door.old.port packet.now)) }
+    ensures put { OnOk result (port.new.port ≡ cond is_own port.old.port (after_put port.old.port packet.now)) }
     ensures cause { IfErr result (λ refusal. IsTrue (may_stop refusal)) }
 {
     if is_own {
         return Ok(());
     }
-    match door.put(rt, packet.copy()?) {
+    match port.put(rt, packet.copy()?) {
         Ok(()) => Ok(()),
         Err(fault) => Err(fault.refusal),
     }
@@ -201,7 +205,7 @@ fn merge_all<N: NetKeeper, L: NodeName, R: Wait>(
 {
     while !awaited.is_empty() {
         let packet = next_packet(rt, own, halt)?;
-        let Some(place) = place_of(&awaited, &packet) else {
+        let Some(place) = index_of(&awaited, &packet) else {
             let sender = packet.sender.value();
             return Err(Refusal::NotMine(u32::from(sender)));
         };
@@ -211,8 +215,8 @@ fn merge_all<N: NetKeeper, L: NodeName, R: Wait>(
     Ok(())
 }
 
-// Where the packet's sender stands among those that are awaited, if the packet is the first that it cut.
-fn place_of(awaited: &[CoordId], packet: &Packet) -> Option<usize>
+// The index of the packet's sender among those that are awaited, if the packet is the first that it cut.
+fn index_of(awaited: &[CoordId], packet: &Packet) -> Option<usize>
     ensures { MatchOption result
         (IsFirst packet.now → (i : ℕ) → ¬ (slice_get awaited.now i ≡ Some packet.now.sender))
         (λ i. IsFirst packet.now × (slice_get awaited.now i ≡ Some packet.now.sender)) }

@@ -1,4 +1,6 @@
-//! Closing the inboxes of a fleet.
+//! Closing the inboxes of a fleet, with what each member leaves: no packet may be left in any of them.
+//!
+//! Each member leaves a port of each inbox, and an inbox closes only with all of them.
 ghost use Rattle.std.specs.Prelude.{◌≡◌, ◌+◌, ◌++◌, ◌∷◌, [], List, ℕ, length, map, vec_len, All, IsTrue, IfOk, IfErr, OnOk};
 ghost use Rattle.fm_inbox.specs.Ports.{InboxModel, PortModel, IsPortOf, all_put, all_taken};
 ghost use Rattle.fm_inbox.specs.Conservation.{SamePackets};
@@ -15,11 +17,11 @@ use std::alloc::Global;
 use std::marker::Model;
 use std::sync::Wait;
 
-/// What a member leaves: its coordinator, its doors, by the places of their inboxes, and why it ended early, if it did.
+/// What a member leaves: its coordinator, its ports, by the index of their inboxes, and why it ended early, if it did.
 #[derive(Drop)]
 pub(crate) struct MemberEnd<N: NetKeeper> {
     pub(crate) coordinator: Coordinator<N>,
-    pub(crate) doors: Vec<OwnedPort>,
+    pub(crate) ports: Vec<OwnedPort>,
     pub(crate) refusal: Option<Refusal>,
 }
 
@@ -30,12 +32,12 @@ impl<N: NetKeeper> Model for MemberEnd<N> {
 
     ghost Value = { MemberEndModel };
 
-    ghost view = { λ d. done_work d.coordinator.state (map (λ e. e.port) d.doors.items) d.refusal };
+    ghost view = { λ d. done_work d.coordinator.state (map (λ e. e.port) d.ports.items) d.refusal };
 
     ghost invariant = { λ d. IfSome d.refusal (λ refusal. IsTrue (may_stop refusal)) };
 }
 
-/// Closes each inbox with its doors: each packet that was put was taken once. The coordinators stay with the caller.
+/// Closes each inbox with its ports: each packet that was put was taken once. The coordinators stay with the caller.
 /// NotMine(0) if a packet is left; OutOfMemory.
 pub(crate) fn close_all<N: NetKeeper + Drop, R: Wait>(
     rt: &R,
@@ -59,9 +61,9 @@ pub(crate) fn close_all<N: NetKeeper + Drop, R: Wait>(
     Ok(())
 }
 
-// Closes an inbox with all its doors. NotMine(0) if a packet is left.
+// Closes an inbox with all its ports. NotMine(0) if a packet is left.
 fn close_one<R: Wait>(rt: &R, inbox: PortPool, out: Vec<OwnedPort>) -> Result<(), Refusal>
-    requires doors { All (λ d. IsPortOf inbox.inbox d.port) out.items }
+    requires ports { All (λ d. IsPortOf inbox.inbox d.port) out.items }
     requires all { vec_len out ≡ inbox.inbox.ports }
     ensures same { OnOk result (SamePackets (all_put (map (λ d. d.port) out.items))
         (all_taken (map (λ d. d.port) out.items))) }
@@ -77,7 +79,7 @@ fn close_one<R: Wait>(rt: &R, inbox: PortPool, out: Vec<OwnedPort>) -> Result<()
     }
 }
 
-// Takes the last door of each.
+// Takes the last port of each.
 fn take_last<N: NetKeeper + Drop>(
     dones: &mut [MemberEnd<N>],
     out: &mut Vec<OwnedPort>,
@@ -93,20 +95,21 @@ fn take_last<N: NetKeeper + Drop>(
     let Some((first, rest)) = dones.split_first_mut() else {
         return Ok(());
     };
-    take_door(&mut first.doors, out)?;
+    take_port(&mut first.ports, out)?;
     take_last(rest, out)
 }
 
-// Takes the last of the doors, if there is one.
-fn take_door(doors: &mut Vec<OwnedPort>, out: &mut Vec<OwnedPort>) -> Result<(), Refusal>
-    ensures taken { OnOk result ((qs : List PortModel) (q : PortModel) → map (λ e. e.port) doors.old.items ≡ qs ++ q ∷ []
-        → (map (λ e. e.port) doors.new.items ≡ qs) × (map (λ e. e.port) out.new.items
+// Takes the last of the ports, if there is one.
+fn take_port(ports: &mut Vec<OwnedPort>, out: &mut Vec<OwnedPort>) -> Result<(), Refusal>
+    ensures taken { OnOk result ((qs : List PortModel) (q : PortModel)
+        → map (λ e. e.port) ports.old.items ≡ qs ++ q ∷ []
+        → (map (λ e. e.port) ports.new.items ≡ qs) × (map (λ e. e.port) out.new.items
         ≡ map (λ e. e.port) out.old.items ++ q ∷ [])) }
     ensures cause { IfErr result (λ refusal. IsTrue (may_stop refusal)) }
 {
-    let Some(door) = doors.pop() else {
+    let Some(port) = ports.pop() else {
         return Ok(());
     };
-    out.push(door)?;
+    out.push(port)?;
     Ok(())
 }

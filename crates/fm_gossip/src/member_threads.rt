@@ -1,4 +1,8 @@
-//! Coordinators that run at the same time.
+//! Coordinators that run at the same time, each in two threads, and come back whatever happens.
+//!
+//! If a thread cannot be made or something is refused, the fleet is stopped, all threads end in time, and each
+//! coordinator is returned with what its seats did. Memory for what they leave is reserved before the first thread, so
+//! that all coordinators can be returned.
 ghost use Rattle.std.specs.Prelude.{◌≡◌, ◌⊎◌, ◌≤◌, [], None, length, map, vec_len, vec_capacity, IsTrue, IfOk, IfErr, IfSome, IfNone, OnOk, IsOkUnless};
 ghost use Rattle.fm_gossip.specs.Served.{AreServed};
 ghost use Rattle.fm_gossip.specs.Members.{member_number, member_tasks};
@@ -24,7 +28,8 @@ use std::thread;
 use std::thread::{PromisedHandle, Scope, Threads};
 
 /// Why a fleet was refused, and what was passed: the members, if no thread was started, and else the coordinators, as
-/// listed, each with what its seats did until then. The other list is empty.
+/// listed, each with what its seats did until then. The other list is empty. Contracts say how many come back, and not
+/// that the coordinators are those that were passed.
 #[derive(Drop)]
 pub struct FleetFault<N: NetKeeper, G> {
     pub refusal: Refusal,

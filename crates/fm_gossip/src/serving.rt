@@ -1,10 +1,14 @@
-//! One coordinator's node, made, used by two threads, closed and audited.
+//! One coordinator's node, made, used by two threads, closed and audited, so that a thread can promise what it did.
+//!
+//! The lock forgets which coordinator it has. So the audit compares the history with what both seats kept, and number
+//! and limit are compared with those of the coordinator that was passed.
 ghost use Rattle.std.specs.Prelude.{◌≡◌, ◌<◌, ◌≤◌, List, [], Some, None, map, vec_len, vec_capacity, IsTrue, IfSome};
 ghost use Rattle.fm_inbox.specs.Ports.{InboxModel};
 ghost use Rattle.fm_records.specs.declared.refusal.Refusal.TheVariants.{OutOfMemory};
 ghost use Rattle.fm_fleet.specs.Audits.{StandInOne};
 ghost use Rattle.fm_fleet.specs.Seats.{AreNew, HasSeat};
-ghost use Rattle.fm_gossip.specs.Served.{IsIntake, AreRounds, new_seat, IsEnded};
+ghost use Rattle.fm_gossip.specs.Served.{IsIntake, AreRounds, new_seat};
+ghost use Rattle.fm_gossip.specs.inner.EndedMember.{IsEnded};
 ghost use Rattle.fm_gossip.specs.Passing.{passed_in};
 ghost use Rattle.fm_gossip.specs.inner.Used.{new_port, used_ports};
 ghost use Rattle.fm_coord.specs.Causes.{first_some};
@@ -34,7 +38,7 @@ use std::sync::ledger::Blank;
 use std::thread;
 use std::thread::{Promise, Threads};
 
-/// That a coordinator comes back, with its doors, which did what it was to do unless it ended early.
+/// That a coordinator comes back, with its ports, which did what it was to do unless it ended early.
 #[derive(Drop)]
 pub(crate) struct Served<N: NetKeeper, G>(pub(crate) Snapshot<Work<N, G>>);
 
@@ -45,7 +49,7 @@ impl<N: NetKeeper, G> Promise<MemberEnd<N>> for Served<N, G> {
 }
 
 /// Does the work with a node whose name this call picks. If something is refused, the fleet is stopped; the coordinator
-/// and the doors come back in any case.
+/// and the ports come back in any case.
 pub(crate) fn serve_one<
     'x,
     N: NetKeeper + Send + Drop,
@@ -96,7 +100,7 @@ fn serve<
     let Used {
         one,
         two,
-        doors,
+        ports,
         refusal,
     } = used;
     room.push_reserved(one);
@@ -104,7 +108,7 @@ fn serve<
     let (coordinator, fault) = end(node, room, number, limit);
     MemberEnd {
         coordinator,
-        doors,
+        ports,
         refusal: first_of(refusal, fault),
     }
 }
@@ -113,10 +117,10 @@ fn serve<
 fn ended<N: NetKeeper + Drop>(coordinator: Coordinator<N>, intake: Intake) -> MemberEnd<N>
     ensures { result.refusal ≡ Some OutOfMemory }
 {
-    let Intake { doors, .. } = intake;
+    let Intake { ports, .. } = intake;
     MemberEnd {
         coordinator,
-        doors,
+        ports,
         refusal: Some(Refusal::OutOfMemory),
     }
 }
@@ -132,12 +136,12 @@ fn two_of<L: NodeName>(mut seats: Vec<Seat<L>>) -> (Seat<L>, Seat<L>)
     }
 }
 
-// The two seats of a node when its threads ended, the doors of the first, and why one ended early, if one did.
+// The two seats of a node when its threads ended, the ports of the first, and why one ended early, if one did.
 #[derive(Drop)]
 struct Used<L: NodeName> {
     one: Seat<L>,
     two: Seat<L>,
-    doors: Vec<OwnedPort>,
+    ports: Vec<OwnedPort>,
     refusal: Option<Refusal>,
 }
 
@@ -160,11 +164,11 @@ fn by_two<
     rounds: u32,
     halt: &'x StopSignal,
 ) -> Used<L>
-    requires { intake.place < vec_len intake.doors }
+    requires { intake.place < vec_len intake.ports }
     ensures intake { result.refusal ≡ None → IsIntake intake.tells.items intake.senders.items one result.one }
-    ensures doors { result.refusal ≡ None → (bs : List InboxModel) → one.log ≡ []
-        → map (λ d. d.port) intake.doors.items ≡ map new_port bs
-        → map (λ d. d.port) result.doors.items ≡ used_ports intake.place 0 (passed_in result.one) bs }
+    ensures ports { result.refusal ≡ None → (bs : List InboxModel) → one.log ≡ []
+        → map (λ d. d.port) intake.ports.items ≡ map new_port bs
+        → map (λ d. d.port) result.ports.items ≡ used_ports intake.place 0 (passed_in result.one) bs }
     ensures rounds { result.refusal ≡ None → AreRounds L.base rounds two result.two }
     ensures numbers { (result.one.number ≡ one.number) × (result.two.number ≡ two.number) }
     ensures cause { IfSome result.refusal (λ refusal. IsTrue (may_stop refusal)) }
@@ -173,12 +177,12 @@ fn by_two<
         thread::scope_env(),
         rt,
         move |scope| -> Used<L>
-            requires { intake.place < vec_len intake.doors }
+            requires { intake.place < vec_len intake.ports }
             ensures intake { result.refusal ≡ None
                 → IsIntake intake.tells.items intake.senders.items one result.one }
-            ensures doors { result.refusal ≡ None → (bs : List InboxModel) → one.log ≡ []
-                → map (λ d. d.port) intake.doors.items ≡ map new_port bs
-                → map (λ d. d.port) result.doors.items ≡ used_ports intake.place 0 (passed_in result.one) bs }
+            ensures ports { result.refusal ≡ None → (bs : List InboxModel) → one.log ≡ []
+                → map (λ d. d.port) intake.ports.items ≡ map new_port bs
+                → map (λ d. d.port) result.ports.items ≡ used_ports intake.place 0 (passed_in result.one) bs }
             ensures rounds { result.refusal ≡ None → AreRounds L.base rounds two result.two }
             ensures numbers { (result.one.number ≡ one.number) × (result.two.number ≡ two.number) }
             ensures cause { IfSome result.refusal (λ refusal. IsTrue (may_stop refusal)) }
@@ -208,14 +212,14 @@ fn by_two<
 
 // What both threads left.
 fn both<L: NodeName>(taken: Taken<L>, ran: Ran<L>) -> Used<L>
-    ensures one { (result.one ≡ taken.seat) × (result.doors ≡ taken.doors) }
+    ensures one { (result.one ≡ taken.seat) × (result.ports ≡ taken.ports) }
     ensures two { result.two ≡ ran.seat }
     ensures refusal { result.refusal ≡ first_some taken.refusal ran.refusal }
 {
     Used {
         one: taken.seat,
         two: ran.seat,
-        doors: taken.doors,
+        ports: taken.ports,
         refusal: first_of(taken.refusal, ran.refusal),
     }
 }
@@ -225,11 +229,11 @@ fn unused<L: NodeName>(one: Seat<L>, intake: Intake, ran: Ran<L>) -> Used<L>
     ensures refusal { result.refusal ≡ Some OutOfMemory }
     ensures seats { (result.one ≡ one) × (result.two ≡ ran.seat) }
 {
-    let Intake { doors, .. } = intake;
+    let Intake { ports, .. } = intake;
     Used {
         one,
         two: ran.seat,
-        doors,
+        ports,
         refusal: Some(Refusal::OutOfMemory),
     }
 }
@@ -261,7 +265,8 @@ fn end<N: NetKeeper + Drop, L: NodeName>(
 // Why the audit of a closed node fails, if it does, or NotMine(0) if another coordinator was in it.
 fn fault_of<N: NetKeeper>(closed: &Closed<N>, number: CoordId, limit: usize) -> Option<Refusal>
     ensures none { result ≡ None → (closed.now.coordinator.state.number ≡ number)
-        × (closed.now.coordinator.state.limit ≡ limit) × StandInOne closed.now.coordinator.state closed.now.base closed.now.logs.items }
+        × (closed.now.coordinator.state.limit ≡ limit)
+        × StandInOne closed.now.coordinator.state closed.now.base closed.now.logs.items }
     ensures cause { IfSome result (λ refusal. IsTrue (may_stop refusal)) }
 {
     if let Err(refusal) = audit(closed) {

@@ -1,4 +1,7 @@
-//! Rounds: what a coordinator's second thread does.
+//! Rounds: what a coordinator's second thread does, while the first one exchanges packets.
+//!
+//! Before each round it looks whether the fleet is stopped, so that a fleet ends in time; a round that is refused stops
+//! it.
 ghost use Rattle.std.specs.Prelude.{◌≡◌, None, IsTrue, IfErr, IfSome, OnOk};
 ghost use Rattle.fm_round.specs.declared.plan.Admitted.{Admitted as WhatCame};
 ghost use Rattle.fm_fleet.specs.Rounds.{IsRound};

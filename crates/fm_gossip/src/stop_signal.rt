@@ -1,7 +1,12 @@
 //! What threads of a fleet wait for: a packet, or the end of the fleet.
+//!
+//! A thread that waited for a packet of one that has stopped would wait for ever. So there is one bell for both (a
+//! condition variable): it rings when packets were put, and when something was refused. A thread waits for one ring
+//! more than it had counted, so no ring is missed. The first refusal is kept, and all end with it.
 ghost use Rattle.std.specs.Prelude.{◌≡◌, IsTrue, IfErr};
 ghost use Rattle.fm_coord.specs.Causes.{first_some};
-ghost use Rattle.fm_gossip.specs.FleetFaults.{may_stop, may_be_first};
+ghost use Rattle.fm_gossip.specs.FleetFaults.{may_stop};
+ghost use Rattle.fm_gossip.specs.inner.FirstFaults.{may_be_first};
 
 use fm_records::refusal::Refusal;
 use std::sync::{Condvar, Mutex, Wait};

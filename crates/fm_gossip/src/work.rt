@@ -1,8 +1,11 @@
-//! What a node's thread is given.
+//! What a node's thread is given: a coordinator with its operations, and the links by which it exchanges packets.
+//!
+//! All inboxes, with a port in each for each member, are made before the first thread, so that no thread can find one
+//! missing.
 ghost use Rattle.std.specs.Prelude.{◌≡◌, ℕ, ◌+◌, ◌++◌, ◌<◌, ◌≤◌, length, map, vec_len, vec_capacity, IfOk, OnOk, IsOkUnless};
 ghost use Rattle.fm_gossip.specs.Members.{member_number, but_for};
 ghost use Rattle.fm_gossip.specs.inner.Used.{new_port};
-ghost use Rattle.fm_gossip.specs.inner.Works.{links, links_of, HaveOut, HaveDoors, linked_work, linked_works};
+ghost use Rattle.fm_gossip.specs.inner.Works.{links, links_of, HaveOut, HavePorts, linked_work, linked_works};
 
 use crate::intake::Intake;
 use crate::member::Member;
@@ -35,19 +38,20 @@ impl<N: NetKeeper, G> Model for Work<N, G> {
     ghost Value = { WorkModel };
 
     ghost view = { λ w. work
-        (member_task w.coordinator.state.number w.coordinator.state.limit w.intake.tells.items w.intake.senders.items w.rounds)
-        w.intake.place (map (λ d. d.port) w.intake.doors.items) };
+        (member_task w.coordinator.state.number w.coordinator.state.limit w.intake.tells.items
+        w.intake.senders.items w.rounds)
+        w.intake.place (map (λ d. d.port) w.intake.ports.items) };
 
-    ghost invariant = { λ w. (w.coordinator.state.history ≡ []) × (w.intake.place < vec_len w.intake.doors) };
+    ghost invariant = { λ w. (w.coordinator.state.history ≡ []) × (w.intake.place < vec_len w.intake.ports) };
 }
 
-/// What a member is given beside its coordinator: from which others a packet comes, and a door to each inbox; its own is
-/// at the place.
+/// What a member is given beside its coordinator: from which others a packet comes, and a port to each inbox; that of
+/// its own is at the index `place`.
 #[derive(Drop)]
 pub(crate) struct Links {
     senders: Vec<CoordId>,
     place: usize,
-    doors: Vec<OwnedPort>,
+    ports: Vec<OwnedPort>,
 }
 
 impl Model for Links {
@@ -56,12 +60,12 @@ impl Model for Links {
 
     ghost Value = { LinksModel };
 
-    ghost view = { λ l. links l.senders.items l.place (map (λ d. d.port) l.doors.items) };
+    ghost view = { λ l. links l.senders.items l.place (map (λ d. d.port) l.ports.items) };
 
-    ghost invariant = { λ l. l.place < vec_len l.doors };
+    ghost invariant = { λ l. l.place < vec_len l.ports };
 }
 
-/// The links of each member, and an inbox for each, all of whose doors are in the links: one for each. OutOfMemory.
+/// The links of each member, and an inbox for each, all of whose ports are in the links: one for each. OutOfMemory.
 pub(crate) fn link<N: NetKeeper, G>(
     alloc: Global,
     members: &[Member<N, G>],
@@ -122,13 +126,13 @@ fn work_of<N: NetKeeper + Drop, G: Drop>(
     let Links {
         senders,
         place,
-        doors,
+        ports,
     } = links;
     let intake = Intake {
         tells,
         senders,
         place,
-        doors,
+        ports,
     };
     Work {
         coordinator,
@@ -170,12 +174,12 @@ fn links_at(
     ensures err { IsOkUnless result Refusal.OutOfMemory }
 {
     let senders = but_for(alloc, number, numbers)?;
-    let mut doors = Vec::new(alloc);
-    open_all(&mut doors, inboxes)?;
+    let mut ports = Vec::new(alloc);
+    open_all(&mut ports, inboxes)?;
     Ok(Links {
         senders,
         place,
-        doors,
+        ports,
     })
 }
 
@@ -206,12 +210,12 @@ fn inboxes(alloc: Global, members: usize) -> Result<Vec<PortPool>, Refusal>
     Ok(inboxes)
 }
 
-// Adds a door to each of the inboxes.
-fn open_all(doors: &mut Vec<OwnedPort>, inboxes: &mut [PortPool]) -> Result<(), Refusal>
-    requires { HaveDoors inboxes.old }
-    ensures doors { OnOk result (map (λ d. d.port) doors.new.items
-        ≡ map (λ d. d.port) doors.old.items ++ map new_port (map (λ b. b.inbox) inboxes.old)) }
-    ensures count { OnOk result (vec_len doors.new ≡ vec_len doors.old + length inboxes.old) }
+// Adds a port to each of the inboxes.
+fn open_all(ports: &mut Vec<OwnedPort>, inboxes: &mut [PortPool]) -> Result<(), Refusal>
+    requires { HavePorts inboxes.old }
+    ensures ports { OnOk result (map (λ d. d.port) ports.new.items
+        ≡ map (λ d. d.port) ports.old.items ++ map new_port (map (λ b. b.inbox) inboxes.old)) }
+    ensures count { OnOk result (vec_len ports.new ≡ vec_len ports.old + length inboxes.old) }
     ensures out { OnOk result ((ports out : ℕ) → HaveOut ports out inboxes.old → HaveOut ports (out + 1) inboxes.new) }
     ensures inboxes { OnOk result (map (λ b. b.inbox) inboxes.new ≡ map (λ b. b.inbox) inboxes.old) }
     ensures err { IsOkUnless result Refusal.OutOfMemory }
@@ -219,21 +223,21 @@ fn open_all(doors: &mut Vec<OwnedPort>, inboxes: &mut [PortPool]) -> Result<(), 
     let Some((inbox, rest)) = inboxes.split_first_mut() else {
         return Ok(());
     };
-    doors.push(opened(inbox)?)?;
-    open_all(doors, rest)
+    ports.push(opened(inbox)?)?;
+    open_all(ports, rest)
 }
 
-// A door to the inbox, which has one that is not out.
+// A port to the inbox, which has one that is not out.
 #[tactic(auto, using(crate::proofs::Columns::is_new))]
 fn opened(inbox: &mut PortPool) -> Result<OwnedPort, Refusal>
     requires { inbox.old.out < inbox.old.inbox.ports }
-    ensures door { IfOk result (λ door. door.port ≡ new_port inbox.old.inbox) }
+    ensures port { IfOk result (λ port. port.port ≡ new_port inbox.old.inbox) }
     ensures inbox { inbox.new.inbox ≡ inbox.old.inbox }
     ensures out { OnOk result (inbox.new.out ≡ inbox.old.out + 1) }
     ensures err { IsOkUnless result Refusal.OutOfMemory }
 {
-    match inbox.open()? {
-        Some(door) => Ok(door),
+    match inbox.lend_port()? {
+        Some(port) => Ok(port),
         None => unreachable!(),
     }
 }

@@ -1,5 +1,9 @@
-//! The search for the cheapest free slot that a request reaches, where units of others may move aside: a shortest
-//! augmenting path.
+//! The search for the cheapest free slot that a request reaches, where units of others may move aside.
+//!
+//! A request whose cheap machines are full may still get a cheap slot, if a unit there moves on to another machine: a
+//! shortest augmenting path. A path costs what its last slot costs, since each arc into a machine costs the machine's
+//! load and the request. So the search goes over requests breadth first and keeps no distances. Prices below which a
+//! request reaches nothing only rise, and cut later searches short.
 
 use crate::bit_rows::{Bits, bit_of, lowest, word_of};
 use crate::lenient::put;

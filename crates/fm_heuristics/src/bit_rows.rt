@@ -1,4 +1,4 @@
-//! Rows of bits.
+//! Rows of bits, so that a search tests a request against 64 machines in one step.
 
 use fm_cycles::lookup::value_or;
 use fm_lattice::join::OutOfMemory;

@@ -1,4 +1,7 @@
 //! Tasks of one place, in classes that are alike, and the units on their arcs.
+//!
+//! Tasks with the same place and the same saving can be exchanged in a flow at no cost. So the tasks of a class are
+//! placed together: placing takes time by classes and not by tasks.
 
 use crate::lenient::{part, put};
 use fm_indexed::indexed_network::IndexedNetwork;

@@ -1,5 +1,9 @@
-//! The contracted network: jobs are part of the sink, the tasks of a class are supply of their place beside one link to
-//! the sink, and a lone task is a node.
+//! The contracted network, on which the simplex works: that of the policy with alike tasks put together.
+//!
+//! Most nodes of a network are tasks, and each node costs the simplex time. Here jobs are part of the sink. The tasks
+//! of a class are supply of their place, beside one link to the sink for those that are left to their jobs. Only a lone
+//! task is a node. It begins with a tree in which each supply goes straight to the sink. Links are in mixed order, so
+//! that neighbours leave different nodes.
 
 use crate::classes::Class;
 use crate::link::{AMPLE, Link, Origin};

@@ -1,5 +1,9 @@
-//! The least cost of a unit from each node to the sink, over arcs with room and backwards over arcs with units, by
-//! relaxing arcs (Bellman and Ford). For a least flow the negated costs are potentials, which a search only confirms.
+//! The least cost of a unit from each node to the sink, from which a first flow gets its potentials.
+//!
+//! If the flow is least and no task has several places, the negated costs are potentials. The search for cycles then
+//! only confirms them, and need not find them by many sweeps. Arcs with room are relaxed forwards and arcs with units
+//! backwards (Ford, 1956; Bellman, 1958), by passes over the arcs of requests. After 64 passes costs that still fall
+//! are left to the search for cycles.
 
 ghost use Rattle.std.specs.Prelude.{◌≡◌, ◌^◌, ◌≤ℤ◌, length, IfOk, neg_ℤ, pos};
 ghost use Rattle.fm_cycles.specs.Walks.{AreBounded};

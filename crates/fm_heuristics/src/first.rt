@@ -1,4 +1,8 @@
 //! The first flow, by the start that suits the network.
+//!
+//! If no task prefers machines, each has one place, and placing by falling worth is fast and mostly least
+//! (`worth_first`). Tasks that prefer machines have several places, and the network simplex weighs them all
+//! (`simplex`).
 
 ghost use Rattle.std.specs.Prelude.{◌≡◌, ◌^◌, length, IfOk};
 ghost use Rattle.fm_cycles.specs.Walks.{AreBounded};

@@ -1,4 +1,7 @@
-//! The units of an earlier flow on the arcs of a network.
+//! The units of an earlier flow on the arcs of a network, found without a search.
+//!
+//! The earlier flow may be of another network. Both have their arcs in the same order, so one walk along both finds
+//! each arc's units: a merge join, O(arcs of both).
 
 use fm_certificate::flow::Flow;
 use fm_certificate::flow_iter::FlowIter;

@@ -1,4 +1,8 @@
 //! The paths of tasks in an earlier flow that are still complete and fit.
+//!
+//! A flow does not say which of the units that a request sends on is whose. So a task with a unit on its arc to a
+//! request takes up any unit there that no task has taken up yet, from the cheapest machine on. A cursor of each
+//! request passes each arc once.
 
 use crate::lenient::put;
 use crate::loading::Loading;

@@ -1,4 +1,4 @@
-//! Nodes of the tree.
+//! Nodes of the tree, each with its parent, first child and siblings, so that it is cut off and hung on in O(1).
 
 /// A node of the tree. The sink, 0, is the root and no node's child, so 0 stands for no child and no sibling too.
 #[derive(Debug, Clone, Copy, PartialEq, Eq, Drop)]

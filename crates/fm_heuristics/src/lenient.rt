@@ -1,5 +1,6 @@
-//! Reads and writes that pass over places beyond the end. A wrong place then costs a better flow, which is found
-//! afterwards, and is never out of bounds.
+//! Reads and writes that pass over places beyond the end.
+//!
+//! A wrong place then costs a better flow, which is found afterwards, and is never out of bounds.
 
 /// Writes the value at a place; beyond the end, nothing.
 pub(crate) fn put<T: Copy + Drop>(values: &mut [T], place: usize, value: T) {

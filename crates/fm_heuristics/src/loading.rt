@@ -1,4 +1,8 @@
 //! The units that are placed so far, with what makes the next placing fast.
+//!
+//! Each placing would look again at all machines that are full. But free slots only become fewer, so each request keeps
+//! a cursor into its arcs, cheaper machines first, and a price below which it reaches no free slot. Rows of bits say
+//! which full machines a request can still join, and where it has units.
 
 use crate::bit_rows::Bits;
 use crate::lenient::{part, put};

@@ -1,5 +1,8 @@
-//! Pivots: a link of negative reduced cost enters the tree and another one leaves it, until there is none. Trees stay
-//! strongly feasible (Cunningham, 1976).
+//! Pivots: a link by which the flow gets cheaper enters the tree and another one leaves it, until there is none.
+//!
+//! A pivot that sends no unit could be followed by others for ever. So trees stay strongly feasible: from each node a
+//! unit can go up to the sink. Of the links that fill up together the last one around the cycle leaves (Cunningham,
+//! 1976). A pivot first looks for a full link near by, since then no unit goes round and the cycle need not be walked.
 
 ghost use Rattle.std.specs.Prelude.{◌≡◌, ◌<◌, ◌≤◌, vec_len, OnOk};
 

@@ -1,4 +1,9 @@
-//! Pricing in blocks, as in LEMON (Kovács, 2015): which link enters the tree next. A link *pays* if its reduced cost is negative.
+//! Which link enters the tree next: pricing in blocks, as in LEMON (Kovács, 2015).
+//!
+//! To price all links for each pivot would be O(links), and the first that pays is often a poor choice. So the best
+//! link of a block is taken, of half the root of their number. A link *pays* if a unit more over it, or one less, makes
+//! the flow cheaper by the potentials of its ends. If none of a block pays, the links at the nodes that moved last are
+//! tried.
 
 ghost use Rattle.std.specs.Prelude.{◌<◌, vec_len};
 

@@ -1,4 +1,8 @@
 //! A flow by the network simplex method, with strongly feasible trees (Cunningham, 1976).
+//!
+//! It is for tasks that prefer machines: each has several places, and to place one task after another would leave much
+//! to the search for cycles. The simplex keeps a spanning tree with potentials, and changes one link at a time (Ahuja,
+//! Magnanti and Orlin, "Network flows", 1993), on the contracted network.
 
 ghost use Rattle.std.specs.Prelude.{IfOk, IfSome};
 ghost use Rattle.fm_indexed.specs.Feasible.{IsFlowOf};
@@ -17,11 +21,11 @@ use std::alloc::Global;
 const PIVOTS_A_LINK: usize = 16;
 
 /// The units of a flow of the network, and the cost of a unit from each node that is no task to the sink. None if the
-/// simplex finds no flow or its tree breaks, which no network is known to cause. It ends if no link has a negative
-/// reduced cost, or after 16 pivots an arc. In the first case the flow is least, and the negated costs are its
-/// potentials: no clause says so, but the search for cycles then finds none. Refused if memory runs out, and for
-/// nothing else. O(arcs), and for each pivot a block of links, the part of the tree that moves, and the cycle. After
-/// Ahuja, Magnanti and Orlin, "Network flows", 1993.
+/// simplex finds no flow or its tree breaks, which no network is known to cause. It ends if no link can enter (none in
+/// use has a positive reduced cost, and none with room a negative one), or after 16 pivots an arc. In the first case the
+/// flow is least, and the negated costs are its potentials: no clause says so, but the search for cycles then finds
+/// none. Refused if memory runs out, and for nothing else. O(arcs), and for each pivot a block of links, the part of
+/// the tree that moves, and the cycle. After Ahuja, Magnanti and Orlin, "Network flows", 1993.
 pub fn simplex(
     alloc: Global,
     numbered: &IndexedNetwork,

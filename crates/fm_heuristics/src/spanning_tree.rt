@@ -1,9 +1,9 @@
-//! The spanning tree of the network simplex: each node except the sink has a parent, to which one link joins it, and
-//! each has a potential.
+//! The spanning tree of the network simplex, in which a part gets another parent at each pivot.
 //!
-//! That parents, children, siblings and links are there is a fact of the type. That a node is deeper than its parent
-//! is tested on each way up, so a way has at most as many steps as its node is deep, and a broken tree stops the
-//! simplex.
+//! Each node except the sink has a parent, to which one link joins it, and each has a potential, by which the links of
+//! the tree cost nothing. That parents, children, siblings and links are there is a fact of the type. That a node is
+//! deeper than its parent is tested on each way up. So a way has at most as many steps as its node is deep, and a
+//! broken tree stops the simplex.
 
 ghost use Rattle.std.specs.Prelude.{◌≡◌, ◌<◌, ◌≤◌, All, vec_len, IfOk, OnOk, IsTrue, ◌+◌};
 ghost use Rattle.fm_heuristics.specs.inner.Trees.{IsKnot, IsTied, depth_of};

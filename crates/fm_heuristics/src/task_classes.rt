@@ -1,4 +1,4 @@
-//! Tasks that are alike, and lone ones.
+//! Tasks that are alike, in classes, and lone ones, which have more than one place or none.
 
 use crate::classes::{Choice, Class, classes_of, saving};
 use crate::lenient::part;

@@ -1,4 +1,9 @@
-//! A first flow: all tasks unscheduled, or placed by falling worth, or as an earlier flow had them.
+//! A first flow by successive shortest paths (Jewell, 1958): tasks are placed by falling worth.
+//!
+//! The worth of a task is what it saves if it is placed, without the price of the slot. Tasks of greater worth come
+//! first, so none that is placed is sent back to its job later: it may only move aside. Each class goes where the
+//! cheapest slot is, which others make free if that is needed (`augmenting_path`). The paths of an earlier flow can be
+//! kept first. All tasks unscheduled is the flow if placing finds none.
 
 ghost use Rattle.std.specs.Prelude.{IfOk, IfSome};
 ghost use Rattle.fm_cycles.specs.Walks.{ArePotentials};

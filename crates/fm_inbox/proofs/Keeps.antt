@@ -6,7 +6,8 @@ use Rattle.crossbeam_queue.specs.Fifo.{Pushes, Pops, Forks, Merges, Learns}
 use Rattle.crossbeam_queue.proofs.Lists.{at_set, at_snoc}
 use Rattle.fm_delta.specs.declared.packet.Packet.{Packet}
 use Rattle.fm_inbox.specs.declared.conservation.PortAccount.{PortAccount}
-use Rattle.fm_inbox.specs.Conservation.{weigh, account, parts_in_account, put_weight, taken_of, IsProper, IsBalanced}
+use Rattle.fm_inbox.specs.Conservation.{weigh}
+use Rattle.fm_inbox.specs.inner.PortAccounts.{account, parts_in_account, put_weight, taken_of, IsProper, IsBalanced}
 
 pub weigh-append : {X : Type 0} (f : X → ℕ) (xs ys : List X) → weigh f (xs ++ ys) ≡ weigh f xs + weigh f ys
 weigh-append f [] ys = omega arith

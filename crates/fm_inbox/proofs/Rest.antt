@@ -7,7 +7,8 @@ use Rattle.atomic_table.specs.Seated.{TableId}
 use Rattle.fm_delta.specs.declared.packet.Packet.{Packet}
 use Rattle.fm_inbox.specs.declared.conservation.PortAccount.{PortAccount}
 use Rattle.fm_inbox.specs.Conservation.{weigh}
-use Rattle.fm_inbox.specs.Ports.{PortModel, seen_port, AloneHas, all_put, all_taken, put_by, taken_weight}
+use Rattle.fm_inbox.specs.Ports.{PortModel, seen_port, AloneHas, all_put, all_taken}
+use Rattle.fm_inbox.specs.inner.PortWeights.{put_by, taken_weight}
 
 pub weigh-ones : (xs : List Packet) → weigh (λ _. 1) xs ≡ length xs
 weigh-ones [] = refl

@@ -1,2 +1,3 @@
 pub mod Conservation
 pub mod Ports
+pub mod inner

@@ -4,7 +4,6 @@ use Rattle.crossbeam_queue.specs.Passes.{Pass, view}
 use Rattle.atomic_table.specs.Seated.{TableId}
 use Rattle.fm_delta.specs.declared.packet.Packet.{Packet}
 use Rattle.fm_inbox.specs.declared.conservation.PortAccount.{PortAccount}
-use Rattle.fm_inbox.specs.Conservation.{weigh}
 
 -- which inbox it is, how many ports it has, and how many packets it takes
 pub record InboxModel : Type 0 where
@@ -19,7 +18,7 @@ pub record PortModel : Type 0 where
   pub put : List Packet
   pub taken : List Packet
 
--- an inbox with its doors: how many of them are out
+-- an inbox with its ports: how many of them are out
 pub record PortPoolModel : Type 0 where
   pub inbox : InboxModel
   pub out : ℕ
@@ -27,9 +26,9 @@ pub record PortPoolModel : Type 0 where
 abbrev pub seen_inbox : TableId → ℕ → ℕ → InboxModel
 seen_inbox id ports size = record { id = id; ports = ports; size = size }
 
--- all doors are out but for so many
-abbrev pub seen_doors : InboxModel → ℕ → PortPoolModel
-seen_doors b closed = record { inbox = b; out = b.ports - closed }
+-- all ports are out but for so many
+abbrev pub seen_pool : InboxModel → ℕ → PortPoolModel
+seen_pool b closed = record { inbox = b; out = b.ports - closed }
 
 abbrev pub seen_port : TableId → PortAccount → PortModel
 seen_port id v = record { inbox = id; ports = v.whole; put = v.put; taken = v.taken }
@@ -65,10 +64,3 @@ all_put (p ∷ ps) = p.put ++ all_put ps
 abbrev pub all_taken : List PortModel → List Packet
 all_taken [] = []
 all_taken (p ∷ ps) = p.taken ++ all_taken ps
-
--- what was put, and taken, through a port, by weight
-abbrev pub put_by : (Packet → ℕ) → PortModel → ℕ
-put_by h p = weigh h p.put
-
-abbrev pub taken_weight : (Packet → ℕ) → PortModel → ℕ
-taken_weight h p = weigh h p.taken

@@ -1,6 +1,11 @@
 //! The invariant of an inbox: what was put is what was taken and what is still there.
+//!
+//! A queue that threads share cannot be looked at while other threads use it. So each port has an account of what was
+//! put and taken through it, and the queue keeps the balance at each event. Ports are parts of one right to the queue:
+//! who holds all of them knows all that was put, and so what is still there.
 ghost use Rattle.std.specs.Prelude.{◌≡◌, ◌≤◌, ◌+◌, [], ◌∷◌, ◌++◌};
-ghost use Rattle.fm_inbox.specs.Conservation.{account, weigh};
+ghost use Rattle.fm_inbox.specs.Conservation.{weigh};
+ghost use Rattle.fm_inbox.specs.inner.PortAccounts.{account};
 
 use crossbeam_queue::protocol::{Join, Lesson, Outcome, Protocol, Split};
 use crossbeam_queue::{Pass, RuledArrayQueue};
@@ -21,7 +26,7 @@ pub struct PortBalance;
 
 impl Protocol<Packet, PortAccount> for PortBalance {
     ghost use Rattle.std.specs.Prelude.{[]};
-    ghost use Rattle.fm_inbox.specs.Conservation.{account, IsBalanced};
+    ghost use Rattle.fm_inbox.specs.inner.PortAccounts.{account, IsBalanced};
 
     ghost holds = { IsBalanced };
 
@@ -39,7 +44,7 @@ pub struct OneMore;
 
 impl Split<PortAccount> for OneMore {
     ghost use Rattle.std.specs.Prelude.{[], ◌+◌};
-    ghost use Rattle.fm_inbox.specs.Conservation.{account};
+    ghost use Rattle.fm_inbox.specs.inner.PortAccounts.{account};
 
     ghost left = { λ v. account (v.parts + 1) (v.whole + 1) v.put v.taken };
 
@@ -51,7 +56,7 @@ pub struct OnePart;
 
 impl Split<PortAccount> for OnePart {
     ghost use Rattle.std.specs.Prelude.{[], ◌-◌};
-    ghost use Rattle.fm_inbox.specs.Conservation.{account};
+    ghost use Rattle.fm_inbox.specs.inner.PortAccounts.{account};
 
     ghost left = { λ v. account (v.parts - 1) v.whole v.put v.taken };
 
@@ -60,7 +65,7 @@ impl Split<PortAccount> for OnePart {
 
 impl Join<PortAccount> for OnePart {
     ghost use Rattle.std.specs.Prelude.{[], ◌+◌, ◌++◌};
-    ghost use Rattle.fm_inbox.specs.Conservation.{account};
+    ghost use Rattle.fm_inbox.specs.inner.PortAccounts.{account};
 
     ghost both = { λ v w. account (v.parts + w.parts) v.whole (v.put ++ w.put) (v.taken ++ w.taken) };
 

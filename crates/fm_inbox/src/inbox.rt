@@ -1,9 +1,15 @@
-//! Inboxes and their ports.
+//! Inboxes: bounded queues of packets that threads share, each by a port of its own, with proof that none is lost.
+//!
+//! A packet that a full inbox does not take comes back to its sender. An inbox is closed with all its ports, after
+//! which nobody can put or take: each packet was put as often as it was taken or is left. Memory for closing is
+//! reserved when the inbox is made, so closing allocates nothing.
 ghost use Rattle.std.specs.Prelude.{◌≡◌, ◌<◌, ◌≤◌, ◌+◌, ◌++◌, ℕ, [], vec_len, vec_capacity, IfOk, IfErr, OnOk, OnErr, IsOkUnless, All};
 ghost use Rattle.crossbeam_queue.specs.Passes.{IsPassOf, ruled_capacity};
 ghost use Rattle.fm_delta.specs.declared.packet.Packet.{Packet};
-ghost use Rattle.fm_inbox.specs.Conservation.{account, weigh, put_weight, taken_of, SamePackets};
-ghost use Rattle.fm_inbox.specs.Ports.{IsPortOf, IsNewPortOf, AloneHas, after_put, after_take, all_put, all_taken, put_by, taken_weight, account_of, seen_inbox};
+ghost use Rattle.fm_inbox.specs.Conservation.{weigh, SamePackets};
+ghost use Rattle.fm_inbox.specs.inner.PortAccounts.{account, put_weight, taken_of};
+ghost use Rattle.fm_inbox.specs.Ports.{IsPortOf, IsNewPortOf, AloneHas, after_put, after_take, all_put, all_taken, account_of, seen_inbox};
+ghost use Rattle.fm_inbox.specs.inner.PortWeights.{put_by, taken_weight};
 
 use crate::conservation::{OneMore, OnePart, Puts, Queue, QueuePass, Takes};
 use fm_delta::packet::Packet;

@@ -1,4 +1,6 @@
-//! Ports that threads own together with their inbox.
+//! Ports that threads own together with their inbox, so that a thread need not show that a port belongs to an inbox.
+//!
+//! A pool lends the ports of an inbox one by one, and closes it once all of them are back.
 ghost use Rattle.std.specs.Prelude.{◌≡◌, ◌≢◌, ◌<◌, ◌≤◌, ◌+◌, ◌++◌, [], vec_len, vec_capacity, map, All, IfOk, IfErr, OnOk, OnErr, IsOkUnless, MatchOption};
 ghost use Rattle.std.specs.Arc.{arc_value};
 ghost use Rattle.fm_inbox.specs.Conservation.{SamePackets};
@@ -45,7 +47,7 @@ impl OwnedPort {
     }
 }
 
-/// An inbox with those of its ports that were not given out yet. Contracts see the inbox, and how many doors are out.
+/// An inbox with those of its ports that were not given out yet. Contracts see the inbox, and how many of them are out.
 #[derive(Drop)]
 pub struct PortPool {
     inbox: Arc<Inbox, Global>,
@@ -56,22 +58,22 @@ pub struct PortPool {
 impl Model for PortPool {
     ghost use Rattle.std.specs.Prelude.{◌≡◌, ◌≤◌, ◌<◌, [], All, vec_len, vec_capacity};
     ghost use Rattle.std.specs.Arc.{arc_value};
-    ghost use Rattle.fm_inbox.specs.Ports.{PortPoolModel, seen_doors, IsNewPortOf};
+    ghost use Rattle.fm_inbox.specs.Ports.{PortPoolModel, seen_pool, IsNewPortOf};
 
     ghost Value = { PortPoolModel };
 
-    ghost view = { λ d. seen_doors (arc_value d.inbox) (vec_len d.ports) };
+    ghost view = { λ d. seen_pool (arc_value d.inbox) (vec_len d.ports) };
 
     ghost invariant = { λ d. All (IsNewPortOf (arc_value d.inbox)) d.ports.items
         × (vec_len d.ports ≤ (arc_value d.inbox).ports) × ((arc_value d.inbox).ports ≤ vec_capacity d.ports)
         × (vec_len d.room ≡ 0) × (d.room.items ≡ []) × ((arc_value d.inbox).size ≤ vec_capacity d.room) };
 }
 
-/// Why an inbox was not closed, with its doors.
+/// Why an inbox was not closed, with its pool and the ports that were passed.
 #[derive(Drop)]
-pub struct DoorsKept {
+pub struct PoolKept {
     pub refusal: Refusal,
-    pub doors: PortPool,
+    pub pool: PortPool,
     pub out: Vec<OwnedPort>,
 }
 
@@ -80,8 +82,8 @@ impl PortPool {
     /// closing it is reserved. OutOfMemory.
     pub fn new(alloc: Global, ports: usize, size: usize) -> Result<PortPool, Refusal>
         requires { (0 < ports) × (0 < size) }
-        ensures inbox { IfOk result (λ doors. (doors.inbox.ports ≡ ports) × (doors.inbox.size ≡ size)) }
-        ensures none_out { IfOk result (λ doors. doors.out ≡ 0) }
+        ensures inbox { IfOk result (λ pool. (pool.inbox.ports ≡ ports) × (pool.inbox.size ≡ size)) }
+        ensures none_out { IfOk result (λ pool. pool.out ≡ 0) }
         ensures err { IsOkUnless result Refusal.OutOfMemory }
     {
         let mut room = Vec::new(alloc);
@@ -91,9 +93,9 @@ impl PortPool {
         Ok(PortPool { inbox, ports, room })
     }
 
-    /// One of the doors that are not out, or none if all are. OutOfMemory; then nothing has changed.
-    pub fn open(&mut self) -> Result<Option<OwnedPort>, Refusal>
-        ensures door { IfOk result (λ door. MatchOption door
+    /// One of the ports that are not out, with the inbox, or none if all are. OutOfMemory; then nothing has changed.
+    pub fn lend_port(&mut self) -> Result<Option<OwnedPort>, Refusal>
+        ensures port { IfOk result (λ port. MatchOption port
             ((self.old.out ≡ self.old.inbox.ports) × (self.new ≡ self.old))
             (λ d. IsNewPortOf self.old.inbox d.port × (arc_value d.inbox ≡ self.old.inbox)
             × (self.new.out ≡ self.old.out + 1))) }
@@ -108,22 +110,22 @@ impl PortPool {
         }
     }
 
-    /// Closes an inbox with all its doors, and returns the packets that are left. Each packet was put as often as it
-    /// was taken or is left. The caller must pass doors of this inbox. It allocates nothing. NotMine(0) if their number
+    /// Closes an inbox with all its ports, and returns the packets that are left. Each packet was put as often as it
+    /// was taken or is left. The caller must pass ports of this inbox. It allocates nothing. NotMine(0) if their number
     /// is not that of the inbox's ports, with all that was passed.
-    pub fn close<R: Wait>(self, rt: &R, out: Vec<OwnedPort>) -> Result<Vec<Packet>, DoorsKept>
+    pub fn close<R: Wait>(self, rt: &R, out: Vec<OwnedPort>) -> Result<Vec<Packet>, PoolKept>
         requires { All (λ d. IsPortOf self.inbox d.port) out.items }
         ensures ok { IfOk result (λ left. SamePackets (all_put (map (λ d. d.port) out.items))
             (all_taken (map (λ d. d.port) out.items) ++ left.items)) }
         ensures whole { OnOk result (vec_len out ≡ self.inbox.ports) }
         ensures err { IfErr result (λ kept. (kept.refusal ≡ Refusal.NotMine 0)
             × (vec_len out ≢ self.inbox.ports)) }
-        ensures back { IfErr result (λ kept. (kept.doors ≡ self) × (kept.out ≡ out)) }
+        ensures back { IfErr result (λ kept. (kept.pool ≡ self) × (kept.out ≡ out)) }
     {
         if out.len() != self.inbox.ports() {
-            return Err(DoorsKept {
+            return Err(PoolKept {
                 refusal: Refusal::NotMine(0),
-                doors: self,
+                pool: self,
                 out,
             });
         }
@@ -137,15 +139,15 @@ impl PortPool {
     }
 }
 
-// The ports of the doors.
-fn ports_of(doors: Vec<OwnedPort>, mut ports: Vec<Port>) -> Vec<Port>
+// The ports, without their inbox.
+fn ports_of(owned: Vec<OwnedPort>, mut ports: Vec<Port>) -> Vec<Port>
     requires none { (vec_len ports ≡ 0) × (ports.items ≡ []) }
-    requires room { vec_len doors ≤ vec_capacity ports }
-    ensures ports { result.items ≡ map (λ d. d.port) doors.items }
-    ensures count { vec_len result ≡ vec_len doors }
+    requires room { vec_len owned ≤ vec_capacity ports }
+    ensures ports { result.items ≡ map (λ d. d.port) owned.items }
+    ensures count { vec_len result ≡ vec_len owned }
 {
-    for door in doors {
-        let OwnedPort { inbox: _, port } = door;
+    for one in owned {
+        let OwnedPort { inbox: _, port } = one;
         ports.push_reserved(port);
     }
     ports

@@ -12,8 +12,9 @@ use Rattle.fm_net.specs.Net.{Net, CanBeNet, IsArc, IsArcKind}
 use Rattle.fm_certificate.proofs.Least.{arc_member}
 use Rattle.fm_cycles.specs.declared.indexed_arcs.IndexedArc.{IndexedArc}
 use Rattle.fm_indexed.specs.declared.node_ranges.NodeRanges.{NodeRanges}
-use Rattle.fm_indexed.specs.NodeRanges.{is_task}
-use Rattle.fm_indexed.specs.Numbered.{NetArc, IsArcOf, AreArcsOf, IsNumbered, IsFormed}
+use Rattle.fm_indexed.specs.inner.KindRanges.{is_task}
+use Rattle.fm_indexed.specs.Numbered.{NetArc, IsArcOf, AreArcsOf, IsNumbered}
+use Rattle.fm_indexed.specs.inner.FormedNetwork.{IsFormed}
 use Rattle.fm_indexed.proofs.Placed.{member_at}
 use Rattle.fm_indexed.proofs.KindsAt.{kind_is, kind_there}
 

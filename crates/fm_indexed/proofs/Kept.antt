@@ -5,8 +5,9 @@ use Rattle.fm_cycles.specs.Units.{inflow_at, outflow_at, AreWithin, HaveSameBala
 use Rattle.fm_indexed.specs.declared.node_ranges.NodeRanges.{NodeRanges}
 use Rattle.fm_indexed.specs.declared.node_ranges.NodeKind.{NodeKind}
 use Rattle.fm_indexed.specs.declared.node_ranges.NodeKind.TheVariants.{Sink, Unscheduled, Request, Machine, Task}
-use Rattle.fm_indexed.specs.NodeRanges.{kind_at, is_task}
-use Rattle.fm_indexed.specs.Numbered.{IsFormed}
+use Rattle.fm_indexed.specs.NodeRanges.{kind_at}
+use Rattle.fm_indexed.specs.inner.KindRanges.{is_task}
+use Rattle.fm_indexed.specs.inner.FormedNetwork.{IsFormed}
 use Rattle.fm_indexed.specs.Feasible.{IsConserved, IsFlowOf}
 use Rattle.fm_indexed.proofs.Summed.{none_enter}
 

@@ -2,14 +2,15 @@
 use Rattle.std.proofs.Common.{◌≡◌, refl, ℕ, ◌-◌, ◌<◌, ◌≤◌, List, Some, lt-ltb, le-ltb, arith}
 use Rattle.std.specs.Prelude.{slice_get}
 use Rattle.std.proofs.lemmas.Option.{slice_get_within}
-use Rattle.fm_records.specs.TableLaws.{Rises}
+use Rattle.fm_records.specs.Rising.{Rises}
 use Rattle.fm_net.specs.declared.node.Node.{Node}
 use Rattle.fm_net.specs.declared.node.Node.TheVariants as node
 use Rattle.fm_net.specs.Nodes.{node_cmp}
 use Rattle.fm_indexed.specs.declared.node_ranges.NodeRanges.{NodeRanges}
 use Rattle.fm_indexed.specs.declared.node_ranges.NodeKind.{NodeKind}
 use Rattle.fm_indexed.specs.declared.node_ranges.NodeKind.TheVariants.{Sink, Unscheduled, Request, Machine, Task}
-use Rattle.fm_indexed.specs.NodeRanges.{ArePlacesOf, kind_at, range_start, range_end}
+use Rattle.fm_indexed.specs.NodeRanges.{AreRangesOf, kind_at}
+use Rattle.fm_indexed.specs.inner.KindRanges.{range_start, range_end}
 use Rattle.fm_indexed.proofs.Placed.{low_before, high_behind, count_most}
 
 -- the kind of a node at a place
@@ -20,7 +21,7 @@ kind_there places v (node.Request r) = Request (v - places.requests)
 kind_there places v (node.Machine m) = Machine (v - places.machines)
 kind_there places v (node.Task t) = Task (v - places.tasks)
 
-module _ (nodes : List Node) (places : NodeRanges) (rises : Rises node_cmp nodes) (are : ArePlacesOf nodes places) (v : ℕ) where
+module _ (nodes : List Node) (places : NodeRanges) (rises : Rises node_cmp nodes) (are : AreRangesOf nodes places) (v : ℕ) where
   pub kind_is : (n : Node) → slice_get nodes v ≡ Some n → kind_at places v ≡ kind_there places v n
   kind_is (node.Sink) at =
       let a = low_before 1 nodes v (node.Sink) rises at (omega arith) in

@@ -6,7 +6,7 @@ use Rattle.std.specs.Ordering.{nat_cmp}
 use Rattle.std.specs.declared.cmp.Ordering.TheVariants.{Less, Equal}
 use Rattle.std.proofs.lemmas.Cmp.{tied_itself}
 use Rattle.std.proofs.lemmas.List.Sums.{sum_by-cons}
-use Rattle.fm_lattice.specs.Chains.{nat_same}
+use Rattle.fm_lattice.specs.laws.ChainLaws.{nat_same}
 use Rattle.fm_lattice.specs.Maps.{lookup, IsBelow, IsRising}
 use Rattle.fm_records.specs.declared.records.SpecReg.{SpecReg}
 use Rattle.fm_records.specs.declared.records.JobReg.{JobReg}
@@ -23,7 +23,8 @@ use Rattle.fm_net.proofs.ListLaws.{entry_member}
 use Rattle.fm_net.specs.Net.{Net, CanBeNet, has_node, arc_at}
 use Rattle.fm_net.specs.Network.{is_live_of, is_held, live_tasks, is_node, arc_of, IsNetworkOf}
 use Rattle.fm_net.proofs.NetworkLaws.{passes_some, only_if_some, where_true, live_entry}
-use Rattle.fm_net.specs.NetworkEquality.{same_node, node_Decides}
+use Rattle.fm_net.specs.NetworkEquality.{same_node}
+use Rattle.fm_net.specs.laws.NetworkEqualityLaws.{node_Decides}
 use Rattle.fm_certificate.specs.Totals.{source, target}
 use Rattle.fm_certificate.proofs.Alike.{same_itself}
 use Rattle.fm_certificate.proofs.Least.{arc_member}

@@ -1,13 +1,11 @@
 -- A network by numbers: nodes by their place, and arcs in the network's order, their ends as places.
-use Rattle.std.specs.Prelude.{◌≡◌, ℕ, ◌<◌, ◌^◌, List, [], ◌∷◌, Option, Some, None, false, slice_get}
+use Rattle.std.specs.Prelude.{◌≡◌, ℕ, List, [], ◌∷◌, Option, Some, None, slice_get}
 use Rattle.fm_net.specs.declared.node.Node.{Node}
 use Rattle.fm_net.specs.declared.node.Node.TheVariants as node
 use Rattle.fm_net.specs.Net.{Net}
 use Rattle.fm_cycles.specs.declared.indexed_arcs.IndexedArc.{IndexedArc}
-use Rattle.fm_cycles.specs.Residual.{AreArcs}
-use Rattle.fm_cycles.specs.Units.{AreCapacities}
 use Rattle.fm_indexed.specs.declared.node_ranges.NodeRanges.{NodeRanges}
-use Rattle.fm_indexed.specs.NodeRanges.{ArePlacesOf, kind_at, is_task}
+use Rattle.fm_indexed.specs.NodeRanges.{AreRangesOf}
 
 -- an arc of a network: its ends, its capacity and its cost
 abbrev pub NetArc : Type 0
@@ -28,7 +26,7 @@ AreArcsOf nodes _ _ = ⊥
 
 -- these are the places of the network's nodes, and these its arcs
 pub record IsNumbered (net : Net) (places : NodeRanges) (arcs : List IndexedArc) : Type 0 where
-  pub at_places : ArePlacesOf net.nodes places
+  pub at_places : AreRangesOf net.nodes places
   pub of_arcs : AreArcsOf net.nodes net.arcs arcs
 
 -- the bandwidth of a request's node
@@ -38,11 +36,3 @@ bandwidth_in (node.Sink) = None
 bandwidth_in (node.Unscheduled j) = None
 bandwidth_in (node.Machine m) = None
 bandwidth_in (node.Task t) = None
-
--- what is known of all networks by numbers: both ends of an arc are places of nodes, its numbers fit, and none leads to
--- a task
-pub record IsFormed (places : NodeRanges) (arcs : List IndexedArc) : Type 0 where
-  pub few : places.end < 2 ^ 63
-  pub ends : AreArcs arcs places.end
-  pub capacities : AreCapacities arcs
-  pub targets : (i : ℕ) (a : IndexedArc) → slice_get arcs i ≡ Some a → is_task (kind_at places a.to) ≡ false

@@ -1,2 +1,4 @@
 pub mod ArcEnds
 pub mod Named
+pub mod KindRanges
+pub mod FormedNetwork

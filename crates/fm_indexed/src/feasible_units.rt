@@ -1,4 +1,7 @@
-//! Whether units by number are a flow.
+//! Whether units by number are a flow: what a heuristic answers is tested before it is used.
+//!
+//! Each arc has a number within its capacity, each task sends one unit, and jobs, requests and machines send on what
+//! enters. O(nodes + arcs).
 
 ghost use Rattle.std.specs.Prelude.{◌≡◌, ◌<◌, ◌↔◌, ℕ, IfOk, IsTrue, slice_index};
 ghost use Rattle.fm_cycles.specs.Units.{AreWithin};

@@ -1,6 +1,9 @@
-//! A network by numbers.
+//! A network by numbers, in flat arrays, so that the solver reads an arc and its ends without a search.
+//!
+//! A network names nodes by 128-bit ids, and a solver visits each arc many times. Here nodes are places in node order,
+//! and arcs are in the network's order, so units and potentials go back to names in one walk (`to_named`).
 
-ghost use Rattle.fm_indexed.specs.Numbered.{IsFormed};
+ghost use Rattle.fm_indexed.specs.inner.FormedNetwork.{IsFormed};
 
 use crate::node_ranges::{NodeRanges, places_of};
 use crate::numbering::{arcs_of, nodes_of, requests_of};

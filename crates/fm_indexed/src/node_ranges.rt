@@ -1,8 +1,9 @@
-//! Where the nodes of each kind begin and end in node order, and the kinds of nodes there.
+//! Where the nodes of each kind begin and end in node order: five numbers tell the kind of every node.
 
 ghost use Rattle.std.specs.Prelude.{◌≡◌, ◌-◌};
 ghost use Rattle.fm_net.specs.Nodes.{kind};
-ghost use Rattle.fm_indexed.specs.NodeRanges.{ArePlacesOf, count_below, range_end, range_start, kind_at};
+ghost use Rattle.fm_indexed.specs.NodeRanges.{AreRangesOf, count_below, kind_at};
+ghost use Rattle.fm_indexed.specs.inner.KindRanges.{range_end, range_start};
 
 use fm_net::node::Node;
 
@@ -81,7 +82,7 @@ fn below(nodes: &[Node], kind: u8) -> usize
 
 /// Where each kind begins.
 pub(crate) fn places_of(nodes: &[Node]) -> NodeRanges
-    ensures { ArePlacesOf nodes.now result }
+    ensures { AreRangesOf nodes.now result }
 {
     NodeRanges {
         jobs: below(nodes, 1),

@@ -2,11 +2,11 @@
 
 ghost use Rattle.std.specs.Prelude.{◌≡◌, IfOk};
 ghost use Rattle.std.specs.List.{filter_map};
-ghost use Rattle.fm_indexed.specs.NodeRanges.{ArePlacesOf};
+ghost use Rattle.fm_indexed.specs.NodeRanges.{AreRangesOf};
 ghost use Rattle.fm_indexed.specs.Numbered.{AreArcsOf, bandwidth_in};
 
+use crate::node_index::{GUESSES, index_by, index_of};
 use crate::node_ranges::NodeRanges;
-use crate::placing::{GUESSES, place_by, place_of};
 use fm_cycles::indexed_arcs::IndexedArc;
 use fm_lattice::join::OutOfMemory;
 use fm_net::network::Network;
@@ -29,7 +29,7 @@ pub(crate) fn arcs_of(
     places: &NodeRanges,
 ) -> Result<Vec<IndexedArc>, OutOfMemory>
     requires nodes { nodes.now ≡ network.now.nodes }
-    requires places { ArePlacesOf nodes.now places.now }
+    requires places { AreRangesOf nodes.now places.now }
     ensures { IfOk result (λ arcs. AreArcsOf nodes.now network.now.arcs arcs.items) }
 {
     network.known();
@@ -38,8 +38,8 @@ pub(crate) fn arcs_of(
     let mut from = 0;
     let mut to = 0;
     for (source, target, capacity, cost) in network.arcs() {
-        from = place_of(nodes, places, from, &source);
-        to = place_by(nodes, places, to, &mut guesses, &target);
+        from = index_of(nodes, places, from, &source);
+        to = index_by(nodes, places, to, &mut guesses, &target);
         arcs.push(IndexedArc {
             from,
             to,

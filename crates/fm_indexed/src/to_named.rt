@@ -1,4 +1,4 @@
-//! From numbers back to the network's flows and potentials.
+//! From numbers back to the network's flows and potentials, in one walk and without a search.
 
 ghost use Rattle.std.specs.Prelude.{◌≡◌, IfOk, length, slice_index_or};
 ghost use Rattle.fm_net.specs.declared.node.Node.{Node as NodeName};

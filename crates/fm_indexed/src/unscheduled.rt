@@ -1,4 +1,4 @@
-//! All tasks unscheduled.
+//! All tasks unscheduled: a flow that every network of the policy has, for when a heuristic finds none.
 
 ghost use Rattle.std.specs.Prelude.{◌≡◌, ◌^◌, ◌-◌, IfOk, map, min, slice_index};
 ghost use Rattle.fm_indexed.specs.NodeRanges.{kind_at};

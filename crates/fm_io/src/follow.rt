@@ -1,4 +1,7 @@
 //! Following a stream: each of its lines is answered before the next is read.
+//!
+//! A program on the other side writes a line and waits for its answer, so each answer is complete and flushed before
+//! anything is waited for. A line that cannot be kept is refused, and does not end the stream.
 
 ghost use Rattle.std.specs.Prelude.{ℕ, List, IsOkUnless};
 ghost use Rattle.fm_dimacs.specs.Sending.{IsSent};

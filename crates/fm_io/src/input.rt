@@ -1,4 +1,4 @@
-//! A complete input.
+//! A complete input, up to a bound, so that an endless source is refused before it takes all memory.
 
 ghost use Rattle.std.specs.Prelude.{◌≡◌, ◌≤◌, IfOk, IfErr, IfSome, OnOk, vec_len};
 ghost use Rattle.fm_io.specs.Sources.{IsUnread};

@@ -1,4 +1,4 @@
-//! The input and output of a program: bytes from a source, bytes to a sink, and lines of a stream, each answered in order.
+//! The input and output of a program: bytes from a source and to a sink, and lines of a stream, each answered in order.
 #![tactic(auto)]
 
 pub mod follow;

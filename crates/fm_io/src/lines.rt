@@ -1,4 +1,7 @@
-//! Reading a stream line by line.
+//! Reading a stream line by line, each with a bound, so that one line can neither take all memory nor end the stream.
+//!
+//! A line that is too long, or for which memory runs out, is read to its end and not kept. So the next line begins
+//! where it begins in the stream. Bytes are asked for one by one, and a source of its own should read ahead.
 
 ghost use Rattle.std.specs.Prelude.{◌≡◌, ◌⊎◌, ◌≤◌, ℕ, List, [], ◌∷◌, ◌++◌, None, true, false, length, ◌<◌, IfOk, OnErr, IsOkUnless};
 ghost use Rattle.std.specs.Option.{option_to_list};
@@ -76,7 +79,8 @@ fn end_of(kept: Line, is_empty: bool) -> Next
 
 // Keeps one byte more of a line, while it is not too long and there is memory.
 fn keep(kept: Line, line: &mut Vec<u8>, byte: u8) -> Line
-    ensures { (bytes : List ℕ) → IsKeptLine kept bytes line.old.items → IsKeptLine result (bytes ++ byte ∷ []) line.new.items }
+    ensures { (bytes : List ℕ) → IsKeptLine kept bytes line.old.items
+        → IsKeptLine result (bytes ++ byte ∷ []) line.new.items }
 {
     match kept {
         Line::Whole => push_to(line, byte),

@@ -1,4 +1,4 @@
-//! What is answered to a line.
+//! What is answered to a line: a text and `ok`, or the number of a refusal, from a fixed text that needs no memory.
 
 ghost use Rattle.std.specs.Prelude.{◌≡◌, IsOkUnless};
 ghost use Rattle.fm_dimacs.specs.Sending.{IsSent};

@@ -1,4 +1,4 @@
-//! Responders, which answer lines.
+//! Responders, which answer lines: what a stream is followed for is apart from how its lines are read and written.
 
 ghost use Rattle.std.specs.Prelude.{◌≡◌, ℕ, List, MatchResult};
 ghost use Rattle.fm_io.specs.Replies.{accepted_reply, refusal_reply};

@@ -1,4 +1,6 @@
-//! Sources of bytes.
+//! Sources of bytes, which may give a part of what they are asked for, end, or fail.
+//!
+//! `Input` makes a source of any reader. A read that was interrupted is made again, since that is no failure.
 
 ghost use Rattle.std.specs.Prelude.{◌≡◌, ◌≤◌, ◌||◌, ℕ, List, Bool, Option, false, is_none, length, IfSome, MatchOption};
 ghost use Rattle.std.specs.Io.KnownBytes.{Keeps};

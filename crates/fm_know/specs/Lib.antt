@@ -3,3 +3,4 @@ pub mod Winners
 pub mod KnowledgeEquality
 pub mod Mutators
 pub mod inner
+pub mod laws

@@ -1,4 +1,7 @@
 //! The facts that knowledge tells: what is live, open and held, and what a machine has left. None allocates.
+//!
+//! Records may arrive in any order, such as a task before its job. So no fact is stored: each is computed from the
+//! records when it is asked for, O(log n) for most. `load` and `spare` walk over all tasks.
 
 ghost use Rattle.std.specs.Prelude.{◌≡◌, Some, cond, option_map, sum_by, IfSome};
 ghost use Rattle.std.specs.Ordering.{nat_cmp};

@@ -1,4 +1,7 @@
-//! The tables of operations, as knowledge: the deltas by which coordinators speak.
+//! The knowledge of one operation or of several: the delta by which an operation is told, kept and sent.
+//!
+//! A delta is a state like any other, so one join serves for operations, packets and complete states (delta-state
+//! CRDTs: Almeida, Shoker and Baquero, 2018).
 
 ghost use Rattle.std.specs.Prelude.{◌≡◌, ◌<◌, ◌^◌, ◌∷◌, [], List, None, IsTrue, is_none, IfOk};
 ghost use Rattle.std.specs.List.{list_all};

@@ -1,4 +1,8 @@
-//! The replicated state and its joins.
+//! The replicated state and its joins: coordinators that received the same operations know the same.
+//!
+//! Packets come late, twice or in another order, so a state that depended on the order would differ from one
+//! coordinator to the next. Here each record only merges, and what a set of operations amounts to depends on the set
+//! alone (a state-based CRDT: Shapiro, Preguica, Baquero and Zawirski, 2011). All four maps are joined, or none.
 
 ghost use Rattle.std.specs.Prelude.{◌≡◌, ◌↔◌, [], ◌++◌, List, IsTrue, IfOk, OnOk, OnErr};
 ghost use Rattle.fm_records.specs.declared.ops.Op.{Op};
@@ -174,7 +178,8 @@ impl Join for Knowledge {
 }
 
 impl PartialEq for Knowledge {
-    ghost use Rattle.fm_know.specs.KnowledgeEquality.{same_table, table_equivalence};
+    ghost use Rattle.fm_know.specs.KnowledgeEquality.{same_table};
+    ghost use Rattle.fm_know.specs.laws.KnowledgeEqualityLaws.{table_equivalence};
 
     ghost eq = { same_table };
 

@@ -26,7 +26,8 @@ pub fn law_spelled(knowledge: &Knowledge)
 
 /// Sets with the same members have the same knowledge.
 pub fn law_same(left: &Knowledge, right: &Knowledge)
-    ensures { (S T : List Op) → HaveSameMembers S T → left.now ≡ table_of S → right.now ≡ table_of T → left.now ≡ right.now }
+    ensures { (S T : List Op) → HaveSameMembers S T → left.now ≡ table_of S → right.now ≡ table_of T
+        → left.now ≡ right.now }
 {
     left.known();
     right.known();

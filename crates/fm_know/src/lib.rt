@@ -1,5 +1,6 @@
-//! What a coordinator knows: the replicated state, its joins, and its facts. A delta-state CRDT (Almeida, Shoker and
-//! Baquero, "Delta state replicated data types", 2018).
+//! What a coordinator knows: the replicated state, its joins, and its facts.
+//!
+//! It is a delta-state CRDT (Almeida, Shoker and Baquero, "Delta state replicated data types", 2018).
 #![tactic(auto)]
 
 pub mod facts;

@@ -1,4 +1,8 @@
-//! Delta mutators (Almeida, Shoker and Baquero): a coordinator's next operations after what it knows. None allocates.
+//! A coordinator's next operations after what it knows: delta mutators (Almeida, Shoker and Baquero, 2018).
+//!
+//! A record at a version below the known one would be lost in the merge. So these look up the known version or attempt,
+//! and return the operation with the next one, which prevails where the same is known. After the greatest there is
+//! none. None of these allocates.
 
 ghost use Rattle.std.specs.Prelude.{◌≡◌, ◌≤◌, ◌∷◌, [], Some, IfOk, IfSome};
 ghost use Rattle.std.specs.Option.{ok_or};
@@ -54,7 +58,8 @@ impl Knowledge {
         ensures op { result
             ≡ ok_or (next_machine_op self.now id incarnation writer up slots nic) Refusal.VersionsSpent }
         ensures told { IfSome (incarnation_of self.now id) (λ i. i ≤ incarnation)
-            → IfOk result (λ o. machine_state (table_join self.now (table_of (o ∷ []))) id ≡ state_in id incarnation o) }
+            → IfOk result (λ o. machine_state (table_join self.now (table_of (o ∷ []))) id
+            ≡ state_in id incarnation o) }
         ensures present { IfSome (incarnation_of self.now id) (λ i. i ≤ incarnation)
             → IfOk result (λ o. incarnation_of (table_join self.now (table_of (o ∷ []))) id ≡ Some incarnation) }
     {

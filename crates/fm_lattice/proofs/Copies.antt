@@ -1,7 +1,8 @@
 -- Blocks that are copied or shared one after another.
 use Rattle.std.proofs.Common.{◌≡◌, ℕ, zero, suc, ◌<◌, List, [], ◌∷◌, ◌++◌, length, get_or, set, take, take-suc, refl, sym, ◌∙◌, ap, subst, arith}
 use Rattle.fm_lattice.specs.Stocks.{Stock}
-use Rattle.fm_lattice.specs.Blocks.{pairs_of, BeginsWith, AreHeaded}
+use Rattle.fm_lattice.specs.Blocks.{pairs_of}
+use Rattle.fm_lattice.specs.inner.BlockOrder.{BeginsWith, AreHeaded}
 use Rattle.fm_lattice.proofs.InBlocks.{pairs_push, pairs_set, headed_set, headed_push, begins_at}
 
 take_set : {X : Type 0} (xs : List X) (i : ℕ) (x : X) → i < length xs → take (suc i) (set xs i x) ≡ take i xs ++ x ∷ []

@@ -5,10 +5,12 @@ use Rattle.std.proofs.lemmas.List.{get_or_default, get_or-set_same}
 use Rattle.std.specs.Cmp.{IsTotalOrder}
 use Rattle.std.specs.declared.cmp.Ordering.{Ordering}
 use Rattle.std.specs.declared.cmp.Ordering.TheVariants.{Less, Equal, Greater}
-use Rattle.fm_lattice.specs.Chains.{TellsApart, greater_less}
+use Rattle.fm_lattice.specs.Chains.{TellsApart}
+use Rattle.fm_lattice.specs.laws.ChainLaws.{greater_less}
 use Rattle.fm_lattice.specs.Maps.{IsRising}
 use Rattle.fm_lattice.specs.Stocks.{Stock}
-use Rattle.fm_lattice.specs.Blocks.{pairs_of, BeginsWith, AreHeaded, IsAbove, IsBlockOf, IsOwnedAt, GoesToOwned, TakesKey}
+use Rattle.fm_lattice.specs.Blocks.{pairs_of}
+use Rattle.fm_lattice.specs.inner.BlockOrder.{BeginsWith, AreHeaded, IsAbove, IsBlockOf, IsOwnedAt, GoesToOwned, TakesKey}
 use Rattle.fm_lattice.proofs.InBlocks.{inside_blocks, rising_in, begins_at, begins_front, front_below, above_trans, cut_left, cut_right, pairs_cut, headed_set, headed_insert, lower_at, upper_at, pairs_set, block_set}
 use Rattle.fm_lattice.proofs.Owned.{owned_cut, owned_set}
 

@@ -6,12 +6,14 @@ use Rattle.std.specs.List.{insert}
 use Rattle.std.specs.Cmp.{IsTotalOrder}
 use Rattle.std.specs.declared.cmp.Ordering.{Ordering}
 use Rattle.std.specs.declared.cmp.Ordering.TheVariants.{Less}
-use Rattle.fm_lattice.specs.Chains.{TellsApart, by_order, by_cases, less_greater, greater_less}
+use Rattle.fm_lattice.specs.Chains.{TellsApart, by_order}
+use Rattle.fm_lattice.specs.laws.ChainLaws.{by_cases, less_greater, greater_less}
 use Rattle.fm_lattice.specs.Maps.{lookup, IsBelow, IsRising, put}
 use Rattle.fm_lattice.specs.laws.MapLaws.{below_trans, lookup_below}
 use Rattle.fm_lattice.specs.inner.SortedVec.{HasKeyAt, IsInsertionIndex}
 use Rattle.fm_lattice.specs.Stocks.{Stock}
-use Rattle.fm_lattice.specs.Blocks.{pairs_of, BeginsWith, AreHeaded, IsAbove, IsBlockOf}
+use Rattle.fm_lattice.specs.Blocks.{pairs_of}
+use Rattle.fm_lattice.specs.inner.BlockOrder.{BeginsWith, AreHeaded, IsAbove, IsBlockOf}
 use Rattle.fm_lattice.proofs.Places.{below_at}
 
 module _ {K V : Type 0} (cmp : K → K → Ordering) (total : IsTotalOrder cmp) (same : TellsApart cmp) where

@@ -5,12 +5,13 @@ use Rattle.std.specs.Cmp.{IsTotalOrder}
 use Rattle.std.specs.declared.cmp.Ordering.{Ordering}
 use Rattle.std.specs.declared.cmp.Ordering.TheVariants.{Less, Equal, Greater}
 use Rattle.std.proofs.lemmas.Cmp.{tied_itself}
-use Rattle.fm_lattice.specs.Chains.{TellsApart, by_order, by_cases, less_greater, greater_less}
+use Rattle.fm_lattice.specs.Chains.{TellsApart, by_order}
+use Rattle.fm_lattice.specs.laws.ChainLaws.{by_cases, less_greater, greater_less}
 use Rattle.fm_lattice.specs.Maps.{IsBelow, IsRising, put}
 use Rattle.fm_lattice.specs.laws.MapLaws.{below_trans}
 use Rattle.fm_lattice.specs.inner.SortedVec.{HasKeyAt, IsInsertionIndex}
 use Rattle.fm_lattice.specs.Stocks.{Stock}
-use Rattle.fm_lattice.specs.Blocks.{BeginsWith, BeginAbove, IsBlockFor, is_owned_home, GoesToOwned, GoToOwned}
+use Rattle.fm_lattice.specs.inner.BlockOrder.{BeginsWith, BeginAbove, IsBlockFor, is_owned_home, GoesToOwned, GoToOwned}
 use Rattle.fm_lattice.proofs.Places.{below_at}
 
 not_less_equal : Equal ≡ Less → ⊥

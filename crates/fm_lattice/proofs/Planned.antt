@@ -8,7 +8,8 @@ use Rattle.fm_lattice.specs.Joins.{JoinLaws}
 use Rattle.fm_lattice.specs.Maps.{IsMap, map_join}
 use Rattle.fm_lattice.specs.laws.MapLaws.{is_map_join, map_laws}
 use Rattle.fm_lattice.specs.Stocks.{Stock}
-use Rattle.fm_lattice.specs.Blocks.{pairs_of, AreHeaded, IsKept}
+use Rattle.fm_lattice.specs.Blocks.{pairs_of}
+use Rattle.fm_lattice.specs.inner.BlockOrder.{AreHeaded, IsKept}
 use Rattle.fm_lattice.specs.inner.StagedJoins.{outcome}
 
 module _ {K V A : Type 0} (cmp : K → K → Ordering) (total : IsTotalOrder cmp) (same : TellsApart cmp) (join : V → V → V)

@@ -8,7 +8,7 @@ use Rattle.fm_lattice.specs.Chains.{TellsApart}
 use Rattle.fm_lattice.specs.Joins.{option_join}
 use Rattle.fm_lattice.specs.Maps.{lookup, put, keep_new, IsRising}
 use Rattle.fm_lattice.specs.laws.MapLaws.{lookup_put}
-use Rattle.fm_lattice.specs.Blocks.{HaveSpares}
+use Rattle.fm_lattice.specs.inner.BlockOrder.{HaveSpares}
 
 none_before : {V : Type 0} (join : V → V → V) (x y : Option V) → option_join join x y ≡ None → x ≡ None
 none_before join None y e = refl

@@ -8,7 +8,8 @@ use Rattle.std.specs.Cmp.{IsTotalOrder}
 use Rattle.std.specs.declared.cmp.Ordering.{Ordering}
 use Rattle.std.specs.declared.cmp.Ordering.TheVariants.{Less}
 use Rattle.std.proofs.lemmas.Cmp.{tied_back, alike_right}
-use Rattle.fm_lattice.specs.Chains.{TellsApart, less_greater, greater_less}
+use Rattle.fm_lattice.specs.Chains.{TellsApart}
+use Rattle.fm_lattice.specs.laws.ChainLaws.{less_greater, greater_less}
 use Rattle.fm_lattice.specs.Maps.{IsBelow, IsRising, put}
 use Rattle.fm_lattice.specs.inner.SortedVec.{HasKeyAt, IsInsertionIndex}
 use Rattle.fm_lattice.proofs.Places.{below_at}

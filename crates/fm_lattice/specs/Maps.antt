@@ -50,12 +50,3 @@ JoinsByKey {K} cmp join x y r = (k : K) → lookup cmp k r ≡ option_join join 
 -- the later of two
 abbrev pub keep_new : {V : Type 0} → V → V → V
 keep_new old new = new
-
--- the value joined to what is there, if anything is
-abbrev pub joined_onto : {V : Type 0} → (V → V → V) → Option V → V → V
-joined_onto join None w = w
-joined_onto join (Some v) w = join v w
-
--- the pair's key, and its value joined to what the map has there
-abbrev pub joined_pair : {K V : Type 0} → (K → K → Ordering) → (V → V → V) → List (K × V) → K × V → K × V
-joined_pair cmp join es e = (e.0, joined_onto join (lookup cmp e.0 es) e.1)

@@ -1,2 +1,4 @@
 pub mod SortedVec
 pub mod StagedJoins
+pub mod BlockOrder
+pub mod JoinedPairs

@@ -1,2 +1,3 @@
 pub mod PlainLaws
 pub mod MapLaws
+pub mod ChainLaws

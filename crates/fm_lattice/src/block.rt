@@ -1,4 +1,9 @@
-//! Blocks of pairs. A map owns a block, and can write it, or shares it with other maps, and can only read it.
+//! Blocks of pairs, which maps share until one of them writes (copy on write).
+//!
+//! A copy of a map for a history or a packet would cost each of its pairs. So a block is either owned by one map, which
+//! writes it in place, or shared through a counted pointer and only read. A map that writes a shared block copies its
+//! pairs first, and the other maps keep theirs. A block that was shared once is copied even if no other map has it any
+//! more.
 
 ghost use Rattle.std.specs.Prelude.{◌≡◌, ◌≤◌, ◌<◌, ◌+◌, ◌++◌, ◌∷◌, [], List, None, true, IfOk, OnOk, OnErr, length, vec_len, vec_capacity};
 ghost use Rattle.fm_lattice.specs.Maps.{IsRising, lookup, put, keep_new};

@@ -1,8 +1,14 @@
-//! Pairs whose keys rise, kept in blocks: finding a key, making room for one, and changing in place.
+//! Pairs by rising key in blocks of up to 64, so that a new key moves the pairs of its block and not those of the map.
+//!
+//! The blocks lie in an array, each with its first key: a binary search finds the block, and another one the key in it,
+//! O(log n). A full block is split in halves before it takes one more pair, as the leaf of a B-tree is (Bayer and
+//! McCreight, 1972). A key after all others only takes the last pair along, so keys that come in order leave full
+//! blocks. A split also moves the entries of the later blocks in the array.
 
 ghost use Rattle.std.specs.Prelude.{◌≡◌, ◌+◌, ◌≤◌, ◌<◌, ◌++◌, ℕ, List, None, IsTrue, true, false, IfOk, OnOk, length, option_copied, slice_index_or, vec_len, vec_capacity};
 ghost use Rattle.fm_lattice.specs.Maps.{IsRising, lookup, put, keep_new};
-ghost use Rattle.fm_lattice.specs.Blocks.{pairs_of, BeginsWith, AreHeaded, IsAbove, IsBlockOf, IsBlockFor, GoesToOwned, IsOwnedAt, HasAt, TakesKey, IsSpare};
+ghost use Rattle.fm_lattice.specs.Blocks.{pairs_of};
+ghost use Rattle.fm_lattice.specs.inner.BlockOrder.{BeginsWith, AreHeaded, IsAbove, IsBlockOf, IsBlockFor, GoesToOwned, IsOwnedAt, HasAt, TakesKey, IsSpare};
 
 use crate::block::Block;
 use crate::chain::Chain;

@@ -1,4 +1,8 @@
-//! Merges of plain values.
+//! Merges of plain values, of which the merges of records are put together.
+//!
+//! So no record needs a proof of its own that it merges. `Max` and `Min` are those of a total order, `Opt` adds a least
+//! value, `Both` is the product, and `Lex` the lexicographic product. See Baquero, Almeida, Cunha and Ferreira,
+//! "Composition in state-based replicated data types" (2017).
 
 ghost use Rattle.std.specs.Prelude.{◌≡◌};
 ghost use Rattle.fm_lattice.specs.Joins.{Any, IsOptionOf, IsPairOf, IsLexOf, max_join, min_join, option_join, pair_join, lex_join};

@@ -1,4 +1,7 @@
-//! Maps whose values merge.
+//! Maps that merge key by key, and stay cheap to write, to join and to copy while they grow.
+//!
+//! Pairs are in blocks by rising key (`blocks`). A join of few keys changes these in place, and one of many merges both
+//! maps (`staged_join`). Maps share blocks until they are written (`block`). A growth that is refused changes nothing.
 
 ghost use Rattle.std.specs.Prelude.{◌≡◌, ◌↔◌, ◌<◌, ◌^◌, List, [], ◌∷◌, length, IsTrue, IfOk, OnOk, OnErr, option_copied};
 ghost use Rattle.fm_lattice.specs.Maps.{IsMap, lookup, put, map_join, JoinsByKey};
@@ -24,7 +27,8 @@ pub struct JoinMap<K: Chain, V: Join> {
 
 impl<K: Chain, V: Join> Model for JoinMap<K, V> {
     ghost use Rattle.std.specs.Prelude.{List};
-    ghost use Rattle.fm_lattice.specs.Blocks.{pairs_of, IsKept};
+    ghost use Rattle.fm_lattice.specs.Blocks.{pairs_of};
+    ghost use Rattle.fm_lattice.specs.inner.BlockOrder.{IsKept};
 
     ghost Value = { List (K × V) };
 
@@ -76,7 +80,8 @@ impl<K: Chain, V: Join> JoinMap<K, V> {
     }
 
     /// Joins the value in at the key. O(log n), and the moves within a block of bounded length; O(1) after the last
-    /// key. If memory runs out, the map is unchanged.
+    /// key. One of some 32 new keys splits a block, which also moves the entries of all blocks behind it. If memory runs
+    /// out, the map is unchanged.
     pub fn put(&mut self, key: K, value: V) -> Result<(), OutOfMemory>
         ensures ok { OnOk result (self.new ≡ put K.cmp V.join key value self.old) }
         ensures by_key { OnOk result (JoinsByKey K.cmp V.join self.old ((key, value) ∷ []) self.new) }
@@ -99,11 +104,12 @@ impl<K: Chain, V: Join> JoinMap<K, V> {
 
     /// Joins the other map in. If the other has no more keys than there are blocks here, this is done in place: for
     /// each of the other's m keys a search among the n here and the moves within a block, O(m log n). Else it is one
-    /// merge of both, O(n + m), which replaces the map. Nothing is allocated if the other says nothing new, and an
-    /// empty map gets the other's blocks, by a pointer each if they are shared. In place it allocates each of the m
-    /// pairs, room for two more for each new key, a copy of each shared block to which one of the keys goes, and a
-    /// block of 64 pairs for each that may be split: at most one for each 32 new keys that a block does not hold, and
-    /// for each 63 after the last key. If memory runs out, the map is unchanged.
+    /// merge of both, O(n + m), which replaces the map, and allocates nothing if the other says nothing new. An empty
+    /// map gets the other's blocks, by a pointer each if they are shared. In place it allocates also if the other says
+    /// nothing new: the m joined pairs, m more entries of the list of blocks if that has no room for them, and a copy
+    /// of each shared block to which one of the keys goes. For new keys it also allocates room in their blocks, and
+    /// room for two pairs each, or a block of 64 pairs for each block that may be split: at most one for each 32 new
+    /// keys that a block does not hold, and for each 63 after the last key. If memory runs out, the map is unchanged.
     pub fn join_into(&mut self, other: &JoinMap<K, V>) -> Result<(), OutOfMemory>
         ensures ok { OnOk result (self.new ≡ map_join K.cmp V.join self.old other.now) }
         ensures by_key { OnOk result (JoinsByKey K.cmp V.join self.old other.now self.new) }

@@ -1,8 +1,13 @@
-//! Joins of two maps in blocks: a merge into new blocks, and changes in place.
+//! Joins of two maps in blocks: one merge of both, or changes in place if the other map is small.
+//!
+//! A merge walks along both maps, O(n + m), which is too much for a delta of one key. For few keys `changes` looks each
+//! of them up and allocates what its change may need, O(m log n). Then `apply` makes all changes and cannot fail.
 
 ghost use Rattle.std.specs.Prelude.{◌≡◌, ◌↔◌, IsTrue, ◌+◌, ◌≤◌, ◌<◌, ◌++◌, ◌∷◌, [], List, None, IfOk, OnOk, OnErr, map, length, vec_len, vec_capacity};
-ghost use Rattle.fm_lattice.specs.Maps.{IsRising, lookup, put, map_join, keep_new, joined_onto, joined_pair};
-ghost use Rattle.fm_lattice.specs.Blocks.{pairs_of, AreHeaded, HaveSpares, GoesToOwned, GoToOwned};
+ghost use Rattle.fm_lattice.specs.Maps.{IsRising, lookup, put, map_join, keep_new};
+ghost use Rattle.fm_lattice.specs.inner.JoinedPairs.{joined_onto, joined_pair};
+ghost use Rattle.fm_lattice.specs.Blocks.{pairs_of};
+ghost use Rattle.fm_lattice.specs.inner.BlockOrder.{AreHeaded, HaveSpares, GoesToOwned, GoToOwned};
 
 use crate::block::Block;
 use crate::blocks::{

@@ -2,7 +2,8 @@
 
 ghost use Rattle.std.specs.Prelude.{◌≡◌, ◌∷◌, List, [], ◌++◌, drop, MatchOption};
 ghost use Rattle.std.specs.Iterator.{YieldsFirstBy, item_count};
-ghost use Rattle.fm_lattice.specs.Blocks.{pairs_of, AreHeaded};
+ghost use Rattle.fm_lattice.specs.Blocks.{pairs_of};
+ghost use Rattle.fm_lattice.specs.inner.BlockOrder.{AreHeaded};
 
 use crate::block::Block;
 use std::marker::Model;

@@ -1,4 +1,7 @@
-//! Values with several owners.
+//! Values with several owners, so that one more owner costs a counter and no copy.
+//!
+//! Contracts see such a value as the value itself. An owner that writes while there are others gets a clone of its own
+//! first (copy on write).
 
 ghost use Rattle.std.specs.Prelude.{◌≡◌, ◌⊎◌, IfOk};
 ghost use Rattle.std.specs.Borrow.{LendsSoOk, sem};

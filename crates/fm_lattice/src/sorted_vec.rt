@@ -1,4 +1,7 @@
-//! Pairs in order of their keys: finding a key, setting the value at one, and taking a pair out.
+//! Pairs in order of their keys, in one array: finding a key, setting the value at one, and taking a pair out.
+//!
+//! Most keys come in order. One after the last is found by one comparison and pushed, in amortised O(1). Any other is
+//! found by binary search, O(log n), and a new one moves the pairs after it, O(n).
 
 ghost use Rattle.std.specs.Prelude.{◌≡◌, ◌+◌, ◌≤◌, ◌<◌, None, IfOk, IfErr, OnOk, OnErr, vec_len, vec_capacity};
 ghost use Rattle.std.specs.BTreeMap.{is_at};

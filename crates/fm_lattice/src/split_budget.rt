@@ -1,4 +1,8 @@
-//! Which new keys need a full-size spare block, if many go to one block.
+//! Which new keys of a join need a full-size spare block, since the block to which they go may have to be split.
+//!
+//! Changes in place must not allocate, so the memory of each split is there before. A spare block of 64 pairs for each
+//! new key would cost far more than the keys. They come in order, so those of one block follow each other. The first
+//! that no longer fits gets one, and after it each 32nd, or each 63rd after the last key of the map.
 
 use crate::blocks::FULL;
 

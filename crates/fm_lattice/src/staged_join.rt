@@ -1,8 +1,13 @@
-//! Joins in two steps: a plan, which may run out of memory, and its execution, which cannot fail.
+//! Joins in two steps, so that a join of several maps is made in all of them or in none.
+//!
+//! If memory ran out between two maps, one would be changed and the other not. `plan_join` allocates all that a join
+//! needs and changes no pair; `carry_out` then cannot fail. `join_four` plans for all four maps before it changes one.
+//! A plan has either changes in place, or new blocks that replace the present ones.
 
 ghost use Rattle.std.specs.Prelude.{◌≡◌, List, true, IfOk, length};
 ghost use Rattle.fm_lattice.specs.Maps.{IsRising, map_join};
-ghost use Rattle.fm_lattice.specs.Blocks.{pairs_of, AreHeaded, IsKept};
+ghost use Rattle.fm_lattice.specs.Blocks.{pairs_of};
+ghost use Rattle.fm_lattice.specs.inner.BlockOrder.{AreHeaded, IsKept};
 ghost use Rattle.fm_lattice.specs.inner.StagedJoins.{IsReady, outcome};
 
 use crate::block::Block;

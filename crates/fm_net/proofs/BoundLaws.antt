@@ -21,7 +21,7 @@ use Rattle.fm_net.specs.declared.node.Node.TheVariants.{Sink, Unscheduled, Reque
 use Rattle.fm_net.specs.Nodes.{IsInRange}
 use Rattle.fm_net.specs.Net.{CanBeNet}
 use Rattle.fm_net.proofs.ListLaws.{some_member}
-use Rattle.fm_net.specs.Network.{is_held, is_live_of, waits_for, is_node, places, preferred_arc, arc_of, net_of}
+use Rattle.fm_net.specs.Network.{is_held, is_live_of, waits_for, is_node, capacity_for, preferred_arc, arc_of, net_of}
 use Rattle.fm_net.proofs.NetworkLaws.{passes_some, mapped_from, where_true, live_entry, open_entry, room_from, preferred_from, ends_of, is_network_of}
 
 none : {A P : Type 0} {a : A} → None ≡ Some a → P
@@ -120,7 +120,7 @@ module _ (k : Table) (is : CanBe k) where
   within : (v w : ℕ × ℕ) → v ≡ w → 1 ≤ v.0 → v.0 < 2 ^ 64 → v.1 ≤ 1000000000 → Within w
   within v w e a b c = subst Within e (record { above = a; fits = b; cost = c })
 
-  places_above : (state : MachineReg) (spare r : ℕ) → 1 ≤ state.slots → r ≤ spare → 1 ≤ places state spare r
+  places_above : (state : MachineReg) (spare r : ℕ) → 1 ≤ state.slots → r ≤ spare → 1 ≤ capacity_for state spare r
   places_above state spare r h g =
       elim (r == 0) as (λ b. (r == 0) ≡ b → 1 ≤ cond b state.slots (min state.slots (spare / r))) [
         | true ↦ λ _. h
@@ -130,7 +130,7 @@ module _ (k : Table) (is : CanBe k) where
             omega arith
       ] refl
 
-  places_within : (state : MachineReg) (spare r : ℕ) → places state spare r ≤ state.slots
+  places_within : (state : MachineReg) (spare r : ℕ) → capacity_for state spare r ≤ state.slots
   places_within state spare r = elim (r == 0) as (λ b. cond b state.slots (min state.slots (spare / r)) ≤ state.slots) [ true ↦ omega arith | false ↦ omega arith ]
 
   module _ (few : length k.tasks < 2 ^ 64) where
@@ -155,7 +155,7 @@ module _ (k : Table) (is : CanBe k) where
         let p = room_from k r m v (where_true (is_node k (Request r)) _ v e).1 in
         let spare = p.state.nic - load_of k m in
         let ranges = state_ranges m p.state p.opened in
-        let all : places p.state spare r ≤ p.state.slots = places_within p.state spare r in
+        let all : capacity_for p.state spare r ≤ p.state.slots = places_within p.state spare r in
         within _ v p.value (places_above p.state spare r ranges.slots_above p.room) (omega (arith, all, ranges.slots_within)) (omega (arith, p.within, p.room, ranges.nic))
     arc_within (Machine m) Sink v e =
         let state = mapped_from _ (open_state k m) v e in

@@ -5,7 +5,8 @@ use Rattle.std.specs.List.{AllZip}
 use Rattle.std.specs.declared.cmp.Ordering.{Ordering}
 use Rattle.std.proofs.lemmas.List.Elements.{same_from_all_zip}
 use Rattle.slab.specs.Slab.{Slab, get, IsSlotClone, IsSlabClone}
-use Rattle.fm_net.specs.Cells.{pairs_in_cells, AreInCells, AreKept, IsPlainClone}
+use Rattle.fm_net.specs.Cells.{pairs_in_cells}
+use Rattle.fm_net.specs.inner.IndexedCells.{AreInCells, AreKept, IsPlainClone}
 
 module _ {T : Type 0} (R : T → T → Type 0) (plain : IsPlainClone R) where
   slot_same : (x y : Option T) → IsSlotClone R x y → y ≡ x

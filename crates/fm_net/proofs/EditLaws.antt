@@ -7,13 +7,14 @@ use Rattle.std.specs.declared.cmp.Ordering.TheVariants.{Less, Greater}
 use Rattle.std.proofs.Common.{sym, ap, ◌∙◌, subst, inl, inr}
 use Rattle.std.proofs.lemmas.Bool.{eqb-true}
 use Rattle.std.proofs.lemmas.Cmp.{tied_itself}
-use Rattle.fm_lattice.specs.Chains.{TellsApart, by_cases, less_greater, greater_less}
+use Rattle.fm_lattice.specs.Chains.{TellsApart}
+use Rattle.fm_lattice.specs.laws.ChainLaws.{by_cases, less_greater, greater_less}
 use Rattle.fm_lattice.specs.Joins.{option_join}
 use Rattle.fm_lattice.specs.Maps.{lookup, IsBelow, IsRising, put, keep_new}
 use Rattle.fm_lattice.specs.laws.MapLaws.{lookup_below, same_map, rising_put, lookup_put}
 use Rattle.fm_records.specs.Options.{when, and_then, passes}
 use Rattle.fm_records.specs.Sets.{IsMember}
-use Rattle.fm_records.specs.TableLaws.{IsBelowAll, Rises}
+use Rattle.fm_records.specs.Rising.{IsBelowAll, Rises}
 use Rattle.fm_net.specs.declared.node.Node.{Node}
 use Rattle.fm_net.specs.declared.node.Node.TheVariants.{Sink, Unscheduled, Request, Machine, Task}
 use Rattle.fm_net.specs.Nodes.{node_cmp, ends_cmp, IsInRange, IsRequestInRange}
@@ -23,7 +24,8 @@ use Rattle.fm_net.proofs.ListLaws.{same_rising, has_member, passes_kept}
 use Rattle.fm_net.specs.declared.edit.Edit.{Edit}
 use Rattle.fm_net.specs.declared.edit.Edit.TheVariants.{DropNode, PutNode}
 use Rattle.fm_net.specs.Edits.{Arc, after_edit, after_edits, MayPutArc, MayEdit, MayEditAll, joins, same_value, has_arc, gone_arcs, gone_nodes, new_nodes, new_arcs, drop_of, put_of, change}
-use Rattle.fm_net.specs.inner.KeptLists.{rising_kept, lookup_kept, has, has_kept, has_inserted, rises_inserted}
+use Rattle.fm_net.proofs.KeptLists.{rising_kept, lookup_kept, has, has_kept, has_inserted}
+use Rattle.fm_records.proofs.TableLaws.{rises_insert}
 
 none : {A P : Type 0} {a : A} → None ≡ Some a → P
 none e = absurd (let no : ⊥ = cc in no)
@@ -209,7 +211,7 @@ came_twice false false c = refl
 came : (ns : List Node) (net : Net) → Rises node_cmp net.nodes → ((n : Node) → IsMember n ns → MayEdit net (PutNode n)) → Came ns net
 came [] net r fine = record { arcs = refl; rise = r; nodes = λ q. refl; may = tt }
 came (n ∷ ns) net r fine =
-    let rest = came ns (with_node n net) (rises_inserted node_cmp node_total node_exact n net.nodes r) (λ m h. fine m (inr h)) in
+    let rest = came ns (with_node n net) (rises_insert node_cmp node_total node_exact n net.nodes r) (λ m h. fine m (inr h)) in
     record {
       arcs = rest.arcs;
       rise = rest.rise;

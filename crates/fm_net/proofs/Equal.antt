@@ -4,7 +4,8 @@ use Rattle.std.specs.Cmp.Lexicographic.{pointwise}
 use Rattle.std.specs.Map.{keys_of}
 use Rattle.fm_net.specs.declared.node.Node.{Node}
 use Rattle.fm_net.specs.Net.{Net}
-use Rattle.fm_net.specs.NetworkEquality.{same_node, same_arc, same_net, net_Decides}
+use Rattle.fm_net.specs.NetworkEquality.{same_node, same_arc, same_net}
+use Rattle.fm_net.specs.laws.NetworkEqualityLaws.{net_Decides}
 
 -- pairs of nothing but a key are the same if the keys are
 and_true : (b : Bool) → (b && true) ≡ b

@@ -2,6 +2,7 @@ pub mod Equal
 mod Examples
 mod Edited
 pub mod Kept
+pub mod KeptLists
 pub mod Said
 pub mod Touches
 pub mod Made

@@ -4,7 +4,7 @@ use Rattle.std.specs.List.{list_any}
 use Rattle.std.specs.Ordering.{nat_cmp, is_eq}
 use Rattle.std.proofs.Common.{sym, ap, ◌∙◌, subst, inl, inr}
 use Rattle.std.proofs.lemmas.Bool.{eqb-true, leb-true}
-use Rattle.fm_lattice.specs.Chains.{nat_same}
+use Rattle.fm_lattice.specs.laws.ChainLaws.{nat_same}
 use Rattle.fm_lattice.specs.Maps.{lookup}
 use Rattle.fm_lattice.specs.laws.MapLaws.{same_map}
 use Rattle.fm_records.specs.declared.records.SpecReg.{SpecReg}
@@ -13,7 +13,7 @@ use Rattle.fm_records.specs.Options.{when, and_then, only_if, passes}
 use Rattle.fm_records.specs.Sets.{IsMember, rising}
 use Rattle.fm_records.proofs.LookupLaws.{when_is_true, both_true}
 use Rattle.fm_records.proofs.RangeLaws.{inside, when_value}
-use Rattle.fm_records.specs.TableLaws.{rising_table, lookup_table, rises_rising, member_rising}
+use Rattle.fm_records.proofs.TableLaws.{rising_table, lookup_table, rises_rising, member_rising}
 use Rattle.fm_records.specs.Table.{Table, TaskValue, MachineValue}
 use Rattle.fm_records.specs.Facts.{spec_of, machine_state, live_spec, is_live, open_state, is_open, is_present, won_spot, holder_of, holds, load_of, spare_of}
 use Rattle.fm_net.specs.declared.node.Node.{Node}
@@ -22,7 +22,7 @@ use Rattle.fm_net.specs.Nodes.{node_cmp, ends_cmp}
 use Rattle.fm_net.specs.laws.NodeOrder.{node_exact, node_total, ends_exact, ends_total}
 use Rattle.fm_net.specs.Net.{Net, IsArcKind}
 use Rattle.fm_net.proofs.ListLaws.{any_of, some_member, member_before, member_behind, member_passing, passes_kept, member_mapped, member_of_one, entry_member, has_member, member_has, rises_kept, same_rising}
-use Rattle.fm_net.specs.Network.{is_held, is_live_of, waits_for, some_task, is_node, places, place_arc, room_arc, preferred_arc, arc_of, IsNetworkOf, names_of_task, names, nodes_of, pairs, net_of}
+use Rattle.fm_net.specs.Network.{is_held, is_live_of, waits_for, some_task, is_node, capacity_for, place_arc, room_arc, preferred_arc, arc_of, IsNetworkOf, names_of_task, names, nodes_of, pairs, net_of}
 
 none : {A P : Type 0} {a : A} → None ≡ Some a → P
 none e = absurd (let no : ⊥ = cc in no)
@@ -135,7 +135,7 @@ module _ (k : Table) where
     pub opened : open_state k m ≡ Some state
     pub within : load_of k m ≤ state.nic
     pub room : r ≤ state.nic - load_of k m
-    pub value : (places state (state.nic - load_of k m) r, r + load_of k m) ≡ v
+    pub value : (capacity_for state (state.nic - load_of k m) r, r + load_of k m) ≡ v
 
   pub room_from : (r m : ℕ) (v : ℕ × ℕ) → room_arc k r m ≡ Some v → Room r m v
   room_from r m v e =
@@ -150,7 +150,7 @@ module _ (k : Table) where
         opened = state.1;
         within = subst (λ (s : MachineReg). load_of k m ≤ s.nic) one (leb-true (load_of k m) other.0.nic (when_is_true _ _ spare.0 other.2));
         room = subst (λ n. r ≤ n) (sym left) fits;
-        value = ap (λ n. (places state.0 n r, r + load_of k m)) left ∙ when_value _ _ v spare.2;
+        value = ap (λ n. (capacity_for state.0 n r, r + load_of k m)) left ∙ when_value _ _ v spare.2;
       }
 
   -- what the arc of a task into a machine that it prefers comes from

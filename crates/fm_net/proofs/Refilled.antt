@@ -5,9 +5,11 @@ use Rattle.std.specs.Option.{unwrap_or}
 use Rattle.std.specs.Ordering.{is_eq, match_ordering}
 use Rattle.std.specs.Cmp.{IsTotalOrder}
 use Rattle.std.specs.declared.cmp.Ordering.{Ordering}
-use Rattle.fm_lattice.specs.Chains.{TellsApart, by_order, by_cases}
+use Rattle.fm_lattice.specs.Chains.{TellsApart, by_order}
+use Rattle.fm_lattice.specs.laws.ChainLaws.{by_cases}
 use Rattle.fm_lattice.specs.Maps.{lookup, put, keep_new, IsRising}
-use Rattle.fm_net.specs.Cells.{pairs_in_cells, EachHasCell, AreInCells}
+use Rattle.fm_net.specs.Cells.{pairs_in_cells}
+use Rattle.fm_net.specs.inner.IndexedCells.{EachHasCell, AreInCells}
 use Rattle.fm_net.proofs.Shown.{CellIs, Found, found, no_other, still, shown_still, less_not, greater_not, no_place, place_is, no_some, value_in, shown_at, put_in_cells, put_shown}
 
 -- the key's cell is filled again

@@ -7,15 +7,17 @@ use Rattle.std.specs.Ordering.{is_eq}
 use Rattle.std.specs.Cmp.{IsTotalOrder}
 use Rattle.std.specs.declared.cmp.Ordering.{Ordering}
 use Rattle.std.proofs.lemmas.Cmp.{tied_back}
-use Rattle.fm_lattice.specs.Chains.{by_order, by_cases, less_greater, greater_less}
+use Rattle.fm_lattice.specs.Chains.{by_order}
+use Rattle.fm_lattice.specs.laws.ChainLaws.{by_cases, less_greater, greater_less}
 use Rattle.fm_lattice.specs.Maps.{lookup, put, keep_new, IsRising}
 use Rattle.fm_records.specs.Sets.{insert_once}
-use Rattle.fm_records.specs.TableLaws.{Rises}
+use Rattle.fm_records.specs.Rising.{Rises}
 use Rattle.fm_net.specs.declared.node.Node.{Node}
 use Rattle.fm_net.specs.Nodes.{node_cmp, ends_cmp}
 use Rattle.fm_net.specs.laws.NodeOrder.{node_exact, node_total, ends_total}
 use Rattle.fm_net.specs.Net.{Net, has_node, arc_at, with_node, without_node, with_arc, without_arc, remove_node, are_ends}
-use Rattle.fm_net.specs.inner.KeptLists.{has_inserted, rises_inserted}
+use Rattle.fm_net.proofs.KeptLists.{has_inserted}
+use Rattle.fm_records.proofs.TableLaws.{rises_insert}
 use Rattle.fm_net.proofs.EditLaws.{at_put, at_removed, stands_removed, rises_removed}
 
 -- networks of the same lists are the same
@@ -74,7 +76,7 @@ has_without n net r q =
     ∙ ap (λ b. cond b false (has_node net q)) (swapped node_cmp node_total q n)
 
 pub rises_with : (n : Node) (net : Net) → Rises node_cmp net.nodes → Rises node_cmp (with_node n net).nodes
-rises_with n net r = rises_inserted node_cmp node_total node_exact n net.nodes r
+rises_with n net r = rises_insert node_cmp node_total node_exact n net.nodes r
 
 pub rises_without : (n : Node) (net : Net) → Rises node_cmp net.nodes → Rises node_cmp (without_node n net).nodes
 rises_without n net r = rises_removed n net.nodes r

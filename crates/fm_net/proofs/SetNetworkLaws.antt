@@ -14,7 +14,7 @@ use Rattle.fm_records.proofs.SetFactLaws.{any_rows, count_rows, live_is, is_live
 use Rattle.fm_net.specs.declared.node.Node.{Node}
 use Rattle.fm_net.specs.declared.node.Node.TheVariants.{Sink, Unscheduled, Request, Machine, Task}
 use Rattle.fm_net.specs.Net.{Net}
-use Rattle.fm_net.specs.Network.{is_held, is_live_of, waits_for, some_task, live_tasks, is_node, places, room_arc, arc_of, IsNetworkOf, net_of}
+use Rattle.fm_net.specs.Network.{is_held, is_live_of, waits_for, some_task, live_tasks, is_node, capacity_for, room_arc, arc_of, IsNetworkOf, net_of}
 use Rattle.fm_net.proofs.NetworkLaws.{network_is}
 use Rattle.fm_net.specs.SetNetwork.{has_holder, live_of, waiting, is_node_in, room_in, arc_in, IsNetworkOfSet}
 
@@ -55,7 +55,7 @@ module _ (S : List Op) where
   node_is (Task t) = is_live_is S t
 
   room_is : (r m : ℕ) → room_arc (table_of S) r m ≡ room_in S r m
-  room_is r m = λ i. and_then (λ state. and_then (λ free. when (nat_le r free) (places state free r, r + load_is S m i)) (spare_is S m i)) (opened_is S m i)
+  room_is r m = λ i. and_then (λ state. and_then (λ free. when (nat_le r free) (capacity_for state free r, r + load_is S m i)) (spare_is S m i)) (opened_is S m i)
 
   pub arc_is : (from to : Node) → arc_of (table_of S) from to ≡ arc_in S from to
   arc_is (Task t) (Request r) = ap (λ b. when b (1, 0)) (waiting_is r t)

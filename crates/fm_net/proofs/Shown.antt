@@ -9,9 +9,11 @@ use Rattle.std.specs.Cmp.{IsTotalOrder}
 use Rattle.std.specs.declared.cmp.Ordering.{Ordering}
 use Rattle.std.specs.declared.cmp.Ordering.TheVariants.{Less, Equal, Greater}
 use Rattle.std.proofs.lemmas.Cmp.{tied_itself}
-use Rattle.fm_lattice.specs.Chains.{TellsApart, by_order, by_cases}
+use Rattle.fm_lattice.specs.Chains.{TellsApart, by_order}
+use Rattle.fm_lattice.specs.laws.ChainLaws.{by_cases}
 use Rattle.fm_lattice.specs.Maps.{lookup, put, keep_new, IsBelow, IsRising}
-use Rattle.fm_net.specs.Cells.{pairs_in_cells, EachHasCell, AreInCells}
+use Rattle.fm_net.specs.Cells.{pairs_in_cells}
+use Rattle.fm_net.specs.inner.IndexedCells.{EachHasCell, AreInCells}
 
 module _ {K : Type 0} (cmp : K → K → Ordering) where
   below : (k : K) (es : List (K × ℕ)) → AllByRecursion (λ q. cmp k q ≡ Less) (keys_of es) → IsBelow cmp k es

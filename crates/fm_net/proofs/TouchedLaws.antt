@@ -3,11 +3,11 @@ use Rattle.std.specs.Prelude.{◌≡◌, ℕ, Bool, true, false, cond, not, ◌&
 use Rattle.std.specs.List.{filter_map, cons_option}
 use Rattle.std.specs.Ordering.{is_eq}
 use Rattle.std.proofs.Common.{sym, ap, ◌∙◌, eq-eqb}
-use Rattle.fm_lattice.specs.Chains.{by_cases}
+use Rattle.fm_lattice.specs.laws.ChainLaws.{by_cases}
 use Rattle.fm_lattice.specs.Maps.{lookup, IsBelow, IsRising}
 use Rattle.fm_lattice.specs.laws.MapLaws.{same_map, lookup_below}
 use Rattle.fm_records.specs.Options.{when, and_then, passes}
-use Rattle.fm_records.specs.TableLaws.{IsBelowAll, Rises}
+use Rattle.fm_records.specs.Rising.{IsBelowAll, Rises}
 use Rattle.fm_net.specs.declared.node.Node.{Node}
 use Rattle.fm_net.specs.Nodes.{node_cmp, ends_cmp}
 use Rattle.fm_net.specs.laws.NodeOrder.{node_exact, node_total, ends_exact, ends_total}
@@ -15,7 +15,7 @@ use Rattle.fm_net.specs.Net.{Net, has_node, CanBeNet}
 use Rattle.fm_net.proofs.ListLaws.{rises_kept, same_rising}
 use Rattle.fm_net.specs.declared.edit.Edit.TheVariants.{DropArc, DropNode, PutNode}
 use Rattle.fm_net.specs.Edits.{Arc, joins, same_value, has_arc, gone_arcs, new_arcs, drop_of, put_of, change}
-use Rattle.fm_net.specs.inner.KeptLists.{rising_kept, lookup_kept, has, has_kept}
+use Rattle.fm_net.proofs.KeptLists.{rising_kept, lookup_kept, has, has_kept}
 use Rattle.fm_net.specs.Touched.{Touches, gone_pair, put_pair, put_at, touched_change}
 
 module _ {X Y Z : Type 0} where

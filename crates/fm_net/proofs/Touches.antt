@@ -3,14 +3,15 @@ use Rattle.std.proofs.Common.{◌≡◌, ◌⊎◌, ◌↔◌, ◌||◌, inl, in
 use Rattle.std.specs.List.{list_any}
 use Rattle.std.specs.Ordering.{is_eq}
 use Rattle.std.proofs.lemmas.Cmp.{tied_itself}
-use Rattle.fm_lattice.specs.Chains.{by_cases}
+use Rattle.fm_lattice.specs.laws.ChainLaws.{by_cases}
 use Rattle.fm_lattice.specs.Maps.{lookup}
 use Rattle.fm_net.specs.declared.node.Node.{Node}
 use Rattle.fm_net.specs.Nodes.{ends_cmp}
 use Rattle.fm_net.specs.laws.NodeOrder.{ends_exact, ends_total}
 use Rattle.fm_net.specs.Net.{Net, IsTouched}
 use Rattle.fm_net.specs.inner.Ends.{is_end}
-use Rattle.fm_net.specs.NetworkEquality.{same_node, node_Decides}
+use Rattle.fm_net.specs.NetworkEquality.{same_node}
+use Rattle.fm_net.specs.laws.NetworkEqualityLaws.{node_Decides}
 
 abbrev Arcs : Type 0
 Arcs = List ((Node × Node) × (ℕ × ℕ))

@@ -8,7 +8,7 @@ use Rattle.fm_records.specs.declared.records.SpecReg.{SpecReg}
 use Rattle.fm_records.specs.declared.records.MachineReg.{MachineReg}
 use Rattle.fm_records.specs.Options.{when, and_then, passes}
 use Rattle.fm_records.specs.Sets.{rising, table}
-use Rattle.fm_records.specs.TableLaws.{Rises}
+use Rattle.fm_records.specs.Rising.{Rises}
 use Rattle.fm_records.specs.Table.{Table, TaskValue}
 use Rattle.fm_records.specs.Facts.{job_of, live_spec, is_live, open_state, is_open, holder_of, holds, load_of, spare_of}
 use Rattle.fm_net.specs.declared.node.Node.{Node}
@@ -50,12 +50,12 @@ is_node k (Machine m) = is_open k m
 is_node k (Task t) = is_live k t
 
 -- how many tasks of the request fit: as many as there are slots, and as fit into the spare
-abbrev pub places : MachineReg → ℕ → ℕ → ℕ
-places state spare r = cond (r == 0) state.slots (min state.slots (spare / r))
+abbrev pub capacity_for : MachineReg → ℕ → ℕ → ℕ
+capacity_for state spare r = cond (r == 0) state.slots (min state.slots (spare / r))
 
 -- the capacity and cost of a request's arc into a machine: if there is a spare, and it is the request or more
 abbrev pub place_arc : Table → ℕ → ℕ → MachineReg → ℕ → Option (ℕ × ℕ)
-place_arc k r m state spare = when (nat_le r spare) (places state spare r, r + load_of k m)
+place_arc k r m state spare = when (nat_le r spare) (capacity_for state spare r, r + load_of k m)
 
 abbrev pub room_arc : Table → ℕ → ℕ → Option (ℕ × ℕ)
 room_arc k r m = and_then (λ state. and_then (place_arc k r m state) (spare_of k m)) (open_state k m)

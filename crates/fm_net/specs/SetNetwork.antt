@@ -6,14 +6,14 @@ use Rattle.std.specs.Ordering.{nat_cmp}
 use Rattle.fm_lattice.specs.Maps.{lookup, IsRising}
 use Rattle.fm_records.specs.declared.ops.Op.{Op}
 use Rattle.fm_records.specs.Options.{when, and_then, passes}
-use Rattle.fm_records.specs.TableLaws.{Rises}
+use Rattle.fm_records.specs.Rising.{Rises}
 use Rattle.fm_records.specs.Know.{job}
 use Rattle.fm_records.specs.SetFacts.{live, state_if_up, holder, is_held_by, tasks, load, spare}
 use Rattle.fm_net.specs.declared.node.Node.{Node}
 use Rattle.fm_net.specs.declared.node.Node.TheVariants.{Sink, Unscheduled, Request, Machine, Task}
 use Rattle.fm_net.specs.Nodes.{node_cmp, ends_cmp}
 use Rattle.fm_net.specs.Net.{Net, has_node, arc_at}
-use Rattle.fm_net.specs.Network.{places}
+use Rattle.fm_net.specs.Network.{capacity_for}
 
 -- some machine holds the task
 abbrev pub has_holder : List Op → ℕ → Bool
@@ -42,7 +42,7 @@ is_node_in S (Task t) = is_some (live S t)
 
 -- the capacity and cost of a request's arc into an open machine that has room for it
 abbrev pub room_in : List Op → ℕ → ℕ → Option (ℕ × ℕ)
-room_in S r m = and_then (λ state. and_then (λ free. when (nat_le r free) (places state free r, r + load S m)) (spare S m)) (state_if_up S m)
+room_in S r m = and_then (λ state. and_then (λ free. when (nat_le r free) (capacity_for state free r, r + load S m)) (spare S m)) (state_if_up S m)
 
 -- The capacity and cost of the arc from one node to another, if there is one.
 abbrev pub arc_in : List Op → Node → Node → Option (ℕ × ℕ)

@@ -1,3 +1,4 @@
 pub mod NetworkIter
 pub mod Ends
-pub mod KeptLists
+pub mod IndexedCells
+pub mod InOrder

@@ -1,1 +1,2 @@
 pub mod NodeOrder
+pub mod NetworkEqualityLaws

@@ -1,4 +1,7 @@
-//! Making edits.
+//! Making edits one after another, after a change of form if there are many.
+//!
+//! A network that was built is packed in arrays, where a drop moves all that comes after it, O(n). So more than 8 edits
+//! move it into cells first, O(n log n) once, and each of them is then O(log n).
 
 ghost use Rattle.std.specs.Prelude.{◌≡◌, OnOk, OnErr};
 ghost use Rattle.fm_net.specs.Edits.{after_edit, after_edits, MayEdit, MayEditAll, IsPartMade};

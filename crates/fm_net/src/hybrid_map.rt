@@ -1,4 +1,8 @@
-//! Pairs by rising key: packed one after another while they come in order, and in cells once they are edited.
+//! Pairs by rising key, cheap to build in order and cheap to edit later: packed in an array first, then in cells.
+//!
+//! A network is built in order and then edited anywhere. An array is the fastest to fill and to walk over, but a new
+//! key in its midst moves all pairs after it. So the first new key that comes before 64 others or more moves the pairs
+//! into cells, O(n log n) once, and each edit is a search there, O(log n).
 
 ghost use Rattle.std.specs.Prelude.{◌≡◌, ◌<◌, ◌^◌, ◌&&◌, [], length, is_some, IfOk, OnOk, OnErr};
 ghost use Rattle.std.specs.Iterator.{YieldsFirst, item_count};
@@ -6,7 +10,7 @@ ghost use Rattle.std.specs.Map.{remove_entry};
 ghost use Rattle.std.specs.BTreeMap.{is_at};
 ghost use Rattle.std.specs.Cmp.Lexicographic.{pointwise};
 ghost use Rattle.fm_lattice.specs.Maps.{lookup, put, keep_new, IsRising};
-ghost use Rattle.fm_net.specs.Cells.{IsPlainClone};
+ghost use Rattle.fm_net.specs.inner.IndexedCells.{IsPlainClone};
 
 use crate::slab_map::{self, SlabMap};
 use fm_lattice::chain::Chain;
@@ -34,7 +38,8 @@ enum Form<K: Chain, V: Copy> {
 
 impl<K: Chain, V: Copy> Model for HybridMap<K, V> {
     ghost use Rattle.std.specs.Prelude.{List};
-    ghost use Rattle.fm_net.specs.Ordered.{pairs_of_form, IsInOrder};
+    ghost use Rattle.fm_net.specs.Ordered.{pairs_of_form};
+    ghost use Rattle.fm_net.specs.inner.InOrder.{IsInOrder};
 
     ghost Value = { List (K × V) };
 

@@ -1,4 +1,7 @@
-//! Networks.
+//! Networks: nodes with the sink, and at most one arc from one node to another, with a capacity and a cost.
+//!
+//! Policy, keepers, solver and texts share this one form. Nodes and arcs are kept in order, so that a network has one
+//! text, and the arcs that leave a node come one after another. In every network both ends of each arc are there.
 
 ghost use Rattle.std.specs.Prelude.{◌≡◌, ◌≤◌, ◌<◌, ◌^◌, ◌↔◌, ◌⊎◌, not, length, Some, None, IsTrue, IfOk, OnOk, OnErr, if◌then◌else◌};
 ghost use Rattle.fm_net.specs.declared.node.Node.{Node as NodeName};
@@ -207,7 +210,8 @@ impl Clone for Network {
 }
 
 impl PartialEq for Network {
-    ghost use Rattle.fm_net.specs.NetworkEquality.{same_net, net_equivalence};
+    ghost use Rattle.fm_net.specs.NetworkEquality.{same_net};
+    ghost use Rattle.fm_net.specs.laws.NetworkEqualityLaws.{net_equivalence};
 
     ghost eq = { same_net };
 

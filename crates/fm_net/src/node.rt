@@ -1,4 +1,7 @@
-//! The names of nodes.
+//! The names of nodes, and their order, by which all networks, flows and texts are in one order.
+//!
+//! Nodes of a kind come one after another, the sink first and the tasks last. The kinds are those of Firmament's
+//! network-aware policy (Gog et al., 2016), with the unscheduled aggregators of Quincy (Isard et al., 2009).
 
 ghost use Rattle.std.specs.Prelude.{◌≡◌};
 ghost use Rattle.fm_net.specs.Nodes.{by_kind_and_number, node_cmp, IsRequestInRange, IsInRange};

@@ -1,4 +1,7 @@
-//! Pairs in cells, with an index by their keys.
+//! Pairs in cells that stay where they are, with an index by their keys, so that an edit moves no other pair.
+//!
+//! A slab has the pairs, and takes a cell that was emptied for the next new pair. A B-tree has the keys, each with the
+//! place of its cell. A get, a put and a remove are each a search in the tree, O(log n).
 
 ghost use Rattle.std.specs.Prelude.{◌≡◌, ◌<◌, ◌^◌, [], length, is_some, option_map, IfOk, OnOk, OnErr};
 ghost use Rattle.std.specs.Iterator.{YieldsFirst, item_count};
@@ -6,7 +9,7 @@ ghost use Rattle.std.specs.Map.{remove_entry};
 ghost use Rattle.std.specs.BTreeMap.{is_at};
 ghost use Rattle.fm_lattice.specs.Chains.{TellsApart};
 ghost use Rattle.fm_lattice.specs.Maps.{lookup, put, keep_new, IsRising};
-ghost use Rattle.fm_net.specs.Cells.{IsPlainClone};
+ghost use Rattle.fm_net.specs.inner.IndexedCells.{IsPlainClone};
 
 use fm_lattice::join::OutOfMemory;
 use slab::Slab;
@@ -24,7 +27,8 @@ pub(crate) struct SlabMap<K: Ord + Copy, V: Copy> {
 impl<K: Ord + Copy, V: Copy> Model for SlabMap<K, V> {
     ghost use Rattle.std.specs.Prelude.{List};
     ghost use Rattle.slab.specs.Slab.{get};
-    ghost use Rattle.fm_net.specs.Cells.{pairs_in_cells, AreKept};
+    ghost use Rattle.fm_net.specs.Cells.{pairs_in_cells};
+    ghost use Rattle.fm_net.specs.inner.IndexedCells.{AreKept};
 
     ghost Value = { List (K × V) };
 
@@ -130,7 +134,8 @@ pub(crate) struct Pairs<'a, K: Copy, V: Copy> {
 impl<'a, K: Copy, V: Copy> Model for Pairs<'a, K, V> {
     ghost use Rattle.std.specs.Prelude.{List};
     ghost use Rattle.slab.specs.Slab.{get};
-    ghost use Rattle.fm_net.specs.Cells.{pairs_in_cells, EachHasCell};
+    ghost use Rattle.fm_net.specs.Cells.{pairs_in_cells};
+    ghost use Rattle.fm_net.specs.inner.IndexedCells.{EachHasCell};
 
     ghost Value = { List (K × V) };
 

@@ -5,14 +5,15 @@ use Rattle.std.specs.List.{sum_by}
 use Rattle.std.proofs.Math.Nat.{mul-zero, mul-add}
 use Rattle.std.proofs.lemmas.List.Sums.{sum_by-cons}
 use Rattle.fm_lattice.specs.Maps.{IsRising}
-use Rattle.fm_records.specs.RecordEquality.{pair_Decides}
+use Rattle.fm_records.specs.laws.RecordEqualityLaws.{pair_Decides}
 use Rattle.fm_records.specs.Sets.{IsMember}
 use Rattle.fm_net.specs.declared.node.Node.{Node}
 use Rattle.fm_net.specs.Nodes.{ends_cmp}
 use Rattle.fm_net.specs.laws.NodeOrder.{ends_total, ends_exact}
 use Rattle.fm_net.proofs.ListLaws.{entry_member}
 use Rattle.fm_net.specs.Net.{Net, arc_at}
-use Rattle.fm_net.specs.NetworkEquality.{same_node, same_ends, node_Decides}
+use Rattle.fm_net.specs.NetworkEquality.{same_node, same_ends}
+use Rattle.fm_net.specs.laws.NetworkEqualityLaws.{node_Decides}
 use Rattle.fm_certificate.specs.Flows.{leaving, entering}
 use Rattle.fm_certificate.proofs.Sums.{sum_same, sum_none, sum_both}
 use Rattle.fm_certificate.proofs.Exchange.{Arc}

@@ -1,11 +1,11 @@
 -- In the flow of ways, the tasks with units to nodes that pass a test are those whose way goes first to such a node.
-use Rattle.std.proofs.Common.{◌≡◌, ◌∙◌, ap, sym, subst, refl, inl, inr, ℕ, ◌<◌, Bool, true, false, cond, ◌&&◌, List, [], ◌∷◌, Some, None, IsTrue, arith}
-use Rattle.std.specs.Prelude.{flat_map, map, nat_lt}
+use Rattle.std.proofs.Common.{◌≡◌, ◌∙◌, ap, sym, subst, refl, inl, inr, ℕ, ◌<◌, Bool, true, false, cond, ◌&&◌, List, [], ◌∷◌, Option, Some, None, IsTrue, arith}
+use Rattle.std.specs.Prelude.{◌==◌, flat_map, map, nat_lt}
 use Rattle.std.specs.List.{filter_map}
 use Rattle.std.specs.Ordering.{nat_cmp}
 use Rattle.std.proofs.lemmas.Bool.{ltb-true, lt-ltb}
 use Rattle.std.proofs.lemmas.List.Sums.{sum_by-cons}
-use Rattle.fm_lattice.specs.Chains.{nat_same}
+use Rattle.fm_lattice.specs.laws.ChainLaws.{nat_same}
 use Rattle.fm_lattice.specs.Maps.{IsRising}
 use Rattle.fm_records.specs.declared.records.SpecReg.{SpecReg}
 use Rattle.fm_records.proofs.LookupLaws.{both_true, when_is_true}
@@ -28,11 +28,21 @@ use Rattle.fm_round.specs.PlanOfFlow.{ArcUnits, units_over, unscheduled_in, pree
 use Rattle.fm_round.proofs.Over.{rising_over}
 use Rattle.fm_paths.specs.TaskPaths.{Way, ToJob, ByRequest, Straight, path_arcs_of, path_arcs, crossings, units_of, ways_of, MayGo}
 use Rattle.fm_paths.specs.Prices.{first_node}
-use Rattle.fm_paths.specs.Plans.{is_job, going, goer, goers, preempts_of_ways}
+use Rattle.fm_paths.specs.Plans.{is_job, goer, goers, preempts_of_ways}
 use Rattle.fm_paths.proofs.Crossed.{ends_Decides}
 use Rattle.fm_paths.proofs.Stands.{from_flat, from_rows, step_arc}
 use Rattle.fm_paths.proofs.Cheapest.{crossed_member, task_step}
 use Rattle.fm_paths.proofs.Listed.{found_from, is_found, found_same, one_list, found_rise, rows_rise}
+
+-- the request of the number
+abbrev pub is_request : ℕ → Node → Bool
+is_request r (Request q) = q == r
+is_request r _ = false
+
+-- the task of an arc with units, if the arc ends at a node that passes the test
+abbrev pub going : (Node → Bool) → (Node × Node) × ℕ → Option ℕ
+going p ((Task t, n), u) = when (nat_lt 0 u && p n) t
+going p _ = None
 
 no_some : {A P : Type 0} {a : A} → None ≡ Some a → P
 no_some e = absurd (let no : ⊥ = cc in no)

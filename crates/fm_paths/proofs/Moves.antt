@@ -6,7 +6,7 @@ use Rattle.std.specs.Cmp.{nat_cmp_total}
 use Rattle.std.specs.declared.cmp.Ordering.TheVariants.{Less, Equal, Greater}
 use Rattle.std.proofs.lemmas.Cmp.{tied_itself}
 use Rattle.std.proofs.lemmas.List.Sums.{sum_by-cons}
-use Rattle.fm_lattice.specs.Chains.{by_cases, nat_same}
+use Rattle.fm_lattice.specs.laws.ChainLaws.{by_cases, nat_same}
 use Rattle.fm_lattice.specs.Maps.{lookup, IsBelow, IsRising}
 use Rattle.fm_lattice.specs.laws.MapLaws.{lookup_below}
 use Rattle.fm_records.specs.Ranges.{CanBe}

@@ -27,12 +27,12 @@ use Rattle.fm_round.specs.PlanOfFlow.{Wait, ArcUnits, units, units_over, wait_in
 use Rattle.fm_round.proofs.Flows.{seats_counted}
 use Rattle.fm_paths.specs.TaskPaths.{Way, ToJob, ByRequest, Straight, path_arcs, units_of, ways_of, goes_by, Fit}
 use Rattle.fm_paths.specs.Prices.{first_node}
-use Rattle.fm_paths.specs.Plans.{is_run, is_request, going, goer, goers, place_way, places_of_ways, InTurn}
+use Rattle.fm_paths.specs.Plans.{is_run, goer, goers, place_way, places_of_ways, InTurn}
 use Rattle.fm_paths.proofs.Stands.{sum_ways, ways_stand}
 use Rattle.fm_paths.proofs.Cheapest.{crossed_member}
 use Rattle.fm_paths.proofs.Feasible.{counted_room}
 use Rattle.fm_paths.proofs.Listed.{found_from, is_found, found_same, fused, rows_rise}
-use Rattle.fm_paths.proofs.Going.{f_rises, units_are, stands, going_is, found_at}
+use Rattle.fm_paths.proofs.Going.{is_request, going, f_rises, units_are, stands, going_is, found_at}
 use Rattle.fm_paths.proofs.Orders.{times, one_order}
 use Rattle.fm_paths.proofs.Seats.{seats_never_fall, mapped_never_fall, paired_with}
 

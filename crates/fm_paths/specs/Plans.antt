@@ -1,11 +1,11 @@
 -- The plan of ways: the tasks by id, each at the machine of its way, or preempted.
-use Rattle.std.specs.Prelude.{◌≡◌, ℕ, ◌<◌, ◌≤◌, ◌==◌, ◌&&◌, nat_lt, Bool, true, false, cond, List, Option, None, option_map}
+use Rattle.std.specs.Prelude.{◌≡◌, ℕ, ◌<◌, ◌≤◌, ◌&&◌, Bool, true, false, cond, List, Option, None, option_map}
 use Rattle.std.specs.List.{filter_map}
 use Rattle.fm_records.specs.Options.{when, or_else}
 use Rattle.fm_records.specs.Table.{Table, TaskValue}
 use Rattle.fm_records.specs.Facts.{live_spec, is_live}
 use Rattle.fm_net.specs.declared.node.Node.{Node}
-use Rattle.fm_net.specs.declared.node.Node.TheVariants.{Unscheduled, Request, Machine, Task}
+use Rattle.fm_net.specs.declared.node.Node.TheVariants.{Unscheduled, Request, Machine}
 use Rattle.fm_net.specs.Network.{is_held}
 use Rattle.fm_round.specs.declared.plan.Place.{Place}
 use Rattle.fm_round.specs.declared.plan.Preempt.{Preempt}
@@ -22,15 +22,6 @@ abbrev pub is_run : Node → Bool
 is_run (Request r) = true
 is_run (Machine m) = true
 is_run _ = false
-
-abbrev pub is_request : ℕ → Node → Bool
-is_request r (Request q) = q == r
-is_request r _ = false
-
--- the task of an arc with units, if the arc ends at a node that passes the test
-abbrev pub going : (Node → Bool) → (Node × Node) × ℕ → Option ℕ
-going p ((Task t, n), u) = when (nat_lt 0 u && p n) t
-going p _ = None
 
 -- the task, if it is live and the first node on its way passes the test
 abbrev pub goer : Table → (ℕ → Way) → (Node → Bool) → ℕ × TaskValue → Option ℕ

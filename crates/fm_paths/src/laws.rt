@@ -1,4 +1,8 @@
-//! The laws of flows that are made of the ways of tasks.
+//! The laws of flows that are made of the ways of tasks, by which a plan is proved without its network.
+//!
+//! A flow of a network with one unit from each task is a sum of paths, one for each task (flow decomposition: Ford and
+//! Fulkerson, 1962). So ways within rooms and slots are a feasible flow. If at some prices no task has a cheaper way,
+//! the flow is least (complementary slackness), and its plan can be read off the ways.
 
 ghost use Rattle.std.specs.Prelude.{◌≡◌, ℕ, ◌+◌, List, [], None, IsTrue, count_by};
 ghost use Rattle.fm_records.specs.Facts.{open_state, holds};

@@ -1,7 +1,7 @@
 -- A claim that passes the checks makes a plan of a least flow.
 use Rattle.std.proofs.Common.{◌≡◌, ◌∙◌, sym, ap, subst, refl, inl, inr, ℕ, zero, suc, ◌+◌, ◌-◌, ◌<◌, ◌≤◌, ◌==◌, ◌&&◌, ◌⊎◌, not, Bool, true, false, cond, List, [], ◌∷◌, Some, None, option_map, count_by, IsTrue, eq-eqb, eqb-true, arith, Option, min}
 use Rattle.std.specs.Ordering.{nat_cmp}
-use Rattle.fm_lattice.specs.Chains.{nat_same}
+use Rattle.fm_lattice.specs.laws.ChainLaws.{nat_same}
 use Rattle.fm_lattice.specs.Maps.{lookup, IsRising}
 use Rattle.fm_records.specs.declared.records.SpecReg.{SpecReg}
 use Rattle.fm_records.specs.declared.records.JobReg.{JobReg}
@@ -32,12 +32,16 @@ use Rattle.fm_paths.proofs.Stands.{live_job}
 use Rattle.fm_paths.proofs.Fair.{waits_spec, not_held}
 use Rattle.fm_search.specs.declared.claim.Claim.{Claim}
 use Rattle.fm_planner.specs.declared.move_counts.Counts.{Counts}
-use Rattle.fm_search.specs.Claims.{rise_of, price_of, offer_of}
+use Rattle.fm_search.specs.Claims.{rise_of, offer_of}
 use Rattle.fm_planner.specs.inner.Counts.{AreCounts}
 use Rattle.fm_planner.specs.inner.Slackness.{IsFairAtRest, IsFairTask, load_in, straight_cost, own_cost, IsNoCheaper, Leaves, Asks, GoesStraight, IsFairMove, IsFairOffer, IsFairMachine, Passes, fitting_tasks}
 use Rattle.fm_planner.proofs.Lists.{all_at, counted_member}
 use Rattle.fm_planner.proofs.Entries.{task_found, entry_of, in_tally, open_of, machine_found, open_in_tally, room_is, spare_left}
 use Rattle.fm_planner.proofs.Turns.{in_turn}
+
+-- the price of a machine by a claim
+abbrev pub price_of : Table → Claim → ℕ → ℕ
+price_of k claim m = load_of k m + rise_of claim m
 
 no_some : {A P : Type 0} {a : A} → None ≡ Some a → P
 no_some e = absurd (let no : ⊥ = cc in no)

@@ -6,7 +6,7 @@ use Rattle.std.proofs.lemmas.Cmp.{ranked, tied_itself}
 use Rattle.std.specs.declared.cmp.Ordering.TheVariants.{Less}
 use Rattle.std.specs.BTreeMap.{BTreeMap, get, is_at}
 use Rattle.std.specs.Map.{lookup as found_in}
-use Rattle.fm_lattice.specs.Chains.{by_cases, nat_same}
+use Rattle.fm_lattice.specs.laws.ChainLaws.{by_cases, nat_same}
 use Rattle.fm_lattice.specs.Maps.{IsBelow, IsRising}
 use Rattle.fm_records.specs.Sets.{IsMember}
 use Rattle.fm_tally.specs.declared.way.Way.{Way}

@@ -1,5 +1,9 @@
-//! Whether a claim holds, by complementary slackness: a walk over the tasks, one over the moves, and one over the machines, with the requests at
-//! each.
+//! Whether a claim holds, by complementary slackness: a search need not be trusted, and no network is built.
+//!
+//! It is a walk over the tasks, one over the moves, and one over the machines, with the requests at each. A task that
+//! rests or moves must have no cheaper way, and only a machine without a free slot may cost more than its load. The
+//! greatest offers of requests up to a size are worked out once. So a machine is compared with each request only if one
+//! of these offers is beyond its price.
 
 ghost use Rattle.std.specs.Prelude.{◌≡◌, ◌≤◌, ◌<◌, ◌+◌, ◌↔◌, ℕ, None, IsTrue, IfOk, IfSome, OnOk};
 ghost use Rattle.std.specs.Ordering.{nat_cmp};

@@ -1,5 +1,6 @@
-//! Plans of what is known. From a tally alone, with no network: the plan of a claim (`fm_search`) which passes a check. Or else
-//! that of a least flow of the network.
+//! Plans of what is known: from a tally alone, with no network, or else that of a least flow of the network.
+//!
+//! From a tally it is the plan of a claim (`fm_search`), which has passed a check.
 #![tactic(auto)]
 
 mod checking;

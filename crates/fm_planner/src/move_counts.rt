@@ -1,4 +1,4 @@
-//! How many moves go where.
+//! How many moves go where, counted once, so that a check looks up what each machine gains and loses.
 
 ghost use Rattle.std.specs.Prelude.{◌≡◌, ◌<◌, ◌+◌, ◌^◌, ℕ, cond, length, count_by, IfOk, OnOk};
 ghost use Rattle.std.specs.BTreeMap.{is_at};

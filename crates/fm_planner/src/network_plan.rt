@@ -1,4 +1,4 @@
-//! The plan of a least flow.
+//! The plan of a least flow of a network, for when there is no plan from a tally.
 
 ghost use Rattle.std.specs.Prelude.{◌≡◌, IfOk, IsOkUnless};
 ghost use Rattle.fm_net.specs.Network.{net_of};

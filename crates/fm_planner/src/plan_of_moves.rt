@@ -1,4 +1,4 @@
-//! The plan of moves.
+//! The plan of moves: a place for each task that goes to a machine, a preempt for each held one that goes to its job.
 
 ghost use Rattle.std.specs.Prelude.{◌≡◌, cond, None, IfOk};
 ghost use Rattle.std.specs.List.{filter_map};
@@ -11,6 +11,7 @@ ghost use Rattle.fm_paths.specs.Moves.{places_of_moves, preempts_of_moves, plan_
 use fm_know::knowledge::Knowledge;
 use fm_lattice::join::OutOfMemory;
 use fm_records::ids::{MachineId, TaskId};
+use fm_round::from_units::{place_at, preempt_of};
 use fm_round::listed::Listed;
 use fm_round::plan::{Place, Plan, Preempt};
 use fm_tally::way::Way;
@@ -70,20 +71,6 @@ fn place_unless_held(knowledge: &Knowledge, task: TaskId, machine: MachineId) ->
     place_at(knowledge, task, machine)
 }
 
-// The place of the task on the machine, at its present incarnation.
-fn place_at(knowledge: &Knowledge, task: TaskId, machine: MachineId) -> Option<Place>
-    ensures { result ≡ place_at knowledge.now task machine }
-{
-    match knowledge.machines().get(&machine) {
-        Some(record) => Some(Place {
-            task,
-            machine,
-            incarnation: record.0,
-        }),
-        None => None,
-    }
-}
-
 // The preempts.
 fn preempts_of(
     alloc: Global,
@@ -94,7 +81,7 @@ fn preempts_of(
 {
     let mut preempts = Vec::new(alloc);
     for (task, way) in moves {
-        if let Some(preempt) = preempt_of(knowledge, *task, *way) {
+        if let Some(preempt) = preempt_over(knowledge, *task, *way) {
             preempts.push(preempt)?;
         }
     }
@@ -102,15 +89,11 @@ fn preempts_of(
 }
 
 // The preempt of the task at its present attempt, if it is held and its way is over its job.
-fn preempt_of(knowledge: &Knowledge, task: TaskId, way: Way) -> Option<Preempt>
+fn preempt_over(knowledge: &Knowledge, task: TaskId, way: Way) -> Option<Preempt>
     ensures { result ≡ cond (is_job (first_node way)) (preempt_of knowledge.now task) None }
 {
     let Way::ToJob(_) = way else {
         return None;
     };
-    let _machine = knowledge.holder(task)?;
-    Some(Preempt {
-        task,
-        attempt: knowledge.attempt(task).attempt,
-    })
+    preempt_of(knowledge, task)
 }

@@ -1,4 +1,7 @@
-//! Plans of what is known: from a tally, or from the network.
+//! Plans of what is known: from a tally if its claim passes a check, else from the network, which is built and solved.
+//!
+//! Either is the plan of a least flow of the network of what is known. If there are several least flows, the two may be
+//! plans of different ones.
 
 ghost use Rattle.std.specs.Prelude.{IfOk};
 ghost use Rattle.fm_round.specs.Schedules.{IsPlanOf};

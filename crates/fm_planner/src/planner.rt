@@ -1,4 +1,7 @@
-//! Plans of what is known, from a tally of it.
+//! Plans of what is known, from a tally of it: a search, and a proved check of what it found.
+//!
+//! A network has an arc for each request and each machine with room for it, and here none is built. The search need not
+//! be right, since a claim that fails the check gives no plan.
 
 ghost use Rattle.std.specs.Prelude.{IfOk, IfSome};
 ghost use Rattle.fm_round.specs.Schedules.{IsPlanOf};

@@ -9,7 +9,7 @@ use Rattle.std.specs.Cmp.{Equal-is}
 use Rattle.std.proofs.lemmas.Cmp.{tied_itself}
 use Rattle.fm_net.specs.Net.{Net, has_node, arc_at, are_ends}
 use Rattle.fm_net.specs.Network.{is_node, arc_of}
-use Rattle.fm_policy.specs.Building.{Stands, HasArcTo, Adds}
+use Rattle.fm_policy.specs.inner.NetworkSoFar.{Stands, HasArcTo, Adds}
 
 pub adds_nothing : (k : Table) (net : Net) → Adds k net net
 adds_nothing k net = record { part = λ p. p; grows = record { nodes = λ n s. s; arcs = λ a b l. l } }

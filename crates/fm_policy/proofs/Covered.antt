@@ -4,7 +4,7 @@ use Rattle.fm_records.specs.Table.{Table}
 use Rattle.fm_records.specs.Facts.{holder_of}
 use Rattle.fm_net.specs.declared.node.Node.TheVariants.{Sink, Unscheduled, Request, Machine, Task}
 use Rattle.fm_net.specs.Net.{Net}
-use Rattle.fm_policy.specs.Building.{Grows, HasHolder, HasNodes, CoversJob, CoversMachine, CoversTask, CoversPreferred, CoversPlace}
+use Rattle.fm_policy.specs.inner.NetworkSoFar.{Grows, HasHolder, HasNodes, CoversJob, CoversMachine, CoversTask, CoversPreferred, CoversPlace}
 
 module _ (k : Table) (old new : Net) (grows : Grows old new) where
   pub nodes_still : HasNodes k old → HasNodes k new

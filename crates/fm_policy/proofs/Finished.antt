@@ -11,7 +11,7 @@ use Rattle.fm_net.specs.declared.node.Node.{Node}
 use Rattle.fm_net.specs.declared.node.Node.TheVariants.{Sink, Unscheduled, Request, Machine, Task}
 use Rattle.fm_net.specs.Net.{Net, CanBeNet, arc_at, sink_alone}
 use Rattle.fm_net.specs.Network.{IsNetworkOf, is_node, is_held, is_live_of, waits_for, preferred_arc, arc_of}
-use Rattle.fm_policy.specs.Building.{Stands, HasArcTo, IsPart, HasWaiting, HasHolder, HasNodes, CoversJob, CoversMachine, CoversTask, CoversPlace}
+use Rattle.fm_policy.specs.inner.NetworkSoFar.{Stands, HasArcTo, IsPart, HasWaiting, HasHolder, HasNodes, CoversJob, CoversMachine, CoversTask, CoversPlace}
 use Rattle.fm_policy.proofs.Parts.{spec_tested, place_needs}
 
 no_way : {A : Type 0} → false ≡ true → A

@@ -6,11 +6,13 @@ use Rattle.std.specs.List.Sorted.{IsStrictlySortedBy}
 use Rattle.std.specs.Cmp.{nat_cmp_total}
 use Rattle.std.specs.declared.cmp.Ordering.{Ordering}
 use Rattle.std.specs.declared.cmp.Ordering.TheVariants.{Equal}
-use Rattle.fm_lattice.specs.Chains.{by_order, by_cases, nat_same}
+use Rattle.fm_lattice.specs.Chains.{by_order}
+use Rattle.fm_lattice.specs.laws.ChainLaws.{by_cases, nat_same}
 use Rattle.fm_lattice.specs.Maps.{IsBelow, IsRising, put, map_join}
 use Rattle.fm_records.specs.Sets.{insert_once, rising}
 use Rattle.fm_records.specs.Table.{Table}
-use Rattle.fm_records.specs.TableLaws.{IsBelowAll, Rises, rises_rising}
+use Rattle.fm_records.proofs.TableLaws.{rises_rising}
+use Rattle.fm_records.specs.Rising.{IsBelowAll, Rises}
 use Rattle.fm_records.specs.Ranges.{CanBe}
 use Rattle.fm_lattice.specs.Joins.{max_join}
 use Rattle.fm_records.specs.Orders.{job_cmp, attempt_cmp}

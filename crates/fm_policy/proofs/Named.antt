@@ -6,9 +6,11 @@ use Rattle.std.specs.List.Sorted.{IsStrictlySortedBy}
 use Rattle.std.specs.Ordering.{nat_cmp, is_eq, ordering_reverse}
 use Rattle.std.specs.declared.cmp.Ordering.{Ordering}
 use Rattle.std.specs.declared.cmp.Ordering.TheVariants.{Less, Equal, Greater}
-use Rattle.fm_lattice.specs.Chains.{by_order, by_cases, nat_same}
+use Rattle.fm_lattice.specs.Chains.{by_order}
+use Rattle.fm_lattice.specs.laws.ChainLaws.{by_cases, nat_same}
 use Rattle.fm_records.specs.Sets.{insert_once, rising}
-use Rattle.fm_records.specs.TableLaws.{IsBelowAll, Rises, rises_rising}
+use Rattle.fm_records.proofs.TableLaws.{rises_rising}
+use Rattle.fm_records.specs.Rising.{IsBelowAll, Rises}
 use Rattle.std.specs.Cmp.{nat_cmp_total}
 use Rattle.fm_net.proofs.ListLaws.{same_rising}
 

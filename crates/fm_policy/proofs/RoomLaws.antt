@@ -1,12 +1,17 @@
 -- A room says of each request what the table's network does.
-use Rattle.std.proofs.Common.{◌≡◌, ◌∙◌, ℕ, ◌-◌, Bool, true, false, Some, None, refl, ap}
+use Rattle.std.proofs.Common.{◌≡◌, ◌∙◌, ℕ, ◌-◌, Bool, true, false, Option, Some, None, refl, ap}
 use Rattle.std.specs.Prelude.{nat_le}
 use Rattle.fm_records.specs.declared.records.MachineReg.{MachineReg}
 use Rattle.fm_records.specs.Options.{when, and_then}
 use Rattle.fm_records.specs.Table.{Table}
 use Rattle.fm_records.specs.Facts.{open_state, load_of, spare_of}
 use Rattle.fm_net.specs.Network.{place_arc, room_arc}
-use Rattle.fm_policy.specs.Rooms.{room_of, room_at, fit_in}
+use Rattle.fm_policy.specs.declared.room.Room.{Room}
+use Rattle.fm_policy.specs.Rooms.{room_of, fit_in}
+
+-- the room on the machine of a table, if it is open and its load is within its bandwidth
+abbrev pub room_at : Table → ℕ → Option Room
+room_at k m = and_then (λ state. room_of state (load_of k m)) (open_state k m)
 
 module _ (k : Table) (r m : ℕ) where
   place_fits : (state : MachineReg) (b : Bool) → and_then (place_arc k r m state) (when b (state.nic - load_of k m)) ≡ and_then (λ room. fit_in room r) (when b (record { slots = state.slots; load = load_of k m; bandwidth = state.nic }))

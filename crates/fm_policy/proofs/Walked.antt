@@ -4,7 +4,7 @@ use Rattle.std.specs.Ordering.{nat_cmp}
 use Rattle.std.specs.Cmp.{nat_cmp_total}
 use Rattle.std.specs.declared.cmp.Ordering.TheVariants.{Less}
 use Rattle.std.proofs.lemmas.Cmp.{tied_itself}
-use Rattle.fm_lattice.specs.Chains.{less_greater}
+use Rattle.fm_lattice.specs.laws.ChainLaws.{less_greater}
 use Rattle.fm_lattice.specs.Maps.{lookup, IsBelow, IsRising}
 
 module _ {V : Type 0} where

@@ -1,18 +1,12 @@
 -- What open machines have left.
 use Rattle.std.specs.Prelude.{ℕ, ◌+◌, ◌-◌, ◌≤◌, ◌/◌, cond, ◌==◌, Option, min, nat_le}
 use Rattle.fm_records.specs.declared.records.MachineReg.{MachineReg}
-use Rattle.fm_records.specs.Options.{when, and_then}
-use Rattle.fm_records.specs.Table.{Table}
-use Rattle.fm_records.specs.Facts.{open_state, load_of}
+use Rattle.fm_records.specs.Options.{when}
 use Rattle.fm_policy.specs.declared.room.Room.{Room}
 
 -- the room on an open machine with this state and this load, if the load is within its bandwidth
 abbrev pub room_of : MachineReg → ℕ → Option Room
 room_of state load = when (nat_le load state.nic) (record { slots = state.slots; load = load; bandwidth = state.nic })
-
--- the room on the machine of a table, if it is open and its load is within its bandwidth
-abbrev pub room_at : Table → ℕ → Option Room
-room_at k m = and_then (λ state. room_of state (load_of k m)) (open_state k m)
 
 -- what the load leaves of the bandwidth
 abbrev pub spare_in : Room → ℕ

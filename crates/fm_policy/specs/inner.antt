@@ -1,3 +1,4 @@
 pub mod Tallying
 pub mod LiveTasks
 pub mod Surveys
+pub mod NetworkSoFar

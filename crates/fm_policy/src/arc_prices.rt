@@ -1,4 +1,4 @@
-//! The rules of the policy over single values, for all that ask for single nodes and arcs.
+//! The rules of the policy over single values, so that whoever builds or edits a network has one price for an arc.
 
 ghost use Rattle.std.specs.Prelude.{◌≡◌, ◌≤◌, ◌-◌, max};
 ghost use Rattle.fm_know.specs.Limits.{JobWithin};

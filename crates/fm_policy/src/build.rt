@@ -1,4 +1,8 @@
 //! The network of what is known, put in its order: first the nodes, then the arcs.
+//!
+//! In this order each node and each arc comes after those that are there, so a put is a push, O(1) amortised, and moves
+//! nothing. What is asked about tasks and machines is looked up before, in one walk over each (`inputs`). The policy is
+//! Firmament's network-aware one (Gog et al., 2016), with the unscheduled aggregators of Quincy (Isard et al., 2009).
 
 ghost use Rattle.std.specs.Prelude.{◌≡◌, IfOk};
 ghost use Rattle.fm_net.specs.Network.{net_of};

@@ -1,4 +1,4 @@
-//! Which records a delta touches.
+//! Which records a delta touches: the keys by which a keeper looks at what may differ, and at nothing else.
 
 ghost use Rattle.std.specs.Prelude.{◌≡◌, ◌∷◌, ◌++◌, [], map, IfOk};
 ghost use Rattle.std.specs.Ordering.{nat_cmp};

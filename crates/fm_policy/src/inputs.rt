@@ -1,4 +1,8 @@
 //! What is looked up before a network is built: in one walk over the tasks, and one over the machines.
+//!
+//! An arc into a machine depends on the machine's load, and that on all tasks that it holds. To ask for it at each arc
+//! would be a walk over the tasks for each. Here it is added up once, and the arc of a request to a machine is then
+//! found in O(1).
 
 ghost use Rattle.std.specs.Prelude.{◌≡◌, IfOk};
 ghost use Rattle.fm_policy.specs.NodeFacts.{job_facts, machine_facts};
@@ -23,7 +27,7 @@ pub(crate) struct NetworkInputs {
 }
 
 impl NetworkInputs {
-    /// The survey of what is known. O(n log n) in the records.
+    /// The inputs of the network of what is known. O(n log n) in the records.
     pub(crate) fn of(alloc: Global, knowledge: &Knowledge) -> Result<NetworkInputs, OutOfMemory>
         ensures { IfOk result (IsSurvey knowledge.now) }
     {

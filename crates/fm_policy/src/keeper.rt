@@ -1,4 +1,8 @@
-//! Keepers of the network of what is known.
+//! Keepers of the network of what is known, so that a coordinator does not depend on how its network is maintained.
+//!
+//! A network is a view of the knowledge, which a keeper builds again, or edits after each delta (incremental view
+//! maintenance: Gupta and Mumick, 1995). A fresh keeper's network is that of the present knowledge. A stale one, such
+//! as after a refusal of memory, says nothing of it, and can become fresh again by building.
 
 ghost use Rattle.std.specs.Prelude.{◌≡◌, Bool, true, false, IsTrue, IfOk, OnOk, OnErr};
 ghost use Rattle.fm_records.specs.Table.{Table};

@@ -1,5 +1,8 @@
-//! What is known of single nodes, and the nodes and arcs that the network has by that alone. The rules of the policy are
-//! here once, for whoever can tell these facts from records of a cluster.
+//! What is known of single nodes, and the nodes and arcs that the network has by that alone.
+//!
+//! The rules of the policy are here once, for whoever can tell these facts from records of a cluster. The builder does
+//! so from what it looked up, an Editor from what it remembers. Each arc follows from the facts of its two ends, in
+//! O(1).
 
 ghost use Rattle.std.specs.Prelude.{◌≡◌};
 ghost use Rattle.fm_policy.specs.NodeFacts.{node_of, is_there, fit_on, waiting_arc, request_machine_arc, preference_arc, machine_arc, job_arc, slots_arc, live_arc, arc_between};

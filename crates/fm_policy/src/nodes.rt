@@ -1,8 +1,8 @@
-//! The nodes of what is known, put in their order.
+//! The nodes of what is known, put in their order, each after the one before, so that a put moves no other node.
 
 ghost use Rattle.std.specs.Prelude.{ℕ, OnOk};
 ghost use Rattle.fm_net.specs.declared.node.Node.{Node as NodeName};
-ghost use Rattle.fm_policy.specs.Building.{Adds, HasNode, HasNodes};
+ghost use Rattle.fm_policy.specs.inner.NetworkSoFar.{Adds, HasNode, HasNodes};
 ghost use Rattle.fm_policy.specs.inner.Surveys.{IsSurvey};
 
 use crate::inputs::NetworkInputs;

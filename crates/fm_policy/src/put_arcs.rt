@@ -1,10 +1,10 @@
-//! The arcs of what is known, put in their order.
+//! The arcs of what is known, put in their order, each after the one before, so that a put moves no other arc.
 
 ghost use Rattle.std.specs.Prelude.{◌≡◌, ℕ, OnOk, IsTrue, Some, None};
 ghost use Rattle.fm_records.specs.Facts.{live_spec, holder_of};
 ghost use Rattle.fm_net.specs.declared.node.Node.{Node as NodeName};
 ghost use Rattle.fm_net.specs.Network.{is_node, arc_of};
-ghost use Rattle.fm_policy.specs.Building.{Adds, HasNodes, HasWaiting, HasHolder, Covers, CoversJob, CoversMachine, CoversTask, CoversPreferred, CoversPlace};
+ghost use Rattle.fm_policy.specs.inner.NetworkSoFar.{Adds, HasNodes, HasWaiting, HasHolder, Covers, CoversJob, CoversMachine, CoversTask, CoversPreferred, CoversPlace};
 ghost use Rattle.fm_policy.specs.NodeFacts.{task_facts};
 ghost use Rattle.fm_policy.specs.inner.LiveTasks.{live_task};
 ghost use Rattle.fm_policy.specs.inner.Surveys.{IsSurvey};

@@ -1,4 +1,6 @@
-//! A keeper that rebuilds.
+//! A keeper that rebuilds: any delta makes it stale, and the next read builds the complete network.
+//!
+//! It remembers nothing but the network, and suits a coordinator that is told much between two reads.
 
 ghost use Rattle.std.specs.Prelude.{◌≡◌, [], Some, false, is_some, IsTrue, IfOk};
 ghost use Rattle.fm_records.specs.Know.{table_of};

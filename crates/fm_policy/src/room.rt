@@ -1,4 +1,7 @@
-//! What the open machines have left.
+//! What an open machine has left: how many tasks of a request fit there, and what each costs.
+//!
+//! Slots and spare bandwidth both bound how many fit. Each costs its request and the load of the machine, so that tasks
+//! go to machines with a lower load first.
 
 ghost use Rattle.std.specs.Prelude.{◌≡◌, ◌≤◌, ◌+◌, ◌-◌, IfSome};
 ghost use Rattle.fm_know.specs.Limits.{StateWithin};

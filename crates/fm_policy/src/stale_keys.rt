@@ -1,4 +1,7 @@
-//! The keys of deltas that the network does not include yet.
+//! The keys of deltas that the network does not include yet, so that the deltas themselves need not be kept.
+//!
+//! An edit looks up the present records, so it needs to know only which of them changed. Several deltas are followed by
+//! all their keys at once, each of which is kept once, however many deltas have it.
 
 ghost use Rattle.std.specs.Prelude.{◌≡◌, ◌||◌, IfOk, OnOk, true};
 ghost use Rattle.std.specs.Ordering.{is_eq};

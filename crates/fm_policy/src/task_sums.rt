@@ -1,4 +1,6 @@
 //! What one walk over the tasks adds up: the live tasks of each job, and what each machine holds.
+//!
+//! So the load of a machine and the capacity of a job's arc are look-ups, O(log n), and no walks over the tasks.
 
 ghost use Rattle.std.specs.Prelude.{◌≡◌, ◌<◌, ◌+◌, ◌≤◌, ◌^◌, ℕ, cond, unwrap_or, IfOk, OnOk, length};
 ghost use Rattle.fm_records.specs.Facts.{load_of};

@@ -8,7 +8,7 @@ ghost use Rattle.fm_cycles.specs.Residual.{AreArcs};
 ghost use Rattle.fm_cycles.specs.Units.{AreCapacities, AreWithin};
 
 use fm_cycles::cancel::cancel;
-use fm_cycles::cycle_search::{Found, search};
+use fm_cycles::cycle_search::search;
 use fm_cycles::indexed_arcs::IndexedArc;
 use fm_flow::cost::cost;
 use fm_flow::flow::Flow;
@@ -110,11 +110,12 @@ fn cycles(
     let mut units = units;
     for count in 0..MANY {
         let first = vec![in alloc; 0i128; nodes]?;
-        match search(alloc, nodes, arcs, &units, first)? {
-            Found::Potentials(_) => return Ok(count),
-            Found::Cycle(cycle) => {
+        let mut cycles = search(alloc, nodes, arcs, &units, first)?.cycles;
+        match cycles.pop() {
+            Some(cycle) => {
                 cancel(arcs, &mut units, &cycle);
             }
+            None => return Ok(count),
         }
     }
     Ok(MANY)

@@ -11,7 +11,7 @@ use Rattle.fm_round.specs.declared.plan.Plan.{Plan}
 use Rattle.fm_round.specs.Schedules.{IsPlanOf}
 use Rattle.fm_coord.specs.Events.{Sent, Replica}
 use Rattle.fm_coord.specs.Replays.{seen_packet}
-use Rattle.fm_coord.specs.States.{State}
+use Rattle.fm_coord.specs.States.{State, Represents}
 use Rattle.fm_world.specs.Worlds.{WorldOfSets, with_number}
 use Rattle.fm_world.specs.Represents.{Kept, WorldRepresents, state_with}
 use Rattle.fm_world.proofs.Places.{Stood, stood, absent}
@@ -23,10 +23,13 @@ module _ (k : Kept) (w : WorldOfSets) (at : ℕ) (h : WorldRepresents k w) (P : 
   pub of_none : None ≡ state_with k.coordinators at → P None → P (with_number w.replicas at)
   of_none e p = subst P (sym (absent at k.coordinators w.replicas h.coordinators (sym e))) p
 
-  pub of_some : (s : State) → Some s ≡ state_with k.coordinators at → ((r : Replica) → s.knowledge ≡ table_of r.taken → P (Some r)) → P (with_number w.replicas at)
-  of_some s e p =
+  pub of_represented : (s : State) → Some s ≡ state_with k.coordinators at → ((r : Replica) → Represents s r → P (Some r)) → P (with_number w.replicas at)
+  of_represented s e p =
       let q : Stood (with_number w.replicas at) s = stood at k.coordinators w.replicas h.coordinators s (sym e) in
-      subst P (sym q.at) (p q.replica q.stands.knowledge)
+      subst P (sym q.at) (p q.replica q.stands)
+
+  pub of_some : (s : State) → Some s ≡ state_with k.coordinators at → ((r : Replica) → s.knowledge ≡ table_of r.taken → P (Some r)) → P (with_number w.replicas at)
+  of_some s e p = of_represented s e (λ r stands. p r stands.knowledge)
 
 no_packet : (o : Option Sent) → None ≡ option_map seen_packet o → o ≡ None
 no_packet None e = refl

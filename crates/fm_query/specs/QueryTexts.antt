@@ -41,6 +41,10 @@ abbrev pub agreement_text : Option Disagreement → List ℕ
 agreement_text None = codes "same\n"
 agreement_text (Some d) = codes "differ " ++ (decimal d.first ++ (codes " " ++ (decimal d.other ++ codes "\n")))
 
+-- the number of the first delta that is kept, and that of the next one
+abbrev pub end_text : ℕ → ℕ → List ℕ
+end_text floor end = codes "end " ++ (decimal floor ++ (codes " " ++ (decimal end ++ codes "\n")))
+
 -- a packet's bytes in hexadecimal digits, as a line
 abbrev pub line_of : Packet → List ℕ
 line_of p = encode_lower (spelling p) ++ codes "\n"

@@ -1,4 +1,4 @@
-//! Whether coordinators know the same.
+//! Whether coordinators know the same: each is compared with the first, which is enough.
 
 ghost use Rattle.std.specs.Prelude.{◌≡◌, List, map, string_bytes, IfOk, IsOkUnless};
 ghost use Rattle.fm_coord.specs.Events.{Replica};

@@ -2,6 +2,7 @@
 #![tactic(auto)]
 
 pub mod agree;
+pub mod end_text;
 pub mod packet_text;
 pub mod plan_text;
 pub mod query;

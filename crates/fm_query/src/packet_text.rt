@@ -1,4 +1,4 @@
-//! Packets in hexadecimal digits.
+//! Packets in hexadecimal digits, so that they go through lines of text, such as a stream or a message broker.
 
 ghost use Rattle.std.specs.Prelude.{◌≡◌, ◌⊎◌, Ok, Err, string_bytes, IfOk, IfErr, IsOkUnless};
 ghost use Rattle.hex.specs.Hex.{decode_of};

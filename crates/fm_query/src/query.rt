@@ -1,9 +1,13 @@
-//! Queries of a world, and what answers them.
+//! Queries of a world, and what answers them, in whatever way the program is asked.
+//!
+//! Commands over scripts and lines of streams both ask queries, and one definition says what text answers each. A query
+//! changes nothing but whether a network is fresh.
 
 ghost use Rattle.std.specs.Prelude.{◌≡◌, IfOk, IfErr};
 ghost use Rattle.fm_query.specs.Queries.{ForEachWorld, IsText, differs_in, IsUnanswered};
 
 use crate::agree::{agreement_text, difference};
+use crate::end_text::end_text;
 use crate::packet_text::packet_line;
 use crate::reasons_text::why_text;
 use crate::solution_text::{least_plan_text, solution_text};
@@ -29,6 +33,8 @@ pub enum Query {
     Winners(CoordId),
     /// The entries that the coordinator has to stop, a line each.
     Stops(CoordId),
+    /// Which deltas the coordinator keeps.
+    End(CoordId),
     /// Why the task waits or runs, by what the coordinator knows.
     Why(CoordId, TaskId),
     /// Whether all coordinators know the same: `same`, or `differ A B` of the first and the first that knows something
@@ -67,6 +73,7 @@ pub fn ask<N: NetKeeper>(
         Query::Plan(at) => plan(alloc, world, at)?,
         Query::Winners(at) => winners(alloc, world, at)?,
         Query::Stops(at) => stops(alloc, world, at)?,
+        Query::End(at) => end(alloc, world, at)?,
         Query::Why(at, task) => reasons(alloc, world, at, task)?,
         Query::Packet(number) => packet(alloc, world, number)?,
         Query::Agree => return agreement(alloc, world),
@@ -121,6 +128,17 @@ fn stops<N: NetKeeper>(alloc: Global, world: &World<N>, at: CoordId) -> Result<V
     match world.coordinator(at) {
         None => Err(Refusal::NoCoordinator),
         Some(coordinator) => Ok(stops_text(alloc, coordinator.knowledge(), at)?.into_bytes()),
+    }
+}
+
+// Which deltas the coordinator keeps.
+fn end<N: NetKeeper>(alloc: Global, world: &World<N>, at: CoordId) -> Result<Vec<u8>, Refusal>
+    ensures ok { ForEachWorld world.now (λ w. IfOk result (λ text. IsText (Query.End at) w text.items)) }
+    ensures err { ForEachWorld world.now (λ w. IfErr result (IsUnanswered (Query.End at) w)) }
+{
+    match world.coordinator(at) {
+        None => Err(Refusal::NoCoordinator),
+        Some(coordinator) => Ok(end_text(alloc, coordinator)?.into_bytes()),
     }
 }
 

@@ -1,4 +1,7 @@
 //! Lines of text, for each item of a list and for each entry of a map.
+//!
+//! A text is defined by the line of one item. What holds of the lines of a list or a map is proved here, once for all
+//! texts.
 
 ghost use Rattle.std.specs.Prelude.{◌≡◌, ◌++◌, ℕ, List, OnOk, IsOkUnless, string_bytes};
 ghost use Rattle.std.specs.List.{flat_map};

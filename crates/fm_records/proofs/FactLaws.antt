@@ -22,7 +22,7 @@ use Rattle.fm_records.proofs.SetLaws.{member_from, member_kept}
 use Rattle.fm_records.proofs.GreatestLaws.{least_is}
 use Rattle.fm_records.proofs.LookupLaws.{none_some, when_is_true, both_true, lookup_task, lookup_machine, lookup_entry, lookup_entries}
 use Rattle.fm_records.proofs.RangeLaws.{inside, when_value, least_member, all_of_some, spots_rise}
-use Rattle.fm_lattice.specs.Chains.{nat_same, by_cases, greater_less}
+use Rattle.fm_lattice.specs.laws.ChainLaws.{nat_same, by_cases, greater_less}
 use Rattle.fm_lattice.specs.Joins.{min_join}
 use Rattle.fm_lattice.specs.Maps.{lookup, IsRising}
 use Rattle.fm_lattice.specs.laws.MapLaws.{lookup_below, same_map, below_trans}

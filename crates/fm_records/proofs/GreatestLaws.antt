@@ -8,7 +8,7 @@ use Rattle.std.proofs.Common.{sym, ap, ◌∙◌, subst, inl, inr}
 use Rattle.std.proofs.lemmas.Cmp.{upto, tied_itself, tied_back}
 use Rattle.fm_records.specs.Sets.{greatest, least}
 use Rattle.fm_records.specs.Characterized.{IsGreatest, IsGreatestOf, IsLeastMember, IsLeastOf}
-use Rattle.fm_lattice.specs.Chains.{by_cases, less_greater, greater_less}
+use Rattle.fm_lattice.specs.laws.ChainLaws.{by_cases, less_greater, greater_less}
 use Rattle.fm_lattice.specs.Joins.{max_join, min_join, option_join}
 
 turned : (o : Ordering) → is_lt (ordering_reverse o) ≡ is_gt o

@@ -4,7 +4,7 @@ use Rattle.std.specs.List.{filter_map}
 use Rattle.std.specs.Ordering.{nat_cmp}
 use Rattle.std.specs.Cmp.{nat_cmp_total}
 use Rattle.std.proofs.Common.{sym, ◌∙◌}
-use Rattle.fm_lattice.specs.Chains.{nat_same}
+use Rattle.fm_lattice.specs.laws.ChainLaws.{nat_same}
 use Rattle.fm_lattice.specs.laws.MapLaws.{same_map}
 use Rattle.fm_records.specs.declared.ops.Op.{Op}
 use Rattle.fm_records.specs.Orders.{attempt_cmp}
@@ -12,7 +12,7 @@ use Rattle.fm_records.specs.laws.OrderLaws.{total_attempt, same_attempt}
 use Rattle.fm_records.specs.Table.{Table}
 use Rattle.fm_records.specs.Know.{job_named, task_named, machine_named, attempt_named, job, task, machine, entries, table_of}
 use Rattle.fm_records.specs.Characterized.{IsKnow}
-use Rattle.fm_records.specs.TableLaws.{rising_table}
+use Rattle.fm_records.proofs.TableLaws.{rising_table}
 use Rattle.fm_records.proofs.LookupLaws.{lookup_job, lookup_task, lookup_machine, lookup_entries}
 
 pub know_is : (S : List Op) → IsKnow S (table_of S)

@@ -11,4 +11,5 @@ pub mod SetExtensionality
 pub mod SetFactLaws
 pub mod SetLaws
 pub mod SpelledLaws
+pub mod TableLaws
 pub mod UnionLaws

@@ -5,7 +5,7 @@ use Rattle.std.specs.Ordering.{nat_cmp}
 use Rattle.std.specs.Cmp.{nat_cmp_total}
 use Rattle.std.proofs.Common.{sym, ap, subst, inl, inr}
 use Rattle.std.proofs.lemmas.Bool.{eqb-true}
-use Rattle.fm_lattice.specs.Chains.{nat_same}
+use Rattle.fm_lattice.specs.laws.ChainLaws.{nat_same}
 use Rattle.fm_lattice.specs.Maps.{lookup}
 use Rattle.fm_records.specs.declared.ops.Op.{Op}
 use Rattle.fm_records.specs.declared.ops.Op.TheVariants as op
@@ -18,7 +18,7 @@ use Rattle.fm_records.specs.Orders.{attempt_cmp}
 use Rattle.fm_records.specs.laws.OrderLaws.{total_attempt, same_attempt}
 use Rattle.fm_records.specs.Table.{TaskValue, MachineValue}
 use Rattle.fm_records.specs.Know.{when, job_in, spec_in, progress_in, incarnation_in, spot_in, job_named, task_named, machine_named, attempt_named, coordinator_named, job, spec, greatest_progress, incarnation, machine_at, task_value, task, machine, entry, entries, table_of}
-use Rattle.fm_records.specs.TableLaws.{some_none, lookup_table}
+use Rattle.fm_records.proofs.TableLaws.{some_none, lookup_table}
 
 pub none_some : {A B : Type 0} (a : A) → None ≡ Some a → B
 none_some a e = some_none a (sym e)

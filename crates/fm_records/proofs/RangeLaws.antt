@@ -9,7 +9,8 @@ use Rattle.std.proofs.lemmas.Bool.{eqb-true}
 use Rattle.std.proofs.lemmas.Cmp.{tied_itself}
 use Rattle.std.proofs.lemmas.List.Folds.{list_all-append}
 use Rattle.std.proofs.lemmas.List.Concat.{flat_map_single}
-use Rattle.fm_lattice.specs.Chains.{TellsApart, nat_same, by_cases}
+use Rattle.fm_lattice.specs.Chains.{TellsApart}
+use Rattle.fm_lattice.specs.laws.ChainLaws.{nat_same, by_cases}
 use Rattle.fm_lattice.specs.Joins.{max_join, option_join, Any}
 use Rattle.fm_lattice.specs.Maps.{lookup, IsBelow, IsRising, AreValues}
 use Rattle.fm_lattice.specs.laws.MapLaws.{lookup_below}
@@ -32,7 +33,7 @@ use Rattle.fm_records.specs.Ranges.{is_id, fits_row, fields_fit, in_range, all_i
 use Rattle.fm_records.specs.Characterized.{IsGreatest, IsGreatestOf, IsLeastMember, IsLeastOf}
 use Rattle.fm_records.proofs.SetLaws.{member_from, member_kept}
 use Rattle.fm_records.proofs.GreatestLaws.{greatest_is, least_is}
-use Rattle.fm_records.specs.TableLaws.{some_none, rising_table}
+use Rattle.fm_records.proofs.TableLaws.{some_none, rising_table}
 use Rattle.fm_records.proofs.LookupLaws.{none_some, when_is_true, both_true, lookup_job, lookup_task, lookup_machine, lookup_entry, lookup_entries}
 use Rattle.fm_records.proofs.KnowLaws.{know_is}
 

@@ -1,7 +1,7 @@
 -- What a row is once a list was written to its front, and how much it holds.
 use Rattle.std.proofs.Common.{◌≤◌, ◌++◌, ℕ, List, [], ◌∷◌, length, take, drop, refl, ap, arith}
 use Rattle.std.proofs.lemmas.List.{length-take}
-use Rattle.fm_records.specs.Preferences.{IsFilled}
+use Rattle.fm_records.specs.inner.PreferenceEntries.{IsFilled}
 
 pub row_filled : (l : List (ℕ × ℕ)) → length l ≤ 4 → IsFilled (length l) (l ++ drop (length l) ((0, 0) ∷ (0, 0) ∷ (0, 0) ∷ (0, 0) ∷ []))
 row_filled [] h = record { counted = refl; rest = refl }

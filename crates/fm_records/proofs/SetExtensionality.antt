@@ -4,7 +4,7 @@ use Rattle.std.specs.List.{filter_map}
 use Rattle.std.specs.Ordering.{nat_cmp}
 use Rattle.std.specs.Cmp.{nat_cmp_total}
 use Rattle.std.proofs.Common.{sym, ap, ◌∙◌}
-use Rattle.fm_lattice.specs.Chains.{nat_same}
+use Rattle.fm_lattice.specs.laws.ChainLaws.{nat_same}
 use Rattle.fm_lattice.specs.Joins.{max_join, min_join, Any, JoinLaws}
 use Rattle.fm_lattice.specs.laws.PlainLaws.{max_laws, min_laws}
 use Rattle.fm_lattice.specs.laws.MapLaws.{same_map}
@@ -14,7 +14,7 @@ use Rattle.fm_records.specs.Orders.{job_cmp, spec_cmp, progress_cmp, machine_cmp
 use Rattle.fm_records.specs.laws.OrderLaws.{total_job, same_job, total_spec, same_spec, total_progress, same_progress, total_machine, same_machine, total_report, same_report, total_spot, same_spot}
 use Rattle.fm_records.specs.Know.{job_in, spec_in, progress_in, incarnation_in, state_in, report_in, spot_in, coordinator_named, task_value, task, machine, entry, table_of}
 use Rattle.fm_records.proofs.SetLaws.{all_of_same, same_members_kept}
-use Rattle.fm_records.specs.TableLaws.{rising_table}
+use Rattle.fm_records.proofs.TableLaws.{rising_table}
 use Rattle.fm_records.proofs.LookupLaws.{lookup_entry}
 use Rattle.fm_records.proofs.KnowLaws.{know_is, is_know}
 

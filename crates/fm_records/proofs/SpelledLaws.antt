@@ -8,7 +8,8 @@ use Rattle.std.specs.declared.cmp.Ordering.TheVariants.{Less, Equal, Greater}
 use Rattle.std.proofs.Common.{sym, ap, ◌∙◌, subst, arith, eq-eqb}
 use Rattle.std.proofs.lemmas.Bool.Decides.{nat_tests}
 use Rattle.std.proofs.lemmas.List.Elements.{filter_map-append}
-use Rattle.fm_lattice.specs.Chains.{TellsApart, nat_same, by_cases}
+use Rattle.fm_lattice.specs.Chains.{TellsApart}
+use Rattle.fm_lattice.specs.laws.ChainLaws.{nat_same, by_cases}
 use Rattle.fm_lattice.specs.Joins.{max_join, min_join, Any, IsOptionOf}
 use Rattle.fm_lattice.specs.laws.PlainLaws.{max_idem}
 use Rattle.fm_lattice.specs.Maps.{lookup, IsRising, AreValues}
@@ -22,7 +23,7 @@ use Rattle.fm_records.specs.declared.records.Report.{Report}
 use Rattle.fm_records.specs.declared.records.Spot.{Spot}
 use Rattle.fm_records.specs.Sets.{all_of, unless_empty}
 use Rattle.fm_records.specs.laws.OrderLaws.{total_attempt, same_attempt}
-use Rattle.fm_records.specs.TableLaws.{rising_table}
+use Rattle.fm_records.proofs.TableLaws.{rising_table}
 use Rattle.fm_records.proofs.LookupLaws.{lookup_entry}
 use Rattle.fm_records.proofs.KnowLaws.{is_know}
 use Rattle.fm_records.specs.Orders.{job_cmp, spec_cmp, progress_cmp, machine_cmp, report_cmp, spot_cmp, attempt_cmp}

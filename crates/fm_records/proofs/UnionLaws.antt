@@ -9,7 +9,8 @@ use Rattle.std.proofs.lemmas.Bool.Decides.{nat_tests}
 use Rattle.std.proofs.lemmas.Cmp.{tied_itself}
 use Rattle.std.proofs.lemmas.List.Elements.{filter_map-append}
 use Rattle.std.proofs.lemmas.Bool.{eqb-true}
-use Rattle.fm_lattice.specs.Chains.{by_order, nat_same, by_cases, less_greater, greater_less}
+use Rattle.fm_lattice.specs.Chains.{by_order}
+use Rattle.fm_lattice.specs.laws.ChainLaws.{nat_same, by_cases, less_greater, greater_less}
 use Rattle.fm_lattice.specs.Joins.{max_join, min_join, option_join, Any, JoinLaws}
 use Rattle.fm_lattice.specs.laws.PlainLaws.{max_laws, min_laws, max_comm}
 use Rattle.fm_lattice.specs.Maps.{lookup, IsRising, put, map_join}
@@ -30,7 +31,7 @@ use Rattle.fm_records.specs.Table.{MachineValue}
 use Rattle.fm_records.specs.Know.{initial_progress, job_in, spec_in, progress_in, incarnation_in, state_in, report_in, spot_in, coordinator_named, job, spec, greatest_progress, incarnation, state_at, report_at, task_value, task, machine_at, machine, entry, entries, table_of}
 use Rattle.fm_records.specs.Joined.{task_join, parts_join, machine_join, table_join}
 use Rattle.fm_records.proofs.SetLaws.{all_of-append, absorbs}
-use Rattle.fm_records.specs.TableLaws.{some_none, rising_table}
+use Rattle.fm_records.proofs.TableLaws.{some_none, rising_table}
 use Rattle.fm_records.proofs.LookupLaws.{lookup_entry, names_member, none_some, when_is_true, both_true}
 use Rattle.fm_records.proofs.KnowLaws.{know_is, is_know}
 

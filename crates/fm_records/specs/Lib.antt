@@ -14,6 +14,7 @@ pub mod Joined
 pub mod Facts
 pub mod SetFacts
 pub mod Characterized
-pub mod TableLaws
+pub mod Rising
 pub mod RecordEquality
 pub mod laws
+pub mod inner

@@ -1,6 +1,6 @@
 -- The machines that a task prefers, each with a credit: their order, their range, and how a row keeps them (this
 -- project's profile).
-use Rattle.std.specs.Prelude.{◌≡◌, ◌++◌, ◌&&◌, ℕ, Bool, true, nat_eq, nat_lt, List, [], ◌∷◌, length, take}
+use Rattle.std.specs.Prelude.{◌&&◌, ℕ, Bool, true, nat_eq, nat_lt, List, [], ◌∷◌}
 use Rattle.std.specs.Cmp.Lexicographic.{pointwise, slice_cmp}
 use Rattle.std.specs.Ordering.{nat_cmp, on, then_cmp, eq_of_both}
 use Rattle.std.specs.declared.cmp.Ordering.{Ordering}
@@ -29,12 +29,3 @@ rises_above m (e ∷ es) = nat_lt m e.0 && rises_above e.0 es
 abbrev pub machines_rise : List (ℕ × ℕ) → Bool
 machines_rise [] = true
 machines_rise (e ∷ es) = rises_above e.0 es
-
--- the list, and after it zeros up to four entries
-abbrev pub four_entries : List (ℕ × ℕ) → List (ℕ × ℕ)
-four_entries l = take 4 (l ++ (0, 0) ∷ (0, 0) ∷ (0, 0) ∷ (0, 0) ∷ [])
-
--- a row of four, of which the first n are listed and the others are zeros
-pub record IsFilled (n : ℕ) (row : List (ℕ × ℕ)) : Type 0 where
-  pub counted : length (take n row) ≡ n
-  pub rest : row ≡ four_entries (take n row)

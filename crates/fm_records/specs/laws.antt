@@ -1,2 +1,3 @@
 pub mod PreferenceLaws
 pub mod OrderLaws
+pub mod RecordEqualityLaws

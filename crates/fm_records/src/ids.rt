@@ -1,4 +1,6 @@
-//! Ids of jobs, tasks, machines and coordinators.
+//! Ids of jobs, tasks, machines and coordinators, each a type of its own, so that none is taken for another.
+//!
+//! Jobs, tasks and machines have 128 bits, written as UUIDs (RFC 9562). Coordinators have numbers from 1 to 64.
 
 ghost use Rattle.std.specs.Prelude.{◌≡◌, ◌≤◌, IfOk, IsOkUnless, string_bytes};
 ghost use Rattle.fm_records.specs.Ids.{read_id, id_text, coordinator_id};
@@ -26,7 +28,7 @@ impl Model for JobId {
 }
 
 impl Chain for JobId {
-    ghost use Rattle.fm_lattice.specs.Chains.{nat_same};
+    ghost use Rattle.fm_lattice.specs.laws.ChainLaws.{nat_same};
 
     ghost same = { nat_same };
 }
@@ -82,7 +84,7 @@ impl Model for TaskId {
 }
 
 impl Chain for TaskId {
-    ghost use Rattle.fm_lattice.specs.Chains.{nat_same};
+    ghost use Rattle.fm_lattice.specs.laws.ChainLaws.{nat_same};
 
     ghost same = { nat_same };
 }
@@ -138,7 +140,7 @@ impl Model for MachineId {
 }
 
 impl Chain for MachineId {
-    ghost use Rattle.fm_lattice.specs.Chains.{nat_same};
+    ghost use Rattle.fm_lattice.specs.laws.ChainLaws.{nat_same};
 
     ghost same = { nat_same };
 }
@@ -196,7 +198,7 @@ impl Model for CoordId {
 }
 
 impl Chain for CoordId {
-    ghost use Rattle.fm_lattice.specs.Chains.{nat_same};
+    ghost use Rattle.fm_lattice.specs.laws.ChainLaws.{nat_same};
 
     ghost same = { nat_same };
 }

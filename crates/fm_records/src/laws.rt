@@ -1,5 +1,7 @@
-//! The laws of what a set of operations means. Each function does nothing: its contract is the law. `record_equality` and `order`
-//! have the laws of `==` and `cmp`, whose functions do that one call.
+//! The laws of what a set of operations means.
+//!
+//! Each function does nothing: its contract is the law. `record_equality` and `order` have the laws of `==` and `cmp`,
+//! whose functions do that one call.
 
 ghost use Rattle.std.specs.Prelude.{◌≡◌, ◌↔◌, ◌++◌, ℕ, List, IsTrue};
 ghost use Rattle.std.specs.Ordering.{nat_cmp};
@@ -20,15 +22,11 @@ ghost use Rattle.fm_records.specs.Characterized.{IsGreatestOf, IsLeastOf, IsKnow
 pub mod order;
 pub mod record_equality;
 
-use crate::ids::{CoordId, MachineId, TaskId};
-use crate::records::{MachineRec, Spot};
+use crate::ids::MachineId;
+use crate::records::{MachineRec, Proposals};
 use fm_lattice::chain::Chain;
-use fm_lattice::constructors::Min;
 use fm_lattice::join::{law_assoc, law_comm, law_idem};
 use fm_lattice::map::JoinMap;
-
-/// Where coordinators would run an attempt of a task: by task and attempt, and then by coordinator.
-pub type Proposals = JoinMap<(TaskId, u32), JoinMap<CoordId, Min<Spot>>>;
 
 /// What is known of machines.
 pub type Machines = JoinMap<MachineId, MachineRec>;

@@ -1,4 +1,7 @@
-//! Operations, which are what a coordinator is told.
+//! Operations, which are what a coordinator is told: one fact each, with a check of the ranges of its fields.
+//!
+//! What was merged cannot be taken back. So an operation is checked before it becomes a delta, and packets and networks
+//! need to be right only for fields in their ranges.
 
 ghost use Rattle.std.specs.Prelude.{◌≡◌, ◌↔◌, ◌&&◌, if◌then◌else◌, nat_le, IsOk, IfErr, option_map};
 ghost use Rattle.fm_records.specs.Ids.{is_coordinator};

@@ -1,4 +1,4 @@
-//! The machines that a task prefers.
+//! The machines that a task prefers, in a fixed row, so that a spec is copied and compared without allocating.
 
 ghost use Rattle.std.specs.Prelude.{◌≡◌, ◌≤◌, if◌then◌else◌, nat_le, Some, None, length, IsTrue};
 ghost use Rattle.std.specs.List.{list_all};
@@ -26,7 +26,7 @@ pub struct Prefer {
 
 impl Model for Prefer {
     ghost use Rattle.std.specs.Prelude.{ℕ, List, length, take};
-    ghost use Rattle.fm_records.specs.Preferences.{four_entries, IsFilled};
+    ghost use Rattle.fm_records.specs.inner.PreferenceEntries.{four_entries, IsFilled};
 
     ghost Value = { List (ℕ × ℕ) };
 

@@ -1,19 +1,28 @@
 //! Records: what is known of a job, a task or a machine.
+//!
+//! Two coordinators may write the same job before they hear of each other. So each record has a total order, and the
+//! greatest one is kept, whatever came first. Jobs, specs and states go by version, then writer, then the other fields:
+//! last-writer-wins registers (Shapiro, Preguica, Baquero and Zawirski, 2011) with versions in place of times. Of the
+//! spots that one coordinator proposes for an attempt the least is kept.
 
 ghost use Rattle.std.specs.Prelude.{◌≡◌};
 ghost use Rattle.fm_records.specs.OpRecords.{job_record, spec_record, progress_record, machine_record, report_record, spot_record};
 
-use crate::ids::{JobId, MachineId};
+use crate::ids::{CoordId, JobId, MachineId, TaskId};
 use crate::ops::{Op, Phase};
 use crate::prefer::Prefer;
 use fm_lattice::chain::Chain;
-use fm_lattice::constructors::{Both, Lex, Max, Opt};
+use fm_lattice::constructors::{Both, Lex, Max, Min, Opt};
+use fm_lattice::map::JoinMap;
 
 /// What is known of a task: its spec, if that is known, and its progress.
 pub type TaskRec = Both<Opt<Max<SpecReg>>, Max<Progress>>;
 
 /// What is known of a machine: its incarnation, and its state and its report at that, if known.
 pub type MachineRec = Lex<u64, Both<Opt<Max<MachineReg>>, Opt<Max<Report>>>>;
+
+/// Where coordinators would run an attempt of a task: by task and attempt, and then by coordinator.
+pub type Proposals = JoinMap<(TaskId, u32), JoinMap<CoordId, Min<Spot>>>;
 
 /// What is known of a job: whether it is withdrawn, and what waiting and a preemption cost.
 /// Ordered by version, writer, and then the other fields, false before true.

@@ -45,10 +45,10 @@ pub enum Refusal {
     /// The inbox has no packet.
     #[error("the inbox is empty")]
     InboxEmpty,
-    /// The logs fit into no order in which each packet is cut before it is merged.
+    /// The histories fit into no order in which each packet is cut before it is merged.
     #[error("the logs cannot be gathered into one order")]
     Stuck,
-    /// A seat that is missing, or whose log is not in the history; or the sender of a packet that is not awaited.
+    /// A seat that is missing, or whose list is not in the history; or the sender of a packet that is not awaited.
     #[error("seat {0} does not match")]
     NotMine(u32),
     /// The known version is the greatest that there is.

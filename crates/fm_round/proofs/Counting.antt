@@ -7,7 +7,7 @@ use Rattle.std.specs.Cmp.{Equal-is, nat_cmp_total}
 use Rattle.std.proofs.lemmas.Bool.{eqb-true}
 use Rattle.std.proofs.lemmas.Cmp.{tied_itself}
 use Rattle.std.proofs.lemmas.List.Sums.{sum_by-cons}
-use Rattle.fm_lattice.specs.Chains.{nat_same}
+use Rattle.fm_lattice.specs.laws.ChainLaws.{nat_same}
 use Rattle.fm_records.specs.Options.{only_if, passes}
 use Rattle.fm_records.specs.Sets.{IsMember}
 use Rattle.fm_records.specs.Table.{Table, TaskValue}

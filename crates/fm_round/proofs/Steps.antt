@@ -5,7 +5,8 @@ use Rattle.std.specs.Ordering.{nat_cmp, is_eq, is_lt, ordering_then}
 use Rattle.std.specs.Cmp.{nat_cmp_total, nat_cmp_is, Equal-is}
 use Rattle.std.specs.declared.cmp.Ordering.TheVariants.{Greater}
 use Rattle.std.proofs.lemmas.Cmp.{tied_itself}
-use Rattle.fm_lattice.specs.Chains.{nat_same, by_order, by_cases}
+use Rattle.fm_lattice.specs.Chains.{by_order}
+use Rattle.fm_lattice.specs.laws.ChainLaws.{nat_same, by_cases}
 use Rattle.fm_lattice.specs.Joins.{max_join, min_join, option_join}
 use Rattle.fm_lattice.specs.Maps.{lookup, put}
 use Rattle.fm_lattice.specs.laws.MapLaws.{lookup_put}

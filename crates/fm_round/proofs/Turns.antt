@@ -10,27 +10,27 @@ use Rattle.fm_round.specs.inner.AdmissionSteps.{Took}
 use Rattle.fm_round.proofs.Told.{told_nothing, told_more}
 
 module _ {E : Type 0} (answer_to : Table → E → Answer) (ops_of : Table → E → List Op) (old : AdmissionState) (es : List E) where
-  -- with the rest of the entries the hearing comes to what it would with all from the start
-  pub record Ahead (hearing : AdmissionState) (rest : List E) : Type 0 where
-    pub now : told hearing.now (in_turn answer_to ops_of hearing.now rest).ops ≡ told old.now (in_turn answer_to ops_of old.now es).ops
-    pub ops : hearing.ops.items ++ (in_turn answer_to ops_of hearing.now rest).ops ≡ old.ops.items ++ (in_turn answer_to ops_of old.now es).ops
-    pub answers : hearing.answers.items ++ (in_turn answer_to ops_of hearing.now rest).answers ≡ old.answers.items ++ (in_turn answer_to ops_of old.now es).answers
+  -- with the rest of the entries the state comes to what it would with all from the start
+  pub record Ahead (state : AdmissionState) (rest : List E) : Type 0 where
+    pub now : told state.now (in_turn answer_to ops_of state.now rest).ops ≡ told old.now (in_turn answer_to ops_of old.now es).ops
+    pub ops : state.ops.items ++ (in_turn answer_to ops_of state.now rest).ops ≡ old.ops.items ++ (in_turn answer_to ops_of old.now es).ops
+    pub answers : state.answers.items ++ (in_turn answer_to ops_of state.now rest).answers ≡ old.answers.items ++ (in_turn answer_to ops_of old.now es).answers
 
-  pub one_further : (hearing new : AdmissionState) (e : E) (rest : List E) → IsTable hearing.now → Ahead hearing (e ∷ rest) → Took (one_entry (answer_to hearing.now e) (ops_of hearing.now e)) hearing new → Ahead new rest
-  one_further hearing new e rest form ahead took =
-      let one = one_entry (answer_to hearing.now e) (ops_of hearing.now e) in
-      let later = in_turn answer_to ops_of (told hearing.now one.ops) rest in
+  pub one_further : (state new : AdmissionState) (e : E) (rest : List E) → IsTable state.now → Ahead state (e ∷ rest) → Took (one_entry (answer_to state.now e) (ops_of state.now e)) state new → Ahead new rest
+  one_further state new e rest form ahead took =
+      let one = one_entry (answer_to state.now e) (ops_of state.now e) in
+      let later = in_turn answer_to ops_of (told state.now one.ops) rest in
       record {
-        now = ap (λ k. told k (in_turn answer_to ops_of k rest).ops) took.now ∙ told_more hearing.now form one.ops later.ops ∙ ahead.now;
-        ops = (λ i. took.ops i ++ (in_turn answer_to ops_of (took.now i) rest).ops) ∙ append_assoc hearing.ops.items one.ops later.ops ∙ ahead.ops;
-        answers = (λ i. took.answers i ++ (in_turn answer_to ops_of (took.now i) rest).answers) ∙ append_assoc hearing.answers.items one.answers later.answers ∙ ahead.answers;
+        now = ap (λ k. told k (in_turn answer_to ops_of k rest).ops) took.now ∙ told_more state.now form one.ops later.ops ∙ ahead.now;
+        ops = (λ i. took.ops i ++ (in_turn answer_to ops_of (took.now i) rest).ops) ∙ append_assoc state.ops.items one.ops later.ops ∙ ahead.ops;
+        answers = (λ i. took.answers i ++ (in_turn answer_to ops_of (took.now i) rest).answers) ∙ append_assoc state.answers.items one.answers later.answers ∙ ahead.answers;
       }
 
-  pub at_end : (hearing : AdmissionState) → IsTable hearing.now → Ahead hearing [] → Took (in_turn answer_to ops_of old.now es) old hearing
-  at_end hearing form ahead = record {
-    now = sym (told_nothing hearing.now form) ∙ ahead.now;
-    ops = sym (append-nil hearing.ops.items) ∙ ahead.ops;
-    answers = sym (append-nil hearing.answers.items) ∙ ahead.answers;
+  pub at_end : (state : AdmissionState) → IsTable state.now → Ahead state [] → Took (in_turn answer_to ops_of old.now es) old state
+  at_end state form ahead = record {
+    now = sym (told_nothing state.now form) ∙ ahead.now;
+    ops = sym (append-nil state.ops.items) ∙ ahead.ops;
+    answers = sym (append-nil state.answers.items) ∙ ahead.answers;
   }
 
   pub at_start : Ahead old es

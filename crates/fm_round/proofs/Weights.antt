@@ -6,7 +6,8 @@ use Rattle.std.specs.Cmp.{Equal-is, nat_cmp_total}
 use Rattle.std.specs.declared.cmp.Ordering.TheVariants.{Less, Equal}
 use Rattle.std.proofs.lemmas.Cmp.{tied_itself}
 use Rattle.std.proofs.lemmas.List.Sums.{sum_by-cons}
-use Rattle.fm_lattice.specs.Chains.{nat_same, by_order, by_cases}
+use Rattle.fm_lattice.specs.Chains.{by_order}
+use Rattle.fm_lattice.specs.laws.ChainLaws.{nat_same, by_cases}
 use Rattle.fm_lattice.specs.laws.MapLaws.{lookup_below, below_trans}
 use Rattle.fm_lattice.specs.Maps.{lookup, put, IsBelow, IsRising}
 

@@ -46,10 +46,6 @@ has_incarnation k m i = passes (λ n. n == i) (incarnation_of k m)
 abbrev pub is_open_at : Table → ℕ → ℕ → Bool
 is_open_at k m i = is_open k m && has_incarnation k m i
 
--- the attempt that a place is for: the present one if that has no proposal, else the next
-abbrev pub place_attempt : Table → Place → ℕ
-place_attempt k p = let a = attempt_of k p.task in cond (has_proposal k p.task a) (a + 1) a
-
 -- the operations of a place by coordinator c: a proposal for the present attempt if that has none, else the next
 -- attempt, pending, and a proposal for that
 abbrev pub place_ops : ℕ → Table → Place → List Op

@@ -1,4 +1,9 @@
-//! Admission of a plan.
+//! Admission of a plan: what of it still holds by what is known when it is committed.
+//!
+//! A plan is made of an earlier view, and other coordinators' operations may have come since. So each entry is answered
+//! by the first rule that applies, on what is known with the operations of the entries accepted before it. So no
+//! machine gets more than it has left, whatever the plan says. What machines hold is counted once and kept as tasks
+//! come (`machine_holdings`).
 
 ghost use Rattle.std.specs.Prelude.{◌≡◌, ℕ, ◌<◌, ◌^◌, ◌∷◌, ◌++◌, ◌==◌, ◌&&◌, [], true, false, IsTrue, IfOk, IfSome, OnOk};
 ghost use Rattle.fm_records.specs.declared.ops.Op.{Op as Operation};
@@ -79,10 +84,10 @@ fn admit_with(
         → IsTrue (is_within_nic (told knowledge.now a.ops) m)) }
 {
     knowledge.known();
-    let mut hearing = AdmissionState::of(alloc, knowledge)?;
-    hearing.take_places(holdings, coordinator, plan.places.as_slice())?;
-    hearing.take_preempts(plan.preempts.as_slice())?;
-    Ok(hearing.into_admitted())
+    let mut state = AdmissionState::of(alloc, knowledge)?;
+    state.take_places(holdings, coordinator, plan.places.as_slice())?;
+    state.take_preempts(plan.preempts.as_slice())?;
+    Ok(state.into_admitted())
 }
 
 /// What is known with the operations of the entries that were accepted so far, these operations, and the answers so
@@ -96,11 +101,11 @@ pub(crate) struct AdmissionState {
 }
 
 impl AdmissionState {
-    // The hearing before the first entry.
+    // The state before the first entry.
     fn of(alloc: Global, knowledge: &Knowledge) -> Result<AdmissionState, OutOfMemory>
-        ensures now { IfOk result (λ hearing. hearing.now ≡ knowledge.now) }
-        ensures ops { IfOk result (λ hearing. hearing.ops.items ≡ []) }
-        ensures answers { IfOk result (λ hearing. hearing.answers.items ≡ []) }
+        ensures now { IfOk result (λ state. state.now ≡ knowledge.now) }
+        ensures ops { IfOk result (λ state. state.ops.items ≡ []) }
+        ensures answers { IfOk result (λ state. state.answers.items ≡ []) }
         ensures ready { IfOk result IsAdmissionState }
     {
         knowledge.known();

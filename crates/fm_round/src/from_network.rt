@@ -1,4 +1,7 @@
-//! The plan of a flow of a knowledge's network.
+//! The plan of a flow of a knowledge's network, from the arcs that it rests on.
+//!
+//! Most arcs say nothing that a plan needs: those without units, and those of held tasks that stay where they are. One
+//! walk over the network leaves them out, with the units of each arc looked for at its own place first.
 
 ghost use Rattle.std.specs.Prelude.{◌≡◌, ◌∷◌, ◌++◌, [], cond, filter, IfOk, OnOk};
 ghost use Rattle.fm_net.specs.Network.{net_of};

@@ -1,4 +1,8 @@
-//! The plan of a flow.
+//! The plan of a flow: which task goes to which machine, where a flow only says how many of a request go there.
+//!
+//! Tasks of a request are alike to a flow, so any assignment of them costs the same. For a flow to have one plan, the
+//! i-th task by id goes to the i-th machine by id, where a machine counts as often as units go to it. As in Quincy
+//! (Isard et al., 2009) a unit through a machine means to run there, and one of a held task to its job to preempt it.
 
 ghost use Rattle.std.specs.Prelude.{◌≡◌, ◌==◌, ◌++◌, ℕ, None, not, cond, drop, length, replicate, option_to_list, IfOk, OnOk};
 ghost use Rattle.std.specs.List.{filter_map, slice_get};
@@ -218,8 +222,8 @@ fn place_of(knowledge: &Knowledge, task: TaskId, machine: Option<MachineId>) -> 
     }
 }
 
-// The place of the task on the machine at its present incarnation.
-fn place_at(knowledge: &Knowledge, task: TaskId, machine: MachineId) -> Option<Place>
+/// The place of the task on the machine, at its present incarnation; None if the machine is not known. O(log n).
+pub fn place_at(knowledge: &Knowledge, task: TaskId, machine: MachineId) -> Option<Place>
     ensures { result ≡ place_at knowledge.now task machine }
 {
     match knowledge.machines().get(&machine) {
@@ -252,8 +256,8 @@ fn preempts_of(
     Ok(found)
 }
 
-// The preempt of the task at its present attempt, if some machine holds it.
-fn preempt_of(knowledge: &Knowledge, task: TaskId) -> Option<Preempt>
+/// The preempt of the task at its present attempt; None if no machine holds it. O(log n).
+pub fn preempt_of(knowledge: &Knowledge, task: TaskId) -> Option<Preempt>
     ensures { result ≡ preempt_of knowledge.now task }
 {
     let _machine = knowledge.holder(task)?;

@@ -1,5 +1,7 @@
-//! Laws of rounds. Each function does nothing: its contract is the law. `plan_equality` has the laws of `==`, whose functions
-//! do that one call.
+//! Laws of rounds.
+//!
+//! Each function does nothing: its contract is the law. `plan_equality` has the laws of `==`, whose functions do that
+//! one call.
 
 ghost use Rattle.std.specs.Prelude.{◌≡◌, ◌↔◌, ◌<◌, ◌==◌, ◌++◌, ℕ, List, count_by};
 ghost use Rattle.fm_records.specs.declared.ops.Op.{Op};
@@ -24,7 +26,8 @@ pub fn law_told()
 pub fn law_sets()
     ensures admitted { (S T : List Op) (c : ℕ) (plan : Plan) → table_of S ≡ table_of T
         → admission (table_of S) c plan ≡ admission (table_of T) c plan }
-    ensures stops { (S T : List Op) (c : ℕ) → table_of S ≡ table_of T → stops_of (table_of S) c ≡ stops_of (table_of T) c }
+    ensures stops { (S T : List Op) (c : ℕ) → table_of S ≡ table_of T
+        → stops_of (table_of S) c ≡ stops_of (table_of T) c }
 {}
 
 /// Of a flow in order, the plan's tasks of a request are those with a unit to it, and each machine is listed for a

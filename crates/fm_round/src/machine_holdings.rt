@@ -1,4 +1,8 @@
 //! What the machines of places hold: counted in one walk, and kept as tasks come.
+//!
+//! Each place asks how many tasks its machine holds and what they request, and counting that is a walk over all tasks.
+//! So it is counted once for all machines of the plan, and a place that is accepted is added, O(log n). With a tally
+//! nothing is walked.
 
 ghost use Rattle.std.specs.Prelude.{◌≡◌, ◌<◌, ◌+◌, ◌^◌, ℕ, length, Some, IfOk, OnOk, IsTrue};
 ghost use Rattle.std.specs.Ordering.{nat_cmp};

@@ -1,4 +1,8 @@
-//! The rules by which an entry of a plan is judged.
+//! The rules by which an entry of a plan is judged, in their order.
+//!
+//! A place needs a live task that no machine holds, an open machine at its incarnation, a free slot and enough spare
+//! bandwidth. It is *contested* if another proposal for the attempt would win against it. A preempt needs the task to
+//! be held at the attempt that it names.
 
 ghost use Rattle.std.specs.Prelude.{◌≡◌, ◌<◌, ◌≤◌, ◌+◌, ◌^◌, ◌==◌, ◌&&◌, ◌||◌, cond, not, true, false, option_map, IsTrue};
 ghost use Rattle.fm_records.specs.Facts.{is_live, live_spec, is_open, is_present, attempt_of, spec_of, request_of, holds, has_room, passes};

@@ -1,4 +1,8 @@
-//! What a coordinator has to stop.
+//! What a coordinator has to stop: what it may run by proposals by which no task is held at present.
+//!
+//! A coordinator may run a task by its proposal before it hears that another one's won, that the attempt is over, or
+//! that the machine has a new incarnation. The stops are computed from what is known alone, by one walk over the
+//! proposals.
 
 ghost use Rattle.std.specs.Prelude.{◌≡◌, IfOk};
 ghost use Rattle.fm_round.specs.Admission.{has_incarnation};

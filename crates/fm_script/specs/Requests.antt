@@ -48,7 +48,8 @@ topic_named name =
     cond (is_text name (codes "solve")) (Some topic.Solve) (
     cond (is_text name (codes "plan")) (Some topic.Plan) (
     cond (is_text name (codes "winners")) (Some topic.Winners) (
-    when (is_text name (codes "stops")) topic.Stops))))
+    cond (is_text name (codes "stops")) (Some topic.Stops) (
+    when (is_text name (codes "end")) topic.End)))))
 
 -- a cut under the name that a value is, which no packet before has
 abbrev pub cut_under : List (List ℕ) → ℕ → Range → Data → Option RequestModel

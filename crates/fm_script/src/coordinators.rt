@@ -1,4 +1,7 @@
-//! The coordinators with which a run of the program begins.
+//! The coordinators with which a run of the program begins, of which every second one rebuilds its network.
+//!
+//! So a run with two or more coordinators has both ways to maintain a network, and those that know the same show the
+//! same network.
 
 ghost use Rattle.std.specs.Prelude.{◌≡◌, [], IsTrue, IfOk};
 ghost use Rattle.fm_records.specs.Know.{table_of};

@@ -1,4 +1,7 @@
-//! The names of packets.
+//! The names of packets, each found in O(1) on average: a step names a packet, and a world numbers them.
+//!
+//! Names are in the order of their cuts, in a hash table that keeps its order. So the place of a name is the number of
+//! its packet in a script.
 
 ghost use Rattle.std.specs.Prelude.{◌≡◌, ◌++◌, ◌∷◌, [], not, if◌then◌else◌, length, take, position, IfOk, OnOk, OnErr};
 ghost use Rattle.fm_script.specs.Script.{is_text, is_named};

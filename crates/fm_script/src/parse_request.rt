@@ -1,4 +1,7 @@
-//! Reading a line of a stream from JSON.
+//! Reading a line of a stream from JSON, as a request that has all that the line may ask for.
+//!
+//! A line comes from outside, so its form is checked here and nowhere else: which members there are, their types, and
+//! names. Ranges of operations and digits of packets are checked by what they are for.
 
 ghost use Rattle.std.specs.Prelude.{◌≡◌, IfOk, IfErr, option_map};
 ghost use Rattle.serde_json.specs.Find.{as_str};
@@ -232,6 +235,8 @@ fn topic_in(name: &str) -> Option<Topic>
         Some(Topic::Winners)
     } else if name == "stops" {
         Some(Topic::Stops)
+    } else if name == "end" {
+        Some(Topic::End)
     } else {
         None
     }

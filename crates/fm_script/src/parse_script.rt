@@ -1,4 +1,7 @@
-//! Reading a script from JSON.
+//! Reading a script from JSON, with the number of the first step that is strange.
+//!
+//! The value that the JSON reader returns is turned into steps as data (`script`), member by member. Each step of the
+//! value is dropped once it is read, so that a long script is not in memory twice.
 
 ghost use Rattle.std.specs.Prelude.{◌≡◌, ◌⊎◌, ℕ, ◌+◌, List, [], ◌∷◌, Some, None, ◌++◌, IfOk, IfErr, IsSome, OnOk, map, option_map, IsUtf8};
 ghost use Rattle.serde_json.specs.Data.{Data};

@@ -17,6 +17,8 @@ pub enum Topic {
     Winners,
     /// Which copies of tasks are to stop, by what it knows.
     Stops,
+    /// Which deltas it keeps.
+    End,
 }
 
 /// What a line of a stream asks for.

@@ -1,19 +1,13 @@
 -- The prices of a claim.
-use Rattle.std.specs.Prelude.{ℕ, ◌+◌}
+use Rattle.std.specs.Prelude.{ℕ}
 use Rattle.std.specs.Ordering.{nat_cmp}
 use Rattle.fm_lattice.specs.Maps.{lookup}
 use Rattle.fm_records.specs.Options.{or_else}
-use Rattle.fm_records.specs.Table.{Table}
-use Rattle.fm_records.specs.Facts.{load_of}
 use Rattle.fm_search.specs.declared.claim.Claim.{Claim}
 
 -- by how much the price of a machine is above its load
 abbrev pub rise_of : Claim → ℕ → ℕ
 rise_of claim m = or_else 0 (lookup nat_cmp m claim.rises)
-
--- the price of a machine
-abbrev pub price_of : Table → Claim → ℕ → ℕ
-price_of k claim m = load_of k m + rise_of claim m
 
 -- what the units of a request pay for a machine
 abbrev pub offer_of : Claim → ℕ → ℕ

@@ -1,4 +1,4 @@
-//! Sets of numbers as bits.
+//! Sets of numbers as bits, so that two sets are compared 64 numbers at a time.
 
 use fm_lattice::join::OutOfMemory;
 use std::alloc::Global;

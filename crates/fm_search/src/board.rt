@@ -1,5 +1,8 @@
-//! The machines of a tally while tasks are placed on them, by number, the least load first. Nothing is claimed of what is done
-//! here: a claim is checked.
+//! The machines of a tally while tasks are placed on them, by number, the least load first.
+//!
+//! It keeps what the search asks at each step: free slots, what the next slot costs, which full machines have room for
+//! a request, and which have tasks of it. A slot of a full machine costs its load and the cheapest preemption there.
+//! Nothing is claimed of what is done here: a claim is checked.
 
 use crate::bit_set::Bits;
 use crate::exits::Sought;

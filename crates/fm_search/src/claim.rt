@@ -1,4 +1,4 @@
-//! What a search claims to be a plan of a least flow.
+//! What a search claims to be a plan of a least flow: moves of tasks, with the prices by which that can be checked.
 
 ghost use Rattle.std.specs.Prelude.{◌≡◌, is_some};
 ghost use Rattle.std.specs.Ordering.{nat_cmp};

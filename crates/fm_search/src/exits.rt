@@ -1,5 +1,8 @@
-//! The cheapest slots to which requests lead by themselves: of machines with free slots by load, and of the others by the price of
-//! the next slot.
+//! The cheapest slots to which requests lead by themselves, found without a walk over all machines.
+//!
+//! Of machines with free slots the first by load that has room is the cheapest, and of the others the one whose next
+//! slot costs least. Both are found by queries of segment trees, O(log n) each. Prices only rise while tasks are
+//! placed, so an exit stays the cheapest as long as its own price stays, unless a machine gets room again.
 
 use crate::board::{Board, FAR, NONE};
 use crate::segment_tree::LEAST;

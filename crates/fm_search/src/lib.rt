@@ -1,5 +1,6 @@
-//! A search for a plan of a least flow, from a tally. Nothing is proved of its result but that it is safe and ends: whoever uses a
-//! claim checks it first.
+//! A search for a plan of a least flow, from a tally.
+//!
+//! Nothing is proved of its result but that it is safe and ends: whoever uses a claim checks it first.
 #![tactic(auto)]
 
 mod bit_set;

@@ -1,6 +1,9 @@
-//! The cheapest path of a task to a slot, by label correcting along a queue (Moore, 1959): over its request or straight to a machine, and from a full machine on to another one, for
-//! a task that makes room there. Any other machine is found by a query. So only requests, full machines with tasks that were
-//! placed there, and tasks with wishes are walked over.
+//! The cheapest path of a task to a slot, where tasks that were placed may move on to make room.
+//!
+//! A path goes over the task's request or straight to a machine, and from a full machine on to another one, for a task
+//! that makes room there. Costs are corrected along a queue (label correcting: Moore, 1959). Only requests, full
+//! machines with tasks that were placed there, and tasks with wishes are walked over: any other machine is found by a
+//! query (`exits`).
 
 use crate::bit_set::{set_bit, width_of};
 use crate::board::{Board, FAR, NONE};

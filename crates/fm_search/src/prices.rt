@@ -1,5 +1,8 @@
-//! The prices of what was placed: what one more task would cost at each machine and request. By relaxing (Bellman and
-//! Ford).
+//! The prices of what was placed: what one more task would cost at each machine and at each request.
+//!
+//! They are what a check needs beside the moves, as potentials are with a flow. They begin as what the next slot costs,
+//! and fall as long as a task that goes elsewhere makes room for less. That is relaxing (Ford, 1956; Bellman, 1958),
+//! 256 times at most. Prices that could still fall do not pass the check.
 
 use crate::board::{Board, FAR};
 use crate::waiting::{Spot, Waiting, Wisher};

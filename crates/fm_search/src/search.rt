@@ -1,5 +1,8 @@
-//! The search for a plan: waiting tasks are placed by falling worth, each over the cheapest path. After successive shortest
-//! paths (Jewell, 1958), where nearly all costs sit at the two ends of a path. Nothing is claimed of its result: a claim is checked.
+//! The search for a plan: waiting tasks are placed by falling worth, each over the cheapest path.
+//!
+//! It works on tasks and machines, without an arc for each request and machine. It is after successive shortest paths
+//! (Jewell, 1958). Nearly all costs sit at the two ends of a path. So a task needs a walk over others only if its
+//! cheapest slot may be one that others make free. Nothing is claimed of its result: a claim is checked (`fm_planner`).
 
 use crate::board::Board;
 use crate::claim::Claim;

@@ -1,4 +1,7 @@
-//! A segment tree: numbers in a row with two queries, the first that is great enough and the greatest of the first so many.
+//! A segment tree over a row of numbers: the first that is great enough, and the greatest of the first so many.
+//!
+//! So the first machine with enough spare bandwidth, and the cheapest of those with enough, are found in O(log n), and
+//! a change of a number costs the same.
 
 use fm_lattice::join::OutOfMemory;
 use std::alloc::Global;

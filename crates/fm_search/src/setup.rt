@@ -1,4 +1,8 @@
 //! The board of a tally, on which nothing is placed yet.
+//!
+//! Machines are numbered by load, so that of those with a free slot the first that has room is the cheapest. A machine
+//! that holds more tasks than it has slots preempts the cheapest. For more than 2^26 pairs of a request and a machine
+//! there is no board.
 
 use crate::bit_set::Bits;
 use crate::board::{Board, Held, NONE, Place, open_spare};

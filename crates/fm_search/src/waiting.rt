@@ -1,4 +1,8 @@
-//! The tasks that wait, and where they were placed. Those that prefer no machine are placed by request, the dearest first.
+//! The tasks that wait, and where they were placed.
+//!
+//! Those that prefer no machine differ by request and worth alone. So they are placed by request, the dearest first,
+//! and a number for each request says how many are placed. Each task that prefers machines is placed by itself, and is
+//! in a linked list of its request or machine.
 
 use crate::board::{Board, NONE};
 use fm_know::knowledge::Knowledge;

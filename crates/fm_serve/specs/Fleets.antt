@@ -1,12 +1,11 @@
 -- What the program counts of a fleet, and why it does not (this project's profile).
-use Rattle.std.specs.Prelude.{◌≡◌, ◌⊎◌, ℕ, List}
+use Rattle.std.specs.Prelude.{◌≡◌, ◌⊎◌, ℕ, List, None}
 use Rattle.fm_records.specs.declared.refusal.Refusal.{Refusal}
 use Rattle.fm_records.specs.declared.refusal.Refusal.TheVariants.{OutOfMemory}
 use Rattle.fm_script.specs.declared.script.Tell.{Tell}
 use Rattle.fm_script.specs.Texts.{SpellsTells, SpellsNoTells}
 use Rattle.fm_serve.specs.declared.counts.Counts.{Counts}
-use Rattle.fm_serve.specs.declared.muster.CountFault.{CountFault}
-use Rattle.fm_serve.specs.Musters.{IsMustered, IsStopped, counts_text}
+use Rattle.fm_serve.specs.Musters.{IsMustered, IsStopped, StopsMuster, counts_text}
 use Rattle.fm_serve.specs.declared.fault.Fault.{Fault}
 use Rattle.fm_serve.specs.Faults.{fault_of, script_fault_of}
 
@@ -25,14 +24,13 @@ pub record IsUntold (text : List ℕ) (fault : Fault) : Type 0 where
   pub named : fault ≡ script_fault_of refusal
   pub cause : SpellsNoTells text refusal
 
--- it was, and nothing was counted
+-- it was, and nothing was counted: a tell is at fault, or the fleet has a cause to stop
 pub record IsUncounted (text : List ℕ) (fault : Fault) : Type 0 where
   pub listed : List ℕ
   pub tells : List Tell
   pub spelled : SpellsTells text listed tells
-  pub stop : CountFault
-  pub stopped : IsStopped listed tells stop
-  pub named : fault ≡ record { refusal = stop.refusal; step = stop.step }
+  pub stopped : IsStopped listed tells fault
+  pub cause : fault.step ≡ None → StopsMuster fault.refusal
 
 -- why nothing is written
 abbrev pub IsNotCounted : List ℕ → Fault → Type 0

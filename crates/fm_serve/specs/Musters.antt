@@ -19,7 +19,7 @@ use Rattle.fm_script.specs.Script.{is_listed}
 use Rattle.fm_script.specs.Openings.{history_limit}
 use Rattle.fm_serve.specs.declared.counts.Calls.{Calls}
 use Rattle.fm_serve.specs.declared.counts.Counts.{Counts}
-use Rattle.fm_serve.specs.declared.muster.CountFault.{CountFault}
+use Rattle.fm_serve.specs.declared.fault.Fault.{Fault}
 
 -- what the coordinator with the number is told, in order
 abbrev pub told_at : ℕ → List Tell → List Op
@@ -35,12 +35,12 @@ abbrev pub tell_fault : List ℕ → Tell → Option Refusal
 tell_fault listed t = cond (is_listed listed t.at) (option_map BadOp (op_fault t.op)) (Some NoCoordinator)
 
 -- a refusal names its place; if there is none, what comes later counts
-abbrev pub named_or : ℕ → Option Refusal → Option CountFault → Option CountFault
+abbrev pub named_or : ℕ → Option Refusal → Option Fault → Option Fault
 named_or place None later = later
 named_or place (Some refusal) later = Some (record { refusal = refusal; step = Some place })
 
 -- the first tell that is refused, the first of all being at the place given
-abbrev pub first_refused : List ℕ → ℕ → List Tell → Option CountFault
+abbrev pub first_refused : List ℕ → ℕ → List Tell → Option Fault
 first_refused listed place [] = None
 first_refused listed place (t ∷ ts) = named_or place (tell_fault listed t) (first_refused listed (place + 1) ts)
 
@@ -65,10 +65,10 @@ pub record IsMustered (listed : List ℕ) (tells : List Tell) (rounds : ℕ) (c 
   pub know_same : KnowSame (after_exchange closed)
 
 -- why nothing was counted: the first tell that is refused; or none is, and no step is named
-abbrev pub IsStopped : List ℕ → List Tell → CountFault → Type 0
+abbrev pub IsStopped : List ℕ → List Tell → Fault → Type 0
 IsStopped listed tells stop = (first_refused listed 1 tells ≡ Some stop) ⊎ ((first_refused listed 1 tells ≡ None) × (stop.step ≡ None))
 
--- why a fleet is not counted: it was stopped, or its histories are not one list of steps
+-- by which numbers a fleet is not counted: those that may stop it, or that its histories are not one list of steps
 abbrev pub StopsMuster : Refusal → Type 0
 StopsMuster r = IsTrue (may_stop r) ⊎ (r ≡ Stuck)
 

@@ -1,4 +1,7 @@
 //! How many rounds of a fleet are done, for observers.
+//!
+//! A gate is called within a round, and is not told when the round ends. So a round is counted when the next one
+//! begins, and the last one when the solver drops its gate.
 
 use fm_fleet::round::Gate;
 use std::sync::atomic::{AtomicU64, Ordering};

@@ -1,4 +1,4 @@
-//! Why the program stops.
+//! Why the program stops: a refusal with the step at fault, as the status and the line on standard error tell it.
 
 ghost use Rattle.std.specs.Prelude.{◌≡◌, Some};
 ghost use Rattle.fm_records.specs.declared.refusal.Refusal.TheVariants as refusal;

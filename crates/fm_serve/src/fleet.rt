@@ -32,12 +32,7 @@ pub fn count_fleet<T: Threads + Wait + Sync>(
     };
     let counts = match muster(rt, alloc, &script, rounds, progress.rounds()) {
         Ok(counts) => counts,
-        Err(stop) => {
-            return Err(Fault {
-                refusal: stop.refusal,
-                step: stop.step,
-            });
-        }
+        Err(stop) => return Err(stop),
     };
     match counts.text(alloc) {
         Ok(lines) => Ok(lines),

@@ -1,5 +1,7 @@
-//! One run of the program `firmament`, as a library: from the words of a command line and the bytes of an input to what is written
-//! and how the run ends. `fm_cli` gives it the words, the input and the output of a process.
+//! One run of the program `firmament`, as a library.
+//!
+//! It goes from the words of a command line and the bytes of an input to what is written and how the run ends. `fm_cli`
+//! gives it the words, the input and the output of a process.
 #![tactic(auto)]
 
 pub mod answer;

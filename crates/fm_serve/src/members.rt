@@ -1,11 +1,14 @@
-//! The members of the fleet that a script of tells asks for.
+//! The members of the fleet that a script of tells asks for, and the first of its tells that would be refused.
+//!
+//! What a thread is refused is named by no step. So the coordinator and the ranges of each tell are checked before any
+//! thread is started, and the first one at fault is named.
 
 ghost use Rattle.std.specs.Prelude.{◌≡◌, ◌++◌, None, Some, IfOk, IfErr, OnOk};
 ghost use Rattle.fm_script.specs.Script.{is_listed};
 ghost use Rattle.fm_serve.specs.Musters.{tell_fault, first_refused, told_at, members_of};
 
 use crate::counter::RoundCounter;
-use crate::muster::CountFault;
+use crate::fault::Fault;
 use fm_edit::keepers::Keeper;
 use fm_gossip::member::Member;
 use fm_lattice::join::OutOfMemory;
@@ -19,12 +22,12 @@ use std::sync::atomic::AtomicU64;
 
 /// The first tell that is refused, if one is: no coordinator of its number is listed, or else a field of its operation is out
 /// of range.
-pub(crate) fn first_refused(listed: &[CoordId], tells: &[Tell]) -> Option<CountFault>
+pub(crate) fn first_refused(listed: &[CoordId], tells: &[Tell]) -> Option<Fault>
     ensures { result ≡ first_refused listed.now 1 tells.now }
 {
     for (place, tell) in tells.iter().enumerate() {
         if let Err(refusal) = check(listed, *tell) {
-            return Some(CountFault {
+            return Some(Fault {
                 refusal,
                 step: Some(place + 1),
             });

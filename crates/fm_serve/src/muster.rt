@@ -1,4 +1,8 @@
 //! Coordinators that run in threads, exchange all that they know, and are counted.
+//!
+//! Threads run in any order, so what they did is checked afterwards: each node is audited, and all histories are
+//! gathered into one list of steps. Between the two all exchange what they know, and then know the same. A check that
+//! fails is a refusal, and nothing is counted.
 
 ghost use Rattle.std.specs.Prelude.{◌≡◌, None, map, IfOk, IfErr};
 ghost use Rattle.fm_coord.specs.Numbers.{AreDistinct};
@@ -6,6 +10,7 @@ ghost use Rattle.fm_world.specs.Represents.{state_of};
 ghost use Rattle.fm_serve.specs.Musters.{calls_of, IsMustered, IsStopped, StopsMuster};
 
 use crate::counts::{Calls, Counts};
+use crate::fault::Fault;
 use crate::members::{first_refused, members};
 use fm_coord::coordinator::Coordinator;
 use fm_edit::keepers::Keeper;
@@ -21,13 +26,6 @@ use std::sync::Wait;
 use std::sync::atomic::AtomicU64;
 use std::thread::Threads;
 
-/// Why a fleet was not counted: a refusal, and the step of the script at fault, counted from 1, if one is.
-#[derive(Debug, Clone, Copy, PartialEq, Eq, Drop)]
-pub struct CountFault {
-    pub refusal: Refusal,
-    pub step: Option<usize>,
-}
-
 /// Runs the coordinators that the script lists at the same time: each is told its operations and runs the given
 /// number of rounds, in two threads, and merges what the others knew after they were told theirs. Then they are
 /// closed and audited, exchange all that they know, and their histories are gathered into one list of steps. The
@@ -41,7 +39,7 @@ pub fn muster<R: Threads + Wait + Sync>(
     script: &Tells,
     rounds: u32,
     rounds_done: &AtomicU64,
-) -> Result<Counts, CountFault>
+) -> Result<Counts, Fault>
     requires { AreDistinct script.now.coordinators.items }
     ensures ok { IfOk result (λ counts. IsMustered script.now.coordinators.items script.now.tells.items rounds counts) }
     ensures err { IfErr result (λ stop. IsStopped script.now.coordinators.items script.now.tells.items stop) }
@@ -52,10 +50,7 @@ pub fn muster<R: Threads + Wait + Sync>(
     }
     match run(rt, alloc, script, rounds, rounds_done) {
         Ok(counts) => Ok(counts),
-        Err(refusal) => Err(CountFault {
-            refusal,
-            step: None,
-        }),
+        Err(refusal) => Err(Fault::from(refusal)),
     }
 }
 

@@ -1,4 +1,4 @@
-//! How far a run is, for observers.
+//! How far a run is, for observers: a counter that threads add to and any may read, and on which no answer depends.
 
 use std::fmt;
 use std::sync::atomic::{AtomicBool, AtomicU64, Ordering};

@@ -1,5 +1,8 @@
-//! The line of progress: a thread that shows on a terminal how far a run is, and erases the line before anything is
-//! written.
+//! The line of progress, which shows on a terminal how far a run is, and is gone before anything is written.
+//!
+//! A long run writes nothing until its end. So a thread writes a line every 100 ms: that of a fleet from its first on,
+//! that of a script once it has run for a second. The sink takes the line away before the first byte of output, so the
+//! two never mix. No answer depends on it, and without a thread there is no line.
 
 ghost use Rattle.std.specs.Prelude.{◌≡◌, map, string_bytes};
 ghost use Rattle.fm_args.specs.CommandLine.{telling_of};

@@ -1,4 +1,6 @@
-//! What the program answers to its words and its input.
+//! What the program answers to its words and its input, as a value: all of the program except reading and writing.
+//!
+//! The output is complete before any of it is written, so a run that is stopped writes nothing.
 
 ghost use Rattle.std.specs.Prelude.{◌≡◌, []};
 ghost use Rattle.fm_args.specs.Invocation.{args_model, told_of, Telling};

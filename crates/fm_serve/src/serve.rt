@@ -1,4 +1,7 @@
-//! One run of the program, over its words, a source and a sink.
+//! One run of the program, over its words, a source and a sink, so that it can be run and proved without a process.
+//!
+//! All input is read, then the answer is made, then written: all of it, or nothing, or what the sink took before it
+//! failed. Only a stream is read and answered line by line.
 
 ghost use Rattle.std.specs.Prelude.{◌≡◌, IfOk, IfErr, map, string_bytes};
 ghost use Rattle.fm_args.specs.CommandLine.{telling_of};

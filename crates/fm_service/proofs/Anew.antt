@@ -17,7 +17,8 @@ use Rattle.fm_world.specs.declared.step.Step.{Step}
 use Rattle.fm_world.specs.Worlds.{WorldOfSets, opening_world, with_number, changed_at, event_asked, after_maybe, cause_at, refusal_of, step_of, run_of, taken_in, spelled_out}
 use Rattle.fm_world.specs.Represents.{Kept, state_of, number_of, AllStand, WorldRepresents, IsReached}
 use Rattle.fm_script.specs.Openings.{history_limit, new_world}
-use Rattle.fm_service.specs.Renewing.{whole_of, renewed_replica, renewed_world, reopened_world}
+use Rattle.fm_service.specs.Renewing.{whole_of, renewed_replica, renewed_world}
+use Rattle.fm_service.specs.inner.ReopenedWorld.{reopened_world}
 
 abbrev pub number : Replica → ℕ
 number r = r.number

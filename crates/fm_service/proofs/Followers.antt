@@ -8,7 +8,8 @@ use Rattle.fm_io.specs.Replies.{accepted_reply, refusal_reply}
 use Rattle.fm_service.specs.declared.session.Session.{Session}
 use Rattle.fm_service.specs.declared.stream_service.StreamService.{StreamService}
 use Rattle.fm_service.specs.StreamSteps.{Following, StandBehind, Answers, IsRefused}
-use Rattle.fm_service.specs.Sessions.{SessionAt, Accepts, Rejects, Begins, IsIn, AnswersSo}
+use Rattle.fm_service.specs.Sessions.{SessionAt, IsIn, AnswersSo}
+use Rattle.fm_service.specs.inner.SessionSteps.{Accepts, Rejects, Begins}
 
 -- what is answered where the stream is
 abbrev Goes : ℕ → (Packet → List Op) → Option Session → List ℕ → List ℕ → Option Following → Type 0

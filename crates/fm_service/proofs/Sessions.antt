@@ -22,7 +22,8 @@ use Rattle.fm_service.specs.declared.session.Session.{Session}
 use Rattle.fm_service.specs.WorldSteps.{step_at, WorldStep}
 use Rattle.fm_service.specs.StreamSteps.{Following, StandBehind, packet_by_ops, packet_number_at, at_world, DoesAt, fresh, is_due, IsAccepted, IsStreamState, RefusesIn}
 use Rattle.fm_service.specs.Renewing.{renewed_world}
-use Rattle.fm_service.specs.Sessions.{SessionAt, Goes, StopsRequest}
+use Rattle.fm_service.specs.Sessions.{SessionAt}
+use Rattle.fm_service.specs.inner.SessionSteps.{Goes, StopsRequest}
 use Rattle.fm_service.proofs.Results.{if_ok}
 
 -- a packet from elsewhere is seen as it came

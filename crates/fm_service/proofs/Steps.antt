@@ -50,6 +50,7 @@ unanswered topic.Solve at w none = inr (none, refl)
 unanswered topic.Plan at w none = inr (none, refl)
 unanswered topic.Winners at w none = inr (none, refl)
 unanswered topic.Stops at w none = inr (none, refl)
+unanswered topic.End at w none = inr (none, refl)
 
 -- no memory for a step that has no cause of refusal
 pub no_memory : (w : WorldOfSets) (at : ℕ) (a : Act) → cause_of w (step_at at a) ≡ None → OutOfMemory ≡ refusal_of w (step_at at a)

@@ -2,3 +2,4 @@ pub mod Renewing
 pub mod WorldSteps
 pub mod StreamSteps
 pub mod Sessions
+pub mod inner

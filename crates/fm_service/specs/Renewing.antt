@@ -4,7 +4,7 @@ use Rattle.std.specs.Prelude.{[], map}
 use Rattle.fm_coord.specs.Events.{Sent, Replica, opening, happens}
 use Rattle.fm_coord.specs.Events as event
 use Rattle.fm_world.specs.Worlds.{WorldOfSets}
-use Rattle.fm_script.specs.Openings.{history_limit, new_world}
+use Rattle.fm_script.specs.Openings.{history_limit}
 
 -- all that a replica took in, as a packet of its own
 abbrev pub whole_of : Replica → Sent
@@ -17,7 +17,3 @@ renewed_replica r = happens (opening r.number history_limit) 0 (event.Merge (who
 -- the world of such replicas; no packet was cut
 abbrev pub renewed_world : WorldOfSets → WorldOfSets
 renewed_world w = record { replicas = map renewed_replica w.replicas; packets = [] }
-
--- replicas of the same numbers, to which nothing happened
-abbrev pub reopened_world : WorldOfSets → WorldOfSets
-reopened_world w = new_world (map (λ r. r.number) w.replicas)

@@ -1,37 +1,13 @@
 -- Coordinators that do what requests ask for, and where their stream is.
-use Rattle.std.specs.Prelude.{◌≡◌, ℕ, List, Option, Some, None, Result, IfOk, IfErr}
-use Rattle.std.specs.Global.{Vec}
+use Rattle.std.specs.Prelude.{◌≡◌, ℕ, List, Option, Some, None}
 use Rattle.fm_records.specs.declared.ops.Op.{Op}
-use Rattle.fm_records.specs.declared.refusal.Refusal.{Refusal}
 use Rattle.fm_delta.specs.declared.packet.Packet.{Packet}
-use Rattle.fm_script.specs.Requests.{RequestModel}
-use Rattle.fm_io.specs.Replies.{accepted_reply, refusal_reply}
 use Rattle.fm_service.specs.declared.session.Session.{Session}
 use Rattle.fm_service.specs.declared.stream_service.StreamService.{StreamService}
-use Rattle.fm_service.specs.StreamSteps.{Following, StandBehind, DoesAt, RefusesAt, IsAccepted, IsRefused, Answers, IsStreamState}
+use Rattle.fm_service.specs.StreamSteps.{Following, StandBehind, Answers, IsStreamState}
 
 abbrev pub SessionAt : Session → Following → Type 0
 SessionAt d k = IsStreamState d.world d.named d.marks k
-
--- of a call that answers a request by a text: wherever the stream was, and whatever stands behind packets, it is where the request leads
-abbrev pub Goes : Result (Vec ℕ) Refusal → Session → Session → RequestModel → Type 0
-Goes result old new asked =
-    (behind : Packet → List Op) → StandBehind behind → (k : Following) → SessionAt old k
-    → IfOk result (λ text. (j : Following) × DoesAt behind k asked text.items j × SessionAt new j)
-
--- of a call that refuses a request: why
-abbrev pub StopsRequest : {T : Type 0} → Result T Refusal → Session → RequestModel → Type 0
-StopsRequest result old asked = (k : Following) → SessionAt old k → IfErr result (RefusesAt k asked)
-
--- of a call that answers a line by a text
-abbrev pub Accepts : ℕ → Result (Vec ℕ) Refusal → Session → Session → List ℕ → Type 0
-Accepts most result old new line =
-    (behind : Packet → List Op) → StandBehind behind → (k : Following) → SessionAt old k
-    → IfOk result (λ text. (j : Following) × IsAccepted most behind (Some k) line (accepted_reply text.items) (Some j) × SessionAt new j)
-
--- of a call that refuses a line
-abbrev pub Rejects : {T : Type 0} → Result T Refusal → Session → List ℕ → Type 0
-Rejects result old line = (k : Following) → SessionAt old k → IfErr result (λ e. IsRefused (Some k) line (refusal_reply e) (Some k))
 
 -- where the stream is before its first line, and where coordinators are
 abbrev pub IsIn : Option Session → Option Following → Type 0
@@ -39,11 +15,6 @@ IsIn None None = Unit {0}
 IsIn (Some d) (Some k) = SessionAt d k
 IsIn None (Some k) = ⊥
 IsIn (Some d) None = ⊥
-
--- of a call that answers a line before which there are no coordinators
-abbrev pub Begins : ℕ → Result (Vec ℕ) Refusal → StreamService → List ℕ → Type 0
-Begins most result new line =
-    (behind : Packet → List Op) → IfOk result (λ text. (j : Following) × IsAccepted most behind None line (accepted_reply text.items) (Some j) × IsIn new.session (Some j))
 
 -- the answer to a line, and what it leaves: whatever stands behind packets from elsewhere, and wherever the stream is by that
 pub record AnswersSo (old : StreamService) (line answer : List ℕ) (new : StreamService) : Type 0 where

@@ -63,7 +63,8 @@ abbrev pub cut_names_in : Option Following → List (List ℕ)
 cut_names_in None = []
 cut_names_in (Some k) = k.named.names
 
--- what may stand behind packets from elsewhere: for each, operations whose table is what it says
+-- what may stand behind packets from elsewhere: for each, operations whose table is what it says. Equal packets (sender, number and
+-- value) have the same: so, too, if a sender cut them for different operations, as it may once its numbers began again at a renewal
 abbrev pub StandBehind : (Packet → List Op) → Type 0
 StandBehind behind = (p : Packet) → CanBe p.value → table_of (behind p) ≡ p.value
 
@@ -127,6 +128,7 @@ topic_query_at topic.Solve n = query.Solve n
 topic_query_at topic.Plan n = query.Plan n
 topic_query_at topic.Winners n = query.Winners n
 topic_query_at topic.Stops n = query.Stops n
+topic_query_at topic.End n = query.End n
 
 -- what a request makes of a stream that has its coordinators, and its text
 abbrev pub DoesAt : (Packet → List Op) → Following → RequestModel → List ℕ → Following → Type 0
@@ -174,7 +176,8 @@ RefusesIn (Some k) asked e = RefusesAt k asked e
 abbrev pub is_due : ℕ → WorldOfSets → Type 0
 is_due most w = IsTrue (list_any (λ r. nat_le most (length r.steps)) w.replicas)
 
--- between two lines: coordinators may be renewed once a history has as many entries as that
+-- between two lines: coordinators may be renewed once a history has as many entries as that. That they are then renewed is not
+-- said, since there may be no memory for it
 abbrev pub Settles : ℕ → Option Following → Option Following → Type 0
 Settles most made new = (new ≡ made) ⊎ ((k : Following) × (made ≡ Some k) × is_due most k.world × (new ≡ Some (fresh (renewed_world k.world))))
 

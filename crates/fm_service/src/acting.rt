@@ -1,4 +1,7 @@
-//! Steps on a world of coordinators, and their texts.
+//! Steps on a world of coordinators, and their texts: a step is taken only once its text is there.
+//!
+//! A step that was taken cannot be taken back if memory for its text runs out. So the packet of a cut, and what
+//! admission answers to a plan, are worked out first, and the step that follows gives the same.
 
 ghost use Rattle.std.specs.Prelude.{◌≡◌, None, IfOk, IsOkUnless, OnErr, OnOk};
 ghost use Rattle.fm_round.specs.Schedules.{IsPlanOf};

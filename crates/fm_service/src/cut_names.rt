@@ -1,4 +1,4 @@
-//! The packets that were cut under a name.
+//! The packets that were cut under a name, each with its number among all packets, of which not all have names.
 
 ghost use Rattle.std.specs.Prelude.{◌≡◌, ℕ, List, not, IfOk, OnErr, IsTrue, slice_get};
 ghost use Rattle.fm_script.specs.Script.{is_named};

@@ -1,4 +1,7 @@
-//! Renewing coordinators: new ones with the same knowledge.
+//! Renewing coordinators: new ones with the same knowledge, since histories and deltas grow as long as a stream lasts.
+//!
+//! Each new coordinator has received all that the old one knew as one packet of its own. So it knows the same and
+//! answers the same of that, and the operations behind it are still those that the old one received.
 
 ghost use Rattle.std.specs.Prelude.{◌≡◌, IfOk, IsOkUnless};
 ghost use Rattle.fm_coord.specs.Events.{Replica};
@@ -6,7 +9,8 @@ ghost use Rattle.fm_coord.specs.Replays.{seen_packet};
 ghost use Rattle.fm_coord.specs.States.{Represents};
 ghost use Rattle.fm_world.specs.Represents.{WorldRepresents};
 ghost use Rattle.fm_world.specs.Worlds.{WorldOfSets};
-ghost use Rattle.fm_service.specs.Renewing.{renewed_world, reopened_world, whole_of};
+ghost use Rattle.fm_service.specs.Renewing.{renewed_world, whole_of};
+ghost use Rattle.fm_service.specs.inner.ReopenedWorld.{reopened_world};
 
 use fm_coord::coordinator::Coordinator;
 use fm_delta::packet::Packet;
@@ -19,8 +23,8 @@ use std::alloc::Global;
 
 /// A world of new coordinators with the same numbers and knowledge: each has received that as one packet, its own, and
 /// nothing else has happened to it. Histories, deltas and packets are dropped, and numbers of deltas and packets start
-/// from the beginning. Refused only if memory runs out. It costs a copy of what each knows, twice. The world that is
-/// passed stays as it is.
+/// from the beginning. Refused only if memory runs out. It lists the keys of all that each knows, O(n log n), and
+/// copies the records that are in no shared block, once. The world that is passed stays as it is.
 pub fn renewed(alloc: Global, world: &World<Keeper>) -> Result<World<Keeper>, Refusal>
     ensures ok { (w : WorldOfSets) → WorldRepresents world.now w
         → IfOk result (λ anew. WorldRepresents anew (renewed_world w)) }

@@ -1,4 +1,8 @@
-//! Coordinators that do what requests ask for.
+//! Coordinators that do what requests ask for, and are renewed once a history is long.
+//!
+//! A line that is refused changes nothing, so each text is made before its step is taken (`acting`). Of each
+//! coordinator it is kept up to which delta its news were sent. So the next news have only what came since, or all that
+//! is known if some of that was trimmed.
 
 ghost use Rattle.std.specs.Prelude.{◌≡◌, ◌⊎◌, List, [], None, Some, OnErr, IfOk, IfErr, IsTrue, length, map, cond, nat_le, nat_lt};
 ghost use Rattle.std.specs.List.{list_any};
@@ -12,7 +16,8 @@ ghost use Rattle.fm_script.specs.Requests as asked;
 ghost use Rattle.fm_service.specs.WorldSteps.{step_at, WorldStep};
 ghost use Rattle.fm_service.specs.StreamSteps.{Following, at_world, packet_number_at, is_due, topic_query_at, fresh};
 ghost use Rattle.fm_service.specs.Renewing.{renewed_world};
-ghost use Rattle.fm_service.specs.Sessions.{SessionAt, Goes, StopsRequest, Accepts, Rejects};
+ghost use Rattle.fm_service.specs.Sessions.{SessionAt};
+ghost use Rattle.fm_service.specs.inner.SessionSteps.{Goes, StopsRequest, Accepts, Rejects};
 
 use crate::acting::{cut_line, round, take_step};
 use crate::cut_names::NamedPackets;
@@ -288,5 +293,6 @@ fn query_at(topic: Topic, number: CoordId) -> Query
         Topic::Plan => Query::Plan(number),
         Topic::Winners => Query::Winners(number),
         Topic::Stops => Query::Stops(number),
+        Topic::End => Query::End(number),
     }
 }

@@ -14,10 +14,11 @@ use fm_records::refusal::Refusal;
 use std::alloc::Global;
 
 /// Answers the lines of a stream, each before the next is read, from the line that lists the coordinators to the
-/// stream's end. Whatever operations stand behind the packets that are merged, the answers to the lines are written
-/// in order, each for the world to which the accepted lines before it lead. A refused line changes nothing. Between
-/// two lines the coordinators are renewed once a history has as many entries as `renew_after`, if there is memory for
-/// it. BadScript(0) if the source fails, WriteFault if the sink does; then no further line is read.
+/// stream's end. Whatever operations stand behind the packets that are merged, the same behind equal ones, the answers
+/// to the lines are written in order, each for the world to which the accepted lines before it lead. A refused line
+/// changes nothing. Between two lines the coordinators are renewed once a history has as many entries as `renew_after`,
+/// if there is memory for it; the contract says that they may be renewed then, and not that they are. BadScript(0) if
+/// the source fails, WriteFault if the sink does; then no further line is read.
 pub fn follow_stream<S: Source, W: Sink>(
     alloc: Global,
     renew_after: usize,

@@ -3,7 +3,8 @@
 ghost use Rattle.std.specs.Prelude.{◌≡◌, None, IfErr, OnErr};
 ghost use Rattle.fm_io.specs.Replies.{refusal_reply};
 ghost use Rattle.fm_service.specs.StreamSteps.{IsRefused};
-ghost use Rattle.fm_service.specs.Sessions.{Begins, IsIn};
+ghost use Rattle.fm_service.specs.Sessions.{IsIn};
+ghost use Rattle.fm_service.specs.inner.SessionSteps.{Begins};
 
 use crate::session::Session;
 use fm_io::responder::Responder;

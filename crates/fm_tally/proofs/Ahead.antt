@@ -3,7 +3,8 @@ use Rattle.std.proofs.Common.{◌≡◌, ◌∙◌, sym, ap, refl, List, ◌∷�
 use Rattle.std.specs.Cmp.{IsTotalOrder}
 use Rattle.std.specs.declared.cmp.Ordering.{Ordering}
 use Rattle.std.specs.declared.cmp.Ordering.TheVariants.{Less, Equal, Greater}
-use Rattle.fm_lattice.specs.Chains.{TellsApart, less_greater, greater_less}
+use Rattle.fm_lattice.specs.Chains.{TellsApart}
+use Rattle.fm_lattice.specs.laws.ChainLaws.{less_greater, greater_less}
 use Rattle.fm_lattice.specs.Maps.{lookup, IsRising}
 use Rattle.fm_lattice.specs.laws.MapLaws.{below_trans, lookup_below}
 

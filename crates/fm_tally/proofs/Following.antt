@@ -6,13 +6,13 @@ use Rattle.std.specs.Cmp.{nat_cmp_total}
 use Rattle.std.specs.declared.cmp.Ordering.{Ordering}
 use Rattle.std.specs.declared.cmp.Ordering.TheVariants.{Less, Equal, Greater}
 use Rattle.std.proofs.lemmas.Cmp.{tied_itself}
-use Rattle.fm_lattice.specs.Chains.{by_cases, nat_same}
+use Rattle.fm_lattice.specs.laws.ChainLaws.{by_cases, nat_same}
 use Rattle.fm_lattice.specs.Maps.{lookup, IsRising}
 use Rattle.fm_records.specs.Options.{and_then, or_else}
 use Rattle.fm_records.specs.Orders.{attempt_cmp}
 use Rattle.fm_records.specs.Sets.{IsMember}
 use Rattle.fm_records.specs.Table.{Table, TaskValue}
-use Rattle.fm_records.specs.TableLaws.{Rises, IsBelowAll}
+use Rattle.fm_records.specs.Rising.{Rises, IsBelowAll}
 use Rattle.fm_records.specs.declared.records.Spot.{Spot}
 use Rattle.fm_records.specs.Know.{initial_progress}
 use Rattle.fm_records.specs.Facts.{head_option}

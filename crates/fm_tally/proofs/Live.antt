@@ -19,7 +19,8 @@ use Rattle.fm_tally.specs.declared.holdings.Holdings.{Holdings}
 use Rattle.fm_tally.specs.declared.tally.LiveTask.{LiveTask}
 use Rattle.fm_tally.specs.declared.tally.OpenMachine.{OpenMachine}
 use Rattle.fm_tally.specs.inner.Holdings.{names_open_machine, placed_by, nothing_on, requests_in, tasks_in, AreHoldings}
-use Rattle.fm_tally.specs.Tallies.{has_any, unfinished_spec, task_at, live_task_of, task_by, requests_by, tasks_by, open_machine_at, spare_left, open_by}
+use Rattle.fm_tally.specs.Tallies.{has_any, unfinished_spec, task_at, open_machine_at}
+use Rattle.fm_tally.specs.inner.TallyParts.{live_task_of, task_by, requests_by, tasks_by, spare_left, open_by}
 use Rattle.fm_tally.specs.Unfinished.{unfinished_at}
 use Rattle.fm_tally.specs.declared.unfinished.UnfinishedTask.{UnfinishedTask}
 use Rattle.fm_tally.proofs.Held.{held_is}

@@ -5,7 +5,7 @@ use Rattle.std.specs.Ordering.{nat_cmp, is_eq}
 use Rattle.std.specs.Cmp.{nat_cmp_total}
 use Rattle.std.specs.declared.cmp.Ordering.TheVariants.{Less}
 use Rattle.std.proofs.lemmas.Cmp.{tied_itself}
-use Rattle.fm_lattice.specs.Chains.{by_cases, nat_same, less_greater}
+use Rattle.fm_lattice.specs.laws.ChainLaws.{by_cases, nat_same, less_greater}
 use Rattle.fm_lattice.specs.Maps.{lookup, IsBelow, IsRising}
 use Rattle.fm_records.specs.Sets.{with_value}
 

@@ -5,10 +5,10 @@ use Rattle.std.specs.Ordering.{nat_cmp, is_eq, is_lt, is_gt}
 use Rattle.std.specs.Cmp.{nat_cmp_total}
 use Rattle.std.specs.declared.cmp.Ordering.{Ordering}
 use Rattle.std.specs.declared.cmp.Ordering.TheVariants.{Less, Equal, Greater}
-use Rattle.fm_lattice.specs.Chains.{by_cases, nat_same, less_greater, greater_less}
+use Rattle.fm_lattice.specs.laws.ChainLaws.{by_cases, nat_same, less_greater, greater_less}
 use Rattle.fm_lattice.specs.Maps.{lookup, IsBelow, IsRising}
 use Rattle.fm_lattice.specs.laws.MapLaws.{below_trans}
-use Rattle.fm_net.specs.inner.KeptLists.{lookup_kept, rising_kept}
+use Rattle.fm_net.proofs.KeptLists.{lookup_kept, rising_kept}
 use Rattle.fm_records.specs.Options.{when, and_then}
 use Rattle.fm_tally.specs.inner.Sides.{is_under, is_over}
 

@@ -8,7 +8,7 @@ use Rattle.fm_records.specs.Options.{and_then}
 use Rattle.fm_records.specs.Orders.{attempt_cmp}
 use Rattle.fm_records.specs.Sets.{IsMember}
 use Rattle.fm_records.specs.Table.{Table}
-use Rattle.fm_records.specs.TableLaws.{Rises}
+use Rattle.fm_records.specs.Rising.{Rises}
 use Rattle.fm_records.specs.Facts.{won_spot}
 use Rattle.fm_tally.specs.declared.unfinished.UnfinishedTask.{UnfinishedTask}
 use Rattle.fm_tally.specs.Tallies.{has_any, unfinished_spec}

@@ -1,2 +1,3 @@
 pub mod Holdings
 pub mod Sides
+pub mod TallyParts

@@ -1,4 +1,8 @@
-//! Where an id may stand among others.
+//! Where an id may stand among others, found in O(1) if ids are spread evenly, as random UUIDs are.
+//!
+//! A tally looks up a job and a machine for each task, and a binary search takes O(log n) steps for each. Here the
+//! range of the ids is cut into parts of one width, and a table has the first place of each part: interpolation search
+//! (Peterson, 1957) by a table. A guess may be wrong, so its user compares the id there, and searches if it is another.
 
 use fm_lattice::join::OutOfMemory;
 use std::alloc::Global;

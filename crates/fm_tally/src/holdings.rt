@@ -1,4 +1,4 @@
-//! What machines hold, counted as tasks come.
+//! What machines hold, counted as tasks come, so that one walk over the tasks gives the load of every machine.
 
 ghost use Rattle.std.specs.Prelude.{◌≡◌, ◌<◌, ◌+◌, ◌^◌, ℕ, IfOk, option_map};
 ghost use Rattle.std.specs.Ordering.{nat_cmp};
@@ -66,7 +66,7 @@ impl Holdings {
         ensures tasks { (m : ℕ) → tasks_in self.new m ≡ tasks_in self.old m + share_by result m 1 }
         ensures same { (s : At) → names_open_machine self.new s ≡ names_open_machine self.old s }
     {
-        let at = self.by_machine.place_near(near, &spot.machine)?;
+        let at = self.by_machine.index_near(near, &spot.machine)?;
         let holding = self.by_machine.value(at, &spot.machine);
         if !holding.is_open || holding.incarnation != spot.incarnation {
             return None;

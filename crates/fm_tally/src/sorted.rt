@@ -1,4 +1,4 @@
-//! Pairs by rising key, one behind another.
+//! Pairs by rising key in one vector: a map that is quick to fill in order and to walk over.
 
 ghost use Rattle.std.specs.Prelude.{◌≡◌, [], Some, None, IfSome, IsNone, IfOk, OnOk, OnErr};
 ghost use Rattle.fm_lattice.specs.Maps.{lookup, put, keep_new, IsRising};
@@ -52,7 +52,7 @@ impl<K: Chain, V: Copy> Sorted<K, V> {
         get(&self.pairs, key)
     }
 
-    /// As `get`, and looks at the place near before it searches: if the key is there, in one comparison.
+    /// As `get`, and looks at the index near before it searches: if the key is there, in one comparison.
     pub(crate) fn get_near(&self, near: usize, key: &K) -> Option<V>
         ensures { result ≡ lookup K.cmp key.now self.now }
     {
@@ -60,7 +60,7 @@ impl<K: Chain, V: Copy> Sorted<K, V> {
     }
 
     /// Where the key is, if it is there. O(log n).
-    pub(crate) fn place(&self, key: &K) -> Option<usize>
+    pub(crate) fn index(&self, key: &K) -> Option<usize>
         ensures found { IfSome result (HasKeyAt K.cmp self.now key.now) }
         ensures absent { IsNone result → lookup K.cmp key.now self.now ≡ None }
         ensures rising { IsRising K.cmp self.now }
@@ -71,8 +71,8 @@ impl<K: Chain, V: Copy> Sorted<K, V> {
         }
     }
 
-    /// As `place`, and looks at the place near before it searches: if the key is there, in one comparison.
-    pub(crate) fn place_near(&self, near: usize, key: &K) -> Option<usize>
+    /// As `index`, and looks at the index near before it searches: if the key is there, in one comparison.
+    pub(crate) fn index_near(&self, near: usize, key: &K) -> Option<usize>
         ensures found { IfSome result (HasKeyAt K.cmp self.now key.now) }
         ensures absent { IsNone result → lookup K.cmp key.now self.now ≡ None }
         ensures rising { IsRising K.cmp self.now }
@@ -83,10 +83,10 @@ impl<K: Chain, V: Copy> Sorted<K, V> {
                 return Some(near);
             }
         }
-        self.place(key)
+        self.index(key)
     }
 
-    /// The value at the key, of which the caller passes the place.
+    /// The value at the key, of which the caller passes the index.
     pub(crate) fn value(&self, at: usize, key: &K) -> V
         requires { HasKeyAt K.cmp self.now key.now at }
         ensures { lookup K.cmp key.now self.now ≡ Some result }
@@ -94,7 +94,7 @@ impl<K: Chain, V: Copy> Sorted<K, V> {
         self.pairs[at].1
     }
 
-    /// Replaces the value at the key, of which the caller passes the place.
+    /// Replaces the value at the key, of which the caller passes the index.
     pub(crate) fn replace(&mut self, at: usize, key: K, value: V)
         requires { HasKeyAt K.cmp self.old key at }
         ensures { self.new ≡ put K.cmp keep_new key value self.old }

@@ -1,4 +1,8 @@
-//! Live tasks and open machines, with what plans need of each.
+//! Live tasks and open machines, with what plans need of each, so that a plan can be made without the network.
+//!
+//! A network has an arc for each pair of a request and a machine with room for it, and a tally one entry for each task
+//! and machine. It is made by one walk over each kind of record, with a guess for each look-up (`guide`): O(n) if ids
+//! are spread evenly.
 
 ghost use Rattle.std.specs.Prelude.{◌≡◌, ◌<◌, ◌+◌, ◌^◌, ℕ, not, option_map, IfOk, OnOk};
 ghost use Rattle.std.specs.Ordering.{nat_cmp};
@@ -8,7 +12,8 @@ ghost use Rattle.fm_records.specs.Facts.{is_present};
 ghost use Rattle.fm_records.specs.Options.{and_then, or_else, only_if};
 ghost use Rattle.fm_know.specs.inner.Records.{open_state_in};
 ghost use Rattle.fm_tally.specs.inner.Holdings.{requests_in, tasks_in, share_by, placed_by, names_open_machine, holding_nothing, nothing_on, AreHoldings};
-ghost use Rattle.fm_tally.specs.Tallies.{task_at, all_machines, spare_left, live_task_of, task_by, requests_by, tasks_by, open_by, TallyIsFor};
+ghost use Rattle.fm_tally.specs.Tallies.{task_at, TallyIsFor};
+ghost use Rattle.fm_tally.specs.inner.TallyParts.{all_machines, spare_left, live_task_of, task_by, requests_by, tasks_by, open_by};
 ghost use Rattle.fm_tally.specs.Unfinished.{AreUnfinished};
 
 use crate::guide::{Guide, upper};

@@ -1,5 +1,7 @@
 //! Tasks that are neither withdrawn nor done, with what is known of them whatever is known of jobs and machines.
-//! They are brought up to date by what changed: incremental view maintenance.
+//!
+//! This part of a tally can outlive a change of jobs and machines. So it is kept, and brought up to date by the tasks
+//! that changed (incremental view maintenance). One merge of both lists does it, O(n + m log n) for m of them.
 
 ghost use Rattle.std.specs.Prelude.{◌≡◌, ◌++◌, ℕ, filter, option_copied, option_map, IfOk, OnOk};
 ghost use Rattle.std.specs.Ordering.{nat_cmp};
@@ -102,7 +104,8 @@ fn move_under<'a>(
 // The task with the record, if it is unfinished, with the winners that are still ahead.
 fn met_task(task: TaskId, known: &TaskRec, winners: &mut Winners<'_>) -> Option<UnfinishedTask>
     ensures task { result
-        ≡ option_map (λ s. task_with s (winner_spot winners.old (task, known.now.1.attempt))) (unfinished_spec known.now) }
+        ≡ option_map (λ s. task_with s (winner_spot winners.old (task, known.now.1.attempt)))
+        (unfinished_spec known.now) }
     ensures ahead { (t a : ℕ) → attempt_cmp (task, known.now.1.attempt) (t, a) ≡ Less
         → lookup attempt_cmp (t, a) winners.new ≡ lookup attempt_cmp (t, a) winners.old }
 {

@@ -1,4 +1,7 @@
 //! The winners of attempts, met in one walk: a merge join of the tasks and the proposals.
+//!
+//! A look-up of the winner for each task would be O(n log n). Tasks and proposals are in the same order, so one walk
+//! along both passes each proposal once.
 
 ghost use Rattle.std.specs.Prelude.{◌≡◌, ℕ, option_map};
 ghost use Rattle.std.specs.declared.cmp.Ordering.TheVariants.{Less};

@@ -7,7 +7,9 @@ use fm_records::ids::{CoordId, JobId, MachineId, TaskId};
 use fm_records::laws::{self, order, record_equality};
 use fm_records::ops::{Field, Op, Phase};
 use fm_records::prefer::Prefer;
-use fm_records::records::{JobReg, MachineRec, MachineReg, Progress, Report, SpecReg, Spot};
+use fm_records::records::{
+    JobReg, MachineRec, MachineReg, Progress, Proposals, Report, SpecReg, Spot,
+};
 use fm_records::refusal::Refusal;
 use std::alloc::{AllocError, Global};
 use std::cmp::Ordering;
@@ -583,7 +585,7 @@ fn spots(alloc: Global, coordinator: CoordId, machine: u128) -> Result<Spots, Fa
 
 type Spots = JoinMap<CoordId, Min<Spot>>;
 
-fn proposals(alloc: Global, coordinator: CoordId, machine: u128) -> Result<laws::Proposals, Fail> {
+fn proposals(alloc: Global, coordinator: CoordId, machine: u128) -> Result<Proposals, Fail> {
     let spots = spots(alloc, coordinator, machine)?;
     let mut proposals = JoinMap::new(alloc);
     proposals.put((TaskId::new(17), 0), spots)?;
@@ -591,13 +593,13 @@ fn proposals(alloc: Global, coordinator: CoordId, machine: u128) -> Result<laws:
 }
 
 // The machine at which the coordinator would run the task.
-fn machine_of(proposals: &laws::Proposals, coordinator: CoordId) -> Option<u128> {
+fn machine_of(proposals: &Proposals, coordinator: CoordId) -> Option<u128> {
     let spots = proposals.get(&(TaskId::new(17), 0))?;
     let spot = spots.get(&coordinator)?;
     Some(spot.0.machine.value())
 }
 
-fn cite_proposals(a: &laws::Proposals, b: &laws::Proposals, c: &laws::Proposals) {
+fn cite_proposals(a: &Proposals, b: &Proposals, c: &Proposals) {
     laws::law_proposals(a, b, c);
 }
 

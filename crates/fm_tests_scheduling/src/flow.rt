@@ -8,7 +8,7 @@ ghost use Rattle.fm_indexed.specs.Unscheduled.{all_unscheduled};
 use crate::networks::{Laid, lay, network_of};
 use crate::round::{job as known_job, knowing, machine as known_machine, spec};
 use fm_certificate::cost::cost;
-use fm_cycles::cycle_search::{Found, search};
+use fm_cycles::cycle_search::search;
 use fm_flow::solve::{solve, solve_from};
 use fm_heuristics::simplex::{simplex, simplex_within};
 use fm_heuristics::worth_first::{resume, start};
@@ -94,10 +94,8 @@ fn can_wait(alloc: Global, numbered: &IndexedNetwork) -> Result<bool, OutOfMemor
 fn is_least(alloc: Global, numbered: &IndexedNetwork, units: &[u64]) -> Result<bool, OutOfMemory> {
     let nodes = numbered.places.end;
     let first = vec![in alloc; 0i128; nodes]?;
-    match search(alloc, nodes, &numbered.arcs, units, first)? {
-        Found::Potentials(_) => Ok(true),
-        Found::Cycle(_) => Ok(false),
-    }
+    let searched = search(alloc, nodes, &numbered.arcs, units, first)?;
+    Ok(searched.cycles.is_empty())
 }
 
 // What the first flow costs, if it is a least flow.

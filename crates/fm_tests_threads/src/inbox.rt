@@ -52,11 +52,11 @@ fn an_inbox_of_one(rt: HostRuntime) -> Result<(), Fail> {
 }
 
 // Puts packets with the numbers below the count, each once there is room.
-fn put_all<R: Wait>(rt: &R, alloc: Global, door: &mut OwnedPort, count: u64) -> Result<(), Fail> {
+fn put_all<R: Wait>(rt: &R, alloc: Global, port: &mut OwnedPort, count: u64) -> Result<(), Fail> {
     for number in 0..count {
         let mut waiting = packet(alloc, number)?;
         for _ in rt.forever() {
-            match door.put(rt, waiting) {
+            match port.put(rt, waiting) {
                 Ok(()) => break,
                 Err(fault) => waiting = fault.packet,
             }
@@ -67,11 +67,11 @@ fn put_all<R: Wait>(rt: &R, alloc: Global, door: &mut OwnedPort, count: u64) -> 
 }
 
 // Takes so many packets, each once there is one. Whether their numbers rise from 0.
-fn take_all<R: Wait>(rt: &R, door: &mut OwnedPort, count: u64) -> bool {
+fn take_all<R: Wait>(rt: &R, port: &mut OwnedPort, count: u64) -> bool {
     let mut rise = true;
     for number in 0..count {
         for _ in rt.forever() {
-            if let Ok(packet) = door.take(rt) {
+            if let Ok(packet) = port.take(rt) {
                 rise = rise && packet.number == number;
                 break;
             }
@@ -82,16 +82,16 @@ fn take_all<R: Wait>(rt: &R, door: &mut OwnedPort, count: u64) -> bool {
 }
 
 fn exchange<R: Threads + Wait + Sync>(rt: &R, alloc: Global) -> Result<bool, Fail> {
-    let mut doors = PortPool::new(alloc, 2, 4)?;
-    let mut one = doors.open()?.ok_or("a door")?;
-    let mut two = doors.open()?.ok_or("another")?;
+    let mut pool = PortPool::new(alloc, 2, 4)?;
+    let mut one = pool.lend_port()?.ok_or("a port")?;
+    let mut two = pool.lend_port()?.ok_or("another")?;
     let (sent, rise) = thread::join(
         rt,
         move || put_all(rt, alloc, &mut one, 100),
         move || take_all(rt, &mut two, 100),
     );
     sent?;
-    Ok(rise && doors.open()?.is_none())
+    Ok(rise && pool.lend_port()?.is_none())
 }
 
 #[test]
@@ -108,17 +108,17 @@ enum Became {
     LostOrOtherwise,
 }
 
-// Puts the packet, and returns the door with its result.
-fn put_once<R: Wait>(rt: &R, mut door: OwnedPort, packet: Packet) -> (OwnedPort, Became) {
+// Puts the packet, and returns the port with its result.
+fn put_once<R: Wait>(rt: &R, mut port: OwnedPort, packet: Packet) -> (OwnedPort, Became) {
     let number = packet.number;
-    let became = match door.put(rt, packet) {
+    let became = match port.put(rt, packet) {
         Ok(()) => Became::Put,
         Err(fault) if fault.refusal == Refusal::InboxFull && fault.packet.number == number => {
             Became::GivenBackForFull
         }
         Err(_) => Became::LostOrOtherwise,
     };
-    (door, became)
+    (port, became)
 }
 
 // What became of the packets 1 and 2 of two threads, and which one was taken then.
@@ -126,9 +126,9 @@ fn both_put<R: Threads + Wait + Sync>(
     rt: &R,
     alloc: Global,
 ) -> Result<(Became, Became, u64), Fail> {
-    let mut doors = PortPool::new(alloc, 2, 1)?;
-    let one = doors.open()?.ok_or("a door")?;
-    let two = doors.open()?.ok_or("another")?;
+    let mut pool = PortPool::new(alloc, 2, 1)?;
+    let one = pool.lend_port()?.ok_or("a port")?;
+    let two = pool.lend_port()?.ok_or("another")?;
     let (packet_one, packet_two) = (packet(alloc, 1)?, packet(alloc, 2)?);
     let ((mut one, first), (_, second)) = thread::join(
         rt,

@@ -18,7 +18,8 @@ use Rattle.fm_certificate.proofs.Members.{lookup_member}
 use Rattle.fm_certificate.proofs.Exchange.{Arc, units_at}
 use Rattle.fm_certificate.proofs.Least.{arc_member, earns_alike, trade, traded, Traded, costs, from_sum, to_sum}
 use Rattle.fm_why.specs.Running.{Sends, GoesOver}
-use Rattle.fm_why.specs.MachineOptions.{cost_at, IsGap}
+use Rattle.fm_why.specs.MachineOptions.{cost_at}
+use Rattle.fm_why.specs.inner.MachineWays.{IsGap}
 
 -- sums over arcs, of which each is traded, and one or two with a gap
 module _ (rising falling : Node → ℕ) (f g : Units) where

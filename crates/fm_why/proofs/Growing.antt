@@ -6,7 +6,8 @@ use Rattle.std.specs.Cmp.{nat_cmp_total}
 use Rattle.std.specs.declared.cmp.Ordering.TheVariants.{Less, Equal, Greater}
 use Rattle.std.proofs.lemmas.Bool.{eqb-true, leb-true}
 use Rattle.std.proofs.lemmas.Cmp.{ranked}
-use Rattle.fm_lattice.specs.Chains.{nat_same, by_order}
+use Rattle.fm_lattice.specs.Chains.{by_order}
+use Rattle.fm_lattice.specs.laws.ChainLaws.{nat_same}
 use Rattle.fm_lattice.specs.Joins.{max_join, option_join}
 use Rattle.fm_lattice.specs.Maps.{lookup}
 use Rattle.fm_lattice.specs.laws.MapLaws.{lookup_join}

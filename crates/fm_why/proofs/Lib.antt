@@ -1,6 +1,5 @@
 pub mod Gaps
 pub mod Roomy
 pub mod Pricing
-pub mod Suffices
 pub mod Shown
 pub mod Growing

@@ -11,7 +11,7 @@ use Rattle.std.proofs.lemmas.Bool.{eqb-true}
 use Rattle.std.proofs.lemmas.List.Sums.{sum_by-cons}
 use Rattle.std.proofs.lemmas.List.Elements.{All-head, All-tail, All-map}
 use Rattle.std.proofs.lemmas.List.Sorted.{All-permutation, IsPermutation-sym}
-use Rattle.fm_lattice.specs.Chains.{nat_same}
+use Rattle.fm_lattice.specs.laws.ChainLaws.{nat_same}
 use Rattle.fm_records.specs.declared.records.SpecReg.{SpecReg}
 use Rattle.fm_records.specs.declared.records.JobReg.{JobReg}
 use Rattle.fm_records.specs.declared.records.MachineReg.{MachineReg}
@@ -27,7 +27,8 @@ use Rattle.fm_net.specs.Network.{is_held, is_live_of, arc_of, net_of}
 use Rattle.fm_net.proofs.NetworkLaws.{where_true, passes_some, came_from, open_entry, is_network_of}
 use Rattle.fm_net.specs.laws.NodeOrder.{ends_exact, ends_total}
 use Rattle.fm_net.specs.Nodes.{ends_cmp}
-use Rattle.fm_net.specs.NetworkEquality.{same_node, node_Decides}
+use Rattle.fm_net.specs.NetworkEquality.{same_node}
+use Rattle.fm_net.specs.laws.NetworkEqualityLaws.{node_Decides}
 use Rattle.fm_certificate.specs.Flows.{Units, cost_of, leaving, entering, IsFeasible, IsLeast}
 use Rattle.fm_certificate.proofs.Alike.{same_itself}
 use Rattle.fm_certificate.proofs.Exchange.{Arc}

@@ -17,7 +17,8 @@ use Rattle.fm_net.specs.Network.{is_held, waits_for, is_node, room_arc, place_ar
 use Rattle.fm_net.proofs.NetworkLaws.{where_true, Room, room_from, preferred_from, ends_of, is_network_of}
 use Rattle.fm_certificate.specs.Flows.{Units}
 use Rattle.fm_why.specs.Running.{RunsOn}
-use Rattle.fm_why.specs.MachineOptions.{lesser, has_way, machine_ways, roomy, IsOnlyRequest}
+use Rattle.fm_why.specs.MachineOptions.{lesser, roomy}
+use Rattle.fm_why.specs.inner.MachineWays.{has_way, machine_ways, IsOnlyRequest}
 
 pub there : {A : Type 0} (o : Option A) → IsSome o → (a : A) × (o ≡ Some a)
 there None h = absurd (let no : ⊥ = cc in no)

@@ -1,12 +1,10 @@
 -- A schedule that runs a task on a machine, as an example of what that costs; this project's profile.
-use Rattle.std.specs.Prelude.{◌≡◌, ℕ, ◌≤◌, ◌==◌, ◌&&◌, nat_lt, if◌then◌else◌, List, [], ◌∷◌, Option, Some, None, IfSome}
+use Rattle.std.specs.Prelude.{◌≡◌, ℕ, ◌==◌, ◌&&◌, nat_lt, if◌then◌else◌, List, Option, Some, None, IfSome}
 use Rattle.std.specs.List.{filter_map}
 use Rattle.fm_net.specs.declared.node.Node.{Node}
 use Rattle.fm_net.specs.declared.node.Node.TheVariants.{Task}
 use Rattle.fm_net.specs.Net.{Net}
-use Rattle.fm_certificate.specs.inner.Checks.{PricedArc}
 use Rattle.fm_certificate.specs.Flows.{Units, cost_of, IsFeasible}
-use Rattle.fm_certificate.specs.Totals.{Entry}
 use Rattle.fm_why.specs.declared.reasons.Choice.{Choice}
 use Rattle.fm_why.specs.declared.reasons.Alternative.{Alternative}
 use Rattle.fm_why.specs.declared.reasons.Move.{Move}
@@ -18,11 +16,11 @@ move_over now units (Task t, to) =
     if nat_lt 0 (units (Task t) to) && now (Task t) to == 0 then Some (record { task = t; to = to }) else None
 move_over now units _ = None
 
--- the tasks whose units go elsewhere in another flow, and where they go
+-- the tasks whose units go over other arcs of their own in another flow, and where they go
 abbrev pub moves_between : Net → Units → Units → List Move
 moves_between net now units = filter_map (λ a. move_over now units a.0) net.arcs
 
--- a feasible flow that runs the task on the machine: what it costs, and which tasks go elsewhere than now
+-- a feasible flow that runs the task on the machine: what it costs, and which tasks go over other arcs of their own than now
 pub record IsExample (net : Net) (now : Units) (t m : ℕ) (example : Alternative) : Type 0 where
   pub units : Units
   pub feasible : IsFeasible net units
@@ -33,9 +31,3 @@ pub record IsExample (net : Net) (now : Units) (t m : ℕ) (example : Alternativ
 -- of a machine to which the task has a way, possibly such a flow
 abbrev pub IsExampleFor : Net → Units → ℕ → Choice × Option Alternative → Type 0
 IsExampleFor net now t e = IfSome e.1 (IsExample net now t e.0.machine)
-
--- the units are of these arcs, in turn, and within their capacities
-abbrev pub AreUnitsWithin : List Entry → List PricedArc → Type 0
-AreUnitsWithin [] [] = Unit {0}
-AreUnitsWithin (e ∷ es) (a ∷ arcs) = (e.0 ≡ a.0) × (e.1 ≤ a.1.0) × AreUnitsWithin es arcs
-AreUnitsWithin _ _ = ⊥

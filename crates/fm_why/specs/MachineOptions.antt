@@ -1,13 +1,11 @@
 -- The ways of a task's unit to machines, and what an arc that a flow leaves empty makes dearer.
-use Rattle.std.specs.Prelude.{◌≡◌, ◌⊎◌, ℕ, ℤ, ◌≤ℤ◌, pos, Bool, List, Option, Some, None, option_map, min, filter, is_some, IsSome}
+use Rattle.std.specs.Prelude.{ℕ, List, Option, Some, None, option_map, min, filter}
 use Rattle.std.specs.Map.{keys_of}
 use Rattle.fm_records.specs.Table.{Table}
 use Rattle.fm_records.specs.Facts.{has_room}
 use Rattle.fm_net.specs.declared.node.Node.{Node}
 use Rattle.fm_net.specs.declared.node.Node.TheVariants.{Request, Machine, Task}
 use Rattle.fm_net.specs.Net.{Net, arc_at}
-use Rattle.fm_certificate.specs.Flows.{Units}
-use Rattle.fm_certificate.specs.Certificates.{reduced_cost}
 
 -- the lesser of two costs, of which either may be missing
 abbrev pub lesser : Option ℕ → Option ℕ → Option ℕ
@@ -24,22 +22,6 @@ cost_at net from to = option_map (λ a. a.1) (arc_at net from to)
 abbrev pub way_cost : Net → ℕ → ℕ → ℕ → Option ℕ
 way_cost net t r m = lesser (cost_at net (Request r) (Machine m)) (cost_at net (Task t) (Machine m))
 
-abbrev pub has_way : Net → ℕ → ℕ → ℕ → Bool
-has_way net t r m = is_some (way_cost net t r m)
-
--- the machines to which the task has a way, by id
-abbrev pub machine_ways : Table → Net → ℕ → ℕ → List ℕ
-machine_ways k net t r = filter (has_way net t r) (keys_of k.machines)
-
 -- the machines with room for a request, by id
 abbrev pub roomy : Table → ℕ → List ℕ
 roomy k r = filter (λ m. has_room k m r) (keys_of k.machines)
-
--- the task has an arc to no other request
-abbrev pub IsOnlyRequest : Net → ℕ → ℕ → Type 0
-IsOnlyRequest net t r = (other : ℕ) → IsSome (arc_at net (Task t) (Request other)) → other ≡ r
-
--- at these potentials the units that other flows send over the arc make them so much dearer at least: by nothing, or by no
--- more than the reduced cost of an arc that the flow leaves empty
-abbrev pub IsGap : Units → (Node → ℤ) → Node → Node → ℕ → ℕ → Type 0
-IsGap units at from to cost gap = (gap ≡ 0) ⊎ ((units from to ≡ 0) × (pos gap ≤ℤ reduced_cost cost (at from) (at to)))

@@ -36,8 +36,9 @@ pub record IsFound (net : Net) (t j : ℕ) (choices : Choices) : Type 0 where
   pub waits : IsTrue choices.waits ↔ (0 < units (Task t) (Unscheduled j))
 
 -- a live task that no machine holds: its request and its price of waiting; the schedule; each machine to which it has a way, the
--- cheapest first; the price of waiting, for this task alone, up to which that schedule stays least: at each if there is none;
--- for each of the first of these machines, possibly a schedule that runs it there; and up to two changes by which it would run
+-- cheapest first; the price of waiting, for this task alone, up to which that schedule stays least from the present one on: at
+-- each if there is none; for each of the first of these machines, possibly a schedule that runs it there; and up to two changes
+-- after which some least schedule runs it
 pub record AreChoices (k : Table) (t : ℕ) (spec : SpecReg) (choices : Choices) : Type 0 where
   pub request : choices.request ≡ spec.request
   pub wait : Some choices.wait ≡ option_map (λ job. job.wait) (job_of k spec.job)

@@ -1,4 +1,4 @@
--- Changes of one machine by which a task that waits would run; this project's profile.
+-- Changes of one machine after which some least schedule runs a task that waits; this project's profile.
 use Rattle.std.specs.Prelude.{◌≡◌, ℕ, ◌+◌, [], ◌∷◌, Option, Some, None}
 use Rattle.fm_records.specs.declared.ops.Op.{Op}
 use Rattle.fm_records.specs.Ops.{op_fault}
@@ -45,7 +45,8 @@ abbrev pub IsTight : Table → ℕ → ℕ → Change → Type 0
 IsTight k m r Slot = Unit {0}
 IsTight k m r (Bandwidth by) = spare_of k m ≡ Some r
 
--- the change can be told, within the ranges of an operation; and by what is known then, the task runs on the place at that cost
+-- the change can be told, within the ranges of an operation; and by what is known then, some least schedule runs the task on
+-- the place at that cost
 pub record IsRemedy (k : Table) (t r : ℕ) (remedy : Remedy) : Type 0 where
   pub op : Op
   pub told : change_op k remedy.machine remedy.change ≡ Some op

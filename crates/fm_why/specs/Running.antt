@@ -15,9 +15,9 @@ pub record Sends (net : Net) (units : Units) (from to : Node) : Type 0 where
 abbrev pub GoesOver : Net → ℕ → ℕ → ℕ → Units → Type 0
 GoesOver net t r m units = Sends net units (Task t) (Request r) × Sends net units (Request r) (Machine m)
 
--- The flow runs the task on the machine: a unit goes over the task's own arc to the machine, or one goes over a request to
--- which the task sends its unit. Tasks of one request may change places there for nothing. So the units can be dealt out in
--- such a way that the task runs on the machine.
+-- The flow runs the task on the machine: a unit goes over the task's own arc to the machine, or one goes over a request to which
+-- the task sends its unit. Tasks of one request may change places there for nothing. So the units can be dealt out in such a way
+-- that the task runs on the machine; the plan of the flow pairs tasks and machines by id, and may have another one there.
 abbrev pub RunsOn : Net → Units → ℕ → ℕ → Type 0
 RunsOn net units t m = Sends net units (Task t) (Machine m) ⊎ ((r : ℕ) × GoesOver net t r m units)
 

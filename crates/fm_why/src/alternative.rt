@@ -1,4 +1,8 @@
 //! Schedules that run a task on machines, as examples of what that costs.
+//!
+//! A lower bound says what such a schedule costs at least. An example says what it costs at most, and which tasks would
+//! move. The task's unit is sent there, and a unit on along the cheapest way (`tighten`). A copy of the least flow is
+//! changed on these few arcs, tested, and changed back.
 
 ghost use Rattle.std.specs.Prelude.{◌≡◌, ◌⊎◌, Some, IfOk, IfSome, length};
 ghost use Rattle.std.specs.List.{All, filter_map, zip};
@@ -7,10 +11,11 @@ ghost use Rattle.fm_certificate.specs.Flows.{units_in};
 ghost use Rattle.fm_why.specs.Alternatives.{IsExample, IsExampleFor, move_over, moves_between};
 
 use crate::bounds::CertifiedFlow;
-use crate::feasible::{Target, has_units, is_feasible, runs_on};
 use crate::reasons::{Alternative, Choice, Move};
+use crate::running::{Target, has_units, runs_on};
 use crate::tighten::Shift;
 use fm_certificate::cost::cost;
+use fm_certificate::feasible::is_feasible;
 use fm_certificate::flow::Flow;
 use fm_lattice::join::OutOfMemory;
 use fm_net::network::Network;

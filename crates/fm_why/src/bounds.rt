@@ -1,11 +1,15 @@
-//! Lower bounds on what schedules cost, from a least flow and its potentials.
+//! Lower bounds on what schedules cost, from a least flow and its potentials, without another flow.
+//!
+//! A flow that sends units over an arc that the least flow leaves empty is dearer by the arc's reduced cost at least
+//! (sensitivity analysis of linear programs). So one solution answers for all machines.
 
 ghost use Rattle.std.specs.Prelude.{◌≡◌, ◌⊎◌, ◌<◌, ◌<ℤ◌, ◌^◌, ℕ, pos, Some, IfSome, option_map};
 ghost use Rattle.fm_certificate.specs.Flows.{units_in};
 ghost use Rattle.fm_certificate.specs.Certificates.{potential_in, reduced_cost, AreSmall};
 ghost use Rattle.fm_net.specs.Net.{arc_at};
 ghost use Rattle.fm_why.specs.Running.{IsDearerOver};
-ghost use Rattle.fm_why.specs.MachineOptions.{cost_at, IsGap};
+ghost use Rattle.fm_why.specs.MachineOptions.{cost_at};
+ghost use Rattle.fm_why.specs.inner.MachineWays.{IsGap};
 ghost use Rattle.fm_why.specs.inner.Schedule.{IsSchedule};
 
 use crate::tighten::Paths;

@@ -1,4 +1,7 @@
 //! Changes of one machine by which a task that waits would run: each is tried on a copy of what is known.
+//!
+//! That a machine lacks a slot does not show that one more would help, since another task may take it. So the change is
+//! told to the copy, and its network is built and solved.
 
 ghost use Rattle.std.specs.Prelude.{◌≡◌, ◌≤◌, ◌+◌, ℕ, Some, None, IfOk, IfSome, IsTrue, length};
 ghost use Rattle.std.specs.List.{All};
@@ -8,8 +11,8 @@ ghost use Rattle.fm_certificate.specs.Flows.{units_in};
 ghost use Rattle.fm_why.specs.Running.{RunsOn};
 ghost use Rattle.fm_why.specs.Remedies.{more_slots, more_bandwidth, change_op, with_op, RunsAt, IsTight, IsRemedy};
 
-use crate::feasible::{Target, runs_on};
 use crate::reasons::{Change, Choice, Remedy};
+use crate::running::{Target, runs_on};
 use fm_certificate::cost::cost;
 use fm_certificate::flow::Flow;
 use fm_flow::solve::solve;

@@ -4,9 +4,9 @@
 mod alternative;
 mod bounds;
 mod changes;
-mod feasible;
 pub mod laws;
 mod options;
 pub mod reasons;
+mod running;
 mod tighten;
 pub mod why;

@@ -1,11 +1,15 @@
-//! The machines to which a task has a way, and how much dearer it is there.
+//! The machines to which a task has a way, and how much dearer schedules are that run it there, at least.
+//!
+//! A way goes over the task's request, or over an arc of its own to a machine that it prefers. What either makes dearer
+//! follows from reduced costs (`bounds`), so each machine takes a few look-ups and no other flow.
 
 ghost use Rattle.std.specs.Prelude.{◌≡◌, ◌≤◌, ◌<◌, ◌^◌, IfSome, IfOk, map, option_map};
 ghost use Rattle.std.specs.List.{All};
 ghost use Rattle.std.specs.List.Sorted.{IsPermutation, IsNonDecreasingBy};
 ghost use Rattle.fm_net.specs.declared.node.Node.{Node as NodeName};
 ghost use Rattle.fm_why.specs.Running.{GoesOver, IsDearer, IsDearerIf};
-ghost use Rattle.fm_why.specs.MachineOptions.{IsOnlyRequest, cost_at, lesser, way_cost, machine_ways};
+ghost use Rattle.fm_why.specs.MachineOptions.{cost_at, lesser, way_cost};
+ghost use Rattle.fm_why.specs.inner.MachineWays.{IsOnlyRequest, machine_ways};
 ghost use Rattle.fm_why.specs.inner.Schedule.{IsSchedule};
 ghost use Rattle.fm_why.specs.Reasons.{IsChoice};
 
@@ -52,7 +56,8 @@ fn listed(
     requires schedule { IsSchedule network.now schedule.now }
     requires only { IsOnlyRequest network.now task request }
     ensures each { IfOk result (λ all. All (IsChoice network.now schedule.now.least task request) all.items) }
-    ensures all { IfOk result (λ all. map (λ e. e.machine) all.items ≡ machine_ways knowledge.now network.now task request) }
+    ensures all { IfOk result (λ all. map (λ e. e.machine) all.items
+        ≡ machine_ways knowledge.now network.now task request) }
 {
     let mut found = Vec::new(alloc);
     for (machine, _) in knowledge.machines().iter() {

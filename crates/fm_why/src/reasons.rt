@@ -16,7 +16,8 @@ pub struct Choice {
     pub dearer: u128,
 }
 
-/// A task whose unit goes elsewhere than now: to its job, where it waits, to its request, or to a machine that it prefers.
+/// A task whose unit goes over another arc of its own than now: to its job, where it waits, to its request, or to a
+/// machine that it prefers.
 #[derive(Debug, Clone, Copy, PartialEq, Eq, Drop)]
 pub struct Move {
     pub task: TaskId,
@@ -28,7 +29,8 @@ pub struct Move {
 pub struct Alternative {
     /// What it costs.
     pub cost: u128,
-    /// The tasks that go elsewhere in it than in the schedule that was found, by id.
+    /// The tasks that go over another arc of their own than in the schedule that was found, by id. One that stays on
+    /// its request is not among them, even if a plan pairs it with another machine then.
     pub moves: Vec<Move>,
 }
 
@@ -41,7 +43,7 @@ pub enum Change {
     Bandwidth(u32),
 }
 
-/// A change of one machine by which a task that waits would run.
+/// A change of one machine after which some least schedule runs a task that waits now.
 #[derive(Debug, Clone, Copy, PartialEq, Eq, Drop)]
 pub struct Remedy {
     /// The machine that changes.
@@ -70,13 +72,14 @@ pub struct Choices {
     pub machines: Vec<Choice>,
     /// How many machines are known, open or not.
     pub known: usize,
-    /// Up to which price of waiting, for this task alone, the schedule that was found stays least; up to any if there is
-    /// none.
+    /// Up to which price of waiting, from `wait` on and for this task alone, the schedule that was found stays least;
+    /// up to any if there is none.
     pub price: Option<u128>,
     /// For each of the first of the machines, `SHOWN` at most, a schedule that runs it there, if the one that was found
     /// leaves it waiting, and one was found.
     pub examples: Vec<Option<Alternative>>,
-    /// Up to two changes of a machine by which it would run, if the schedule that was found leaves it waiting.
+    /// Up to two changes of a machine after which some least schedule runs it, if the schedule that was found leaves it
+    /// waiting.
     pub remedies: Vec<Remedy>,
 }
 

@@ -1,6 +1,9 @@
-//! The cheapest ways to send a unit on from each node to where a task's unit goes now, by relaxing arcs (Bellman and
-//! Ford), and what they claim: potentials, and arcs on which units change if the unit goes elsewhere. They are tried:
-//! checks decide whether they are what they claim to be.
+//! The cheapest ways to send a unit on from each node to where a task's unit goes now.
+//!
+//! A least flow can have many potentials, and those of a solver may give low bounds. By the costs of these ways bounds
+//! are as great as can be, and the ways give flows in which the unit goes elsewhere. Arcs are relaxed (Ford, 1956;
+//! Bellman, 1958), 64 times at most. Nothing is claimed of the results: checks decide whether they are what they are
+//! meant to be.
 
 use fm_certificate::flow::Flow;
 use fm_certificate::potentials::Potentials;
@@ -75,7 +78,7 @@ impl Paths {
         let nodes: Vec<Node> = network.nodes().collect(alloc)?;
         let numbered = IndexedNetwork::of(alloc, network)?;
         let certificate = certificate_of(alloc, network, flow, potentials)?;
-        let goal = place_of(&nodes, goal);
+        let goal = index_of(&nodes, goal);
         let mut costs = vec![in alloc; FAR; numbered.places.end]?;
         let mut steps = vec![in alloc; None; numbered.places.end]?;
         lower(&mut costs, goal, 0);
@@ -130,7 +133,7 @@ impl Paths {
             }
             None => legs.push(Leg::of(task, last, true))?,
         }
-        if self.send_on(&mut legs, place_of(&self.nodes, last))? {
+        if self.send_on(&mut legs, index_of(&self.nodes, last))? {
             shifts_of(alloc, flow, &legs)
         } else {
             Ok(None)
@@ -157,7 +160,7 @@ impl Paths {
         Ok(false)
     }
 
-    // The node at the place; the sink beyond the end.
+    // The node at the index; the sink beyond the end.
     fn node_at(&self, place: usize) -> Node {
         value_or(&self.nodes, place, Node::Sink)
     }
@@ -209,8 +212,8 @@ fn certificate_of(
     Ok(Certificate { units, values })
 }
 
-// The place of the node among these; beyond the end if it is not there.
-fn place_of(nodes: &[Node], goal: &Node) -> usize {
+// The index of the node among these; beyond the end if it is not there.
+fn index_of(nodes: &[Node], goal: &Node) -> usize {
     let mut place = 0usize;
     for node in nodes {
         if node == goal {

@@ -1,4 +1,7 @@
-//! Why a task waits or runs.
+//! Why a task waits or runs: where it is, and how much dearer each schedule is that does otherwise, at least.
+//!
+//! A least flow gives no reason by itself. Its potentials do: they bound what each schedule costs that runs the task
+//! elsewhere, or lets it wait. Examples and changes of a machine show what the bounds cannot.
 
 ghost use Rattle.std.specs.Prelude.{◌≡◌, ◌↔◌, ◌+◌, ◌<◌, ◌≤◌, ◌^◌, Some, None, IfOk, IfSome, IsTrue, length, option_map, slice_get, take};
 ghost use Rattle.std.specs.List.{All};
@@ -12,9 +15,9 @@ ghost use Rattle.fm_why.specs.Reasons.{AreChoices, AreReasons};
 use crate::alternative::examples_on;
 use crate::bounds::{CertifiedFlow, more_over};
 use crate::changes::remedies_of;
-use crate::feasible::has_units;
 use crate::options::choices_of;
 use crate::reasons::{Choice, Choices, Reasons, Remedy, SHOWN};
+use crate::running::has_units;
 use crate::tighten::Paths;
 use fm_certificate::check::check;
 use fm_certificate::cost::cost;
@@ -32,12 +35,13 @@ use fm_records::records::{JobReg, SpecReg};
 use std::alloc::Global;
 
 /// Where the task is by what is known; for a live task that no machine holds, what its schedule costs, how much dearer
-/// each schedule is that runs it on a machine, or leaves it waiting, at least, up to which price of waiting its schedule
-/// stays least, possibly a schedule that runs it on each of the cheapest machines, `SHOWN` at most, and up to two changes of
-/// a machine by which it would run. Refused only if memory runs out. If the task is live and not held, the cost is that of
-/// building the network and of solving it, and of shortest paths in it. If it waits, it is also that of at most two flows
-/// for each of these machines that are tried, O((nodes + arcs) log nodes) each, of a tally, and of at most two changed
-/// clusters that are built and solved. Else it is that of look-ups.
+/// each schedule is that runs it on a machine, or leaves it waiting, at least, up to which price of waiting, from the
+/// present one on, its schedule stays least, possibly a schedule that runs it on each of the cheapest machines, `SHOWN`
+/// at most, and up to two changes of a machine after which some least schedule runs it. Refused only if memory runs
+/// out. If the task is live and not held, the cost is that of building the network and of solving it, and of shortest
+/// paths in it. If it waits, it is also that of at most two flows for each of these machines that are tried, O((nodes +
+/// arcs) log nodes) each, of a tally, and of at most two changed clusters that are built and solved. Else it is that of
+/// look-ups.
 pub fn why(alloc: Global, knowledge: &Knowledge, task: TaskId) -> Result<Reasons, OutOfMemory>
     ensures { IfOk result (AreReasons knowledge.now task) }
 {

@@ -6,7 +6,8 @@ use Rattle.std.specs.declared.cmp.Ordering.{Ordering}
 use Rattle.std.specs.declared.cmp.Ordering.TheVariants.{Less, Equal, Greater}
 use Rattle.std.proofs.lemmas.Cmp.{tied_itself, tied_back, on_total, then_total}
 use Rattle.std.proofs.lemmas.List.{append-nil}
-use Rattle.fm_lattice.specs.Chains.{nat_same, by_order, by_cases, less_greater}
+use Rattle.fm_lattice.specs.Chains.{by_order}
+use Rattle.fm_lattice.specs.laws.ChainLaws.{nat_same, by_cases, less_greater}
 use Rattle.fm_lattice.specs.Joins.{min_join, Any}
 use Rattle.fm_lattice.specs.Maps.{IsBelow, IsRising, AreValues, IsMap, put}
 use Rattle.fm_lattice.specs.laws.MapLaws.{rising_put}

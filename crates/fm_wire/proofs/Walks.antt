@@ -7,7 +7,7 @@ use Rattle.std.specs.declared.cmp.Ordering.{Ordering}
 use Rattle.std.specs.declared.cmp.Ordering.TheVariants.{Less, Equal, Greater}
 use Rattle.std.proofs.lemmas.List.{append-nil}
 use Rattle.std.proofs.lemmas.List.Concat.{flat_map-cons}
-use Rattle.fm_lattice.specs.Chains.{less_greater}
+use Rattle.fm_lattice.specs.laws.ChainLaws.{less_greater}
 use Rattle.fm_lattice.specs.Maps.{put}
 use Rattle.std.specs.Int.{Width}
 use Rattle.fm_wire.specs.Formats.{Reading, ◌>>=◌, Format, bytes_of, comes_after, key_at, record_at, records_at}

@@ -1,4 +1,8 @@
-//! Values with one spelling as bytes: keys of records, which all versions spell alike, and what their values are to have.
+//! Values with one spelling as bytes: the traits of such values, and the keys of records, alike in all versions.
+//!
+//! A packet has one spelling in a version only if each of its parts has. So writer and reader of a part are two
+//! functions of one trait, and both are proved by the same definition of its format. A fault is told by how many bytes
+//! are left from it on.
 
 ghost use Rattle.std.specs.Prelude.{◌≡◌, ◌++◌, OnOk};
 ghost use Rattle.fm_wire.specs.declared.version.Version.{Version};

@@ -1,4 +1,7 @@
 //! Proposals in one list, as packets have them, and by attempt, as knowledge has them.
+//!
+//! Knowledge groups the proposals of an attempt, so that its winner is found at once. A packet has one list under one
+//! count, as for all records, in the order of task, attempt and coordinator.
 
 ghost use Rattle.std.specs.Prelude.{◌≡◌, ◌++◌, List, map, OnOk, IfOk};
 ghost use Rattle.fm_lattice.specs.Maps.{IsMap, IsRising};
@@ -10,16 +13,13 @@ use fm_lattice::constructors::Min;
 use fm_lattice::join::OutOfMemory;
 use fm_lattice::map::JoinMap;
 use fm_records::ids::{CoordId, TaskId};
-use fm_records::records::Spot;
+use fm_records::records::{Proposals, Spot};
 use std::alloc::Global;
 
-// The proposals of knowledge: for each attempt of a task, by coordinator, where it would run.
-pub(crate) type Proposals = JoinMap<(TaskId, u32), JoinMap<CoordId, Min<Spot>>>;
-
-// The same in one list, by task, attempt and coordinator.
+// Proposals in one list, by task, attempt and coordinator.
 pub(crate) type FlatProposals = JoinMap<((TaskId, u32), CoordId), Min<Spot>>;
 
-// The proposals in one list. O(n log n).
+// The proposals in one list. O(n), since each comes after those before it.
 pub(crate) fn entries_in(alloc: Global, proposals: &Proposals) -> Result<FlatProposals, OutOfMemory>
     ensures { IfOk result (λ entries. entries ≡ flat_of proposals.now) }
 {

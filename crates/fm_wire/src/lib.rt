@@ -1,4 +1,5 @@
 //! Packets as bytes: the one encoding of each packet in each version, and the first fault of bytes that encode none.
+//!
 //! The definitions call an encoding a *spelling*.
 #![tactic(auto)]
 

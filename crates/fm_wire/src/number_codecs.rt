@@ -1,6 +1,7 @@
-//! Numbers as bytes, the most significant first. The readers return the number and the bytes after it; at a fault
-//! they return how many bytes there are from it to the end: 0 if they end too early, and all if the number is out of
-//! its range.
+//! Numbers as bytes, the most significant first, each with its range.
+//!
+//! The readers return the number and the bytes after it. At a fault they return how many bytes there are from it to the
+//! end. That is 0 if they end too early, and all if the number is out of its range.
 
 ghost use Rattle.std.specs.Prelude.{◌≡◌, ◌++◌, ◌-◌, ◌^◌, ◌≤◌, OnOk, IfOk};
 ghost use Rattle.std.specs.Int.{w8, w32, w64, w128};

@@ -1,4 +1,8 @@
 //! The packet that bytes spell, and the first fault of bytes that spell none.
+//!
+//! Bytes come from others, and may be damaged or made to do harm, such as by a count of records that are not there. So
+//! all are checked first, without allocating, and only a packet's spelling is built into one. Each packet has at
+//! most one spelling in a version, so bytes that are read and written again in the same version are the same.
 
 ghost use Rattle.std.specs.Prelude.{◌≡◌, ◌≤◌, ◌↔◌, None, IsOk, IfOk, IfErr, option_map};
 ghost use Rattle.fm_records.specs.Options.{or_else};

@@ -1,4 +1,7 @@
-//! Records behind their count, keys rising.
+//! Records behind their count, keys rising, so that a map has one spelling.
+//!
+//! Keys that fall or repeat are a fault at the key. One reader of a record serves to check all of them, without
+//! allocating, and then to build the map of them.
 
 ghost use Rattle.std.specs.Prelude.{◌≡◌, ◌<◌, ◌^◌, ◌++◌, length, None, OnOk};
 ghost use Rattle.fm_wire.specs.declared.version.Version.TheVariants.{Fdg2};
@@ -72,7 +75,8 @@ pub(crate) fn rest_of_map<K: Chain + Codec, V: Join + VersionedCodec>(
     version: Version,
     bytes: &[u8],
 ) -> Result<&[u8], usize>
-    ensures { DecodesTo (λ rest. rest.now) result (rest_of ((records K.cmp K.format (V.format version)).read bytes.now)) }
+    ensures { DecodesTo (λ rest. rest.now) result
+        (rest_of ((records K.cmp K.format (V.format version)).read bytes.now)) }
 {
     let (count, rest) = u64_at(bytes)?;
     rest_of_records::<K, V>(version, count, rest)

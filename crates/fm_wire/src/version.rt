@@ -1,4 +1,4 @@
-//! The versions of the format of packets.
+//! The versions of the format of packets, so that packets of older programs can still be read.
 
 /// A version: how packets of it end a spec. Packets are written in the last, and read in each.
 #[derive(Debug, Clone, Copy, PartialEq, Eq, Drop)]

@@ -1,4 +1,6 @@
-//! The bytes of a packet.
+//! The bytes of a packet: its one spelling in the last version.
+//!
+//! Equal packets have equal bytes, since maps are written with their keys rising and each value has one spelling.
 
 ghost use Rattle.std.specs.Prelude.{◌≡◌, ◌<◌, ◌^◌, ◌++◌, IsTrue, IsOk, IfOk, OnOk};
 ghost use Rattle.fm_records.specs.Ids.{is_coordinator};

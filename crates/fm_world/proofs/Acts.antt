@@ -24,7 +24,7 @@ use Rattle.fm_world.specs.declared.step.Act.{Act}
 use Rattle.fm_world.specs.declared.step.Act.TheVariants as act
 use Rattle.fm_world.specs.Worlds.{spelled_out, event_asked, after_maybe, cut_by, cause_here}
 use Rattle.fm_world.specs.inner.Calls.{call_asked, refusal_asked, IsSpelled}
-use Rattle.fm_world.specs.Represents.{IsActed}
+use Rattle.fm_world.specs.inner.ActedWorld.{IsActed}
 
 -- the packets after a call that was answered so
 abbrev pub kept : List Packet → CallOutput → List Packet

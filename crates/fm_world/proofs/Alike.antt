@@ -16,7 +16,7 @@ use Rattle.fm_delta.specs.declared.packet.Packet.{Packet}
 use Rattle.fm_delta.specs.Packets.{same_packet}
 use Rattle.fm_delta.specs.laws.PacketLaws.{packet_Decides}
 use Rattle.fm_delta.specs.Deltas.{joined_all}
-use Rattle.fm_delta.specs.GroupLaws.{joined_union}
+use Rattle.fm_delta.proofs.GroupLaws.{joined_union}
 use Rattle.fm_round.specs.Admission.{admission}
 use Rattle.fm_coord.specs.declared.entry.Call.{Call}
 use Rattle.fm_coord.specs.declared.entry.Call.TheVariants as call

@@ -19,7 +19,8 @@ use Rattle.fm_world.specs.declared.step.Act.{Act}
 use Rattle.fm_world.specs.declared.step.Act.TheVariants as act
 use Rattle.fm_world.specs.declared.step.Step.{Step}
 use Rattle.fm_world.specs.Worlds.{WorldOfSets, with_number, event_asked, after_maybe, cause_here, cause_at, cause_of, refusal_of, sent_at, step_of}
-use Rattle.fm_world.specs.Represents.{Kept, state_of, number_of, WorldRepresents, state_with, view_shown, IsActed}
+use Rattle.fm_world.specs.Represents.{Kept, state_of, number_of, WorldRepresents, state_with, view_shown}
+use Rattle.fm_world.specs.inner.ActedWorld.{IsActed}
 use Rattle.fm_world.proofs.Acts.{by_cause}
 use Rattle.fm_world.proofs.Places.{Stood, stood, absent, put_back, same_states, found_at, missing}
 

@@ -1,16 +1,16 @@
 -- The state of a world of coordinators, and for which world of sets it stands.
-use Rattle.std.specs.Prelude.{◌≡◌, ◌==◌, ℕ, cond, List, [], ◌∷◌, ◌++◌, length, Option, Some, None, map}
+use Rattle.std.specs.Prelude.{◌≡◌, ◌==◌, ℕ, cond, List, [], ◌∷◌, length, Option, Some, None, map}
 use Rattle.fm_delta.specs.declared.packet.Packet.{Packet}
 use Rattle.fm_net.specs.Network.{net_of}
 use Rattle.fm_coord.specs.declared.view.View.{View}
-use Rattle.fm_coord.specs.Events.{Sent, Replica}
+use Rattle.fm_coord.specs.Events.{Replica}
 use Rattle.fm_coord.specs.Replays.{seen_packet}
 use Rattle.fm_coord.specs.Numbers.{AreDistinct}
 use Rattle.fm_coord.specs.States.{State, WithKeeper, Represents}
 use Rattle.fm_world.specs.declared.step.Act.{Act}
 use Rattle.fm_world.specs.declared.step.Act.TheVariants as act
 use Rattle.fm_world.specs.declared.step.Step.{Step}
-use Rattle.fm_world.specs.Worlds.{WorldOfSets, opening_world, run_of, AreAccepted, event_asked, after_maybe, cut_by, cause_here}
+use Rattle.fm_world.specs.Worlds.{WorldOfSets, opening_world, run_of, AreAccepted}
 
 -- what the coordinators keep, and the packets that were cut, in the order of their cuts
 pub record Kept : Type 0 where
@@ -62,9 +62,3 @@ state_with (s ∷ ss) n = cond (s.number == n) (Some s) (state_with ss n)
 abbrev pub view_shown : Option State → Act → Option View
 view_shown (Some s) act.View = Some (record { at = length s.history; knowledge = s.knowledge; network = net_of s.knowledge })
 view_shown _ _ = None
-
--- an act at a replica was accepted: what the coordinator and the packets are is what they are after the event
-pub record IsActed (s : State) (ps : List Packet) (r : Replica) (sent : List Sent) (by : ℕ) (act : Act) : Type 0 where
-  pub accepted : cause_here r (event_asked sent act) ≡ None
-  pub stands : Represents s (after_maybe by (event_asked sent act) r)
-  pub packets : ps ≡ map seen_packet (sent ++ cut_by r (event_asked sent act))

@@ -1,4 +1,7 @@
-//! Packets in the order of their cuts, found by their names.
+//! Packets in the order of their cuts, found by their names: a history has a packet where a step has its number.
+//!
+//! A packet's name, its sender and number, leads to the first packet that has it. A packet from elsewhere may have the
+//! name of another one, so packets from there on are compared: O(log n) if packets of one name are equal.
 
 ghost use Rattle.std.specs.Prelude.{◌≡◌, ◌++◌, ◌∷◌, [], OnOk, position};
 ghost use Rattle.fm_delta.specs.Packets.{same_packet};
@@ -10,7 +13,7 @@ use std::alloc::Global;
 use std::collections::BTreeMap;
 use std::marker::Model;
 
-/// Packets in the order of their cuts. For each sender and number, `starts` has a place before which there is no such
+/// Packets in the order of their cuts. For each sender and number, `starts` has an index before which there is no such
 /// packet, and none if there is no such packet at all.
 #[derive(Drop)]
 pub(crate) struct CutPackets {
@@ -54,8 +57,8 @@ impl CutPackets {
         Ok(())
     }
 
-    /// The place of the earliest packet that is equal. O(log n) if packets of one name are equal.
-    pub(crate) fn place_of(&self, packet: &Packet) -> Option<usize>
+    /// The index of the earliest packet that is equal. O(log n) if packets of one name are equal.
+    pub(crate) fn index_of(&self, packet: &Packet) -> Option<usize>
         ensures { result ≡ position (λ q. same_packet q packet.now) self.now }
     {
         let name = (packet.sender.value(), packet.number);
@@ -63,7 +66,7 @@ impl CutPackets {
             None => None,
             Some(start) => {
                 let (_, rest) = self.list.as_slice().split_at(start);
-                match place_in(rest, packet) {
+                match index_in(rest, packet) {
                     None => None,
                     Some(further) => Some(start + further),
                 }
@@ -72,8 +75,8 @@ impl CutPackets {
     }
 }
 
-// The place of the earliest packet that is equal.
-fn place_in(packets: &[Shared<Packet>], packet: &Packet) -> Option<usize>
+// The index of the earliest packet that is equal.
+fn index_in(packets: &[Shared<Packet>], packet: &Packet) -> Option<usize>
     ensures { result ≡ position (λ q. same_packet q packet.now) packets.now }
 {
     packets.iter().position(|q| *q.get() == *packet)

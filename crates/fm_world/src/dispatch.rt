@@ -1,4 +1,7 @@
-//! Acts at one coordinator.
+//! Acts at one coordinator: an act as the coordinator's call, with the packet of a cut added to those of the world.
+//!
+//! Memory for one more packet is reserved before a cut, so that a packet that a coordinator has counted cannot get
+//! lost. If there is none, the call is still refused for what is wrong with it first.
 
 ghost use Rattle.std.specs.Prelude.{◌≡◌, List, Some, IfOk, IfErr, OnErr, OnOk, map, vec_len, vec_capacity};
 ghost use Rattle.fm_records.specs.Options.{or_else};
@@ -7,7 +10,8 @@ ghost use Rattle.fm_coord.specs.Causes.{refusal_for};
 ghost use Rattle.fm_coord.specs.Replays.{seen_packet};
 ghost use Rattle.fm_coord.specs.States.{bounds, Represents};
 ghost use Rattle.fm_world.specs.Worlds.{event_asked, cause_here};
-ghost use Rattle.fm_world.specs.Represents.{view_shown, IsActed};
+ghost use Rattle.fm_world.specs.Represents.{view_shown};
+ghost use Rattle.fm_world.specs.inner.ActedWorld.{IsActed};
 ghost use Rattle.fm_world.specs.inner.Calls.{call_asked, HasRoomFor, IsSpelled, refusal_asked};
 
 use crate::step::Act;

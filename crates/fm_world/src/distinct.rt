@@ -13,12 +13,12 @@ pub fn distinct<N: NetKeeper>(coordinators: &[Coordinator<N>]) -> bool
 {
     match coordinators.split_first() {
         None => true,
-        Some((first, rest)) => place_of(rest, first.number().value()).is_none() && distinct(rest),
+        Some((first, rest)) => index_of(rest, first.number().value()).is_none() && distinct(rest),
     }
 }
 
-// The place of the first coordinator with the number.
-pub(crate) fn place_of<N: NetKeeper>(coordinators: &[Coordinator<N>], number: u8) -> Option<usize>
+// The index of the first coordinator with the number.
+pub(crate) fn index_of<N: NetKeeper>(coordinators: &[Coordinator<N>], number: u8) -> Option<usize>
     ensures { result ≡ position (λ c. number_of c == number) coordinators.now }
 {
     coordinators

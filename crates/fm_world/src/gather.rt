@@ -1,11 +1,16 @@
 //! One list of steps from the histories of coordinators, in an order that respects Lamport's happened-before (1978).
+//!
+//! Coordinators that ran in threads or in several processes have histories of their own, and what was proved is about
+//! one list of steps. A listing joins them: the entries of each coordinator in its order, each packet cut before it is
+//! merged. If there is none, such as if none of them cut a packet that was merged, it says whose entries are left.
 
 ghost use Rattle.std.specs.Prelude.{◌≡◌, [], map, IfOk, IfErr, ◌⊎◌};
 ghost use Rattle.fm_coord.specs.Numbers.{AreDistinct};
 ghost use Rattle.fm_world.specs.Worlds.{AreAccepted};
 ghost use Rattle.fm_world.specs.Represents.{state_of, number_of};
-ghost use Rattle.fm_world.specs.Listings.{AreCoordinators, IsWholeRun, Halts, new_world_of};
+ghost use Rattle.fm_world.specs.Listings.{IsWholeRun, Halts, new_world_of};
 
+use crate::laws::law_known;
 use crate::step::Step;
 use crate::sweeping::swept;
 use fm_coord::coordinator::Coordinator;
@@ -43,7 +48,7 @@ pub fn gather<N: NetKeeper>(
     ensures stuck { IfErr result (λ fault. fault.refusal ≡ Refusal.Stuck
         → Halts (map state_of coordinators.now) fault.left.items fault.steps.items) }
 {
-    see_known(coordinators);
+    law_known(coordinators);
     let Ok((steps, left)) = swept(alloc, coordinators) else {
         return Err(GatherFault {
             refusal: Refusal::OutOfMemory,
@@ -59,14 +64,4 @@ pub fn gather<N: NetKeeper>(
         left,
         steps,
     })
-}
-
-// What holds of every coordinator holds of each of these.
-fn see_known<N: NetKeeper>(coordinators: &[Coordinator<N>])
-    ensures { AreCoordinators (map state_of coordinators.now) }
-{
-    if let Some((first, rest)) = coordinators.split_first() {
-        first.known();
-        see_known(rest);
-    }
 }

@@ -4,8 +4,11 @@ ghost use Rattle.std.specs.Prelude.{◌≡◌, List, map, []};
 ghost use Rattle.fm_coord.specs.Numbers.{AreDistinct};
 ghost use Rattle.fm_coord.specs.States.{State};
 ghost use Rattle.fm_world.specs.Worlds.{run_of, AreAccepted};
-ghost use Rattle.fm_world.specs.Represents.{WorldRepresents};
+ghost use Rattle.fm_world.specs.Represents.{state_of, WorldRepresents};
 ghost use Rattle.fm_world.specs.Listings.{Made, IsListing, IsStuck, IsMaximal, IsWhole, AreCoordinators, number_in, new_world_of, packets_of, steps_for, left_of};
+
+use fm_coord::coordinator::Coordinator;
+use fm_policy::keeper::NetKeeper;
 
 /// A stuck listing is maximal, and if it leaves entries, no listing is whole. A listing that leaves none is whole.
 /// Its steps, run from a new world, are not refused, and lead to a world for which the coordinators stand.
@@ -20,3 +23,13 @@ pub fn law_listings()
         → IsWhole ss ms → WorldRepresents (record { coordinators = ss; packets = packets_of ms })
         (run_of (new_world_of ss) (steps_for [] ms)) }
 {}
+
+/// What holds of every coordinator holds of each of these. O(n).
+pub fn law_known<N: NetKeeper>(coordinators: &[Coordinator<N>])
+    ensures { AreCoordinators (map state_of coordinators.now) }
+{
+    if let Some((first, rest)) = coordinators.split_first() {
+        first.known();
+        law_known(rest);
+    }
+}

@@ -1,4 +1,4 @@
-//! Several coordinators, run in steps, and the main theorem about them; and one list of steps gathered from their histories.
+//! Several coordinators, run in steps, the main theorem about them, and one list of steps gathered from histories.
 #![tactic(auto)]
 
 mod cut_packets;

@@ -1,4 +1,4 @@
-//! Entries taken as steps.
+//! Entries taken as steps, with the packets cut so far: a merge can be taken only once its packet was cut.
 
 ghost use Rattle.std.specs.Prelude.{◌≡◌, ◌≤◌, [], IfOk, length, drop};
 ghost use Rattle.fm_world.specs.inner.Sweeps.{act_asked, IsOneTaken, AreFirstTaken};
@@ -73,7 +73,7 @@ fn act_of(call: &Call, packets: &CutPackets) -> Result<Option<Act>, OutOfMemory>
 {
     Ok(match call {
         Call::Tell(op) => Some(Act::Tell(*op)),
-        Call::Merge(packet) => match packets.place_of(packet) {
+        Call::Merge(packet) => match packets.index_of(packet) {
             None => None,
             Some(place) => Some(Act::Deliver(place)),
         },

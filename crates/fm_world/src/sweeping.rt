@@ -1,4 +1,8 @@
 //! Sweeps over coordinators: a topological order of their entries, if there is one.
+//!
+//! An entry waits for the one before it at its coordinator, and a merge also for the cut of its packet. Each visit
+//! takes as many entries of a coordinator as it can, and the sweeps end when none can be taken. Which coordinator is
+//! visited first affects the order, but not which entries are left.
 
 ghost use Rattle.std.specs.Prelude.{◌≡◌, ◌<◌, ◌++◌, length, map, IfOk, OnOk};
 ghost use Rattle.fm_coord.specs.Numbers.{AreDistinct};

@@ -1,4 +1,8 @@
-//! Coordinators, and every packet that they cut.
+//! Coordinators, and every packet that they cut: what the main theorem is about.
+//!
+//! In whatever order, number of times and packets operations arrive, coordinators that received the same ones have the
+//! same knowledge, winners and network. A world is changed by steps alone, one coordinator at a time, so each of its
+//! states was reached by accepted steps. A delivery names a packet by its number among all that were cut.
 
 ghost use Rattle.std.specs.Prelude.{◌≡◌, [], None, Some, IfOk, IfErr, OnOk, OnErr, MatchOption, map, option_map, slice_get, length};
 ghost use Rattle.fm_net.specs.Network.{net_of};
@@ -15,7 +19,7 @@ ghost use Rattle.fm_world.specs.Agreement.{EachKnows, SameAgree, IsDumpOf};
 ghost use Rattle.fm_world.specs.Represents.{state_of, number_of, opening_of, AreUnused, AllStand, WorldRepresents, IsReached, state_with, view_shown};
 
 use crate::dispatch::act_at;
-use crate::distinct::place_of;
+use crate::distinct::index_of;
 use crate::step::{Act, RunStop, Step};
 use fm_coord::coordinator::Coordinator;
 use fm_coord::shared::Shared;
@@ -90,7 +94,7 @@ impl<N: NetKeeper> World<N> {
     pub fn numbered(&self, number: u8) -> Option<&Coordinator<N>>
         ensures { option_map (λ c. c.now.state) result ≡ state_with self.now.coordinators number }
     {
-        match place_of(self.coordinators.as_slice(), number) {
+        match index_of(self.coordinators.as_slice(), number) {
             None => None,
             Some(place) => Some(&self.coordinators[place]),
         }
@@ -133,7 +137,7 @@ impl<N: NetKeeper> World<N> {
             → IfErr result (λ refusal. refusal ≡ refusal_of w step.now) }
         ensures unchanged { OnErr result (self.new ≡ self.old) }
     {
-        match place_of(self.coordinators.as_slice(), step.at) {
+        match index_of(self.coordinators.as_slice(), step.at) {
             None => Err(Refusal::NoCoordinator),
             Some(place) => act_at(
                 &mut self.coordinators[place],
@@ -159,7 +163,7 @@ impl<N: NetKeeper> World<N> {
             → IfErr result (λ refusal. refusal ≡ refusal_of w (record { at = at; by = by; act = act.View })) }
         ensures unchanged { OnErr result (self.new ≡ self.old) }
     {
-        match place_of(self.coordinators.as_slice(), at) {
+        match index_of(self.coordinators.as_slice(), at) {
             None => Err(Refusal::NoCoordinator),
             Some(place) => self.coordinators[place].see(by),
         }
@@ -171,7 +175,7 @@ impl<N: NetKeeper> World<N> {
     pub fn refresh_tally(&mut self, at: u8)
         ensures { self.new ≡ self.old }
     {
-        if let Some(place) = place_of(self.coordinators.as_slice(), at) {
+        if let Some(place) = index_of(self.coordinators.as_slice(), at) {
             let _ = self.coordinators[place].refresh_tally();
         }
     }
@@ -237,7 +241,7 @@ impl<N: NetKeeper> World<N> {
             ≡ Refusal.NoCoordinator) (λ s. StopsBy refusal (W.has_failed out.old) (W.has_failed out.new))) }
         ensures same { self.new ≡ self.old }
     {
-        match place_of(self.coordinators.as_slice(), number.value()) {
+        match index_of(self.coordinators.as_slice(), number.value()) {
             None => Err(Refusal::NoCoordinator),
             Some(place) => self.coordinators[place].dump(out),
         }

@@ -24,6 +24,12 @@ pub record IsComplementary (units capacity : ℕ) (reduced : ℤ) : Type 0 where
 abbrev pub reduced_at : List (Node × ℤ) → PricedArc → ℤ
 reduced_at potentials a = reduced_cost a.1.1 (potential_in potentials a.0.0) (potential_in potentials a.0.1)
 
+-- the units are of these arcs, in turn, and within their capacities
+abbrev pub AreUnitsWithin : List Entry → List PricedArc → Type 0
+AreUnitsWithin [] [] = Unit {0}
+AreUnitsWithin (e ∷ es) (a ∷ arcs) = (e.0 ≡ a.0) × (e.1 ≤ a.1.0) × AreUnitsWithin es arcs
+AreUnitsWithin _ _ = ⊥
+
 -- the units are of these arcs, in turn, and fit them
 abbrev pub FitAll : List (Node × ℤ) → List Entry → List PricedArc → Type 0
 FitAll potentials [] [] = Unit {0}

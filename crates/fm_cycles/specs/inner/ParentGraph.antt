@@ -1,14 +1,12 @@
 -- Walks back over parents: the nodes that were visited, and the cycles into which they run.
 use Rattle.std.specs.Prelude.{◌≡◌, ℕ, ◌+◌, ◌<◌, List, [], ◌∷◌, Option, Some, None, length, drop, slice_index_or}
-use Rattle.std.specs.List.{All}
 use Rattle.std.specs.declared.vec.Vec.{Vec}
 use Rattle.std.specs.declared.alloc.Global.{Global}
-use Rattle.fm_cycles.specs.Walks.{Steps, IsNegativeCycle, ArePotentials}
-use Rattle.fm_cycles.specs.Found.{costs_in}
+use Rattle.fm_cycles.specs.Walks.{Steps, IsNegativeCycle}
+use Rattle.fm_cycles.specs.Found.{AreNegative}
 use Rattle.fm_cycles.specs.inner.Labels.{IsWalkBack}
 use Rattle.fm_cycles.specs.declared.indexed_arcs.ResidualArc.{ResidualArc}
 use Rattle.fm_cycles.specs.declared.parent_graph.Visit.{Visit}
-use Rattle.fm_cycles.specs.declared.cycle_search.Searched.{Searched}
 
 -- how many places of a list have a value
 abbrev pub value_count : {A : Type 0} → List (Option A) → ℕ
@@ -54,17 +52,7 @@ pub record IsWalkedBack (g : Steps ResidualArc) (parents : ℕ → Option Residu
   pub closed : IsClosedAt g walk found
   pub rooted : found ≡ None → AreRooted g parents old → AreRooted g parents new
 
--- cycles of negative cost
-abbrev pub AreNegative : Steps ResidualArc → List (Vec ResidualArc Global) → Type 0
-AreNegative g cycles = All (λ (cycle : Vec ResidualArc Global). IsNegativeCycle g cycle.items) cycles
-
 -- cycles of negative cost; if there is none, each walk back comes to a node without a parent
 pub record AreCyclesOf (g : Steps ResidualArc) (parents : ℕ → Option ResidualArc) (nodes : ℕ) (cycles : List (Vec ResidualArc Global)) : Type 0 where
   pub negative : AreNegative g cycles
   pub rooted : cycles ≡ [] → (v : ℕ) → v < nodes → HasRoot g nodes parents v
-
--- cycles of negative cost, and the costs at which a search ended: potentials if there is no cycle
-pub record IsSearched (g : Steps ResidualArc) (nodes : ℕ) (searched : Searched) : Type 0 where
-  pub sized : length searched.costs.items ≡ nodes
-  pub negative : AreNegative g searched.cycles.items
-  pub potentials : searched.cycles.items ≡ [] → ArePotentials g (costs_in searched.costs.items)

@@ -5,8 +5,9 @@ use Rattle.std.specs.Cmp.{IsPartialEquivalence}
 use Rattle.std.proofs.Common.{ap, eq-eqb}
 use Rattle.std.proofs.lemmas.Bool.{eqb-true}
 use Rattle.fm_records.proofs.LookupLaws.{both_true}
-use Rattle.fm_records.specs.RecordEquality.{equivalence}
-use Rattle.fm_know.specs.KnowledgeEquality.{same_table, table_Decides}
+use Rattle.fm_records.specs.laws.RecordEqualityLaws.{equivalence}
+use Rattle.fm_know.specs.KnowledgeEquality.{same_table}
+use Rattle.fm_know.specs.laws.KnowledgeEqualityLaws.{table_Decides}
 use Rattle.fm_delta.specs.declared.packet.Packet.{Packet}
 use Rattle.fm_delta.specs.Packets.{same_packet}
 

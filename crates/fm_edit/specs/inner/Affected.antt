@@ -9,7 +9,8 @@ use Rattle.fm_edit.specs.declared.affected.Touched.{Touched}
 use Rattle.fm_records.specs.Table.{Table}
 use Rattle.fm_policy.specs.Changes.{Keys}
 use Rattle.fm_edit.specs.Dirty.{has_id, turned_in, MayTurn}
-use Rattle.fm_edit.specs.CacheModel.{Sight, job_node_in, request_node_in, holder_node_in, prefers_in}
+use Rattle.fm_edit.specs.CacheModel.{Sight, prefers_in}
+use Rattle.fm_edit.specs.inner.CachedNodes.{job_node_in, request_node_in, holder_node_in}
 
 abbrev pub has_touched : Touched → Node → Bool
 has_touched x n = list_any (λ m. is_eq (node_cmp n m)) x.nodes.keys

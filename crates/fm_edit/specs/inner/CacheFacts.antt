@@ -5,7 +5,8 @@ use Rattle.fm_net.specs.declared.node.Node.TheVariants.{Sink, Unscheduled, Reque
 use Rattle.fm_policy.specs.declared.node_facts.NodeFacts.{NodeFacts}
 use Rattle.fm_policy.specs.declared.node_facts.NodeFacts.TheVariants.{OfSink, OfJob, OfRequest, OfMachine, OfTask}
 use Rattle.fm_policy.specs.NodeFacts.{is_there, arc_between}
-use Rattle.fm_edit.specs.CacheModel.{Sight, cached_live, open_in, cached_holder, used_in}
+use Rattle.fm_edit.specs.CacheModel.{Sight, cached_live, open_in, cached_holder}
+use Rattle.fm_edit.specs.inner.CachedNodes.{used_in}
 
 module _ (s : Sight) (sum : Node → ℕ) where
   -- what is known of a node

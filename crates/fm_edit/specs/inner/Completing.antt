@@ -12,7 +12,7 @@ use Rattle.fm_edit.specs.declared.editor_state.EditorState.{EditorState}
 use Rattle.fm_edit.specs.declared.affected.Touched.{Touched}
 use Rattle.fm_edit.specs.CacheModel.{Sight, seen_in}
 use Rattle.fm_edit.specs.TaskIndex.{sum_in, lists_preferred}
-use Rattle.fm_edit.specs.EditorState.{node_by}
+use Rattle.fm_edit.specs.inner.EditorFacts.{node_by}
 use Rattle.fm_edit.specs.inner.CacheFacts.{node_shown}
 use Rattle.fm_edit.specs.inner.Affected.{has_touched, has_pair, AffectedGrows}
 

@@ -5,7 +5,7 @@ use Rattle.std.specs.Ordering.{nat_cmp, is_eq}
 use Rattle.std.specs.declared.cmp.Ordering.{Ordering}
 use Rattle.std.specs.declared.ops.Bound.TheVariants.{Included}
 use Rattle.std.specs.BTreeMap.Range.{range_contains}
-use Rattle.fm_edit.specs.TaskIndex.{pair_cmp}
+use Rattle.fm_edit.specs.inner.TaskIndexParts.{pair_cmp}
 
 -- the pairs of the key, of those whose task's id has 128 bits
 abbrev pub listed_at : {K : Type 0} → (K → K → Ordering) → K → List (K × ℕ) → List (K × ℕ)

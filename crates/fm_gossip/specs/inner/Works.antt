@@ -40,15 +40,15 @@ abbrev pub links_of : List ℕ → List InboxModel → ℕ → List MemberModel 
 links_of numbers bs place [] = []
 links_of numbers bs place (m ∷ ms) = links (but_for m.number numbers) place (map new_port bs) ∷ links_of numbers bs (place + 1) ms
 
--- each of these inboxes has so many ports, and so many of its doors are out
+-- each of these inboxes has so many ports, and so many of its ports are out
 abbrev pub HaveOut : ℕ → ℕ → List PortPoolModel → Type 0
 HaveOut ports out [] = Unit {0}
 HaveOut ports out (b ∷ bs) = (b.inbox.ports ≡ ports) × (b.out ≡ out) × HaveOut ports out bs
 
--- each of these inboxes has a door that is not out
-abbrev pub HaveDoors : List PortPoolModel → Type 0
-HaveDoors [] = Unit {0}
-HaveDoors (b ∷ bs) = (b.out < b.inbox.ports) × HaveDoors bs
+-- each of these inboxes has a port that is not out
+abbrev pub HavePorts : List PortPoolModel → Type 0
+HavePorts [] = Unit {0}
+HavePorts (b ∷ bs) = (b.out < b.inbox.ports) × HavePorts bs
 
 -- what a member and its links come to, and those of each
 abbrev pub linked_work : ℕ → MemberModel → LinksModel → WorkModel

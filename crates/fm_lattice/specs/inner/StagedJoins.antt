@@ -4,7 +4,8 @@ use Rattle.std.specs.declared.vec.Vec.{Vec}
 use Rattle.std.specs.declared.cmp.Ordering.{Ordering}
 use Rattle.fm_lattice.specs.Maps.{map_join, keep_new}
 use Rattle.fm_lattice.specs.Stocks.{Stock}
-use Rattle.fm_lattice.specs.Blocks.{pairs_of, AreHeaded, HaveSpares, GoToOwned}
+use Rattle.fm_lattice.specs.Blocks.{pairs_of}
+use Rattle.fm_lattice.specs.inner.BlockOrder.{AreHeaded, HaveSpares, GoToOwned}
 
 -- the pairs when the plan is carried out
 abbrev pub outcome : {K V A : Type 0} → (K → K → Ordering) → List (K × V) → Bool → List (K × Stock (K × V)) → List ((K × V) × Vec (K × V) A) → List (K × V)

@@ -6,10 +6,12 @@ use Rattle.std.proofs.lemmas.Cmp.{tied_itself, tied_back}
 use Rattle.std.specs.declared.cmp.Ordering.{Ordering}
 use Rattle.std.specs.declared.cmp.Ordering.TheVariants.{Less, Equal, Greater}
 use Rattle.std.proofs.Common.{sym, ap, ◌∙◌, subst}
-use Rattle.fm_lattice.specs.Chains.{TellsApart, by_order, by_cases, less_greater, greater_less}
+use Rattle.fm_lattice.specs.Chains.{TellsApart, by_order}
+use Rattle.fm_lattice.specs.laws.ChainLaws.{by_cases, less_greater, greater_less}
 use Rattle.fm_lattice.specs.Joins.{JoinLaws, option_join, IsOptionOf}
 use Rattle.fm_lattice.specs.laws.PlainLaws.{option_laws}
-use Rattle.fm_lattice.specs.Maps.{lookup, IsBelow, IsRising, AreValues, IsMap, put, map_join, keep_new, joined_onto, joined_pair}
+use Rattle.fm_lattice.specs.Maps.{lookup, IsBelow, IsRising, AreValues, IsMap, put, map_join, keep_new}
+use Rattle.fm_lattice.specs.inner.JoinedPairs.{joined_onto, joined_pair}
 
 join_none : {V : Type 0} (join : V → V → V) (o : Option V) → option_join join o None ≡ o
 join_none join None = refl

@@ -6,7 +6,8 @@ use Rattle.std.proofs.lemmas.Cmp.{tied_itself, tied_back, alike_right, back_tota
 use Rattle.std.specs.declared.cmp.Ordering.{Ordering}
 use Rattle.std.specs.declared.cmp.Ordering.TheVariants.{Less, Equal, Greater}
 use Rattle.std.proofs.Common.{sym, ap, ◌∙◌}
-use Rattle.fm_lattice.specs.Chains.{TellsApart, by_order, less_greater, greater_less}
+use Rattle.fm_lattice.specs.Chains.{TellsApart, by_order}
+use Rattle.fm_lattice.specs.laws.ChainLaws.{less_greater, greater_less}
 use Rattle.fm_lattice.specs.Joins.{JoinLaws, Any, IsOptionOf, IsPairOf, IsLexOf, max_join, min_join, option_join, pair_join, lex_join}
 
 module _ {K : Type 0} (cmp : K → K → Ordering) (total : IsTotalOrder cmp) (same : TellsApart cmp) where

@@ -1,4 +1,4 @@
--- What a survey of a table has.
+-- What the inputs of a network have of a table.
 use Rattle.std.specs.Prelude.{◌≡◌, ℕ, List, Option}
 use Rattle.std.specs.List.{filter_map}
 use Rattle.std.specs.Ordering.{nat_cmp}

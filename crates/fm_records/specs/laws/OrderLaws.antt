@@ -6,7 +6,8 @@ use Rattle.std.specs.declared.cmp.Ordering.{Ordering}
 use Rattle.std.specs.declared.cmp.Ordering.TheVariants.{Less, Equal, Greater}
 use Rattle.std.proofs.Common.{sym, subst}
 use Rattle.std.proofs.lemmas.Cmp.{then_total, on_total}
-use Rattle.fm_lattice.specs.Chains.{TellsApart, nat_same}
+use Rattle.fm_lattice.specs.Chains.{TellsApart}
+use Rattle.fm_lattice.specs.laws.ChainLaws.{nat_same}
 use Rattle.fm_records.specs.declared.ops.Phase.{Phase}
 use Rattle.fm_records.specs.declared.ops.Phase.TheVariants.{Pending, Running, Done}
 use Rattle.fm_records.specs.declared.records.JobReg.{JobReg}

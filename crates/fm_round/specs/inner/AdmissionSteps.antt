@@ -1,5 +1,5 @@
 -- How admission goes on, entry by entry.
-use Rattle.std.specs.Prelude.{◌≡◌, ℕ, Bool, ◌==◌, ◌&&◌, ◌++◌, Option, Some, None, IsTrue}
+use Rattle.std.specs.Prelude.{◌≡◌, ℕ, ◌+◌, cond, Bool, ◌==◌, ◌&&◌, ◌++◌, Option, Some, None, IsTrue}
 use Rattle.std.specs.Ordering.{nat_cmp}
 use Rattle.fm_lattice.specs.Chains.{by_order}
 use Rattle.fm_lattice.specs.Joins.{min_join}
@@ -9,11 +9,15 @@ use Rattle.fm_records.specs.Orders.{spot_cmp}
 use Rattle.fm_records.specs.Ranges.{all_in_range}
 use Rattle.fm_records.specs.OpsOfTable.{IsTable}
 use Rattle.fm_records.specs.Table.{Table}
-use Rattle.fm_records.specs.Facts.{winner_of}
+use Rattle.fm_records.specs.Facts.{winner_of, attempt_of}
 use Rattle.fm_round.specs.declared.admission.AdmissionState.{AdmissionState}
 use Rattle.fm_round.specs.declared.plan.Place.{Place}
 use Rattle.fm_round.specs.declared.plan.Admitted.{Admitted}
-use Rattle.fm_round.specs.Admission.{told, place_attempt}
+use Rattle.fm_round.specs.Admission.{told, has_proposal}
+
+-- the attempt that a place is for: the present one if that has no proposal, else the next
+abbrev pub place_attempt : Table → Place → ℕ
+place_attempt k p = let a = attempt_of k p.task in cond (has_proposal k p.task a) (a + 1) a
 
 -- one entry more, or several, with these operations and answers, are dealt with
 pub record Took (more : Admitted) (old new : AdmissionState) : Type 0 where

@@ -5,7 +5,7 @@ use Rattle.std.specs.Cmp.{IsPartialEquivalence}
 use Rattle.std.proofs.Common.{ap, rules}
 use Rattle.std.proofs.lemmas.Bool.Decides.{Decides-and}
 use Rattle.std.proofs.lemmas.Slice.Eq.{slice_eq-Decides}
-use Rattle.fm_records.specs.RecordEquality.{op_Decides, equivalence}
+use Rattle.fm_records.specs.laws.RecordEqualityLaws.{op_Decides, equivalence}
 use Rattle.fm_round.specs.declared.plan.Place.{Place}
 use Rattle.fm_round.specs.declared.plan.Preempt.{Preempt}
 use Rattle.fm_round.specs.declared.plan.Answer.{Answer}

@@ -3,7 +3,7 @@ use Rattle.std.proofs.Math.Seq.{drop-cons}
 use Rattle.std.proofs.Math.ListN.{drop_of_length-le}
 use Rattle.std.specs.Prelude.{slice_get, slice_index}
 use Rattle.fm_cycles.specs.Residual.{residual}
-use Rattle.fm_cycles.specs.Walks.{AreOpen}
+use Rattle.fm_cycles.specs.inner.OpenWalks.{AreOpen}
 use Rattle.fm_cycles.specs.declared.indexed_arcs.ResidualArc.{ResidualArc}
 use Rattle.fm_cycles.proofs.Cancelled.{opened_at, room_open, open_room}
 use Rattle.fm_cycles.proofs.cancel.are_open.Goals as goal

@@ -1,7 +1,8 @@
 use Rattle.std.proofs.Common.{◌≡◌, ◌+◌, List, ℕ, true, false, sym, subst}
 use Rattle.std.specs.declared.vec.Vec.{Vec}
 use Rattle.std.specs.declared.alloc.Global.{Global}
-use Rattle.fm_cycles.specs.Walks.{AreOpen, IsNegativeCycle}
+use Rattle.fm_cycles.specs.Walks.{IsNegativeCycle}
+use Rattle.fm_cycles.specs.inner.OpenWalks.{AreOpen}
 use Rattle.fm_cycles.specs.Residual.{residual}
 use Rattle.fm_cycles.specs.declared.indexed_arcs.ResidualArc.{ResidualArc}
 use Rattle.fm_cycles.proofs.Cancelled.{Cancelling, still_negative, one_cancelled, one_passed}

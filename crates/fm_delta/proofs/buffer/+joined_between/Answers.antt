@@ -1,5 +1,5 @@
 use Rattle.std.proofs.Common.{◌+◌, ◌-◌, ◌/◌, arith}
-use Rattle.fm_delta.specs.GroupLaws.{split_between}
+use Rattle.fm_delta.proofs.GroupLaws.{split_between}
 use Rattle.fm_delta.proofs.Joined.{parts}
 use Rattle.fm_delta.proofs.buffer.+joined_between.Goals as goal
 

@@ -4,7 +4,7 @@ use Rattle.std.specs.List.{AllByRecursion}
 use Rattle.fm_net.specs.declared.node.Node.{Node}
 use Rattle.fm_net.specs.declared.node.Node.TheVariants.{Sink}
 use Rattle.fm_net.specs.Nodes.{node_cmp, IsInRange}
-use Rattle.fm_records.specs.TableLaws.{Rises}
+use Rattle.fm_records.specs.Rising.{Rises}
 use Rattle.fm_dimacs.specs.Syntax.{Comments, Body, Reaches, IsFault}
 use Rattle.fm_dimacs.proofs.Verdict.{takes_bytes}
 use Rattle.fm_dimacs.proofs.Arcs.{read_sound}

@@ -1,6 +1,6 @@
 use Rattle.std.proofs.Common.{◌+◌, length, refl, sym, ◌∙◌, arith}
 use Rattle.std.proofs.lemmas.Bool.{eqb-false}
-use Rattle.fm_records.specs.TableLaws.{some_none}
+use Rattle.fm_records.proofs.TableLaws.{some_none}
 use Rattle.fm_dimacs.proofs.Reader.{problem_leads, problem_broken}
 use Rattle.fm_dimacs.proofs.read.read_problem.Goals as goal
 

@@ -2,7 +2,7 @@ use Rattle.std.proofs.Common.{◌≡◌, map, ◌++◌, take}
 use Rattle.std.specs.Ordering.{nat_cmp}
 use Rattle.fm_lattice.specs.Maps.{lookup}
 use Rattle.fm_edit.specs.declared.look.Key.TheVariants as key
-use Rattle.fm_edit.specs.CacheUpdate.{values_at}
+use Rattle.fm_edit.specs.inner.CachedValues.{values_at}
 use Rattle.fm_edit.proofs.cache_updates.machines_now.Given as goal
 
 abbrev pub invariant-loop-machine : goal.invariant-loop-machine

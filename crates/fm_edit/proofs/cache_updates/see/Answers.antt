@@ -3,7 +3,7 @@ use Rattle.std.specs.Ordering.{nat_cmp}
 use Rattle.fm_lattice.specs.Maps.{lookup}
 use Rattle.fm_records.specs.Facts.{attempt_of}
 use Rattle.fm_edit.specs.declared.look.Key.TheVariants as key
-use Rattle.fm_edit.specs.CacheUpdate.{has_value, AreValuesOf}
+use Rattle.fm_edit.specs.inner.CachedValues.{has_value, AreValuesOf}
 use Rattle.fm_edit.proofs.Values.{are_values, has_values}
 use Rattle.fm_edit.proofs.cache_updates.see.Goals as goal
 

@@ -2,7 +2,7 @@ use Rattle.std.proofs.Common.{ap}
 use Rattle.std.proofs.Math.ListN.{drop_of_length-le}
 use Rattle.std.specs.Ordering.{nat_cmp}
 use Rattle.std.specs.BTreeMap.{get}
-use Rattle.fm_edit.specs.CacheUpdate.{has_value}
+use Rattle.fm_edit.specs.inner.CachedValues.{has_value}
 use Rattle.fm_edit.proofs.Values.{value_set}
 use Rattle.fm_edit.proofs.cache_updates.set_machines.Goals as goal
 

@@ -2,7 +2,7 @@ use Rattle.std.proofs.Common.{◌≡◌, ℕ, false, Option, drop}
 use Rattle.std.specs.Ordering.{nat_cmp}
 use Rattle.std.specs.BTreeMap.{get}
 use Rattle.fm_records.specs.Table.{MachineValue}
-use Rattle.fm_edit.specs.CacheUpdate.{has_value, AreValuesOf}
+use Rattle.fm_edit.specs.inner.CachedValues.{has_value, AreValuesOf}
 use Rattle.fm_edit.proofs.cache_updates.set_machines.Given as goal
 
 abbrev pub invariant-loop-machine : goal.invariant-loop-machine

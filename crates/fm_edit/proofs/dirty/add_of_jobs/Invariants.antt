@@ -1,7 +1,8 @@
 use Rattle.std.proofs.Common.{◌≡◌, ◌⊎◌, ◌<◌, ◌^◌, ℕ, true, false, drop}
 use Rattle.fm_net.specs.declared.node.Node.TheVariants.{Unscheduled}
 use Rattle.fm_edit.specs.Dirty.{has_id}
-use Rattle.fm_edit.specs.TaskIndex.{lists, ListsAtOne}
+use Rattle.fm_edit.specs.TaskIndex.{lists}
+use Rattle.fm_edit.specs.inner.TaskIndexParts.{ListsAtOne}
 use Rattle.fm_edit.proofs.dirty.add_of_jobs.Given as goal
 
 abbrev pub invariant-loop-job : goal.invariant-loop-job

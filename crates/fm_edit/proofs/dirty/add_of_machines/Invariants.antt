@@ -1,7 +1,8 @@
 use Rattle.std.proofs.Common.{◌≡◌, ◌⊎◌, ◌<◌, ◌^◌, ℕ, true, false, drop}
 use Rattle.fm_net.specs.declared.node.Node.TheVariants.{Machine}
 use Rattle.fm_edit.specs.Dirty.{has_id}
-use Rattle.fm_edit.specs.TaskIndex.{lists, ListsAtOne}
+use Rattle.fm_edit.specs.TaskIndex.{lists}
+use Rattle.fm_edit.specs.inner.TaskIndexParts.{ListsAtOne}
 use Rattle.fm_edit.proofs.dirty.add_of_machines.Given as goal
 
 abbrev pub invariant-loop-machine : goal.invariant-loop-machine

@@ -1,6 +1,6 @@
 use Rattle.std.proofs.Common.{◌≡◌, rules, sym, subst}
 use Rattle.std.specs.Ordering.{nat_cmp}
-use Rattle.fm_records.specs.TableLaws.{Rises}
+use Rattle.fm_records.specs.Rising.{Rises}
 use Rattle.fm_edit.proofs.Values.{rises_said}
 use Rattle.fm_edit.proofs.dirty.in_order.Goals as goal
 

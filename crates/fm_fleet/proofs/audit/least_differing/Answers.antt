@@ -1,6 +1,7 @@
 use Rattle.std.proofs.Common.{rules, ◌≡◌, ◌+◌, ℕ, refl, sym, ap, ◌∙◌, subst, Option, Some, slice_get, arith}
 use Rattle.std.proofs.lemmas.Option.{slice_get_read}
-use Rattle.fm_fleet.specs.Audits.{Matches, lesser_of}
+use Rattle.fm_fleet.specs.Audits.{Matches}
+use Rattle.fm_fleet.specs.inner.FirstRefusal.{lesser_of}
 use Rattle.fm_fleet.proofs.Logs.{Found, found_same, found_new, found_all}
 use Rattle.fm_fleet.proofs.audit.least_differing.Goals.{then-not-matches, else-not-matches}
 use Rattle.fm_fleet.proofs.audit.least_differing.Goals as goal

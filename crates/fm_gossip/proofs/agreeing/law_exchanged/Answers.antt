@@ -6,4 +6,4 @@ use Rattle.fm_gossip.proofs.Same.{know_same_after}
 use Rattle.fm_gossip.proofs.agreeing.law_exchanged.Goals as goal
 
 pub returns : goal.returns
-returns g c = know_same_after (map state_of c.args.coordinators.now) c.see_known.ensures (subst AreDistinct (numbers_of c.args.coordinators.now) c.requires)
+returns g c = know_same_after (map state_of c.args.coordinators.now) c.law_known.ensures (subst AreDistinct (numbers_of c.args.coordinators.now) c.requires)

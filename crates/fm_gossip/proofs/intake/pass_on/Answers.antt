@@ -9,7 +9,7 @@ returns-clause-merged g c =
     on_ok c.merge_all.result
     (λ m. (
       m.0,
-      passed_through (λ d. d.port) c.args.doors.now c.put_all.new.doors c.args.place c.index-doors-place.result c.merge_all.new.own c.args.packet.now m.0.packets c.requires c.index-doors-place.is c.in_ok-put_all.ensures.put
-          (m.1 ∙ ap (λ (d : OwnedPort). after_takes d.port m.0.packets) (sym c.index-doors-place.is)),
+      passed_through (λ d. d.port) c.args.ports.now c.put_all.new.ports c.args.place c.index-ports-place.result c.merge_all.new.own c.args.packet.now m.0.packets c.requires c.index-ports-place.is c.in_ok-put_all.ensures.put
+          (m.1 ∙ ap (λ (d : OwnedPort). after_takes d.port m.0.packets) (sym c.index-ports-place.is)),
     ))
     c.merge_all.ensures.merged

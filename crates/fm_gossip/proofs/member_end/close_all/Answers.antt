@@ -1,15 +1,15 @@
 use Rattle.std.proofs.Common.{◌≡◌, ◌∷◌, [], map, length, refl, ap, sym, ◌∙◌, arith}
 use Rattle.std.proofs.lemmas.List.{map-append, length-map}
 use Rattle.fm_gossip.specs.Passing.{passed_at}
-use Rattle.fm_gossip.proofs.Columns.{taken_now, its_doors, length-column, none_closed, closed_next}
+use Rattle.fm_gossip.proofs.Columns.{taken_now, its_ports, length-column, none_closed, closed_next}
 use Rattle.fm_gossip.proofs.Working.{last_out}
 use Rattle.fm_gossip.proofs.member_end.close_all.Goals as goal
 
-pub close_one-requires-clause-doors : goal.close_one-requires-clause-doors
-close_one-requires-clause-doors g c =
+pub close_one-requires-clause-ports : goal.close_one-requires-clause-ports
+close_one-requires-clause-ports g c =
     let whole = ap (map (λ b. b.inbox)) c.in-Some.ensures.items ∙ map-append (λ b. b.inbox) c.pop.new.self.items (c.in-Some.inbox ∷ []) in
     let taken = taken_now _ _ c.in-Some.inbox.inbox _ _ _ _ _ _ _ whole (ap (map passed_at) c.loop-inbox.invariant.0) refl (ap (map (λ e. e.port)) c.new-out.ensures.items) c.loop-inbox.invariant.1 c.in_ok-take_last.ensures.taken in
-    its_doors (λ d. d.port) c.take_last.new.out.items _ _ _ taken.1
+    its_ports (λ d. d.port) c.take_last.new.out.items _ _ _ taken.1
 
 pub close_one-requires-clause-all : goal.close_one-requires-clause-all
 close_one-requires-clause-all g c =

@@ -23,4 +23,4 @@ returns g c = λ none.
     let ended = c.end-coordinator in
     let both = neither used.result.refusal ended.result.1 (sym c.first_of.ensures ∙ none) in
     served c.first_of.result c.args.work ended.result.0.state _ _ _ _ _ _ _ _ _ _ _ _ _ _ _ _ used.result.one _ used.result.two c.work.view_is c.number-number.ensures c.limit-limit.ensures c.requires.base c.push_reserved-2.ensures.items c.push_reserved.ensures.items c.reserve.ensures.items
-    c.new-room.ensures.items c.two_of-one.ensures.0 c.two_of-one.ensures.1 (used.ensures.intake both.0) (used.ensures.rounds both.0) (used.ensures.doors both.0) (ended.ensures.ended both.1)
+    c.new-room.ensures.items c.two_of-one.ensures.0 c.two_of-one.ensures.1 (used.ensures.intake both.0) (used.ensures.rounds both.0) (used.ensures.ports both.0) (ended.ensures.ended both.1)

@@ -1,6 +1,7 @@
 use Rattle.std.proofs.Common.{arith, ap, ◌∙◌}
 use Rattle.fm_inbox.specs.declared.conservation.PortAccount.{PortAccount}
-use Rattle.fm_inbox.specs.Ports.{PortModel, account_of, IsPortOf, seen_inbox, put_by, taken_weight}
+use Rattle.fm_inbox.specs.Ports.{PortModel, account_of, IsPortOf, seen_inbox}
+use Rattle.fm_inbox.specs.inner.PortWeights.{put_by, taken_weight}
 use Rattle.crossbeam_queue.specs.Passes.{ruled_capacity}
 use Rattle.fm_inbox.proofs.Keeps.{merges, weigh-append}
 use Rattle.fm_inbox.proofs.Rest.{weigh-last, all-last}

@@ -1,8 +1,10 @@
 use Rattle.std.specs.Prelude.{◌≡◌, ℕ, ◌+◌, ◌≤◌, ◌<◌, All, vec_len}
 use Rattle.crossbeam_queue.specs.Passes.{IsPassOf, ruled_capacity}
 use Rattle.fm_delta.specs.declared.packet.Packet.{Packet}
-use Rattle.fm_inbox.specs.Conservation.{weigh, put_weight, taken_of}
-use Rattle.fm_inbox.specs.Ports.{account_of, IsPortOf, seen_inbox, put_by, taken_weight}
+use Rattle.fm_inbox.specs.Conservation.{weigh}
+use Rattle.fm_inbox.specs.inner.PortAccounts.{put_weight, taken_of}
+use Rattle.fm_inbox.specs.Ports.{account_of, IsPortOf, seen_inbox}
+use Rattle.fm_inbox.specs.inner.PortWeights.{put_by, taken_weight}
 use Rattle.fm_inbox.proofs.inbox.joined.Given as goal
 
 abbrev pub invariant-loop-port : goal.invariant-loop-port

@@ -1,7 +1,8 @@
 use Rattle.std.specs.Prelude.{◌≡◌, ℕ, ◌+◌, ◌≤◌, ◌<◌, length, vec_len, vec_capacity}
 use Rattle.crossbeam_queue.specs.Passes.{IsPassOf}
 use Rattle.fm_delta.specs.declared.packet.Packet.{Packet}
-use Rattle.fm_inbox.specs.Conservation.{weigh, taken_of}
+use Rattle.fm_inbox.specs.Conservation.{weigh}
+use Rattle.fm_inbox.specs.inner.PortAccounts.{taken_of}
 use Rattle.fm_inbox.specs.Ports.{account_of}
 use Rattle.fm_inbox.proofs.inbox.left.Given as goal
 

@@ -7,15 +7,15 @@ use Rattle.fm_indexed.proofs.Formed.{arcs_more, ends_stand}
 use Rattle.fm_indexed.proofs.Naming.{append_one}
 use Rattle.fm_indexed.proofs.numbering.arcs_of.Goals as goal
 
-pub place_of-from-requires-clause-stands : goal.place_of-from-requires-clause-stands
-place_of-from-requires-clause-stands c =
+pub index_of-from-requires-clause-stands : goal.index_of-from-requires-clause-stands
+index_of-from-requires-clause-stands c =
     let arc : NetArc = ((c.in-Some.source, c.in-Some.target), (c.in-Some.capacity, c.in-Some.cost)) in
     let done = c.loop-source.invariant.2.0 in
     let split : c.args.network.now.arcs ≡ done ++ arc ∷ c.next.new.self = c.loop-source.invariant.2.1 ∙ ap (λ (arcs : List NetArc). done ++ arcs) c.in-Some.ensures.steps in
     subst (λ (nodes : List Node). IsMember c.in-Some.source nodes) (sym c.requires.nodes) (ends_stand c.args.network.now c.known.ensures done arc c.next.new.self split).0
 
-pub place_by-to-requires-clause-stands : goal.place_by-to-requires-clause-stands
-place_by-to-requires-clause-stands c =
+pub index_by-to-requires-clause-stands : goal.index_by-to-requires-clause-stands
+index_by-to-requires-clause-stands c =
     let arc : NetArc = ((c.in-Some.source, c.in-Some.target), (c.in-Some.capacity, c.in-Some.cost)) in
     let done = c.loop-source.invariant.2.0 in
     let split : c.args.network.now.arcs ≡ done ++ arc ∷ c.next.new.self = c.loop-source.invariant.2.1 ∙ ap (λ (arcs : List NetArc). done ++ arcs) c.in-Some.ensures.steps in
@@ -24,7 +24,7 @@ place_by-to-requires-clause-stands c =
 pub loop-source-preserved : goal.loop-source-preserved
 loop-source-preserved c =
     let arc : NetArc = ((c.in-Some.source, c.in-Some.target), (c.in-Some.capacity, c.in-Some.cost)) in
-    let a : IndexedArc = record { from = c.place_of-from.result; to = c.place_by-to.result; capacity = c.in-Some.capacity; cost = c.in-Some.cost } in
+    let a : IndexedArc = record { from = c.index_of-from.result; to = c.index_by-to.result; capacity = c.in-Some.capacity; cost = c.in-Some.cost } in
     let done = c.loop-source.invariant.2.0 in
     let split : c.args.network.now.arcs ≡ done ++ arc ∷ c.next.new.self = c.loop-source.invariant.2.1 ∙ ap (λ (arcs : List NetArc). done ++ arcs) c.in-Some.ensures.steps in (
       tt,
@@ -33,7 +33,7 @@ loop-source-preserved c =
         done ++ arc ∷ [],
         split ∙ append_one done arc c.next.new.self,
         subst (λ (numbers : List IndexedArc). AreArcsOf c.args.nodes.now (done ++ arc ∷ []) numbers) (sym {A = List IndexedArc} c.in_ok-push.ensures.items)
-            (arcs_more c.args.nodes.now done c.loop-source.arcs.items arc a c.loop-source.invariant.2.2 (record { from = c.place_of-from.ensures; to = c.place_by-to.ensures; capacity = refl; cost = refl })),
+            (arcs_more c.args.nodes.now done c.loop-source.arcs.items arc a c.loop-source.invariant.2.2 (record { from = c.index_of-from.ensures; to = c.index_by-to.ensures; capacity = refl; cost = refl })),
       ),
     )
 

@@ -1,6 +1,6 @@
 use Rattle.std.proofs.Common.{◌≡◌, ◌+◌, ◌-◌, sym, subst, length, arith}
 use Rattle.fm_lattice.specs.Maps.{IsRising}
-use Rattle.fm_lattice.specs.Blocks.{IsAbove}
+use Rattle.fm_lattice.specs.inner.BlockOrder.{IsAbove}
 use Rattle.fm_lattice.proofs.InBlocks.{rising_in, above_blocks}
 use Rattle.fm_lattice.proofs.blocks.comes_last.Goals as goal
 

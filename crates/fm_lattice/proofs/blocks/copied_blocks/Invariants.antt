@@ -1,5 +1,6 @@
 use Rattle.std.proofs.Common.{◌≡◌, take}
-use Rattle.fm_lattice.specs.Blocks.{pairs_of, AreHeaded}
+use Rattle.fm_lattice.specs.Blocks.{pairs_of}
+use Rattle.fm_lattice.specs.inner.BlockOrder.{AreHeaded}
 use Rattle.fm_lattice.proofs.blocks.copied_blocks.Given as goal
 
 abbrev pub invariant-loop-block : goal.invariant-loop-block

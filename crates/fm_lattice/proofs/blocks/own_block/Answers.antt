@@ -1,5 +1,5 @@
 use Rattle.std.proofs.Common.{◌<◌, length, ap, subst, arith, ◌∙◌}
-use Rattle.fm_lattice.specs.Blocks.{IsBlockOf, IsBlockFor}
+use Rattle.fm_lattice.specs.inner.BlockOrder.{IsBlockOf, IsBlockFor}
 use Rattle.fm_lattice.proofs.InBlocks.{inside_blocks, block_set}
 use Rattle.fm_lattice.proofs.Cuts.{same_pairs, same_headed, same_owned, set_alone}
 use Rattle.fm_lattice.proofs.Owned.{owned_home}

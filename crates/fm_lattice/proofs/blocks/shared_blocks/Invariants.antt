@@ -1,5 +1,6 @@
 use Rattle.std.proofs.Common.{◌≡◌, take, vec_len}
-use Rattle.fm_lattice.specs.Blocks.{pairs_of, AreHeaded}
+use Rattle.fm_lattice.specs.Blocks.{pairs_of}
+use Rattle.fm_lattice.specs.inner.BlockOrder.{AreHeaded}
 use Rattle.fm_lattice.proofs.blocks.shared_blocks.Given as goal
 
 -- those before the place are shared

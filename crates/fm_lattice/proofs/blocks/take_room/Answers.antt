@@ -1,5 +1,5 @@
 use Rattle.std.proofs.Common.{◌≡◌, ◌<◌, ◌≤◌, ◌+◌, true, length, vec_capacity, get_or, sym, ap, subst, arith}
-use Rattle.fm_lattice.specs.Blocks.{IsBlockOf, IsBlockFor}
+use Rattle.fm_lattice.specs.inner.BlockOrder.{IsBlockOf, IsBlockFor}
 use Rattle.fm_lattice.proofs.InBlocks.{inside_blocks}
 use Rattle.fm_lattice.proofs.Cuts.{at_any, same_pairs, same_headed, same_owned, takes_wider}
 use Rattle.fm_lattice.proofs.Owned.{home_owned}

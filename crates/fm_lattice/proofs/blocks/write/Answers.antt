@@ -1,6 +1,6 @@
 use Rattle.std.proofs.Common.{◌≡◌, ◌<◌, length, get_or, subst, sym, ◌∙◌, ap, arith}
 use Rattle.fm_lattice.specs.Maps.{lookup, put, keep_new, IsRising}
-use Rattle.fm_lattice.specs.Blocks.{BeginsWith}
+use Rattle.fm_lattice.specs.inner.BlockOrder.{BeginsWith}
 use Rattle.fm_lattice.proofs.InBlocks.{inside_blocks, rising_in, lookup_in, put_in, headed_set, count_set, blocks_rise, begins_at}
 use Rattle.fm_lattice.proofs.Owned.{owned_put}
 use Rattle.fm_lattice.proofs.blocks.write.Goals as goal

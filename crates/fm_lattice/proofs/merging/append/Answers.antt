@@ -1,6 +1,7 @@
 use Rattle.std.proofs.Common.{◌≡◌, ◌+◌, ◌-◌, ◌<◌, ◌++◌, [], ◌∷◌, length, refl, sym, subst, ◌∙◌, ap, arith}
 use Rattle.std.proofs.lemmas.Result.{err_from_is_err_and}
-use Rattle.fm_lattice.specs.Blocks.{pairs_of, BeginsWith, AreHeaded}
+use Rattle.fm_lattice.specs.Blocks.{pairs_of}
+use Rattle.fm_lattice.specs.inner.BlockOrder.{BeginsWith, AreHeaded}
 use Rattle.fm_lattice.proofs.InBlocks.{begins_at, begins_more, headed_set, headed_push, pairs_last, pairs_push, pairs_set}
 use Rattle.fm_lattice.proofs.merging.append.Goals as goal
 

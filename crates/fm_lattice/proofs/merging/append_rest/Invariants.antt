@@ -1,5 +1,6 @@
 use Rattle.std.proofs.Common.{◌≡◌, ◌++◌, length}
-use Rattle.fm_lattice.specs.Blocks.{pairs_of, AreHeaded}
+use Rattle.fm_lattice.specs.Blocks.{pairs_of}
+use Rattle.fm_lattice.specs.inner.BlockOrder.{AreHeaded}
 use Rattle.fm_lattice.proofs.merging.append_rest.Given as goal
 
 abbrev pub invariant-rest : goal.invariant-rest

@@ -1,7 +1,8 @@
 use Rattle.std.proofs.Common.{◌≡◌, ◌≤◌, ◌<◌, ◌+◌, map, length, vec_len, vec_capacity}
 use Rattle.std.specs.Vec.Iter.{into_iter_items, into_iter_len}
 use Rattle.fm_lattice.specs.Maps.{map_join, keep_new, IsRising}
-use Rattle.fm_lattice.specs.Blocks.{pairs_of, AreHeaded, HaveSpares, GoToOwned}
+use Rattle.fm_lattice.specs.Blocks.{pairs_of}
+use Rattle.fm_lattice.specs.inner.BlockOrder.{AreHeaded, HaveSpares, GoToOwned}
 use Rattle.fm_lattice.proofs.merging.apply.Given as goal
 
 abbrev pub invariant-loop-key : goal.invariant-loop-key

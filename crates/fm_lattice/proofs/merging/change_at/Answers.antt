@@ -1,5 +1,6 @@
 use Rattle.std.proofs.Common.{◌≡◌, ◌<◌, ◌≤◌, None, IfOk, length, vec_capacity, sym, ap, subst, arith, ◌∙◌}
-use Rattle.fm_lattice.specs.Maps.{IsRising, lookup, joined_onto}
+use Rattle.fm_lattice.specs.Maps.{IsRising, lookup}
+use Rattle.fm_lattice.specs.inner.JoinedPairs.{joined_onto}
 use Rattle.fm_lattice.specs.Blocks.{pairs_of}
 use Rattle.fm_lattice.proofs.InBlocks.{inside_blocks, rising_in, lookup_in}
 use Rattle.fm_lattice.proofs.merging.change_at.Goals as goal

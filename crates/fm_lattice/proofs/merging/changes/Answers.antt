@@ -1,6 +1,8 @@
 use Rattle.std.proofs.Common.{◌≡◌, ◌≤◌, None, sym, ◌∙◌, ap, subst, vec_capacity}
-use Rattle.fm_lattice.specs.Maps.{IsRising, lookup, joined_pair}
-use Rattle.fm_lattice.specs.Blocks.{pairs_of, GoesToOwned}
+use Rattle.fm_lattice.specs.Maps.{IsRising, lookup}
+use Rattle.fm_lattice.specs.inner.JoinedPairs.{joined_pair}
+use Rattle.fm_lattice.specs.Blocks.{pairs_of}
+use Rattle.fm_lattice.specs.inner.BlockOrder.{GoesToOwned}
 use Rattle.fm_lattice.proofs.Spares.{spares_push, one_more}
 use Rattle.fm_lattice.proofs.Owned.{still_owned, owned_push}
 use Rattle.fm_lattice.proofs.merging.changes.Goals as goal

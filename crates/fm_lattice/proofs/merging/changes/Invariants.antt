@@ -1,6 +1,7 @@
 use Rattle.std.proofs.Common.{◌≡◌, ◌++◌, map, length, vec_len}
-use Rattle.fm_lattice.specs.Maps.{joined_pair}
-use Rattle.fm_lattice.specs.Blocks.{pairs_of, AreHeaded, HaveSpares, GoToOwned}
+use Rattle.fm_lattice.specs.inner.JoinedPairs.{joined_pair}
+use Rattle.fm_lattice.specs.Blocks.{pairs_of}
+use Rattle.fm_lattice.specs.inner.BlockOrder.{AreHeaded, HaveSpares, GoToOwned}
 use Rattle.fm_lattice.proofs.merging.changes.Given as goal
 
 abbrev pub invariant-rest : goal.invariant-rest

@@ -1,6 +1,7 @@
 use Rattle.std.proofs.Common.{◌≡◌, ◌+◌, ◌++◌, length}
 use Rattle.fm_lattice.specs.Maps.{IsRising, map_join}
-use Rattle.fm_lattice.specs.Blocks.{pairs_of, AreHeaded}
+use Rattle.fm_lattice.specs.Blocks.{pairs_of}
+use Rattle.fm_lattice.specs.inner.BlockOrder.{AreHeaded}
 use Rattle.fm_lattice.proofs.merging.merged.Given as goal
 
 abbrev pub invariant-both : goal.invariant-both

@@ -2,9 +2,11 @@ use Rattle.std.proofs.Common.{◌≡◌, ◌+◌, ◌<◌, ◌≤◌, ◌^◌, [
 use Rattle.std.proofs.lemmas.List.{nil_from_length}
 use Rattle.std.proofs.lemmas.Result.{IfOk-weaker}
 use mathlib.Core.Bool.{false≢true}
-use Rattle.fm_lattice.specs.Maps.{map_join, keep_new, joined_pair}
+use Rattle.fm_lattice.specs.Maps.{map_join, keep_new}
+use Rattle.fm_lattice.specs.inner.JoinedPairs.{joined_pair}
 use Rattle.fm_lattice.specs.laws.MapLaws.{overwritten}
-use Rattle.fm_lattice.specs.Blocks.{pairs_of, HaveSpares, GoToOwned}
+use Rattle.fm_lattice.specs.Blocks.{pairs_of}
+use Rattle.fm_lattice.specs.inner.BlockOrder.{HaveSpares, GoToOwned}
 use Rattle.fm_lattice.specs.inner.StagedJoins.{outcome}
 use Rattle.fm_lattice.proofs.Planned.{joined_to_none, tells_nothing}
 use Rattle.fm_lattice.proofs.staged_join.plan_join.Goals as goal

@@ -1,7 +1,7 @@
 use Rattle.std.proofs.Common.{ℕ, subst, sym}
 use Rattle.fm_net.specs.Network.{IsNetworkOf}
 use Rattle.fm_net.proofs.NetworkLaws.{network_is}
-use Rattle.fm_policy.specs.Building.{IsPart}
+use Rattle.fm_policy.specs.inner.NetworkSoFar.{IsPart}
 use Rattle.fm_policy.proofs.Adds.{adds_then}
 use Rattle.fm_policy.proofs.Covered.{nodes_still, job_still, machine_still, place_still}
 use Rattle.fm_policy.proofs.Finished.{sink_part, is_network}

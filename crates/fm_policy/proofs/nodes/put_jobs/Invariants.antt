@@ -1,5 +1,5 @@
 use Rattle.fm_net.specs.declared.node.Node.TheVariants.{Unscheduled}
-use Rattle.fm_policy.specs.Building.{Adds, HasNode}
+use Rattle.fm_policy.specs.inner.NetworkSoFar.{Adds, HasNode}
 use Rattle.fm_policy.proofs.Listed.{HoldsBefore}
 use Rattle.fm_policy.proofs.nodes.put_jobs.Given as goal
 

@@ -1,5 +1,5 @@
 use Rattle.fm_net.specs.declared.node.Node.TheVariants.{Machine}
-use Rattle.fm_policy.specs.Building.{HasNode}
+use Rattle.fm_policy.specs.inner.NetworkSoFar.{HasNode}
 use Rattle.fm_policy.proofs.Adds.{adds_then}
 use Rattle.fm_policy.proofs.Listed.{one_more, all_done}
 use Rattle.fm_policy.proofs.Parts.{open_listed}

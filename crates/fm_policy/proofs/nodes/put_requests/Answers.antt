@@ -5,7 +5,7 @@ use Rattle.std.specs.Ordering.{nat_cmp}
 use Rattle.fm_records.specs.Sets.{IsMember, rising}
 use Rattle.fm_net.proofs.BoundLaws.{spec_ranges}
 use Rattle.fm_net.specs.declared.node.Node.TheVariants.{Request}
-use Rattle.fm_policy.specs.Building.{Stands}
+use Rattle.fm_policy.specs.inner.NetworkSoFar.{Stands}
 use Rattle.fm_policy.specs.inner.LiveTasks.{waiting_request}
 use Rattle.fm_policy.proofs.Adds.{adds_then, adds_node, stands_now}
 use Rattle.fm_policy.proofs.Counted.{listed_request, request_listed, request_of_live}

@@ -1,7 +1,7 @@
 use Rattle.std.proofs.Common.{ℕ, take}
 use Rattle.fm_records.specs.Sets.{IsMember}
 use Rattle.fm_net.specs.declared.node.Node.TheVariants.{Request}
-use Rattle.fm_policy.specs.Building.{Adds, Stands}
+use Rattle.fm_policy.specs.inner.NetworkSoFar.{Adds, Stands}
 use Rattle.fm_policy.proofs.nodes.put_requests.Given as goal
 
 abbrev pub invariant-loop-request : goal.invariant-loop-request

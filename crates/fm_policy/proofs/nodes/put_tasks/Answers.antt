@@ -2,7 +2,7 @@ use Rattle.std.proofs.Common.{◌≡◌, ◌∙◌, true, Some, get_or, subst, s
 use Rattle.std.proofs.lemmas.List.{take_all}
 use Rattle.fm_net.specs.declared.node.Node.TheVariants.{Task}
 use Rattle.fm_policy.specs.declared.live_task.LiveTask.{LiveTask}
-use Rattle.fm_policy.specs.Building.{Stands}
+use Rattle.fm_policy.specs.inner.NetworkSoFar.{Stands}
 use Rattle.fm_policy.specs.inner.LiveTasks.{live_task}
 use Rattle.fm_policy.proofs.Adds.{adds_then, adds_node, stands_now}
 use Rattle.fm_policy.proofs.Alive.{task_named, it_lives, found_live}

@@ -1,6 +1,6 @@
 use Rattle.std.proofs.Common.{ℕ, take}
 use Rattle.fm_net.specs.declared.node.Node.TheVariants.{Task}
-use Rattle.fm_policy.specs.Building.{Adds, Stands}
+use Rattle.fm_policy.specs.inner.NetworkSoFar.{Adds, Stands}
 use Rattle.fm_policy.proofs.Surveyed.{Names}
 use Rattle.fm_policy.proofs.nodes.put_tasks.Given as goal
 

@@ -1,4 +1,4 @@
-use Rattle.fm_policy.specs.Building.{CoversJob}
+use Rattle.fm_policy.specs.inner.NetworkSoFar.{CoversJob}
 use Rattle.fm_policy.proofs.Adds.{adds_then}
 use Rattle.fm_policy.proofs.Listed.{one_more, all_done}
 use Rattle.fm_policy.proofs.Counted.{job_listed}

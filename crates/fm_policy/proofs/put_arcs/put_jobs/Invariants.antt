@@ -1,4 +1,4 @@
-use Rattle.fm_policy.specs.Building.{Adds, CoversJob}
+use Rattle.fm_policy.specs.inner.NetworkSoFar.{Adds, CoversJob}
 use Rattle.fm_policy.proofs.Listed.{HoldsBefore}
 use Rattle.fm_policy.proofs.put_arcs.put_jobs.Given as goal
 

@@ -1,4 +1,4 @@
-use Rattle.fm_policy.specs.Building.{CoversMachine}
+use Rattle.fm_policy.specs.inner.NetworkSoFar.{CoversMachine}
 use Rattle.fm_policy.proofs.Adds.{adds_then}
 use Rattle.fm_policy.proofs.Listed.{one_more, all_done}
 use Rattle.fm_policy.proofs.Parts.{open_listed}

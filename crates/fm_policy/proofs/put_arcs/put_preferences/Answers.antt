@@ -4,7 +4,7 @@ use Rattle.std.specs.Prelude.{is_some}
 use Rattle.std.specs.Ordering.{nat_cmp}
 use Rattle.fm_lattice.specs.Maps.{lookup}
 use Rattle.fm_net.specs.declared.node.Node.TheVariants.{Machine, Task}
-use Rattle.fm_policy.specs.Building.{CoversPreferred}
+use Rattle.fm_policy.specs.inner.NetworkSoFar.{CoversPreferred}
 use Rattle.fm_policy.specs.NodeFacts.{machine_arc}
 use Rattle.fm_policy.proofs.FactsLaws.{arc_is}
 use Rattle.fm_policy.proofs.Adds.{adds_then}

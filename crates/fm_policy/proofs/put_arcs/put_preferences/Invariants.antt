@@ -2,7 +2,7 @@ use Rattle.std.proofs.Common.{◌≡◌, ℕ, true, take}
 use Rattle.std.specs.Prelude.{is_some}
 use Rattle.std.specs.Ordering.{nat_cmp}
 use Rattle.fm_lattice.specs.Maps.{lookup}
-use Rattle.fm_policy.specs.Building.{Adds, CoversPreferred}
+use Rattle.fm_policy.specs.inner.NetworkSoFar.{Adds, CoversPreferred}
 use Rattle.fm_policy.proofs.put_arcs.put_preferences.Given as goal
 
 abbrev pub invariant-loop-entry : goal.invariant-loop-entry

@@ -2,7 +2,7 @@ use Rattle.std.proofs.Common.{◌≡◌, ◌∙◌, Some, get_or, subst, sym, ap
 use Rattle.std.proofs.lemmas.List.{take_all}
 use Rattle.fm_policy.specs.declared.node_facts.MachineFacts.{MachineFacts}
 use Rattle.fm_net.specs.declared.node.Node.TheVariants.{Request, Machine}
-use Rattle.fm_policy.specs.Building.{CoversPlace}
+use Rattle.fm_policy.specs.inner.NetworkSoFar.{CoversPlace}
 use Rattle.fm_policy.specs.NodeFacts.{machine_facts, request_machine_arc}
 use Rattle.fm_policy.proofs.FactsLaws.{arc_is}
 use Rattle.fm_policy.specs.inner.Surveys.{open_machine}

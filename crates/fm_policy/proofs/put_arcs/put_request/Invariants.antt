@@ -1,5 +1,5 @@
 use Rattle.std.proofs.Common.{ℕ, take}
-use Rattle.fm_policy.specs.Building.{Adds, CoversPlace}
+use Rattle.fm_policy.specs.inner.NetworkSoFar.{Adds, CoversPlace}
 use Rattle.fm_policy.proofs.Surveyed.{Names}
 use Rattle.fm_policy.proofs.put_arcs.put_request.Given as goal
 

@@ -4,7 +4,7 @@ use Rattle.fm_records.specs.Sets.{IsMember}
 use Rattle.std.specs.List.{filter_map}
 use Rattle.std.specs.Ordering.{nat_cmp}
 use Rattle.fm_records.specs.Sets.{rising}
-use Rattle.fm_policy.specs.Building.{CoversPlace}
+use Rattle.fm_policy.specs.inner.NetworkSoFar.{CoversPlace}
 use Rattle.fm_policy.specs.inner.LiveTasks.{waiting_request}
 use Rattle.fm_policy.proofs.Adds.{adds_then}
 use Rattle.fm_policy.proofs.Counted.{listed_request, request_listed}

@@ -1,6 +1,6 @@
 use Rattle.std.proofs.Common.{ℕ, take}
 use Rattle.fm_records.specs.Sets.{IsMember}
-use Rattle.fm_policy.specs.Building.{Adds, CoversPlace}
+use Rattle.fm_policy.specs.inner.NetworkSoFar.{Adds, CoversPlace}
 use Rattle.fm_policy.proofs.put_arcs.put_requests.Given as goal
 
 abbrev pub invariant-loop-request : goal.invariant-loop-request

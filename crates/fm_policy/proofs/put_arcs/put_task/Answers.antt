@@ -3,7 +3,7 @@ use Rattle.std.specs.Prelude.{is_some}
 use Rattle.fm_records.specs.declared.records.SpecReg.{SpecReg}
 use Rattle.fm_records.specs.Facts.{holder_of}
 use Rattle.fm_net.specs.declared.node.Node.TheVariants.{Unscheduled, Task}
-use Rattle.fm_policy.specs.Building.{HasArcTo, HasHolder}
+use Rattle.fm_policy.specs.inner.NetworkSoFar.{HasArcTo, HasHolder}
 use Rattle.fm_policy.specs.NodeFacts.{job_arc}
 use Rattle.fm_policy.proofs.FactsLaws.{arc_is}
 use Rattle.fm_policy.proofs.Adds.{adds_then}

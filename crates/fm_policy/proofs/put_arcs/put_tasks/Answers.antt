@@ -1,7 +1,7 @@
 use Rattle.std.proofs.Common.{◌≡◌, ◌∙◌, Some, get_or, subst, sym, ap, add-one, inl, inr, rules}
 use Rattle.std.proofs.lemmas.List.{take_all}
 use Rattle.fm_policy.specs.declared.live_task.LiveTask.{LiveTask}
-use Rattle.fm_policy.specs.Building.{CoversTask}
+use Rattle.fm_policy.specs.inner.NetworkSoFar.{CoversTask}
 use Rattle.fm_policy.specs.inner.LiveTasks.{live_task}
 use Rattle.fm_policy.proofs.Adds.{adds_then}
 use Rattle.fm_policy.proofs.Alive.{task_named, found_live}

@@ -1,5 +1,5 @@
 use Rattle.std.proofs.Common.{ℕ, take}
-use Rattle.fm_policy.specs.Building.{Adds, CoversTask}
+use Rattle.fm_policy.specs.inner.NetworkSoFar.{Adds, CoversTask}
 use Rattle.fm_policy.proofs.Surveyed.{Names}
 use Rattle.fm_policy.proofs.put_arcs.put_tasks.Given as goal
 

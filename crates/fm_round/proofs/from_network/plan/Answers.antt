@@ -3,7 +3,7 @@ use Rattle.std.specs.Prelude.{filter}
 use Rattle.fm_net.specs.declared.node.Node.{Node}
 use Rattle.fm_net.specs.Nodes.{ends_cmp}
 use Rattle.fm_net.specs.laws.NodeOrder.{ends_total, ends_exact}
-use Rattle.fm_net.specs.inner.KeptLists.{rising_kept}
+use Rattle.fm_net.proofs.KeptLists.{rising_kept}
 use Rattle.fm_certificate.specs.Flows.{units_in}
 use Rattle.fm_round.specs.PlanOfFlow.{units_over, plan_of_flow}
 use Rattle.fm_round.specs.inner.PlanArcs.{is_asked}

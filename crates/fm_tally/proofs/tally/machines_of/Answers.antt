@@ -7,7 +7,8 @@ use Rattle.fm_records.specs.Table.{MachineValue}
 use Rattle.fm_tally.specs.declared.holdings.Holding.{Holding}
 use Rattle.fm_tally.specs.declared.tally.OpenMachine.{OpenMachine}
 use Rattle.fm_tally.specs.inner.Holdings.{holding_nothing}
-use Rattle.fm_tally.specs.Tallies.{open_machine_at, all_machines}
+use Rattle.fm_tally.specs.Tallies.{open_machine_at}
+use Rattle.fm_tally.specs.inner.TallyParts.{all_machines}
 use Rattle.fm_tally.proofs.Live.{machine_is}
 use Rattle.fm_tally.proofs.Rows.{rows, rising_rows, lookup_met}
 use Rattle.fm_tally.proofs.tally.machines_of.Goals as goal

@@ -1,6 +1,7 @@
 use Rattle.std.proofs.Common.{◌≡◌, ◌++◌, ℕ, List}
 use Rattle.fm_records.specs.Table.{MachineValue}
-use Rattle.fm_tally.specs.Tallies.{open_machine_at, all_machines}
+use Rattle.fm_tally.specs.Tallies.{open_machine_at}
+use Rattle.fm_tally.specs.inner.TallyParts.{all_machines}
 use Rattle.fm_tally.proofs.Rows.{rows}
 use Rattle.fm_tally.proofs.tally.machines_of.Given as goal
 

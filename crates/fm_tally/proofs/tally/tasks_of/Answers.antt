@@ -3,7 +3,7 @@ use Rattle.std.specs.List.{cons_option}
 use Rattle.std.specs.Ordering.{nat_cmp}
 use Rattle.std.specs.Cmp.{nat_cmp_total}
 use Rattle.std.proofs.lemmas.List.{drop_more, drop_all, take-append-drop}
-use Rattle.fm_lattice.specs.Chains.{nat_same}
+use Rattle.fm_lattice.specs.laws.ChainLaws.{nat_same}
 use Rattle.fm_lattice.specs.Maps.{lookup, IsRising}
 use Rattle.fm_lattice.specs.laws.MapLaws.{same_map}
 use Rattle.fm_records.specs.Options.{and_then}
@@ -12,7 +12,8 @@ use Rattle.fm_net.proofs.NetworkLaws.{came_from, mapped_from}
 use Rattle.fm_tally.specs.declared.tally.LiveTask.{LiveTask}
 use Rattle.fm_tally.specs.declared.unfinished.UnfinishedTask.{UnfinishedTask}
 use Rattle.fm_tally.specs.inner.Holdings.{placed_by, requests_in, tasks_in}
-use Rattle.fm_tally.specs.Tallies.{task_at, task_by, unfinished_spec}
+use Rattle.fm_tally.specs.Tallies.{task_at, unfinished_spec}
+use Rattle.fm_tally.specs.inner.TallyParts.{task_by}
 use Rattle.fm_tally.specs.Unfinished.{unfinished_at}
 use Rattle.fm_tally.proofs.Counting.{IsCounting, counting_begins, counting_next, counting_ends, live_unfinished}
 use Rattle.fm_tally.proofs.Live.{there_is, no_requests, no_tasks, task_is, requests_are, tasks_are}

@@ -2,7 +2,7 @@ use Rattle.std.proofs.Common.{◌≡◌, ◌++◌, map}
 use Rattle.std.specs.List.{All}
 use Rattle.std.specs.Prelude.{filter}
 use Rattle.std.specs.Map.{keys_of}
-use Rattle.fm_why.specs.MachineOptions.{has_way, machine_ways}
+use Rattle.fm_why.specs.inner.MachineWays.{has_way, machine_ways}
 use Rattle.fm_why.specs.Reasons.{IsChoice}
 use Rattle.fm_why.proofs.options.listed.Given as goal
 

@@ -11,7 +11,7 @@ use Rattle.std.proofs.lemmas.List.{length-take}
 use Rattle.fm_why.specs.declared.reasons.TheConstants.{SHOWN}
 use Rattle.fm_why.specs.declared.reasons.Choice.{Choice}
 use Rattle.fm_why.specs.Running.{IsDearerOver}
-use Rattle.fm_why.specs.MachineOptions.{IsOnlyRequest, machine_ways}
+use Rattle.fm_why.specs.inner.MachineWays.{IsOnlyRequest, machine_ways}
 use Rattle.fm_why.specs.Reasons.{IsChoice}
 use Rattle.fm_why.specs.Alternatives.{IsExampleFor}
 use Rattle.fm_why.proofs.Roomy.{only_request, ways_are_roomy}

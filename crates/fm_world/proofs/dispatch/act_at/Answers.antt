@@ -4,7 +4,7 @@ use Rattle.fm_delta.specs.declared.packet.Packet.{Packet}
 use Rattle.fm_coord.specs.Causes.{refusal_for}
 use Rattle.fm_coord.specs.States.{State, bounds}
 use Rattle.fm_world.specs.inner.Calls.{call_asked, refusal_asked}
-use Rattle.fm_world.specs.Represents.{IsActed}
+use Rattle.fm_world.specs.inner.ActedWorld.{IsActed}
 use Rattle.fm_world.proofs.Acts.{kept, refused, is_acted, by_cause}
 use Rattle.fm_world.proofs.dispatch.act_at.Goals as goal
 

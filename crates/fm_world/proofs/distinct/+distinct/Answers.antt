@@ -7,14 +7,14 @@ pub returns-then-is_none : goal.returns-then-is_none
 returns-then-is_none g t c =
     let f = c.in-Some.first.now in
     let split : c.args.coordinators.now ≡ f ∷ c.in-Some.rest.now = search rules in
-    let none : is_none c.place_of.result ≡ true = search rules in
-    distinct_on c.args.coordinators.now f c.in-Some.rest.now split c.place_of.result
-    (c.place_of.ensures ∙ ap (λ (n : ℕ). position (λ d. number_of d == n) c.in-Some.rest.now) (c.value.ensures.number ∙ c.number.ensures)) none c.distinct.result c.distinct.ensures
+    let none : is_none c.index_of.result ≡ true = search rules in
+    distinct_on c.args.coordinators.now f c.in-Some.rest.now split c.index_of.result
+    (c.index_of.ensures ∙ ap (λ (n : ℕ). position (λ d. number_of d == n) c.in-Some.rest.now) (c.value.ensures.number ∙ c.number.ensures)) none c.distinct.result c.distinct.ensures
 
 pub returns-else-is_none : goal.returns-else-is_none
 returns-else-is_none g t c =
     let f = c.in-Some.first.now in
     let split : c.args.coordinators.now ≡ f ∷ c.in-Some.rest.now = search rules in
-    let some : is_none c.place_of.result ≡ false = search rules in
-    distinct_off c.args.coordinators.now f c.in-Some.rest.now split c.place_of.result
-    (c.place_of.ensures ∙ ap (λ (n : ℕ). position (λ d. number_of d == n) c.in-Some.rest.now) (c.value.ensures.number ∙ c.number.ensures)) some c.is_none.result c.if-is_none.false
+    let some : is_none c.index_of.result ≡ false = search rules in
+    distinct_off c.args.coordinators.now f c.in-Some.rest.now split c.index_of.result
+    (c.index_of.ensures ∙ ap (λ (n : ℕ). position (λ d. number_of d == n) c.in-Some.rest.now) (c.value.ensures.number ∙ c.number.ensures)) some c.is_none.result c.if-is_none.false

@@ -17,7 +17,7 @@ returns-then-is_empty-clause-whole g c =
     let h : Halts ss c.in-Ok.left.items c.in-Ok.steps.items = search rules in
     let zero_long : vec_len c.in-Ok.left ≡ 0 = eqb-true (vec_len c.in-Ok.left) 0 (sym c.is_empty.ensures ∙ c.if-is_empty.true) in
     let none = no_items c.in-Ok.left.items (omega (arith, c.in-Ok.left.ok)) in
-    whole_run ss c.see_known.ensures (subst AreDistinct (same_numbers c.args.coordinators.now) c.requires) c.in-Ok.left.items c.in-Ok.steps.items h none
+    whole_run ss c.law_known.ensures (subst AreDistinct (same_numbers c.args.coordinators.now) c.requires) c.in-Ok.left.items c.in-Ok.steps.items h none
 
 pub returns-then-is_empty-clause-accepted : goal.returns-then-is_empty-clause-accepted
 returns-then-is_empty-clause-accepted g c =
@@ -25,4 +25,4 @@ returns-then-is_empty-clause-accepted g c =
     let h : Halts ss c.in-Ok.left.items c.in-Ok.steps.items = search rules in
     let zero_long : vec_len c.in-Ok.left ≡ 0 = eqb-true (vec_len c.in-Ok.left) 0 (sym c.is_empty.ensures ∙ c.if-is_empty.true) in
     let none = no_items c.in-Ok.left.items (omega (arith, c.in-Ok.left.ok)) in
-    whole_accepted ss c.see_known.ensures (subst AreDistinct (same_numbers c.args.coordinators.now) c.requires) c.in-Ok.left.items c.in-Ok.steps.items h none
+    whole_accepted ss c.law_known.ensures (subst AreDistinct (same_numbers c.args.coordinators.now) c.requires) c.in-Ok.left.items c.in-Ok.steps.items h none

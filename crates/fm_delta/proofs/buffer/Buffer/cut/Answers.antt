@@ -1,6 +1,6 @@
 use Rattle.std.proofs.Common.{◌∙◌, ap}
 use Rattle.fm_delta.specs.Deltas.{joined_all}
-use Rattle.fm_delta.specs.GroupLaws.{joined_union}
+use Rattle.fm_delta.proofs.GroupLaws.{joined_union}
 use Rattle.fm_delta.proofs.buffer.Buffer.cut.Goals as goal
 
 pub returns-clause-union : goal.returns-clause-union

@@ -5,7 +5,7 @@ use Rattle.fm_net.specs.declared.node.Node.{Node}
 use Rattle.fm_net.specs.declared.edit.Edit.TheVariants.{DropArc}
 use Rattle.fm_net.specs.Edits.{joins, has_arc}
 use Rattle.fm_net.specs.Touched.{put_at}
-use Rattle.fm_edit.specs.EditorState.{arc_by}
+use Rattle.fm_edit.specs.inner.EditorFacts.{arc_by}
 use Rattle.fm_edit.proofs.Each.{stepped_kept, stepped_made}
 use Rattle.fm_edit.proofs.editor_state.EditorState.add_arcs.Goals as goal
 

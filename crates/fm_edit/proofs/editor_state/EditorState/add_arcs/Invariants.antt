@@ -1,5 +1,5 @@
 use Rattle.std.specs.Prelude.{◌≡◌, ◌++◌}
-use Rattle.fm_edit.specs.EditorState.{node_by, arc_by, AreKnownBy}
+use Rattle.fm_edit.specs.inner.EditorFacts.{node_by, arc_by, AreKnownBy}
 use Rattle.fm_edit.specs.inner.Diff.{arcs_that_go, arcs_that_come}
 use Rattle.fm_edit.proofs.editor_state.EditorState.add_arcs.Given as goal
 

@@ -3,7 +3,7 @@ use Rattle.std.specs.Prelude.{not, ◌&&◌}
 use Rattle.fm_net.specs.declared.node.Node.{Node}
 use Rattle.fm_net.specs.declared.edit.Edit.TheVariants.{DropNode, PutNode}
 use Rattle.fm_net.specs.Net.{has_node}
-use Rattle.fm_edit.specs.EditorState.{node_by}
+use Rattle.fm_edit.specs.inner.EditorFacts.{node_by}
 use Rattle.fm_edit.proofs.Each.{stepped_kept}
 use Rattle.fm_edit.proofs.editor_state.EditorState.add_nodes.Goals as goal
 

@@ -1,5 +1,5 @@
 use Rattle.std.specs.Prelude.{◌≡◌, ◌++◌}
-use Rattle.fm_edit.specs.EditorState.{node_by, arc_by}
+use Rattle.fm_edit.specs.inner.EditorFacts.{node_by, arc_by}
 use Rattle.fm_edit.specs.inner.Diff.{nodes_that_go, nodes_that_come}
 use Rattle.fm_edit.proofs.editor_state.EditorState.add_nodes.Given as goal
 

@@ -11,7 +11,7 @@ use Rattle.fm_net.specs.declared.node.Node.TheVariants.{Unscheduled, Machine}
 use Rattle.fm_edit.specs.declared.look.Key.TheVariants as key
 use Rattle.fm_edit.specs.Dirty.{has_id, AreDirtyTasks}
 use Rattle.fm_edit.specs.CacheModel.{seen_in}
-use Rattle.fm_edit.specs.CacheUpdate.{values_at}
+use Rattle.fm_edit.specs.inner.CachedValues.{values_at}
 use Rattle.fm_edit.specs.EditorState.{Counts, Remembers}
 use Rattle.fm_edit.specs.inner.Affected.{has_touched, TouchesTask, IsNodeOf, IsEndOf}
 use Rattle.fm_edit.proofs.Followed.{seen_as, five, after_can_be, base, turned, turned_is, spots_as, all_found, only_dirty, dirty_as_seen, counts_on, all_touched}

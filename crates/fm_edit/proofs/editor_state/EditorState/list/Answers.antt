@@ -1,5 +1,5 @@
 use Rattle.std.proofs.Common.{◌≡◌, ◌++◌, rules, ◌∙◌, append_assoc}
-use Rattle.fm_edit.specs.EditorState.{node_by, arc_by}
+use Rattle.fm_edit.specs.inner.EditorFacts.{node_by, arc_by}
 use Rattle.fm_edit.specs.inner.Diff.{arcs_that_go, nodes_that_go, nodes_that_come, arcs_that_come}
 use Rattle.fm_edit.proofs.editor_state.EditorState.list.Goals as goal
 

@@ -1,7 +1,7 @@
 use Rattle.std.proofs.Common.{◌∙◌, ◌<◌, ◌^◌, [], sym, ap, subst, length}
 use Rattle.std.specs.Ordering.{nat_cmp}
 use Rattle.fm_lattice.specs.Maps.{lookup}
-use Rattle.fm_records.specs.TableLaws.{Rises}
+use Rattle.fm_records.specs.Rising.{Rises}
 use Rattle.fm_records.specs.Know.{table_of}
 use Rattle.fm_records.specs.Facts.{job_of, won_spot}
 use Rattle.fm_edit.specs.Dirty.{has_id}

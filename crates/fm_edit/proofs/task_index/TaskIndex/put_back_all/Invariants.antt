@@ -1,6 +1,6 @@
 use Rattle.std.proofs.Common.{◌≡◌, ◌<◌, ◌^◌, drop, length}
 use Rattle.std.specs.Ordering.{nat_cmp}
-use Rattle.fm_records.specs.TableLaws.{Rises}
+use Rattle.fm_records.specs.Rising.{Rises}
 use Rattle.fm_records.specs.Table.{Table}
 use Rattle.fm_records.specs.Ranges.{CanBe}
 use Rattle.fm_edit.specs.Dirty.{has_id}

@@ -1,7 +1,7 @@
 use Rattle.std.proofs.Common.{◌≡◌, ◌+◌, ◌-◌, ◌^◌, ℕ, true, drop}
 use Rattle.std.specs.Prelude.{◌&&◌, not, min}
 use Rattle.std.specs.Ordering.{nat_cmp}
-use Rattle.fm_records.specs.TableLaws.{Rises}
+use Rattle.fm_records.specs.Rising.{Rises}
 use Rattle.fm_records.specs.Table.{Table}
 use Rattle.fm_records.specs.Ranges.{CanBe}
 use Rattle.fm_edit.specs.Dirty.{has_id}

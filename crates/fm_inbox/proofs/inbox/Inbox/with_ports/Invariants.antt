@@ -1,6 +1,6 @@
 use Rattle.std.specs.Prelude.{◌≡◌, ◌+◌, ◌≤◌, [], All, vec_len, vec_capacity}
 use Rattle.crossbeam_queue.specs.Passes.{IsPassOf, ruled_capacity}
-use Rattle.fm_inbox.specs.Conservation.{account}
+use Rattle.fm_inbox.specs.inner.PortAccounts.{account}
 use Rattle.fm_inbox.specs.Ports.{account_of, IsNewPortOf, seen_inbox}
 use Rattle.fm_inbox.proofs.inbox.Inbox.with_ports.Given as goal
 

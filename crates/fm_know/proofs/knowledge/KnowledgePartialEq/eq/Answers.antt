@@ -1,6 +1,7 @@
 use Rattle.std.proofs.Common.{rules}
 use Rattle.std.specs.Bool.{one_answer}
-use Rattle.fm_know.specs.KnowledgeEquality.{same_table, table_Decides}
+use Rattle.fm_know.specs.KnowledgeEquality.{same_table}
+use Rattle.fm_know.specs.laws.KnowledgeEqualityLaws.{table_Decides}
 use Rattle.fm_know.proofs.knowledge.KnowledgePartialEq.eq.Goals as goal
 
 pub returns-then-equals-3-clause-exact : goal.returns-then-equals-3-clause-exact

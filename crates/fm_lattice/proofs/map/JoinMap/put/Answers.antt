@@ -1,5 +1,6 @@
 use Rattle.std.proofs.Common.{◌≡◌, [], ◌∷◌, ◌+◌, refl, sym, ◌∙◌, ap, subst, arith, length, append-nil, length-append}
-use Rattle.fm_lattice.specs.Maps.{IsMap, lookup, put, keep_new, joined_onto}
+use Rattle.fm_lattice.specs.Maps.{IsMap, lookup, put, keep_new}
+use Rattle.fm_lattice.specs.inner.JoinedPairs.{joined_onto}
 use Rattle.fm_lattice.specs.laws.MapLaws.{is_map_put, lookup_put, overwritten}
 use Rattle.fm_lattice.specs.Blocks.{pairs_of}
 use Rattle.fm_lattice.proofs.InBlocks.{put_back}

@@ -1,4 +1,4 @@
-use Rattle.fm_records.specs.RecordEquality.{op_Decides}
+use Rattle.fm_records.specs.laws.RecordEqualityLaws.{op_Decides}
 use Rattle.fm_records.proofs.laws.record_equality.ops.Goals as goal
 
 pub returns : goal.returns

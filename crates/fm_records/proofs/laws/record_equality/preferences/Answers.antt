@@ -1,4 +1,4 @@
-use Rattle.fm_records.specs.RecordEquality.{preferences_Decides}
+use Rattle.fm_records.specs.laws.RecordEqualityLaws.{preferences_Decides}
 use Rattle.fm_records.proofs.laws.record_equality.preferences.Goals as goal
 
 pub returns : goal.returns

@@ -1,5 +1,5 @@
 use Rattle.std.proofs.Common.{rules}
-use Rattle.fm_records.specs.RecordEquality.{preferences_Decides}
+use Rattle.fm_records.specs.laws.RecordEqualityLaws.{preferences_Decides}
 use Rattle.fm_records.proofs.laws.record_equality.specs.Goals as goal
 
 pub returns : goal.returns

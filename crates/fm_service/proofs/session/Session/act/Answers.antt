@@ -1,7 +1,7 @@
 use Rattle.std.proofs.Common.{sym, subst}
 use Rattle.fm_script.specs.declared.script.ScriptAct.{ScriptAct}
 use Rattle.fm_script.specs.Requests.{Does}
-use Rattle.fm_service.specs.Sessions.{Goes}
+use Rattle.fm_service.specs.inner.SessionSteps.{Goes}
 use Rattle.fm_service.proofs.session.Session.act.Goals as goal
 
 pub returns-in-Cut-clause-ok : goal.returns-in-Cut-clause-ok

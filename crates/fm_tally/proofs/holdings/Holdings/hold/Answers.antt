@@ -24,14 +24,14 @@ overflow_add-more-2 c =
 pub returns-clause-requests : goal.returns-clause-requests
 returns-clause-requests c m =
     ap (λ es. or_else 0 (option_map (λ h. h.requests) (lookup nat_cmp m es))) c.replace.ensures
-    ∙ grown c.args.spot.machine c.value-holding.result _ c.args.self.now.by_machine c.place_near.ensures.rising c.value-holding.ensures (λ h. h.requests) c.args.request (search rules) m
+    ∙ grown c.args.spot.machine c.value-holding.result _ c.args.self.now.by_machine c.index_near.ensures.rising c.value-holding.ensures (λ h. h.requests) c.args.request (search rules) m
 
 pub returns-clause-tasks : goal.returns-clause-tasks
 returns-clause-tasks c m =
     ap (λ es. or_else 0 (option_map (λ h. h.tasks) (lookup nat_cmp m es))) c.replace.ensures
-    ∙ grown c.args.spot.machine c.value-holding.result _ c.args.self.now.by_machine c.place_near.ensures.rising c.value-holding.ensures (λ h. h.tasks) 1 (search rules) m
+    ∙ grown c.args.spot.machine c.value-holding.result _ c.args.self.now.by_machine c.index_near.ensures.rising c.value-holding.ensures (λ h. h.tasks) 1 (search rules) m
 
 pub returns-clause-same : goal.returns-clause-same
 returns-clause-same c s =
     ap (λ es. passes (λ h. h.is_open && h.incarnation == s.incarnation) (lookup nat_cmp s.machine es)) c.replace.ensures
-    ∙ tested c.args.spot.machine c.value-holding.result _ c.args.self.now.by_machine c.place_near.ensures.rising c.value-holding.ensures (λ h. h.is_open && h.incarnation == s.incarnation) refl s.machine
+    ∙ tested c.args.spot.machine c.value-holding.result _ c.args.self.now.by_machine c.index_near.ensures.rising c.value-holding.ensures (λ h. h.is_open && h.incarnation == s.incarnation) refl s.machine

@@ -1,0 +1,2 @@
+pub mod PortAccounts
+pub mod PortWeights

@@ -1,0 +1,2 @@
+pub mod ReopenedWorld
+pub mod SessionSteps
