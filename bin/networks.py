@@ -1,6 +1,6 @@
 """Networks and flows as `firmament graph` and `firmament solve` print them, read strictly. `docs/formats.md` has the texts.
 
-What is read here is what bin/picture draws and bin/why explains; nothing of it is proved.
+What is read here is what bin/picture draws; nothing of it is proved.
 """
 import collections
 import re
