@@ -87,7 +87,7 @@ def guarded(program, folder):
 UNKNOWN = b"00000000-0000-0000-0000-000000000077"
 REFUSED = [
     b"x", b"", b"{", b"[1]", b"\xff", b"[" * 100000, b"\0" * (follower.MOST_LINE + 1), b'{"at":1,"tell":{}}', b'{"at":1,"tell":{"job":{"id":1%s}}}' % (b"0" * 5000),
-    b'{"coordinators":[1]}', b'{"renew":true}', b'{"at":1,"news":true}', b'{"at":1,"trim":0}', b'{"at":1,"deliver":"p"}',
+    b'{"coordinators":[1]}', b'{"renew":true}', b'{"at":1,"news":true}', b'{"at":1,"news":true,"mine":true}', b'{"at":1,"trim":0}', b'{"at":1,"deliver":"p"}',
     b'{"at":1,"cut":{"name":"p"}}', b'{"at":1,"cut":{"from":0,"to":0}}']
 LINES = [
     *((line, b"refusal 16\n") for line in REFUSED), (b'{"at":1,"take":"46"}', b"refusal 6\n"), (b'{"at":2,"ask":"graph"}', b"refusal 8\n"),

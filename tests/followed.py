@@ -70,16 +70,18 @@ def request_in(line, names):
     if type(value) is dict and len(value) == 2 and strict.fits(value.get("at"), strict.U8):
         (kind, asked), = ((key, given) for key, given in value.items() if key != "at")
         request = at_one(value["at"], kind, asked, names)
-    if type(value) is dict and len(value) == 3 and value.get("ask") == "why" and strict.fits(value.get("at"), strict.U8):
-        request = whose(value["at"], value.get("task"))
+    if type(value) is dict and len(value) == 3 and strict.fits(value.get("at"), strict.U8):
+        request = of_three(value["at"], value)
     if request is None:
         raise Refused(STRANGE)
     return request
 
 
-def whose(at, task):
-    """What a line with the number of a coordinator and a task asks for, or None."""
-    return ("why", at, reference.number(strict.canonical(task, "id"))) if strict.fits(task, "id") else None
+def of_three(at, value):
+    """What a line with the number of a coordinator and two further members asks for, or None."""
+    if value.get("ask") == "why" and strict.fits(value.get("task"), "id"):
+        return "why", at, reference.number(strict.canonical(value["task"], "id"))
+    return ("own_news", at) if value.get("news") is True and value.get("mine") is True else None
 
 
 def alone(kind, asked):
@@ -243,6 +245,8 @@ class Stream:
 
     def __init__(self, renew_after=RENEW_AFTER):
         self.renew_after, self.world, self.entries, self.ends = renew_after, None, {}, {}
+        # of each delta of a coordinator, whether it is its own, and how many of them were looked at for its own news
+        self.are_own, self.own_ends = {}, {}
 
     def answer(self, line, seen=b""):
         """What is answered to the line: if several answers may come, the one that was seen, if it is one of them."""
@@ -261,13 +265,14 @@ class Stream:
         if kind == "take":
             # the digits are read before anybody is looked for
             asked[1] = packet_of(asked[1])
-        if kind in ("news", "take", "ask", "why") and asked[0] not in self.world.coordinators:
+        if kind in ("news", "own_news", "take", "ask", "why") and asked[0] not in self.world.coordinators:
             raise Refused(NOBODY)
         return getattr(self, kind)(*asked, *[seen] * (kind in ("ask", "why", "act"))) or ""
 
     def open(self, numbers):
         self.world = reference.World({"coordinators": numbers, "steps": []})
-        self.entries, self.ends = dict.fromkeys(numbers, 0), dict.fromkeys(numbers, 0)
+        self.entries, self.ends, self.own_ends = (dict.fromkeys(numbers, 0) for _ in range(3))
+        self.are_own = {number: [] for number in numbers}
 
     def renew(self):
         """Each coordinator took in all that it knew, at once, and nothing else happened."""
@@ -276,6 +281,7 @@ class Stream:
         for number, operations in known.items():
             self.world.coordinators[number].take(operations)
             self.entries[number] = 1
+            self.are_own[number] = [True]
 
     def act(self, step, seen):
         """What happens as in a script."""
@@ -286,6 +292,7 @@ class Stream:
         if refused:
             raise Refused(refused)
         self.entries[at] += 1
+        self.are_own[at] += [True] * ("tell" in step) + [False] * ("deliver" in step)
         return self.digits(step["cut"]["name"]) if "cut" in step else ""
 
     def digits(self, name):
@@ -299,9 +306,22 @@ class Stream:
         since = {"from": end, "to": len(sender.sets)} if sender.floor <= end else {}
         return self.act({"at": at, "cut": {"name": None, **since}}, "")
 
+    def own_news(self, at):
+        sender, mark, are_own = self.world.coordinators[at], self.own_ends[at], self.are_own[at]
+        if sender.floor > mark:
+            self.own_ends[at] = len(are_own)
+            return self.act({"at": at, "cut": {"name": None}}, "")
+        # a sentinel of each kind behind the last
+        first = (are_own + [True]).index(True, mark)
+        behind = (are_own + [False]).index(False, first)
+        self.own_ends[at] = behind
+        return self.act({"at": at, "cut": {"name": None, "from": first, "to": behind}}, "") if first < behind else ""
+
     def take(self, at, packet):
         self.world.coordinators[at].take(packet.operations)
         self.entries[at] += 1
+        # a packet of a renewal has the number 0, and no other
+        self.are_own[at].append(packet.number == 0)
 
     def round(self, at, seen):
         """A round: the plan that the text says, if it may be made, with what is admitted of it."""
@@ -312,6 +332,7 @@ class Stream:
         answers = sum(admission.plan(*plan), [])
         coordinator.take(admission.added)
         self.entries[at] += 1
+        self.are_own[at].append(True)
         return "".join("%s %s\n" % line for line in zip(plan_lines(plan), answers))
 
     def ask(self, at, topic, seen):

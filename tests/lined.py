@@ -9,6 +9,7 @@ import hostile
 import reference
 
 OPEN = b'{"coordinators":[1,2]}'
+OWN_NEWS = {"news": True, "mine": True}
 GRAPH = b'{"at":1,"ask":"graph"}'
 EMPTY_GRAPH = b"c 1 S\np min 1 0\nok\n"
 NO_OUTPUT, NO_INPUT, NO_MEMORY = (b"firmament: refusal %d\n" % number for number in (17, 16, 1))
@@ -92,13 +93,14 @@ def every_kind():
         OPEN, *told, {"at": 1, "news": True}, {"at": 1, "cut": {"name": "some", "from": 1, "to": 4}}, {"at": 1, "ask": "plan"},
         {"at": 1, "round": True}, {"at": 2, "deliver": "some"}, {"at": 1, "cut": {}}, tell("report", at=2, incarnation=1, used=40),
         {"at": 2, "take": reference.packed(packet)[1].strip()}, b"{", tell("progress", attempt=1), {"at": 1, "news": True},
+        {"at": 1, **OWN_NEWS}, {"at": 2, **OWN_NEWS}, {"at": 2, **OWN_NEWS},
         {"at": 1, "trim": 4}, {"at": 2, "round": True}, tell("propose", at=2, attempt=1), *asks([2]), *explains([2]), {"renew": True},
         {"at": 1, "round": True}, {"at": 2, "news": True}, {"at": 2, "deliver": "some"}, *asks([1]),
         *explains([1], [TASK, TASK[:-1] + "2", TASK[:-1] + "3", JOB]))
 
 
 class Weaver:
-    """Draws lines between the steps of a script: questions, news, packets from elsewhere, rounds and renewals."""
+    """Draws lines between the steps of a script: questions, news, own news, packets from elsewhere, rounds and renewals."""
 
     def __init__(self, seed):
         self.chance, self.stream, self.given, self.packets = random.Random("woven %d" % seed), followed.Stream(), [], []
@@ -108,14 +110,14 @@ class Weaver:
         given = value if type(value) is bytes else line(value)
         self.given.append(given)
         answer = self.stream.answer(given)
-        if type(value) is dict and {"cut", "news"} & value.keys() and answer.endswith(b"ok\n"):
+        if type(value) is dict and {"cut", "news"} & value.keys() and answer.endswith(b"\nok\n"):
             self.packets.append(digits_of(answer))
 
     def between(self, at):
         """Such a line at the coordinator."""
-        kind = self.chance.choices(("news", "cut", "agree", "renew", "round", "take", "ask", "why"), (6, 3, 3, 1, 1, 6, 12, 6))[0]
+        kind = self.chance.choices(("news", "mine", "cut", "agree", "renew", "round", "take", "ask", "why"), (6, 6, 3, 3, 1, 1, 6, 12, 6))[0]
         return {"agree": {"ask": "agree"}, "renew": {"renew": True}, "cut": {"at": at, "cut": {}},
-                "take": {"at": at, "take": self.chance.choice(self.packets)},
+                "mine": {"at": at, **OWN_NEWS}, "take": {"at": at, "take": self.chance.choice(self.packets)},
                 "ask": {"at": at, "ask": self.chance.choice(followed.TOPICS)},
                 "why": self.chance.choice(explains([at]))}.get(kind, {"at": at, kind: True})
 

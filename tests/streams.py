@@ -26,7 +26,7 @@ import reference
 import refusing
 import scripts
 import strict
-from lined import EMPTY_GRAPH, GRAPH, MACHINE, NO_MEMORY, OPEN, TASK
+from lined import EMPTY_GRAPH, GRAPH, MACHINE, NO_MEMORY, OPEN, OWN_NEWS, TASK
 from lined import answers, asks, digits_of, end_of, every_kind, explains, judged, line, lines, seen, short, tell, woven
 
 LINES, SECONDS = 10000, 60
@@ -145,7 +145,9 @@ STRANGE = [
     b'{"renew":false}', b'{"renew":1}', b'{"renew":"true"}', b'{"renew":true,"at":1}', b'{"renew":true,"more":1}',
     b'{"ask":"graph"}', b'{"ask":["agree"]}', b'{"ask":"agree","at":1}', b'{"at":1,"ask":"agree"}', b'{"at":1,"ask":"Graph"}',
     b'{"at":1,"ask":""}', b'{"at":1,"ask":true}', b'{"at":1,"ask":"graph","more":1}', b'{"at":1}', b'{"at":1,"news":false}',
-    b'{"at":1,"news":1}', b'{"news":true}', b'{"at":1,"take":7}', b'{"at":1,"take":"4"}', b'{"at":1,"take":"4g"}',
+    b'{"at":1,"news":1}', b'{"at":1,"mine":true}', b'{"at":1,"news":true,"mine":false}', b'{"at":1,"news":false,"mine":true}',
+    b'{"at":1,"news":true,"mine":1}', b'{"at":1,"news":true,"task":"%s"}' % TASK.encode(), b'{"at":1,"news":true,"mine":true,"more":1}',
+    b'{"news":true,"mine":true,"ask":"why"}', b'{"news":true}', b'{"at":1,"take":7}', b'{"at":1,"take":"4"}', b'{"at":1,"take":"4g"}',
     b'{"at":1,"take":" 46"}', b'{"at":1,"take":"46\\n"}', b'{"at":1,"take":"\xc2\xb2\xc2\xb2"}', b'{"at":1,"cut":[]}', b'{"at":1,"cut":"p"}',
     b'{"at":1,"cut":null}', b'{"at":1,"cut":{"name":7}}', b'{"at":1,"cut":{"from":0}}', b'{"at":1,"cut":{"to":0}}',
     b'{"at":1,"cut":{"name":null}}', b'{"at":1,"cut":{"from":-1,"to":0}}', b'{"at":1,"round":false}', b'{"at":1,"round":1}',
@@ -158,8 +160,8 @@ STRANGE = [
     b'{"at":1,"deliver":"\xed\xa0\x80"}', b'{"at":1,"deliver":"\\ud800"}', b"\xef\xbb\xbf" + GRAPH, GRAPH + b"x", GRAPH + GRAPH,
     GRAPH[:-1], b"\0" + GRAPH, b"[" * 200, b'{"a":' * 200, b'{"at":1,"ask":"graph"' + b"\0" + b"}", b'{"coordinators":{1,2}}']
 # what a number without a coordinator is refused for, before all else that is wrong
-AT_NOBODY = ('"ask":"graph"', '"ask":"stops"', '"ask":"end"', '"ask":"why","task":"%s"' % TASK, '"news":true', '"round":true', '"trim":9',
-             '"deliver":"none"', '"cut":{}', '"cut":{"from":2,"to":1}')
+AT_NOBODY = ('"ask":"graph"', '"ask":"stops"', '"ask":"end"', '"ask":"why","task":"%s"' % TASK, '"news":true', '"news":true,"mine":true',
+             '"round":true', '"trim":9', '"deliver":"none"', '"cut":{}', '"cut":{"from":2,"to":1}')
 NO_PACKETS = b"", b"46", b"46444732", hostile.PACKET[:-1].hex().encode(), hostile.PACKET.hex().encode() + b"00"
 NO_INTERVALS = '"trim":1', '"cut":{"from":1,"to":0}', '"cut":{"from":0,"to":1}', '"cut":{"name":"p","from":0,"to":18446744073709551615}'
 ACCEPTED = [(given, EMPTY_GRAPH) for given in (
@@ -291,7 +293,7 @@ def weaves(program, count=24):
 
 
 # lines that are refused at a coordinator 7077 that is listed, if they do not open a stream
-REFUSED = [(16, b"x"), (16, b""), (16, OPEN), (8, b'{"at":65,"news":true}'), (8, b'{"at":65,"round":true}'), (9, b'{"at":7077,"deliver":"?"}'),
+REFUSED = [(16, b"x"), (16, b""), (16, OPEN), (8, b'{"at":65,"news":true}'), (8, b'{"at":65,"news":true,"mine":true}'), (8, b'{"at":65,"round":true}'), (9, b'{"at":7077,"deliver":"?"}'),
            (4, b'{"at":7077,"trim":1000000}'), (4, b'{"at":7077,"cut":{"name":"?","from":1,"to":0}}'), (6, b'{"at":7077,"take":"46"}'),
            (16, b'{"at":7077,"take":"4"}'), (16, b'{"at":7077,"cut":{"name":"?","from":0}}'), (2, line(tell("job", at=7077, writer=0)))]
 
@@ -330,6 +332,7 @@ def renewals(program):
                 found = answers(program, lines(*given))
                 yield "renewed %d times at %d" % (times, place), len(found) == len(given) and found[-len(last):] == plain[-len(last):]
     yield from begun_anew(program)
+    yield from own_news(program)
 
 
 def begun_anew(program):
@@ -344,6 +347,28 @@ def begun_anew(program):
     # the second tell is the third entry, so what was trimmed and cut before it is forgotten
     found = answers(program, lines(OPEN, tell("job"), {"at": 1, "trim": 1}, tell("job"), news, {"at": 1, "trim": 0}), "--renew-after", "3")
     yield "made anew after three entries", (found[4][:42], found[5]) == (packet(1, 1), b"ok\n")
+
+
+def own_news(program):
+    """Own news are runs of deltas between those that others sent, or all that is known if some delta was trimmed, or nothing."""
+    mine, other = {"at": 1, **OWN_NEWS}, {"at": 1, "take": hostile.PACKET.hex()}
+    cut = lambda first, end: {"at": 1, "cut": {"from": first, "to": end}}
+    values = lambda given: [answer[26:] for answer in answers(program, lines(OPEN, *given))]
+    none = b""
+    told = [tell("job"), tell("machine"), other, other, tell("spec"), {"at": 1, "round": True}, other]
+    runs, cuts = values([*told, mine, mine, mine]), values([*told, cut(0, 2), cut(4, 6)])
+    yield "by runs, and then nothing", runs[8:] == [*cuts[8:], none] and none not in cuts[8:]
+    yield "nothing of others", values([other, mine])[2:] == [none]
+    later = values([*told, mine, tell("report"), mine, mine, mine])
+    yield "what is behind others' waits", [later[8], *later[10:]] == [*cuts[8:], values([tell("report"), cut(0, 1)])[2], none]
+    trimmed = values([*told, mine, {"at": 1, "trim": 5}, mine, mine])
+    yield "all, if some were trimmed", trimmed[10:] == [values([*told, {"at": 1, "cut": {}}])[8], none]
+    asked = values([*told, mine, {"at": 1, "trim": 2}, mine])
+    yield "what was sent may be trimmed", asked[10:] == [cuts[9]]
+    renewed = values([*told, mine, {"renew": True}, other, mine, mine])
+    yield "after a renewal all that was known", renewed[11:] == [values([*told, {"at": 1, "cut": {}}])[8], none]
+    beside = values([tell("job"), {"at": 1, "news": True}, mine, {"at": 1, "news": True}])
+    yield "beside news", beside[2] == beside[3] != beside[4]
 
 
 # drawn lines
@@ -371,7 +396,7 @@ def hostile_value(draw, names, packets):
     if chosen < 0.82:
         return {"at": at, "take": draw.packet().hex() if draw.odds() < 0.7 else draw.one_of(packets)}
     if chosen < 0.89:
-        return {"at": at, "news": True}
+        return {"at": at, "news": True, **({"mine": True} if draw.odds() < 0.5 else {})}
     return draw.one_of(({"ask": "agree"}, {"at": at, "cut": {}}, {"at": at, "cut": {"from": 0, "to": draw.whole(64)}}, {"renew": True},
                         {"coordinators": [at]}, {"at": at, "round": True}, {"at": at, "ask": "why", "task": draw.id(3)}))
 

@@ -92,24 +92,25 @@ class Coordinator:
         return [line]
 
     def _count_again(self) -> list[bytes]:
-        """Counts deltas and packets after an accepted line of a kind that is not known here. Behind the last delta no cut
-        is accepted; if the counts went down the coordinator is renewed. Answers lines that say what was added."""
+        """Counts deltas and packets after an accepted line of a kind that is not known here. If there are fewer deltas than
+        before the coordinator is renewed. Answers lines that say what was added."""
         before, self.may_have_changed = self.deltas, True
-        if not self._can_cut(self.deltas):
+        self.deltas = self._end()
+        if self.deltas < before:
             self._renew_now()
             return [take_line(self.number, self.cut_state())]
-        while self._can_cut(self.deltas + 1):
-            self.deltas += 1
         number = number_of(self._skip())
         if number is not None and number % 2:
             self._skip()
         return self._deltas_again(before) if self.deltas > before else []
 
-    def _can_cut(self, delta: int) -> bool:
-        """Whether there are so many deltas."""
-        line = json.dumps({"at": self.number, "cut": {"from": delta, "to": delta}}).encode()
-        answer, = self._follower.ask([line])
-        return is_accepted(answer)
+    def _end(self) -> int:
+        """How many deltas there are."""
+        answer, = self._follower.ask([b'{"at":%d,"ask":"end"}' % self.number])
+        words = answer.split()
+        if not is_accepted(answer) or len(words) != 4:
+            raise Failure(FOLLOWER_ENDED, f"the follower does not say how many deltas it has: {answer.decode().strip()}")
+        return int(words[2])
 
     def _renew_now(self) -> None:
         answer, = self._follower.ask([b'{"renew":true}'])

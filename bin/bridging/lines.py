@@ -39,6 +39,8 @@ def kind_of(line: bytes) -> Kind:
     others = value.keys() - {"at"} if isinstance(value, dict) else set()
     if others == {"ask", "task"}:
         return Kind.QUESTION
+    if others == {"news", "mine"}:
+        return Kind.OURS
     if len(others) != 1:
         return Kind.STRANGE
     (asked,) = others

@@ -10,7 +10,7 @@ use Rattle.fm_script.specs.declared.script.ScriptAct.TheVariants as act
 use Rattle.fm_script.specs.declared.script.ScriptStep.{ScriptStep}
 use Rattle.fm_script.specs.Json.{bind, whole_number, number_8_at, text_at, id_at, has_size, items_at}
 use Rattle.fm_script.specs.Script.{is_text, either, op_of, range_of, is_named, delivery_of, round_of, act_of, script_step_of, listed_of, coordinators_of}
-use Rattle.fm_script.specs.Requests.{RequestModel, Opens, Does, Cuts, News, Takes, Asks, Explains, Agrees, Renews, topic_named, cut_under, cut_asked, when_true, agree_asked, alone_of, asked_at, why_asked, request_from, CutsNothing, IsPlain}
+use Rattle.fm_script.specs.Requests.{RequestModel, Opens, Does, Cuts, News, OwnNews, Takes, Asks, Explains, Agrees, Renews, topic_named, cut_under, cut_asked, when_true, agree_asked, alone_of, asked_at, why_asked, own_news_asked, asked_by_three, request_from, CutsNothing, IsPlain}
 use Rattle.fm_script.proofs.Spelling.{AreDistinct-listed}
 
 -- what is there, if anything is, has the property
@@ -150,6 +150,18 @@ why-plain d =
     IfSome-given_when IsPlain (is_text word (codes "why")) d _ (
     IfSome-map IsPlain (id_at (codes "task") d) (Explains at) (λ task. tt))))
 
+-- a coordinator's own news
+own_news-plain : (d news : Data) → IfSome (own_news_asked d news) IsPlain
+own_news-plain d news =
+    IfSome-given IsPlain (number_8_at (codes "at") d) _ (λ at.
+    IfSome-given IsPlain (as_bool news) _ (λ wanted.
+    IfSome-given_when IsPlain wanted d _ (
+    IfSome-given IsPlain (get (codes "mine") d) (when_true (OwnNews at)) (when_true-plain (OwnNews at) tt))))
+
+-- of three members
+three-plain : (d : Data) → IfSome (asked_by_three d) IsPlain
+three-plain d = IfSome-either IsPlain (get (codes "news") d) (own_news_asked d) (why_asked d) (own_news-plain d) (why-plain d)
+
 -- of two members
 abbrev paired : List (List ℕ) → Data → Option RequestModel
 paired names d = bind (when (has_size 2 d) d) (numbered_asked names)
@@ -161,9 +173,9 @@ paired-plain names d =
 
 request-plain : (names : List (List ℕ)) (d : Data) → IfSome (request_from names d) IsPlain
 request-plain names d =
-    elim (has_size 1 d) as (λ b. IfSome (cond b (alone_of d) (cond (has_size 3 d) (why_asked d) (paired names d))) IsPlain) [
+    elim (has_size 1 d) as (λ b. IfSome (cond b (alone_of d) (cond (has_size 3 d) (asked_by_three d) (paired names d))) IsPlain) [
       | true ↦ alone-plain d
-      | false ↦ elim (has_size 3 d) as (λ b. IfSome (cond b (why_asked d) (paired names d)) IsPlain) [ true ↦ why-plain d | false ↦ paired-plain names d ]
+      | false ↦ elim (has_size 3 d) as (λ b. IfSome (cond b (asked_by_three d) (paired names d)) IsPlain) [ true ↦ three-plain d | false ↦ paired-plain names d ]
     ]
 
 -- what a value asks for is plain

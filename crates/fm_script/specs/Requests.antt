@@ -24,6 +24,7 @@ pub data RequestModel : Type 0 where
   Does : (step : ScriptStep) → RequestModel
   Cuts : (at : ℕ) (range : Range) (name : Option (List ℕ)) → RequestModel
   News : (at : ℕ) → RequestModel
+  OwnNews : (at : ℕ) → RequestModel
   Takes : (at : ℕ) (digits : List ℕ) → RequestModel
   Asks : (at : ℕ) (topic : Topic) → RequestModel
   Explains : (at task : ℕ) → RequestModel
@@ -35,6 +36,7 @@ request_model (request.Open listed) = Opens listed.items
 request_model (request.Do step) = Does step
 request_model (request.Cut at range name) = Cuts at range (option_map string_bytes name)
 request_model (request.News at) = News at
+request_model (request.OwnNews at) = OwnNews at
 request_model (request.Take at digits) = Takes at (string_bytes digits)
 request_model (request.Ask at topic) = Asks at topic
 request_model (request.Why at task) = Explains at task
@@ -97,11 +99,23 @@ why_asked d =
     bind (when (is_text word (codes "why")) d) (λ d.
     option_map (Explains at) (id_at (codes "task") d))))
 
+-- an object of three members, the number of a coordinator and two times true: its own news
+abbrev pub own_news_asked : Data → Data → Option RequestModel
+own_news_asked d news =
+    bind (number_8_at (codes "at") d) (λ at.
+    bind (as_bool news) (λ wanted.
+    bind (when wanted d) (λ d.
+    bind (get (codes "mine") d) (when_true (OwnNews at)))))
+
+-- an object of three members
+abbrev pub asked_by_three : Data → Option RequestModel
+asked_by_three d = either (get (codes "news") d) (own_news_asked d) (why_asked d)
+
 -- what a value asks for, given that packets of the names were cut before
 abbrev pub request_from : List (List ℕ) → Data → Option RequestModel
 request_from names d =
     cond (has_size 1 d) (alone_of d) (
-    cond (has_size 3 d) (why_asked d) (
+    cond (has_size 3 d) (asked_by_three d) (
     bind (when (has_size 2 d) d) (λ d.
     bind (number_8_at (codes "at") d) (λ at.
     asked_at names at d))))

@@ -8,7 +8,7 @@ ghost use Rattle.serde_json.specs.Find.{as_str};
 ghost use Rattle.serde_json.specs.View.{view};
 ghost use Rattle.fm_script.specs.Json.{bind};
 ghost use Rattle.fm_script.specs.Script.{coordinators_of, script_step_of};
-ghost use Rattle.fm_script.specs.Requests.{Asks, Does, News, Opens, Renews, Takes, request_model, topic_named, cut_under, cut_asked, when_true, agree_asked, alone_of, asked_at, why_asked, request_from, Requests, RequestsNothing, IsPlain};
+ghost use Rattle.fm_script.specs.Requests.{Asks, Does, Opens, Takes, request_model, topic_named, cut_under, cut_asked, when_true, agree_asked, alone_of, asked_at, why_asked, own_news_asked, asked_by_three, request_from, Requests, RequestsNothing, IsPlain};
 
 use crate::names::Names;
 use crate::parse_script::{
@@ -24,7 +24,8 @@ use std::alloc::Global;
 
 /// What a line of a stream asks for, given that packets of the names were cut before. The line is an object of one
 /// member (`coordinators`, `renew`, `ask`), or of an `at` and one of `cut`, `news`, `take`, `ask`, `tell`, `deliver`,
-/// `trim` and `round`, or of an `at`, an `ask` and a `task`. Further members of an operation and of a cut are ignored, and of equal members the last counts.
+/// `trim` and `round`, or of an `at`, an `ask` and a `task`, or of an `at`, `news` and `mine`. Further members of an
+/// operation and of a cut are ignored, and of equal members the last counts.
 /// `BadScript(0)` if the line is no JSON or asks for nothing known, as a cut under one of the names; `OutOfMemory` if
 /// memory runs out. It costs the reading of the line as JSON, and a look-up of a name.
 pub fn read_request(alloc: Global, line: &[u8], names: &Names) -> Result<Request, Refusal>
@@ -50,7 +51,7 @@ fn request_in(alloc: Global, value: &Value, names: &Names) -> Result<Option<Requ
         return alone_in(alloc, value);
     }
     if is_object_of(value, 3) {
-        return Ok(why_in(value));
+        return Ok(asked_by_three_in(value));
     }
     if !is_object_of(value, 2) {
         return Ok(None);
@@ -68,7 +69,7 @@ fn alone_in(alloc: Global, value: &Value) -> Result<Option<Request>, OutOfMemory
     if value.get("coordinators").is_some() {
         opening_in(alloc, value)
     } else if let Some(asked) = value.get("renew") {
-        Ok(renewal_in(asked))
+        Ok(if_true(asked, Request::Renew))
     } else if let Some(asked) = value.get("ask") {
         Ok(agreement_in(asked))
     } else {
@@ -88,7 +89,7 @@ fn asked_in(
     if let Some(cut) = value.get("cut") {
         cut_asked_in(alloc, cut, names, at)
     } else if let Some(asked) = value.get("news") {
-        Ok(news_in(asked, at))
+        Ok(if_true(asked, Request::News { at }))
     } else if let Some(packet) = value.get("take") {
         packet_in(alloc, packet, at)
     } else if let Some(asked) = value.get("ask") {
@@ -111,12 +112,12 @@ fn opening_in(alloc: Global, value: &Value) -> Result<Option<Request>, OutOfMemo
     }
 }
 
-// The coordinators are renewed, by true.
-fn renewal_in(asked: &Value) -> Option<Request>
-    ensures { option_map request_model result ≡ when_true Renews (view asked.now) }
+// The request, if the value is true.
+fn if_true(asked: &Value, request: Request) -> Option<Request>
+    ensures { option_map request_model result ≡ when_true (request_model request) (view asked.now) }
 {
     if asked.as_bool()? {
-        Some(Request::Renew)
+        Some(request)
     } else {
         None
     }
@@ -178,17 +179,6 @@ fn cut_under_in(
     Ok(Some(Request::Cut { at, range, name }))
 }
 
-// A cut of what came since the last, by true.
-fn news_in(asked: &Value, at: u8) -> Option<Request>
-    ensures { option_map request_model result ≡ when_true (News at) (view asked.now) }
-{
-    if asked.as_bool()? {
-        Some(Request::News { at })
-    } else {
-        None
-    }
-}
-
 // A packet that is taken in, by its digits.
 fn packet_in(alloc: Global, packet: &Value, at: u8) -> Result<Option<Request>, OutOfMemory>
     ensures { IfOk result (λ q. option_map request_model q ≡ option_map (Takes at) (as_str (view packet.now))) }
@@ -206,6 +196,28 @@ fn question_in(asked: &Value, at: u8) -> Option<Request>
 {
     let topic = topic_in(asked.as_str()?)?;
     Some(Request::Ask { at, topic })
+}
+
+// What a coordinator is asked for by an object of three members.
+fn asked_by_three_in(value: &Value) -> Option<Request>
+    ensures { option_map request_model result ≡ asked_by_three (view value.now) }
+{
+    match value.get("news") {
+        Some(news) => own_news_in(news, value),
+        None => why_in(value),
+    }
+}
+
+// A cut of a coordinator's own deltas, by true and true.
+fn own_news_in(news: &Value, value: &Value) -> Option<Request>
+    ensures { option_map request_model result ≡ own_news_asked (view value.now) (view news.now) }
+{
+    let at = number_8_in(value, "at")?;
+    if news.as_bool()? {
+        if_true(value.get("mine")?, Request::OwnNews { at })
+    } else {
+        None
+    }
 }
 
 // Why a task waits or runs, asked of a coordinator by an object of three members.

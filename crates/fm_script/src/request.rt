@@ -39,6 +39,11 @@ pub enum Request {
     News {
         at: u8,
     },
+    /// A coordinator cuts a packet of its own deltas: of the first that it was not asked for so, and of those behind
+    /// it up to another's.
+    OwnNews {
+        at: u8,
+    },
     /// A coordinator takes in the packet that the hexadecimal digits spell, which are not yet checked.
     Take {
         at: u8,

@@ -31,8 +31,8 @@ pub seen_so : (behind : Packet → List Op) → StandBehind behind → (p : Pack
 seen_so behind stand p can = λ i. record { sender = p.sender; number = p.number; value = (sym (stand p can)) i }
 
 -- a world that is the same stands for the same
-pub stays : (d : Session) (new : Kept) (k : Following) → SessionAt d k → new ≡ d.world → IsStreamState new d.named d.marks k
-stays d new k here same = record { stands = subst (λ (x : Kept). WorldRepresents x k.world) (sym same) here.stands; named_is = here.named_is; marks_is = here.marks_is }
+pub stays : (d : Session) (new : Kept) (k : Following) → SessionAt d k → new ≡ d.world → IsStreamState new d.named d.marks d.own_marks k
+stays d new k here same = record { stands = subst (λ (x : Kept). WorldRepresents x k.world) (sym same) here.stands; named_is = here.named_is; marks_is = here.marks_is; own_marks_is = here.own_marks_is }
 
 -- a step of which there is nothing to tell
 module _ (old new : Session) (r : Result (Vec ℕ) Refusal) (at : ℕ) where
@@ -71,6 +71,7 @@ too_early (request.Open listed) never = absurd (never listed refl)
 too_early (request.Do step) never = refl
 too_early (request.Cut at range name) never = refl
 too_early (request.News at) never = refl
+too_early (request.OwnNews at) never = refl
 too_early (request.Take at digits) never = refl
 too_early (request.Ask at topic) never = refl
 too_early (request.Why at task) never = refl
@@ -78,7 +79,7 @@ too_early request.Agree never = refl
 too_early request.Renew never = refl
 
 -- what packets spell out may stand behind them
-spelled : StandBehind (λ p. ops p.value)
+pub spelled : StandBehind (λ p. ops p.value)
 spelled = λ p can. sym (know_ops p.value can.table)
 
 -- coordinators are renewed, or there was no memory for it

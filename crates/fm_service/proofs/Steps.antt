@@ -31,7 +31,8 @@ use Rattle.fm_query.specs.QueryTexts.{line_of}
 use Rattle.fm_query.specs.declared.query.Query.TheVariants as query
 use Rattle.fm_query.specs.Queries.{IsUnanswered}
 use Rattle.fm_query.specs.RoundText.{round_text}
-use Rattle.fm_service.specs.StreamSteps.{topic_query_at, news_since, news_of}
+use Rattle.fm_service.specs.StreamSteps.{topic_query_at, news_since, news_of, own_news_of}
+use Rattle.fm_service.specs.OwnNews.{own_news_since}
 use Rattle.fm_service.specs.WorldSteps.{step_at, WorldStep, IsCutLine, StreamRoundStep}
 
 -- the coordinator with the number has the number
@@ -78,6 +79,9 @@ module _ (k : Kept) (w : WorldOfSets) (at : ℕ) (h : WorldRepresents k w) where
   pub nobody_explains : None ≡ state_with k.coordinators at → (task : ℕ) → IsUnanswered (query.Why at task) w NoCoordinator
   nobody_explains none task = inr (absent at k.coordinators w.replicas h.coordinators (sym none), refl)
 
+  pub nobody_tells : None ≡ state_with k.coordinators at → (mark : ℕ) → own_news_of mark (with_number w.replicas at) ≡ Some Full
+  nobody_tells none mark = ap (own_news_of mark) (absent at k.coordinators w.replicas h.coordinators (sym none))
+
   module _ (s : State) (there : Some s ≡ state_with k.coordinators at) where
     pub here : Stood (with_number w.replicas at) s
     here = stood at k.coordinators w.replicas h.coordinators s (sym there)
@@ -89,6 +93,9 @@ module _ (k : Kept) (w : WorldOfSets) (at : ℕ) (h : WorldRepresents k w) where
 
     pub news_there : (mark : ℕ) → news_of mark (with_number w.replicas at) ≡ news_since mark here.replica
     news_there mark = ap (news_of mark) here.at
+
+    pub own_there : (mark : ℕ) → own_news_since mark here.replica ≡ own_news_of mark (with_number w.replicas at)
+    own_there mark = sym (ap (own_news_of mark) here.at)
 
     -- the cause at the coordinator is that of the step
     pub cut_cause : (range : Range) → cause (bounds s) (call.Cut range) ≡ cause_of w (step_at at (act.Cut range))

@@ -1,5 +1,6 @@
 pub mod Renewing
 pub mod WorldSteps
+pub mod OwnNews
 pub mod StreamSteps
 pub mod Sessions
 pub mod inner

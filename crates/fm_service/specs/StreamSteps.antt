@@ -20,7 +20,7 @@ use Rattle.fm_script.specs.declared.script.ScriptAct.TheVariants as act
 use Rattle.fm_script.specs.declared.request.Topic.{Topic}
 use Rattle.fm_script.specs.declared.request.Topic.TheVariants as topic
 use Rattle.fm_script.specs.Script.{is_named}
-use Rattle.fm_script.specs.Requests.{RequestModel, Opens, Does, Cuts, News, Takes, Asks, Explains, Agrees, Renews, Requests, RequestsNothing}
+use Rattle.fm_script.specs.Requests.{RequestModel, Opens, Does, Cuts, News, OwnNews, Takes, Asks, Explains, Agrees, Renews, Requests, RequestsNothing}
 use Rattle.fm_query.specs.declared.query.Query.{Query}
 use Rattle.fm_query.specs.declared.query.Query.TheVariants as query
 use Rattle.fm_query.specs.Queries.{IsText, IsUnanswered}
@@ -30,6 +30,7 @@ use Rattle.fm_script.specs.Openings.{new_world}
 use Rattle.fm_service.specs.WorldSteps.{step_at, StreamRoundStep}
 use Rattle.fm_service.specs.WorldSteps as acting
 use Rattle.fm_service.specs.Renewing.{renewed_world}
+use Rattle.fm_service.specs.OwnNews.{own_news_since, own_mark_after}
 
 -- the packets that were cut under a name, in the order of their cuts: their names, and their numbers among all packets
 pub record Named : Type 0 where
@@ -44,19 +45,20 @@ abbrev pub named_also : Named → List ℕ → ℕ → Named
 named_also p name number = record { names = p.names ++ name ∷ []; numbers = p.numbers ++ number ∷ [] }
 
 -- where a stream is: the packets that have names; for each number of a coordinator how many of its deltas went out as
--- news; and the world
+-- news, and up to which delta its own went out; and the world
 pub record Following : Type 0 where
   pub named : Named
   pub marks : List ℕ
+  pub own_marks : List ℕ
   pub world : WorldOfSets
 
 -- a world of which nothing went out
 abbrev pub fresh : WorldOfSets → Following
-fresh w = record { named = none_named; marks = replicate 256 0; world = w }
+fresh w = record { named = none_named; marks = replicate 256 0; own_marks = replicate 256 0; world = w }
 
 -- the same, with another world
 abbrev pub at_world : Following → WorldOfSets → Following
-at_world k w = record { named = k.named; marks = k.marks; world = w }
+at_world k w = record { named = k.named; marks = k.marks; own_marks = k.own_marks; world = w }
 
 -- the names that packets have; none before the line that lists the coordinators
 abbrev pub cut_names_in : Option Following → List (List ℕ)
@@ -112,7 +114,27 @@ pub record Tells (k : Following) (at : ℕ) (text : List ℕ) (j : Following) : 
   pub there : with_number k.world.replicas at ≡ Some replica
   pub v : WorldOfSets
   pub cuts : acting.Cuts k.world at (news_since (mark_at k at) replica) text v
-  pub is : j ≡ record { named = k.named; marks = slice_set k.marks at (length replica.buffer); world = v }
+  pub is : j ≡ record { named = k.named; marks = slice_set k.marks at (length replica.buffer); own_marks = k.own_marks; world = v }
+
+abbrev pub own_mark_at : Following → ℕ → ℕ
+own_mark_at k at = get_or k.own_marks at 0
+
+-- a range that is cut, and its text; without one there is neither
+abbrev pub CutsMaybe : WorldOfSets → ℕ → Option Range → List ℕ → WorldOfSets → Type 0
+CutsMaybe w at None text v = (text ≡ []) × (v ≡ w)
+CutsMaybe w at (Some range) text v = acting.Cuts w at range text v
+
+-- why that cut is refused
+abbrev pub CutRefused : Following → ℕ → Option Range → Refusal → Type 0
+CutRefused k at range e = (asked : Range) × (range ≡ Some asked) × (e ≡ refusal_of k.world (step_at at (world.Cut asked)))
+
+-- the own news of the coordinator with the number make j of k
+pub record TellsOwn (k : Following) (at : ℕ) (text : List ℕ) (j : Following) : Type 0 where
+  pub replica : Replica
+  pub there : with_number k.world.replicas at ≡ Some replica
+  pub v : WorldOfSets
+  pub cuts : CutsMaybe k.world at (own_news_since (own_mark_at k at) replica) text v
+  pub is : j ≡ record { named = k.named; marks = k.marks; own_marks = slice_set k.own_marks at (own_mark_after (own_mark_at k at) replica); world = v }
 
 -- a packet from elsewhere is taken in, and makes j of k
 pub record ImportStep (behind : Packet → List Op) (k : Following) (at : ℕ) (digits : List ℕ) (j : Following) : Type 0 where
@@ -134,8 +156,9 @@ topic_query_at topic.End n = query.End n
 abbrev pub DoesAt : (Packet → List Op) → Following → RequestModel → List ℕ → Following → Type 0
 DoesAt behind k (Opens listed) text j = ⊥
 DoesAt behind k (Does step) text j = (v : WorldOfSets) × StreamActStep k step.at step.act text v × (j ≡ at_world k v)
-DoesAt behind k (Cuts at range name) text j = (v : WorldOfSets) × acting.Cuts k.world at range text v × (j ≡ record { named = named_by k name; marks = k.marks; world = v })
+DoesAt behind k (Cuts at range name) text j = (v : WorldOfSets) × acting.Cuts k.world at range text v × (j ≡ record { named = named_by k name; marks = k.marks; own_marks = k.own_marks; world = v })
 DoesAt behind k (News at) text j = Tells k at text j
+DoesAt behind k (OwnNews at) text j = TellsOwn k at text j
 DoesAt behind k (Takes at digits) text j = (text ≡ []) × ImportStep behind k at digits j
 DoesAt behind k (Asks at topic) text j = IsText (topic_query_at topic at) k.world text × (j ≡ k)
 DoesAt behind k (Explains at task) text j = IsText (query.Why at task) k.world text × (j ≡ k)
@@ -153,6 +176,11 @@ abbrev pub news_of : ℕ → Option Replica → Range
 news_of mark None = Full
 news_of mark (Some r) = news_since mark r
 
+-- the range of own news of a replica, if there is one, and if there are any; all if there is no replica
+abbrev pub own_news_of : ℕ → Option Replica → Option Range
+own_news_of mark None = Some Full
+own_news_of mark (Some r) = own_news_since mark r
+
 -- why a stream that has its coordinators refuses a request
 abbrev pub RefusesAt : Following → RequestModel → Refusal → Type 0
 RefusesAt k (Opens listed) e = e ≡ BadScript 0
@@ -160,6 +188,7 @@ RefusesAt k (Does step) e = e ≡ refusal_of k.world (step_at step.at (asked_for
 RefusesAt k (Cuts at range None) e = e ≡ refusal_of k.world (step_at at (world.Cut range))
 RefusesAt k (Cuts at range (Some name)) e = (e ≡ refusal_of k.world (step_at at (world.Cut range))) ⊎ (IsTrue (is_named k.named.names name) × (e ≡ BadScript 0))
 RefusesAt k (News at) e = e ≡ refusal_of k.world (step_at at (world.Cut (news_of (mark_at k at) (with_number k.world.replicas at))))
+RefusesAt k (OwnNews at) e = CutRefused k at (own_news_of (own_mark_at k at) (with_number k.world.replicas at)) e
 RefusesAt k (Takes at digits) e = IsNoPacketIn digits e ⊎ ((packet : Packet) × IsPacketIn digits packet × (e ≡ refusal_of k.world (step_at at (world.Take packet))))
 RefusesAt k (Asks at topic) e = IsUnanswered (topic_query_at topic at) k.world e
 RefusesAt k (Explains at task) e = IsUnanswered (query.Why at task) k.world e
@@ -203,7 +232,8 @@ abbrev pub Answers : ℕ → (Packet → List Op) → Option Following → List 
 Answers most behind old line answer new = IsAccepted most behind old line answer new ⊎ IsRefused old line answer new
 
 -- the world, the names and the marks are those of the stream
-pub record IsStreamState (world : Kept) (named : Named) (marks : List ℕ) (k : Following) : Type 0 where
+pub record IsStreamState (world : Kept) (named : Named) (marks own_marks : List ℕ) (k : Following) : Type 0 where
   pub stands : WorldRepresents world k.world
   pub named_is : named ≡ k.named
   pub marks_is : marks ≡ k.marks
+  pub own_marks_is : own_marks ≡ k.own_marks

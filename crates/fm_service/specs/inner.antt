@@ -1,2 +1,3 @@
 pub mod ReopenedWorld
 pub mod SessionSteps
+pub mod OwnRuns

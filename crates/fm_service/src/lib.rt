@@ -4,6 +4,7 @@
 pub mod acting;
 mod cut_names;
 pub mod laws;
+mod own_news;
 pub mod renewing;
 mod session;
 pub mod stream;

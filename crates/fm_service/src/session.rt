@@ -14,13 +14,14 @@ ghost use Rattle.fm_script.specs.declared.script.ScriptAct.TheVariants as act;
 ghost use Rattle.fm_script.specs.Requests.{request_model};
 ghost use Rattle.fm_script.specs.Requests as asked;
 ghost use Rattle.fm_service.specs.WorldSteps.{step_at, WorldStep};
-ghost use Rattle.fm_service.specs.StreamSteps.{Following, at_world, packet_number_at, is_due, topic_query_at, fresh};
+ghost use Rattle.fm_service.specs.StreamSteps.{Following, CutsMaybe, CutRefused, at_world, packet_number_at, is_due, topic_query_at, fresh};
 ghost use Rattle.fm_service.specs.Renewing.{renewed_world};
 ghost use Rattle.fm_service.specs.Sessions.{SessionAt};
 ghost use Rattle.fm_service.specs.inner.SessionSteps.{Goes, StopsRequest, Accepts, Rejects};
 
 use crate::acting::{cut_line, round, take_step};
 use crate::cut_names::NamedPackets;
+use crate::own_news::own_news_since;
 use crate::renewing::renewed;
 use fm_coord::coordinator::Coordinator;
 use fm_coord::entry::Range;
@@ -38,13 +39,14 @@ use fm_world::world::World;
 use std::alloc::Global;
 
 /// Coordinators, the packets that they cut under a name, and for each number of a coordinator how many of its deltas
-/// were sent as news.
+/// were sent as news, and up to which delta its own were sent.
 #[derive(Drop)]
 pub(crate) struct Session {
     pub(crate) alloc: Global,
     pub(crate) world: World<Keeper>,
     pub(crate) named: NamedPackets,
     pub(crate) marks: [u64; 256],
+    pub(crate) own_marks: [u64; 256],
 }
 
 impl Session {
@@ -57,6 +59,7 @@ impl Session {
             world,
             named: NamedPackets::new(alloc),
             marks: [0u64; 256],
+            own_marks: [0u64; 256],
         }
     }
 
@@ -87,6 +90,7 @@ impl Session {
                 Some(name) => self.cut_named(at, range, &name),
             },
             Request::News { at } => self.news(at),
+            Request::OwnNews { at } => self.own_news(at),
             Request::Take { at, digits } => self.take_in(at, &digits),
             Request::Ask { at, topic } => self.ask(at, topic),
             Request::Why { at, task } => self.why(at, task),
@@ -187,6 +191,35 @@ impl Session {
         let text = self.cut(at, range)?;
         self.marks[usize::from(at)] = end;
         Ok(text)
+    }
+
+    // A cut of the first longest run of own deltas that were not sent so, or of all that is known if some delta was
+    // trimmed since; without one there is no cut.
+    fn own_news(&mut self, at: u8) -> Result<Vec<u8>, Refusal>
+        ensures ok { Goes result self.old self.new (asked.OwnNews at) }
+        ensures err { StopsRequest result self.old (asked.OwnNews at) }
+        ensures unchanged { OnErr result (self.new ≡ self.old) }
+    {
+        let Some(coordinator) = self.world.numbered(at) else {
+            return Err(Refusal::NoCoordinator);
+        };
+        let news = own_news_since(coordinator, self.own_marks[usize::from(at)]);
+        let text = self.cut_maybe(at, news.range)?;
+        self.own_marks[usize::from(at)] = news.mark;
+        Ok(text)
+    }
+
+    // A cut whose packet has no name, if there is something to cut.
+    fn cut_maybe(&mut self, at: u8, range: Option<Range>) -> Result<Vec<u8>, Refusal>
+        ensures ok { (k : Following) → SessionAt self.old k → IfOk result (λ text. (v : WorldOfSets)
+            × CutsMaybe k.world at range text.items v × SessionAt self.new (at_world k v)) }
+        ensures err { (k : Following) → SessionAt self.old k → IfErr result (CutRefused k at range) }
+        ensures unchanged { OnErr result (self.new ≡ self.old) }
+    {
+        match range {
+            Some(range) => self.cut(at, range),
+            None => Ok(Vec::new(self.alloc)),
+        }
     }
 
     // Merges the packet that the digits encode.

@@ -9,7 +9,7 @@ returns-clause-ok c = λ behind stand k here.
     let count = c.packet_count.ensures ∙ counted c.args.self.now.world k.world here.stands in
     let new : c.in_ok-add.field-0 ≡ true = cc in
     let named = c.in_ok-add.ensures.added new ∙ (λ i. named_also (here.named_is i) c.args.name.now (count i)) in (
-      record { named = named_also k.named c.args.name.now (length k.world.packets); marks = k.marks; world = t.0 },
+      record { named = named_also k.named c.args.name.now (length k.world.packets); marks = k.marks; own_marks = k.own_marks; world = t.0 },
       (t.0, record { told = c.in_ok-text.ensures.ok k.world here.stands; cut = t.1 }, refl),
-      record { stands = t.2; named_is = named; marks_is = here.marks_is },
+      record { stands = t.2; named_is = named; marks_is = here.marks_is; own_marks_is = here.own_marks_is },
     )
