@@ -133,13 +133,16 @@ def split_anywhere():
 
 # readers and writers that are slow, do not block, or are not there
 
-# answers a question by so many bytes, whatever is asked, hangs at a round, and cuts packets of nothing
+# answers a question by so many bytes, or by how many deltas there are, hangs at a round, and cuts packets of nothing
 ANSWERING = """#!/usr/bin/env python3
 import sys, time
-count = 0
+count = told = 0
 for line in sys.stdin.buffer:
     text = b""
-    if b'"ask"' in line:
+    told += b'"tell"' in line or b'"take"' in line
+    if b'"end"' in line:
+        text = b"end 0 %d\\n" % told
+    elif b'"ask"' in line:
         text = b"7" * {size} + b"\\n"
     elif b'"cut"' in line:
         count += 1

@@ -73,16 +73,26 @@ class Coordinator:
         self._entries += sum(map(is_accepted, answers))
         told = [line for line, kind, answer in zip(lines, kinds, answers) if kind is Kind.TELL and is_accepted(answer)]
         again += told
-        self.deltas += len(told)
-        if is_accepted(answers[-1]):
-            if kinds[-1] is Kind.CUT:
-                self._skip()
-            elif kinds[-1] is Kind.ROUND:
-                self.deltas += 1
-                again += self._deltas_again(self.deltas - 1) if b" accepted\n" in answers[-1] else []
-            elif kinds[-1] is Kind.STRANGE:
-                again += self._count_again()
+        last = kinds[-1] if is_accepted(answers[-1]) else Kind.QUESTION
+        if told or last in (Kind.ROUND, Kind.STRANGE):
+            again += self._count(self.deltas + len(told), last, answers[-1])
+        if last is Kind.CUT:
+            self._skip()
+        elif last is Kind.STRANGE:
+            self._make_even()
         return answers
+
+    def _count(self, told: int, last: Kind, answer: bytes) -> list[bytes]:
+        """Counts deltas, as the follower says, after accepted lines, with which the lines that were told would come to so many. Answers
+        lines that say what else was added. If there are fewer the coordinator is renewed."""
+        self.deltas = self._end()
+        if last is Kind.STRANGE:
+            self.may_have_changed = True
+        if self.deltas < told:
+            self._renew_now()
+            return [take_line(self.number, self.cut_state())]
+        is_empty = last is Kind.ROUND and b" accepted\n" not in answer
+        return [] if self.deltas == told or is_empty else self._deltas_again(told)
 
     def _deltas_again(self, first: int) -> list[bytes]:
         """A line that says what the deltas from that one on have: a round that is done again may come to something
@@ -91,18 +101,11 @@ class Coordinator:
         self._skip()
         return [line]
 
-    def _count_again(self) -> list[bytes]:
-        """Counts deltas and packets after an accepted line of a kind that is not known here. If there are fewer deltas than
-        before the coordinator is renewed. Answers lines that say what was added."""
-        before, self.may_have_changed = self.deltas, True
-        self.deltas = self._end()
-        if self.deltas < before:
-            self._renew_now()
-            return [take_line(self.number, self.cut_state())]
+    def _make_even(self) -> None:
+        """Has the next packet of news get an odd number again, after a line that may have cut some."""
         number = number_of(self._skip())
         if number is not None and number % 2:
             self._skip()
-        return self._deltas_again(before) if self.deltas > before else []
 
     def _end(self) -> int:
         """How many deltas there are."""
