@@ -59,11 +59,17 @@ class Day:
             began = time.monotonic()
             feeder = threading.Thread(target=lambda: [bridge.write(b"".join(some)) for some in self.parts()], daemon=True)
             feeder.start()
-            bridge.wait_for(len(self.lines), PATIENCE)
-            took, answered = time.monotonic() - began, bridge.heard.count(b"ok\n")
+            answered = self.heard(bridge, began + PATIENCE)
+            took = time.monotonic() - began
             ended = [each.end(PATIENCE) for each in (bridge, other)]
             states = [(said["bytes"], said["seconds"], said["processor"]) for said in bridge.events() if said["event"] == "state"]
             return took, answered, states, ended
+
+    def heard(self, bridge, end):
+        """How many lines were answered with ok, once all were or the bridge ended. The texts of answers have lines of their own."""
+        while (answered := bridge.heard.count(b"ok\n")) < len(self.lines) and bridge.reader.is_alive() and time.monotonic() < end:
+            time.sleep(0.2)
+        return answered
 
     def parts(self):
         left = iter(self.lines)
