@@ -1,14 +1,27 @@
 //! Histories gathered.
 
-use crate::cluster::{packet, plan};
-use crate::coordinators::{Either, Kind, commit, cut, made, merge};
+use crate::cluster::{numbered, op, packet, plan};
 use crate::memory::Memory;
 use crate::verdict::{Verdict, judged};
+use fm_coord::coordinator::Coordinator;
 use fm_coord::entry::Range;
+use fm_coord::shared::Shared;
+use fm_delta::packet::Packet;
+use fm_policy::rebuilder::Rebuilder;
+use fm_records::ops::Op;
 use fm_records::refusal::Refusal;
+use fm_round::plan::Plan;
 use fm_world::distinct::distinct;
 use fm_world::gather::gather;
 use std::alloc::Global;
+
+// How many operations each is told, and how many entries a history may have.
+const TOLD: u32 = 61;
+
+const LIMIT: usize = 1000;
+
+// A coordinator that builds its network when it is asked for.
+type Builder = Coordinator<Rebuilder>;
 
 // What histories were gathered to: why they were not, how many steps, and how many coordinators are left.
 #[derive(PartialEq, Drop)]
@@ -41,37 +54,70 @@ pub(crate) fn stuck(memory: Memory) -> Result<Verdict, Refusal> {
     gathers(memory, coordinators.as_slice(), &but_one)
 }
 
-fn two(memory: Memory) -> Result<Vec<Either>, Refusal> {
+fn two(memory: Memory) -> Result<Vec<Builder>, Refusal> {
     let mut both = Vec::new(memory.alloc);
-    both.push(made(memory, Kind::Edits, 1)?)?;
-    both.push(made(memory, Kind::Builds, 2)?)?;
+    for number in 1..=2 {
+        both.push(told(memory.alloc, number)?)?;
+    }
     tell_one_another(memory.alloc, both.as_mut_slice())?;
     Ok(both)
 }
 
-fn tell_one_another(alloc: Global, both: &mut [Either]) -> Result<(), Refusal> {
+// A coordinator that was told operations.
+fn told(alloc: Global, number: u8) -> Result<Builder, Refusal> {
+    let mut coordinator = new(alloc, number)?;
+    for number in 0..TOLD {
+        tell(&mut coordinator, op(number))?;
+    }
+    Ok(coordinator)
+}
+
+fn new(alloc: Global, number: u8) -> Result<Builder, Refusal> {
+    let number = numbered(number)?;
+    let keeper = Rebuilder::new(alloc)?;
+    Ok(Coordinator::new(alloc, number, LIMIT, keeper))
+}
+
+fn tell(coordinator: &mut Builder, op: Op) -> Result<(), Refusal> {
+    coordinator.tell(0, op)
+}
+
+fn merge(coordinator: &mut Builder, packet: Packet) -> Result<(), Refusal> {
+    coordinator.merge(0, packet)
+}
+
+fn cut(coordinator: &mut Builder) -> Result<Shared<Packet>, Refusal> {
+    coordinator.cut(0, Range::Full)
+}
+
+fn commit(coordinator: &mut Builder, plan: Plan) -> Result<(), Refusal> {
+    let _admitted = coordinator.commit(0, plan)?;
+    Ok(())
+}
+
+fn tell_one_another(alloc: Global, both: &mut [Builder]) -> Result<(), Refusal> {
     if let [one, other] = both {
-        commit(one, 0, plan(alloc)?)?;
+        commit(one, plan(alloc)?)?;
         pass_on(one, other)?;
         pass_on(other, one)?;
     }
     Ok(())
 }
 
-fn pass_on(from: &mut Either, to: &mut Either) -> Result<(), Refusal> {
-    let packet = cut(from, 0, Range::Full)?;
-    merge(to, 0, packet.get().copy()?)
+fn pass_on(from: &mut Builder, to: &mut Builder) -> Result<(), Refusal> {
+    let packet = cut(from)?;
+    merge(to, packet.get().copy()?)
 }
 
-fn merge_at_last(alloc: Global, both: &mut [Either]) -> Result<(), Refusal> {
+fn merge_at_last(alloc: Global, both: &mut [Builder]) -> Result<(), Refusal> {
     if let [_, other] = both {
-        merge(other, 0, packet(alloc, 40, 48)?)?;
+        merge(other, packet(alloc, 40, 48)?)?;
     }
     Ok(())
 }
 
 // How many entries they have.
-fn entries(coordinators: &[Either]) -> usize {
+fn entries(coordinators: &[Builder]) -> usize {
     let mut entries = 0usize;
     for coordinator in coordinators {
         entries = entries.saturating_add(coordinator.history().len());
@@ -79,7 +125,7 @@ fn entries(coordinators: &[Either]) -> usize {
     entries
 }
 
-fn gathers(memory: Memory, coordinators: &[Either], wanted: &Outcome) -> Result<Verdict, Refusal> {
+fn gathers(memory: Memory, coordinators: &[Builder], wanted: &Outcome) -> Result<Verdict, Refusal> {
     memory.refuse();
     let found = steps_of(memory.alloc, coordinators)?;
     memory.give();
@@ -89,7 +135,7 @@ fn gathers(memory: Memory, coordinators: &[Either], wanted: &Outcome) -> Result<
     Ok(judged(None, found == *wanted))
 }
 
-fn steps_of(alloc: Global, coordinators: &[Either]) -> Result<Outcome, Refusal> {
+fn steps_of(alloc: Global, coordinators: &[Builder]) -> Result<Outcome, Refusal> {
     if !distinct(coordinators) {
         return Err(Refusal::NoCoordinator);
     }

@@ -3,31 +3,25 @@
 //!
 //! With no word memory is ample. If this program runs on the allocator of tests/refusing.c, words can ask for more:
 //! with a number that allocation within each call is refused; with a second number further ones in turn, each by so
-//! many after the last, until the call has no more, and a line for each. Another word picks a group of calls: `values`,
-//! those of coordinators that keep their networks in one way, `edits`, `stale` or `builds`, or `others`.
+//! many after the last, until the call has no more, and a line for each. Another word picks a group of calls: `values` or
+//! `others`.
 #![tactic(auto)]
 
 mod bytes;
-mod calling;
 mod cluster;
-mod coordinators;
 mod editing;
 mod gathering;
 mod knowing;
 mod memory;
 mod networks;
 mod planning;
-mod seats;
 mod trials;
 mod verdict;
 
-use calling::ASKED;
-use coordinators::{Kind, place_of_edits};
 use memory::Memory;
 use std::alloc::Global;
 use std::env;
-use std::sync::Wait;
-use trials::{Kept, OTHERS, Trial, VALUES};
+use trials::{OTHERS, Trial, VALUES};
 
 // More allocations than a call has.
 const MOST_PLACES: u32 = 1_000_000;
@@ -39,13 +33,12 @@ fn main(rt: HostRuntime) -> Result<(), anyhow::Error> {
     }
     if words.asks("values") {
         for value in VALUES {
-            print(&rt, &rt, &words, Trial::Value(value))?;
+            print(&rt, &words, Trial::Value(value))?;
         }
     }
-    print_kinds(&rt, &rt, &words)?;
     if words.asks("others") {
         for other in OTHERS {
-            print(&rt, &rt, &words, Trial::Other(other))?;
+            print(&rt, &words, Trial::Other(other))?;
         }
     }
     Ok(())
@@ -102,49 +95,11 @@ fn print_bytes(rt: &HostRuntime) -> Result<(), anyhow::Error> {
     Ok(())
 }
 
-// Calls of coordinators, for each way in which they keep their networks.
-fn print_kinds<W: Wait>(rt: &HostRuntime, waits: &W, words: &Words) -> Result<(), anyhow::Error> {
-    if words.asks("edits") {
-        print_kept(rt, waits, words, Kind::Edits)?;
-    }
-    if words.asks("stale") {
-        let place = place_of_edits(words.memory(rt.alloc()))?;
-        print_kept(rt, waits, words, Kind::Stale(place))?;
-    }
-    if words.asks("builds") {
-        print_kept(rt, waits, words, Kind::Builds)?;
-    }
-    Ok(())
-}
-
-// Calls of a coordinator that keeps its network so, and by a seat of a node of such a one.
-fn print_kept<W: Wait>(
-    rt: &HostRuntime,
-    waits: &W,
-    words: &Words,
-    kind: Kind,
-) -> Result<(), anyhow::Error> {
-    for asked in ASKED {
-        print(rt, waits, words, Trial::Kept(Kept::Asked(asked), kind))?;
-    }
-    print(rt, waits, words, Trial::Kept(Kept::Shown, kind))?;
-    print(rt, waits, words, Trial::Kept(Kept::Dumped, kind))?;
-    for asked in ASKED {
-        print(rt, waits, words, Trial::Kept(Kept::BySeat(asked), kind))?;
-    }
-    print(rt, waits, words, Trial::Kept(Kept::Round, kind))
-}
-
 // Tries a call, with each of the chosen allocations refused in turn, until it has no more.
-fn print<W: Wait>(
-    rt: &HostRuntime,
-    waits: &W,
-    words: &Words,
-    trial: Trial,
-) -> Result<(), anyhow::Error> {
+fn print(rt: &HostRuntime, words: &Words, trial: Trial) -> Result<(), anyhow::Error> {
     let mut memory = words.memory(rt.alloc());
     for _ in 0..MOST_PLACES {
-        let text = match trial.made(waits, memory) {
+        let text = match trial.made(memory) {
             Ok(verdict) => verdict.text(),
             Err(_) => "not begun",
         };

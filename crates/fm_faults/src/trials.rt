@@ -1,14 +1,10 @@
 //! Calls that are tried, each with a name.
 
-use crate::calling::{self, Asked, Direct};
-use crate::coordinators::Kind;
 use crate::memory::Memory;
-use crate::seats::{self, Wanted};
 use crate::verdict::Verdict;
 use crate::{editing, gathering, knowing, networks, planning};
 use fm_records::refusal::Refusal;
 use std::fmt;
-use std::sync::Wait;
 
 /// A call of values.
 #[derive(Clone, Copy, Drop)]
@@ -53,31 +49,19 @@ pub(crate) const VALUES: [Value; 17] = [
     Value::Stops,
 ];
 
-/// A call of a coordinator that keeps its network in one of the ways.
-#[derive(Clone, Copy, Drop)]
-pub(crate) enum Kept {
-    Asked(Asked),
-    Shown,
-    Dumped,
-    BySeat(Asked),
-    Round,
-}
-
 /// Another call.
 #[derive(Clone, Copy, Drop)]
 pub(crate) enum Other {
     Edit,
     EditFirst,
-    NewNode,
     Gather,
     GatherStuck,
 }
 
 /// Each of these calls.
-pub(crate) const OTHERS: [Other; 5] = [
+pub(crate) const OTHERS: [Other; 4] = [
     Other::Edit,
     Other::EditFirst,
-    Other::NewNode,
     Other::Gather,
     Other::GatherStuck,
 ];
@@ -86,7 +70,6 @@ pub(crate) const OTHERS: [Other; 5] = [
 #[derive(Clone, Copy, Drop)]
 pub(crate) enum Trial {
     Value(Value),
-    Kept(Kept, Kind),
     Other(Other),
 }
 
@@ -138,38 +121,12 @@ impl Value {
     }
 }
 
-impl fmt::Display for Kept {
-    fn fmt<W: fmt::Write>(&self, f: &mut fmt::Formatter<W>) -> fmt::Result {
-        match self {
-            Kept::Asked(asked) => f.write_str(asked.text()),
-            Kept::Shown => f.write_str("what a view shows"),
-            Kept::Dumped => f.write_str("dump of a coordinator"),
-            Kept::BySeat(asked) => write!(f, "{} by a seat", asked.text()),
-            Kept::Round => f.write_str("run_round"),
-        }
-    }
-}
-
-impl Kept {
-    // Makes it.
-    fn made<R: Wait>(&self, rt: &R, memory: Memory, kind: Kind) -> Result<Verdict, Refusal> {
-        match self {
-            Kept::Asked(asked) => calling::tried(memory, kind, Direct::Call(*asked)),
-            Kept::Shown => calling::tried(memory, kind, Direct::Shown),
-            Kept::Dumped => calling::tried(memory, kind, Direct::Dumped),
-            Kept::BySeat(asked) => seats::asked(rt, memory, kind, Wanted::Call(*asked)),
-            Kept::Round => seats::asked(rt, memory, kind, Wanted::Round),
-        }
-    }
-}
-
 impl Other {
     // As it is printed.
     fn text(&self) -> &'static str {
         match self {
             Other::Edit => "edit",
             Other::EditFirst => "edit of what is first known",
-            Other::NewNode => "Node::new",
             Other::Gather => "gather",
             Other::GatherStuck => "gather of what is stuck",
         }
@@ -180,7 +137,6 @@ impl Other {
         match self {
             Other::Edit => editing::edited(memory),
             Other::EditFirst => editing::edited_first(memory),
-            Other::NewNode => seats::made_node(memory),
             Other::Gather => gathering::gathered(memory),
             Other::GatherStuck => gathering::stuck(memory),
         }
@@ -191,7 +147,6 @@ impl fmt::Display for Trial {
     fn fmt<W: fmt::Write>(&self, f: &mut fmt::Formatter<W>) -> fmt::Result {
         match self {
             Trial::Value(value) => f.write_str(value.text()),
-            Trial::Kept(kept, kind) => write!(f, "{kept}, {}", kind.text()),
             Trial::Other(other) => f.write_str(other.text()),
         }
     }
@@ -199,10 +154,9 @@ impl fmt::Display for Trial {
 
 impl Trial {
     /// Makes the call, and says its result. Refused if what it is made on could not be made.
-    pub(crate) fn made<R: Wait>(&self, rt: &R, memory: Memory) -> Result<Verdict, Refusal> {
+    pub(crate) fn made(&self, memory: Memory) -> Result<Verdict, Refusal> {
         match self {
             Trial::Value(value) => value.made(memory),
-            Trial::Kept(kept, kind) => kept.made(rt, memory, *kind),
             Trial::Other(other) => other.made(memory),
         }
     }

@@ -7,14 +7,10 @@ use fm_records::refusal::Refusal;
 pub(crate) enum Verdict {
     /// It was answered as with ample memory.
     Done,
-    /// So it was, but the network does not follow what is known.
-    DoneStale,
     /// It was answered otherwise, or what it changed is something else.
     DoneOtherwise,
     /// It ran out of memory, and all is as before.
     Unchanged,
-    /// It ran out of memory after its view, which alone is listed.
-    Viewed,
     /// It ran out of memory, and something is not as before.
     Changed,
     /// It was refused for something else.
@@ -26,31 +22,10 @@ impl Verdict {
     pub(crate) fn text(&self) -> &'static str {
         match self {
             Verdict::Done => "ok",
-            Verdict::DoneStale => "ok stale",
             Verdict::DoneOtherwise => "ok CHANGED",
             Verdict::Unchanged => "refused unchanged",
-            Verdict::Viewed => "refused viewed",
             Verdict::Changed => "refused CHANGED",
             Verdict::RefusedOtherwise => "refused OTHERWISE",
-        }
-    }
-}
-
-impl Verdict {
-    /// The same, but of a call that may have left the network stale, which an accepted one may do if memory runs out.
-    pub(crate) fn with_stale(self, is_stale: bool) -> Verdict {
-        match self {
-            Verdict::Done if is_stale => Verdict::DoneStale,
-            Verdict::Unchanged | Verdict::Viewed if is_stale => Verdict::Changed,
-            other => other,
-        }
-    }
-
-    /// The same, but of a refused call that may have got past its view.
-    pub(crate) fn with_view(self, is_viewed: bool) -> Verdict {
-        match self {
-            Verdict::Unchanged if is_viewed => Verdict::Viewed,
-            other => other,
         }
     }
 }
