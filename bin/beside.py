@@ -11,6 +11,7 @@ import sys
 import tempfile
 import threading
 import time
+import budget
 from lanes import IDLE
 
 ROOT = pathlib.Path(__file__).resolve().parent.parent
@@ -18,7 +19,7 @@ ROOT = pathlib.Path(__file__).resolve().parent.parent
 BUILD, GROUP = 3_000_000_000, 1_000_000_000
 SECONDS = 3600
 COUNTS = re.compile(r"^(\d+) passed, (\d+) failed$", re.MULTILINE)
-TRIED = re.compile(r"^test result: \w+\. (\d+) passed; (\d+) failed; 0 ignored; 0 filtered out$", re.MULTILINE)
+COUNTED = re.compile(r"^test result: \w+\. (\d+) passed; (\d+) failed; 0 ignored; 0 filtered out$", re.MULTILINE)
 # the programs that tests/run runs
 TESTED = ("fm_cli", "fm_probe_editor", "fm_faults")
 
@@ -33,14 +34,17 @@ class Beside:
         self.crates = []
 
     def tasks(self, given):
-        """The toolchain's tasks with these. The tests of a crate are tried, in place of their proof: one crate after another, since the
-        build is in a session of its own, and so has no lower priority than the proofs."""
+        """The toolchain's tasks with these. The tests of a crate, and the programs of budget.TRIED, are tried, in place of their proof: one
+        crate after another, since the build is in a session of its own, and so has no lower priority than the proofs."""
         added, before = dict(given), []
         for crate in self.crates:
-            if (crate.name, "tests") in given and not self.proves_tests and crate.has_tests():
+            is_tried = crate.name in budget.TRIED and not self.proves_tests
+            if (crate.name, "tests") in given and not self.proves_tests and (crate.has_tests() or is_tried):
                 added[crate.name, "tests"] = before, 1, BUILD, lambda _given, _jobs, name=crate.name: self.tried(name)
                 before = [(crate.name, "tests")]
-            if (crate.name, "proof") in given and crate.is_program:
+            if (crate.name, "proof") in given and is_tried:
+                added[crate.name, "proof"] = before, 0, 0, lambda given, _jobs, task=before[0]: given[task]
+            elif (crate.name, "proof") in given and crate.is_program:
                 added[crate.name, "run"] = [(crate.name, "proof")], 1, GROUP, lambda given, _jobs, crate=crate: self.run_program(given, crate)
         programs = [(name, "proof") for name in TESTED]
         if all(key in given for key in programs) and os.getcwd() == str(ROOT):
@@ -77,11 +81,13 @@ class Beside:
         print(text, flush=True)
 
     def tried(self, name):
-        """Runs the tests of a crate by `rt try`: with checks of each index, sum and access, and no proof."""
+        """Runs the tests of a crate, or a program, by `rt try`: with checks of each index, sum and access, and no proof."""
         task = name, "tests"
         said, status = self.timed(task, [sys.executable, str(ROOT / "bin/tried.py")], cwd=pathlib.Path(self.copied(), "crates", name))
-        found = TRIED.search(said) if status == 0 else None
+        found = COUNTED.search(said) if status == 0 else None
         passed, failed = (int(found[1]), int(found[2])) if found else (0, 1)
+        if name in budget.TRIED:
+            passed, failed = int(status == 0), int(status != 0)
         self.tell(task, passed, failed or int(not passed), said)
         return passed > 0 and not failed
 
@@ -138,8 +144,9 @@ class Beside:
         if times:
             pathlib.Path(times).write_text(json.dumps([[*task, *spent] for task, spent in self.spent.items()]))
         tried = sorted({name for name, kind in self.spent if kind == "tests"})
-        if tried:
-            print(f"run by rt try and not proved: the tests of {' '.join(tried)}")
+        for what, is_program in ("the tests of", False), ("the program", True):
+            if names := [name for name in tried if (name in budget.TRIED) == is_program]:
+                print(f"run by rt try and not proved: {what} {' '.join(names)}")
         if self.passed or self.failed:
             print(f"{self.passed} passed, {self.failed} failed", flush=True)
 

@@ -1,9 +1,10 @@
 """How the gate's tasks are laid out over processors and memory.
 
-Proofs come first, and of these the one with the most minutes of others behind it. It gets two jobs while other tasks are ready, since each
-further job costs a fifth more work, and else as many as there are processors. The other proofs share what is left, at a lower priority, so
-they do not hold the first one up. Wrong bodies and tests run at a still lower one in what the proofs leave free. What mostly waits runs
-beside these, and takes no processor's place. A task without work ends at once. Minutes are those of budget.json, or estimated by lines.
+Proofs come first, and of these the one with the most minutes of others behind it. Each further job of a proof costs a fifth more work, so it
+gets two while all that is left keeps the processors busy for longer than its chain takes, and else as many as there are processors. The
+other proofs share what is left, at a lower priority, so they do not hold the first one up. Wrong bodies and tests run at a still lower one
+in what the proofs leave free. What mostly waits runs beside these, and takes no processor's place. A task without work ends at once.
+Minutes are those of budget.json, or estimated by lines.
 """
 import contextlib
 import os
@@ -18,7 +19,7 @@ OF_A_LINE, WITH_ALL = 0.0025, 0.6
 OF_A_JOB, OF_RECKONED = 0.25, 0.8
 # and what a check of many wrong bodies takes more than a proof
 OF_EDITS = 1.7
-# the jobs of the first proof while other tasks could run
+# the jobs of the first proof while other work takes longer than its chain
 FIRST = 2
 # the tasks that mostly wait: the tests with a broker take a minute and a half of a processor in ten
 IDLE = {("tests/run", "brokered")}
@@ -38,17 +39,16 @@ class Lanes:
     def __init__(self, tasks, processors, memory, minutes):
         self.tasks, self.processors, self.memory = tasks, processors, memory / OF_RECKONED
         self.running, self.given = {}, {}
-        self.behind = self.chains(minutes)
+        self.own = {key: minutes.get(key[:2], lines * OF_A_LINE) for key, (_, lines, *_) in tasks.items()}
+        self.behind = self.chains()
         self.left = sorted(tasks, key=lambda key: (not is_proof(key), -self.behind[key]))
 
-    def chains(self, minutes):
+    def chains(self):
         """The minutes of each task with those of the longest chain of others that waits for it. A task comes after those it waits for."""
         behind = dict.fromkeys(self.tasks, 0.0)
         for key in reversed([*self.tasks]):
-            waits, lines, *_ = self.tasks[key]
-            own = minutes.get(key[:2], lines * OF_A_LINE)
-            behind[key] += own * WITH_ALL if is_proof(key) else own
-            for low in waits:
+            behind[key] += self.own[key] * WITH_ALL if is_proof(key) else self.own[key]
+            for low in self.tasks[key][0]:
                 behind[low] = max(behind[low], behind[key])
         return behind
 
@@ -59,11 +59,16 @@ class Lanes:
         """Whether a proof has a longer chain behind it than all others that run or are ready."""
         return all(self.behind[key] > self.behind[it] for it in (*self.running, *ready) if is_proof(it) and it != key)
 
+    def is_last(self, key):
+        """Whether the chain of a proof takes longer than the processors take for all work that is left."""
+        return self.behind[key] * self.processors >= sum(self.own[it] for it in (*self.left, *self.running))
+
     def jobs(self, key, ready, room):
-        """How many jobs a proof gets: two, or all if nothing else could run, if it is the first, and else its share."""
+        """How many jobs a proof gets: two, or all if its chain takes longest, if it is the first, and else its share."""
         others = [it for it in (*self.running, *ready) if is_proof(it) and it != key]
-        has_fillers = not all(map(is_proof, ready))
-        wanted = (FIRST if has_fillers else self.processors) if self.is_first(key, ready) else self.processors // (1 + len(others))
+        wanted = self.processors // (1 + len(others))
+        if self.is_first(key, ready):
+            wanted = self.processors if self.is_last(key) else FIRST
         most = 1 + int((room / self.tasks[key][2] - 1) / OF_A_JOB)
         return max(1, min(wanted, most, 4))
 

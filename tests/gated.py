@@ -83,8 +83,10 @@ def laid_out():
     made.run()
     yield "a proof that is alone gets all processors", made.jobs["alone", "proof"] == 4
     made.add("tests", "tests")
-    made.run()
-    yield "and two if another task could run", made.jobs["alone", "proof"] == 2
+    made.run(minutes={("alone", "proof"): 1, ("tests", "tests"): 9})
+    yield "and two if other work takes longer", made.jobs["alone", "proof"] == 2
+    made.run(minutes={("alone", "proof"): 9, ("tests", "tests"): 1})
+    yield "and all if it takes longest itself", made.jobs["alone", "proof"] == 4
     made = Tasks()
     for number in range(4):
         made.add(f"crate{number}", "proof")

@@ -1,6 +1,7 @@
 //! Clusters that are drawn, solved and planned for. Without words: whether solving from an earlier flow costs what solving
 //! does, how many cycles are cancelled after either start, and whether rounds planned from a tally cost what a least flow
-//! does. With words, each a number of tasks: how long solving takes, or after the word `rounds` how long rounds take.
+//! does. With words, each a number of tasks: how long solving takes, or after the word `rounds` how long rounds take. With
+//! the word `sizes`: what a round costs with too many sizes of requests for a tally, which takes minutes if it is checked.
 #![tactic(auto)]
 
 mod chains;
@@ -26,6 +27,7 @@ fn main(rt: HostRuntime) -> Result<(), anyhow::Error> {
             Ok(tasks) if is_paced => pace::print(&rt, tasks)?,
             Ok(tasks) => timing::print(&rt, tasks)?,
             Err(_) if word.as_str() == "rounds" => is_paced = true,
+            Err(_) if word.as_str() == "sizes" => rounds::print_sizes(&rt, alloc)?,
             Err(_) => println!(rt; "fm_probe_solver: {word} is no number of tasks")?,
         }
     }

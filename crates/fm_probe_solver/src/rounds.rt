@@ -210,7 +210,10 @@ fn say(rt: &HostRuntime, kind: &str, counts: Counts) -> Result<(), anyhow::Error
 pub(crate) fn print(rt: &HostRuntime, alloc: Global) -> Result<(), anyhow::Error> {
     say(rt, "without preferences", counted(alloc, false)?)?;
     say(rt, "with preferences", counted(alloc, true)?)?;
-    say(rt, "of a chain", of_chain(alloc, CHAINED)?)?;
-    say(rt, "of many sizes", of_sizes(alloc, MANY_SIZES)?)?;
-    Ok(())
+    say(rt, "of a chain", of_chain(alloc, CHAINED)?)
+}
+
+/// The same of a round with too many sizes of requests for a plan from the tally.
+pub(crate) fn print_sizes(rt: &HostRuntime, alloc: Global) -> Result<(), anyhow::Error> {
+    say(rt, "of many sizes", of_sizes(alloc, MANY_SIZES)?)
 }
