@@ -1,6 +1,7 @@
 """Tests of what calls ask the allocator for: `fm_probe_editor steps` takes the first steps of a script, with and without the last one, and
 tests/refusing.c counts. With `fm_probe_editor sights` a round is a look with the tally, and with `fm_probe_editor tallies` the tally alone. And of what
-a process keeps: its resident memory. A record is a pair of a key and a value in a block of 64 pairs at most, which maps share."""
+a process keeps: its resident memory. And how many allocations lines of a stream make. A record is a pair of a key and a value in a block of
+64 pairs at most, which maps share."""
 import json
 import resource
 import subprocess
@@ -11,6 +12,8 @@ import drawn
 PAIR = 200
 # The pairs of a full block. Tasks whose ids rise fill their blocks.
 FULL = 64
+# How many allocations a round of a stream made that was admitted twice, and news that were joined twice.
+ROUND_TWICE, NEWS_TWICE = 3036, 1322
 # What a map has for each block: its first key, and the pointer to it. A share takes as much.
 HEAD = 48
 
@@ -65,6 +68,27 @@ def stays(program):
             held.append(int(memory.read().split()[1]) * resource.getpagesize())
     stayed = held[1] - held[0]
     yield "a Full packet of 20,000 tasks round 8 coordinators leaves %d bytes, less than two copies" % stayed, stayed < 2 * PAIR * count
+
+
+def allocations(allocator, program, lines):
+    """How many allocations the last line of a stream makes."""
+    counts = []
+    for given in lines, lines[:-1]:
+        (status, _, err), numbers = allocator.run(program, ["follow"], "".join(json.dumps(line) + "\n" for line in given).encode())
+        assert status == 0, err
+        counts.append(numbers["count"])
+    return counts[0] - counts[1]
+
+
+def once(allocator, program):
+    """That a stream decides a round once, and joins a cut once: by what these took when it made them twice."""
+    machine = {"incarnation": 1, "version": 1, "writer": 1, "up": True, "slots": 20, "nic": 100000}
+    machines = [{"at": 1, "tell": {"machine": {**machine, "id": drawn.unique(500 + number)}}} for number in range(10)]
+    known = [{"coordinators": [1]}, {"at": 1, "tell": job()}, *machines, *told(1, 0, 100)]
+    made = allocations(allocator, program, [*known, {"at": 1, "round": True}])
+    yield "a round of a stream that places 100 tasks makes %d allocations, where it made %d" % (made, ROUND_TWICE), 0 < 4 * made <= 3 * ROUND_TWICE
+    made = allocations(allocator, program, [*known, {"at": 1, "news": True}])
+    yield "news of a stream of 111 deltas make %d allocations, where they made %d" % (made, NEWS_TWICE), 0 < 3 * made <= 2 * NEWS_TWICE
 
 
 def all_tests(allocator, program):

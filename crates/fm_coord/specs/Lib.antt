@@ -4,4 +4,5 @@ pub mod Causes
 pub mod Replays
 pub mod States
 pub mod Outputs
+pub mod Decisions
 pub mod inner

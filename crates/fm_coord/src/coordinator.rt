@@ -22,8 +22,10 @@ ghost use Rattle.fm_coord.specs.Events.{Sent, Replica, packet_of};
 ghost use Rattle.fm_coord.specs.Events as event;
 ghost use Rattle.fm_coord.specs.Causes.{cause, refusal_for, room_fault, range_fault, floor_fault};
 ghost use Rattle.fm_coord.specs.Replays.{seen_packet};
+ghost use Rattle.fm_coord.specs.Decisions.{IsDecidedBy};
 ghost use Rattle.fm_coord.specs.States.{new_state, bounds, history_entry, took, gave, after_trim, with_entry, cut_packet, range_value, Represents, IsEventAt, IsCoordinator};
 
+use crate::decision::Decision;
 use crate::entry::{Call, Entry, Range, Reply};
 use crate::tally_cache::Tallied;
 use crate::view::{KnownAt, TallyView, View};
@@ -209,6 +211,15 @@ impl<N: NetKeeper> Coordinator<N> {
         Ok(())
     }
 
+    /// Whether a packet of the range can be cut now: as `check_range` says, then as `check_room` does.
+    pub fn check_cut(&self, range: Range) -> Result<(), Refusal>
+        ensures ok { OnOk result (cause (bounds self.now.state) (Call.Cut range) ≡ None) }
+        ensures err { IfErr result (λ refusal. cause (bounds self.now.state) (Call.Cut range) ≡ Some refusal) }
+    {
+        self.check_range(range)?;
+        self.check_room()
+    }
+
     // Whether the floor may be n.
     fn check_floor(&self, n: u64) -> Result<(), Refusal>
         ensures ok { OnOk result (floor_fault (bounds self.now.state) n ≡ None) }
@@ -309,6 +320,25 @@ impl<N: NetKeeper> Coordinator<N> {
     {
         self.share_for(range)?;
         let packet = self.packet_for(range)?;
+        self.give(by, range, &packet)?;
+        Ok(packet)
+    }
+
+    /// Gives a packet that `packet_for` made of the range: it counts as cut, and the history shares it. A `cut` is the two in one, for
+    /// callers to whom nothing can fail between. BadInterval, Trimmed, HistoryFull, OutOfMemory; then nothing has changed.
+    pub fn give(&mut self, by: u32, range: Range, packet: &Shared<Packet>) -> Result<(), Refusal>
+        requires { packet.now ≡ cut_packet self.old.state range }
+        ensures ok { OnOk result (self.new.state
+            ≡ gave self.old.state (history_entry by (Call.Cut range) (Reply.Packet packet.now))) }
+        ensures keeper { self.new.keeper ≡ self.old.keeper }
+        ensures within { IsOk result → cause (bounds self.old.state) (Call.Cut range) ≡ None }
+        ensures event { (r : Replica) → Represents self.old.state r
+            → OnOk result (IsEventAt r by (event.Cut range) (Reply.Packet packet.now) self.new.state) }
+        ensures err { IfErr result (λ refusal. refusal ≡ refusal_for (bounds self.old.state) (Call.Cut range)) }
+        ensures unchanged { OnErr result (self.new ≡ self.old) }
+    {
+        self.known();
+        self.check_cut(range)?;
         let given = Entry {
             by,
             call: Call::Cut(range),
@@ -316,7 +346,7 @@ impl<N: NetKeeper> Coordinator<N> {
         };
         self.history.push(given)?;
         self.cuts += 1;
-        Ok(packet)
+        Ok(())
     }
 
     // Has all that is known shared, if it is to be cut.
@@ -341,8 +371,7 @@ impl<N: NetKeeper> Coordinator<N> {
             → IfOk result (λ packet. packet ≡ seen_packet (packet_of r range)) }
         ensures err { IfErr result (λ refusal. refusal ≡ refusal_for (bounds self.now.state) (Call.Cut range)) }
     {
-        self.check_range(range)?;
-        self.check_room()?;
+        self.check_cut(range)?;
         self.packet_of(range)
     }
 
@@ -496,8 +525,9 @@ impl<N: NetKeeper> Coordinator<N> {
         })
     }
 
-    // Has what is known shared.
-    fn share_known(&mut self) -> Result<(), OutOfMemory>
+    /// Has what is known shared, so that a packet of all of it copies a pointer for each block of records. Nothing that contracts speak of
+    /// changes. OutOfMemory.
+    pub fn share_known(&mut self) -> Result<(), OutOfMemory>
         ensures state { self.new.state ≡ self.old.state }
         ensures keeper { self.new.keeper ≡ self.old.keeper }
         ensures same { self.new ≡ self.old }
@@ -589,11 +619,53 @@ impl<N: NetKeeper> Coordinator<N> {
         ensures err { IfErr result (λ refusal. refusal ≡ refusal_for (bounds self.old.state) (Call.Commit plan)) }
         ensures unchanged { OnErr result (self.new ≡ self.old) }
     {
+        let decision = self.decide(plan)?;
+        self.accept(by, decision)
+    }
+
+    /// What `commit` of the plan would do now: what it would admit, and the delta that it would merge. Nothing changes. The decision can be
+    /// accepted until the coordinator takes something in. It costs what `admission` does. HistoryFull, OutOfMemory.
+    pub fn decide(&self, plan: Plan) -> Result<Decision, Refusal>
+        ensures decided { IfOk result (λ decision. IsDecidedBy self.now.state decision) }
+        ensures plan { IfOk result (λ decision. decision.plan ≡ plan) }
+        ensures within { IsOk result → cause (bounds self.now.state) (Call.Commit plan) ≡ None }
+        ensures err { IfErr result (λ refusal. refusal ≡ refusal_for (bounds self.now.state) (Call.Commit plan)) }
+    {
+        self.check_room()?;
+        let made = self.admission(&plan)?;
+        let delta = Knowledge::told(self.alloc, made.ops.as_slice())?;
+        let admitted = Shared::new(self.alloc, made)?;
+        Ok(Decision {
+            plan,
+            admitted,
+            delta,
+        })
+    }
+
+    /// Carries a decision out: merges its delta, and returns what was admitted, which the history shares. Nothing is admitted again, so the
+    /// decision must be one by what the coordinator knows. It costs what merging the delta does. HistoryFull, OutOfMemory; then nothing
+    /// has changed.
+    pub fn accept(&mut self, by: u32, decision: Decision) -> Result<Shared<Admitted>, Refusal>
+        requires { IsDecidedBy self.old.state decision }
+        ensures ok { IfOk result (λ made. self.new.state ≡ took self.old.state (table_of made.ops)
+            (history_entry by (Call.Commit decision.plan) (Reply.Admitted made))) }
+        ensures keeper { IfOk result
+            (λ made. N.absorbs self.old.keeper (changed_keys (table_of made.ops)) self.new.keeper) }
+        ensures admitted { IfOk result (λ made. made ≡ decision.admitted) }
+        ensures within { IsOk result → cause (bounds self.old.state) (Call.Commit decision.plan) ≡ None }
+        ensures event { (r : Replica) → Represents self.old.state r → IfOk result
+            (λ made. IsEventAt r by (event.Commit decision.plan) (Reply.Admitted made) self.new.state) }
+        ensures err { IfErr result
+            (λ refusal. refusal ≡ refusal_for (bounds self.old.state) (Call.Commit decision.plan)) }
+        ensures unchanged { OnErr result (self.new ≡ self.old) }
+    {
         self.known();
         self.check_room()?;
-        let decided = self.admission(&plan)?;
-        let admitted = Shared::new(self.alloc, decided)?;
-        let delta = Knowledge::told(self.alloc, admitted.get().ops.as_slice())?;
+        let Decision {
+            plan,
+            admitted,
+            delta,
+        } = decision;
         let committed = Entry {
             by,
             call: Call::Commit(plan),

@@ -3,6 +3,7 @@
 
 mod calling;
 pub mod coordinator;
+pub mod decision;
 pub mod entry;
 pub mod entry_equality;
 pub mod laws;

@@ -111,6 +111,10 @@ module _ (k : Kept) (w : WorldOfSets) (at : ℕ) (h : WorldRepresents k w) where
     pub roomy : room_fault (bounds s) ≡ None → OutOfMemory ≡ refusal_of w (step_at at act.View)
     roomy none = no_memory w at act.View (sym view_cause ∙ none)
 
+    -- a commit is refused as a view would be
+    pub commit_refused : (plan : Plan) (refusal : Refusal) → refusal ≡ refusal_for (bounds s) (call.Commit plan) → refusal ≡ refusal_of w (step_at at act.View)
+    commit_refused plan refusal is = is ∙ ap (or_else OutOfMemory) view_cause
+
     pub cut_refused : (range : Range) (refusal : Refusal) → refusal ≡ refusal_for (bounds s) (call.Cut range) → refusal ≡ refusal_of w (step_at at (act.Cut range))
     cut_refused range refusal is = is ∙ ap (or_else OutOfMemory) (cut_cause range)
 

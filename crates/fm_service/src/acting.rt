@@ -1,16 +1,19 @@
 //! Steps on a world of coordinators, and their texts: a step is taken only once its text is there.
 //!
-//! A step that was taken cannot be taken back if memory for its text runs out. So the packet of a cut, and what
-//! admission answers to a plan, are worked out first, and the step that follows gives the same.
+//! A step that was taken cannot be taken back if memory for its text runs out. So the packet of a cut, and what is
+//! decided of a plan, are made first, then their texts, and then the step takes what was made.
 
-ghost use Rattle.std.specs.Prelude.{◌≡◌, None, IfOk, IsOkUnless, OnErr, OnOk};
+ghost use Rattle.std.specs.Prelude.{◌≡◌, None, IfOk, IfSome, OnErr, OnOk};
 ghost use Rattle.fm_round.specs.Schedules.{IsPlanOf};
 ghost use Rattle.fm_world.specs.declared.step.Act.TheVariants as act;
+ghost use Rattle.fm_coord.specs.States.{cut_packet};
 ghost use Rattle.fm_world.specs.Worlds.{WorldOfSets, cause_of, refusal_of};
-ghost use Rattle.fm_world.specs.Represents.{WorldRepresents};
-ghost use Rattle.fm_service.specs.WorldSteps.{step_at, WorldStep, StreamRoundStep, IsCutLine, Makes, EnsuresErr};
+ghost use Rattle.fm_world.specs.Represents.{WorldRepresents, state_with};
+ghost use Rattle.fm_service.specs.WorldSteps.{step_at, WorldStep, StreamRoundStep, IsCutLine, Cuts, Makes, EnsuresErr};
 
 use fm_coord::entry::Range;
+use fm_coord::shared::Shared;
+use fm_delta::packet::Packet;
 use fm_edit::keepers::Keeper;
 use fm_query::packet_text::packet_line;
 use fm_query::round_text::round_text;
@@ -32,16 +35,25 @@ pub fn take_step(world: &mut World<Keeper>, at: u8, act: Act) -> Result<(), Refu
     }
 }
 
-/// The line of the packet that the coordinator would cut of the range now. Refused as the cut would be, and also if
+/// A packet that a coordinator would cut, not given yet, and its line.
+#[derive(Drop)]
+pub(crate) struct PreparedCut {
+    pub(crate) packet: Shared<Packet>,
+    pub(crate) line: Vec<u8>,
+}
+
+/// The packet that the coordinator would cut of the range now, with its line. Refused as the cut would be, and also if
 /// there is no memory for the line.
-pub(crate) fn cut_line(
+pub(crate) fn prepare_cut(
     alloc: Global,
     world: &World<Keeper>,
     at: u8,
     range: Range,
-) -> Result<Vec<u8>, Refusal>
-    ensures ok { (w : WorldOfSets) → WorldRepresents world.now w
-        → IfOk result (λ text. IsCutLine w at range text.items) }
+) -> Result<PreparedCut, Refusal>
+    ensures packet { IfOk result
+        (λ made. IfSome (state_with world.now.coordinators at) (λ s. made.packet ≡ cut_packet s range)) }
+    ensures line { (w : WorldOfSets) → WorldRepresents world.now w
+        → IfOk result (λ made. IsCutLine w at range made.line.items) }
     ensures accepted { (w : WorldOfSets) → WorldRepresents world.now w
         → OnOk result (cause_of w (step_at at (act.Cut range)) ≡ None) }
     ensures err { EnsuresErr result world.now (λ w refusal. refusal ≡ refusal_of w (step_at at (act.Cut range))) }
@@ -50,13 +62,57 @@ pub(crate) fn cut_line(
         return Err(Refusal::NoCoordinator);
     };
     let packet = coordinator.packet_for(range)?;
-    Ok(packet_line(alloc, packet.get())?.into_bytes())
+    let line = packet_line(alloc, packet.get())?.into_bytes();
+    Ok(PreparedCut { packet, line })
+}
+
+/// Has what the coordinator knows shared if all of it is to be cut, so that the packet copies no records.
+pub(crate) fn share_for(world: &mut World<Keeper>, at: u8, range: Range)
+    ensures { world.new ≡ world.old }
+{
+    if range == Range::Full {
+        world.share_known(at);
+    }
+}
+
+/// A cut at the coordinator; the text has the line of the packet, which is made once. Refused as the cut would be, and also if there is
+/// no memory for the line; then nothing has changed.
+pub(crate) fn cut(
+    alloc: Global,
+    world: &mut World<Keeper>,
+    at: u8,
+    range: Range,
+) -> Result<Vec<u8>, Refusal>
+    ensures ok { (w : WorldOfSets) → WorldRepresents world.old w
+        → IfOk result (λ text. (v : WorldOfSets) × Cuts w at range text.items v × WorldRepresents world.new v) }
+    ensures err { EnsuresErr result world.old (λ w refusal. refusal ≡ refusal_of w (step_at at (act.Cut range))) }
+    ensures unchanged { OnErr result (world.new ≡ world.old) }
+{
+    share_for(world, at, range);
+    prepared_cut(alloc, world, at, range)
+}
+
+// The cut, of a packet that shares its records or does not.
+fn prepared_cut(
+    alloc: Global,
+    world: &mut World<Keeper>,
+    at: u8,
+    range: Range,
+) -> Result<Vec<u8>, Refusal>
+    ensures ok { (w : WorldOfSets) → WorldRepresents world.old w
+        → IfOk result (λ text. (v : WorldOfSets) × Cuts w at range text.items v × WorldRepresents world.new v) }
+    ensures err { EnsuresErr result world.old (λ w refusal. refusal ≡ refusal_of w (step_at at (act.Cut range))) }
+    ensures unchanged { OnErr result (world.new ≡ world.old) }
+{
+    let prepared = prepare_cut(alloc, world, at, range)?;
+    world.give(at, 0, range, prepared.packet)?;
+    Ok(prepared.line)
 }
 
 /// A round at the coordinator: the plan of a least flow of its network is committed. The text has admission's answer
-/// to each entry of the plan. The history gets one entry, since there is no view. NoCoordinator, HistoryFull,
-/// OutOfMemory; then nothing has changed. The cost is that of `World::refresh_tally` and of `least_plan_of`, and of
-/// admitting the plan twice by the tally.
+/// to each entry of the plan, and is made of the decision that is then carried out. The history gets one entry, since there is no view.
+/// NoCoordinator, HistoryFull, OutOfMemory; then nothing has changed. The cost is that of `World::refresh_tally`, of `least_plan_of`, and
+/// of admitting the plan by the tally.
 pub(crate) fn round(alloc: Global, world: &mut World<Keeper>, at: u8) -> Result<Vec<u8>, Refusal>
     ensures ok { (w : WorldOfSets) → WorldRepresents world.old w
         → IfOk result (λ text. (v : WorldOfSets) × StreamRoundStep w at text.items v × WorldRepresents world.new v) }
@@ -79,8 +135,8 @@ fn planned_round(alloc: Global, world: &mut World<Keeper>, at: u8) -> Result<Vec
     };
     coordinator.check_room()?;
     let plan = least_plan_of(alloc, coordinator)?;
-    let admitted = coordinator.admission(&plan)?;
-    let text = round_text(alloc, &plan, &admitted)?.into_bytes();
-    take_step(world, at, Act::Commit(plan))?;
+    let decision = coordinator.decide(plan)?;
+    let text = round_text(alloc, &decision.plan, decision.admitted.get())?.into_bytes();
+    let _admitted = world.accept(at, 0, decision)?;
     Ok(text)
 }

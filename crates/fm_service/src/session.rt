@@ -19,7 +19,7 @@ ghost use Rattle.fm_service.specs.Renewing.{renewed_world};
 ghost use Rattle.fm_service.specs.Sessions.{SessionAt};
 ghost use Rattle.fm_service.specs.inner.SessionSteps.{Goes, StopsRequest, Accepts, Rejects};
 
-use crate::acting::{cut_line, round, take_step};
+use crate::acting::{cut, prepare_cut, round, share_for, take_step};
 use crate::cut_names::NamedPackets;
 use crate::own_news::own_news_since;
 use crate::renewing::renewed;
@@ -154,9 +154,7 @@ impl Session {
         ensures err { StopsRequest result self.old (asked.Cuts at range None) }
         ensures unchanged { OnErr result (self.new ≡ self.old) }
     {
-        let text = cut_line(self.alloc, &self.world, at, range)?;
-        take_step(&mut self.world, at, WorldAct::Cut(range))?;
-        Ok(text)
+        cut(self.alloc, &mut self.world, at, range)
     }
 
     // A cut whose packet gets the name.
@@ -165,15 +163,25 @@ impl Session {
         ensures err { StopsRequest result self.old (asked.Cuts at range (Some name.now)) }
         ensures unchanged { OnErr result (self.new ≡ self.old) }
     {
-        let text = cut_line(self.alloc, &self.world, at, range)?;
+        share_for(&mut self.world, at, range);
+        self.cut_prepared(at, range, name)
+    }
+
+    // The same, of a packet that shares its records or does not.
+    fn cut_prepared(&mut self, at: u8, range: Range, name: &str) -> Result<Vec<u8>, Refusal>
+        ensures ok { Goes result self.old self.new (asked.Cuts at range (Some name.now)) }
+        ensures err { StopsRequest result self.old (asked.Cuts at range (Some name.now)) }
+        ensures unchanged { OnErr result (self.new ≡ self.old) }
+    {
+        let prepared = prepare_cut(self.alloc, &self.world, at, range)?;
         if !self.named.add(name, self.world.packet_count())? {
             return Err(Refusal::BadScript(0));
         }
-        if let Err(refusal) = take_step(&mut self.world, at, WorldAct::Cut(range)) {
+        if let Err(refusal) = self.world.give(at, 0, range, prepared.packet) {
             self.named.remove_last();
             return Err(refusal);
         }
-        Ok(text)
+        Ok(prepared.line)
     }
 
     // A cut of the deltas that were not sent as news, or of all that is known if some of these were trimmed.

@@ -8,6 +8,8 @@ use Rattle.fm_records.specs.declared.refusal.Refusal.TheVariants.{OutOfMemory, N
 use Rattle.fm_records.specs.Options.{or_else}
 use Rattle.fm_delta.specs.declared.packet.Packet.{Packet}
 use Rattle.fm_net.specs.Network.{net_of}
+use Rattle.fm_round.specs.declared.plan.Plan.{Plan}
+use Rattle.fm_round.specs.declared.plan.Admitted.{Admitted}
 use Rattle.fm_coord.specs.declared.entry.Reply.TheVariants as reply
 use Rattle.fm_coord.specs.declared.view.View.{View}
 use Rattle.fm_coord.specs.declared.view.TallyView.{TallyView}
@@ -114,6 +116,22 @@ seen_acted new r sent ps by (Ok sight) is e =
       packets = is ∙ ap (map seen_packet) (sym (append-nil sent));
     }
 seen_acted new r sent ps by (Err e) is h = tt
+
+-- and so is a commit
+pub committed_acted : (new : State) (r : Replica) (sent : List Sent) (ps : List Packet) (by : ℕ) (plan : Plan) (result : Result Admitted Refusal) → ps ≡ map seen_packet sent
+    → IfOk result (λ made. IsEventAt r by (event.Commit plan) (reply.Admitted made) new) → OnOk result (IsActed new ps r sent by (act.Commit plan))
+committed_acted new r sent ps by plan (Ok made) is e =
+    record {
+      accepted = e.accepted;
+      stands = e.stands;
+      packets = is ∙ ap (map seen_packet) (sym (append-nil sent));
+    }
+committed_acted new r sent ps by plan (Err e) is h = tt
+
+-- a refusal that changes nothing leaves the state
+pub same_state : {N T : Type 0} (new old : WithKeeper N) (result : Result T Refusal) → OnErr result (new ≡ old) → OnErr result (new.state ≡ old.state)
+same_state new old (Ok t) same = tt
+same_state new old (Err e) same = ap state_of same
 
 -- what no refusal changes is as it was
 pub still : {A T : Type 0} (a : A) (result : Result T Refusal) → OnErr result (a ≡ a)

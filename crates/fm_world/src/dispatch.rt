@@ -8,7 +8,8 @@ ghost use Rattle.fm_records.specs.Options.{or_else};
 ghost use Rattle.fm_coord.specs.Events.{Sent, Replica};
 ghost use Rattle.fm_coord.specs.Causes.{refusal_for};
 ghost use Rattle.fm_coord.specs.Replays.{seen_packet};
-ghost use Rattle.fm_coord.specs.States.{bounds, Represents};
+ghost use Rattle.fm_coord.specs.States.{bounds, cut_packet, Represents};
+ghost use Rattle.fm_world.specs.declared.step.Act.TheVariants as act;
 ghost use Rattle.fm_world.specs.Worlds.{event_asked, cause_here};
 ghost use Rattle.fm_world.specs.Represents.{view_shown};
 ghost use Rattle.fm_world.specs.inner.ActedWorld.{IsActed};
@@ -16,7 +17,7 @@ ghost use Rattle.fm_world.specs.inner.Calls.{call_asked, HasRoomFor, IsSpelled, 
 
 use crate::step::Act;
 use fm_coord::coordinator::Coordinator;
-use fm_coord::entry::Call;
+use fm_coord::entry::{Call, Range};
 use fm_coord::output::CallOutput;
 use fm_coord::shared::Shared;
 use fm_coord::view::View;
@@ -53,6 +54,31 @@ pub(crate) fn act_at<N: NetKeeper>(
         CallOutput::Done => Ok(None),
         CallOutput::Admitted(_) => Ok(None),
     }
+}
+
+// Gives the packet that the coordinator would cut of the range now: it counts as cut, and is added to those of the world.
+pub(crate) fn give_at<N: NetKeeper>(
+    coordinator: &mut Coordinator<N>,
+    packets: &mut Vec<Shared<Packet>>,
+    by: u32,
+    range: Range,
+    made: Shared<Packet>,
+) -> Result<(), Refusal>
+    requires { made ≡ cut_packet coordinator.old.state range }
+    ensures acted { (r : Replica) (sent : List Sent) → Represents coordinator.old.state r
+        → packets.old.items ≡ map seen_packet sent
+        → OnOk result (IsActed coordinator.new.state packets.new.items r sent by (act.Cut range)) }
+    ensures err { IfErr result (λ refusal. refusal ≡ refusal_for (bounds coordinator.old.state) (Call.Cut range)) }
+    ensures same_state { OnErr result (coordinator.new.state ≡ coordinator.old.state) }
+    ensures same_packets { OnErr result (packets.new.items ≡ packets.old.items) }
+{
+    let Ok(()) = packets.reserve(1) else {
+        coordinator.check_cut(range)?;
+        return Err(Refusal::OutOfMemory);
+    };
+    coordinator.give(by, range, &made)?;
+    packets.push(made).unwrap();
+    Ok(())
 }
 
 // The call of the act: a delivery looks its packet up. For a cut there is room for one more packet then.

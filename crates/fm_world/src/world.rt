@@ -4,7 +4,7 @@
 //! same knowledge, winners and network. A world is changed by steps alone, one coordinator at a time, so each of its
 //! states was reached by accepted steps. A delivery names a packet by its number among all that were cut.
 
-ghost use Rattle.std.specs.Prelude.{◌≡◌, [], None, Some, IfOk, IfErr, OnOk, OnErr, MatchOption, map, option_map, slice_get, length};
+ghost use Rattle.std.specs.Prelude.{◌≡◌, [], None, Some, IfOk, IfErr, IfSome, OnOk, OnErr, MatchOption, map, option_map, slice_get, length};
 ghost use Rattle.fm_net.specs.Network.{net_of};
 ghost use Rattle.fm_dimacs.specs.Sending.{AppendsPrefix, StopsBy};
 ghost use Rattle.fm_dimacs.specs.Text.{dump_text};
@@ -12,16 +12,20 @@ ghost use Rattle.fm_coord.specs.Numbers.{AreDistinct};
 ghost use Rattle.fm_records.specs.Know.{table_of};
 ghost use Rattle.fm_coord.specs.Events.{Sent};
 ghost use Rattle.fm_coord.specs.Replays.{seen_packet};
+ghost use Rattle.fm_coord.specs.Decisions.{IsDecidedBy};
+ghost use Rattle.fm_coord.specs.States.{cut_packet};
 ghost use Rattle.fm_tally.specs.Tallies.{TallyIsFor};
 ghost use Rattle.fm_world.specs.declared.step.Act.TheVariants as act;
 ghost use Rattle.fm_world.specs.Worlds.{WorldOfSets, opening_world, with_number, cause_of, refusal_of, step_of, run_of, AreAccepted, taken_by, taken_in, StopsAt};
 ghost use Rattle.fm_world.specs.Agreement.{EachKnows, SameAgree, IsDumpOf};
 ghost use Rattle.fm_world.specs.Represents.{state_of, number_of, opening_of, AreUnused, AllStand, WorldRepresents, IsReached, state_with, view_shown};
 
-use crate::dispatch::act_at;
+use crate::dispatch::{act_at, give_at};
 use crate::distinct::index_of;
 use crate::step::{Act, RunStop, Step};
 use fm_coord::coordinator::Coordinator;
+use fm_coord::decision::Decision;
+use fm_coord::entry::Range;
 use fm_coord::shared::Shared;
 use fm_coord::view::{TallyView, View};
 use fm_delta::packet::Packet;
@@ -30,6 +34,7 @@ use fm_know::laws::law_spelled;
 use fm_policy::keeper::NetKeeper;
 use fm_records::ids::CoordId;
 use fm_records::refusal::Refusal;
+use fm_round::plan::Admitted;
 use std::marker::Model;
 
 /// Coordinators, and every packet that they cut. Contracts see what the coordinators keep, without their networks. Each
@@ -177,6 +182,72 @@ impl<N: NetKeeper> World<N> {
     {
         if let Some(place) = index_of(self.coordinators.as_slice(), at) {
             let _ = self.coordinators[place].refresh_tally();
+        }
+    }
+
+    /// Has what the coordinator with this number knows shared, if there is one, and memory for it: then a packet of all of it costs a
+    /// pointer for each block of records. Nothing that contracts speak of changes.
+    pub fn share_known(&mut self, at: u8)
+        ensures { self.new ≡ self.old }
+    {
+        if let Some(place) = index_of(self.coordinators.as_slice(), at) {
+            let _ = self.coordinators[place].share_known();
+        }
+    }
+
+    /// Carries out a decision that the coordinator with this number made by what it knows now: a step that commits the decision's plan,
+    /// which is not admitted again. It costs what `Coordinator::accept` does. NoCoordinator, HistoryFull, OutOfMemory; then nothing has
+    /// changed.
+    pub fn accept(
+        &mut self,
+        at: u8,
+        by: u32,
+        decision: Decision,
+    ) -> Result<Shared<Admitted>, Refusal>
+        requires { IfSome (state_with self.old.coordinators at) (λ s. IsDecidedBy s decision) }
+        ensures stands { (w : WorldOfSets) → WorldRepresents self.old w → OnOk result
+            (WorldRepresents self.new (step_of w (record { at = at; by = by; act = act.Commit decision.plan }))) }
+        ensures accepted { (w : WorldOfSets) → WorldRepresents self.old w
+            → OnOk result (cause_of w (record { at = at; by = by; act = act.Commit decision.plan }) ≡ None) }
+        ensures admitted { IfOk result (λ made. made ≡ decision.admitted) }
+        ensures err { (w : WorldOfSets) → WorldRepresents self.old w → IfErr result
+            (λ refusal. refusal ≡ refusal_of w (record { at = at; by = by; act = act.Commit decision.plan })) }
+        ensures unchanged { OnErr result (self.new ≡ self.old) }
+    {
+        match index_of(self.coordinators.as_slice(), at) {
+            None => Err(Refusal::NoCoordinator),
+            Some(place) => self.coordinators[place].accept(by, decision),
+        }
+    }
+
+    /// Gives a packet that the coordinator with this number made of the range by what it knows now (`Coordinator::packet_for`): a step that
+    /// cuts the range, without making the packet again. NoCoordinator, then as the cut: BadInterval, Trimmed, HistoryFull, OutOfMemory.
+    /// Then nothing has changed.
+    pub fn give(
+        &mut self,
+        at: u8,
+        by: u32,
+        range: Range,
+        packet: Shared<Packet>,
+    ) -> Result<(), Refusal>
+        requires { IfSome (state_with self.old.coordinators at) (λ s. packet ≡ cut_packet s range) }
+        ensures stands { (w : WorldOfSets) → WorldRepresents self.old w → OnOk result
+            (WorldRepresents self.new (step_of w (record { at = at; by = by; act = act.Cut range }))) }
+        ensures accepted { (w : WorldOfSets) → WorldRepresents self.old w
+            → OnOk result (cause_of w (record { at = at; by = by; act = act.Cut range }) ≡ None) }
+        ensures err { (w : WorldOfSets) → WorldRepresents self.old w
+            → IfErr result (λ refusal. refusal ≡ refusal_of w (record { at = at; by = by; act = act.Cut range })) }
+        ensures unchanged { OnErr result (self.new ≡ self.old) }
+    {
+        match index_of(self.coordinators.as_slice(), at) {
+            None => Err(Refusal::NoCoordinator),
+            Some(place) => give_at(
+                &mut self.coordinators[place],
+                &mut self.packets,
+                by,
+                range,
+                packet,
+            ),
         }
     }
 

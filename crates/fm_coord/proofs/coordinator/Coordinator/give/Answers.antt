@@ -8,15 +8,16 @@ use Rattle.fm_coord.specs.States.{State, bounds, history_entry, gave, cut_packet
 use Rattle.fm_coord.proofs.Said.{same_state}
 use Rattle.fm_coord.proofs.Keeps.{keeps_cut}
 use Rattle.fm_coord.proofs.Happens.{gave_packet}
-use Rattle.fm_coord.proofs.coordinator.Coordinator.cut.Goals as goal
+use Rattle.fm_coord.proofs.coordinator.Coordinator.give.Goals as goal
 
 pub invariant_of-self-2 : goal.invariant_of-self-2
 invariant_of-self-2 g c =
     let a = c.self.inside in
     let s : State = record { number = a.number; limit = a.limit; knowledge = a.knowledge; deltas = a.buffer.deltas; cuts = a.cuts; history = a.history.items } in
-    let is : s ≡ c.share_for.new.self.state = same_state c.self.view_is in
-    let none : cause (bounds s) (call.Cut c.args.range) ≡ None = subst (λ (t : State). cause (bounds t) (call.Cut c.args.range) ≡ None) (sym is) (c.in_ok-packet.ensures.within refl) in
-    let packet : c.in_ok-share.field-0 ≡ cut_packet s c.args.range = c.in_ok-share.ensures ∙ c.in_ok-packet.ensures.ok ∙ ap (λ (t : State). cut_packet t c.args.range) (sym is) in
+    let is : s ≡ c.args.self.now.state = same_state c.self.view_is in
+    let fits : cause (bounds c.args.self.now.state) (call.Cut c.args.range) ≡ None = c.in_ok-check_cut.ensures.ok in
+    let none : cause (bounds s) (call.Cut c.args.range) ≡ None = subst (λ (t : State). cause (bounds t) (call.Cut c.args.range) ≡ None) (sym is) fits in
+    let packet : c.in_ok-share.field-0 ≡ cut_packet s c.args.range = c.in_ok-share.ensures ∙ c.requires ∙ ap (λ (t : State). cut_packet t c.args.range) (sym is) in
     let items = c.in_ok-push.ensures.items in
     record {
       coordinator =
@@ -31,12 +32,11 @@ invariant_of-self-2 g c =
 pub returns-clause-event : goal.returns-clause-event
 returns-clause-event g c =
     let a = c.self.inside in
-    let s : State = c.share_for.new.self.state in
-    let same : s ≡ c.args.self.now.state = same_state c.share_for.ensures.same in
+    let s : State = c.args.self.now.state in
     let t : State = record { number = a.number; limit = a.limit; knowledge = a.knowledge; deltas = a.buffer.deltas; cuts = a.cuts; history = a.history.items } in
     let is : t ≡ s = same_state c.self.view_is in
-    let none = c.in_ok-packet.ensures.within refl in
-    let p : Packet = c.in_ok-packet.packet in
+    let none : cause (bounds s) (call.Cut c.args.range) ≡ None = c.in_ok-check_cut.ensures.ok in
+    let p : Packet = c.args.packet.now in
     let shared : c.in_ok-share.field-0 ≡ p = c.in_ok-share.ensures in
     let items = c.in_ok-push.ensures.items in
     let new : State = record { number = t.number; limit = t.limit; knowledge = t.knowledge; deltas = t.deltas; cuts = t.cuts + 1; history = c.push.new.self.items } in
@@ -44,4 +44,4 @@ returns-clause-event g c =
     ap (λ (es : List Entry). record { number = t.number; limit = t.limit; knowledge = t.knowledge; deltas = t.deltas; cuts = t.cuts + 1; history = es }) items
     ∙ ap (λ (q : Packet). gave t (history_entry c.args.by (call.Cut c.args.range) (reply.Packet q))) shared
     ∙ ap (λ (u : State). gave u (history_entry c.args.by (call.Cut c.args.range) (reply.Packet p))) is in
-    λ r st. gave_packet s r (subst (λ (u : State). Represents u r) (sym same) st) c.args.by new c.args.range p c.in_ok-packet.ensures.ok none made
+    λ r st. gave_packet s r st c.args.by new c.args.range p c.requires none made

@@ -1,0 +1,31 @@
+use Rattle.std.proofs.Common.{◌≡◌, ◌∙◌, None, ap, sym, subst, rules}
+use Rattle.fm_records.specs.Table.{Table}
+use Rattle.fm_records.specs.Know.{table_of}
+use Rattle.fm_round.specs.declared.plan.Admitted.{Admitted}
+use Rattle.fm_round.specs.Admission.{admission}
+use Rattle.fm_coord.specs.declared.entry.Call.TheVariants as call
+use Rattle.fm_coord.specs.declared.entry.Reply.TheVariants as reply
+use Rattle.fm_coord.specs.Causes.{room_fault}
+use Rattle.fm_coord.specs.States.{State, bounds, history_entry, took, IsCoordinator}
+use Rattle.fm_coord.proofs.Keeps.{keeps_commit}
+use Rattle.fm_coord.proofs.Happens.{committed}
+use Rattle.fm_coord.proofs.coordinator.Coordinator.accept.Goals as goal
+
+pub take_in-requires : goal.take_in-requires
+take_in-requires g c =
+    let s : State = c.args.self.now.state in
+    let d = c.args.decision in
+    let room : room_fault (bounds s) ≡ None = search rules in
+    let shared : c.in_ok-share.field-0 ≡ admission s.knowledge s.number d.plan = c.in_ok-share.ensures ∙ c.requires.admitted in
+    let told : d.delta ≡ table_of (admission s.knowledge s.number d.plan).ops = c.requires.delta ∙ ap (λ (a : Admitted). table_of a.ops) c.requires.admitted in
+    subst (λ (p : Table × Admitted). IsCoordinator (took s p.0 (history_entry c.args.by (call.Commit d.plan) (reply.Admitted p.1)))) (λ i. (sym told i, sym shared i))
+    (keeps_commit s c.known.ensures.coordinator c.args.by d.plan room)
+
+pub returns-clause-event : goal.returns-clause-event
+returns-clause-event g c =
+    let s : State = c.args.self.now.state in
+    let d = c.args.decision in
+    let room : room_fault (bounds s) ≡ None = search rules in
+    let a : Admitted = d.admitted in
+    let made : c.take_in.new.self.state ≡ took s (table_of a.ops) (history_entry c.args.by (call.Commit d.plan) (reply.Admitted a)) = search rules in
+    λ r st. committed s r st c.args.by c.take_in.new.self.state d.plan a c.requires.admitted room made
