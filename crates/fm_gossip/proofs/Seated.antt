@@ -3,7 +3,7 @@ use Rattle.std.proofs.Common.{◌≡◌, ℕ, zero, suc, List, [], ◌∷◌, �
 use Rattle.std.specs.Prelude.{Option}
 use Rattle.fm_records.specs.declared.ops.Op.{Op}
 use Rattle.fm_delta.specs.declared.packet.Packet.{Packet}
-use Rattle.fm_records.specs.declared.refusal.Refusal.{Refusal}
+use Rattle.fm_gossip.specs.declared.early.Early.{Early}
 use Rattle.fm_inbox.specs.Ports.{InboxModel, PortModel}
 use Rattle.fm_coord.specs.States.{State}
 use Rattle.fm_coord.specs.declared.entry.Range.TheVariants.{Full}
@@ -50,16 +50,16 @@ module _ (t : Task) (s : State) (one two : SeatModel) (base : ℕ) (from_start :
         no_other = ended.no_other;
       }
 
-pub served : (refusal : Option Refusal) (w : WorkModel) (s : State) (seats some room new : List SeatModel) (tells : List Op) (number its limit allowed : ℕ) (others : List ℕ) (rounds base place : ℕ) (ports after : List PortModel) (none one nothing two : SeatModel) → work (member_task its allowed tells others rounds) place ports ≡ w → number ≡ its → limit ≡ allowed → 0 ≡ base
+pub served : (early : Option Early) (w : WorkModel) (s : State) (seats some room new : List SeatModel) (tells : List Op) (number its limit allowed : ℕ) (others : List ℕ) (rounds base place : ℕ) (ports after : List PortModel) (none one nothing two : SeatModel) → work (member_task its allowed tells others rounds) place ports ≡ w → number ≡ its → limit ≡ allowed → 0 ≡ base
     → seats ≡ some ++ two ∷ [] → some ≡ room ++ one ∷ [] → room ≡ new → new ≡ [] → none ≡ new_seat 1 → nothing ≡ new_seat 2
-    → IsIntake tells others none one → AreRounds base rounds nothing two → ((bs : List InboxModel) → none.log ≡ [] → ports ≡ map new_port bs → after ≡ used_ports place 0 (passed_in one) bs) → IsEnded number limit seats s → IsDone w (done_work s after refusal)
-served refusal w s seats some room new tells number its limit allowed others rounds base place ports after none one nothing two is named limited from_start second_pushed first_pushed reserved empty new_one new_two intake ran used ended =
+    → IsIntake tells others none one → AreRounds base rounds nothing two → ((bs : List InboxModel) → none.log ≡ [] → ports ≡ map new_port bs → after ≡ used_ports place 0 (passed_in one) bs) → IsEnded number limit seats s → IsDone w (done_work s after early)
+served early w s seats some room new tells number its limit allowed others rounds base place ports after none one nothing two is named limited from_start second_pushed first_pushed reserved empty new_one new_two intake ran used ended =
     let these : seats ≡ one ∷ two ∷ [] = second_pushed ∙ ap (λ xs. xs ++ two ∷ []) (first_pushed ∙ ap (λ xs. xs ++ one ∷ []) (reserved ∙ empty)) in
     let over : IsEnded its allowed (one ∷ two ∷ []) s = subst (λ l. IsEnded its allowed l s) these (subst (λ n. IsEnded its n seats s) limited (subst (λ n. IsEnded n limit seats s) named ended)) in
     let t = member_task its allowed tells others rounds in
     let its_intake : IsIntake tells others (new_seat 1) one = subst (λ z. IsIntake tells others z one) new_one intake in
     let its_rounds : AreRounds base rounds (new_seat 2) two = subst (λ z. AreRounds base rounds z two) new_two ran in
-    subst (λ u. IsDone u (done_work s after refusal)) is
+    subst (λ u. IsDone u (done_work s after early)) is
     record {
       served = did t s one two base (sym from_start) over its_intake its_rounds;
       used = λ bs new_ports. used bs (ap (λ (z : SeatModel). z.log) new_one) new_ports ∙ ap (λ z. used_ports place 0 (passed_in z) bs) (first t s one two base (sym from_start) over its_intake its_rounds);

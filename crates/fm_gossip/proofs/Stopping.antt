@@ -1,6 +1,6 @@
 -- Why calls of a fleet are refused.
 use Rattle.std.proofs.Common.{◌≡◌, ◌⊎◌, ℕ, Bool, true, false, refl, sym, ap, subst, inl, inr}
-use Rattle.std.specs.Prelude.{nat_le, Option, Some, None, option_map, IsTrue, IfSome}
+use Rattle.std.specs.Prelude.{nat_le, Option, Some, None, option_map, IsTrue}
 use Rattle.fm_records.specs.declared.refusal.Refusal.{Refusal}
 use Rattle.fm_records.specs.declared.refusal.Refusal.TheVariants.{OutOfMemory, BadOp, HistoryFull}
 use Rattle.fm_records.specs.declared.ops.Field.{Field}
@@ -17,7 +17,6 @@ use Rattle.fm_fleet.specs.Seats.{SeatModel, MayRefuse}
 use Rattle.fm_round.specs.Schedules.{IsPlanOf}
 use Rattle.fm_fleet.specs.Rounds.{IsRefusedRound}
 use Rattle.fm_gossip.specs.FleetFaults.{may_stop}
-use Rattle.fm_gossip.specs.inner.FirstFaults.{may_be_first}
 
 of_room : (full : Bool) → IsTrue (may_stop (or_else OutOfMemory (first_some None (when full HistoryFull))))
 of_room true = refl
@@ -62,17 +61,3 @@ round_stops base s t r (inr half) = of_half half.cause where
 pub round_number : (base : ℕ) (s t : SeatModel) (r : Refusal) → IsRefusedRound base s t r → t.number ≡ s.number
 round_number base s t r (inl (same, refused)) = ap (λ (z : SeatModel). z.number) same
 round_number base s t r (inr half) = ap (λ (z : SeatModel). z.number) half.listed
-
-pub first_may : (a b : Option Refusal) → IsTrue (may_be_first a) → IsTrue (may_be_first b) → IsTrue (may_be_first (first_some a b))
-first_may None b h k = k
-first_may (Some r) b h k = h
-
--- one of two refusals may stop a fleet, if each may
-pub first_stops : (a b : Option Refusal) → IfSome a (λ r. IsTrue (may_stop r)) → IfSome b (λ r. IsTrue (may_stop r)) → IfSome (first_some a b) (λ r. IsTrue (may_stop r))
-first_stops None b h k = k
-first_stops (Some r) b h k = h
-
--- neither of two is there, if not the first of them
-pub neither : (a b : Option Refusal) → first_some a b ≡ None → (a ≡ None) × (b ≡ None)
-neither None b e = (refl, e)
-neither (Some r) b e = absurd (let no : ⊥ = cc in no)

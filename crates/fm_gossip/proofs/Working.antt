@@ -7,7 +7,7 @@ use Rattle.fm_gossip.specs.Served.{AreServed}
 use Rattle.fm_gossip.specs.Members.{MemberModel, but_for, task_of}
 use Rattle.fm_gossip.specs.Passing.{passed_at}
 use Rattle.fm_gossip.specs.inner.Used.{new_port, AreUsed}
-use Rattle.fm_gossip.specs.inner.Works.{WorkModel, MemberEndModel, LinksModel, links, links_of, HaveOut, HavePorts, linked_work, linked_works, works_of, AreDone, IsDoneUnless, AreDoneUnless, NoneRefused}
+use Rattle.fm_gossip.specs.inner.Works.{WorkModel, MemberEndModel, LinksModel, links, links_of, HaveOut, HavePorts, linked_work, linked_works, works_of, AreDone, IsDoneUnless, AreDoneUnless, NoneEarly}
 
 -- the links of one member more are made
 pub next_links : (numbers : List ℕ) (bs now : List InboxModel) (before more : List LinksModel) (n k : ℕ) (m : MemberModel) (its rest whole : List MemberModel) (l : LinksModel) → its ≡ m ∷ rest → more ≡ before ++ l ∷ [] → l ≡ links (but_for m.number numbers) n (map new_port bs) → now ≡ bs → k ≡ n + 1
@@ -81,7 +81,7 @@ pub linked_for : (bs : List InboxModel) (seen ms : List MemberModel) (ls : List 
 linked_for bs seen ms ls same linked = linked ∙ ap (λ z. links_of (map (λ m. m.number) z) bs 0 z) same
 
 -- if none ended early, all are done
-all_done : (ws : List WorkModel) (ds : List MemberEndModel) → AreDoneUnless ws ds → NoneRefused ds → AreDone ws ds
+all_done : (ws : List WorkModel) (ds : List MemberEndModel) → AreDoneUnless ws ds → NoneEarly ds → AreDone ws ds
 all_done [] [] h none = tt
 all_done [] (d ∷ ds) h none = absurd h
 all_done (w ∷ ws) [] h none = absurd h
@@ -109,10 +109,10 @@ module _ (numbers : List ℕ) (rounds : ℕ) (bs : List InboxModel) (ms : List M
   done_unless : AreDoneUnless (works_of numbers rounds bs 0 ms) ds
   done_unless = subst (λ z. AreDoneUnless z ds) (given ∙ ap (linked_works rounds ms) linked ∙ linked_all numbers rounds bs 0 ms) h
 
-  pub all_served : NoneRefused ds → AreServed (map (task_of numbers rounds) ms) (map (λ d. d.state) ds)
+  pub all_served : NoneEarly ds → AreServed (map (task_of numbers rounds) ms) (map (λ d. d.state) ds)
   all_served none = served_by numbers rounds bs 0 ms ds (all_done (works_of numbers rounds bs 0 ms) ds done_unless none)
 
-  pub all_used : NoneRefused ds → AreUsed 0 bs (map passed_at (map (λ d. d.state) ds)) (map (λ d. d.ports) ds)
+  pub all_used : NoneEarly ds → AreUsed 0 bs (map passed_at (map (λ d. d.state) ds)) (map (λ d. d.ports) ds)
   all_used none = used_by numbers rounds bs 0 ms ds (all_done (works_of numbers rounds bs 0 ms) ds done_unless none)
 
   pub as_many : length ds ≡ length ms

@@ -1,4 +1,4 @@
 pub mod Used
 pub mod Works
-pub mod FirstFaults
+pub mod EarlyEnds
 pub mod EndedMember

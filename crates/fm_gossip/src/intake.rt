@@ -9,7 +9,9 @@ ghost use Rattle.fm_gossip.specs.Served.{all_told, IsFirst, IsIntake, AreMerged}
 ghost use Rattle.fm_gossip.specs.Passing.{passing, passed_in};
 ghost use Rattle.fm_gossip.specs.inner.Used.{new_port, used_ports, put_past, after_takes};
 ghost use Rattle.fm_gossip.specs.FleetFaults.{may_stop};
+ghost use Rattle.fm_gossip.specs.inner.EarlyEnds.{may_end};
 
+use crate::early::Early;
 use crate::stop_signal::StopSignal;
 use fm_coord::entry::Range;
 use fm_delta::packet::Packet;
@@ -36,11 +38,11 @@ pub(crate) struct Intake {
 pub(crate) struct Taken<L: NodeName> {
     pub(crate) seat: Seat<L>,
     pub(crate) ports: Vec<OwnedPort>,
-    pub(crate) refusal: Option<Refusal>,
+    pub(crate) early: Option<Early>,
 }
 
 /// Tells all, cuts what is then known, puts a copy to each of the others, and merges a packet from each of them. If
-/// something is refused, the fleet is stopped. If that is stopped while it waits for a packet, it ends with its refusal.
+/// something is refused, the fleet is stopped. If that is stopped while it waits for a packet, it ends too.
 /// NotMine with the sender of a packet that is not awaited.
 pub(crate) fn take_in<N: NetKeeper, L: NodeName, R: Wait>(
     rt: &R,
@@ -50,12 +52,12 @@ pub(crate) fn take_in<N: NetKeeper, L: NodeName, R: Wait>(
     halt: &StopSignal,
 ) -> Taken<L>
     requires { intake.place < vec_len intake.ports }
-    ensures intake { result.refusal ≡ None → IsIntake intake.tells.items intake.senders.items seat result.seat }
-    ensures ports { result.refusal ≡ None → (bs : List InboxModel) → seat.log ≡ []
+    ensures intake { result.early ≡ None → IsIntake intake.tells.items intake.senders.items seat result.seat }
+    ensures ports { result.early ≡ None → (bs : List InboxModel) → seat.log ≡ []
         → map (λ d. d.port) intake.ports.items ≡ map new_port bs
         → map (λ d. d.port) result.ports.items ≡ used_ports intake.place 0 (passed_in result.seat) bs }
     ensures number { result.seat.number ≡ seat.number }
-    ensures cause { IfSome result.refusal (λ refusal. IsTrue (may_stop refusal)) }
+    ensures cause { IfSome result.early (λ early. IsTrue (may_end early)) }
 {
     let Intake {
         tells,
@@ -69,14 +71,14 @@ pub(crate) fn take_in<N: NetKeeper, L: NodeName, R: Wait>(
         Ok(()) => Taken {
             seat,
             ports,
-            refusal: None,
+            early: None,
         },
-        Err(refusal) => {
-            halt.stop(rt, refusal);
+        Err(early) => {
+            halt.stop(rt);
             Taken {
                 seat,
                 ports,
-                refusal: Some(refusal),
+                early: Some(early),
             }
         }
     }
@@ -93,14 +95,14 @@ fn exchange<N: NetKeeper, L: NodeName, R: Wait>(
     ports: &mut [OwnedPort],
     place: usize,
     halt: &StopSignal,
-) -> Result<(), Refusal>
+) -> Result<(), Early>
     requires { place < length ports.old }
     ensures intake { OnOk result (IsIntake tells.now senders.items seat.old seat.new) }
     ensures ports { OnOk result ((bs : List InboxModel) → seat.old.log ≡ []
         → map (λ d. d.port) ports.old ≡ map new_port bs
         → map (λ d. d.port) ports.new ≡ used_ports place 0 (passed_in seat.new) bs) }
     ensures number { seat.new.number ≡ seat.old.number }
-    ensures cause { IfErr result (λ refusal. IsTrue (may_stop refusal)) }
+    ensures cause { IfErr result (λ early. IsTrue (may_end early)) }
 {
     tell_all(rt, node, seat, tells)?;
     let packet = node.cut(rt, seat, Range::Full)?;
@@ -137,13 +139,13 @@ fn pass_on<N: NetKeeper, L: NodeName, R: Wait>(
     packet: &Packet,
     senders: Vec<CoordId>,
     halt: &StopSignal,
-) -> Result<(), Refusal>
+) -> Result<(), Early>
     requires { place < length ports.old }
     ensures merged { OnOk result ((merged : AreMerged senders.items seat.old seat.new)
         × ((bs : List InboxModel) → map (λ d. d.port) ports.old ≡ map new_port bs
         → map (λ d. d.port) ports.new ≡ used_ports place 0 (passing (packet.now ∷ []) merged.packets) bs)) }
     ensures number { seat.new.number ≡ seat.old.number }
-    ensures cause { IfErr result (λ refusal. IsTrue (may_stop refusal)) }
+    ensures cause { IfErr result (λ early. IsTrue (may_end early)) }
 {
     put_all(rt, ports, 0, place, packet)?;
     halt.ring(rt);
@@ -197,17 +199,17 @@ fn merge_all<N: NetKeeper, L: NodeName, R: Wait>(
     own: &mut OwnedPort,
     mut awaited: Vec<CoordId>,
     halt: &StopSignal,
-) -> Result<(), Refusal>
+) -> Result<(), Early>
     ensures merged { OnOk result ((merged : AreMerged awaited.items seat.old seat.new)
         × (own.new.port ≡ after_takes own.old.port merged.packets)) }
     ensures number { seat.new.number ≡ seat.old.number }
-    ensures cause { IfErr result (λ refusal. IsTrue (may_stop refusal)) }
+    ensures cause { IfErr result (λ early. IsTrue (may_end early)) }
 {
     while !awaited.is_empty() {
         let packet = next_packet(rt, own, halt)?;
         let Some(place) = index_of(&awaited, &packet) else {
             let sender = packet.sender.value();
-            return Err(Refusal::NotMine(u32::from(sender)));
+            return Err(Early::Refused(Refusal::NotMine(u32::from(sender))));
         };
         awaited.remove(place);
         node.merge(rt, seat, packet)?;
@@ -233,17 +235,19 @@ fn index_of(awaited: &[CoordId], packet: &Packet) -> Option<usize>
 }
 
 // A packet, once there is one. It sleeps until the bell rings: a packet that was put after it looked was put before the
-// ring that it waits for. Refused as the fleet, if that is stopped before.
-fn next_packet<R: Wait>(rt: &R, own: &mut OwnedPort, halt: &StopSignal) -> Result<Packet, Refusal>
+// ring that it waits for. Stopped if the fleet is before.
+fn next_packet<R: Wait>(rt: &R, own: &mut OwnedPort, halt: &StopSignal) -> Result<Packet, Early>
     ensures taken { IfOk result (λ packet. own.new.port ≡ after_take own.old.port packet) }
-    ensures cause { IfErr result (λ refusal. IsTrue (may_stop refusal)) }
+    ensures cause { IfErr result (λ early. IsTrue (may_end early)) }
 {
     for _ in rt.forever() {
         let rings = halt.rings(rt);
         if let Ok(packet) = own.take(rt) {
             return Ok(packet);
         }
-        halt.wait(rt, rings)?;
+        if halt.wait(rt, rings) {
+            return Err(Early::Stopped);
+        }
     }
     unreachable!()
 }

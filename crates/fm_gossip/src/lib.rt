@@ -2,6 +2,7 @@
 #![tactic(auto)]
 
 pub mod agreeing;
+mod early;
 pub mod exchange;
 mod intake;
 pub mod member;

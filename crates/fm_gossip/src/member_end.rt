@@ -9,6 +9,7 @@ ghost use Rattle.fm_gossip.specs.FleetFaults.{may_stop};
 ghost use Rattle.fm_gossip.specs.inner.Used.{AreUsed, column};
 ghost use Rattle.fm_gossip.specs.inner.Works.{HaveOut};
 
+use crate::early::Early;
 use fm_coord::coordinator::Coordinator;
 use fm_fleet::owned_port::{OwnedPort, PortPool};
 use fm_policy::keeper::NetKeeper;
@@ -22,19 +23,19 @@ use std::sync::Wait;
 pub(crate) struct MemberEnd<N: NetKeeper> {
     pub(crate) coordinator: Coordinator<N>,
     pub(crate) ports: Vec<OwnedPort>,
-    pub(crate) refusal: Option<Refusal>,
+    pub(crate) early: Option<Early>,
 }
 
 impl<N: NetKeeper> Model for MemberEnd<N> {
     ghost use Rattle.std.specs.Prelude.{map, IsTrue, IfSome};
-    ghost use Rattle.fm_gossip.specs.FleetFaults.{may_stop};
+    ghost use Rattle.fm_gossip.specs.inner.EarlyEnds.{may_end};
     ghost use Rattle.fm_gossip.specs.inner.Works.{MemberEndModel, done_work};
 
     ghost Value = { MemberEndModel };
 
-    ghost view = { λ d. done_work d.coordinator.state (map (λ e. e.port) d.ports.items) d.refusal };
+    ghost view = { λ d. done_work d.coordinator.state (map (λ e. e.port) d.ports.items) d.early };
 
-    ghost invariant = { λ d. IfSome d.refusal (λ refusal. IsTrue (may_stop refusal)) };
+    ghost invariant = { λ d. IfSome d.early (λ early. IsTrue (may_end early)) };
 }
 
 /// Closes each inbox with its ports: each packet that was put was taken once. The coordinators stay with the caller.

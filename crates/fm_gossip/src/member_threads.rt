@@ -3,14 +3,17 @@
 //! If a thread cannot be made or something is refused, the fleet is stopped, all threads end in time, and each
 //! coordinator is returned with what its seats did. Memory for what they leave is reserved before the first thread, so
 //! that all coordinators can be returned.
-ghost use Rattle.std.specs.Prelude.{◌≡◌, ◌⊎◌, ◌≤◌, [], None, length, map, vec_len, vec_capacity, IsTrue, IfOk, IfErr, IfSome, IfNone, OnOk, IsOkUnless};
+ghost use Rattle.fm_records.specs.declared.refusal.Refusal.TheVariants.{OutOfMemory};
+ghost use Rattle.std.specs.Prelude.{◌≡◌, ◌⊎◌, ◌≤◌, [], None, Some, length, map, vec_len, vec_capacity, IsTrue, IfOk, IfErr, IfSome, IfNone, OnOk, IsOkUnless};
 ghost use Rattle.fm_gossip.specs.Served.{AreServed};
 ghost use Rattle.fm_gossip.specs.Members.{member_number, member_tasks};
 ghost use Rattle.fm_gossip.specs.Passing.{passed_at, ArePassedOn};
 ghost use Rattle.fm_gossip.specs.FleetFaults.{may_stop, AreBack};
+ghost use Rattle.fm_gossip.specs.inner.EarlyEnds.{may_end};
 ghost use Rattle.fm_gossip.specs.inner.Used.{AreUsed};
-ghost use Rattle.fm_gossip.specs.inner.Works.{links_of, HaveOut, IsDoneUnless, AreDoneUnless, NoneRefused};
+ghost use Rattle.fm_gossip.specs.inner.Works.{links_of, HaveOut, IsDoneUnless, AreDoneUnless, NoneEarly, named_of};
 
+use crate::early::{Early, first_of};
 use crate::member::Member;
 use crate::member_end::{MemberEnd, close_all};
 use crate::serving::{Served, serve_one};
@@ -41,10 +44,12 @@ pub struct FleetFault<N: NetKeeper, G> {
 /// known, sends it to each of the others and merges a packet from each of them, while its solver runs the given
 /// number of rounds. Then each node is closed and audited, and the inboxes are closed: each packet that was sent was
 /// merged once. Returns the coordinators, as listed. Two members of one number merge nothing of each other, and so are
-/// refused as below. Refused with the first refusal of a thread, in time, after which no round begins and no packet is
-/// waited for, and with all coordinators: OutOfMemory, also if a thread cannot be made; BadOp; HistoryFull; InboxFull
-/// with more members than an inbox has room; NotMine with the sender of a packet that is not awaited, or if an audit
-/// fails or a packet is left. If memory runs out before the first thread, with the members.
+/// refused as below. Once a thread is refused, no round begins and no packet is waited for. The fleet is then refused
+/// with the first refusal by member, as listed, the intake's before the solver's, and not the first in time; what only
+/// ended since another was refused is not named. All coordinators come back. OutOfMemory, also if a thread cannot be
+/// made; BadOp; HistoryFull; InboxFull with more members than an inbox has room; NotMine with the sender of a packet that
+/// is not awaited, or if an audit fails or a packet is left. If memory runs out before the first thread, the members
+/// come back.
 pub fn run_fleet<N: NetKeeper + Send + Drop, G: Gate + Send + Drop, R: Threads + Wait + Sync>(
     rt: &R,
     alloc: Global,
@@ -76,7 +81,7 @@ pub fn run_fleet<N: NetKeeper + Send + Drop, G: Gate + Send + Drop, R: Threads +
     let halt = StopSignal::new();
     let works = works(members, links, rounds, room);
     let mut dones = at_once(rt, alloc, works, dones, &halt);
-    let closed = closed(rt, alloc, inboxes, &mut dones, halt);
+    let closed = closed(rt, alloc, inboxes, &mut dones);
     let coordinators = coordinators_of(dones, coordinators);
     match closed {
         Ok(()) => Ok(coordinators),
@@ -127,33 +132,32 @@ fn closed<N: NetKeeper + Drop, R: Wait>(
     alloc: Global,
     inboxes: Vec<PortPool>,
     dones: &mut [MemberEnd<N>],
-    halt: StopSignal,
 ) -> Result<(), Refusal>
-    requires used { NoneRefused dones.old → AreUsed 0 (map (λ b. b.inbox) inboxes.items)
+    requires used { NoneEarly dones.old → AreUsed 0 (map (λ b. b.inbox) inboxes.items)
         (map passed_at (map (λ d. d.state) dones.old)) (map (λ d. d.ports) dones.old) }
     requires count { length inboxes.items ≡ length dones.old }
     requires out { HaveOut (length dones.old) (length dones.old) inboxes.items }
     ensures same { map (λ d. d.state) dones.new ≡ map (λ d. d.state) dones.old }
-    ensures none { OnOk result (NoneRefused dones.old) }
+    ensures none { OnOk result (NoneEarly dones.old) }
     ensures passed { OnOk result (ArePassedOn (map passed_at (map (λ d. d.state) dones.old))) }
     ensures cause { IfErr result (λ refusal. IsTrue (may_stop refusal)) }
 {
-    match first_refused(dones) {
-        Some(refusal) => Err(halt.first_or(refusal)),
+    match first_early(dones) {
         None => close_all(rt, alloc, inboxes, dones),
+        Some(Early::Refused(refusal)) => Err(refusal),
+        // A thread that stops a fleet was refused, and leaves that.
+        Some(Early::Stopped) => Err(Refusal::OutOfMemory),
     }
 }
 
-// Why the first of those that ended early did.
-fn first_refused<N: NetKeeper>(dones: &[MemberEnd<N>]) -> Option<Refusal>
-    ensures none { IfNone result (NoneRefused dones.now) }
-    ensures cause { IfSome result (λ refusal. IsTrue (may_stop refusal)) }
+// Why members ended early: the first that was refused, as listed, and an intake before a solver.
+fn first_early<N: NetKeeper>(dones: &[MemberEnd<N>]) -> Option<Early>
+    ensures named { result ≡ named_of dones.now }
+    ensures none { IfNone result (NoneEarly dones.now) }
+    ensures cause { IfSome result (λ early. IsTrue (may_end early)) }
 {
     let (first, rest) = dones.split_first()?;
-    match first.refusal {
-        Some(refusal) => Some(refusal),
-        None => first_refused(rest),
-    }
+    first_of(first.early, first_early(rest))
 }
 
 // The coordinators, as listed. There is room for them.
@@ -268,9 +272,25 @@ fn started<
     match started {
         Ok(handle) => Ok(handle),
         Err(fault) => {
-            halt.stop(rt, Refusal::OutOfMemory);
+            halt.stop(rt);
             let serve = fault.value;
-            Err(serve())
+            Err(without_thread(serve()))
         }
+    }
+}
+
+// What a member leaves for which no thread could be made: that is why it ended.
+fn without_thread<N: NetKeeper + Drop>(done: MemberEnd<N>) -> MemberEnd<N>
+    ensures { result.early ≡ Some (Early.Refused OutOfMemory) }
+{
+    let MemberEnd {
+        coordinator,
+        ports,
+        ..
+    } = done;
+    MemberEnd {
+        coordinator,
+        ports,
+        early: Some(Early::Refused(Refusal::OutOfMemory)),
     }
 }

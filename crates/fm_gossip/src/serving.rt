@@ -11,14 +11,15 @@ ghost use Rattle.fm_gossip.specs.Served.{IsIntake, AreRounds, new_seat};
 ghost use Rattle.fm_gossip.specs.inner.EndedMember.{IsEnded};
 ghost use Rattle.fm_gossip.specs.Passing.{passed_in};
 ghost use Rattle.fm_gossip.specs.inner.Used.{new_port, used_ports};
-ghost use Rattle.fm_coord.specs.Causes.{first_some};
 ghost use Rattle.fm_gossip.specs.FleetFaults.{may_stop};
+ghost use Rattle.fm_gossip.specs.inner.EarlyEnds.{may_end};
 ghost use Rattle.fm_gossip.specs.inner.Works.{IsDoneUnless};
 
+use crate::early::{Early, first_of, refused_by};
 use crate::intake::{Intake, Taken, take_in};
 use crate::member_end::MemberEnd;
 use crate::solver::{Ran, Rounds, run_rounds};
-use crate::stop_signal::{StopSignal, first_of};
+use crate::stop_signal::StopSignal;
 use crate::work::Work;
 use fm_coord::coordinator::Coordinator;
 use fm_fleet::audit::audit;
@@ -59,8 +60,8 @@ pub(crate) fn serve_one<
     ensures { IsDoneUnless work result }
 {
     let done = serve::<Brand, N, G, R>(rt, alloc, Blank::new(2), work, halt);
-    if let Some(refusal) = done.refusal {
-        halt.stop(rt, refusal);
+    if done.early.is_some() {
+        halt.stop(rt);
     }
     done
 }
@@ -101,7 +102,7 @@ fn serve<
         one,
         two,
         ports,
-        refusal,
+        early,
     } = used;
     room.push_reserved(one);
     room.push_reserved(two);
@@ -109,19 +110,19 @@ fn serve<
     MemberEnd {
         coordinator,
         ports,
-        refusal: first_of(refusal, fault),
+        early: first_of(early, refused_by(fault)),
     }
 }
 
 // What is left if memory ran out before there were threads.
 fn ended<N: NetKeeper + Drop>(coordinator: Coordinator<N>, intake: Intake) -> MemberEnd<N>
-    ensures { result.refusal ≡ Some OutOfMemory }
+    ensures { result.early ≡ Some (Early.Refused OutOfMemory) }
 {
     let Intake { ports, .. } = intake;
     MemberEnd {
         coordinator,
         ports,
-        refusal: Some(Refusal::OutOfMemory),
+        early: Some(Early::Refused(Refusal::OutOfMemory)),
     }
 }
 
@@ -142,7 +143,7 @@ struct Used<L: NodeName> {
     one: Seat<L>,
     two: Seat<L>,
     ports: Vec<OwnedPort>,
-    refusal: Option<Refusal>,
+    early: Option<Early>,
 }
 
 // A node, used by two threads: the intake is this one. If the other cannot be made, its rounds are tried here once the
@@ -165,27 +166,27 @@ fn by_two<
     halt: &'x StopSignal,
 ) -> Used<L>
     requires { intake.place < vec_len intake.ports }
-    ensures intake { result.refusal ≡ None → IsIntake intake.tells.items intake.senders.items one result.one }
-    ensures ports { result.refusal ≡ None → (bs : List InboxModel) → one.log ≡ []
+    ensures intake { result.early ≡ None → IsIntake intake.tells.items intake.senders.items one result.one }
+    ensures ports { result.early ≡ None → (bs : List InboxModel) → one.log ≡ []
         → map (λ d. d.port) intake.ports.items ≡ map new_port bs
         → map (λ d. d.port) result.ports.items ≡ used_ports intake.place 0 (passed_in result.one) bs }
-    ensures rounds { result.refusal ≡ None → AreRounds L.base rounds two result.two }
+    ensures rounds { result.early ≡ None → AreRounds L.base rounds two result.two }
     ensures numbers { (result.one.number ≡ one.number) × (result.two.number ≡ two.number) }
-    ensures cause { IfSome result.refusal (λ refusal. IsTrue (may_stop refusal)) }
+    ensures cause { IfSome result.early (λ early. IsTrue (may_end early)) }
 {
     thread::scope(
         thread::scope_env(),
         rt,
         move |scope| -> Used<L>
             requires { intake.place < vec_len intake.ports }
-            ensures intake { result.refusal ≡ None
+            ensures intake { result.early ≡ None
                 → IsIntake intake.tells.items intake.senders.items one result.one }
-            ensures ports { result.refusal ≡ None → (bs : List InboxModel) → one.log ≡ []
+            ensures ports { result.early ≡ None → (bs : List InboxModel) → one.log ≡ []
                 → map (λ d. d.port) intake.ports.items ≡ map new_port bs
                 → map (λ d. d.port) result.ports.items ≡ used_ports intake.place 0 (passed_in result.one) bs }
-            ensures rounds { result.refusal ≡ None → AreRounds L.base rounds two result.two }
+            ensures rounds { result.early ≡ None → AreRounds L.base rounds two result.two }
             ensures numbers { (result.one.number ≡ one.number) × (result.two.number ≡ two.number) }
-            ensures cause { IfSome result.refusal (λ refusal. IsTrue (may_stop refusal)) }
+            ensures cause { IfSome result.early (λ early. IsTrue (may_end early)) }
         {
             let promise = Rounds {
                 seat: Snapshot::of(&two),
@@ -201,7 +202,7 @@ fn by_two<
                     both(taken, handle.join(rt))
                 }
                 Err(fault) => {
-                    halt.stop(rt, Refusal::OutOfMemory);
+                    halt.stop(rt);
                     let rounds = fault.value;
                     unused(one, intake, rounds())
                 }
@@ -214,19 +215,21 @@ fn by_two<
 fn both<L: NodeName>(taken: Taken<L>, ran: Ran<L>) -> Used<L>
     ensures one { (result.one ≡ taken.seat) × (result.ports ≡ taken.ports) }
     ensures two { result.two ≡ ran.seat }
-    ensures refusal { result.refusal ≡ first_some taken.refusal ran.refusal }
+    ensures none { result.early ≡ None → (taken.early ≡ None) × (ran.early ≡ None) }
+    ensures cause { IfSome taken.early (λ early. IsTrue (may_end early)) → IfSome ran.early (λ early. IsTrue (may_end early))
+        → IfSome result.early (λ early. IsTrue (may_end early)) }
 {
     Used {
         one: taken.seat,
         two: ran.seat,
         ports: taken.ports,
-        refusal: first_of(taken.refusal, ran.refusal),
+        early: first_of(taken.early, ran.early),
     }
 }
 
 // What is left if a thread could not be made.
 fn unused<L: NodeName>(one: Seat<L>, intake: Intake, ran: Ran<L>) -> Used<L>
-    ensures refusal { result.refusal ≡ Some OutOfMemory }
+    ensures early { result.early ≡ Some (Early.Refused OutOfMemory) }
     ensures seats { (result.one ≡ one) × (result.two ≡ ran.seat) }
 {
     let Intake { ports, .. } = intake;
@@ -234,7 +237,7 @@ fn unused<L: NodeName>(one: Seat<L>, intake: Intake, ran: Ran<L>) -> Used<L>
         one,
         two: ran.seat,
         ports,
-        refusal: Some(Refusal::OutOfMemory),
+        early: Some(Early::Refused(Refusal::OutOfMemory)),
     }
 }
 

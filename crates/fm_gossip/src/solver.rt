@@ -6,14 +6,14 @@ ghost use Rattle.std.specs.Prelude.{◌≡◌, None, IsTrue, IfErr, IfSome, OnOk
 ghost use Rattle.fm_round.specs.declared.plan.Admitted.{Admitted as WhatCame};
 ghost use Rattle.fm_fleet.specs.Rounds.{IsRound};
 ghost use Rattle.fm_gossip.specs.Served.{AreRounds};
-ghost use Rattle.fm_gossip.specs.FleetFaults.{may_stop};
+ghost use Rattle.fm_gossip.specs.inner.EarlyEnds.{may_end};
 
+use crate::early::Early;
 use crate::stop_signal::StopSignal;
 use fm_fleet::node::Node;
 use fm_fleet::round::{Gate, run_round};
 use fm_fleet::seat::{NodeName, Seat};
 use fm_policy::keeper::NetKeeper;
-use fm_records::refusal::Refusal;
 use std::alloc::Global;
 use std::snapshot::Snapshot;
 use std::sync::Wait;
@@ -23,11 +23,10 @@ use std::thread::Promise;
 #[derive(Drop)]
 pub(crate) struct Ran<L: NodeName> {
     pub(crate) seat: Seat<L>,
-    pub(crate) refusal: Option<Refusal>,
+    pub(crate) early: Option<Early>,
 }
 
-/// Runs so many rounds. If one is refused, the fleet is stopped. If that is stopped before a round, they end with its
-/// refusal.
+/// Runs so many rounds. If one is refused, the fleet is stopped. If that is stopped before a round, they end too.
 pub(crate) fn run_rounds<N: NetKeeper, L: NodeName, G: Gate + Drop, R: Wait>(
     rt: &R,
     alloc: Global,
@@ -37,22 +36,19 @@ pub(crate) fn run_rounds<N: NetKeeper, L: NodeName, G: Gate + Drop, R: Wait>(
     rounds: u32,
     halt: &StopSignal,
 ) -> Ran<L>
-    ensures ran { result.refusal ≡ None → AreRounds L.base rounds seat result.seat }
+    ensures ran { result.early ≡ None → AreRounds L.base rounds seat result.seat }
     ensures number { result.seat.number ≡ seat.number }
-    ensures cause { IfSome result.refusal (λ refusal. IsTrue (may_stop refusal)) }
+    ensures cause { IfSome result.early (λ early. IsTrue (may_end early)) }
 {
     for _i in 0..rounds {
-        if let Err(refusal) = next_round(rt, alloc, node, &mut seat, &mut gate, halt) {
+        if let Err(early) = next_round(rt, alloc, node, &mut seat, &mut gate, halt) {
             return Ran {
                 seat,
-                refusal: Some(refusal),
+                early: Some(early),
             };
         }
     }
-    Ran {
-        seat,
-        refusal: None,
-    }
+    Ran { seat, early: None }
 }
 
 // Runs a round, unless the fleet is stopped. If it is refused, the fleet is stopped.
@@ -64,17 +60,19 @@ fn next_round<N: NetKeeper, L: NodeName, G: Gate, R: Wait>(
     seat: &mut Seat<L>,
     gate: &mut G,
     halt: &StopSignal,
-) -> Result<(), Refusal>
+) -> Result<(), Early>
     ensures ok { OnOk result ((admitted : WhatCame) × IsRound L.base seat.old seat.new admitted) }
     ensures number { seat.new.number ≡ seat.old.number }
-    ensures cause { IfErr result (λ refusal. IsTrue (may_stop refusal)) }
+    ensures cause { IfErr result (λ early. IsTrue (may_end early)) }
 {
-    halt.check(rt)?;
+    if halt.is_stopped(rt) {
+        return Err(Early::Stopped);
+    }
     match run_round(rt, alloc, node, seat, gate) {
         Ok(_) => Ok(()),
         Err(refusal) => {
-            halt.stop(rt, refusal);
-            Err(refusal)
+            halt.stop(rt);
+            Err(Early::Refused(refusal))
         }
     }
 }
@@ -89,8 +87,8 @@ pub(crate) struct Rounds<L: NodeName> {
 impl<L: NodeName> Promise<Ran<L>> for Rounds<L> {
     ghost use Rattle.std.specs.Prelude.{◌≡◌, None, IsTrue, IfSome};
     ghost use Rattle.fm_gossip.specs.Served.{AreRounds};
-    ghost use Rattle.fm_gossip.specs.FleetFaults.{may_stop};
+    ghost use Rattle.fm_gossip.specs.inner.EarlyEnds.{may_end};
 
-    ghost kept_by = { λ p r. (r.refusal ≡ None → AreRounds L.base p.rounds p.seat.value r.seat)
-        × (r.seat.number ≡ p.seat.value.number) × IfSome r.refusal (λ refusal. IsTrue (may_stop refusal)) };
+    ghost kept_by = { λ p r. (r.early ≡ None → AreRounds L.base p.rounds p.seat.value r.seat)
+        × (r.seat.number ≡ p.seat.value.number) × IfSome r.early (λ early. IsTrue (may_end early)) };
 }

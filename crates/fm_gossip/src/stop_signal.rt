@@ -1,26 +1,18 @@
 //! What threads of a fleet wait for: a packet, or the end of the fleet.
 //!
 //! A thread that waited for a packet of one that has stopped would wait for ever. So there is one bell for both (a
-//! condition variable): it rings when packets were put, and when something was refused. A thread waits for one ring
-//! more than it had counted, so no ring is missed. The first refusal is kept, and all end with it.
-ghost use Rattle.std.specs.Prelude.{◌≡◌, IsTrue, IfErr};
-ghost use Rattle.fm_coord.specs.Causes.{first_some};
-ghost use Rattle.fm_gossip.specs.FleetFaults.{may_stop};
-ghost use Rattle.fm_gossip.specs.inner.FirstFaults.{may_be_first};
-
-use fm_records::refusal::Refusal;
+//! condition variable): it rings when packets were put, and when the fleet is stopped. A thread waits for one ring
+//! more than it had counted, so no ring is missed. Why a fleet is stopped is said by what the refused thread leaves.
 use std::sync::{Condvar, Mutex, Wait};
 
-// How often the bell rang, modulo 2^64, and the first refusal, if there is one.
+// How often the bell rang, modulo 2^64, and whether the fleet is stopped.
 #[derive(Drop)]
 struct Told {
     rings: u64,
-    first: Option<Refusal>,
-    ghost may: { IsTrue (may_be_first first) },
+    is_stopped: bool,
 }
 
-/// The first refusal of a fleet, and a bell that rings when packets were put and when the fleet stops. Threads that wait
-/// for it sleep.
+/// A bell that rings when packets were put and when the fleet stops. Threads that wait for it sleep.
 #[derive(Drop)]
 pub(crate) struct StopSignal {
     told: Mutex<Told>,
@@ -32,7 +24,7 @@ impl StopSignal {
     pub(crate) fn new() -> StopSignal {
         let told = Mutex::new(Told {
             rings: 0,
-            first: None,
+            is_stopped: false,
         });
         StopSignal {
             told,
@@ -47,77 +39,35 @@ impl StopSignal {
 
     /// Wakes all that wait: packets were put.
     pub(crate) fn ring<R: Wait>(&self, rt: &R) {
-        self.tell(rt, None);
+        self.tell(rt, false);
     }
 
-    /// Stops the fleet for a refusal, and wakes all that wait. The first refusal is kept.
-    pub(crate) fn stop<R: Wait>(&self, rt: &R, refusal: Refusal)
-        requires { IsTrue (may_stop refusal) }
-    {
-        self.tell(rt, Some(refusal));
+    /// Stops the fleet, and wakes all that wait.
+    pub(crate) fn stop<R: Wait>(&self, rt: &R) {
+        self.tell(rt, true);
     }
 
-    /// Refused with the first refusal, if the fleet is stopped.
-    pub(crate) fn check<R: Wait>(&self, rt: &R) -> Result<(), Refusal>
-        ensures { IfErr result (λ refusal. IsTrue (may_stop refusal)) }
-    {
-        unless(self.told.lock(rt).first)
+    /// Whether the fleet is stopped.
+    pub(crate) fn is_stopped<R: Wait>(&self, rt: &R) -> bool {
+        self.told.lock(rt).is_stopped
     }
 
-    /// Waits until it rings once more than so often, or the fleet is stopped. Refused as `check`.
-    pub(crate) fn wait<R: Wait>(&self, rt: &R, rings: u64) -> Result<(), Refusal>
-        ensures { IfErr result (λ refusal. IsTrue (may_stop refusal)) }
-    {
+    /// Waits until it rings once more than so often, or the fleet is stopped. Whether it is.
+    pub(crate) fn wait<R: Wait>(&self, rt: &R, rings: u64) -> bool {
         let told = self.rang.wait_while(
             rt,
             self.told.lock(rt),
-            |told| told.rings == rings && told.first.is_none(),
+            |told| told.rings == rings && !told.is_stopped,
         );
-        unless(told.first)
+        told.is_stopped
     }
 
-    /// The first refusal, or this one if there is none.
-    pub(crate) fn first_or(self, refusal: Refusal) -> Refusal
-        requires { IsTrue (may_stop refusal) }
-        ensures { IsTrue (may_stop result) }
-    {
-        let StopSignal { told, .. } = self;
-        match told.into_inner().first {
-            Some(first) => first,
-            None => refusal,
-        }
-    }
-
-    // Rings, and keeps the refusal if it is the first.
-    #[tactic(auto, using(crate::proofs::Stopping::first_may))]
-    fn tell<R: Wait>(&self, rt: &R, refusal: Option<Refusal>)
-        requires { IsTrue (may_be_first refusal) }
-    {
+    // Rings, and stops the fleet if that is asked for.
+    fn tell<R: Wait>(&self, rt: &R, stops: bool) {
         let mut told = self.told.lock(rt);
         told.rings = told.rings.wrapping_add(1);
-        told.first = first_of(told.first, refusal);
+        told.is_stopped = told.is_stopped || stops;
         drop(told);
         self.rang.notify_all();
-    }
-}
-
-/// The first of two refusals, if there is one.
-pub(crate) fn first_of(first: Option<Refusal>, second: Option<Refusal>) -> Option<Refusal>
-    ensures { result ≡ first_some first second }
-{
-    match first {
-        Some(refusal) => Some(refusal),
-        None => second,
-    }
-}
-
-// Refused with the refusal, if there is one.
-fn unless(first: Option<Refusal>) -> Result<(), Refusal>
-    requires { IsTrue (may_be_first first) }
-    ensures { IfErr result (λ refusal. IsTrue (may_stop refusal)) }
-{
-    match first {
-        Some(refusal) => Err(refusal),
-        None => Ok(()),
     }
 }

@@ -9,7 +9,7 @@ use fm_gossip::member_threads::run_fleet;
 use fm_policy::keeper::NetKeeper;
 use fm_policy::rebuilder::Rebuilder;
 use fm_records::ids::{CoordId, JobId, MachineId, TaskId};
-use fm_records::ops::Op;
+use fm_records::ops::{Field, Op};
 use fm_records::prefer::Prefer;
 use fm_records::refusal::Refusal;
 use std::alloc::Global;
@@ -323,6 +323,57 @@ fn given_back<R: Threads + Wait + Sync>(
         numbers.push(coordinator.number().value())?;
     }
     Ok((fault.refusal, numbers, fault.members.len()))
+}
+
+// So many jobs, and then one whose price of waiting is out of its range.
+fn late(alloc: Global, jobs: u32) -> Result<Vec<Op>, Fail> {
+    let mut tells = Vec::new(alloc);
+    for number in 0..jobs {
+        tells.push(Op::Job {
+            id: JobId::new(u128::from(number)),
+            version: 1,
+            writer: 1,
+            withdrawn: false,
+            wait: 500,
+            preempt: 800,
+        })?;
+    }
+    tells.push(bad())?;
+    Ok(tells)
+}
+
+// A job whose price of preemption is out of its range.
+fn soon(alloc: Global) -> Result<Vec<Op>, Fail> {
+    let mut tells = Vec::new(alloc);
+    tells.push(Op::Job {
+        id: JobId::new(1),
+        version: 1,
+        writer: 1,
+        withdrawn: false,
+        wait: 0,
+        preempt: u32::MAX,
+    })?;
+    Ok(tells)
+}
+
+// Why a fleet is refused whose first member is refused after many tells, and the second at once.
+fn refused_twice<R: Threads + Wait + Sync>(rt: &R, alloc: Global) -> Result<Refusal, Fail> {
+    let one = member(alloc, 1, late(alloc, 300)?, NoGate)?;
+    let two = member(alloc, 2, soon(alloc)?, NoGate)?;
+    let members = both(alloc, one, two)?;
+    match run_fleet(rt, alloc, members, 0) {
+        Ok(_) => Err("a bad operation was told".into()),
+        Err(fault) => Ok(fault.refusal),
+    }
+}
+
+#[test]
+fn the_first_member_as_listed_is_named(rt: HostRuntime) -> Result<(), Fail> {
+    for _ in 0..10 {
+        let refusal = refused_twice(&rt, rt.alloc())?;
+        assert!(rt; matches!(refusal, Refusal::BadOp(Field::Wait)));
+    }
+    Ok(())
 }
 
 #[test]

@@ -1,6 +1,7 @@
 -- What contracts see of what the threads of a fleet are given, and of what they leave (this project's profile).
 use Rattle.std.specs.Prelude.{◌≡◌, ℕ, ◌+◌, ◌<◌, List, [], ◌∷◌, map, Option, None}
-use Rattle.fm_records.specs.declared.refusal.Refusal.{Refusal}
+use Rattle.fm_gossip.specs.declared.early.Early.{Early}
+use Rattle.fm_gossip.specs.inner.EarlyEnds.{named_end}
 use Rattle.fm_inbox.specs.Ports.{InboxModel, PortPoolModel, PortModel}
 use Rattle.fm_coord.specs.States.{State}
 use Rattle.fm_gossip.specs.Served.{Task, member_task, IsServed}
@@ -63,10 +64,10 @@ linked_works rounds (m ∷ ms) (l ∷ ls) = linked_work rounds m l ∷ linked_wo
 pub record MemberEndModel : Type 0 where
   pub state : State
   pub ports : List PortModel
-  pub refusal : Option Refusal
+  pub early : Option Early
 
-abbrev pub done_work : State → List PortModel → Option Refusal → MemberEndModel
-done_work state ports refusal = record { state = state; ports = ports; refusal = refusal }
+abbrev pub done_work : State → List PortModel → Option Early → MemberEndModel
+done_work state ports early = record { state = state; ports = ports; early = early }
 
 -- a member did what it was to do, and used its new ports for what it sent and got
 pub record IsDone (w : WorkModel) (d : MemberEndModel) : Type 0 where
@@ -75,7 +76,7 @@ pub record IsDone (w : WorkModel) (d : MemberEndModel) : Type 0 where
 
 -- it did, unless it ended early
 abbrev pub IsDoneUnless : WorkModel → MemberEndModel → Type 0
-IsDoneUnless w d = d.refusal ≡ None → IsDone w d
+IsDoneUnless w d = d.early ≡ None → IsDone w d
 
 -- each member did, unless it ended early
 abbrev pub AreDoneUnless : List WorkModel → List MemberEndModel → Type 0
@@ -85,9 +86,9 @@ AreDoneUnless [] (d ∷ ds) = ⊥
 AreDoneUnless (w ∷ ws) [] = ⊥
 
 -- none of these ended early
-abbrev pub NoneRefused : List MemberEndModel → Type 0
-NoneRefused [] = Unit {0}
-NoneRefused (d ∷ ds) = (d.refusal ≡ None) × NoneRefused ds
+abbrev pub NoneEarly : List MemberEndModel → Type 0
+NoneEarly [] = Unit {0}
+NoneEarly (d ∷ ds) = (d.early ≡ None) × NoneEarly ds
 
 -- each member did
 abbrev pub AreDone : List WorkModel → List MemberEndModel → Type 0
@@ -95,3 +96,8 @@ AreDone [] [] = Unit {0}
 AreDone (w ∷ ws) (d ∷ ds) = IsDone w d × AreDone ws ds
 AreDone [] (d ∷ ds) = ⊥
 AreDone (w ∷ ws) [] = ⊥
+
+-- which end of these members is named
+abbrev pub named_of : List MemberEndModel → Option Early
+named_of [] = None
+named_of (d ∷ ds) = named_end d.early (named_of ds)

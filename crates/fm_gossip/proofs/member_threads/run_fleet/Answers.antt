@@ -4,7 +4,7 @@ use Rattle.fm_gossip.specs.Served.{AreServed}
 use Rattle.fm_gossip.specs.Members.{member_number, member_tasks}
 use Rattle.fm_gossip.specs.Passing.{passed_at, ArePassedOn}
 use Rattle.fm_gossip.specs.inner.Used.{AreUsed}
-use Rattle.fm_gossip.specs.inner.Works.{HaveOut, NoneRefused}
+use Rattle.fm_gossip.specs.inner.Works.{HaveOut, NoneEarly}
 use Rattle.fm_gossip.proofs.Columns.{written}
 use Rattle.fm_gossip.proofs.Working.{all_used, all_served, as_many, length-links_of, linked_for}
 use Rattle.fm_gossip.proofs.member_threads.run_fleet.Goals as goal
@@ -20,7 +20,7 @@ closed-closed-requires-clause-used g c =
     let bs = map (λ b. b.inbox) c.in-Ok.prepared.1.items in
     let ms = c.args.members.items in
     let linked = linked_for bs _ ms c.in-Ok.prepared.0.items c.deref.ensures.value c.in-Ok.ensures.links in
-    subst (λ ds. NoneRefused ds → AreUsed 0 bs (map passed_at (map (λ d. d.state) ds)) (map (λ d. d.ports) ds)) (sym c.deref_mut.ensures.value)
+    subst (λ ds. NoneEarly ds → AreUsed 0 bs (map passed_at (map (λ d. d.state) ds)) (map (λ d. d.ports) ds)) (sym c.deref_mut.ensures.value)
     (all_used (map member_number ms) c.args.rounds bs ms c.in-Ok.prepared.0.items c.works-works.result.items c.at_once-dones.result.items linked c.works-works.ensures.works c.at_once-dones.ensures)
 
 pub closed-closed-requires-clause-count : goal.closed-closed-requires-clause-count
@@ -58,7 +58,7 @@ returns-in-Ok-closed-clause-ok g c =
     let linked = linked_for bs _ ms c.in-Ok.prepared.0.items c.deref.ensures.value c.in-Ok.ensures.links in
     let kept = written ds.len c.closed-closed.new.dones ds.items (omega (arith, c.closed-closed.auto.dones, c.deref_mut.ensures.len, ds.ok)) (omega (arith, ds.ok)) in
     let same = c.coordinators_of-coordinators.ensures ∙ ap (map (λ d. d.state)) kept ∙ c.closed-closed.ensures.same ∙ ap (map (λ d. d.state)) c.deref_mut.ensures.value in
-    let none = subst NoneRefused c.deref_mut.ensures.value c.in-Ok-closed.ensures.none in
+    let none = subst NoneEarly c.deref_mut.ensures.value c.in-Ok-closed.ensures.none in
     subst (AreServed (member_tasks c.args.rounds ms)) (sym same)
     (all_served (map member_number ms) c.args.rounds bs ms c.in-Ok.prepared.0.items c.works-works.result.items ds.items linked c.works-works.ensures.works c.at_once-dones.ensures none)
 
@@ -69,8 +69,8 @@ returns-in-Ok-closed-clause-passed g c =
     let same = c.coordinators_of-coordinators.ensures ∙ ap (map (λ d. d.state)) kept ∙ c.closed-closed.ensures.same in
     subst (λ ss. ArePassedOn (map passed_at ss)) (sym same) c.in-Ok-closed.ensures.passed
 
-pub returns-in-Err-closed-clause-back : goal.returns-in-Err-closed-clause-back
-returns-in-Err-closed-clause-back g c =
+pub returns-clause-back : goal.returns-clause-back
+returns-clause-back g c =
     let bs = map (λ b. b.inbox) c.in-Ok.prepared.1.items in
     let ms = c.args.members.items in
     let ds = c.at_once-dones.result in

@@ -1,8 +1,7 @@
-use Rattle.std.proofs.Common.{rules, ◌+◌, ◌≤◌, ◌∙◌, ap, sym, vec_len, vec_capacity, arith}
+use Rattle.std.proofs.Common.{rules, ◌+◌, ◌≤◌, ◌∙◌, ap, vec_len, vec_capacity, arith}
 use Rattle.fm_fleet.specs.Seats.{SeatModel}
 use Rattle.fm_gossip.proofs.Ending.{both_seats}
 use Rattle.fm_gossip.proofs.Seated.{served}
-use Rattle.fm_gossip.proofs.Stopping.{neither}
 use Rattle.fm_gossip.proofs.serving.serve.Goals as goal
 
 pub push_reserved-requires-2 : goal.push_reserved-requires-2
@@ -21,6 +20,6 @@ pub returns : goal.returns
 returns g c = λ none.
     let used = c.by_two-used in
     let ended = c.end-coordinator in
-    let both = neither used.result.refusal ended.result.1 (sym c.first_of.ensures ∙ none) in
+    let both = c.first_of.ensures.none none in
     served c.first_of.result c.args.work ended.result.0.state _ _ _ _ _ _ _ _ _ _ _ _ _ _ _ _ used.result.one _ used.result.two c.work.view_is c.number-number.ensures c.limit-limit.ensures c.requires.base c.push_reserved-2.ensures.items c.push_reserved.ensures.items c.reserve.ensures.items
-    c.new-room.ensures.items c.two_of-one.ensures.0 c.two_of-one.ensures.1 (used.ensures.intake both.0) (used.ensures.rounds both.0) (used.ensures.ports both.0) (ended.ensures.ended both.1)
+    c.new-room.ensures.items c.two_of-one.ensures.0 c.two_of-one.ensures.1 (used.ensures.intake both.0) (used.ensures.rounds both.0) (used.ensures.ports both.0) (ended.ensures.ended (c.refused_by.ensures.none both.1))
