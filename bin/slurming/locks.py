@@ -1,0 +1,51 @@
+"""The lock by which of several adapters on one Slurm only one acts."""
+import fcntl
+import os
+
+from slurming.endings import LOCKED, Failure
+
+
+class Lock:
+    """A file, and who has it locked (flock) acts. The lock goes with the process, however that ends. The file stays."""
+
+    def __init__(self, path: str) -> None:
+        self._path = path
+        self._file: int | None = None
+
+    def take(self) -> bool:
+        """Whether this process has the lock now."""
+        try:
+            file = os.open(self._path, os.O_RDWR | os.O_CREAT | os.O_CLOEXEC, 0o644)
+        except OSError as why:
+            raise Failure(LOCKED, f"the lock {self._path} cannot be made ({why.strerror})") from None
+        try:
+            fcntl.flock(file, fcntl.LOCK_EX | fcntl.LOCK_NB)
+        except BlockingIOError:
+            os.close(file)
+            return False
+        except OSError as why:
+            os.close(file)
+            raise Failure(LOCKED, f"{self._path} cannot be locked ({why.strerror})") from None
+        self._file = file
+        if not self._is_at_path():
+            # it was replaced in between
+            self.release()
+            return False
+        return True
+
+    def check(self) -> None:
+        """Raises a failure if the file of the lock is no longer the one at its path, so that another process may have it."""
+        if not self._is_at_path():
+            raise Failure(LOCKED, f"the lock {self._path} was replaced, so another adapter may act")
+
+    def _is_at_path(self) -> bool:
+        assert self._file is not None
+        try:
+            return os.path.samestat(os.fstat(self._file), os.stat(self._path))
+        except OSError:
+            return False
+
+    def release(self) -> None:
+        if self._file is not None:
+            os.close(self._file)
+            self._file = None
