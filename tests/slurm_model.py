@@ -5,7 +5,8 @@ other partition or node; a requeue gives a job a new submit time and a delay of 
 holds leaves its own reason, which an update of the partition keeps; an array's throttle is kept in each partition; a node that fails
 has its jobs requeued; slurmctld that is killed forgets its last seconds, and gives job ids a second time.
 
-Time is a number that the test moves. Nothing here draws: a test that draws its steps by a seed is the same each time.
+Time is a number that the test moves; Slurm keeps whole seconds of it. Nothing here draws: a test that draws its steps by a seed is the same
+each time.
 """
 import collections
 import copy
@@ -158,7 +159,7 @@ class Slurm:
         job.state, job.node, job.next_state = state, "", ""
         if state == "PD":
             job.restarts += 1
-            job.submitted, job.begin, job.left = int(self.now), self.now + REQUEUE_DELAY, 0
+            job.submitted, job.begin, job.left = int(self.now), int(self.now) + REQUEUE_DELAY, 0
             job.reason = job.reason if job.priority == 0 else "BeginTime"
 
     def save(self):
@@ -316,6 +317,6 @@ class Slurm:
         job.partition = fields.get("Partition", job.partition)
         job.asked = fields.get("ReqNodeList", job.asked)
         if "StartTime" in fields:
-            job.begin = self.now + int(fields["StartTime"].partition("+")[2] or 0)
+            job.begin = int(self.now) + int(fields["StartTime"].partition("+")[2] or 0)
         job.admin = fields.get("AdminComment", job.admin)
         job.comment = fields.get("Comment", job.comment)
