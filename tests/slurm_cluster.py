@@ -317,8 +317,8 @@ class Cluster:
                 yield f"on {node or 'no node'} are {count[node]} jobs that ask for {load[node]}"
 
     def wrong_starts(self):
-        """Jobs that did not start once and once more for each restart, or not where Slurm says. Jobs that were cancelled may not have
-        started at all."""
+        """Jobs that did not start once and once more for each restart, or not where Slurm says. A job that was cancelled may have ended
+        before it wrote its last start: Slurm then names the node of that one."""
         found, starts = [], collections.defaultdict(list)
         for it in self.starts():
             starts[it.job].append(it)
@@ -327,7 +327,7 @@ class Cluster:
             wanted = list(range(it.restarts + 1))
             if restarts != wanted and not (it.state == "CANCELLED" and restarts == wanted[:len(restarts)]):
                 found.append(f"job {it.job} started for restarts {restarts}, has {it.restarts}, and is {it.state}")
-            elif starts[it.job] and starts[it.job][-1].node != it.node:
+            elif starts[it.job] and starts[it.job][-1].restarts == it.restarts and starts[it.job][-1].node != it.node:
                 found.append(f"job {it.job} started on {starts[it.job][-1].node}, and Slurm says {it.node}")
         return found
 

@@ -171,6 +171,9 @@ def killed(program):
         yield "commands that an adapter was killed by: %s" % crashes, len(crashes) == 9 and any("Partition=netrun" in it for it in crashes)
         yield "the last one's coordinator knows all that runs: %s" % cluster.unknown(adapter), until(
             lambda: {steady, longest} <= set(cluster.running()) and not cluster.unknown(adapter))
+        # Slurm shows a job as running before the job writes that it starts
+        fine = until(lambda: len(cluster.starts(longest)) == 1 + requeues)
+        yield "the job that was requeued starts again: %s" % on(cluster, [longest]), fine
         cluster.lab.did("scancel", steady, longest)
         yield "all end", all_over(cluster)
         yield from held(cluster)
