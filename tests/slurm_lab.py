@@ -226,7 +226,8 @@ PartitionName=netrun Nodes=ALL MaxNodes=1 State=UP
 """
 
 
-# what is not the default is due to a cluster without systemd and cgroups on one machine, or shortens a test
+# what is not the default is due to a cluster without systemd and cgroups on one machine, or shortens a test. A node that does not respond for
+# a while returns to service; one that is set DOWN stays so
 COMMON = """\
 ClusterName=lab
 SlurmctldHost={host}
@@ -251,7 +252,7 @@ LaunchParameters=disable_send_gids
 SelectType=select/cons_tres
 SchedulerParameters=batch_sched_delay=0,sched_interval=5,bf_interval=5
 GresTypes=bandwidth
-ReturnToService=2
+ReturnToService=1
 KillWait=3
 SlurmdTimeout=30
 MinJobAge=600
