@@ -1,9 +1,9 @@
 """A model of Slurm: its jobs, arrays, partitions and nodes, and what its commands print. It stands in for the processes that bin/slurm runs.
 
-What it does was seen on Slurm 22.05.8: a partition that is DOWN starts nothing; an update is done or not; a job that runs takes no
-other partition or node; a requeue gives a job a new submit time and a delay of 121 s, and keeps the nodes that it asks for; one that
-holds leaves its own reason, which an update of the partition keeps; an array's throttle is kept in each partition; a node that fails
-has its jobs requeued; slurmctld that is killed forgets its last seconds, and gives job ids a second time.
+What it does was seen on Slurm 22.05.8: a partition that is DOWN starts nothing; an update is done or not; a job that runs takes no other
+partition or node; a requeue gives a job a new submit time and a delay of 121 s, and keeps the nodes that it asks for; one that holds leaves
+its own reason, which an update of the partition keeps; a release changes no time; an array's throttle is kept in each partition; a node
+that fails has its jobs requeued; slurmctld that is killed forgets its last seconds, and gives job ids a second time.
 
 Time is a number that the test moves; Slurm keeps whole seconds of it. Nothing here draws: a test that draws its steps by a seed is the same
 each time.
@@ -121,7 +121,7 @@ class Slurm:
 
     def let_go(self, job):
         if job.state == "PD" and job.priority == 0:
-            job.priority, job.held_by, job.reason, job.begin = 100, "", "None", 0
+            job.priority, job.held_by, job.reason = 100, "", "None"
 
     def cancel(self, job):
         if job.state in ("R", "CG"):
