@@ -5,8 +5,8 @@ use Rattle.clap.proofs.OnLiterals.{clap_on_literals}
 use Rattle.std.specs.Option.{option_map_or}
 use Rattle.fm_records.specs.Ids.{read_id}
 use Rattle.clap.specs.Words.{Row}
-use Rattle.fm_args.specs.declared.words.Question.{Question}
-use Rattle.fm_args.specs.declared.words.Question.TheVariants as question
+use Rattle.fm_args.specs.declared.words.ScriptQuestion.{ScriptQuestion}
+use Rattle.fm_args.specs.declared.words.ScriptQuestion.TheVariants as question
 use Rattle.fm_args.specs.Invocation.{Text, agree, ask, fleet, follow, pack, run, unpack, why, wrong}
 use Rattle.fm_args.specs.CommandLine.{Form, asks, commands, default_renew_after, fleets, follows, telling_of_words, most_renew_after, nothing, packs, whys}
 use Rattle.fm_args.specs.Parser.{told_as, told_with}
@@ -61,7 +61,7 @@ of_follow = record {
 }
 
 -- the command of the name asks the question
-abbrev of_question : (name : Text) (q : Question) → ((rows : List Row) → told_as name rows ≡ told_with (asks q) rows) → Numbered
+abbrev of_question : (name : Text) (q : ScriptQuestion) → ((rows : List Row) → told_as name rows ≡ told_with (asks q) rows) → Numbered
 of_question name q tells = record {
   called = name;
   option_name = codes "at";
@@ -79,6 +79,9 @@ of_question name q tells = record {
 
 abbrev of_graph : Numbered
 of_graph = of_question (codes "graph") question.Graph (λ rows. refl)
+
+abbrev of_list : Numbered
+of_list = of_question (codes "list") question.List (λ rows. refl)
 
 abbrev of_solve : Numbered
 of_solve = of_question (codes "solve") question.Solve (λ rows. refl)
@@ -121,6 +124,10 @@ graph_told : IsTold (record { name = codes "graph"; takes = asks question.Graph 
 unfolding clap_on_literals
 graph_told program rest = enter program (codes "graph") rest (shape of_graph) refl refl refl ∙ takes_number of_graph rest
 
+list_told : IsTold (record { name = codes "list"; takes = asks question.List })
+unfolding clap_on_literals
+list_told program rest = enter program (codes "list") rest (shape of_list) refl refl refl ∙ takes_number of_list rest
+
 pack_told : IsTold (record { name = codes "pack"; takes = packs })
 unfolding clap_on_literals
 pack_told program rest = enter program (codes "pack") rest (built_with (codes "pack") named.rules) refl refl refl ∙ takes_name of_pack rest
@@ -146,4 +153,4 @@ unfolding clap_on_literals
 winners_told program rest = enter program (codes "winners") rest (shape of_winners) refl refl refl ∙ takes_number of_winners rest
 
 pub each_told : Each IsTold commands
-each_told = (agree_told, (fleet_told, (follow_told, (graph_told, (pack_told, (solve_told, (plan_told, (unpack_told, (why_told, (winners_told, tt))))))))))
+each_told = (agree_told, (fleet_told, (follow_told, (graph_told, (list_told, (pack_told, (solve_told, (plan_told, (unpack_told, (why_told, (winners_told, tt)))))))))))

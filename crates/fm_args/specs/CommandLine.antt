@@ -7,8 +7,8 @@ use Rattle.std.specs.Str.Parse.{digits_value, starts_with_minus, without_leading
 use Rattle.clap.specs.Lexer.{long_of, short_of}
 use Rattle.clap.specs.ValueTests.{is_numeral}
 use Rattle.fm_records.specs.Ids.{read_id}
-use Rattle.fm_args.specs.declared.words.Question.{Question}
-use Rattle.fm_args.specs.declared.words.Question.TheVariants as question
+use Rattle.fm_args.specs.declared.words.ScriptQuestion.{ScriptQuestion}
+use Rattle.fm_args.specs.declared.words.ScriptQuestion.TheVariants as question
 use Rattle.fm_args.specs.Invocation.{Telling, Text, agree, ask, fleet, follow, help, pack, page, run, unpack, version, why, wrong}
 
 -- ---- one word
@@ -120,7 +120,7 @@ pub data ArgumentKind : Type 0 where
   name_and_number : Text → (least most : ℕ) → (Text → Option ℕ → Telling) → ArgumentKind
 
 -- `--at N`: the question about the coordinator N, or about the first of the script
-abbrev pub asks : Question → ArgumentKind
+abbrev pub asks : ScriptQuestion → ArgumentKind
 asks q = one_number (codes "at") 0 255 (λ at. run (ask q at))
 
 -- `--rounds N`: a fleet for N rounds, or for none
@@ -157,6 +157,7 @@ commands = record { name = codes "agree"; takes = nothing (run agree) }
     ∷ record { name = codes "fleet"; takes = fleets }
     ∷ record { name = codes "follow"; takes = follows }
     ∷ record { name = codes "graph"; takes = asks question.Graph }
+    ∷ record { name = codes "list"; takes = asks question.List }
     ∷ record { name = codes "pack"; takes = packs }
     ∷ record { name = codes "solve"; takes = asks question.Solve }
     ∷ record { name = codes "plan"; takes = asks question.Plan }

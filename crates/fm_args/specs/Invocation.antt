@@ -1,6 +1,6 @@
 -- What the words of a command line ask for, without the texts that are printed (this project's profile).
 use Rattle.std.specs.Prelude.{ℕ, List, Option}
-use Rattle.fm_args.specs.declared.words.Question.{Question}
+use Rattle.fm_args.specs.declared.words.ScriptQuestion.{ScriptQuestion}
 use Rattle.fm_args.specs.declared.words.Command.{Command}
 use Rattle.fm_args.specs.declared.words.Command.TheVariants as command
 use Rattle.fm_args.specs.declared.words.Words.{Words}
@@ -16,7 +16,7 @@ Text = List ℕ
 -- or the records of a packet
 -- or why the task of the number waits or runs, by what that coordinator knows
 pub data ArgsModel : Type 0 where
-  ask : Question → Option ℕ → ArgsModel
+  ask : ScriptQuestion → Option ℕ → ArgsModel
   agree : ArgsModel
   pack : Text → ArgsModel
   unpack : ArgsModel

@@ -57,6 +57,7 @@ fn is_topic(word: &str) -> bool
             | "fleet"
             | "follow"
             | "graph"
+            | "list"
             | "pack"
             | "solve"
             | "plan"

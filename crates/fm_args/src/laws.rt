@@ -4,7 +4,7 @@ ghost use Rattle.std.specs.Prelude.{◌≡◌, ◌≤◌, ◌<◌, ◌^◌, ◌�
 ghost use Rattle.fm_args.specs.CommandLine.{telling_of, look_of, parsed_number, plain};
 ghost use Rattle.fm_records.specs.Ids.{id_text};
 ghost use Rattle.fm_args.specs.Invocation.{Text, ask, fleet, follow, help, pack, page, run, version, why, wrong};
-ghost use Rattle.fm_args.specs.declared.words.Question.TheVariants.{Graph, Plan, Solve, Winners};
+ghost use Rattle.fm_args.specs.declared.words.ScriptQuestion.TheVariants.{Graph, Plan, Solve, Winners};
 
 /// A number in range that is written in decimal digits, as the program itself writes numbers, is read as that number.
 pub fn law_number()

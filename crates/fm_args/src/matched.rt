@@ -9,7 +9,7 @@ ghost use Rattle.fm_args.specs.Parser.{number_read, told_as, told_at_error, told
 ghost use Rattle.fm_args.specs.Invocation.{run, told_of, why, wrong};
 
 use super::help::{ask_for_help, begin_with_help};
-use super::words::{Command, DEFAULT_RENEW_AFTER, Question, Words};
+use super::words::{Command, DEFAULT_RENEW_AFTER, ScriptQuestion, Words};
 use clap::error::ErrorKind;
 use clap::{ArgMatches, Error};
 use fm_lattice::join::OutOfMemory;
@@ -37,20 +37,21 @@ fn named_as<'a>(alloc: Global, name: &str, inner: &ArgMatches<'a>) -> Words<'a>
         "agree" => Words::Run(Command::Agree),
         "fleet" => runs(inner),
         "follow" => follows(inner),
-        "graph" => asks(Question::Graph, inner),
+        "graph" => asks(ScriptQuestion::Graph, inner),
+        "list" => asks(ScriptQuestion::List, inner),
         "pack" => packs(alloc, inner),
-        "solve" => asks(Question::Solve, inner),
-        "plan" => asks(Question::Plan, inner),
+        "solve" => asks(ScriptQuestion::Solve, inner),
+        "plan" => asks(ScriptQuestion::Plan, inner),
         "unpack" => Words::Run(Command::Unpack),
         "why" => whys(alloc, inner),
-        "winners" => asks(Question::Winners, inner),
+        "winners" => asks(ScriptQuestion::Winners, inner),
         // The parser knows no other.
         _ => Words::Wrong(String::new(alloc)),
     }
 }
 
 // The question, with the coordinator that is named.
-fn asks<'a>(question: Question, matches: &ArgMatches<'a>) -> Words<'a>
+fn asks<'a>(question: ScriptQuestion, matches: &ArgMatches<'a>) -> Words<'a>
     ensures { told_of result ≡ told_with (asks question) (rows_of (found_of matches.now)) }
 {
     let at = at_in(matches);

@@ -6,7 +6,7 @@ ghost use Rattle.clap.specs.declared.builder.command.Command.TheViews.{out-Comma
 ghost use Rattle.fm_args.specs.CommandLine.{asks, commands, fleets, follows, most_renew_after, nothing, packs, whys};
 ghost use Rattle.fm_args.specs.Parser.{command_app, firmament, name_rule, no_commands, number_rule, with_commands};
 ghost use Rattle.fm_args.specs.Invocation.{agree, run, unpack};
-ghost use Rattle.fm_args.specs.declared.words.Question.TheVariants as question;
+ghost use Rattle.fm_args.specs.declared.words.ScriptQuestion.TheVariants as question;
 
 use super::words::{MOST_RENEW_AFTER, MOST_ROUNDS};
 use clap::{Arg, ArgAction, Command, value_parser};
@@ -31,20 +31,22 @@ pub fn parser<'a>(alloc: Global) -> Result<Command<'a>, OutOfMemory>
     Ok(with_winners)
 }
 
-// The program with the first five of its commands.
+// The program with the first six of its commands.
 fn up_to_pack<'a>(alloc: Global) -> Result<Command<'a>, OutOfMemory>
-    ensures { IfOk result (λ c. app_of c ≡ with_commands (take 5 commands)) }
+    ensures { IfOk result (λ c. app_of c ≡ with_commands (take 6 commands)) }
 {
     let agree = agree(alloc);
     let fleet = fleet(alloc)?;
     let follow = follow(alloc)?;
     let graph = graph(alloc)?;
+    let list = list(alloc)?;
     let pack = pack(alloc)?;
     let with_agree = program(alloc)?.subcommand(agree)?;
     let with_fleet = with_agree.subcommand(fleet)?;
     let with_follow = with_fleet.subcommand(follow)?;
     let with_graph = with_follow.subcommand(graph)?;
-    let with_pack = with_graph.subcommand(pack)?;
+    let with_list = with_graph.subcommand(list)?;
+    let with_pack = with_list.subcommand(pack)?;
     Ok(with_pack)
 }
 
@@ -112,6 +114,18 @@ fn graph<'a>(alloc: Global) -> Result<Command<'a>, OutOfMemory>
         "graph",
         "Prints the network of what a coordinator knows, as a minimum-cost flow problem in DIMACS lines",
         "Example: firmament graph --at 1 < examples/first.json",
+    )
+}
+
+fn list<'a>(alloc: Global) -> Result<Command<'a>, OutOfMemory>
+    ensures app { IfOk result (λ c. app_of c ≡ command_app (codes "list") (asks question.List)) }
+    ensures local { IfOk result (λ c. (out-Command c).has_globals ≡ false) }
+{
+    asking(
+        alloc,
+        "list",
+        "Prints what a coordinator knows: a line for each job, machine and task, by id",
+        "Example: firmament list < examples/held.json",
     )
 }
 

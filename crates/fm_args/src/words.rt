@@ -28,23 +28,33 @@ pub const MOST_RENEW_AFTER: i64 = 1_000_000;
 #[derive(Debug, Clone, Copy, PartialEq, Eq, Drop)]
 pub enum Command<'a> {
     /// Answer the question about a coordinator, the first that the script lists if none is named.
-    Ask { question: Question, at: Option<u8> },
+    Ask {
+        question: ScriptQuestion,
+        at: Option<u8>,
+    },
     /// Say whether all coordinators know the same.
     Agree,
     /// Print the bytes of the packet that was cut under the name.
-    Pack { name: &'a str },
+    Pack {
+        name: &'a str,
+    },
     /// Print the records of a packet.
     Unpack,
     /// Say why the task of the id, as a number, waits or runs, by what that coordinator knows, the first that the
     /// script lists if none is named.
-    Why { task: u128, at: Option<u8> },
+    Why {
+        task: u128,
+        at: Option<u8>,
+    },
 }
 
 /// What is asked of a coordinator once a script's steps have run.
 #[derive(Debug, Clone, Copy, PartialEq, Eq, Drop)]
-pub enum Question {
+pub enum ScriptQuestion {
     /// The network of what it knows.
     Graph,
+    /// The records that it knows, a line each.
+    List,
     /// A least flow of that network.
     Solve,
     /// The plan of that flow: what it places, and what it preempts.

@@ -38,7 +38,7 @@ pub(crate) fn take_first(
 }
 
 fn take(world: &mut World<Keeper>, step: &ScriptStep, look: Look) -> Result<(), Refusal> {
-    if let ScriptAct::Round = step.act {
+    if let ScriptAct::Round(_) = step.act {
         if is_taken(world, step.at, look)? {
             return Ok(());
         }
@@ -70,6 +70,6 @@ fn act_of(act: ScriptAct) -> WorldAct {
         ScriptAct::Cut(range) => WorldAct::Cut(range),
         ScriptAct::Deliver(packet) => WorldAct::Deliver(packet),
         ScriptAct::Trim(n) => WorldAct::Trim(n),
-        ScriptAct::Round => WorldAct::View,
+        ScriptAct::Round(_) => WorldAct::View,
     }
 }

@@ -1,5 +1,5 @@
 -- What is asked of a world, and of the world of sets for which it stands.
-use Rattle.std.proofs.Common.{◌≡◌, ℕ, List, Bool, Option, Some, None, Result, Ok, Err, IfOk, MatchOption, option_map, slice_get, refl, sym, ap, ◌∙◌, subst}
+use Rattle.std.proofs.Common.{◌≡◌, ℕ, List, Bool, Option, Some, None, Result, Ok, Err, IfOk, MatchOption, option_map, slice_get, refl, sym, ap, ◌∙◌, subst, inl, inr}
 use Rattle.std.proofs.lemmas.Option.{slice_get-map}
 use Rattle.fm_records.specs.declared.refusal.Refusal.{Refusal}
 use Rattle.fm_records.specs.declared.refusal.Refusal.TheVariants.{NoCoordinator}
@@ -16,6 +16,12 @@ use Rattle.fm_world.specs.Worlds.{WorldOfSets, with_number}
 use Rattle.fm_world.specs.Represents.{Kept, WorldRepresents, state_with}
 use Rattle.fm_world.proofs.Places.{Stood, stood, absent}
 use Rattle.fm_query.specs.PlanText.{plan_text, IsPlanText}
+use Rattle.fm_question.specs.declared.question.Subject.{Subject}
+use Rattle.fm_question.specs.declared.question.Question.TheVariants.{Next}
+use Rattle.fm_query.specs.declared.query.Query.TheVariants.{About}
+use Rattle.fm_query.specs.NextText.{HasNoNext, IsNoNext}
+use Rattle.fm_query.specs.Queries.{IsUnanswered}
+use Rattle.std.specs.Option.{IsSomeAnd}
 
 -- what holds if there is no replica holds if there is no coordinator, and what holds of a replica holds of the one
 -- that a coordinator stands for
@@ -64,6 +70,13 @@ not_there k w at h refusal had has is = by_state (state_with k.coordinators at) 
   by_state : (o : Option State) → o ≡ state_with k.coordinators at → MatchOption o (refusal ≡ NoCoordinator) (λ s. StopsBy refusal had has) → with_number w.replicas at ≡ None
   by_state None e m = absent at k.coordinators w.replicas h.coordinators (sym e)
   by_state (Some s) e m = absurd (subst (λ r. StopsBy r had has) is m)
+
+-- why there is no next version or attempt
+pub no_next : (k : Kept) (w : WorldOfSets) (at : ℕ) → WorldRepresents k w → (subject : Subject) (refusal : Refusal) (s : State) → Some s ≡ state_with k.coordinators at
+    → IsNoNext s.knowledge subject refusal → IsUnanswered (About at (Next subject)) w refusal
+no_next k w at h subject refusal s there (inl memory) = inl memory
+no_next k w at h subject refusal s there (inr none) =
+    inr (inr (of_some k w at h (λ o. IsSomeAnd o (λ r. HasNoNext (table_of r.taken) subject refusal)) s there (λ r same. subst (λ (t : Table). HasNoNext t subject refusal) same none)))
 
 -- the text of a plan of what is known
 pub planned_text : {S E : Type 0} (bytes : S → List ℕ) (r : Result S E) (k l : Table) (plan : Plan) → l ≡ k → IsPlanOf l plan → IfOk r (λ t. bytes t ≡ plan_text plan) → IfOk r (λ t. IsPlanText k (bytes t))

@@ -3,6 +3,9 @@ pub mod Unpacked
 pub mod TextLines
 pub mod PlanText
 pub mod RoundText
+pub mod ListText
+pub mod NextText
+pub mod SizeText
 pub mod QueryTexts
 pub mod ReasonsText
 pub mod Queries

@@ -45,6 +45,10 @@ agreement_text (Some d) = codes "differ " ++ (decimal d.first ++ (codes " " ++ (
 abbrev pub end_text : ℕ → ℕ → List ℕ
 end_text floor end = codes "end " ++ (decimal floor ++ (codes " " ++ (decimal end ++ codes "\n")))
 
+-- the version of the program, and the formats of packets that it reads
+abbrev pub version_text : List ℕ
+version_text = codes "firmament 0.5.0 FDG1 FDG2\n"
+
 -- a packet's bytes in hexadecimal digits, as a line
 abbrev pub line_of : Packet → List ℕ
 line_of p = encode_lower (spelling p) ++ codes "\n"

@@ -1,6 +1,9 @@
 -- The text that says why a task waits or runs (this project's profile).
 use Rattle.std.specs.Prelude.{◌≡◌, ℕ, Bool, ◌+◌, ◌-◌, ◌==◌, List, [], ◌++◌, if◌then◌else◌, codes, decimal, length, take, Option, Some, None, slice_get}
 use Rattle.std.specs.List.{zip}
+use Rattle.fm_records.specs.declared.records.JobReg.{JobReg}
+use Rattle.fm_records.specs.declared.records.SpecReg.{SpecReg}
+use Rattle.fm_records.specs.Facts.{job_of, spec_of, progress_of, is_done}
 use Rattle.fm_records.specs.Ids.{id_text}
 use Rattle.fm_records.specs.Options.{passes}
 use Rattle.fm_records.specs.Table.{Table}
@@ -148,14 +151,33 @@ choices_text task c =
 abbrev pub held_reason_text : ℕ → ℕ → List ℕ
 held_reason_text task machine = codes "task " ++ (id_text task ++ (codes " is held by machine " ++ (id_text machine ++ codes "\n")))
 
-abbrev pub reasons_text : ℕ → Reasons → List ℕ
-reasons_text task Unknown = codes "task " ++ (id_text task ++ codes " is not known\n")
-reasons_text task NotLive = codes "task " ++ (id_text task ++ codes " is not live: it is withdrawn or done, or its job is withdrawn or not known\n")
-reasons_text task (Held machine) = held_reason_text task machine
-reasons_text task (Free c) = choices_text task c
+-- why a task is not live whose spec is not withdrawn, and which is not done: a job that is known is then withdrawn
+abbrev pub job_cause : Option JobReg → List ℕ
+job_cause None = codes "its job is not known"
+job_cause (Some job) = codes "its job is withdrawn"
+
+-- why a task that is not live is not: the first of these that holds
+abbrev pub not_live_cause : Table → ℕ → Option SpecReg → List ℕ
+not_live_cause k task None = codes "its spec is not known"
+not_live_cause k task (Some spec) =
+    if spec.withdrawn then codes "it is withdrawn"
+    else if is_done (progress_of k task).phase then codes "it is done"
+    else job_cause (job_of k spec.job)
+
+abbrev pub not_live_text : Table → ℕ → List ℕ
+not_live_text k task = codes "task " ++ (id_text task ++ (codes " is not live: " ++ (not_live_cause k task (spec_of k task) ++ codes "\n")))
+
+abbrev pub unknown_text : ℕ → List ℕ
+unknown_text task = codes "task " ++ (id_text task ++ codes " is not known\n")
+
+abbrev pub reasons_text : Table → ℕ → Reasons → List ℕ
+reasons_text k task Unknown = unknown_text task
+reasons_text k task NotLive = not_live_text k task
+reasons_text k task (Held machine) = held_reason_text task machine
+reasons_text k task (Free c) = choices_text task c
 
 -- the text is that of true reasons of the task, by what is known
 pub record IsReasonsText (k : Table) (task : ℕ) (text : List ℕ) : Type 0 where
   pub reasons : Reasons
   pub are : AreReasons k task reasons
-  pub is : text ≡ reasons_text task reasons
+  pub is : text ≡ reasons_text k task reasons

@@ -8,13 +8,18 @@ ghost use Rattle.fm_query.specs.Queries.{ForEachWorld, IsText, differs_in, IsUna
 
 use crate::agree::{agreement_text, difference};
 use crate::end_text::end_text;
+use crate::list_text::list_text;
+use crate::next_text::next_text;
 use crate::packet_text::packet_line;
 use crate::reasons_text::why_text;
+use crate::size_text::size_text;
 use crate::solution_text::{least_plan_text, solution_text};
 use crate::stops_text::stops_text;
+use crate::version_text::version_text;
 use crate::winners_text::winners_text;
 use fm_dimacs::out::Over;
 use fm_policy::keeper::NetKeeper;
+use fm_question::question::{Listing, Question, Subject};
 use fm_records::ids::{CoordId, TaskId};
 use fm_records::refusal::Refusal;
 use fm_world::world::World;
@@ -23,25 +28,15 @@ use std::alloc::Global;
 /// What can be asked of a world of coordinators.
 #[derive(Debug, Clone, Copy, PartialEq, Eq, Drop)]
 pub enum Query {
-    /// The network of what the coordinator knows, in DIMACS lines.
-    Graph(CoordId),
-    /// A least flow of that network, its cost first, in DIMACS lines.
-    Solve(CoordId),
-    /// The plan of a least flow of that network, a line for each place and each preempt.
-    Plan(CoordId),
-    /// The winner of the present attempt of each task, by what the coordinator knows, a line each.
-    Winners(CoordId),
-    /// The entries that the coordinator has to stop, a line each.
-    Stops(CoordId),
-    /// Which deltas the coordinator keeps.
-    End(CoordId),
-    /// Why the task waits or runs, by what the coordinator knows.
-    Why(CoordId, TaskId),
+    /// The question, to the coordinator.
+    About(CoordId, Question),
     /// Whether all coordinators know the same: `same`, or `differ A B` of the first and the first that knows something
     /// else.
     Agree,
     /// The packet that was cut as the one with the number, counted from 0, in hexadecimal digits.
     Packet(usize),
+    /// The version of the program.
+    Version,
 }
 
 /// What answers a query.
@@ -53,10 +48,11 @@ pub struct QueryAnswer {
     pub differs: bool,
 }
 
-/// The world's answer to the query. NoCoordinator or NoPacket if the coordinator or packet does not exist, else
-/// refused only if memory runs out. Knowledge, deltas and histories are unchanged, also after a refusal; `Graph`
-/// leaves the coordinator's network fresh. The cost is that of building the network (`Graph`, if it is stale), of
-/// solving it, or of one scan of what is known.
+/// The world's answer to the query. NoCoordinator or NoPacket if the coordinator or packet does not exist; VersionsSpent or
+/// AttemptsSpent if there is no next version or attempt, which only `Next` asks for; else refused only if memory runs
+/// out. Knowledge, deltas and histories are unchanged, also after a refusal; `Graph` leaves the coordinator's network
+/// fresh. The cost is that of building the network (`Graph`, if it is stale), of solving it, of one walk over what is
+/// known, or of a look-up (`End`, `Next`).
 pub fn ask<N: NetKeeper>(
     alloc: Global,
     world: &mut World<N>,
@@ -68,14 +64,9 @@ pub fn ask<N: NetKeeper>(
     ensures same { world.new ≡ world.old }
 {
     let text = match query {
-        Query::Graph(at) => graph(alloc, world, at)?,
-        Query::Solve(at) => solution(alloc, world, at)?,
-        Query::Plan(at) => plan(alloc, world, at)?,
-        Query::Winners(at) => winners(alloc, world, at)?,
-        Query::Stops(at) => stops(alloc, world, at)?,
-        Query::End(at) => end(alloc, world, at)?,
-        Query::Why(at, task) => reasons(alloc, world, at, task)?,
+        Query::About(at, question) => about(alloc, world, at, question)?,
         Query::Packet(number) => packet(alloc, world, number)?,
+        Query::Version => version_text(alloc)?.into_bytes(),
         Query::Agree => return agreement(alloc, world),
     };
     Ok(QueryAnswer {
@@ -84,10 +75,35 @@ pub fn ask<N: NetKeeper>(
     })
 }
 
+// The coordinator's answer to the question.
+fn about<N: NetKeeper>(
+    alloc: Global,
+    world: &mut World<N>,
+    at: CoordId,
+    question: Question,
+) -> Result<Vec<u8>, Refusal>
+    ensures ok { ForEachWorld world.old (λ w. IfOk result (λ text. IsText (Query.About at question) w text.items)) }
+    ensures err { ForEachWorld world.old (λ w. IfErr result (IsUnanswered (Query.About at question) w)) }
+    ensures same { world.new ≡ world.old }
+{
+    match question {
+        Question::Graph => graph(alloc, world, at),
+        Question::Solve => solution(alloc, world, at),
+        Question::Plan => plan(alloc, world, at),
+        Question::Winners => winners(alloc, world, at),
+        Question::Stops => stops(alloc, world, at),
+        Question::End => end(alloc, world, at),
+        Question::Why(task) => reasons(alloc, world, at, task),
+        Question::List(listing) => list(alloc, world, at, listing),
+        Question::Next(subject) => next(alloc, world, at, subject),
+        Question::Size => size(alloc, world, at),
+    }
+}
+
 // The network of what the coordinator knows.
 fn graph<N: NetKeeper>(alloc: Global, world: &mut World<N>, at: CoordId) -> Result<Vec<u8>, Refusal>
-    ensures ok { ForEachWorld world.old (λ w. IfOk result (λ text. IsText (Query.Graph at) w text.items)) }
-    ensures err { ForEachWorld world.old (λ w. IfErr result (IsUnanswered (Query.Graph at) w)) }
+    ensures ok { ForEachWorld world.old (λ w. IfOk result (λ text. IsText (Query.About at Question.Graph) w text.items)) }
+    ensures err { ForEachWorld world.old (λ w. IfErr result (IsUnanswered (Query.About at Question.Graph) w)) }
     ensures same { world.new ≡ world.old }
 {
     let mut page = Over::new(Vec::new(alloc));
@@ -100,8 +116,8 @@ fn graph<N: NetKeeper>(alloc: Global, world: &mut World<N>, at: CoordId) -> Resu
 
 // A least flow of that network.
 fn solution<N: NetKeeper>(alloc: Global, world: &World<N>, at: CoordId) -> Result<Vec<u8>, Refusal>
-    ensures ok { ForEachWorld world.now (λ w. IfOk result (λ text. IsText (Query.Solve at) w text.items)) }
-    ensures err { ForEachWorld world.now (λ w. IfErr result (IsUnanswered (Query.Solve at) w)) }
+    ensures ok { ForEachWorld world.now (λ w. IfOk result (λ text. IsText (Query.About at Question.Solve) w text.items)) }
+    ensures err { ForEachWorld world.now (λ w. IfErr result (IsUnanswered (Query.About at Question.Solve) w)) }
 {
     match world.coordinator(at) {
         None => Err(Refusal::NoCoordinator),
@@ -111,8 +127,8 @@ fn solution<N: NetKeeper>(alloc: Global, world: &World<N>, at: CoordId) -> Resul
 
 // The plan of a least flow of that network.
 fn plan<N: NetKeeper>(alloc: Global, world: &World<N>, at: CoordId) -> Result<Vec<u8>, Refusal>
-    ensures ok { ForEachWorld world.now (λ w. IfOk result (λ text. IsText (Query.Plan at) w text.items)) }
-    ensures err { ForEachWorld world.now (λ w. IfErr result (IsUnanswered (Query.Plan at) w)) }
+    ensures ok { ForEachWorld world.now (λ w. IfOk result (λ text. IsText (Query.About at Question.Plan) w text.items)) }
+    ensures err { ForEachWorld world.now (λ w. IfErr result (IsUnanswered (Query.About at Question.Plan) w)) }
 {
     match world.coordinator(at) {
         None => Err(Refusal::NoCoordinator),
@@ -122,19 +138,22 @@ fn plan<N: NetKeeper>(alloc: Global, world: &World<N>, at: CoordId) -> Result<Ve
 
 // What the coordinator has to stop.
 fn stops<N: NetKeeper>(alloc: Global, world: &World<N>, at: CoordId) -> Result<Vec<u8>, Refusal>
-    ensures ok { ForEachWorld world.now (λ w. IfOk result (λ text. IsText (Query.Stops at) w text.items)) }
-    ensures err { ForEachWorld world.now (λ w. IfErr result (IsUnanswered (Query.Stops at) w)) }
+    ensures ok { ForEachWorld world.now (λ w. IfOk result (λ text. IsText (Query.About at Question.Stops) w text.items)) }
+    ensures err { ForEachWorld world.now (λ w. IfErr result (IsUnanswered (Query.About at Question.Stops) w)) }
 {
     match world.coordinator(at) {
         None => Err(Refusal::NoCoordinator),
-        Some(coordinator) => Ok(stops_text(alloc, coordinator.knowledge(), at)?.into_bytes()),
+        Some(coordinator) => {
+            let number = coordinator.number();
+            Ok(stops_text(alloc, coordinator.knowledge(), number)?.into_bytes())
+        },
     }
 }
 
 // Which deltas the coordinator keeps.
 fn end<N: NetKeeper>(alloc: Global, world: &World<N>, at: CoordId) -> Result<Vec<u8>, Refusal>
-    ensures ok { ForEachWorld world.now (λ w. IfOk result (λ text. IsText (Query.End at) w text.items)) }
-    ensures err { ForEachWorld world.now (λ w. IfErr result (IsUnanswered (Query.End at) w)) }
+    ensures ok { ForEachWorld world.now (λ w. IfOk result (λ text. IsText (Query.About at Question.End) w text.items)) }
+    ensures err { ForEachWorld world.now (λ w. IfErr result (IsUnanswered (Query.About at Question.End) w)) }
 {
     match world.coordinator(at) {
         None => Err(Refusal::NoCoordinator),
@@ -149,8 +168,8 @@ fn reasons<N: NetKeeper>(
     at: CoordId,
     task: TaskId,
 ) -> Result<Vec<u8>, Refusal>
-    ensures ok { ForEachWorld world.now (λ w. IfOk result (λ text. IsText (Query.Why at task) w text.items)) }
-    ensures err { ForEachWorld world.now (λ w. IfErr result (IsUnanswered (Query.Why at task) w)) }
+    ensures ok { ForEachWorld world.now (λ w. IfOk result (λ text. IsText (Query.About at (Question.Why task)) w text.items)) }
+    ensures err { ForEachWorld world.now (λ w. IfErr result (IsUnanswered (Query.About at (Question.Why task)) w)) }
 {
     match world.coordinator(at) {
         None => Err(Refusal::NoCoordinator),
@@ -160,12 +179,60 @@ fn reasons<N: NetKeeper>(
 
 // Who won, by what the coordinator knows.
 fn winners<N: NetKeeper>(alloc: Global, world: &World<N>, at: CoordId) -> Result<Vec<u8>, Refusal>
-    ensures ok { ForEachWorld world.now (λ w. IfOk result (λ text. IsText (Query.Winners at) w text.items)) }
-    ensures err { ForEachWorld world.now (λ w. IfErr result (IsUnanswered (Query.Winners at) w)) }
+    ensures ok { ForEachWorld world.now (λ w. IfOk result (λ text. IsText (Query.About at Question.Winners) w text.items)) }
+    ensures err { ForEachWorld world.now (λ w. IfErr result (IsUnanswered (Query.About at Question.Winners) w)) }
 {
     match world.coordinator(at) {
         None => Err(Refusal::NoCoordinator),
         Some(coordinator) => Ok(winners_text(alloc, coordinator.knowledge())?.into_bytes()),
+    }
+}
+
+// The records that the coordinator knows.
+fn list<N: NetKeeper>(
+    alloc: Global,
+    world: &World<N>,
+    at: CoordId,
+    listing: Listing,
+) -> Result<Vec<u8>, Refusal>
+    ensures ok { ForEachWorld world.now (λ w.
+        IfOk result (λ text. IsText (Query.About at (Question.List listing)) w text.items)) }
+    ensures err { ForEachWorld world.now (λ w. IfErr result (IsUnanswered (Query.About at (Question.List listing)) w)) }
+{
+    match world.coordinator(at) {
+        None => Err(Refusal::NoCoordinator),
+        Some(coordinator) => Ok(list_text(alloc, coordinator.knowledge(), listing)?.into_bytes()),
+    }
+}
+
+// The next version or attempt, after what the coordinator knows.
+fn next<N: NetKeeper>(
+    alloc: Global,
+    world: &World<N>,
+    at: CoordId,
+    subject: Subject,
+) -> Result<Vec<u8>, Refusal>
+    ensures ok { ForEachWorld world.now (λ w.
+        IfOk result (λ text. IsText (Query.About at (Question.Next subject)) w text.items)) }
+    ensures err { ForEachWorld world.now (λ w. IfErr result (IsUnanswered (Query.About at (Question.Next subject)) w)) }
+{
+    match world.coordinator(at) {
+        None => Err(Refusal::NoCoordinator),
+        Some(coordinator) => match next_text(alloc, coordinator.knowledge(), subject) {
+            Ok(text) => Ok(text.into_bytes()),
+            Err(refusal) => Err(refusal),
+        },
+    }
+}
+
+// How much the coordinator knows.
+fn size<N: NetKeeper>(alloc: Global, world: &World<N>, at: CoordId) -> Result<Vec<u8>, Refusal>
+    ensures ok { ForEachWorld world.now (λ w. IfOk result (λ text. IsText (Query.About at Question.Size) w text.items)) }
+    ensures err { ForEachWorld world.now (λ w. IfErr result (IsUnanswered (Query.About at Question.Size) w)) }
+{
+    match world.coordinator(at) {
+        None => Err(Refusal::NoCoordinator),
+        Some(coordinator) => Ok(size_text(alloc, coordinator)?.into_bytes()),
     }
 }
 

@@ -1,12 +1,14 @@
 //! Why a task waits or runs, as text.
 
 ghost use Rattle.std.specs.Prelude.{◌≡◌, ◌++◌, ◌-◌, length, take, slice_get, IfOk, OnOk, IsOkUnless, string_bytes};
-ghost use Rattle.fm_query.specs.ReasonsText.{answer_line, bound_text, change_text, choice_text, choices_text, reason_cost_line, dearer_text, exact_text, example_head, example_text, goal_text, is_exact, is_first_exact, held_reason_text, at_least_text, listed_text, machines_text, others_text, remedy_place_text, price_line, price_text, reasons_text, remedy_end, room_line, schedule_text, running_text, theory_line, waiting_text, IsReasonsText};
+ghost use Rattle.fm_query.specs.ReasonsText.{answer_line, bound_text, change_text, choice_text, choices_text, reason_cost_line, dearer_text, exact_text, example_head, example_text, goal_text, is_exact, is_first_exact, held_reason_text, at_least_text, listed_text, machines_text, not_live_text, not_live_cause, unknown_text, others_text, remedy_place_text, price_line, price_text, reasons_text, remedy_end, room_line, schedule_text, running_text, theory_line, waiting_text, IsReasonsText};
 
 use crate::text_lines::{LineText, write_lines};
+use fm_know::facts::is_done;
 use fm_know::knowledge::Knowledge;
 use fm_net::node::Node;
 use fm_records::ids::{MachineId, TaskId};
+use fm_records::records::SpecReg;
 use fm_records::refusal::Refusal;
 use fm_why::reasons::{Alternative, Change, Choice, Choices, Move, Reasons, Remedy, SHOWN};
 use fm_why::why::why;
@@ -23,22 +25,62 @@ pub fn why_text(alloc: Global, knowledge: &Knowledge, task: TaskId) -> Result<St
     ensures err { IsOkUnless result Refusal.OutOfMemory }
 {
     let reasons = why(alloc, knowledge, task)?;
-    reasons_text(alloc, task, &reasons)
+    reasons_text(alloc, knowledge, task, &reasons)
 }
 
 // The reasons as text.
-fn reasons_text(alloc: Global, task: TaskId, reasons: &Reasons) -> Result<String, Refusal>
-    ensures ok { IfOk result (λ text. string_bytes text ≡ reasons_text task reasons.now) }
+fn reasons_text(
+    alloc: Global,
+    knowledge: &Knowledge,
+    task: TaskId,
+    reasons: &Reasons,
+) -> Result<String, Refusal>
+    ensures ok { IfOk result (λ text. string_bytes text ≡ reasons_text knowledge.now task reasons.now) }
+    ensures err { IsOkUnless result Refusal.OutOfMemory }
+{
+    match reasons {
+        Reasons::Unknown => unknown_text(alloc, task),
+        Reasons::NotLive => not_live_text(alloc, knowledge, task),
+        Reasons::Held(machine) => held_text(alloc, task, *machine),
+        Reasons::Free(choices) => choices_text(alloc, task, choices),
+    }
+}
+
+// The text of a task that is not known.
+fn unknown_text(alloc: Global, task: TaskId) -> Result<String, Refusal>
+    ensures ok { IfOk result (λ text. string_bytes text ≡ unknown_text task) }
     ensures err { IsOkUnless result Refusal.OutOfMemory }
 {
     let name = task.text(alloc)?;
-    match reasons {
-        Reasons::Unknown => Ok(format!(in alloc; "task {name} is not known\n")?),
-        Reasons::NotLive => Ok(format!(in alloc;
-            "task {name} is not live: it is withdrawn or done, or its job is withdrawn or not known\n"
-        )?),
-        Reasons::Held(machine) => held_text(alloc, task, *machine),
-        Reasons::Free(choices) => choices_text(alloc, task, choices),
+    Ok(format!(in alloc; "task {name} is not known\n")?)
+}
+
+// The text of a task that is not live.
+fn not_live_text(alloc: Global, knowledge: &Knowledge, task: TaskId) -> Result<String, Refusal>
+    ensures ok { IfOk result (λ text. string_bytes text ≡ not_live_text knowledge.now task) }
+    ensures err { IsOkUnless result Refusal.OutOfMemory }
+{
+    let name = task.text(alloc)?;
+    let cause = not_live_cause(knowledge, task, knowledge.spec(task));
+    Ok(format!(in alloc; "task {name} is not live: {cause}\n")?)
+}
+
+// Why a task with the spec is not live, if it is not.
+fn not_live_cause(knowledge: &Knowledge, task: TaskId, spec: Option<SpecReg>) -> &'static str
+    ensures { result.now ≡ not_live_cause knowledge.now task spec }
+{
+    let Some(spec) = spec else {
+        return "its spec is not known";
+    };
+    if spec.withdrawn {
+        "it is withdrawn"
+    } else if is_done(knowledge.attempt(task).phase) {
+        "it is done"
+    } else {
+        match knowledge.job(spec.job) {
+            None => "its job is not known",
+            Some(_) => "its job is withdrawn",
+        }
     }
 }
 

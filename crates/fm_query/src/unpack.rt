@@ -172,7 +172,8 @@ fn write_entry(
     Ok(())
 }
 
-fn phase_text(phase: Phase) -> &'static str
+/// The word for a phase.
+pub(crate) fn phase_text(phase: Phase) -> &'static str
     ensures { result.now ≡ text_of_phase phase }
 {
     match phase {

@@ -2,11 +2,14 @@
 use Rattle.std.proofs.Common.{◌≡◌, ℕ, List, [], ◌∷◌, codes, Option, Some, None, refl}
 use Rattle.serde_json.specs.Read.{read as read_text}
 use Rattle.serde_json.proofs.OnLiterals.{serde_json_on_literals}
+use Rattle.uuid.proofs.OnLiterals.{uuid_on_literals}
 use Rattle.fm_coord.specs.declared.entry.Range.TheVariants.{Interval, Full}
 use Rattle.fm_script.specs.declared.script.ScriptAct.TheVariants as act
-use Rattle.fm_script.specs.declared.request.Topic.TheVariants as topic
+use Rattle.fm_question.specs.declared.question.Question.TheVariants as question
+use Rattle.fm_question.specs.declared.question.Listing.TheVariants as listing
+use Rattle.fm_question.specs.declared.question.Subject.TheVariants as subject
 use Rattle.fm_script.specs.Json.{bind}
-use Rattle.fm_script.specs.Requests.{RequestModel, Opens, Does, Cuts, News, Takes, Asks, Agrees, Renews, request_from}
+use Rattle.fm_script.specs.Requests.{RequestModel, Opens, Does, Cuts, News, Takes, Asks, Agrees, Versions, Renews, request_from}
 
 -- what a line asks for, given that one packet was cut before, under the name p
 abbrev asked_by : List ℕ → Option RequestModel
@@ -56,13 +59,93 @@ packet : asked_by (codes "{\"at\":2,\"take\":\"4644\"}") ≡ Some (Takes 2 (code
 unfolding serde_json_on_literals
 packet = refl
 
-question : asked_by (codes "{\"at\":1,\"ask\":\"winners\"}") ≡ Some (Asks 1 topic.Winners)
+winners : asked_by (codes "{\"at\":1,\"ask\":\"winners\"}") ≡ Some (Asks 1 question.Winners)
 unfolding serde_json_on_literals
-question = refl
+winners = refl
+
+list : asked_by (codes "{\"at\":1,\"ask\":\"list\"}") ≡ Some (Asks 1 (question.List listing.All))
+unfolding serde_json_on_literals
+list = refl
+
+list_of_jobs : asked_by (codes "{\"at\":1,\"ask\":\"list\",\"of\":\"jobs\"}") ≡ Some (Asks 1 (question.List listing.Jobs))
+unfolding serde_json_on_literals
+list_of_jobs = refl
+
+list_of_machines : asked_by (codes "{\"of\":\"machines\",\"at\":1,\"ask\":\"list\"}") ≡ Some (Asks 1 (question.List listing.Machines))
+unfolding serde_json_on_literals
+list_of_machines = refl
+
+list_of_tasks : asked_by (codes "{\"at\":1,\"ask\":\"list\",\"of\":\"tasks\"}") ≡ Some (Asks 1 (question.List listing.Tasks))
+unfolding serde_json_on_literals
+list_of_tasks = refl
+
+list_of_waiting : asked_by (codes "{\"at\":1,\"ask\":\"list\",\"of\":\"waiting\"}") ≡ Some (Asks 1 (question.List listing.Waiting))
+unfolding serde_json_on_literals
+list_of_waiting = refl
+
+list_of_no_kind : asked_by (codes "{\"at\":1,\"ask\":\"list\",\"of\":\"x\"}") ≡ None
+unfolding serde_json_on_literals
+list_of_no_kind = refl
+
+list_of_no_text : asked_by (codes "{\"at\":1,\"ask\":\"list\",\"of\":null}") ≡ None
+unfolding serde_json_on_literals
+list_of_no_text = refl
+
+list_of_a_task : asked_by (codes "{\"at\":1,\"ask\":\"list\",\"task\":\"11\"}") ≡ None
+unfolding serde_json_on_literals
+list_of_a_task = refl
 
 agreement : asked_by (codes "{\"ask\":\"agree\"}") ≡ Some Agrees
 unfolding serde_json_on_literals
 agreement = refl
+
+version : asked_by (codes "{\"ask\":\"version\"}") ≡ Some Versions
+unfolding serde_json_on_literals
+version = refl
+
+version_of_one : asked_by (codes "{\"at\":1,\"ask\":\"version\"}") ≡ None
+unfolding serde_json_on_literals
+version_of_one = refl
+
+reason : asked_by (codes "{\"at\":1,\"ask\":\"why\",\"task\":\"00000000-0000-0000-0000-000000000007\"}") ≡ Some (Asks 1 (question.Why 7))
+unfolding serde_json_on_literals uuid_on_literals
+reason = refl
+
+next_of_a_job : asked_by (codes "{\"at\":1,\"ask\":\"next\",\"job\":\"00000000-0000-0000-0000-000000000007\"}") ≡ Some (Asks 1 (question.Next (subject.Job 7)))
+unfolding serde_json_on_literals uuid_on_literals
+next_of_a_job = refl
+
+next_of_a_task : asked_by (codes "{\"at\":1,\"ask\":\"next\",\"task\":\"00000000-0000-0000-0000-000000000007\"}") ≡ Some (Asks 1 (question.Next (subject.Task 7)))
+unfolding serde_json_on_literals uuid_on_literals
+next_of_a_task = refl
+
+next_of_a_machine : asked_by (codes "{\"at\":1,\"ask\":\"next\",\"machine\":\"00000000-0000-0000-0000-000000000007\",\"incarnation\":2}") ≡ Some (Asks 1 (question.Next (subject.Machine 7 2)))
+unfolding serde_json_on_literals uuid_on_literals
+next_of_a_machine = refl
+
+next_of_nothing : asked_by (codes "{\"at\":1,\"ask\":\"next\"}") ≡ None
+unfolding serde_json_on_literals
+next_of_nothing = refl
+
+next_of_no_incarnation : asked_by (codes "{\"at\":1,\"ask\":\"next\",\"machine\":\"00000000-0000-0000-0000-000000000007\"}") ≡ None
+unfolding serde_json_on_literals
+next_of_no_incarnation = refl
+
+next_of_an_incarnation_in_text : asked_by (codes "{\"at\":1,\"ask\":\"next\",\"machine\":\"00000000-0000-0000-0000-000000000007\",\"incarnation\":\"2\"}") ≡ None
+unfolding serde_json_on_literals uuid_on_literals
+next_of_an_incarnation_in_text = refl
+
+next_of_a_job_and_a_task : asked_by (codes "{\"at\":1,\"ask\":\"next\",\"job\":\"00000000-0000-0000-0000-000000000007\",\"task\":\"00000000-0000-0000-0000-000000000007\"}") ≡ None
+unfolding serde_json_on_literals
+next_of_a_job_and_a_task = refl
+
+next_of_a_job_at_an_incarnation : asked_by (codes "{\"at\":1,\"ask\":\"next\",\"job\":\"00000000-0000-0000-0000-000000000007\",\"incarnation\":2}") ≡ None
+unfolding serde_json_on_literals
+next_of_a_job_at_an_incarnation = refl
+
+next_of_no_id : asked_by (codes "{\"at\":1,\"ask\":\"next\",\"task\":\"7\"}") ≡ None
+unfolding serde_json_on_literals uuid_on_literals
+next_of_no_id = refl
 
 reason_of_nothing : asked_by (codes "{\"at\":1,\"ask\":\"why\"}") ≡ None
 unfolding serde_json_on_literals
@@ -75,6 +158,10 @@ reason_of_no_text = refl
 no_question : asked_by (codes "{\"ask\":\"graph\"}") ≡ None
 unfolding serde_json_on_literals
 no_question = refl
+
+size : asked_by (codes "{\"at\":1,\"ask\":\"size\"}") ≡ Some (Asks 1 question.Size)
+unfolding serde_json_on_literals
+size = refl
 
 renewal : asked_by (codes "{\"renew\":true}") ≡ Some Renews
 unfolding serde_json_on_literals

@@ -4,3 +4,5 @@ pub mod Spelling
 pub mod Plainly
 pub mod Examples
 pub mod Opening
+pub mod Room
+pub mod ShareExamples

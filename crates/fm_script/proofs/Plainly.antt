@@ -8,9 +8,12 @@ use Rattle.fm_coord.specs.declared.entry.Range.{Range}
 use Rattle.fm_script.specs.declared.script.ScriptAct.{ScriptAct}
 use Rattle.fm_script.specs.declared.script.ScriptAct.TheVariants as act
 use Rattle.fm_script.specs.declared.script.ScriptStep.{ScriptStep}
-use Rattle.fm_script.specs.Json.{bind, whole_number, number_8_at, text_at, id_at, has_size, items_at}
-use Rattle.fm_script.specs.Script.{is_text, either, op_of, range_of, is_named, delivery_of, round_of, act_of, script_step_of, listed_of, coordinators_of}
-use Rattle.fm_script.specs.Requests.{RequestModel, Opens, Does, Cuts, News, OwnNews, Takes, Asks, Explains, Agrees, Renews, topic_named, cut_under, cut_asked, when_true, agree_asked, alone_of, asked_at, why_asked, own_news_asked, asked_by_three, request_from, CutsNothing, IsPlain}
+use Rattle.fm_question.specs.declared.question.Question.{Question}
+use Rattle.fm_script.specs.Json.{bind, whole_number, number_8_at, text_at, has_size, items_at}
+use Rattle.fm_script.specs.Script.{is_text, either, op_of, range_of, is_named, delivery_of, round_by, round_of, act_of, script_step_of, listed_of, coordinators_of}
+use Rattle.fm_script.specs.Requests.{RequestModel, Opens, Does, Cuts, News, OwnNews, Takes, Asks, Agrees, Versions, Renews, question_named, question_of_one, question_of_two, cut_under, cut_asked, when_true, general_asked, alone_of, asked_at, question_asked, own_news_asked, asked_by_three, request_from, CutsNothing, IsPlain}
+use Rattle.fm_script.specs.ShareJson.{share_in}
+use Rattle.fm_share.specs.Shares.{whole}
 use Rattle.fm_script.proofs.Spelling.{AreDistinct-listed}
 
 -- what is there, if anything is, has the property
@@ -19,6 +22,10 @@ module _ {B : Type 0} (P : B → Type 0) where
   IfSome-when : (b : Bool) (x : B) → P x → IfSome (when b x) P
   IfSome-when true x h = h
   IfSome-when false x h = tt
+
+  IfSome-cond : (b : Bool) (x y : Option B) → IfSome x P → IfSome y P → IfSome (cond b x y) P
+  IfSome-cond true x y h k = h
+  IfSome-cond false x y h k = k
 
   IfSome-given : {A : Type 0} (o : Option A) (f : A → Option B) → ((a : A) → IfSome (f a) P) → IfSome (bind o f) P
   IfSome-given None f each = tt
@@ -53,8 +60,12 @@ IfSome-step at (Some act) h = h
 
 -- what is beside the number of a coordinator and is no cut
 
+round_by-cuts_nothing : (o : Option Bool) (d : Data) → IfSome (round_by o d) CutsNothing
+round_by-cuts_nothing (Some b) d = IfSome-when CutsNothing b (act.Round whole) tt
+round_by-cuts_nothing None d = IfSome-map CutsNothing (share_in d) act.Round (λ share. tt)
+
 round-cuts_nothing : (d : Data) → IfSome (round_of d) CutsNothing
-round-cuts_nothing d = IfSome-given CutsNothing (as_bool d) (λ b. when b act.Round) (λ b. IfSome-when CutsNothing b act.Round tt)
+round-cuts_nothing d = round_by-cuts_nothing (as_bool d) d
 
 act-cuts_nothing : (names : List (List ℕ)) (d : Data) → get (codes "cut") d ≡ None → IfSome (act_of names d) CutsNothing
 act-cuts_nothing names d none =
@@ -93,8 +104,11 @@ cut_asked-plain names at d =
 when_true-plain : (asked : RequestModel) → IsPlain asked → (d : Data) → IfSome (when_true asked d) IsPlain
 when_true-plain asked h d = IfSome-given IsPlain (as_bool d) _ (λ b. IfSome-when IsPlain b asked h)
 
-agree_asked-plain : (d : Data) → IfSome (agree_asked d) IsPlain
-agree_asked-plain d = IfSome-given IsPlain (as_str d) _ (λ word. IfSome-when IsPlain (is_text word (codes "agree")) Agrees tt)
+general_asked-plain : (d : Data) → IfSome (general_asked d) IsPlain
+general_asked-plain d =
+    IfSome-given IsPlain (as_str d) _ (λ word.
+    IfSome-cond IsPlain (is_text word (codes "agree")) (Some Agrees) (when (is_text word (codes "version")) Versions) tt (
+    IfSome-when IsPlain (is_text word (codes "version")) Versions tt))
 
 listed-plain : (ds : List Data) → IfSome (option_map Opens (listed_of ds)) IsPlain
 listed-plain ds =
@@ -114,21 +128,21 @@ alone-plain : (d : Data) → IfSome (alone_of d) IsPlain
 alone-plain d =
     IfSome-either IsPlain (get (codes "coordinators") d) (λ v. option_map Opens (coordinators_of d)) _ (λ v. opens-plain d) (
     IfSome-either IsPlain (get (codes "renew") d) (when_true Renews) _ (when_true-plain Renews tt) (
-    IfSome-either IsPlain (get (codes "ask") d) agree_asked None agree_asked-plain tt))
+    IfSome-either IsPlain (get (codes "ask") d) general_asked None general_asked-plain tt))
 
 -- what is asked of a coordinator by no cut
 abbrev but_cut : List (List ℕ) → ℕ → Data → Option RequestModel
 but_cut names at d =
     either (get (codes "news") d) (when_true (News at)) (
     either (get (codes "take") d) (λ v. option_map (Takes at) (as_str v)) (
-    either (get (codes "ask") d) (λ v. option_map (Asks at) (bind (as_str v) topic_named)) (
+    either (get (codes "ask") d) (λ v. option_map (Asks at) (bind (as_str v) question_named)) (
     option_map Does (script_step_of names d))))
 
 but_cut-plain : (names : List (List ℕ)) (at : ℕ) (d : Data) → get (codes "cut") d ≡ None → IfSome (but_cut names at d) IsPlain
 but_cut-plain names at d none =
     IfSome-either IsPlain (get (codes "news") d) (when_true (News at)) _ (when_true-plain (News at) tt) (
     IfSome-either IsPlain (get (codes "take") d) (λ v. option_map (Takes at) (as_str v)) _ (λ v. IfSome-map IsPlain (as_str v) (Takes at) (λ digits. tt)) (
-    IfSome-either IsPlain (get (codes "ask") d) (λ v. option_map (Asks at) (bind (as_str v) topic_named)) _ (λ v. IfSome-map IsPlain (bind (as_str v) topic_named) (Asks at) (λ topic. tt)) (
+    IfSome-either IsPlain (get (codes "ask") d) (λ v. option_map (Asks at) (bind (as_str v) question_named)) _ (λ v. IfSome-map IsPlain (bind (as_str v) question_named) (Asks at) (λ question. tt)) (
     IfSome-map_of IsPlain (script_step_of names d) Does (step-cuts_nothing names d none))))
 
 asked_at-plain : (names : List (List ℕ)) (at : ℕ) (d : Data) → IfSome (asked_at names at d) IsPlain
@@ -142,13 +156,12 @@ asked_at-plain names at d =
 abbrev numbered_asked : List (List ℕ) → Data → Option RequestModel
 numbered_asked names d = bind (number_8_at (codes "at") d) (λ at. asked_at names at d)
 
--- why a task waits or runs
-why-plain : (d : Data) → IfSome (why_asked d) IsPlain
-why-plain d =
+-- a question that needs more than its word
+question-plain : (question_of : List ℕ → Data → Option Question) (d : Data) → IfSome (question_asked question_of d) IsPlain
+question-plain question_of d =
     IfSome-given IsPlain (number_8_at (codes "at") d) _ (λ at.
     IfSome-given IsPlain (text_at (codes "ask") d) _ (λ word.
-    IfSome-given_when IsPlain (is_text word (codes "why")) d _ (
-    IfSome-map IsPlain (id_at (codes "task") d) (Explains at) (λ task. tt))))
+    IfSome-map IsPlain (question_of word d) (Asks at) (λ question. tt)))
 
 -- a coordinator's own news
 own_news-plain : (d news : Data) → IfSome (own_news_asked d news) IsPlain
@@ -160,7 +173,7 @@ own_news-plain d news =
 
 -- of three members
 three-plain : (d : Data) → IfSome (asked_by_three d) IsPlain
-three-plain d = IfSome-either IsPlain (get (codes "news") d) (own_news_asked d) (why_asked d) (own_news-plain d) (why-plain d)
+three-plain d = IfSome-either IsPlain (get (codes "news") d) (own_news_asked d) (question_asked question_of_one d) (own_news-plain d) (question-plain question_of_one d)
 
 -- of two members
 abbrev paired : List (List ℕ) → Data → Option RequestModel
@@ -173,10 +186,10 @@ paired-plain names d =
 
 request-plain : (names : List (List ℕ)) (d : Data) → IfSome (request_from names d) IsPlain
 request-plain names d =
-    elim (has_size 1 d) as (λ b. IfSome (cond b (alone_of d) (cond (has_size 3 d) (asked_by_three d) (paired names d))) IsPlain) [
-      | true ↦ alone-plain d
-      | false ↦ elim (has_size 3 d) as (λ b. IfSome (cond b (asked_by_three d) (paired names d)) IsPlain) [ true ↦ three-plain d | false ↦ paired-plain names d ]
-    ]
+    IfSome-cond IsPlain (has_size 1 d) (alone_of d) _ (alone-plain d) (
+    IfSome-cond IsPlain (has_size 3 d) (asked_by_three d) _ (three-plain d) (
+    IfSome-cond IsPlain (has_size 4 d) (question_asked question_of_two d) (paired names d) (question-plain question_of_two d) (
+    paired-plain names d)))
 
 -- what a value asks for is plain
 pub IsPlain-asked : (names : List (List ℕ)) (d : Data) (asked : RequestModel) → request_from names d ≡ Some asked → IsPlain asked

@@ -57,3 +57,13 @@ list_of (item d ds) = d ∷ list_of ds
 -- the items of the array in the member of the name
 abbrev pub items_at : List ℕ → Data → Option (List Data)
 items_at name d = option_map list_of (bind (get name d) as_array)
+
+-- all of the values, if each is there
+abbrev pub all_there : {A : Type 0} → List (Option A) → Option (List A)
+all_there [] = Some []
+all_there (o ∷ os) = bind o (λ a. option_map (λ rest. a ∷ rest) (all_there os))
+
+-- what the first of the members that is there spells
+abbrev pub either : {A : Type 0} → Option Data → (Data → Option A) → Option A → Option A
+either None f other = other
+either (Some d) f other = f d

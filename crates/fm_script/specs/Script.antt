@@ -1,5 +1,5 @@
 -- The script that a JSON value spells (this project's profile).
-use Rattle.std.specs.Prelude.{◌≡◌, ℕ, ◌+◌, ◌==◌, ◌&&◌, nat_eq, nat_le, List, [], ◌∷◌, ◌++◌, length, map, Bool, true, false, not, cond, codes, Option, Some, None, is_some, is_none, option_map}
+use Rattle.std.specs.Prelude.{◌≡◌, ℕ, ◌+◌, ◌==◌, nat_eq, nat_le, List, [], ◌∷◌, ◌++◌, length, map, Bool, not, cond, codes, Option, Some, None, is_some, is_none, option_map}
 use Rattle.std.specs.List.{list_any, flat_map, position_or_len}
 use Rattle.std.specs.Option.{option_to_list}
 use Rattle.std.specs.Cmp.Lexicographic.{pointwise}
@@ -9,15 +9,18 @@ use Rattle.fm_records.specs.declared.ops.Op.{Op}
 use Rattle.fm_records.specs.declared.ops.Op.TheVariants as op
 use Rattle.fm_records.specs.declared.ops.Phase.{Phase}
 use Rattle.fm_records.specs.declared.ops.Phase.TheVariants as phase
-use Rattle.fm_records.specs.Ids.{is_coordinator}
-use Rattle.fm_records.specs.Options.{when, only_if}
+use Rattle.fm_records.specs.Options.{when}
 use Rattle.fm_coord.specs.declared.entry.Range.{Range}
 use Rattle.fm_coord.specs.declared.entry.Range.TheVariants.{Interval, Full}
 use Rattle.fm_script.specs.declared.script.ScriptAct.{ScriptAct}
 use Rattle.fm_script.specs.declared.script.ScriptAct.TheVariants as act
 use Rattle.fm_script.specs.declared.script.ScriptStep.{ScriptStep}
 use Rattle.fm_script.specs.declared.script.Tell.{Tell}
+use Rattle.fm_share.specs.Shares.{whole}
 use Rattle.fm_script.specs.Json.{bind, whole_number, number_at, number_32_at, number_8_at, flag_at, text_at, id_at, has_size, items_at}
+pub use Rattle.fm_script.specs.Json.{all_there, either}
+pub use Rattle.fm_script.specs.CoordinatorLists.{coordinator_of, is_listed, are_distinct, are_coordinators, listed_of, coordinators_of}
+use Rattle.fm_script.specs.ShareJson.{share_in}
 
 -- the fields of each operation
 abbrev pub parse_job : Data → Option Op
@@ -29,11 +32,6 @@ parse_job d =
     bind (number_32_at (codes "wait") d) (λ wait.
     bind (number_32_at (codes "preempt") d) (λ preempt.
     Some (op.Job id version writer withdrawn wait preempt)))))))
-
--- all of the values, if each is there
-abbrev pub all_there : {A : Type 0} → List (Option A) → Option (List A)
-all_there [] = Some []
-all_there (o ∷ os) = bind o (λ a. option_map (λ rest. a ∷ rest) (all_there os))
 
 -- a machine that is preferred, with its credit
 abbrev pub preference_entry : Data → Option (ℕ × ℕ)
@@ -104,11 +102,6 @@ propose_of d =
     bind (number_at (codes "incarnation") d) (λ incarnation.
     Some (op.Propose id attempt coordinator machine incarnation))))))
 
--- what the first of the members that is there spells
-abbrev pub either : {A : Type 0} → Option Data → (Data → Option A) → Option A → Option A
-either None f other = other
-either (Some d) f other = f d
-
 -- an operation: the one member of an object, named for its kind
 abbrev pub op_of : Data → Option Op
 op_of d = bind (when (has_size 1 d) d) (λ d.
@@ -143,9 +136,13 @@ cut_of names d =
 abbrev pub delivery_of : List (List ℕ) → Data → Option ScriptAct
 delivery_of names d = option_map (λ name. act.Deliver (position_or_len (is_text name) names)) (as_str d)
 
--- a round is asked for by true
+-- a round: true asks for the whole plan, and an object for its share of it
+abbrev pub round_by : Option Bool → Data → Option ScriptAct
+round_by (Some b) d = when b (act.Round whole)
+round_by None d = option_map act.Round (share_in d)
+
 abbrev pub round_of : Data → Option ScriptAct
-round_of d = bind (as_bool d) (λ b. when b act.Round)
+round_of d = round_by (as_bool d) d
 
 -- what happens in a step, given that packets of the names were cut before: the one member beside the number of its
 -- coordinator
@@ -172,31 +169,6 @@ names_in d = option_to_list (bind (get (codes "cut") d) (text_at (codes "name"))
 abbrev pub steps_of : List (List ℕ) → List Data → List (Option ScriptStep)
 steps_of names [] = []
 steps_of names (d ∷ ds) = script_step_of names d ∷ steps_of (names ++ names_in d) ds
-
--- a coordinator's number, from 1 to 64
-abbrev pub coordinator_of : Data → Option ℕ
-coordinator_of d = only_if is_coordinator (whole_number d)
-
--- the number is one of those listed
-abbrev pub is_listed : List ℕ → ℕ → Bool
-is_listed listed n = list_any (λ c. c == n) listed
-
--- no number comes twice
-abbrev pub are_distinct : List ℕ → Bool
-are_distinct [] = true
-are_distinct (n ∷ ns) = not (is_listed ns n) && are_distinct ns
-
--- coordinators: at least one number, no two of them equal
-abbrev pub are_coordinators : List ℕ → Bool
-are_coordinators [] = false
-are_coordinators (n ∷ ns) = are_distinct (n ∷ ns)
-
--- the coordinators that the items list
-abbrev pub listed_of : List Data → Option (List ℕ)
-listed_of ds = only_if are_coordinators (all_there (map coordinator_of ds))
-
-abbrev pub coordinators_of : Data → Option (List ℕ)
-coordinators_of d = bind (items_at (codes "coordinators") d) listed_of
 
 -- the value spells a script of these coordinators, these names of packets in the order of their cuts, and these steps
 pub record IsScriptOf (d : Data) (coordinators : List ℕ) (names : List (List ℕ)) (steps : List ScriptStep) : Type 0 where

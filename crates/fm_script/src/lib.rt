@@ -6,6 +6,7 @@ pub mod initial_world;
 pub mod names;
 pub mod parse_request;
 pub mod parse_script;
+mod parse_share;
 pub mod parse_tells;
 pub mod request;
 pub mod script;

@@ -8,24 +8,28 @@ ghost use Rattle.serde_json.specs.Find.{as_str};
 ghost use Rattle.serde_json.specs.View.{view};
 ghost use Rattle.fm_script.specs.Json.{bind};
 ghost use Rattle.fm_script.specs.Script.{coordinators_of, script_step_of};
-ghost use Rattle.fm_script.specs.Requests.{Asks, Does, Opens, Takes, request_model, topic_named, cut_under, cut_asked, when_true, agree_asked, alone_of, asked_at, why_asked, own_news_asked, asked_by_three, request_from, Requests, RequestsNothing, IsPlain};
+ghost use Rattle.fm_script.specs.Requests.{Asks, Does, Opens, Takes, request_model, question_named, listing_named, job_or_task_in, machine_in, question_of_one, question_of_two, cut_under, cut_asked, when_true, general_asked, alone_of, asked_at, question_asked, own_news_asked, asked_by_three, request_from, Requests, RequestsNothing, IsPlain};
 
 use crate::names::Names;
 use crate::parse_script::{
-    coordinators_in, is_object_of, items_in, number_8_in, range_in, step_in, text_in,
+    coordinators_in, is_object_of, items_in, number_8_in, number_in, range_in, step_in, text_in,
 };
-use crate::request::{Request, Topic};
+use crate::request::Request;
 use fm_coord::entry::Range;
 use fm_lattice::join::OutOfMemory;
-use fm_records::ids::TaskId;
+use fm_question::question::{Listing, Question, Subject};
+use fm_records::ids::{JobId, MachineId, TaskId};
 use fm_records::refusal::Refusal;
 use serde_json::Value;
 use std::alloc::Global;
 
 /// What a line of a stream asks for, given that packets of the names were cut before. The line is an object of one
-/// member (`coordinators`, `renew`, `ask`), or of an `at` and one of `cut`, `news`, `take`, `ask`, `tell`, `deliver`,
-/// `trim` and `round`, or of an `at`, an `ask` and a `task`, or of an `at`, `news` and `mine`. Further members of an
-/// operation and of a cut are ignored, and of equal members the last counts.
+/// member (`coordinators`, `renew`, or an `ask` of `agree` or `version`), or of an `at` and one of `cut`, `news`,
+/// `take`, `tell`, `deliver`, `trim`, `round` and `ask`, the last of `graph`, `solve`, `plan`, `winners`, `stops`,
+/// `end`, `size` or `list`. With more members it is an `at` with `news` and `mine`, or with an `ask`: of `why` with a
+/// `task`, of `list` with an `of` (`jobs`, `machines`, `tasks` or `waiting`), or of `next` with a `job`, with a
+/// `task`, or with a `machine` and its `incarnation`. Further members of an operation and of a cut are ignored, and of
+/// equal members the last counts.
 /// `BadScript(0)` if the line is no JSON or asks for nothing known, as a cut under one of the names; `OutOfMemory` if
 /// memory runs out. It costs the reading of the line as JSON, and a look-up of a name.
 pub fn read_request(alloc: Global, line: &[u8], names: &Names) -> Result<Request, Refusal>
@@ -53,6 +57,9 @@ fn request_in(alloc: Global, value: &Value, names: &Names) -> Result<Option<Requ
     if is_object_of(value, 3) {
         return Ok(asked_by_three_in(value));
     }
+    if is_object_of(value, 4) {
+        return Ok(asked_of_two_in(value));
+    }
     if !is_object_of(value, 2) {
         return Ok(None);
     }
@@ -71,7 +78,7 @@ fn alone_in(alloc: Global, value: &Value) -> Result<Option<Request>, OutOfMemory
     } else if let Some(asked) = value.get("renew") {
         Ok(if_true(asked, Request::Renew))
     } else if let Some(asked) = value.get("ask") {
-        Ok(agreement_in(asked))
+        Ok(general_in(asked))
     } else {
         Ok(None)
     }
@@ -93,7 +100,7 @@ fn asked_in(
     } else if let Some(packet) = value.get("take") {
         packet_in(alloc, packet, at)
     } else if let Some(asked) = value.get("ask") {
-        Ok(question_in(asked, at))
+        Ok(asked_by_word_in(asked, at))
     } else {
         Ok(deed_in(value, names))
     }
@@ -123,12 +130,15 @@ fn if_true(asked: &Value, request: Request) -> Option<Request>
     }
 }
 
-// Whether all coordinators know the same.
-fn agreement_in(asked: &Value) -> Option<Request>
-    ensures { option_map request_model result ≡ agree_asked (view asked.now) }
+// A question to no coordinator, by its word.
+fn general_in(asked: &Value) -> Option<Request>
+    ensures { option_map request_model result ≡ general_asked (view asked.now) }
 {
-    if asked.as_str()? == "agree" {
+    let word = asked.as_str()?;
+    if word == "agree" {
         Some(Request::Agree)
+    } else if word == "version" {
+        Some(Request::Version)
     } else {
         None
     }
@@ -190,12 +200,12 @@ fn packet_in(alloc: Global, packet: &Value, at: u8) -> Result<Option<Request>, O
     Ok(Some(Request::Take { at, digits }))
 }
 
-// A question about a coordinator.
-fn question_in(asked: &Value, at: u8) -> Option<Request>
-    ensures { option_map request_model result ≡ option_map (Asks at) (bind (as_str (view asked.now)) topic_named) }
+// A question to a coordinator that needs nothing beside its word.
+fn asked_by_word_in(asked: &Value, at: u8) -> Option<Request>
+    ensures { option_map request_model result ≡ option_map (Asks at) (bind (as_str (view asked.now)) question_named) }
 {
-    let topic = topic_in(asked.as_str()?)?;
-    Some(Request::Ask { at, topic })
+    let question = question_in(asked.as_str()?)?;
+    Some(Request::Ask { at, question })
 }
 
 // What a coordinator is asked for by an object of three members.
@@ -204,8 +214,26 @@ fn asked_by_three_in(value: &Value) -> Option<Request>
 {
     match value.get("news") {
         Some(news) => own_news_in(news, value),
-        None => why_in(value),
+        None => asked_of_one_in(value),
     }
+}
+
+// A question to a coordinator that needs one member beside its word.
+fn asked_of_one_in(value: &Value) -> Option<Request>
+    ensures { option_map request_model result ≡ question_asked question_of_one (view value.now) }
+{
+    let at = number_8_in(value, "at")?;
+    let question = question_of_one_in(text_in(value, "ask")?, value)?;
+    Some(Request::Ask { at, question })
+}
+
+// A question to a coordinator that needs two members beside its word.
+fn asked_of_two_in(value: &Value) -> Option<Request>
+    ensures { option_map request_model result ≡ question_asked question_of_two (view value.now) }
+{
+    let at = number_8_in(value, "at")?;
+    let question = question_of_two_in(text_in(value, "ask")?, value)?;
+    Some(Request::Ask { at, question })
 }
 
 // A cut of a coordinator's own deltas, by true and true.
@@ -220,38 +248,98 @@ fn own_news_in(news: &Value, value: &Value) -> Option<Request>
     }
 }
 
-// Why a task waits or runs, asked of a coordinator by an object of three members.
-fn why_in(value: &Value) -> Option<Request>
-    ensures { option_map request_model result ≡ why_asked (view value.now) }
+// What is asked by the word alone.
+fn question_in(word: &str) -> Option<Question>
+    ensures { result ≡ question_named word.now }
 {
-    let at = number_8_in(value, "at")?;
-    if text_in(value, "ask")? == "why" {
-        let task = TaskId::read(text_in(value, "task")?)?;
-        Some(Request::Why { at, task })
+    if word == "graph" {
+        Some(Question::Graph)
+    } else if word == "solve" {
+        Some(Question::Solve)
+    } else if word == "plan" {
+        Some(Question::Plan)
+    } else if word == "winners" {
+        Some(Question::Winners)
+    } else if word == "stops" {
+        Some(Question::Stops)
+    } else if word == "end" {
+        Some(Question::End)
+    } else if word == "size" {
+        Some(Question::Size)
+    } else if word == "list" {
+        Some(Question::List(Listing::All))
     } else {
         None
     }
 }
 
-// What is asked about, by its name.
-fn topic_in(name: &str) -> Option<Topic>
-    ensures { result ≡ topic_named name.now }
+// What is asked by the word and one member.
+fn question_of_one_in(word: &str, value: &Value) -> Option<Question>
+    ensures { result ≡ question_of_one word.now (view value.now) }
 {
-    if name == "graph" {
-        Some(Topic::Graph)
-    } else if name == "solve" {
-        Some(Topic::Solve)
-    } else if name == "plan" {
-        Some(Topic::Plan)
-    } else if name == "winners" {
-        Some(Topic::Winners)
-    } else if name == "stops" {
-        Some(Topic::Stops)
-    } else if name == "end" {
-        Some(Topic::End)
+    if word == "why" {
+        let task = TaskId::read(text_in(value, "task")?)?;
+        Some(Question::Why(task))
+    } else if word == "list" {
+        let listing = listing_in(text_in(value, "of")?)?;
+        Some(Question::List(listing))
+    } else if word == "next" {
+        let subject = job_or_task_in(value)?;
+        Some(Question::Next(subject))
     } else {
         None
     }
+}
+
+// What is asked by the word and two members.
+fn question_of_two_in(word: &str, value: &Value) -> Option<Question>
+    ensures { result ≡ question_of_two word.now (view value.now) }
+{
+    if word == "next" {
+        let subject = machine_in(value)?;
+        Some(Question::Next(subject))
+    } else {
+        None
+    }
+}
+
+// The records of a kind, by its name.
+fn listing_in(kind: &str) -> Option<Listing>
+    ensures { result ≡ listing_named kind.now }
+{
+    if kind == "jobs" {
+        Some(Listing::Jobs)
+    } else if kind == "machines" {
+        Some(Listing::Machines)
+    } else if kind == "tasks" {
+        Some(Listing::Tasks)
+    } else if kind == "waiting" {
+        Some(Listing::Waiting)
+    } else {
+        None
+    }
+}
+
+// A job or a task, by its id.
+fn job_or_task_in(value: &Value) -> Option<Subject>
+    ensures { result ≡ job_or_task_in (view value.now) }
+{
+    if value.get("job").is_some() {
+        let job = JobId::read(text_in(value, "job")?)?;
+        Some(Subject::Job(job))
+    } else {
+        let task = TaskId::read(text_in(value, "task")?)?;
+        Some(Subject::Task(task))
+    }
+}
+
+// A machine at an incarnation.
+fn machine_in(value: &Value) -> Option<Subject>
+    ensures { result ≡ machine_in (view value.now) }
+{
+    let machine = MachineId::read(text_in(value, "machine")?)?;
+    let incarnation = number_in(value, "incarnation")?;
+    Some(Subject::Machine(machine, incarnation))
 }
 
 // A step as in a script.

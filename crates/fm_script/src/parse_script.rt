@@ -14,6 +14,7 @@ ghost use Rattle.fm_coord.specs.Numbers.{AreDistinct};
 ghost use Rattle.fm_script.specs.Script.{parse_job, preference_entry, preference_entries, prefer_of, parse_spec, phase_named, parse_progress, first_strange, parse_machine, parse_report, propose_of, op_of, range_of, cut_of, delivery_of, round_of, act_of, script_step_of, steps_of, names_in, coordinator_of, listed_of, script_fault, IsScriptOf};
 
 use crate::names::Names;
+use crate::parse_share::share_in;
 use crate::script::{Script, ScriptAct, ScriptStep};
 use fm_coord::entry::Range;
 use fm_lattice::join::OutOfMemory;
@@ -21,6 +22,7 @@ use fm_records::ids::{CoordId, JobId, MachineId, TaskId};
 use fm_records::ops::{Op, Phase};
 use fm_records::prefer::Prefer;
 use fm_records::refusal::Refusal;
+use fm_share::share::Share;
 use serde_json::Value;
 use std::alloc::Global;
 use std::mem;
@@ -94,7 +96,7 @@ pub(crate) fn coordinators_in(
 }
 
 // The coordinator that an item names.
-fn coordinator_in(item: &Value) -> Option<CoordId>
+pub(crate) fn coordinator_in(item: &Value) -> Option<CoordId>
     ensures { result ≡ coordinator_of (view item.now) }
 {
     let number = u8::try_from(item.as_u64()?).ok()?;
@@ -190,14 +192,14 @@ fn delivery_in(packet: &Value, names: &Names) -> Option<ScriptAct>
     Some(ScriptAct::Deliver(place))
 }
 
-// A round is asked for by true.
+// A round of the whole plan is asked for by true, and of a share by an object.
 fn round_in(asked: &Value) -> Option<ScriptAct>
     ensures { result ≡ round_of (view asked.now) }
 {
-    if asked.as_bool()? {
-        Some(ScriptAct::Round)
-    } else {
-        None
+    match asked.as_bool() {
+        Some(true) => Some(ScriptAct::Round(Share::whole())),
+        Some(false) => None,
+        None => Some(ScriptAct::Round(share_in(asked)?)),
     }
 }
 
@@ -363,7 +365,7 @@ pub(crate) fn is_object_of(value: &Value, members: usize) -> bool
 }
 
 // The members of an object, each at the type that it is to have.
-fn number_in(fields: &Value, name: &str) -> Option<u64>
+pub(crate) fn number_in(fields: &Value, name: &str) -> Option<u64>
     ensures { result ≡ number_at name.now (view fields.now) }
 {
     fields.get(name)?.as_u64()

@@ -2,24 +2,8 @@
 
 use crate::script::ScriptStep;
 use fm_coord::entry::Range;
-use fm_records::ids::{CoordId, TaskId};
-
-/// What a coordinator is asked about.
-#[derive(Debug, Clone, Copy, PartialEq, Eq, Drop)]
-pub enum Topic {
-    /// The network of what it knows.
-    Graph,
-    /// A least flow of that network.
-    Solve,
-    /// What a round would place and preempt.
-    Plan,
-    /// Who won the present attempt of each task, by what it knows.
-    Winners,
-    /// Which copies of tasks are to stop, by what it knows.
-    Stops,
-    /// Which deltas it keeps.
-    End,
-}
+use fm_question::question::Question;
+use fm_records::ids::CoordId;
 
 /// What a line of a stream asks for.
 #[derive(Debug, Drop)]
@@ -52,15 +36,12 @@ pub enum Request {
     /// A coordinator is asked.
     Ask {
         at: u8,
-        topic: Topic,
-    },
-    /// A coordinator is asked why the task waits or runs.
-    Why {
-        at: u8,
-        task: TaskId,
+        question: Question,
     },
     /// Whether all coordinators know the same.
     Agree,
+    /// The version of the program.
+    Version,
     /// The coordinators are renewed.
     Renew,
 }

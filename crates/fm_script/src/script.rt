@@ -4,6 +4,7 @@ use crate::names::Names;
 use fm_coord::entry::Range;
 use fm_records::ids::CoordId;
 use fm_records::ops::Op;
+use fm_share::share::Share;
 
 /// What a step does at its coordinator.
 #[derive(Debug, Clone, Copy, PartialEq, Eq, Drop)]
@@ -17,8 +18,8 @@ pub enum ScriptAct {
     Deliver(usize),
     /// It lets the deltas below the number go.
     Trim(u64),
-    /// It looks at what it knows, plans by a least flow of that, and commits the plan.
-    Round,
+    /// It looks at what it knows, plans by a least flow of that, and commits its share of the plan.
+    Round(Share),
 }
 
 /// One step of a script.

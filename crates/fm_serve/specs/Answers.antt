@@ -10,8 +10,10 @@ use Rattle.fm_query.specs.declared.query.Query.{Query}
 use Rattle.fm_query.specs.declared.query.Query.TheVariants as query
 use Rattle.fm_query.specs.Queries.{IsText, differs_in, Lacks}
 use Rattle.fm_query.specs.Unpacked.{IsUnpacked, IsNotUnpacked}
-use Rattle.fm_args.specs.declared.words.Question.{Question}
-use Rattle.fm_args.specs.declared.words.Question.TheVariants as question
+use Rattle.fm_args.specs.declared.words.ScriptQuestion.{ScriptQuestion}
+use Rattle.fm_args.specs.declared.words.ScriptQuestion.TheVariants as question
+use Rattle.fm_question.specs.declared.question.Question.TheVariants as asked
+use Rattle.fm_question.specs.declared.question.Listing.TheVariants as listing
 use Rattle.fm_args.specs.Invocation.{ArgsModel, ask, agree, pack, unpack, why}
 use Rattle.fm_serve.specs.declared.fault.Fault.{Fault}
 use Rattle.fm_serve.specs.declared.ending.Ending.{Ending}
@@ -28,19 +30,20 @@ pub record IsNoScript (text : List ℕ) (fault : Fault) : Type 0 where
   pub cause : SpellsNone text refusal
 
 -- the question about the coordinator of the number
-abbrev pub query_at : Question → ℕ → Query
-query_at question.Graph n = query.Graph n
-query_at question.Solve n = query.Solve n
-query_at question.Plan n = query.Plan n
-query_at question.Winners n = query.Winners n
+abbrev pub query_at : ScriptQuestion → ℕ → Query
+query_at question.Graph n = query.About n asked.Graph
+query_at question.List n = query.About n (asked.List listing.All)
+query_at question.Solve n = query.About n asked.Solve
+query_at question.Plan n = query.About n asked.Plan
+query_at question.Winners n = query.About n asked.Winners
 
-abbrev pub query_about : Question → Result ℕ Fault → Result (Option Query) Fault
+abbrev pub query_about : ScriptQuestion → Result ℕ Fault → Result (Option Query) Fault
 query_about q (Ok n) = Ok (Some (query_at q n))
 query_about q (Err fault) = Err fault
 
 -- why the task waits or runs, by what a coordinator knows
 abbrev pub why_about : ℕ → Result ℕ Fault → Result (Option Query) Fault
-why_about task (Ok n) = Ok (Some (query.Why n task))
+why_about task (Ok n) = Ok (Some (query.About n (asked.Why task)))
 why_about task (Err fault) = Err fault
 
 -- the query of a command, for a script of these coordinators and names of packets: none if no packet has the name,

@@ -1,4 +1,4 @@
--- The page of refusals, and the line of the version (this project's profile).
+-- The page of refusals (this project's profile).
 use Rattle.std.specs.Prelude.{ℕ, ◌+◌, ◌-◌, List, [], ◌∷◌, ◌++◌, cond, nat_lt, codes}
 use Rattle.fm_records.specs.declared.ops.Field.TheVariants.{Writer}
 use Rattle.fm_records.specs.declared.refusal.Refusal.{Refusal}
@@ -40,7 +40,3 @@ refusals_text =
     ++ refusal_line (BadScript 0) (codes "the input is no script, or a step breaks a rule")
     ++ refusal_line WriteFault (codes "the output could not be written")
     ++ refusal_line (BadDimacs 0) (codes "the text is no network")
-
--- the version of the program, and the formats of packets that it reads
-abbrev pub version_text : List ℕ
-version_text = codes "firmament 0.5.0 FDG1 FDG2\n"

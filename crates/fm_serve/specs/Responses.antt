@@ -6,7 +6,8 @@ use Rattle.fm_serve.specs.declared.ending.Ending.{Ending}
 use Rattle.fm_serve.specs.declared.ending.Ending.TheVariants.{Done, Wrong, Stopped}
 use Rattle.fm_serve.specs.Faults.{fault_of}
 use Rattle.fm_serve.specs.Fleets.{IsCounted, IsNotCounted}
-use Rattle.fm_serve.specs.Refused.{refusals_text, version_text}
+use Rattle.fm_query.specs.QueryTexts.{version_text}
+use Rattle.fm_serve.specs.Refused.{refusals_text}
 use Rattle.fm_serve.specs.Answers.{Wants, IsCommandRefused}
 
 -- the ending and the complete output: a command's answer, or why it has none; a fleet's counts, or why it has none;

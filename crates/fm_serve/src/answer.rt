@@ -17,10 +17,11 @@ use crate::fault::Fault;
 use crate::progress::RunProgress;
 use crate::respond::RunResult;
 use crate::run::run;
-use fm_args::words::{Command, Question};
+use fm_args::words::{Command, ScriptQuestion};
 use fm_edit::keepers::Keeper;
 use fm_query::query::{Query, ask};
 use fm_query::unpack::unpack;
+use fm_question::question::{Listing, Question};
 use fm_records::ids::{CoordId, TaskId};
 use fm_records::refusal::Refusal;
 use fm_script::parse_script::read_script;
@@ -133,21 +134,22 @@ fn query_of(command: Command, script: &Script) -> Result<Option<Query>, Fault>
         },
         Command::Unpack => Ok(None),
         Command::Why { task, at } => match asked(&script.coordinators, at) {
-            Ok(number) => Ok(Some(Query::Why(number, TaskId::new(task)))),
+            Ok(number) => Ok(Some(Query::About(number, Question::Why(TaskId::new(task))))),
             Err(fault) => Err(fault),
         },
     }
 }
 
 // The question about the coordinator.
-fn query_at(question: Question, at: CoordId) -> Query
+fn query_at(question: ScriptQuestion, at: CoordId) -> Query
     ensures { result ≡ query_at question at }
 {
     match question {
-        Question::Graph => Query::Graph(at),
-        Question::Solve => Query::Solve(at),
-        Question::Plan => Query::Plan(at),
-        Question::Winners => Query::Winners(at),
+        ScriptQuestion::Graph => Query::About(at, Question::Graph),
+        ScriptQuestion::List => Query::About(at, Question::List(Listing::All)),
+        ScriptQuestion::Solve => Query::About(at, Question::Solve),
+        ScriptQuestion::Plan => Query::About(at, Question::Plan),
+        ScriptQuestion::Winners => Query::About(at, Question::Winners),
     }
 }
 

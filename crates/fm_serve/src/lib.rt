@@ -18,4 +18,3 @@ mod refusals;
 pub mod respond;
 pub mod run;
 pub mod serve;
-mod version_line;

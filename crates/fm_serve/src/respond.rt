@@ -14,8 +14,8 @@ use crate::fault::Fault;
 use crate::fleet::count_fleet;
 use crate::progress::RunProgress;
 use crate::refusals::REFUSALS;
-use crate::version_line::VERSION;
 use fm_args::words::{Command, Words};
+use fm_query::version_text::version_text;
 use fm_records::refusal::Refusal;
 use std::alloc::Global;
 use std::sync::Wait;
@@ -121,7 +121,7 @@ fn refusals_page(alloc: Global) -> RunResult
 fn version_line(alloc: Global) -> RunResult
     ensures { Responds told.version [] result.ending result.output.items }
 {
-    match String::from_str(alloc, VERSION) {
+    match version_text(alloc) {
         Ok(line) => RunResult {
             ending: Ending::Done,
             output: line.into_bytes(),

@@ -17,6 +17,8 @@ use fm_records::refusal::Refusal;
 use fm_script::initial_world::open;
 use fm_script::script::{Script, ScriptAct, ScriptStep};
 use fm_service::acting::take_step;
+use fm_share::part::part_of;
+use fm_share::share::Share;
 use fm_world::step::Act as WorldAct;
 use fm_world::world::World;
 use std::alloc::Global;
@@ -67,16 +69,18 @@ fn take(alloc: Global, world: &mut World<Keeper>, at: u8, act: ScriptAct) -> Res
         ScriptAct::Cut(range) => take_step(world, at, WorldAct::Cut(range)),
         ScriptAct::Deliver(packet) => take_step(world, at, WorldAct::Deliver(packet)),
         ScriptAct::Trim(n) => take_step(world, at, WorldAct::Trim(n)),
-        ScriptAct::Round => round(alloc, world, at),
+        ScriptAct::Round(share) => round(alloc, world, at, &share),
     }
 }
 
-// A round: a look at what is known with the tally, the plan by that, and the commit of the plan.
-fn round(alloc: Global, world: &mut World<Keeper>, at: u8) -> Result<(), Refusal>
-    ensures ok { Makes result world.old world.new (λ w v. ScriptActStep w at script_act.Round v) }
-    ensures err { EnsuresErr result world.old (λ w refusal. Refuses w at script_act.Round refusal) }
+// A round: a look at what is known with the tally, the plan by that, and the commit of its share.
+fn round(alloc: Global, world: &mut World<Keeper>, at: u8, share: &Share) -> Result<(), Refusal>
+    ensures ok { Makes result world.old world.new (λ w v. ScriptActStep w at (script_act.Round share.now) v) }
+    ensures err { EnsuresErr result world.old (λ w refusal. Refuses w at (script_act.Round share.now) refusal) }
 {
     let sight = world.see(at, 0)?;
-    let planned = plan_for(alloc, sight.tally.get(), sight.knowledge.get())?;
-    take_step(world, at, WorldAct::Commit(planned.plan))
+    let knowledge = sight.knowledge.get();
+    let planned = plan_for(alloc, sight.tally.get(), knowledge)?;
+    let part = part_of(alloc, knowledge, share, planned.plan)?;
+    take_step(world, at, WorldAct::Commit(part))
 }

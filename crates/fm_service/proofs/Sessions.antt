@@ -73,9 +73,9 @@ too_early (request.Cut at range name) never = refl
 too_early (request.News at) never = refl
 too_early (request.OwnNews at) never = refl
 too_early (request.Take at digits) never = refl
-too_early (request.Ask at topic) never = refl
-too_early (request.Why at task) never = refl
+too_early (request.Ask at question) never = refl
 too_early request.Agree never = refl
+too_early request.Version never = refl
 too_early request.Renew never = refl
 
 -- what packets spell out may stand behind them

@@ -1,5 +1,5 @@
 -- Steps at a coordinator of a world that stands for a world of sets.
-use Rattle.std.proofs.Common.{◌≡◌, ◌==◌, ℕ, Bool, true, false, cond, nat_lt, List, [], ◌∷◌, Option, Some, None, length, refl, sym, ap, ◌∙◌, subst, inr}
+use Rattle.std.proofs.Common.{◌≡◌, ◌==◌, ℕ, Bool, true, false, cond, nat_lt, List, [], ◌∷◌, Option, Some, None, length, refl, sym, ap, ◌∙◌, subst, inl, inr}
 use Rattle.std.proofs.lemmas.Bool.{eqb-true}
 use Rattle.std.proofs.lemmas.List.{length-map}
 use Rattle.fm_records.specs.declared.refusal.Refusal.{Refusal}
@@ -9,7 +9,8 @@ use Rattle.fm_delta.specs.declared.packet.Packet.{Packet}
 use Rattle.fm_round.specs.declared.plan.Plan.{Plan}
 use Rattle.fm_round.specs.declared.plan.Admitted.{Admitted}
 use Rattle.fm_round.specs.Admission.{admission}
-use Rattle.fm_round.specs.Schedules.{IsPlanOf}
+use Rattle.fm_share.specs.declared.share.Share.{Share}
+use Rattle.fm_share.specs.Parts.{IsPartOf}
 use Rattle.fm_coord.specs.declared.entry.Call.TheVariants as call
 use Rattle.fm_coord.specs.declared.entry.Range.{Range}
 use Rattle.fm_coord.specs.declared.entry.Range.TheVariants.{Interval, Full}
@@ -25,13 +26,12 @@ use Rattle.fm_world.specs.declared.step.Act.TheVariants as act
 use Rattle.fm_world.specs.Worlds.{WorldOfSets, with_number, event_asked, cause_at, cause_of, refusal_of}
 use Rattle.fm_world.specs.Represents.{Kept, WorldRepresents, state_with}
 use Rattle.fm_world.proofs.Places.{Stood, stood, absent}
-use Rattle.fm_script.specs.declared.request.Topic.{Topic}
-use Rattle.fm_script.specs.declared.request.Topic.TheVariants as topic
+use Rattle.fm_question.specs.declared.question.Question.{Question}
 use Rattle.fm_query.specs.QueryTexts.{line_of}
 use Rattle.fm_query.specs.declared.query.Query.TheVariants as query
 use Rattle.fm_query.specs.Queries.{IsUnanswered}
 use Rattle.fm_query.specs.RoundText.{round_text}
-use Rattle.fm_service.specs.StreamSteps.{topic_query_at, news_since, news_of, own_news_of}
+use Rattle.fm_service.specs.StreamSteps.{news_since, news_of, own_news_of}
 use Rattle.fm_service.specs.OwnNews.{own_news_since}
 use Rattle.fm_service.specs.WorldSteps.{step_at, WorldStep, IsCutLine, StreamRoundStep}
 
@@ -43,15 +43,6 @@ numbered_by false x s n rest is e later = later e
 pub numbered_so : (ss : List State) (n : ℕ) (s : State) → state_with ss n ≡ Some s → s.number ≡ n
 numbered_so [] n s e = absurd (let no : ⊥ = cc in no)
 numbered_so (x ∷ ss) n s e = numbered_by (x.number == n) x s n (state_with ss n) refl e (numbered_so ss n s)
-
--- a question about no coordinator
-unanswered : (t : Topic) (at : ℕ) (w : WorldOfSets) → with_number w.replicas at ≡ None → IsUnanswered (topic_query_at t at) w NoCoordinator
-unanswered topic.Graph at w none = inr (none, refl)
-unanswered topic.Solve at w none = inr (none, refl)
-unanswered topic.Plan at w none = inr (none, refl)
-unanswered topic.Winners at w none = inr (none, refl)
-unanswered topic.Stops at w none = inr (none, refl)
-unanswered topic.End at w none = inr (none, refl)
 
 -- no memory for a step that has no cause of refusal
 pub no_memory : (w : WorldOfSets) (at : ℕ) (a : Act) → cause_of w (step_at at a) ≡ None → OutOfMemory ≡ refusal_of w (step_at at a)
@@ -73,11 +64,8 @@ module _ (k : Kept) (w : WorldOfSets) (at : ℕ) (h : WorldRepresents k w) where
   pub nobody_there : None ≡ state_with k.coordinators at → (a : Act) → NoCoordinator ≡ refusal_of w (step_at at a)
   nobody_there none a = ap (λ o. or_else OutOfMemory (cause_at o (event_asked w.packets a))) (sym (absent at k.coordinators w.replicas h.coordinators (sym none)))
 
-  pub nobody_asked : None ≡ state_with k.coordinators at → (t : Topic) → IsUnanswered (topic_query_at t at) w NoCoordinator
-  nobody_asked none t = unanswered t at w (absent at k.coordinators w.replicas h.coordinators (sym none))
-
-  pub nobody_explains : None ≡ state_with k.coordinators at → (task : ℕ) → IsUnanswered (query.Why at task) w NoCoordinator
-  nobody_explains none task = inr (absent at k.coordinators w.replicas h.coordinators (sym none), refl)
+  pub nobody_asked : None ≡ state_with k.coordinators at → (question : Question) → IsUnanswered (query.About at question) w NoCoordinator
+  nobody_asked none question = inr (inl (absent at k.coordinators w.replicas h.coordinators (sym none), refl))
 
   pub nobody_tells : None ≡ state_with k.coordinators at → (mark : ℕ) → own_news_of mark (with_number w.replicas at) ≡ Some Full
   nobody_tells none mark = ap (own_news_of mark) (absent at k.coordinators w.replicas h.coordinators (sym none))
@@ -123,16 +111,16 @@ module _ (k : Kept) (w : WorldOfSets) (at : ℕ) (h : WorldRepresents k w) where
     cut_told range packet text seen_so told = record { replica = here.replica; there = here.at; is = told ∙ ap line_of (seen_so here.replica here.stands) }
 
     -- a round
-    pub round_told : (plan : Plan) (answered : Admitted) (text : List ℕ) (v : WorldOfSets) → IsPlanOf s.knowledge plan → answered ≡ admission s.knowledge s.number plan
-        → text ≡ round_text plan answered → WorldStep w (step_at at (act.Commit plan)) v → StreamRoundStep w at text v
-    round_told plan answered text v plan_of is told commit =
+    pub round_told : (share : Share) (plan : Plan) (answered : Admitted) (text : List ℕ) (v : WorldOfSets) → IsPartOf s.knowledge share plan → answered ≡ admission s.knowledge s.number plan
+        → text ≡ round_text plan answered → WorldStep w (step_at at (act.Commit plan)) v → StreamRoundStep w at share text v
+    round_told share plan answered text v part_of is told commit =
         let known = here.stands.knowledge in
         let number = here.stands.number in
         record {
           replica = here.replica;
           there = here.at;
-          plan = plan;
-          plan_of = subst (λ t. IsPlanOf t plan) known plan_of;
+          part = plan;
+          part_of = subst (λ t. IsPartOf t share plan) known part_of;
           commit = commit;
           told = told ∙ ap (round_text plan) (is ∙ (λ i. admission (known i) (number i) plan));
         }

@@ -17,11 +17,8 @@ use Rattle.fm_world.specs.Worlds.{WorldOfSets, with_number, cause_of, refusal_of
 use Rattle.fm_world.specs.Represents.{Kept, WorldRepresents}
 use Rattle.fm_script.specs.declared.script.ScriptAct.{ScriptAct}
 use Rattle.fm_script.specs.declared.script.ScriptAct.TheVariants as act
-use Rattle.fm_script.specs.declared.request.Topic.{Topic}
-use Rattle.fm_script.specs.declared.request.Topic.TheVariants as topic
 use Rattle.fm_script.specs.Script.{is_named}
-use Rattle.fm_script.specs.Requests.{RequestModel, Opens, Does, Cuts, News, OwnNews, Takes, Asks, Explains, Agrees, Renews, Requests, RequestsNothing}
-use Rattle.fm_query.specs.declared.query.Query.{Query}
+use Rattle.fm_script.specs.Requests.{RequestModel, Opens, Does, Cuts, News, OwnNews, Takes, Asks, Agrees, Versions, Renews, Requests, RequestsNothing}
 use Rattle.fm_query.specs.declared.query.Query.TheVariants as query
 use Rattle.fm_query.specs.Queries.{IsText, IsUnanswered}
 use Rattle.fm_query.specs.Unpacked.{IsPacketIn, IsNoPacketIn}
@@ -88,12 +85,12 @@ asked_for k (act.Tell op) = world.Tell op
 asked_for k (act.Cut range) = world.Cut range
 asked_for k (act.Deliver place) = world.Deliver (packet_number_at k place)
 asked_for k (act.Trim n) = world.Trim n
-asked_for k act.Round = world.View
+asked_for k (act.Round share) = world.View
 
 -- what a step as in a script makes of the world, and its text
 abbrev pub StreamActStep : Following → ℕ → ScriptAct → List ℕ → WorldOfSets → Type 0
 StreamActStep k at (act.Cut range) text v = acting.Cuts k.world at range text v
-StreamActStep k at act.Round text v = StreamRoundStep k.world at text v
+StreamActStep k at (act.Round share) text v = StreamRoundStep k.world at share text v
 StreamActStep k at a text v = (text ≡ []) × acting.WorldStep k.world (step_at at (asked_for k a)) v
 
 -- the names after a cut
@@ -143,15 +140,6 @@ pub record ImportStep (behind : Packet → List Op) (k : Following) (at : ℕ) (
   pub accepted : cause_of k.world (step_at at (world.Take packet)) ≡ None
   pub is : j ≡ at_world k (taken_in k.world at 0 (packet_by_ops behind packet))
 
--- the query of a topic about the coordinator with the number
-abbrev pub topic_query_at : Topic → ℕ → Query
-topic_query_at topic.Graph n = query.Graph n
-topic_query_at topic.Solve n = query.Solve n
-topic_query_at topic.Plan n = query.Plan n
-topic_query_at topic.Winners n = query.Winners n
-topic_query_at topic.Stops n = query.Stops n
-topic_query_at topic.End n = query.End n
-
 -- what a request makes of a stream that has its coordinators, and its text
 abbrev pub DoesAt : (Packet → List Op) → Following → RequestModel → List ℕ → Following → Type 0
 DoesAt behind k (Opens listed) text j = ⊥
@@ -160,9 +148,9 @@ DoesAt behind k (Cuts at range name) text j = (v : WorldOfSets) × acting.Cuts k
 DoesAt behind k (News at) text j = Tells k at text j
 DoesAt behind k (OwnNews at) text j = TellsOwn k at text j
 DoesAt behind k (Takes at digits) text j = (text ≡ []) × ImportStep behind k at digits j
-DoesAt behind k (Asks at topic) text j = IsText (topic_query_at topic at) k.world text × (j ≡ k)
-DoesAt behind k (Explains at task) text j = IsText (query.Why at task) k.world text × (j ≡ k)
+DoesAt behind k (Asks at question) text j = IsText (query.About at question) k.world text × (j ≡ k)
 DoesAt behind k Agrees text j = IsText query.Agree k.world text × (j ≡ k)
+DoesAt behind k Versions text j = IsText query.Version k.world text × (j ≡ k)
 DoesAt behind k Renews text j = (text ≡ []) × (j ≡ fresh (renewed_world k.world))
 
 -- the same of any stream: the first request lists the coordinators
@@ -190,9 +178,9 @@ RefusesAt k (Cuts at range (Some name)) e = (e ≡ refusal_of k.world (step_at a
 RefusesAt k (News at) e = e ≡ refusal_of k.world (step_at at (world.Cut (news_of (mark_at k at) (with_number k.world.replicas at))))
 RefusesAt k (OwnNews at) e = CutRefused k at (own_news_of (own_mark_at k at) (with_number k.world.replicas at)) e
 RefusesAt k (Takes at digits) e = IsNoPacketIn digits e ⊎ ((packet : Packet) × IsPacketIn digits packet × (e ≡ refusal_of k.world (step_at at (world.Take packet))))
-RefusesAt k (Asks at topic) e = IsUnanswered (topic_query_at topic at) k.world e
-RefusesAt k (Explains at task) e = IsUnanswered (query.Why at task) k.world e
+RefusesAt k (Asks at question) e = IsUnanswered (query.About at question) k.world e
 RefusesAt k Agrees e = IsUnanswered query.Agree k.world e
+RefusesAt k Versions e = IsUnanswered query.Version k.world e
 RefusesAt k Renews e = e ≡ OutOfMemory
 
 -- the same of any stream: before the coordinators are listed there is no other request

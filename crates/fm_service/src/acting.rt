@@ -3,14 +3,15 @@
 //! A step that was taken cannot be taken back if memory for its text runs out. So the packet of a cut, and what is
 //! decided of a plan, are made first, then their texts, and then the step takes what was made.
 
-ghost use Rattle.std.specs.Prelude.{◌≡◌, None, IfOk, IfSome, OnErr, OnOk};
-ghost use Rattle.fm_round.specs.Schedules.{IsPlanOf};
+ghost use Rattle.std.specs.Prelude.{◌≡◌, None, IfOk, IfSome, IsOkUnless, OnErr, OnOk};
+ghost use Rattle.fm_share.specs.Parts.{IsPartOf};
 ghost use Rattle.fm_world.specs.declared.step.Act.TheVariants as act;
 ghost use Rattle.fm_coord.specs.States.{cut_packet};
 ghost use Rattle.fm_world.specs.Worlds.{WorldOfSets, cause_of, refusal_of};
 ghost use Rattle.fm_world.specs.Represents.{WorldRepresents, state_with};
 ghost use Rattle.fm_service.specs.WorldSteps.{step_at, WorldStep, StreamRoundStep, IsCutLine, Cuts, Makes, EnsuresErr};
 
+use fm_coord::coordinator::Coordinator;
 use fm_coord::entry::Range;
 use fm_coord::shared::Shared;
 use fm_delta::packet::Packet;
@@ -19,6 +20,9 @@ use fm_query::packet_text::packet_line;
 use fm_query::round_text::round_text;
 use fm_query::solution_text::least_plan_of;
 use fm_records::refusal::Refusal;
+use fm_round::plan::Plan;
+use fm_share::part::part_of;
+use fm_share::share::Share;
 use fm_world::step::{Act, Step};
 use fm_world::world::World;
 use std::alloc::Global;
@@ -109,24 +113,34 @@ fn prepared_cut(
     Ok(prepared.line)
 }
 
-/// A round at the coordinator: the plan of a least flow of its network is committed. The text has admission's answer
-/// to each entry of the plan, and is made of the decision that is then carried out. The history gets one entry, since there is no view.
-/// NoCoordinator, HistoryFull, OutOfMemory; then nothing has changed. The cost is that of `World::refresh_tally`, of `least_plan_of`, and
-/// of admitting the plan by the tally.
-pub(crate) fn round(alloc: Global, world: &mut World<Keeper>, at: u8) -> Result<Vec<u8>, Refusal>
+/// A round at the coordinator: its share of the plan of a least flow of its network is committed. The text has admission's answer to each
+/// entry of the share, and is made of the decision that is then carried out. The history gets one entry, since there is no view.
+/// NoCoordinator, HistoryFull, OutOfMemory; then nothing has changed. The cost is that of `World::refresh_tally`, of `least_plan_of`, of
+/// `part_of`, and of admitting the share by the tally.
+pub(crate) fn round(
+    alloc: Global,
+    world: &mut World<Keeper>,
+    at: u8,
+    share: &Share,
+) -> Result<Vec<u8>, Refusal>
     ensures ok { (w : WorldOfSets) → WorldRepresents world.old w
-        → IfOk result (λ text. (v : WorldOfSets) × StreamRoundStep w at text.items v × WorldRepresents world.new v) }
+        → IfOk result (λ text. (v : WorldOfSets) × StreamRoundStep w at share.now text.items v × WorldRepresents world.new v) }
     ensures err { EnsuresErr result world.old (λ w refusal. refusal ≡ refusal_of w (step_at at act.View)) }
     ensures unchanged { OnErr result (world.new ≡ world.old) }
 {
     world.refresh_tally(at);
-    planned_round(alloc, world, at)
+    planned_round(alloc, world, at, share)
 }
 
 // The round, with the tally or without.
-fn planned_round(alloc: Global, world: &mut World<Keeper>, at: u8) -> Result<Vec<u8>, Refusal>
+fn planned_round(
+    alloc: Global,
+    world: &mut World<Keeper>,
+    at: u8,
+    share: &Share,
+) -> Result<Vec<u8>, Refusal>
     ensures ok { (w : WorldOfSets) → WorldRepresents world.old w
-        → IfOk result (λ text. (v : WorldOfSets) × StreamRoundStep w at text.items v × WorldRepresents world.new v) }
+        → IfOk result (λ text. (v : WorldOfSets) × StreamRoundStep w at share.now text.items v × WorldRepresents world.new v) }
     ensures err { EnsuresErr result world.old (λ w refusal. refusal ≡ refusal_of w (step_at at act.View)) }
     ensures unchanged { OnErr result (world.new ≡ world.old) }
 {
@@ -134,9 +148,22 @@ fn planned_round(alloc: Global, world: &mut World<Keeper>, at: u8) -> Result<Vec
         return Err(Refusal::NoCoordinator);
     };
     coordinator.check_room()?;
-    let plan = least_plan_of(alloc, coordinator)?;
-    let decision = coordinator.decide(plan)?;
+    let part = part_for(alloc, coordinator, share)?;
+    let decision = coordinator.decide(part)?;
     let text = round_text(alloc, &decision.plan, decision.admitted.get())?.into_bytes();
     let _admitted = world.accept(at, 0, decision)?;
     Ok(text)
+}
+
+// The coordinator's share of the plan of a least flow.
+fn part_for(
+    alloc: Global,
+    coordinator: &Coordinator<Keeper>,
+    share: &Share,
+) -> Result<Plan, Refusal>
+    ensures ok { IfOk result (IsPartOf coordinator.now.state.knowledge share.now) }
+    ensures err { IsOkUnless result Refusal.OutOfMemory }
+{
+    let plan = least_plan_of(alloc, coordinator)?;
+    Ok(part_of(alloc, coordinator.knowledge(), share, plan)?)
 }

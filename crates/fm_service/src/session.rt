@@ -14,7 +14,7 @@ ghost use Rattle.fm_script.specs.declared.script.ScriptAct.TheVariants as act;
 ghost use Rattle.fm_script.specs.Requests.{request_model};
 ghost use Rattle.fm_script.specs.Requests as asked;
 ghost use Rattle.fm_service.specs.WorldSteps.{step_at, WorldStep};
-ghost use Rattle.fm_service.specs.StreamSteps.{Following, CutsMaybe, CutRefused, at_world, packet_number_at, is_due, topic_query_at, fresh};
+ghost use Rattle.fm_service.specs.StreamSteps.{Following, CutsMaybe, CutRefused, at_world, packet_number_at, is_due, fresh};
 ghost use Rattle.fm_service.specs.Renewing.{renewed_world};
 ghost use Rattle.fm_service.specs.Sessions.{SessionAt};
 ghost use Rattle.fm_service.specs.inner.SessionSteps.{Goes, StopsRequest, Accepts, Rejects};
@@ -29,11 +29,12 @@ use fm_edit::keepers::Keeper;
 use fm_know::laws::law_can_be;
 use fm_query::packet_text::packet_in;
 use fm_query::query::{Query, QueryAnswer, ask};
-use fm_records::ids::{CoordId, TaskId};
+use fm_question::question::Question;
 use fm_records::refusal::Refusal;
 use fm_script::parse_request::read_request;
-use fm_script::request::{Request, Topic};
+use fm_script::request::Request;
 use fm_script::script::{ScriptAct, ScriptStep};
+use fm_share::share::Share;
 use fm_world::step::Act as WorldAct;
 use fm_world::world::World;
 use std::alloc::Global;
@@ -92,9 +93,9 @@ impl Session {
             Request::News { at } => self.news(at),
             Request::OwnNews { at } => self.own_news(at),
             Request::Take { at, digits } => self.take_in(at, &digits),
-            Request::Ask { at, topic } => self.ask(at, topic),
-            Request::Why { at, task } => self.why(at, task),
+            Request::Ask { at, question } => self.ask(at, question),
             Request::Agree => self.agree(),
+            Request::Version => self.version(),
             Request::Renew => self.renew(),
         }
     }
@@ -114,7 +115,7 @@ impl Session {
             }
             ScriptAct::Trim(n) => self.step(at, WorldAct::Trim(n)),
             ScriptAct::Cut(range) => self.cut(at, range),
-            ScriptAct::Round => self.round(at),
+            ScriptAct::Round(share) => self.round(at, &share),
         }
     }
 
@@ -140,12 +141,12 @@ impl Session {
     }
 
     // A round.
-    fn round(&mut self, at: u8) -> Result<Vec<u8>, Refusal>
-        ensures ok { Goes result self.old self.new (asked.Does (record { at = at; act = act.Round })) }
-        ensures err { StopsRequest result self.old (asked.Does (record { at = at; act = act.Round })) }
+    fn round(&mut self, at: u8, share: &Share) -> Result<Vec<u8>, Refusal>
+        ensures ok { Goes result self.old self.new (asked.Does (record { at = at; act = act.Round share.now })) }
+        ensures err { StopsRequest result self.old (asked.Does (record { at = at; act = act.Round share.now })) }
         ensures unchanged { OnErr result (self.new ≡ self.old) }
     {
-        round(self.alloc, &mut self.world, at)
+        round(self.alloc, &mut self.world, at, share)
     }
 
     // A cut whose packet has no name.
@@ -242,30 +243,16 @@ impl Session {
         Ok(Vec::new(self.alloc))
     }
 
-    // Answers what is asked about a coordinator.
-    fn ask(&mut self, at: u8, topic: Topic) -> Result<Vec<u8>, Refusal>
-        ensures ok { Goes result self.old self.new (asked.Asks at topic) }
-        ensures err { StopsRequest result self.old (asked.Asks at topic) }
+    // Answers what a coordinator is asked.
+    fn ask(&mut self, at: u8, question: Question) -> Result<Vec<u8>, Refusal>
+        ensures ok { Goes result self.old self.new (asked.Asks at question) }
+        ensures err { StopsRequest result self.old (asked.Asks at question) }
         ensures unchanged { OnErr result (self.new ≡ self.old) }
     {
         let Some(coordinator) = self.world.numbered(at) else {
             return Err(Refusal::NoCoordinator);
         };
-        let query = query_at(topic, coordinator.number());
-        let QueryAnswer { text, differs: _ } = ask(self.alloc, &mut self.world, query)?;
-        Ok(text)
-    }
-
-    // Answers why a task waits or runs, by what a coordinator knows.
-    fn why(&mut self, at: u8, task: TaskId) -> Result<Vec<u8>, Refusal>
-        ensures ok { Goes result self.old self.new (asked.Explains at task) }
-        ensures err { StopsRequest result self.old (asked.Explains at task) }
-        ensures unchanged { OnErr result (self.new ≡ self.old) }
-    {
-        let Some(coordinator) = self.world.numbered(at) else {
-            return Err(Refusal::NoCoordinator);
-        };
-        let query = Query::Why(coordinator.number(), task);
+        let query = Query::About(coordinator.number(), question);
         let QueryAnswer { text, differs: _ } = ask(self.alloc, &mut self.world, query)?;
         Ok(text)
     }
@@ -277,6 +264,16 @@ impl Session {
         ensures unchanged { OnErr result (self.new ≡ self.old) }
     {
         let QueryAnswer { text, differs: _ } = ask(self.alloc, &mut self.world, Query::Agree)?;
+        Ok(text)
+    }
+
+    // Answers which version of the program this is.
+    fn version(&mut self) -> Result<Vec<u8>, Refusal>
+        ensures ok { Goes result self.old self.new asked.Versions }
+        ensures err { StopsRequest result self.old asked.Versions }
+        ensures unchanged { OnErr result (self.new ≡ self.old) }
+    {
+        let QueryAnswer { text, differs: _ } = ask(self.alloc, &mut self.world, Query::Version)?;
         Ok(text)
     }
 
@@ -321,19 +318,5 @@ fn news_between(mark: u64, floor: u64, end: u64) -> Range
         Range::Full
     } else {
         Range::Interval(mark, end)
-    }
-}
-
-// The query of a topic about the coordinator with the number.
-fn query_at(topic: Topic, number: CoordId) -> Query
-    ensures { result ≡ topic_query_at topic number }
-{
-    match topic {
-        Topic::Graph => Query::Graph(number),
-        Topic::Solve => Query::Solve(number),
-        Topic::Plan => Query::Plan(number),
-        Topic::Winners => Query::Winners(number),
-        Topic::Stops => Query::Stops(number),
-        Topic::End => Query::End(number),
     }
 }

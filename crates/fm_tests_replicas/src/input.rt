@@ -119,17 +119,27 @@ static READ_STEPS: [(&str, &str, &str); 15] = [
     (
         r#"{"at":1,"round":true}"#,
         "{}",
-        "[ScriptStep { at: 1, act: Round }]",
+        "[ScriptStep { at: 1, act: Round(Share { writers: None, each: None }) }]",
     ),
     (
         r#"{"at":2,"round":true},{"round":true,"at":2}"#,
         "{}",
-        "[ScriptStep { at: 2, act: Round }, ScriptStep { at: 2, act: Round }]",
+        "[ScriptStep { at: 2, act: Round(Share { writers: None, each: None }) }, ScriptStep { at: 2, act: Round(Share { writers: None, each: None }) }]",
+    ),
+    (
+        r#"{"at":1,"round":{"each":2}}"#,
+        "{}",
+        "[ScriptStep { at: 1, act: Round(Share { writers: None, each: Some(2) }) }]",
+    ),
+    (
+        r#"{"at":1,"round":{}}"#,
+        "{}",
+        "[ScriptStep { at: 1, act: Round(Share { writers: None, each: None }) }]",
     ),
 ];
 
 // Lines of a stream, as they are read.
-static READ_LINES: [(&str, &str); 15] = [
+static READ_LINES: [(&str, &str); 22] = [
     (
         r#"{"coordinators":[64,1]}"#,
         "Open([CoordId { number: 64 }, CoordId { number: 1 }])",
@@ -159,15 +169,49 @@ static READ_LINES: [(&str, &str); 15] = [
         r#"{"at":2,"take":"46444732"}"#,
         r#"Take { at: 2, digits: "46444732" }"#,
     ),
-    (r#"{"at":1,"ask":"graph"}"#, "Ask { at: 1, topic: Graph }"),
-    (r#"{"at":1,"ask":"solve"}"#, "Ask { at: 1, topic: Solve }"),
-    (r#"{"at":1,"ask":"plan"}"#, "Ask { at: 1, topic: Plan }"),
+    (
+        r#"{"at":1,"ask":"graph"}"#,
+        "Ask { at: 1, question: Graph }",
+    ),
+    (
+        r#"{"at":1,"ask":"solve"}"#,
+        "Ask { at: 1, question: Solve }",
+    ),
+    (r#"{"at":1,"ask":"plan"}"#, "Ask { at: 1, question: Plan }"),
     (
         r#"{"at":1,"ask":"winners"}"#,
-        "Ask { at: 1, topic: Winners }",
+        "Ask { at: 1, question: Winners }",
     ),
-    (r#"{"at":1,"ask":"stops"}"#, "Ask { at: 1, topic: Stops }"),
+    (
+        r#"{"at":1,"ask":"stops"}"#,
+        "Ask { at: 1, question: Stops }",
+    ),
+    (
+        r#"{"at":1,"ask":"list"}"#,
+        "Ask { at: 1, question: List(All) }",
+    ),
+    (
+        r#"{"at":1,"ask":"list","of":"waiting"}"#,
+        "Ask { at: 1, question: List(Waiting) }",
+    ),
+    (
+        r#"{"at":1,"ask":"why","task":"00000000-0000-0000-0000-000000000015"}"#,
+        "Ask { at: 1, question: Why(TaskId { number: 21 }) }",
+    ),
+    (
+        r#"{"at":1,"ask":"next","job":"00000000-0000-0000-0000-000000000001"}"#,
+        "Ask { at: 1, question: Next(Job(JobId { number: 1 })) }",
+    ),
+    (
+        r#"{"at":1,"ask":"next","task":"00000000-0000-0000-0000-000000000015"}"#,
+        "Ask { at: 1, question: Next(Task(TaskId { number: 21 })) }",
+    ),
+    (
+        r#"{"incarnation":18446744073709551615,"machine":"00000000-0000-0000-0000-00000000000a","ask":"next","at":1}"#,
+        "Ask { at: 1, question: Next(Machine(MachineId { number: 10 }, 18446744073709551615)) }",
+    ),
     (r#" { "ask" : "agree" } "#, "Agree"),
+    (r#"{"ask":"version"}"#, "Version"),
     (r#"{"renew":true}"#, "Renew"),
 ];
 

@@ -8,6 +8,7 @@ top a = a.top
 pub returns : goal.returns
 returns c =
     c.in_ok-with_pack.ensures.shape c.in_ok-pack.ensures.local ∙ ap₂ with_subcommand
+    (c.in_ok-with_list.ensures.shape c.in_ok-list.ensures.local ∙ ap₂ with_subcommand
     (c.in_ok-with_graph.ensures.shape c.in_ok-graph.ensures.local ∙ ap₂ with_subcommand
     (c.in_ok-with_follow.ensures.shape c.in_ok-follow.ensures.local ∙ ap₂ with_subcommand
     (c.in_ok-with_fleet.ensures.shape c.in_ok-fleet.ensures.local ∙ ap₂ with_subcommand
@@ -17,4 +18,5 @@ returns c =
     (ap top c.in_ok-fleet.ensures.app))
     (ap top c.in_ok-follow.ensures.app))
     (ap top c.in_ok-graph.ensures.app))
+    (ap top c.in_ok-list.ensures.app))
     (ap top c.in_ok-pack.ensures.app)

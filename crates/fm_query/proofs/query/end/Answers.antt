@@ -1,11 +1,11 @@
-use Rattle.std.proofs.Common.{◌≡◌, None, refl, inr, ap, ◌∙◌, length, vec_items}
+use Rattle.std.proofs.Common.{◌≡◌, None, refl, inl, inr, ap, ◌∙◌, length, vec_items}
 use Rattle.std.specs.Option.{IsSomeAnd}
 use Rattle.fm_query.specs.QueryTexts.{end_text}
 use Rattle.fm_query.proofs.Asking.{of_none, of_represented}
 use Rattle.fm_query.proofs.query.end.Goals as goal
 
 pub returns-in-None-clause-err : goal.returns-in-None-clause-err
-returns-in-None-clause-err g c = λ w h. inr (of_none c.args.world.now w c.args.at h (λ o. o ≡ None) c.in-None.ensures refl, refl)
+returns-in-None-clause-err g c = λ w h. inr (inl (of_none c.args.world.now w c.args.at h (λ o. o ≡ None) c.in-None.ensures refl, refl))
 
 pub returns-in_ok-end_text-in-Some-clause-ok : goal.returns-in_ok-end_text-in-Some-clause-ok
 returns-in_ok-end_text-in-Some-clause-ok g c = λ w h.

@@ -1,4 +1,4 @@
-use Rattle.std.proofs.Common.{◌≡◌, ℕ, List, None, refl, ◌∙◌, sym, ap, inr, subst, vec_items}
+use Rattle.std.proofs.Common.{◌≡◌, ℕ, List, None, refl, ◌∙◌, sym, ap, inl, inr, subst, vec_items}
 use Rattle.std.specs.Option.{IsSomeAnd}
 use Rattle.fm_records.specs.Table.{Table}
 use Rattle.fm_records.specs.Know.{table_of}
@@ -7,7 +7,7 @@ use Rattle.fm_query.proofs.Asking.{of_none, of_some}
 use Rattle.fm_query.proofs.query.reasons.Goals as goal
 
 pub returns-in-None-clause-err : goal.returns-in-None-clause-err
-returns-in-None-clause-err g c = λ w h. inr (of_none c.args.world.now w c.args.at h (λ o. o ≡ None) c.in-None.ensures refl, refl)
+returns-in-None-clause-err g c = λ w h. inr (inl (of_none c.args.world.now w c.args.at h (λ o. o ≡ None) c.in-None.ensures refl, refl))
 
 pub returns-in_ok-why_text-in-Some-clause-ok : goal.returns-in_ok-why_text-in-Some-clause-ok
 returns-in_ok-why_text-in-Some-clause-ok g c = λ w h.

@@ -1,4 +1,4 @@
-use Rattle.std.proofs.Common.{◌≡◌, None, IfOk, refl, inr, subst}
+use Rattle.std.proofs.Common.{◌≡◌, None, IfOk, refl, inl, inr, subst}
 use Rattle.std.specs.Option.{IsSomeAnd}
 use Rattle.fm_records.specs.Table.{Table}
 use Rattle.fm_net.specs.Network.{net_of}
@@ -7,7 +7,7 @@ use Rattle.fm_query.proofs.Asking.{of_none, of_some}
 use Rattle.fm_query.proofs.query.solution.Goals as goal
 
 pub returns-in-None-clause-err : goal.returns-in-None-clause-err
-returns-in-None-clause-err g c = λ w h. inr (of_none c.args.world.now w c.args.at h (λ o. o ≡ None) c.in-None.ensures refl, refl)
+returns-in-None-clause-err g c = λ w h. inr (inl (of_none c.args.world.now w c.args.at h (λ o. o ≡ None) c.in-None.ensures refl, refl))
 
 pub returns-in-Some-clause-ok : goal.returns-in-Some-clause-ok
 returns-in-Some-clause-ok g c = λ w h.

@@ -1,14 +1,15 @@
-use Rattle.std.proofs.Common.{◌≡◌, None, refl, inr, ap, ◌∙◌, vec_items}
+use Rattle.std.proofs.Common.{◌≡◌, None, refl, inl, inr, ap, ◌∙◌, vec_items}
 use Rattle.std.specs.Option.{IsSomeAnd}
 use Rattle.fm_records.specs.Know.{table_of}
 use Rattle.fm_query.specs.PlanText.{stops_text}
-use Rattle.fm_query.proofs.Asking.{of_none, of_some}
+use Rattle.fm_query.proofs.Asking.{of_none, of_represented}
 use Rattle.fm_query.proofs.query.stops.Goals as goal
 
 pub returns-in-None-clause-err : goal.returns-in-None-clause-err
-returns-in-None-clause-err g c = λ w h. inr (of_none c.args.world.now w c.args.at h (λ o. o ≡ None) c.in-None.ensures refl, refl)
+returns-in-None-clause-err g c = λ w h. inr (inl (of_none c.args.world.now w c.args.at h (λ o. o ≡ None) c.in-None.ensures refl, refl))
 
 pub returns-in_ok-stops_text-in-Some-clause-ok : goal.returns-in_ok-stops_text-in-Some-clause-ok
 returns-in_ok-stops_text-in-Some-clause-ok g c = λ w h.
-    of_some c.args.world.now w c.args.at h (λ o. IsSomeAnd o (λ r. c.into_bytes.result.items ≡ stops_text (table_of r.taken) c.args.at)) _ c.in-Some.ensures
-    (λ r same. ap vec_items c.into_bytes.ensures.value ∙ c.in_ok-stops_text-in-Some.ensures.ok ∙ ap (λ k. stops_text k c.args.at) (c.knowledge.ensures ∙ same))
+    of_represented c.args.world.now w c.args.at h (λ o. IsSomeAnd o (λ r. c.into_bytes.result.items ≡ stops_text (table_of r.taken) r.number)) _ c.in-Some.ensures
+    (λ r stands. ap vec_items c.into_bytes.ensures.value ∙ c.in_ok-stops_text-in-Some.ensures.ok
+    ∙ (λ i. stops_text ((c.knowledge.ensures ∙ stands.knowledge) i) ((c.number-number.ensures ∙ stands.number) i)))

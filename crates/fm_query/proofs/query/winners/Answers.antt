@@ -1,4 +1,4 @@
-use Rattle.std.proofs.Common.{◌≡◌, None, refl, inr, ap, ◌∙◌, vec_items}
+use Rattle.std.proofs.Common.{◌≡◌, None, refl, inl, inr, ap, ◌∙◌, vec_items}
 use Rattle.std.specs.Option.{IsSomeAnd}
 use Rattle.fm_query.specs.QueryTexts.{winners_of}
 use Rattle.fm_query.specs.WinnersText.{winners_text}
@@ -6,7 +6,7 @@ use Rattle.fm_query.proofs.Asking.{of_none, of_some}
 use Rattle.fm_query.proofs.query.winners.Goals as goal
 
 pub returns-in-None-clause-err : goal.returns-in-None-clause-err
-returns-in-None-clause-err g c = λ w h. inr (of_none c.args.world.now w c.args.at h (λ o. o ≡ None) c.in-None.ensures refl, refl)
+returns-in-None-clause-err g c = λ w h. inr (inl (of_none c.args.world.now w c.args.at h (λ o. o ≡ None) c.in-None.ensures refl, refl))
 
 pub returns-in_ok-winners_text-in-Some-clause-ok : goal.returns-in_ok-winners_text-in-Some-clause-ok
 returns-in_ok-winners_text-in-Some-clause-ok g c = λ w h.
