@@ -85,6 +85,9 @@ def guarded(program, folder):
 
 # what comes on standard input, with the answer's end
 UNKNOWN = b"00000000-0000-0000-0000-000000000077"
+JOB, TASK, MACHINE = (name.encode() for name in (hostile.JOB, hostile.TASK, hostile.MACHINE))
+LISTED = (b"job %s 1 1 false 500 800\n" % JOB, b"machine %s 2 - - closed - - 0 0 -\n" % MACHINE, b"task %s 0 pending - - - - over\n" % TASK)
+VERSION = (ROOT / "VERSION").read_bytes().strip()
 REFUSED = [
     b"x", b"", b"{", b"[1]", b"\xff", b"[" * 100000, b"\0" * (follower.MOST_LINE + 1), b'{"at":1,"tell":{}}', b'{"at":1,"tell":{"job":{"id":1%s}}}' % (b"0" * 5000),
     b'{"coordinators":[1]}', b'{"renew":true}', b'{"at":1,"news":true}', b'{"at":1,"news":true,"mine":true}', b'{"at":1,"trim":0}', b'{"at":1,"deliver":"p"}',
@@ -93,8 +96,21 @@ LINES = [
     *((line, b"refusal 16\n") for line in REFUSED), (b'{"at":1,"take":"46"}', b"refusal 6\n"), (b'{"at":2,"ask":"graph"}', b"refusal 8\n"),
     (b'{"at":1,"cut":{}}', b"0\nok\n"), (b'{"at":1,"ask":"winners"}', b"ok\n"), (b'{"ask":"agree"}', b"same\nok\n"),
     (b'{"at":1,"round":true}', b"ok\n"), (b'{"at":1,"ask":"stops"}', b"ok\n"), (b'{"at":1,"ask":"end"}', b"end 0 1\nok\n"),
+    *((b'{"at":1,"round":%s}' % share, b"ok\n") for share in (b"{}", b'{"writers":[1]}', b'{"each":2,"writers":[1,3]}')),
+    (b'{"at":1,"round":{"writers":[]}}', b"refusal 16\n"), (b'{"at":1,"round":{"each":0}}', b"refusal 16\n"),
+    (b'{"at":2,"round":{}}', b"refusal 8\n"), (b'{"at":1,"ask":"size"}', b"limit 1000000\nfirst 0\nnext 4\nok\n"), (b'{"at":1,"ask":"size","of":"jobs"}', b"refusal 16\n"),
     (b'{"at":1,"ask":"why","task":"%s"}' % UNKNOWN, b"task %s is not known\nok\n" % UNKNOWN),
-    (b'{"at":1,"ask":"why","task":"7"}', b"refusal 16\n")]
+    (b'{"at":1,"ask":"why","task":"7"}', b"refusal 16\n"),
+    # what graphs do not show: a job without tasks, a task without a spec, and a machine without a state
+    *((tell(1, {kind: hostile.OPERATIONS[kind]})[:-1], b"ok\n") for kind in ("job", "progress", "report")),
+    (b'{"at":1,"ask":"list"}', b"%s%s%sok\n" % LISTED), (b'{"at":1,"ask":"list","of":"jobs"}', b"%sok\n" % LISTED[0]),
+    (b'{"at":1,"ask":"list","of":"machines"}', b"%sok\n" % LISTED[1]), (b'{"at":1,"ask":"list","of":"tasks"}', b"%sok\n" % LISTED[2]),
+    (b'{"at":1,"ask":"list","of":"waiting"}', b"ok\n"), (b'{"at":1,"ask":"list","of":"held"}', b"refusal 16\n"),
+    (b'{"at":1,"ask":"next","job":"%s"}' % JOB, b"next 2\nok\n"), (b'{"at":1,"ask":"next","task":"%s"}' % TASK, b"next 1\nok\n"),
+    (b'{"at":1,"ask":"next","machine":"%s","incarnation":2}' % MACHINE, b"next 1\nok\n"),
+    (b'{"at":1,"ask":"next","machine":"%s"}' % MACHINE, b"refusal 16\n"), (b'{"at":2,"ask":"list"}', b"refusal 8\n"),
+    (b'{"at":2,"ask":"next","job":"%s"}' % JOB, b"refusal 8\n"), (b'{"ask":"version"}', b"firmament %s FDG1 FDG2\nok\n" % VERSION),
+    (b'{"ask":"version","at":1}', b"refusal 16\n"), (b'{"at":1,"ask":"end"}', b"end 0 7\nok\n")]
 
 
 def lines(program):
@@ -109,6 +125,26 @@ def lines(program):
     with running(program, [1], "--journal", "/dev/null/x") as (_, (bridge,)):
         said = bridge.run.wait(timeout=30), [said["event"] for said in bridge.events()]
         yield "a journal that cannot be", said == (16, ["failed"])
+
+
+def divided(program):
+    """Bridges that know the same have rounds of their own tasks at the same time: each task is started by its writer, and by nobody else."""
+    told = [{"spec": {**op["spec"], "writer": 1 + place % 3}} if "spec" in op else op for place, op in enumerate(cluster(15))]
+    writers = {op["spec"]["id"].encode(): op["spec"]["writer"] for op in told if "spec" in op}
+    with running(program, [1, 2, 3]) as (_, bridges):
+        parts = {number: [op for op in told if op.get("spec", {"writer": 1})["writer"] == number] for number in (1, 2, 3)}
+        yield "told", all([told_to([bridge], parts[bridge.number]) for bridge in bridges]) and agree(bridges, told)
+        answered = [bridge.count() + 1 for bridge in bridges]
+        for bridge in bridges:
+            bridge.write(b'{"at":%d,"round":{"writers":[%d]}}\n' % (bridge.number, bridge.number))
+        yield "rounds", all([bridge.wait_for(count) for bridge, count in zip(bridges, answered)])
+        asked = lambda topic: [bridge.ask({"at": bridge.number, "ask": topic}) for bridge in bridges]
+        yield "each task has one proposal", until(lambda: all(b"\nproposals 15\n" in size for size in asked("size")), pause=0.1)
+        (won,) = until(lambda: len(found := set(asked("winners"))) == 1 and found, pause=0.1) or (b"",)
+        lines = [line.split() for line in won.splitlines()[:-1]]
+        yield "that of its writer", {task: int(coordinator) for task, _, coordinator, *_ in lines} == writers
+        yield "and runs", [line[-1] for line in lines] == [b"held"] * 15 and set(asked("stops")) == {b"ok\n"}
+        yield "ended", ended(bridges)
 
 
 # parts of the bridge by themselves
@@ -142,6 +178,10 @@ def numbers(_program):
 def parts(program):
     """Numbers, claims, a mailbox that is full, and lines, by themselves."""
     yield from numbers(program)
+    asked = [line for line, end in LINES if b'"ask"' in line and end != b"refusal 16\n"]
+    yield "questions are known as such", {lines_of.kind_of(line) for line in asked} == {lines_of.Kind.QUESTION}
+    asked = [line for line, end in LINES if b'"round"' in line and end == b"ok\n"]
+    yield "%d rounds are known as such" % len(asked), {lines_of.kind_of(line) for line in asked} == {lines_of.Kind.ROUND}
     for name in ("a\0b", "\ud800", "+", "blue"):
         try:
             yield "a name of a cluster, %r" % name, settings.cluster_name(name) == "blue"
@@ -283,8 +323,8 @@ def skipped(_program):
     yield "a bridge without paho-mqtt", is_refused((done.returncode, done.stdout, done.stderr), 10, b"python3-paho-mqtt")
 
 
-GROUPS = {"parts": parts, "words": words, "lines": lines, **outlived.GROUPS, **operated.GROUPS, **relayed.GROUPS, "journals": journals, "signals": signals,
-          "secrets": secrets, "example": example, "skipped": skipped}
+GROUPS = {"parts": parts, "words": words, "lines": lines, "divided": divided, **outlived.GROUPS, **operated.GROUPS, **relayed.GROUPS,
+          "journals": journals, "signals": signals, "secrets": secrets, "example": example, "skipped": skipped}
 
 
 def all_tests(program, names=tuple(GROUPS), kills=KILLS):

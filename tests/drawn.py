@@ -1,14 +1,15 @@
 #!/usr/bin/env python3
 """Draws scripts of several coordinators, the same for the same seeds: `gossip`, in which they pass on what they know,
 `refused`, which has a step that is refused, `rounds`, `tells`, of tells alone, `contended`, of one, in which tasks contend for
-few slots, and `grouped`, in which one is told all and the others are given that in groups of neighbouring deltas, each in other
-groups.
+few slots, `shared`, in which rounds then carry out parts of plans, and `grouped`, in which one is told all and the others are given
+that in groups of neighbouring deltas, each in other groups.
 
     tests/drawn.py gossip SEED
     tests/drawn.py refused SEED KIND
     tests/drawn.py rounds SEED COORDINATORS
     tests/drawn.py tells SEED COORDINATORS STEPS
     tests/drawn.py contended SEED
+    tests/drawn.py shared SEED
     tests/drawn.py corners SEED
     tests/drawn.py grouped SEED
 
@@ -23,6 +24,7 @@ import uuid
 
 PHASES = ("pending", "running", "done")
 REFUSED = ("field", "turned", "beyond", "below and beyond", "let go", "sunk", "ahead", "unlisted", "unnamed", "later", "twice")
+PARTS = ({"writers": [1]}, {"writers": [2]}, {"each": 1}, {"writers": [2], "each": 1}, {"writers": [2, 1], "each": 1})
 NAMES = ("news", "what all know", "W\u00f6rter \u2192", 'a "quote"', "tab\tand \\", "7")
 
 
@@ -37,6 +39,14 @@ def prefer(chance, machines):
     machines = sorted(set(machines), key=lambda machine: uuid.UUID(machine).int)
     liked = sorted(chance.sample(machines, chance.randint(0, min(len(machines), 4))), key=machines.index)
     return {"prefer": [{"machine": machine, "credit": chance.choice((0, 10, 100, 400, 900, 10 ** 9))} for machine in liked]}
+
+
+def share(chance):
+    """What a round is asked for by: mostly true, and now and then only entries of some writers, or so many places on each machine."""
+    if chance.random() < 0.7:
+        return True
+    asked = {"writers": chance.sample(range(1, 5), chance.randint(1, 2)), "each": chance.choice((1, 1, 2, 2 ** 32 - 1))}
+    return {member: asked[member] for member in chance.choice(((), ("writers",), ("writers",), ("each",), ("each",), ("writers", "each")))}
 
 
 def operation(chance):
@@ -170,9 +180,20 @@ class Drawing:
                 self.add(at, "tell", {"propose": {"id": unique(task), "attempt": 0, "coordinator": at,
                                                   "machine": unique(self.chance.choice(hosts)), "incarnation": 1}})
 
+    def share(self):
+        """Rounds that carry out parts of plans, of tasks that two coordinators wrote, and between them a job that waits for more, or less."""
+        for step in self.steps:
+            if "spec" in step.get("tell", {}):
+                step["tell"]["spec"]["writer"] = self.chance.randint(1, 2)
+        jobs = [step["tell"]["job"] for step in self.steps if "job" in step["tell"]]
+        for version in range(2, 8):
+            self.add(self.numbers[0], "round", share(self.chance) if self.chance.random() < 0.3 else self.chance.choice(PARTS))
+            job = self.chance.choice(jobs)
+            self.add(self.numbers[0], "tell", {"job": {**job, "version": version, "wait": self.chance.choice((100, 500, 900, 3000))}})
+
     def rounds(self):
         for at in self.numbers * 2:
-            self.add(at, "round", True)
+            self.add(at, "round", share(self.chance))
 
     def text(self):
         return json.dumps({"coordinators": self.numbers, "steps": self.steps})
@@ -320,6 +341,14 @@ def contended(seed):
     return drawing.text()
 
 
+def shared(seed):
+    """Tasks that contend for slots and bandwidth, known to one coordinator, and rounds that carry out parts of plans."""
+    drawing = Drawing(seed, 1)
+    drawing.contend()
+    drawing.share()
+    return drawing.text()
+
+
 def corners(seed):
     """A script of one coordinator that is told of few tasks, machines and jobs, with costs and capacities at the corners."""
     chance = random.Random("corners %d" % seed)
@@ -349,5 +378,5 @@ def corners(seed):
 if __name__ == "__main__":
     kind, seed, *more = sys.argv[1:]
     kinds = {"gossip": gossip, "refused": refused, "rounds": lambda s, n: rounds(s, int(n)), "tells": lambda s, n, m: tells(s, int(n), int(m)),
-             "contended": contended, "corners": corners, "grouped": grouped}
+             "contended": contended, "shared": shared, "corners": corners, "grouped": grouped}
     print(kinds[kind](int(seed), *more))

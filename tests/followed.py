@@ -6,10 +6,11 @@ tests/reference.py.
 
 Which least flow is found is not said. So a solution, a plan and what a round placed are not foretold if an answer was seen:
 they are judged. A solution is a flow of the least cost that tests/witness.py finds; a plan is one that such a flow comes to, of
-which nothing needs to be listed; and of a round's plan each answer is worked out, and what was admitted is taken in. If
-nothing was seen, one answer that may come is made.
+which nothing needs to be listed; and of a round's plan, or of the part of it that the round is asked for, each answer is worked
+out, and what was admitted is taken in. If nothing was seen, one answer that may come is made.
 """
 import argparse
+import pathlib
 import re
 import sys
 
@@ -21,8 +22,11 @@ import witness
 
 RENEW_AFTER = 100000
 MOST_ENTRIES = 1000000
-TOPICS = "graph", "solve", "plan", "winners", "stops", "end"
-STRANGE, NO_PACKET, NOBODY = 16, 6, 8
+VERSION = (pathlib.Path(__file__).resolve().parent.parent / "VERSION").read_text().strip()
+TOPICS = "graph", "solve", "plan", "winners", "list", "stops", "end", "size"
+# the members that say whose next version or attempt is asked for
+SUBJECTS = {"job": {"job"}, "machine": {"machine", "incarnation"}, "task": {"task"}}
+STRANGE, NO_PACKET, NOBODY, VERSIONS_SPENT, ATTEMPTS_SPENT = 16, 6, 8, 14, 15
 END = re.compile(rb"ok\n|refusal [0-9]+\n")
 PLACE = re.compile(r"place (\S{36}) (\S{36}) ([0-9]+)(?: \S+)?")
 PREEMPT = re.compile(r"preempt (\S{36}) ([0-9]+)(?: \S+)?")
@@ -70,29 +74,42 @@ def request_in(line, names):
     if type(value) is dict and len(value) == 2 and strict.fits(value.get("at"), strict.U8):
         (kind, asked), = ((key, given) for key, given in value.items() if key != "at")
         request = at_one(value["at"], kind, asked, names)
-    if type(value) is dict and len(value) == 3 and strict.fits(value.get("at"), strict.U8):
-        request = of_three(value["at"], value)
+    if type(value) is dict and len(value) > 2 and strict.fits(value.get("at"), strict.U8):
+        request = of_more(value["at"], value)
     if request is None:
         raise Refused(STRANGE)
     return request
 
 
-def of_three(at, value):
-    """What a line with the number of a coordinator and two further members asks for, or None."""
-    if value.get("ask") == "why" and strict.fits(value.get("task"), "id"):
-        return "why", at, reference.number(strict.canonical(value["task"], "id"))
-    return ("own_news", at) if value.get("news") is True and value.get("mine") is True else None
+def of_more(at, value):
+    """What a line with the number of a coordinator and further members asks for, or None."""
+    members = value.keys() - {"at"}
+    if members == {"news", "mine"}:
+        return ("own_news", at) if value["news"] is value["mine"] is True else None
+    if members == {"ask", "of"} and value["ask"] == "list":
+        return ("listing", at, value["of"]) if value["of"] in reference.LISTED else None
+    if members == {"ask", "task"} and value["ask"] == "why":
+        return ("why", at, id_of(value["task"])) if strict.fits(value["task"], "id") else None
+    for kind, of in SUBJECTS.items():
+        if members == {"ask"} | of and value["ask"] == "next":
+            incarnation = value.get("incarnation", 0)
+            fine = strict.fits(value[kind], "id") and strict.fits(incarnation, strict.U64)
+            return ("next_one", at, kind, id_of(value[kind]), incarnation) if fine else None
+    return None
+
+
+def id_of(text):
+    """The number that an id in any of its forms spells."""
+    return reference.number(strict.canonical(text, "id"))
 
 
 def alone(kind, asked):
     """What a line of one member asks for, or None."""
     if kind == "coordinators":
-        numbers = asked if type(asked) is list else []
-        fine = numbers and all(type(n) is int and 1 <= n <= 64 for n in numbers) and len(set(numbers)) == len(numbers)
-        return ("open", numbers) if fine else None
+        return ("open", asked) if strict.are_numbers(asked) else None
     if kind == "renew":
         return ("renew",) if asked is True else None
-    return ("agree",) if kind == "ask" and asked == "agree" else None
+    return (asked,) if kind == "ask" and asked in ("agree", "version") else None
 
 
 def at_one(at, kind, asked, names):
@@ -146,15 +163,10 @@ def is_least_plan(known, places, preempts):
     """Whether some least flow comes to the plan. A task goes straight to a machine that it prefers, if there is such an arc: that
     costs no more than by its request, if it would take a seat."""
     nodes, arcs, cost, _ = network_of(known)
+    if not rounds.are_entries(known, places, preempts):
+        return False
     waiting = {node[1] for node in nodes if node[0] == 4 and known.holder(node[1]) is None}
     held = {node[1]: known.holder(node[1]) for node in nodes if node[0] == 4 and node[1] not in waiting}
-    if places != sorted(set(places)) or preempts != sorted(set(preempts)) or len({task for task, _, _ in places}) < len(places):
-        return False
-    if any(task not in waiting or not known.is_open(machine) or known.incarnations[machine] != incarnation
-           for task, machine, incarnation in places):
-        return False
-    if any(task not in held or known.attempt(task) != attempt for task, attempt in preempts):
-        return False
     units = flow_of(known, arcs, waiting, held, places, {task for task, _ in preempts})
     if units is None or any(many > arcs[ends][0] for ends, many in units.items()):
         return False
@@ -208,6 +220,16 @@ def plan_seen(known, seen):
     return found if found and is_least_plan(known, *found) else least_plan(known)
 
 
+def part_seen(known, share, seen):
+    """The part of a plan that the text says, if it is the share of what some least flow comes to, else another one."""
+    if share in (True, {}):
+        return plan_seen(known, seen)
+    nodes, arcs, cost, _ = network_of(known)
+    found = plan_in(seen)
+    is_one = found and rounds.is_least_part(known, nodes, arcs, cost, share, found)
+    return found if is_one else rounds.part_of(known, share, *least_plan(known))
+
+
 def plan_lines(plan):
     """The lines of a plan, without line feeds."""
     places, preempts = plan
@@ -247,6 +269,8 @@ class Stream:
         self.renew_after, self.world, self.entries, self.ends = renew_after, None, {}, {}
         # of each delta of a coordinator, whether it is its own, and how many of them were looked at for its own news
         self.are_own, self.own_ends = {}, {}
+        # of each coordinator that was asked, how many sets it had taken in then, and what it knew
+        self.views = {}
 
     def answer(self, line, seen=b""):
         """What is answered to the line: if several answers may come, the one that was seen, if it is one of them."""
@@ -265,13 +289,14 @@ class Stream:
         if kind == "take":
             # the digits are read before anybody is looked for
             asked[1] = packet_of(asked[1])
-        if kind in ("news", "own_news", "take", "ask", "why") and asked[0] not in self.world.coordinators:
+        if kind in ("news", "own_news", "take", "ask", "why", "listing", "next_one") and asked[0] not in self.world.coordinators:
             raise Refused(NOBODY)
         return getattr(self, kind)(*asked, *[seen] * (kind in ("ask", "why", "act"))) or ""
 
     def open(self, numbers):
         self.world = reference.World({"coordinators": numbers, "steps": []})
         self.entries, self.ends, self.own_ends = (dict.fromkeys(numbers, 0) for _ in range(3))
+        self.views = {}
         self.are_own = {number: [] for number in numbers}
 
     def renew(self):
@@ -287,7 +312,7 @@ class Stream:
         """What happens as in a script."""
         at = step["at"]
         if "round" in step and at in self.world.coordinators:
-            return self.round(at, seen)
+            return self.round(at, step["round"], seen)
         refused = self.world.act(**step)
         if refused:
             raise Refused(refused)
@@ -323,11 +348,10 @@ class Stream:
         # a packet of a renewal has the number 0, and no other
         self.are_own[at].append(packet.number == 0)
 
-    def round(self, at, seen):
-        """A round: the plan that the text says, if it may be made, with what is admitted of it."""
+    def round(self, at, share, seen):
+        """A round: the part of a plan that the text says, if it may be made, with what is admitted of it."""
         coordinator = self.world.coordinators[at]
-        known = reference.Known(coordinator.taken)
-        plan = plan_seen(known, seen)
+        plan = part_seen(self.known(at), share, seen)
         admission = rounds.Admission(reference.Known, reference.name, frozenset(coordinator.taken), at)
         answers = sum(admission.plan(*plan), [])
         coordinator.take(admission.added)
@@ -335,8 +359,15 @@ class Stream:
         self.are_own[at].append(True)
         return "".join("%s %s\n" % line for line in zip(plan_lines(plan), answers))
 
+    def known(self, at):
+        """What the coordinator knows: worked out when it is asked first after it took something in."""
+        coordinator = self.world.coordinators[at]
+        if at not in self.views or self.views[at][0] < len(coordinator.sets):
+            self.views[at] = len(coordinator.sets), reference.Known(coordinator.taken)
+        return self.views[at][1]
+
     def ask(self, at, topic, seen):
-        known = reference.Known(self.world.coordinators[at].taken)
+        known = self.known(at)
         if topic == "solve":
             return solution(known, seen)
         if topic == "plan":
@@ -345,15 +376,37 @@ class Stream:
             return "".join(stops(known, at))
         if topic == "end":
             return "end %d %d\n" % (self.world.coordinators[at].floor, len(self.world.coordinators[at].sets))
-        return "".join({"graph": reference.graph, "winners": reference.winners}[topic](known))
+        if topic == "size":
+            return self.size(at, known)
+        return "".join({"graph": reference.graph, "winners": reference.winners, "list": reference.listing}[topic](known))
+
+    def size(self, at, known):
+        """How much the coordinator knows, and what it keeps of how it came to know it."""
+        coordinator = self.world.coordinators[at]
+        kept = {"entries": self.entries[at], "limit": MOST_ENTRIES, "first": coordinator.floor, "next": len(coordinator.sets)}
+        return "".join("%s %d\n" % line for line in {**reference.sizes(known), **kept}.items())
 
     def why(self, at, task, seen):
         """Why the task waits or runs: the text that was seen, if it may be said."""
-        found = reasons.texts_by_flows(reference.Known(self.world.coordinators[at].taken), task)
+        found = reasons.texts_by_flows(self.known(at), task)
         return seen if any(reasons.is_said(seen, said) for said in found) else found[0].text
+
+    def listing(self, at, of):
+        """The lines of the records of a kind that the coordinator knows."""
+        return "".join(reference.listing(self.known(at), of))
+
+    def next_one(self, at, kind, of, incarnation):
+        """The next version or attempt of what is named, if there is a greater one."""
+        number = reference.next_number(self.known(at), kind, of, incarnation)
+        if number > (strict.U32 if kind == "task" else strict.U64):
+            raise Refused(ATTEMPTS_SPENT if kind == "task" else VERSIONS_SPENT)
+        return "next %d\n" % number
 
     def agree(self):
         return reference.agree(self.world)[1]
+
+    def version(self):
+        return "firmament %s FDG1 FDG2\n" % VERSION
 
 
 def foretold(text, renew_after=RENEW_AFTER):

@@ -97,6 +97,12 @@ class Draw:
             if self.odds() < 0.3:
                 yield {"propose": {"id": task, "attempt": 0, "coordinator": 1, "machine": self.one_of(machines), "incarnation": 1}}
 
+    def record(self, at):
+        """A line that asks for a list of a kind, or for what is next."""
+        return self.one_of(({"at": at, "ask": "list", "of": self.one_of(reference.LISTED)}, {"at": at, "ask": "next", "job": self.id(1)},
+                            {"at": at, "ask": "next", "machine": self.id(2), "incarnation": self.one_of((1, 1, 1, self.whole(64)))},
+                            {"at": at, "ask": "next", "task": self.id(3)}))
+
     # scripts
 
     def script(self):
@@ -120,7 +126,20 @@ class Draw:
         for _ in range(self.one_of((2, 3, 3))):
             for _ in range(self.one_of((1, 1, 1, 2))):
                 yield {"at": at, "tell": self.operation()}
-            yield {"at": at, "round": True}
+            yield {"at": at, "round": self.share()}
+
+    def share(self):
+        """What a round is asked for by: mostly all of a plan, and seldom what is none."""
+        if self.odds() < 0.65:
+            return True
+        asked = {}
+        if self.odds() < 0.6:
+            asked["writers"] = self.chance.sample(range(1, 65 if self.odds() < 0.3 else 4), self.one_of((1, 1, 2, 3)))
+        if self.odds() < 0.5:
+            asked["each"] = self.one_of((1, 1, 1, 2, 3, 2 ** 32 - 1))
+        if self.odds() < 0.03:
+            asked[self.one_of(("writers", "each", "more"))] = self.one_of(([], [1, 1], [0], [65], 0, 2 ** 32, True, None, {}))
+        return asked
 
     def act(self, end, names):
         draw = self.odds()
@@ -137,7 +156,7 @@ class Draw:
             return {"cut": cut}
         if draw < 0.95:
             return {"trim": self.chance.randint(0, end // 2 + (self.odds() < 0.1))}
-        return {"round": True}
+        return {"round": self.share()}
 
     def spoiled(self, tree):
         """The tree with a change at some place."""
@@ -154,7 +173,7 @@ class Draw:
         elif draw < 0.7:
             holder.pop(key) if isinstance(holder, dict) else holder.insert(key, holder[key])
         elif draw < 0.85 and isinstance(holder, dict):
-            holder[self.one_of(("at", "name", "from", "to", "extra", "tell", "id", "steps", "job"))] = self.leaf()
+            holder[self.one_of(("at", "name", "from", "to", "extra", "tell", "id", "steps", "job", "each", "writers"))] = self.leaf()
         elif isinstance(holder[key], str):
             holder[key] = self.bent(holder[key])
         else:
@@ -242,8 +261,10 @@ class Draw:
             return ["graph"] + at, text
         if draw < 0.5:
             return ["solve"] + at, text
-        if draw < 0.7:
+        if draw < 0.6:
             return ["winners"] + at, text
+        if draw < 0.7:
+            return ["list"] + at, text
         if draw < 0.8:
             return ["agree"], text
         return ["pack", "--", self.one_of(names if names and self.odds() < 0.9 else NAMES)], text
@@ -257,10 +278,12 @@ class Draw:
         first = script["coordinators"][0]
         yield {"coordinators": script["coordinators"]}
         for step in script["steps"]:
-            is_look = step == {"at": first, "round": True} and self.odds() < 0.8
+            is_look = step["at"] == first and "round" in step and self.odds() < 0.8
             yield {"at": first, "ask": "graph"} if is_look else step
             if self.odds() < 0.1:
                 yield {"at": self.one_of(script["coordinators"]), "ask": self.one_of(followed.TOPICS)}
+            if self.odds() < 0.1:
+                yield self.record(self.one_of(script["coordinators"]))
 
     def stream_case(self):
         lines = list(self.stream())

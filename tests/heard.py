@@ -4,7 +4,7 @@ import json
 import re
 
 BARE = ("agree", "unpack")
-QUESTIONS = ("graph", "solve", "plan", "winners")
+QUESTIONS = ("graph", "solve", "plan", "winners", "list")
 # the option of a command with its least and its most number, and the number of one that is left out
 NUMBERED = {"fleet": ("rounds", 0, 1000), "follow": ("renew-after", 1, 1000000), **dict.fromkeys(QUESTIONS, ("at", 0, 255))}
 LEFT_OUT = {"fleet": 0, "follow": 100000, **dict.fromkeys(QUESTIONS)}

@@ -63,7 +63,9 @@ def numbers(program):
     for answer, places in ((STRANGER, "0 2 65 255"), (BROKEN_STEP, '256 -1 1.0 "1" true null [1] {}')):
         for at in places.split():
             yield "at " + at, seen(program, ["agree"], script(tell("job", at=7077)).replace(b"7077", at.encode())) == answer
-    for step, number in (({"trim": -1}, 16), ({"trim": 2 ** 64}, 16), ({"trim": 2 ** 64 - 1}, 4), ({"round": False}, 16),
+    for step, number in (({"trim": -1}, 16), ({"trim": 2 ** 64}, 16), ({"trim": 2 ** 64 - 1}, 4), ({"round": False}, 16), ({"round": {"each": 0}}, 16), ({"round": {"each": 2 ** 32}}, 16), ({"round": {"each": 2 ** 64}}, 16),
+                         ({"round": {"writers": [0]}}, 16), ({"round": {"writers": [65]}}, 16), ({"round": {"writers": [*range(1, 65), 1]}}, 16),
+                         ({"round": {"writers": [1] * 100000}}, 16), ({"round": {"writers": [*range(100000)]}}, 16),
                          ({"cut": {"name": "a", "from": -1, "to": 0}}, 16), ({"cut": {"name": "a", "from": 0, "to": 2 ** 64}}, 16),
                          ({"cut": {"name": "a", "from": 0, "to": 2 ** 64 - 1}}, 4)):
         refused = (3, b"", b"firmament: refusal %d at step 1\n" % number)

@@ -40,6 +40,14 @@ def explains(numbers, tasks=(TASK, drawn.unique(21), drawn.unique(24))):
     return [{"at": at, "ask": "why", "task": task} for at in numbers for task in tasks]
 
 
+def records(numbers, tasks=(TASK, drawn.unique(21), drawn.unique(24))):
+    """Lists of a kind, and what is next."""
+    subjects = [{"job": JOB}, {"job": drawn.unique(2)}, *({"machine": machine, "incarnation": incarnation} for incarnation in range(1, 3)
+                                                           for machine in (MACHINE, drawn.unique(11)))]
+    return [{"at": at, "ask": "list", "of": kind} for at in numbers for kind in reference.LISTED] + [
+        {"at": at, "ask": "next", **subject} for at in numbers for subject in (*subjects, *({"task": task} for task in tasks))]
+
+
 def seen(program, text, *words, **how):
     """The status of a run on a text, and what it wrote."""
     how = how if "stdin" in how else {"input": text, **how}
@@ -94,8 +102,10 @@ def every_kind():
         {"at": 1, "round": True}, {"at": 2, "deliver": "some"}, {"at": 1, "cut": {}}, tell("report", at=2, incarnation=1, used=40),
         {"at": 2, "take": reference.packed(packet)[1].strip()}, b"{", tell("progress", attempt=1), {"at": 1, "news": True},
         {"at": 1, **OWN_NEWS}, {"at": 2, **OWN_NEWS}, {"at": 2, **OWN_NEWS},
-        {"at": 1, "trim": 4}, {"at": 2, "round": True}, tell("propose", at=2, attempt=1), *asks([2]), *explains([2]), {"renew": True},
-        {"at": 1, "round": True}, {"at": 2, "news": True}, {"at": 2, "deliver": "some"}, *asks([1]),
+        {"at": 1, "trim": 4}, {"at": 2, "round": {"writers": [1, 2], "each": 1}}, {"at": 2, "round": True}, tell("propose", at=2, attempt=1),
+        *asks([2]), *explains([2]), *records([2]), {"renew": True},
+        {"at": 1, "round": {}}, {"at": 2, "news": True}, {"at": 2, "deliver": "some"}, {"at": 1, "round": {"each": 0}},
+        *asks([1]), {"ask": "version"},
         *explains([1], [TASK, TASK[:-1] + "2", TASK[:-1] + "3", JOB]))
 
 
@@ -115,10 +125,11 @@ class Weaver:
 
     def between(self, at):
         """Such a line at the coordinator."""
-        kind = self.chance.choices(("news", "mine", "cut", "agree", "renew", "round", "take", "ask", "why"), (6, 6, 3, 3, 1, 1, 6, 12, 6))[0]
+        kind = self.chance.choices(("news", "mine", "cut", "agree", "renew", "round", "take", "ask", "why", "of", "version"), (6, 6, 3, 3, 1, 1, 6, 12, 6, 12, 1))[0]
         return {"agree": {"ask": "agree"}, "renew": {"renew": True}, "cut": {"at": at, "cut": {}},
-                "mine": {"at": at, **OWN_NEWS}, "take": {"at": at, "take": self.chance.choice(self.packets)},
+                "mine": {"at": at, **OWN_NEWS}, "round": {"at": at, "round": drawn.share(self.chance)}, "take": {"at": at, "take": self.chance.choice(self.packets)},
                 "ask": {"at": at, "ask": self.chance.choice(followed.TOPICS)},
+                "version": {"ask": "version"}, "of": self.chance.choice(records([at])),
                 "why": self.chance.choice(explains([at]))}.get(kind, {"at": at, kind: True})
 
 

@@ -79,10 +79,20 @@ def texts(known, task, facts_of):
     if task not in known.specs:
         return [Said("task %s is not known\n" % name)]
     if not known.is_live(task):
-        return [Said("task %s is not live: it is withdrawn or done, or its job is withdrawn or not known\n" % name)]
+        return [Said("task %s is not live: %s\n" % (name, why_not_live(known, task)))]
     if known.holder(task) is not None:
         return [Said("task %s is held by machine %s\n" % (name, reference.name(known.holder(task))))]
     return list(texts_of_facts(facts_of(task), len(known.incarnations)).values())
+
+
+def why_not_live(known, task):
+    """Why a task whose spec is known is not live: the first cause that holds."""
+    _, _, is_withdrawn, job, _, _ = known.specs[task]
+    if is_withdrawn:
+        return "it is withdrawn"
+    if reference.PHASES[known.progress[task][1]] == "done":
+        return "it is done"
+    return "its job is withdrawn" if job in known.jobs else "its job is not known"
 
 
 def is_said(text, said):

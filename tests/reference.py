@@ -1,10 +1,11 @@
 #!/usr/bin/env python3
-"""What `firmament graph`, `winners`, `agree`, `pack` and `unpack` are to print, worked out by the rules alone, slowly and in
+"""What `firmament graph`, `winners`, `list`, `agree`, `pack` and `unpack` are to print, worked out by the rules alone, slowly and in
 another way: a coordinator is the set of all operations that it took in, a packet is the set of those that it stands for, and
 every record is the greatest of all that a set tells, found by going over all of them.
 
     tests/reference.py graph [--at N] < SCRIPT
     tests/reference.py winners [--at N] < SCRIPT
+    tests/reference.py list [--at N] < SCRIPT
     tests/reference.py agree < SCRIPT
     tests/reference.py pack NAME < SCRIPT
     tests/reference.py unpack < DIGITS
@@ -28,6 +29,8 @@ import strict
 MOST_ANSWERS = 64
 
 PHASES = ["pending", "running", "done"]
+# what a list may be of, if not of all records
+LISTED = ("jobs", "machines", "tasks", "waiting")
 
 LIMITS = {"writer": (1, 64), "coordinator": (1, 64), "wait": (0, 10 ** 9), "preempt": (0, 10 ** 9), "request": (0, 10 ** 6),
           "slots": (1, 1000), "nic": (0, 10 ** 6), "used": (0, 10 ** 9)}
@@ -44,6 +47,7 @@ class NotSaid(Exception):
     """The rules leave open what comes of the script."""
 
 
+@functools.lru_cache(1 << 16)
 def number(text):
     return uuid.UUID(text).int
 
@@ -223,7 +227,7 @@ class World:
     def round(self, at, asked):
         taken = frozenset(self.coordinators[at].taken)
         try:
-            found = rounds.outcomes(Known, name, network(Known(taken)), taken, at)
+            found = rounds.outcomes(Known, name, network(Known(taken)), taken, at, asked)
         except rounds.TooMany:
             raise NotSaid("a round has too many flows to go over")
         self.coordinators[at].take(self.choices.pick(found))
@@ -235,6 +239,80 @@ def winners(known):
             coordinator, machine, incarnation = known.winners[task, attempt]
             held = "free" if known.holder(task) is None else "held"
             yield "%s %d %d %s %d %s\n" % (name(task), attempt, coordinator, name(machine), incarnation, held)
+
+
+def listing(known, of=None):
+    """The lines of a list: of one of LISTED, or of jobs, then machines, then tasks."""
+    if of in (None, "jobs"):
+        yield from (job_record(known, job)[0] for job in sorted(known.jobs))
+    if of in (None, "machines"):
+        held = requests_held(known)
+        yield from (machine_line(known, machine, held[machine]) for machine in sorted(known.incarnations))
+    for task in () if of in ("jobs", "machines") else sorted(known.progress):
+        state = state_of(known, task)
+        if of != "waiting" or state == "waiting":
+            yield task_line(known, task, state)
+
+
+def requests_held(known):
+    """The requests of the tasks that each machine holds."""
+    held = collections.defaultdict(list)
+    for task in known.specs:
+        held[known.holder(task)].append(known.specs[task][4])
+    return held
+
+
+def load_of(known, machine, requests):
+    """The load of an open machine that holds tasks of these requests."""
+    return max(known.reports.get(machine, (0, 0))[1], sum(requests))
+
+
+def machine_line(known, machine, requests):
+    """The line of a machine that holds tasks of these requests: what is not known of it is `-`, and one that is closed has no load, and
+    nothing to spare."""
+    version, writer, is_up, slots, nic = known.states.get(machine, ("-", "-", False, "-", "-"))
+    load = load_of(known, machine, requests) if is_up else 0
+    spare = nic - load if is_up and load <= nic else "-"
+    state = version, writer, "open" if is_up else "closed", slots, nic
+    return "machine %s %d %s %s %s %s %s %d %d %s\n" % (name(machine), known.incarnations[machine], *state, len(requests), load, spare)
+
+
+def sizes(known):
+    """How much is known, by name, in the order in which it is said."""
+    tasks = collections.Counter(state_of(known, task).split()[0] for task in known.progress)
+    held, opened = requests_held(known), [machine for machine in known.incarnations if known.is_open(machine)]
+    loads = [(known.states[machine][4], load_of(known, machine, held[machine])) for machine in opened]
+    return {"jobs": len(known.jobs), "machines": len(known.incarnations), "tasks": len(known.progress), "proposals": len(known.spots),
+            **{state: tasks[state] for state in ("waiting", "held", "over")},
+            "open": len(opened), "closed": len(known.incarnations) - len(opened),
+            "requested": sum(sum(held[machine]) for machine in opened),
+            "reported": sum(known.reports[machine][1] for machine in opened if machine in known.reports),
+            "spare": sum(max(0, nic - load) for nic, load in loads)}
+
+
+def state_of(known, task):
+    """Where a task is."""
+    holder = known.holder(task)
+    return "over" if not known.is_live(task) else "waiting" if holder is None else "held " + name(holder)
+
+
+def task_line(known, task, state):
+    """The line of a task that is there: what is not known of it is `-`."""
+    attempt, phase = known.progress[task]
+    version, writer, _, job, request, _ = known.specs.get(task, ("-", "-", None, None, "-", None))
+    job = "-" if job is None else name(job)
+    return "task %s %d %s %s %s %s %s %s\n" % (name(task), attempt, PHASES[phase], version, writer, job, request, state)
+
+
+def next_number(known, kind, of, incarnation=None):
+    """The version of the next operation on a job, or on a machine at the incarnation; the next attempt of a task. It may be one more than
+    there can be."""
+    if kind == "job":
+        return known.jobs[of][0] + 1 if of in known.jobs else 1
+    if kind == "machine":
+        is_present = of in known.states and known.incarnations[of] == incarnation
+        return known.states[of][0] + 1 if is_present else 1
+    return known.attempt(of) + 1
 
 
 def network(known):
@@ -457,7 +535,7 @@ def read_raw(spelled):
 def parser():
     found = argparse.ArgumentParser(description=__doc__, formatter_class=argparse.RawDescriptionHelpFormatter)
     commands = found.add_subparsers(dest="command", required=True)
-    for command in ("graph", "winners"):
+    for command in ("graph", "winners", "list"):
         commands.add_parser(command).add_argument("--at", type=int)
     commands.add_parser("agree")
     commands.add_parser("pack").add_argument("name")
@@ -484,7 +562,7 @@ def asked(words, text, choices):
         if words.name not in world.packets:
             raise Refused(9)
         return 0, packed(world.packets[words.name])[1]
-    return 0, "".join({"graph": graph, "winners": winners}[words.command](Known(world.coordinators[at].taken)))
+    return 0, "".join({"graph": graph, "winners": winners, "list": listing}[words.command](Known(world.coordinators[at].taken)))
 
 
 def one_answer(words, text, choices):

@@ -1,11 +1,18 @@
 """Runs of the program on steps that have names, with all that each writes and says, by name, for tests/run: what is wanted was
 worked out by hand. In some the program reads and writes a few bytes at a time, or fails to:
 tests/narrow.c intercepts the C library then. In all texts here `..` stands for the zeros with which an id begins.
+
+The lists and sizes of drawn lives, and next versions and attempts in them, are those that tests/reference.py and tests/followed.py work out.
 """
 import itertools
+import json
+import random
 import re
 import tempfile
 
+import drawn
+import followed
+import reference
 import refusing
 
 ZEROS = "00000000-0000-0000-0000-000000000"
@@ -28,6 +35,9 @@ STEPS = {
     "Used0": '{"at":1,"tell":{"report":{"id":"..00a","incarnation":1,"number":2,"used":0}}}',
     "Used40": '{"at":1,"tell":{"report":{"id":"..00a","incarnation":1,"number":1,"used":40}}}',
     "Used1001": '{"at":1,"tell":{"report":{"id":"..00a","incarnation":1,"number":4,"used":1001}}}',
+    "JGone": '{"at":1,"tell":{"job":{"id":"..001","version":3,"writer":2,"withdrawn":true,"wait":500,"preempt":800}}}',
+    "ADown": '{"at":1,"tell":{"machine":{"id":"..00a","incarnation":1,"version":4,"writer":2,"up":false,"slots":3,"nic":900}}}',
+    "TGone": '{"at":1,"tell":{"spec":{"id":"..011","version":2,"writer":3,"withdrawn":true,"job":"..001","request":100}}}',
     "Lost": '{"at":1,"tell":{"report":{"id":"..00a","incarnation":2,"number":1,"used":0}}}',
     "NoSlots": '{"at":1,"tell":{"machine":{"id":"..00a","incarnation":1,"version":1,"writer":1,"up":true,"slots":0,"nic":1000001}}}',
     "MostWait": '{"at":1,"tell":{"job":{"id":"..001","version":1,"writer":64,"withdrawn":false,"wait":1000000000,"preempt":0}}}',
@@ -65,6 +75,19 @@ STEPS = {
     "Trim2": '{"at":1,"trim":2}',
     "Trim9": '{"at":1,"trim":9}',
     "Round": '{"at":1,"round":true}',
+    "RoundOf1": '{"at":1,"round":{"writers":[1]}}',
+    "RoundOf2": '{"at":1,"round":{"writers":[2]}}',
+    "RoundOfBoth": '{"at":1,"round":{"writers":[2,1]}}',
+    "RoundOfNobody": '{"at":1,"round":{"writers":[3,64]}}',
+    "RoundOfOneEach": '{"at":1,"round":{"each":1}}',
+    "RoundOf2OneEach": '{"at":1,"round":{"each":1,"writers":[2]}}',
+    "RoundOfBothOneEach": '{"at":1,"round":{"writers":[1,2],"each":1}}',
+    "RoundOfAll": '{"at":1,"round":{}}',
+    "RoundOfNone": '{"at":1,"round":{"writers":[]}}',
+    "UBy2": '{"at":1,"tell":{"spec":{"id":"..012","version":1,"writer":2,"withdrawn":false,"job":"..001","request":300}}}',
+    "VBy2": '{"at":1,"tell":{"spec":{"id":"..013","version":1,"writer":2,"withdrawn":false,"job":"..002","request":100}}}',
+    "JUrgent": '{"at":1,"tell":{"job":{"id":"..002","version":1,"writer":2,"withdrawn":false,"wait":10000,"preempt":20000}}}',
+    "TBy2": '{"at":1,"tell":{"spec":{"id":"..011","version":1,"writer":2,"withdrawn":false,"job":"..001","request":100}}}',
     "Strange": '{"at":1}',
 }
 NOTHING = "c 1 S\np min 1 0\n"
@@ -206,7 +229,11 @@ task ..011 waits: no machine has room for its request of 100
 this schedule costs 500, and none costs less
 room for its request of 100 on 0 of 1 machines that are known
 """ + THEORY
-NOT_LIVE = "task ..011 is not live: it is withdrawn or done, or its job is withdrawn or not known\n"
+NOT_LIVE = "task ..011 is not live: "
+JOB_LINE, MACHINE_LINE = "job ..001 1 1 false 500 800\n", "machine ..00a 1 1 1 open 2 1000 0 0 1000\n"
+HOLDER_LINE, LOST_LINE = "machine ..00a 1 1 1 open 2 1000 1 100 900\n", "machine ..00a 2 - - closed - - 0 0 -\n"
+WAITING_LINE, HELD_LINE, OVER_LINE = ("task ..011 0 pending 1 1 ..001 100 %s\n" % state for state in ("waiting", "held ..00a", "over"))
+LISTED = JOB_LINE + MACHINE_LINE + WAITING_LINE
 # runs at coordinator 1: the words, the steps by name, the status, what is written, and the text for standard error
 RUNS = [
     ("graph", "", 0, NOTHING, ""),
@@ -232,6 +259,27 @@ RUNS = [
     ("winners --at 1", "J A T OnA", 0, "..011 0 1 ..00a 1 held\n", ""),
     ("winners", "J A T OnA Lost", 0, "..011 0 1 ..00a 1 free\n", ""),
     ("winners", "J A T OnA TAgain", 0, "", ""),
+    ("winners", "J A T UBy2 Round", 0, "..011 0 1 ..00a 1 held\n..012 0 1 ..00a 1 held\n", ""),
+    ("winners", "J A T UBy2 RoundOfAll", 0, "..011 0 1 ..00a 1 held\n..012 0 1 ..00a 1 held\n", ""),
+    ("winners", "J A T UBy2 RoundOfBoth", 0, "..011 0 1 ..00a 1 held\n..012 0 1 ..00a 1 held\n", ""),
+    ("winners", "J A T UBy2 RoundOf1", 0, "..011 0 1 ..00a 1 held\n", ""),
+    ("winners", "J A T UBy2 RoundOf2", 0, "..012 0 1 ..00a 1 held\n", ""),
+    ("winners", "J A T UBy2 RoundOf2 RoundOf1", 0, "..011 0 1 ..00a 1 held\n..012 0 1 ..00a 1 held\n", ""),
+    ("winners", "J A T UBy2 RoundOfNobody", 0, "", ""),
+    ("winners", "J A T UBy2 RoundOfOneEach", 0, "..011 0 1 ..00a 1 held\n", ""),
+    ("winners", "J A T UBy2 RoundOf2OneEach", 0, "..012 0 1 ..00a 1 held\n", ""),
+    ("winners", "J A T UBy2 RoundOfBothOneEach", 0, "..011 0 1 ..00a 1 held\n", ""),
+    # of two who tell a version of the spec the greater one wrote it
+    ("winners", "J A T TBy2 RoundOf1", 0, "", ""),
+    ("winners", "J A TBy2 T RoundOf2", 0, "..011 0 1 ..00a 1 held\n", ""),
+    # a task on the only slot is to go for one that is dearer: a preempt is made in a round of the task's writer alone
+    ("winners", "JPreempt80 AOneSlot T OnA JUrgent VBy2 RoundOf2", 0, "..011 0 1 ..00a 1 held\n", ""),
+    ("winners", "JPreempt80 AOneSlot T OnA JUrgent VBy2 RoundOf1", 0, "", ""),
+    ("winners", "JPreempt80 AOneSlot T OnA JUrgent VBy2 RoundOfOneEach", 0, "", ""),
+    ("winners", "JPreempt80 AOneSlot T OnA JUrgent VBy2 RoundOf1 RoundOf1", 0, "", ""),
+    ("winners", "JPreempt80 AOneSlot T OnA JUrgent VBy2 RoundOf1 RoundOf2", 0, "..013 0 1 ..00a 1 held\n", ""),
+    ("winners", "J A T RoundOfNone NoSlots", 3, "", "firmament: refusal 16 at step 4\n"),
+    ("winners", "NoSlots RoundOfNone", 3, "", "firmament: refusal 16 at step 2\n"),
     ("winners", "OnA", 0, "..011 0 1 ..00a 1 free\n", ""),
     ("winners", "J A B T OnB", 0, "..011 0 2 ..00b 1 held\n", ""),
     ("winners", "J A B T OnB OnA", 0, "..011 0 1 ..00a 1 held\n", ""),
@@ -245,8 +293,15 @@ RUNS = [
     ("why ..011", "MostWait A T Used950", 0, BANDWIDTH_WANTED, ""),
     ("why ..011", "J A T OnA Lost", 0, NO_ROOM, ""),
     ("why ..011", "J A T OnA", 0, "task ..011 is held by machine ..00a\n", ""),
-    ("why ..011", "J A T TDone", 0, NOT_LIVE, ""),
-    ("why ..011", "A T", 0, NOT_LIVE, ""),
+    ("why ..011", "J A T TDone", 0, NOT_LIVE + "it is done\n", ""),
+    ("why ..011", "A T", 0, NOT_LIVE + "its job is not known\n", ""),
+    ("why ..011", "A T TDone", 0, NOT_LIVE + "it is done\n", ""),
+    ("why ..011", "A T JGone", 0, NOT_LIVE + "its job is withdrawn\n", ""),
+    ("why ..011", "A T JGone TDone", 0, NOT_LIVE + "it is done\n", ""),
+    ("why ..011", "A T JGone TDone TGone", 0, NOT_LIVE + "it is withdrawn\n", ""),
+    ("why ..011", "A T TGone", 0, NOT_LIVE + "it is withdrawn\n", ""),
+    ("why ..011", "J A T TGone OnA", 0, NOT_LIVE + "it is withdrawn\n", ""),
+    ("why ..011", "J A TDone OnA", 0, "task ..011 is not known\n", ""),
     ("why ..012", "J A T", 0, "task ..012 is not known\n", ""),
     ("why ..011", "J NoSlots A", 3, "", "firmament: refusal 2 at step 2\n"),
     ("why 11", "J A T", 2, "", "error: a task is named by its id, a UUID\n"),
@@ -266,6 +321,35 @@ RUNS = [
     ("grapf", "", 2, "",
      "error: unrecognized subcommand 'grapf'\n\n  tip: a similar subcommand exists: 'graph'\n\nUsage: firmament <COMMAND>\n\nFor more in"
      "formation, try '--help'.\n"),
+    ("list", "", 0, "", ""),
+    ("list", "J A T", 0, LISTED, ""),
+    ("list --at 1", "T J A J T A", 0, LISTED, ""),
+    ("list --at=1", "J A T OnA", 0, JOB_LINE + HOLDER_LINE + HELD_LINE, ""),
+    ("list", "J A T OnA Used40", 0, JOB_LINE + HOLDER_LINE + HELD_LINE, ""),
+    ("list", "J A T OnA Used950", 0, JOB_LINE + "machine ..00a 1 1 1 open 2 1000 1 950 50\n" + HELD_LINE, ""),
+    ("list", "J A T OnA Used1001", 0, JOB_LINE + "machine ..00a 1 1 1 open 2 1000 1 1001 -\n" + HELD_LINE, ""),
+    ("list", "J A T0 OnA", 0, JOB_LINE + "machine ..00a 1 1 1 open 2 1000 1 0 1000\ntask ..011 0 pending 1 1 ..001 0 held ..00a\n", ""),
+    ("list", "J A T600 U500 OnA", 0,
+     JOB_LINE + "machine ..00a 1 1 1 open 2 1000 1 600 400\ntask ..011 0 pending 1 1 ..001 600 held ..00a\n"
+     "task ..012 0 pending 1 1 ..001 500 waiting\n", ""),
+    ("list", "J A T OnA Lost", 0, JOB_LINE + LOST_LINE + WAITING_LINE, ""),
+    ("list", "J A T OnA ADown Used40", 0, JOB_LINE + "machine ..00a 1 4 2 closed 3 900 0 0 -\n" + WAITING_LINE, ""),
+    ("list", "J B A", 0, JOB_LINE + MACHINE_LINE + "machine ..00b 1 1 1 open 2 1000 0 0 1000\n", ""),
+    ("list", "J A T OnA TAgain", 0, JOB_LINE + MACHINE_LINE + "task ..011 1 pending 1 1 ..001 100 waiting\n", ""),
+    ("list", "J A T OnA TDone", 0, JOB_LINE + MACHINE_LINE + "task ..011 0 done 1 1 ..001 100 over\n", ""),
+    ("list", "J A T OnA TGone", 0, JOB_LINE + MACHINE_LINE + "task ..011 0 pending 2 3 ..001 100 over\n", ""),
+    ("list", "J A T OnA JGone", 0, "job ..001 3 2 true 500 800\n" + MACHINE_LINE + OVER_LINE, ""),
+    ("list", "T OnA", 0, OVER_LINE, ""),
+    ("list", "TDone", 0, "task ..011 0 done - - - - over\n", ""),
+    ("list", "J Last Used950", 0,
+     JOB_LINE + "machine ..00a 1 - - closed - - 0 0 -\ntask ..011 4294967295 running - - - - over\n", ""),
+    ("list", "OnA", 0, "", ""),
+    ("list --at 2", "J A T", 3, "", "firmament: refusal 8\n"),
+    ("list", "J A NoSlots", 3, "", "firmament: refusal 2 at step 3\n"),
+    ("size", "", 2, "",
+     "error: unrecognized subcommand 'size'\n\nUsage: firmament <COMMAND>\n\nFor more information, try '--help'.\n"),
+    ("list jobs", "", 2, "",
+     "error: unexpected argument 'jobs' found\n\nUsage: firmament list [OPTIONS]\n\nFor more information, try '--help'.\n"),
     ("solve", "", 0, "s 0\n", ""),
     ("solve", "J A T", 0, PLACED, ""),
     ("solve --at 1", "J J600 A T", 0, PLACED, ""),
@@ -322,6 +406,10 @@ WORLDS = [
     ("graph", "2,1", "J A CutA 2:T 2:GetA", 0, WAITING, ""),
     ("why ..011", "2,1", "J A CutA 2:T 2:GetA", 0, RUNS_AT_A, ""),
     ("why ..011", "1,2", "J A CutA 2:T 2:GetA", 0, "task ..011 is not known\n", ""),
+    ("list", "1,2", "2:J 2:A 2:T", 0, "", ""),
+    ("list --at 2", "1,2", "J A CutA 2:T 2:GetA", 0, LISTED, ""),
+    ("list", "2,1", "J A CutA 2:T 2:GetA Trim1", 0, LISTED, ""),
+    ("list", "1", "J A T Round", 0, JOB_LINE + HOLDER_LINE + HELD_LINE, ""),
     ("solve --at 2", "1,2", "J A CutA 2:T 2:GetA", 0, PLACED, ""),
     ("winners --at 1", "1,2", "J A B T OnA CutA 2:OnB 2:CutB 2:GetA GetB", 0, "..011 0 1 ..00a 1 held\n", ""),
     ("winners --at 2", "1,2", "J A B T OnA CutA 2:OnB 2:CutB GetB 2:GetA", 0, "..011 0 1 ..00a 1 held\n", ""),
@@ -401,6 +489,9 @@ WRITES = [
     ("graph", "J A T NoSlots", 0, 1, 3, "", "firmament: refusal 2 at step 4\n"),
     ("--help", "", 0, 1, 6, "", WRITE_FAULT),
     ("winners", "J A T OnA", 0, 100, 6, "", WRITE_FAULT),
+    ("list", "J A T", 0, 100, 6, "", WRITE_FAULT),
+    ("list", "J A T", 10, 3, 6, "job 000000", WRITE_FAULT),
+    ("list", "J A T", 1000, 1, 0, LISTED, ""),
     ("solve", "J A T", 0, 100, 6, "", WRITE_FAULT),
     ("solve", "J A T", 0, 3, 6, "", WRITE_FAULT),
     ("solve", "J A T", 10, 3, 6, PLACED[:10], WRITE_FAULT),
@@ -412,6 +503,157 @@ WRITES = [
     ("help refusals", "", 0, 100, 6, "", WRITE_FAULT),
     ("--version", "", 0, 100, 6, "", WRITE_FAULT),
     ("--version", "", 10, 100, 6, "firmament ", WRITE_FAULT),
+]
+
+
+MOST_VERSION, MOST_ATTEMPT = 2 ** 64 - 1, 2 ** 32 - 1
+# what asks coordinator 1 for the next version of a job, and of machine 00a, and for the next attempt of a task
+NEXT_JOB, NEXT_TASK = '{"at":1,"ask":"next","job":"..%s"}', '{"at":1,"ask":"next","task":"..%s"}'
+NEXT_A = '{"at":1,"ask":"next","machine":"..00a","incarnation":%d}'
+JOB_OF = '{"at":1,"tell":{"job":{"id":"..001","version":%d,"writer":1,"withdrawn":true,"wait":0,"preempt":0}}}'
+A_OF = '{"at":1,"tell":{"machine":{"id":"..00a","incarnation":%d,"version":%d,"writer":1,"up":true,"slots":1,"nic":0}}}'
+U_ON_A = '{"at":1,"tell":{"propose":{"id":"..012","attempt":0,"coordinator":2,"machine":"..00a","incarnation":1}}}'
+U_OF = '{"at":1,"tell":{"progress":{"id":"..012","attempt":%d,"phase":"done"}}}'
+# none of these is a line of a stream
+NO_LINES = [
+    '{"ask":"Version"}', '{"ask":["version"]}', '{"ask":"version","at":1}', '{"ask":"version","more":1}', '{"at":1,"ask":"version"}',
+    '{"ask":"list"}', '{"at":1,"ask":"lists"}', '{"at":256,"ask":"list"}', '{"at":1,"list":true}', '{"at":1,"of":"jobs"}',
+    '{"ask":"list","of":"jobs"}', '{"at":1,"ask":"list","of":"all"}', '{"at":1,"ask":"list","of":"job"}',
+    '{"at":1,"ask":"list","of":"held"}', '{"at":1,"ask":"list","of":"Jobs"}', '{"at":1,"ask":"list","of":""}',
+    '{"at":1,"ask":"list","of":null}', '{"at":1,"ask":"list","of":["jobs"]}', '{"at":1,"ask":"list","of":"jobs","more":1}',
+    '{"at":1,"ask":"list","kind":"jobs"}', '{"at":1,"ask":"list","task":"..011"}', '{"at":1,"ask":"graph","of":"jobs"}',
+    '{"at":1,"ask":"next"}', '{"ask":"next","job":"..001"}', '{"at":1,"ask":"next","of":"jobs"}', '{"at":1,"ask":"why","job":"..001"}',
+    '{"at":1,"next":"job","job":"..001"}', '{"at":1,"ask":"next","spec":"..011"}', '{"at":1,"ask":"next","job":1}',
+    '{"at":1,"ask":"next","job":"001"}', '{"at":1,"ask":"next","task":"..0011"}', '{"at":1,"ask":"next","task":null}',
+    '{"at":1,"ask":"next","task":"..011","job":"..001"}', '{"at":1,"ask":"next","job":"..001","incarnation":1}',
+    '{"at":1,"ask":"next","task":"..011","incarnation":1}', '{"at":1,"ask":"next","incarnation":1}',
+    '{"at":1,"ask":"next","machine":"..00a"}', '{"at":1,"ask":"next","machine":"..0a","incarnation":1}',
+    '{"at":1,"ask":"next","machine":"..00a","incarnation":1,"more":1}', '{"ask":"next","machine":"..00a","incarnation":1}',
+    '{"ask":"size"}', '{"at":1,"ask":"sizes"}', '{"at":1,"ask":"Size"}', '{"at":1,"ask":"size","of":"jobs"}', '{"at":1,"ask":"size","more":1}',
+    '{"at":1,"size":true}', '{"at":256,"ask":"size"}',
+    *(NEXT_A.replace("%d", number) for number in ('"1"', "1.0", "1e0", "-1", "-0", "true", "null", "[1]", str(MOST_VERSION + 1)))]
+# lines of a stream of coordinators 1 and 2, by the name of a step or as they stand, each with its answer
+LINES = [
+    ('{"ask":"version"}', "refusal 16"), ('{"at":1,"ask":"list"}', "refusal 16"), (NEXT_TASK % "011", "refusal 16"),
+    ('{"coordinators":[1,2]}', "ok"),
+    ('{"ask":"version"}', "firmament %s FDG1 FDG2\nok" % followed.VERSION),
+    # nothing is known
+    ('{"at":1,"ask":"list"}', "ok"), *(('{"at":1,"ask":"list","of":"%s"}' % kind, "ok") for kind in reference.LISTED),
+    (NEXT_JOB % "001", "next 1\nok"), (NEXT_A % 0, "next 1\nok"), (NEXT_TASK % "011", "next 1\nok"),
+    # a task whose second attempt nobody placed, and one that is placed later
+    *((step, "ok") for step in ("J", "A", "T", "U0", "OnA", "TDone", "TAgain", "U500")),
+    ('{"at":1,"ask":"list","of":"jobs"}', JOB_LINE + "ok"), ('{"at":1,"of":"machines","ask":"list"}', MACHINE_LINE + "ok"),
+    ('{"ask":"list","of":"tasks","at":1}',
+     "task ..011 1 pending 1 1 ..001 100 waiting\ntask ..012 0 pending 1 1 ..001 500 waiting\nok"),
+    (U_ON_A, "ok"), ('{"at":1,"ask":"list","of":"waiting"}', "task ..011 1 pending 1 1 ..001 100 waiting\nok"),
+    ("TGone", "ok"), ('{"at":1,"ask":"list","of":"waiting"}', "ok"), ('{"at":2,"ask":"list"}', "ok"),
+    ('{"at":1,"ask":"list"}',
+     JOB_LINE + "machine ..00a 1 1 1 open 2 1000 1 500 500\ntask ..011 1 pending 2 3 ..001 100 over\n"
+     "task ..012 0 pending 1 1 ..001 500 held ..00a\nok"),
+    (NEXT_JOB % "001", "next 2\nok"), (NEXT_A % 1, "next 2\nok"), (NEXT_TASK % "011", "next 2\nok"), (NEXT_TASK % "012", "next 1\nok"),
+    ('{"at":2,"ask":"next","job":"..001"}', "next 1\nok"), ('{"at":1,"ask":"next","job":"{..001}"}', "next 2\nok"),
+    # an id of another kind is one that nobody knows
+    (NEXT_JOB % "011", "next 1\nok"), (NEXT_TASK % "00a", "next 1\nok"),
+    # a version belongs to the present incarnation
+    *((NEXT_A % incarnation, "next 1\nok") for incarnation in (0, 2, MOST_VERSION)),
+    ("ADown", "ok"), (NEXT_A % 1, "next 5\nok"), ("Lost", "ok"), (NEXT_A % 1, "next 1\nok"), (NEXT_A % 2, "next 1\nok"),
+    ('{"at":1,"ask":"list","of":"machines"}', LOST_LINE + "ok"),
+    # behind the greatest number there is no next one
+    (JOB_OF % (MOST_VERSION - 1), "ok"), (NEXT_JOB % "001", "next %d\nok" % MOST_VERSION),
+    (JOB_OF % MOST_VERSION, "ok"), (NEXT_JOB % "001", "refusal 14"), (NEXT_JOB % "002", "next 1\nok"),
+    ('{"at":1,"ask":"list","of":"jobs"}', "job ..001 %d 1 true 0 0\nok" % MOST_VERSION),
+    (A_OF % (MOST_VERSION, MOST_VERSION), "ok"), (NEXT_A % MOST_VERSION, "refusal 14"), (NEXT_A % (MOST_VERSION - 1), "next 1\nok"),
+    ('{"at":1,"ask":"list","of":"machines"}', "machine ..00a %d %d 1 open 1 0 0 0 0\nok" % (MOST_VERSION, MOST_VERSION)),
+    (U_OF % (MOST_ATTEMPT - 1), "ok"), (NEXT_TASK % "012", "next %d\nok" % MOST_ATTEMPT), ("Last", "ok"), (NEXT_TASK % "011", "refusal 15"),
+    ('{"at":1,"ask":"list","of":"tasks"}',
+     "task ..011 %d running 2 3 ..001 100 over\ntask ..012 %d done 1 1 ..001 500 over\nok" % (MOST_ATTEMPT, MOST_ATTEMPT - 1)),
+    # that nobody has the number comes before what is spent, and behind what is no line
+    ('{"at":3,"ask":"list"}', "refusal 8"), ('{"at":3,"ask":"list","of":"waiting"}', "refusal 8"),
+    ('{"at":3,"ask":"next","job":"..001"}', "refusal 8"), ('{"at":3,"ask":"list","of":"all"}', "refusal 16"),
+    *((line, "refusal 16") for line in NO_LINES),
+    # and nothing was changed by all that was asked
+    ('{"at":1,"ask":"end"}', "end 0 17\nok"), ('{"at":2,"ask":"end"}', "end 0 0\nok"),
+]
+
+
+SIZED = "jobs machines tasks proposals waiting held over open closed requested reported spare entries limit first next".split()
+
+
+def sized(*numbers, entries=0, first=0, last=0):
+    """The answer to a question of size, with the numbers of what is known."""
+    return "".join("%s %d\n" % line for line in zip(SIZED, (*numbers, entries, 1000000, first, last))) + "ok"
+
+
+SIZE = '{"at":1,"ask":"size"}'
+NOTHING_KNOWN = (0,) * 12
+SIZES = [
+    (SIZE, "refusal 16"), ('{"coordinators":[2,1]}', "ok"), (SIZE, sized(*NOTHING_KNOWN)), ('{"ask":"size","at":2}', sized(*NOTHING_KNOWN)),
+    ('{"at":3,"ask":"size"}', "refusal 8"),
+    # a task that is told to be done is no live one without a spec, and a machine that nothing but a report is known of is closed
+    ("TDone", "ok"), ("Used40", "ok"), (SIZE, sized(0, 1, 1, 0, 0, 0, 1, 0, 1, 0, 0, 0, entries=2, last=2)),
+    ("TAgain", "ok"), ("J", "ok"), ("A", "ok"), (SIZE, sized(1, 1, 1, 0, 0, 0, 1, 1, 0, 0, 40, 960, entries=5, last=5)),
+    ("T", "ok"), ("J", "ok"), (SIZE, sized(1, 1, 1, 0, 1, 0, 0, 1, 0, 0, 40, 960, entries=7, last=7)),
+    # proposals are counted for each attempt, and for each coordinator once
+    ("OnA", "ok"), ("OnB", "ok"), ("OnB", "ok"), (SIZE, sized(1, 1, 1, 2, 1, 0, 0, 1, 0, 0, 40, 960, entries=10, last=10)),
+    ('{"at":1,"round":{"writers":[2]}}', "ok"), (SIZE, sized(1, 1, 1, 2, 1, 0, 0, 1, 0, 0, 40, 960, entries=11, last=11)),
+    ('{"at":1,"round":{"writers":[1]}}', "place ..011 ..00a 1 accepted\nok"),
+    (SIZE, sized(1, 1, 1, 3, 0, 1, 0, 1, 0, 100, 40, 900, entries=12, last=12)),
+    ("U500", "ok"), ("B", "ok"), (SIZE, sized(1, 2, 2, 3, 1, 1, 0, 2, 0, 100, 40, 1900, entries=14, last=14)),
+    ("Used950", "ok"), (SIZE, sized(1, 2, 2, 3, 1, 1, 0, 2, 0, 100, 950, 1050, entries=15, last=15)),
+    # what has too great a load has nothing to spare
+    ("Used1001", "ok"), (SIZE, sized(1, 2, 2, 3, 1, 1, 0, 2, 0, 100, 1001, 1000, entries=16, last=16)),
+    # what is refused or asked adds no entry; cuts, news and trims add one and no delta, and own news that there are none add none
+    ("Trim9", "ok"), (SIZE, sized(1, 2, 2, 3, 1, 1, 0, 2, 0, 100, 1001, 1000, entries=17, first=9, last=16)),
+    ("Trim1", "refusal 4"), ("GetA", "refusal 9"), ("NoSlots", "refusal 2"), ('{"at":1,"ask":"end"}', "end 9 16\nok"),
+    ('{"at":2,"news":true,"mine":true}', "ok"), (SIZE.replace("1", "2"), sized(*NOTHING_KNOWN)),
+    (SIZE, sized(1, 2, 2, 3, 1, 1, 0, 2, 0, 100, 1001, 1000, entries=17, first=9, last=16)),
+    # a machine that is lost, or down, has reported nothing and has nothing to spare, and its tasks wait
+    ("Lost", "ok"), (SIZE, sized(1, 2, 2, 3, 2, 0, 0, 1, 1, 0, 0, 1000, entries=18, first=9, last=17)),
+    ("TGone", "ok"), (SIZE, sized(1, 2, 2, 3, 1, 0, 1, 1, 1, 0, 0, 1000, entries=19, first=9, last=18)),
+    ("JGone", "ok"), (SIZE, sized(1, 2, 2, 3, 0, 0, 2, 1, 1, 0, 0, 1000, entries=20, first=9, last=19)),
+    ('{"renew":true}', "ok"), (SIZE, sized(1, 2, 2, 3, 0, 0, 2, 1, 1, 0, 0, 1000, entries=1, last=1)),
+    (SIZE.replace("1", "2"), sized(*NOTHING_KNOWN, entries=1, last=1)),
+]
+
+# what no round is asked for by
+NO_SHARES = [
+    '{"writers":[]}', '{"writers":[1,1]}', '{"writers":[2,1,2]}', '{"writers":[0]}', '{"writers":[65]}', '{"writers":[1,65]}', '{"writers":[-1]}',
+    '{"writers":[256]}', '{"writers":[257]}', '{"writers":["1"]}', '{"writers":[1.0]}', '{"writers":[true]}', '{"writers":[null]}',
+    '{"writers":[[1]]}', '{"writers":1}', '{"writers":true}', '{"writers":null}', '{"writers":{}}', '{"writers":{"1":1}}', '{"writers":"1"}',
+    '{"writers":[%s]}' % ",".join(map(str, [*range(1, 65), 1])), '{"each":0}', '{"each":4294967296}', '{"each":18446744073709551616}',
+    '{"each":-1}', '{"each":-0}', '{"each":1.0}', '{"each":1e0}', '{"each":"1"}', '{"each":null}', '{"each":true}', '{"each":[1]}',
+    '{"each":{}}', '{"x":1}', '{"Each":1}', '{"writer":[1]}', '{"writers":[1],"x":1}', '{"each":1,"x":1}',
+    '{"writers":[1],"each":1,"more":null}', '{"writers":[1],"each":0}', '{"writers":[],"each":1}', '{"each":1,"each":0}', '{"round":true}',
+    'null', 'false', '1', '0', '"true"', '""', '[]', '[1]', '[{}]', '[true]']
+# what one is asked for by
+EVERY_SHARE = [
+    'true', '{}', '{"each":1}', '{"each":4294967295}', '{"writers":[64]}', '{"writers":[1,3],"each":2}', '{"each":2,"writers":[3,1]}',
+    '{"writers":[%s]}' % ",".join(map(str, range(64, 0, -1))), '{"each":0,"each":1}', '{"writers":[],"writers":[2]}', '{"wr\\u0069ters":[1]}']
+ROUND_BY = '{"at":1,"round":%s}'
+# two tasks that wait for the same machine, of writers 1 and 2
+SHARES = [
+    (ROUND_BY % '{}', "refusal 16"), ('{"coordinators":[1,2]}', "ok"), *((ROUND_BY % share, "ok") for share in EVERY_SHARE),
+    *((ROUND_BY % share, "refusal 16") for share in NO_SHARES), ('{"at":1,"round":true,"each":1}', "refusal 16"),
+    ('{"at":1,"round":true,"writers":[1]}', "refusal 16"), ('{"round":{}}', "refusal 16"), ('{"at":1,"round":{},"more":1}', "refusal 16"),
+    ('{"at":3,"round":{}}', "refusal 8"), ('{"at":3,"round":{"writers":[3],"each":1}}', "refusal 8"), ('{"at":3,"round":{"each":0}}', "refusal 16"),
+    ('{"at":1,"ask":"end"}', "end 0 %d\nok" % len(EVERY_SHARE)),
+    *((step, "ok") for step in ("J", "A", "T", "UBy2", "RoundOfNobody")), ("RoundOf2OneEach", "place ..012 ..00a 1 accepted\nok"),
+    ("RoundOf2", "ok"), ("RoundOf1", "place ..011 ..00a 1 accepted\nok"), ("RoundOfAll", "ok"),
+    ('{"at":1,"ask":"winners"}', "..011 0 1 ..00a 1 held\n..012 0 1 ..00a 1 held\nok"),
+    ('{"at":1,"ask":"end"}', "end 0 %d\nok" % (len(EVERY_SHARE) + 9)),
+    # which of two is left out is said by their ids
+    ("TAgain", "ok"), ('{"at":1,"tell":{"progress":{"id":"..012","attempt":1,"phase":"pending"}}}', "ok"),
+    ("RoundOfOneEach", "place ..011 ..00a 1 accepted\nok"), ("RoundOfOneEach", "place ..012 ..00a 1 accepted\nok"), ("RoundOfOneEach", "ok"),
+]
+# a task of writer 1 has the only slot, and an urgent one of writer 2 waits
+PREEMPTS = [
+    ('{"coordinators":[1]}', "ok"), *((step, "ok") for step in ("JPreempt80", "AOneSlot", "T", "OnA", "JUrgent", "VBy2", "RoundOfNobody")),
+    ('{"at":1,"ask":"plan"}', "place ..013 ..00a 1\npreempt ..011 0\nok"), ("RoundOf2", "place ..013 ..00a 1 no-slot\nok"),
+    ("RoundOf2OneEach", "place ..013 ..00a 1 no-slot\nok"), ('{"at":1,"ask":"winners"}', "..011 0 1 ..00a 1 held\nok"),
+    # preempts are not counted
+    ("RoundOfBothOneEach", "place ..013 ..00a 1 no-slot\npreempt ..011 0 accepted\nok"), ('{"at":1,"ask":"stops"}', "stop ..011 0 ..00a 1\nok"),
+    ("RoundOf1", "ok"), ("RoundOf2", "place ..013 ..00a 1 accepted\nok"), ("RoundOfAll", "ok"),
+    ('{"at":1,"ask":"winners"}', "..013 0 1 ..00a 1 held\nok"),
 ]
 
 
@@ -443,9 +685,161 @@ def runs(seen):
         yield "%s at %s: %s" % (words, numbers, steps), seen(expanded(words), script(steps, numbers)) == answer(*wanted)
     for packet, *wanted in PACKETS:
         yield "unpack " + packet, seen("unpack", packet) == answer(*wanted)
-    for words in "--help", "help", "graph -h", "solve --help", "winners --help", "agree --help", "pack --help":
+    for words in "--help", "help", "graph -h", "solve --help", "winners --help", "list --help", "help list", "agree --help", "pack --help":
         status, out, err = seen(words, script("Strange"))
         yield words, (status, err) == (0, b"") and out != b""
+
+
+def lines(seen):
+    """Streams of lines that were worked out by hand."""
+    for name, stream in (("lines", LINES), ("sizes", SIZES), ("shares", SHARES), ("preempts of shares", PREEMPTS)):
+        text = expanded("".join(STEPS.get(line, line) + "\n" for line, _ in stream)).encode()
+        status, out, err = seen("follow", text.decode())
+        found, rest = followed.answers_in(out)
+        yield "as many answers as %s" % name, (status, err, rest, len(found)) == (0, b"", b"", len(stream))
+        for (line, wanted), given in zip(stream, found):
+            yield "of %s, line %s: %r" % (name, line, given), given == expanded(wanted + "\n").encode()
+        yield "%s, and as tests/followed.py has it: %s" % (name, followed.wrong(text, out)), followed.wrong(text, out) is None
+
+
+# rounds of shares
+
+OF_1, OF_2, OF_ANY = ({"at": at, "round": share} for at, share in ((1, {"writers": [1]}), (2, {"writers": [2]}), (1, {"each": 1})))
+
+
+def equals(slots, machines=3, tasks=10):
+    """A stream of one job, and of equal machines and tasks, of which the first half is written by 1, and the rest by 2."""
+    register = {"version": 1, "writer": 1, "withdrawn": False}
+    yield {"coordinators": [1, 2]}
+    yield {"at": 1, "tell": {"job": {"id": drawn.unique(1), **register, "wait": 5000, "preempt": 8000}}}
+    yield from ({"at": 1, "tell": {"machine": {"id": drawn.unique(10 + place), "incarnation": 1, "version": 1, "writer": 1, "up": True,
+                                               "slots": slots, "nic": 1000}}} for place in range(machines))
+    yield from ({"at": 1, "tell": {"spec": {"id": drawn.unique(17 + place), **register, "writer": 1 + (2 * place >= tasks), "job": drawn.unique(1),
+                                            "request": 100}}} for place in range(tasks))
+
+
+def exchanged(name):
+    """Each of both coordinators takes in all that the other knows."""
+    for at in 1, 2:
+        cut = "%s by %d" % (name, at)
+        yield from ({"at": at, "cut": {"name": cut}}, {"at": 3 - at, "deliver": cut})
+
+
+def told_in(seen, stream):
+    """The texts of the answers to the lines, each without its end, if all are accepted and as tests/followed.py has them."""
+    text = "".join(json.dumps(line) + "\n" for line in stream)
+    status, out, err = seen("follow", text)
+    answers, _ = followed.answers_in(out)
+    fine = (status, err, followed.wrong(text.encode(), out)) == (0, b"", None) and all(answer.endswith(b"ok\n") for answer in answers)
+    return [answer.decode()[:-3].splitlines() for answer in answers] if fine else [[]] * len(list(stream))
+
+
+def spread(seen):
+    """With one task each in a round, ten tasks come to 4, 3 and 3 on three machines, in at most ten rounds. Without, all come at once."""
+    *whole, listed = told_in(seen, [*equals(10), {"at": 1, "round": {}}, {"at": 1, "ask": "list", "of": "machines"}])
+    yield "a whole round places ten tasks", sum(held_on(listed)) == 10 == len(whole[-1])
+    for name, slots, least in ("ten slots", 10, 1), ("four slots, so that a plan needs all three", 4, 3):
+        *found, listed = told_in(seen, [*equals(slots), *[OF_ANY] * 12, {"at": 1, "ask": "list", "of": "machines"}])
+        placed = found[-12:]
+        yield "%s: the first round has %d" % (name, len(placed[0])), least <= len(placed[0]) <= 3
+        yield "%s: not two on a machine" % name, all(len({line.split()[2] for line in lines}) == len(lines) for lines in placed)
+        yield "%s: a round places as long as a task waits" % name, [bool(lines) for lines in placed] == sorted(map(bool, placed), reverse=True)
+        yield "%s: all are accepted" % name, all(line.endswith(" accepted") for lines in placed for line in lines) and sum(map(len, placed)) == 10
+        yield "%s: %s tasks on the machines" % (name, held_on(listed)), sorted(held_on(listed)) == [3, 3, 4]
+
+
+def held_on(listed):
+    """How many tasks each of the machines that are listed holds."""
+    return [int(line.split()[8]) for line in listed]
+
+
+def divided(seen):
+    """Two coordinators that know the same start no task twice if each has rounds of its own tasks, and start each twice without."""
+    last = [*exchanged("done"), {"at": 1, "ask": "size"}, {"at": 2, "ask": "winners"}, {"ask": "agree"}]
+    for name, rounds, twice in ("of its own", [OF_1, OF_2], 0), ("of all", [{"at": at, "round": True} for at in (1, 2)], 10):
+        sizes, won, same = told_in(seen, [*equals(10), *exchanged("told"), *rounds, *last])[-3:]
+        yield "rounds %s: %d of ten tasks are started twice" % (name, twice), "proposals %d" % (10 + twice) in sizes and same == ["same"]
+        writers = [1] * 5 + [2] * 5 if not twice else [1] * 10
+        yield "rounds %s: who started each task" % name, [int(line.split()[2]) for line in won] == writers
+        yield "rounds %s: all run" % name, len(won) == 10 and all(line.endswith(" held") for line in won)
+
+
+# drawn lives
+
+LIVES, LIFE = 16, 40
+# lines that lives have to come to, without their ids and numbers
+SHAPES = {
+    "job ID N N false N N", "job ID N N true N N", "machine ID N N N open N N N N N", "machine ID N N N open N N N N -",
+    "machine ID N N N closed N N N N -", "machine ID N - - closed - - N N -", "task ID N pending N N ID N waiting",
+    "task ID N running N N ID N held ID", "task ID N running N N ID N over", "task ID N done N N ID N over",
+    "task ID N running - - - - over", "next N", "refusal 14", "refusal 15"}
+
+
+def at_most(chance, op):
+    """An operation of a life, now and then of the greatest version or attempt."""
+    (kind, fields), = op.items()
+    field, most = ("attempt", MOST_ATTEMPT) if kind == "progress" else ("version", MOST_VERSION)
+    return {kind: {**fields, field: most}} if field in fields and chance.random() < 0.03 else op
+
+
+def asked_of(chance, at, whole):
+    """All lists of a coordinator, its size, and what its next operations are: of all ids of a life, or of three."""
+    yield {"at": at, "ask": "size"}
+    yield from ({"at": at, "ask": "list", **of} for of in ({}, *({"of": kind} for kind in reference.LISTED)))
+    subjects = [{"job": drawn.unique(job)} for job in range(1, 5)] + [{"task": drawn.unique(task)} for task in range(20, 31)]
+    subjects += [{"machine": drawn.unique(machine), "incarnation": incarnation} for machine in range(11, 16) for incarnation in range(5)]
+    yield from ({"at": at, "ask": "next", **subject} for subject in (subjects if whole else chance.sample(subjects, 3)))
+
+
+def life(seed):
+    """The lines of a life of two coordinators, which are told operations, take in packets, trim, and have rounds: behind each line all lists and
+    sizes are asked for, and behind the last the next of all."""
+    chance, other = random.Random("listed %d" % seed), random.Random("sized %d" % seed)
+    yield {"coordinators": [1, 2]}
+    for place, op in enumerate(drawn.Lives(chance).operations(LIFE)):
+        at = chance.choice((1, 2))
+        steps = [{"at": at, "tell": at_most(chance, op)}]
+        if "propose" in op and other.random() < 0.3:
+            steps.append({"at": at, "tell": {"progress": {**{field: op["propose"][field] for field in ("id", "attempt")}, "phase": "running"}}})
+        if chance.random() < 0.2:
+            steps += [{"at": at, "cut": {"name": str(place)}}, {"at": 3 - at, "deliver": str(place)}]
+        if chance.random() < 0.1:
+            steps.append(chance.choice(({"at": at, "round": drawn.share(other)}, {"renew": True})))
+        if other.random() < 0.05:
+            steps.append({"at": at, "trim": 1})
+        for step in steps:
+            yield step
+            yield from asked_of(chance, step.get("at", at), False)
+    yield from (line for at in (1, 2) for line in asked_of(chance, at, True))
+
+
+def lives(seen):
+    """Lists and sizes behind each line of drawn lives, and next versions and attempts, are what is worked out."""
+    shapes, sizes = set(), set()
+    for seed in range(LIVES):
+        text = "".join(json.dumps(line) + "\n" for line in life(seed))
+        status, out, err = seen("follow", text)
+        why = followed.wrong(text.encode(), out)
+        yield "life %d: %s" % (seed, why), (status, err, why) == (0, b"", None)
+        shapes |= set(map(shape, out.decode().splitlines()))
+        sizes |= set(re.findall(r"^([a-z]+) [1-9][0-9]*$", out.decode(), re.MULTILINE))
+    yield "what lives come to, but for %s" % (SHAPES - shapes or "nothing"), SHAPES <= shapes
+    yield "sizes that lives come to, but for %s" % (set(SIZED) - sizes or "nothing"), set(SIZED) <= sizes
+
+
+def shape(line):
+    """A line without its ids and numbers, but for that of a refusal."""
+    return line if line.startswith("refusal") else re.sub(r"\b[0-9]+\b", "N", re.sub(r"\S{8}(-\S{4}){3}-\S{12}", "ID", line))
+
+
+def scripts(seen):
+    """What `list` prints of scripts of several coordinators."""
+    for seed, draw in itertools.product(range(12), (drawn.gossip, drawn.contended, drawn.corners, drawn.shared)):
+        text = draw(seed)
+        for at in json.loads(text)["coordinators"]:
+            words = "list --at %d" % at
+            wanted = [answer(*each) for each in reference.answers(words.split(), text)]
+            yield "%s of %s %d" % (words, draw.__name__, seed), seen(words, text) in wanted
 
 
 def sizes(seen):
@@ -486,7 +880,7 @@ def writes(narrowed):
 
 def all_tests(seen):
     """Each test by name. `seen(words, text, **how)` is the status of a run and what it wrote."""
-    for test in runs, sizes, costs, orders:
+    for test in runs, lines, spread, divided, lives, scripts, sizes, costs, orders:
         yield from test(seen)
     with tempfile.TemporaryDirectory() as folder:
         library = refusing.library(folder, "narrow")

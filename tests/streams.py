@@ -27,7 +27,7 @@ import refusing
 import scripts
 import strict
 from lined import EMPTY_GRAPH, GRAPH, MACHINE, NO_MEMORY, OPEN, OWN_NEWS, TASK
-from lined import answers, asks, digits_of, end_of, every_kind, explains, judged, line, lines, seen, short, tell, woven
+from lined import answers, asks, digits_of, end_of, every_kind, explains, judged, line, lines, records, seen, short, tell, woven
 
 LINES, SECONDS = 10000, 60
 LACKING = b"refusal 1\n"
@@ -77,11 +77,12 @@ def scripted(program, count=12):
         kind = drawn.REFUSED[seed % len(drawn.REFUSED)]
         for name, text in (("gossip", drawn.gossip(seed)), ("tells", drawn.tells(seed, 3, 40)), ("corners", drawn.corners(seed)),
                            ("rounds", drawn.rounds(seed, 1 + seed % 2)), ("contended", drawn.contended(seed)),
+                           *(("shared", drawn.shared(number)) for number in (seed, seed + count)),
                            ("refused", drawn.refused(seed, kind))):
             given = json.loads(text)
             stream = [{"coordinators": given["coordinators"]}, *given["steps"]]
             end = asks(given["coordinators"])
-            yield judged("%s %d" % (name, seed), program, lines(*stream, *end, *explains(given["coordinators"])))
+            yield judged("%s %d" % (name, seed), program, lines(*stream, *end, *explains(given["coordinators"]), *records(given["coordinators"])))
             if name in ("gossip", "tells", "corners"):
                 yield "ends of %s %d" % (name, seed), ends_alike(program, text.encode(), stream + end)
 
@@ -97,7 +98,7 @@ def ends_alike(program, script, stream):
 
 def command_of(value):
     """The words that print of a script what the line answers, if there are such words and one text alone."""
-    if value.get("ask") in ("graph", "winners"):
+    if value.get("ask") in ("graph", "winners", "list"):
         return [value["ask"], "--at", str(value["at"])]
     if value.get("ask") == "agree":
         return ["agree"]
@@ -140,6 +141,8 @@ def day(program):
 # lines by hand
 
 WHOSE = b'"%s"' % TASK.encode()
+EMPTY_SIZE = (b"jobs 0\nmachines 0\ntasks 0\nproposals 0\nwaiting 0\nheld 0\nover 0\nopen 0\nclosed 0\nrequested 0\nreported 0\nspare 0\n"
+              b"entries 0\nlimit 1000000\nfirst 0\nnext 0\nok\n")
 STRANGE = [
     b"", b" ", b"null", b"[]", b"{}", b"7", b"x", b'"ok"', b"ok", b'{"coordinators":[1]}', b'{"coordinators":[1,2]}',
     b'{"renew":false}', b'{"renew":1}', b'{"renew":"true"}', b'{"renew":true,"at":1}', b'{"renew":true,"more":1}',
@@ -153,6 +156,13 @@ STRANGE = [
     b'{"at":1,"cut":{"name":null}}', b'{"at":1,"cut":{"from":-1,"to":0}}', b'{"at":1,"round":false}', b'{"at":1,"round":1}',
     b'{"at":1,"trim":-1}', b'{"at":1,"trim":0.0}', b'{"at":1,"deliver":7}', b'{"at":1,"tell":{}}', b'{"at":1,"tell":{"job":{}}}',
     b'{"at":1,"sell":true}', b'{"at":256,"ask":"graph"}', b'{"at":-1,"ask":"graph"}', b'{"at":1.0,"ask":"graph"}',
+    *(b'{"at":1,"round":%s}' % asked for asked in (b"null", b"[]", b'{"writers":[]}', b'{"writers":[1,1]}', b'{"writers":[0]}', b'{"writers":[65]}',
+                                                   b'{"writers":1}', b'{"each":0}', b'{"each":4294967296}', b'{"each":1.0}', b'{"each":1,"more":1}')),
+    b'{"ask":"size"}', b'{"at":1,"ask":"Size"}', b'{"at":1,"ask":"size","of":"jobs"}',
+    b'{"ask":"list"}', b'{"ask":"version","at":1}', b'{"at":1,"ask":"version"}', b'{"at":1,"ask":"List"}', b'{"at":1,"ask":"next"}',
+    b'{"at":1,"ask":"list","of":"all"}', b'{"at":1,"ask":"list","of":["jobs"]}', b'{"at":1,"ask":"list","of":"jobs","more":1}',
+    b'{"at":1,"ask":"next","task":17}', b'{"at":1,"ask":"next","task":%s,"job":%s}' % (WHOSE, WHOSE), b'{"at":1,"ask":"next","machine":%s}' % WHOSE,
+    b'{"at":1,"ask":"next","machine":%s,"incarnation":"1"}' % WHOSE, b'{"at":1,"ask":"next","job":%s,"incarnation":1}' % WHOSE,
     b'{"at":1,"ask":"why"}', b'{"at":1,"ask":"why","task":17}', b'{"at":1,"ask":"why","task":"17"}', b'{"at":1,"ask":"graph","task":%s}' % WHOSE,
     b'{"at":1,"ask":"why","task":" %s}' % WHOSE[1:], b'{"at":1,"ask":"why","task":%s,"more":1}' % WHOSE, b'{"ask":"why","task":%s}' % WHOSE,
     b'{"at":256,"ask":"why","task":%s}' % WHOSE, b'{"at":1,"why":%s}' % WHOSE, b'{"at":1,"task":%s}' % WHOSE,
@@ -160,15 +170,18 @@ STRANGE = [
     b'{"at":1,"deliver":"\xed\xa0\x80"}', b'{"at":1,"deliver":"\\ud800"}', b"\xef\xbb\xbf" + GRAPH, GRAPH + b"x", GRAPH + GRAPH,
     GRAPH[:-1], b"\0" + GRAPH, b"[" * 200, b'{"a":' * 200, b'{"at":1,"ask":"graph"' + b"\0" + b"}", b'{"coordinators":{1,2}}']
 # what a number without a coordinator is refused for, before all else that is wrong
-AT_NOBODY = ('"ask":"graph"', '"ask":"stops"', '"ask":"end"', '"ask":"why","task":"%s"' % TASK, '"news":true', '"news":true,"mine":true',
+AT_NOBODY = ('"ask":"graph"', '"ask":"stops"', '"ask":"end"', '"ask":"size"', '"ask":"list"', '"ask":"list","of":"jobs"',
+             '"round":{}', '"round":{"writers":[3],"each":1}', '"ask":"next","task":"%s"' % TASK, '"ask":"why","task":"%s"' % TASK, '"news":true', '"news":true,"mine":true',
              '"round":true', '"trim":9', '"deliver":"none"', '"cut":{}', '"cut":{"from":2,"to":1}')
 NO_PACKETS = b"", b"46", b"46444732", hostile.PACKET[:-1].hex().encode(), hostile.PACKET.hex().encode() + b"00"
 NO_INTERVALS = '"trim":1', '"cut":{"from":1,"to":0}', '"cut":{"from":0,"to":1}', '"cut":{"name":"p","from":0,"to":18446744073709551615}'
 ACCEPTED = [(given, EMPTY_GRAPH) for given in (
     GRAPH, b" " + GRAPH + b"\t\r", b'{"ask":"graph","at":1}', b'{"at":9,"at":1,"ask":"graph"}', b'{"at":1,"ask":[],"ask":"graph"}',
     b'{"\\u0061t":1,"ask":"gr\\u0061ph"}')] + [
-    (b'{"at":2,"ask":"winners"}', b"ok\n"), (b'{"at":2,"ask":"stops"}', b"ok\n"), (b'{"at":2,"ask":"plan"}', b"ok\n"),
+    (b'{"at":2,"ask":"winners"}', b"ok\n"), (b'{"at":2,"ask":"list"}', b"ok\n"), (b'{"at":2,"ask":"next","task":%s}' % WHOSE, b"next 1\nok\n"),
+    (b'{"at":2,"ask":"stops"}', b"ok\n"), (b'{"at":2,"ask":"plan"}', b"ok\n"),
     (b'{"at":2,"ask":"solve"}', b"s 0\nok\n"), (b'{"ask":"agree"}', b"same\nok\n"), (b'{"at":1,"round":true}', b"ok\n"),
+    (b'{"at":1,"round":{}}', b"ok\n"), (b'{"at":1,"round":{"writers":[64,1],"each":4294967295}}', b"ok\n"), (b'{"at":2,"ask":"size"}', EMPTY_SIZE),
     (b'{"renew":true}', b"ok\n")] + [
     (b'{"at":1,"ask":"why","task":"%s"}' % form.encode(), b"task %s is not known\nok\n" % TASK.encode()) for form in (
         TASK, TASK.upper(), "{%s}" % TASK, TASK.replace("-", ""))]
@@ -213,8 +226,8 @@ def packet_forms(program):
     told = {reference.operation(kind, {**fields, **({"prefer": []} if kind == "spec" else {})}) for kind, fields in hostile.OPERATIONS.items()}
     newer, older = (reference.packed(reference.Packet(64, 2 ** 64 - 1, told), version)[1].strip() for version in (b"FDG2", b"FDG1"))
     # the packet is one delta, and what was told is several
-    questions = asks([1], tuple(topic for topic in followed.TOPICS if topic != "end"))
-    wanted = answers(program, lines(OPEN, *map(tell, hostile.OPERATIONS), *questions))[-6:-1]
+    questions = asks([1], tuple(topic for topic in followed.TOPICS if topic not in ("end", "size")))
+    wanted = answers(program, lines(OPEN, *map(tell, hostile.OPERATIONS), *questions))[-len(questions):-1]
     for name, digits in ("newer", newer), ("older", older), ("in upper case", newer.upper()), ("in both", newer[:99] + newer[99:].upper()):
         text = lines(OPEN, {"at": 1, "take": digits}, *questions)
         yield judged("a packet %s" % name, program, text)
@@ -270,12 +283,12 @@ def sizes(program):
 def large(program):
     """A cluster of thousands of tasks, told line by line, and passed on as one packet of many digits."""
     script = json.loads("".join(scripts.script(3000)))
-    last = asks([1], ("graph", "winners"))
+    last = asks([1], ("graph", "winners", "list"))
     found = answers(program, lines(OPEN, *script["steps"], {"at": 1, "cut": {}}, *last))
     known = reference.Known([reference.operation(kind, fields) for step in script["steps"] for kind, fields in step["tell"].items()])
-    wanted = [("".join(text(known)) + "ok\n").encode() for text in (reference.graph, reference.winners)]
-    yield "a cluster, told", found[:-4] == [b"ok\n"] * (len(script["steps"]) + 1) and found[-3:-1] == wanted
-    digits = digits_of(found[-4])
+    wanted = [("".join(text(known)) + "ok\n").encode() for text in (reference.graph, reference.winners, reference.listing)]
+    yield "a cluster, told", found[:-5] == [b"ok\n"] * (len(script["steps"]) + 1) and found[-4:-1] == wanted
+    digits = digits_of(found[-5])
     passed = answers(program, lines(OPEN, {"at": 1, "take": digits}, *last))
     yield "a cluster, in a packet of %d digits" % len(digits), passed[2:-1] == wanted
 
@@ -293,7 +306,8 @@ def weaves(program, count=24):
 
 
 # lines that are refused at a coordinator 7077 that is listed, if they do not open a stream
-REFUSED = [(16, b"x"), (16, b""), (16, OPEN), (8, b'{"at":65,"news":true}'), (8, b'{"at":65,"news":true,"mine":true}'), (8, b'{"at":65,"round":true}'), (9, b'{"at":7077,"deliver":"?"}'),
+REFUSED = [(16, b"x"), (16, b""), (16, OPEN), (8, b'{"at":65,"news":true}'), (8, b'{"at":65,"news":true,"mine":true}'), (8, b'{"at":65,"round":true}'),
+           (8, b'{"at":65,"round":{"writers":[1]}}'), (16, b'{"at":7077,"round":{"each":0}}'), (9, b'{"at":7077,"deliver":"?"}'),
            (4, b'{"at":7077,"trim":1000000}'), (4, b'{"at":7077,"cut":{"name":"?","from":1,"to":0}}'), (6, b'{"at":7077,"take":"46"}'),
            (16, b'{"at":7077,"take":"4"}'), (16, b'{"at":7077,"cut":{"name":"?","from":0}}'), (2, line(tell("job", at=7077, writer=0)))]
 
@@ -323,7 +337,7 @@ def renewals(program):
         chance = random.Random("renewals %d" % seed)
         told = [{"at": chance.choice((1, 2)), "tell": op} for op in drawn.Lives(chance).operations(30)]
         first = [OPEN, *told[:15], {"at": 1, "cut": {"name": "p"}}, {"at": 2, "deliver": "p"}, {"at": 1, "round": True}]
-        middle, last = [{"at": 2, "take": hostile.PACKET.hex()}, *told[15:]], asks([1, 2], ("graph", "winners", "stops"))
+        middle, last = [{"at": 2, "take": hostile.PACKET.hex()}, *told[15:]], asks([1, 2], ("graph", "winners", "list", "stops"))
         plain = answers(program, lines(*first, *middle, *last))
         yield "a stream to compare, %d" % seed, len(plain) == len(first) + len(middle) + len(last)
         for place in range(len(middle) + 1):
@@ -391,14 +405,16 @@ def hostile_value(draw, names, packets):
     at, chosen = draw.one_of((1, 1, 2, 2, 3, draw.number(0, 255))), draw.odds()
     if chosen < 0.6:
         return {"at": at, **draw.act(draw.one_of((0, 2, 8)), names)}
-    if chosen < 0.75:
+    if chosen < 0.7:
         return {"at": at, "ask": draw.one_of(followed.TOPICS)}
+    if chosen < 0.75:
+        return draw.record(at)
     if chosen < 0.82:
         return {"at": at, "take": draw.packet().hex() if draw.odds() < 0.7 else draw.one_of(packets)}
     if chosen < 0.89:
         return {"at": at, "news": True, **({"mine": True} if draw.odds() < 0.5 else {})}
-    return draw.one_of(({"ask": "agree"}, {"at": at, "cut": {}}, {"at": at, "cut": {"from": 0, "to": draw.whole(64)}}, {"renew": True},
-                        {"coordinators": [at]}, {"at": at, "round": True}, {"at": at, "ask": "why", "task": draw.id(3)}))
+    return draw.one_of(({"ask": "agree"}, {"ask": "version"}, {"at": at, "cut": {}}, {"at": at, "cut": {"from": 0, "to": draw.whole(64)}}, {"renew": True},
+                        {"coordinators": [at]}, {"at": at, "round": draw.share()}, {"at": at, "ask": "why", "task": draw.id(3)}))
 
 
 def hostile_streams(program, count=LINES, each=100):

@@ -129,7 +129,7 @@ def read_script(text):
     if type(value) is not dict or type(value.get("coordinators")) is not list or type(value.get("steps")) is not list:
         raise Strange
     numbers = value["coordinators"]
-    if not numbers or any(type(n) is not int or not 1 <= n <= 64 for n in numbers) or len(set(numbers)) < len(numbers):
+    if not are_numbers(numbers):
         raise Strange
     names, steps = set(), []
     for place, step in enumerate(value["steps"], 1):
@@ -138,6 +138,20 @@ def read_script(text):
             raise Strange(place)
         steps.append(read)
     return {"coordinators": numbers, "steps": steps}
+
+
+def are_numbers(listed):
+    """Whether a value lists coordinators, or writers: at least one number, each from 1 to 64, none twice."""
+    return type(listed) is list and bool(listed) and all(type(n) is int and 1 <= n <= 64 for n in listed) and len(set(listed)) == len(listed)
+
+
+def is_share(asked):
+    """Whether a value is what a round may be asked for by: true, or an object of writers, of a greatest number on each machine, of both
+    or of neither."""
+    if type(asked) is not dict:
+        return asked is True
+    each = asked.get("each", 1)
+    return not asked.keys() - {"writers", "each"} and are_numbers(asked.get("writers", [1])) and fits(each, U32) and each > 0
 
 
 def read_step(step, names):
@@ -149,7 +163,7 @@ def read_step(step, names):
         asked = read_told(asked)
     elif kind == "cut":
         asked = read_cut(asked, names)
-    elif not {"deliver": type(asked) is str, "trim": fits(asked, U64), "round": asked is True}.get(kind):
+    elif not {"deliver": type(asked) is str, "trim": fits(asked, U64), "round": is_share(asked)}.get(kind):
         return None
     return None if asked is None else {"at": step["at"], kind: asked}
 

@@ -24,8 +24,10 @@ class Kind(enum.Enum):
     STRANGE = "nothing, so the follower refuses it"
 
 
-KINDS = {"tell": Kind.TELL, "take": Kind.TELL, "round": Kind.ROUND, "ask": Kind.QUESTION,
+KINDS = {"tell": Kind.TELL, "take": Kind.TELL, "round": Kind.ROUND,
          **dict.fromkeys(("coordinators", "cut", "deliver", "news", "renew", "trim"), Kind.OURS)}
+# what questions have beside the number of the coordinator
+QUESTIONS = {"ask"}, {"ask", "task"}, {"ask", "of"}, {"ask", "job"}, {"ask", "machine", "incarnation"}
 # numbers stay texts, since those of too many digits are no `int` here and may be ignored by the follower
 DECODER = json.JSONDecoder(parse_int=str, parse_float=str)
 
@@ -37,7 +39,7 @@ def kind_of(line: bytes) -> Kind:
     except (ValueError, RecursionError):
         return Kind.STRANGE
     others = value.keys() - {"at"} if isinstance(value, dict) else set()
-    if others == {"ask", "task"}:
+    if others in QUESTIONS:
         return Kind.QUESTION
     if others == {"news", "mine"}:
         return Kind.OURS
