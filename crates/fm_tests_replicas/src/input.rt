@@ -54,7 +54,7 @@ static READ: [(&str, &str); 6] = [
 ];
 
 // Steps other than those of one operation, as they are read with the names of their packets.
-static READ_STEPS: [(&str, &str, &str); 15] = [
+static READ_STEPS: [(&str, &str, &str); 17] = [
     ("", "{}", "[]"),
     (
         r#"{"at":0,"cut":{"name":"a","from":0,"to":18446744073709551615}}"#,
