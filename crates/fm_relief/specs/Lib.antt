@@ -1,0 +1,2 @@
+pub mod Relief
+pub mod inner

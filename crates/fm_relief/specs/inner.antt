@@ -1,0 +1,3 @@
+pub mod Excesses
+pub mod Fronts
+pub mod HeldLists
