@@ -19,6 +19,8 @@ use Rattle.fm_records.specs.Sets.{IsMember}
 use Rattle.fm_records.specs.Table.{Table, TaskValue}
 use Rattle.fm_records.specs.Facts.{job_of, spec_of, attempt_of, live_spec, is_live, holder_of, holds, request_of}
 use Rattle.fm_records.proofs.LookupLaws.{both_true}
+use Rattle.fm_records.proofs.SetLaws.{member_from, member_kept}
+use Rattle.fm_net.proofs.ListLaws.{entry_member}
 use Rattle.fm_net.proofs.NetworkLaws.{passes_some, only_if_some, came_from, mapped_from, where_true, live_entry}
 use Rattle.fm_tally.specs.declared.tally.LiveTask.{LiveTask}
 use Rattle.fm_tally.specs.declared.tally.Tally.{Tally}
@@ -195,6 +197,19 @@ module _ (k : Table) (m : ℕ) where
 
   pub on_rises : IsRising nat_cmp k.tasks → Rises nat_cmp (map (λ h. h.task) (tasks_on k m))
   on_rises rising = told_rises k m k.tasks rising
+
+  -- just those that it holds
+  pub on_from : (e : HeldTask) → IsMember e (tasks_on k m) → held_task_at k m e.task ≡ Some e
+  on_from e is =
+      let row = member_from (λ (x : ℕ × TaskValue). held_task_at k m x.0) k.tasks e is in
+      subst (λ t. held_task_at k m t ≡ Some e) (sym (id_is k m row.0.0 e row.2)) row.2
+
+  pub on_in : (e : HeldTask) → held_task_at k m e.task ≡ Some e → IsMember e (tasks_on k m)
+  on_in e is =
+      let found = (where_true (holds k m e.task) (and_then (λ (s : SpecReg). option_map (task_by_job e.task (attempt_of k e.task) s) (job_of k s.job)) (live_spec k e.task)) e is).1 in
+      let spec = came_from (λ (s : SpecReg). option_map (task_by_job e.task (attempt_of k e.task) s) (job_of k s.job)) (live_spec k e.task) e found in
+      let row = live_entry k e.task spec.0 spec.1 in
+      member_kept (λ (x : ℕ × TaskValue). held_task_at k m x.0) (e.task, row.0) e k.tasks is (entry_member nat_cmp nat_same e.task row.0 k.tasks row.1)
 
 -- The tasks of a tally.
 pub tasks_are : (k : Table) (tally : Tally) → TallyIsFor k tally → IsRising nat_cmp tally.tasks → IsRising nat_cmp k.tasks → tally.tasks ≡ rows (task_at k) k.tasks

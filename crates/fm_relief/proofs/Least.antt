@@ -5,12 +5,12 @@ use Rattle.std.specs.List.{IsDistinct}
 use Rattle.std.proofs.lemmas.Bool.{ltb-true, ltb-false, lt-ltb}
 use Rattle.std.proofs.lemmas.List.Sums.{sum_by-cons, sum_by-append, sum_by-le-sum_by}
 use Rattle.std.specs.declared.cmp.Ordering.TheVariants.{Less}
-use Rattle.fm_records.specs.Rising.{Rises}
+use Rattle.fm_records.specs.Rising.{IsBelowAll, Rises}
 use Rattle.fm_records.specs.Sets.{IsMember}
 use Rattle.fm_net.proofs.ListLaws.{member_passing, passes_kept}
 use Rattle.fm_relief.specs.declared.held_task.HeldTask.{HeldTask}
 use Rattle.fm_relief.specs.Relief.{preempt_cmp, comes_before, put_before, ordered, requests_from, is_preempted, preempted, requests_left}
-use Rattle.fm_relief.proofs.Orders.{AreApart, same_task, same_back, total, comes_first, is_less, before_is, member_all, ordered_from, rises_ordered}
+use Rattle.fm_relief.proofs.Orders.{AreApart, same_task, same_back, total, comes_first, is_less, before_is, member_all, ordered_in, ordered_from, rises_ordered}
 use Rattle.fm_relief.proofs.Fronts.{all_requests, from_here}
 
 -- Sums over the tasks in their order.
@@ -119,10 +119,32 @@ left_behind : (p : HeldTask → Bool) (before : List HeldTask) (x : HeldTask) (x
 left_behind p before x xs =
     omega (arith, sum_by-append (λ (e : HeldTask). cond (p e) 0 e.request) before (x ∷ xs), left_first p x xs)
 
+below_kept : (p : HeldTask → Bool) (x : HeldTask) (xs : List HeldTask) → IsBelowAll preempt_cmp x xs → IsBelowAll preempt_cmp x (filter p xs)
+below_kept p x [] below = tt
+below_kept p x (y ∷ ys) below =
+    elim (p y) as (λ b. IsBelowAll preempt_cmp x (cond b (y ∷ filter p ys) (filter p ys))) [ true ↦ (below.0, below_kept p x ys below.1) | false ↦ below_kept p x ys below.1 ]
+
+rises_kept : (p : HeldTask → Bool) (xs : List HeldTask) → Rises preempt_cmp xs → Rises preempt_cmp (filter p xs)
+rises_kept p [] rises = tt
+rises_kept p (x ∷ xs) rises =
+    elim (p x) as (λ b. Rises preempt_cmp (cond b (x ∷ filter p xs) (filter p xs))) [ true ↦ (below_kept p x xs rises.0, rises_kept p xs rises.1) | false ↦ rises_kept p xs rises.1 ]
+
+-- just the tasks that do not fit with those behind them
+pub goes_from : (es : List HeldTask) (nic : ℕ) (e : HeldTask) → IsMember e (preempted es nic) → IsMember e es × (nic < requests_from es e)
+goes_from es nic e is =
+    (ordered_from es e (kept_from (is_preempted es nic) e (ordered es) is), ltb-true nic (requests_from es e) (passes_kept (is_preempted es nic) e (ordered es) is))
+
+pub goes_in : (es : List HeldTask) (nic : ℕ) (e : HeldTask) → IsMember e es × (nic < requests_from es e) → IsMember e (preempted es nic)
+goes_in es nic e is =
+    member_passing (is_preempted es nic) e (ordered es) (ordered_in es e is.0) (lt-ltb nic (requests_from es e) is.1)
+
 module _ (es : List HeldTask) (nic : ℕ) (alone : AreApart es) where
   -- the tasks in their order
   abbrev turns : List HeldTask
   turns = ordered es
+
+  pub order_kept : Rises preempt_cmp (preempted es nic)
+  order_kept = rises_kept (is_preempted es nic) turns (rises_ordered es alone)
 
   -- what a task and those behind it request
   from_place : (before xs : List HeldTask) (x : HeldTask) → turns ≡ before ++ x ∷ xs → requests_from es x ≡ all_requests (x ∷ xs)

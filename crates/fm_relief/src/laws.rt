@@ -1,12 +1,25 @@
 //! Laws of reliefs. Each function does nothing: its contract is the law.
 
-ghost use Rattle.std.specs.Prelude.{◌≡◌, ◌≤◌, ◌<◌, ◌+◌, ◌++◌, ◌∷◌, [], ℕ, List, Some, true, false};
+ghost use Rattle.std.specs.Prelude.{◌≡◌, ◌↔◌, ◌≤◌, ◌<◌, ◌+◌, ◌++◌, ◌∷◌, [], ℕ, List, Some, true, false};
 ghost use Rattle.fm_records.specs.OpsOfTable.{IsTable};
+ghost use Rattle.fm_records.specs.Rising.{Rises};
 ghost use Rattle.fm_records.specs.Sets.{IsMember};
 ghost use Rattle.fm_records.specs.Table.{Table};
 ghost use Rattle.fm_relief.specs.declared.held_task.HeldTask.{HeldTask};
 ghost use Rattle.fm_relief.specs.declared.relief.OverfullMachine.{OverfullMachine};
-ghost use Rattle.fm_relief.specs.Relief.{tasks_on, comes_before, is_preempted, preempted, requests_left, overfull_at};
+ghost use Rattle.fm_relief.specs.Relief.{held_task_at, tasks_on, preempt_cmp, comes_before, requests_from, is_preempted, preempted, requests_left, overfull_at};
+
+/// The tasks of a machine are just those that it holds.
+pub fn law_held()
+    ensures { (k : Table) (m : ℕ) (e : HeldTask) → IsMember e (tasks_on k m) ↔ (held_task_at k m e.task ≡ Some e) }
+{}
+
+/// Of these just the ones are preempted that do not fit with those behind them, each before the next.
+pub fn law_just()
+    ensures members { (k : Table) (m nic : ℕ) (e : HeldTask) → IsMember e (preempted (tasks_on k m) nic)
+        ↔ (IsMember e (tasks_on k m) × (nic < requests_from (tasks_on k m) e)) }
+    ensures order { (k : Table) (m nic : ℕ) → IsTable k → Rises preempt_cmp (preempted (tasks_on k m) nic) }
+{}
 
 /// What a relief leaves on a machine fits the bandwidth.
 pub fn law_fits()
