@@ -193,7 +193,7 @@ class Drawing:
 
     def rounds(self):
         for at in self.numbers * 2:
-            self.add(at, "round", share(self.chance))
+            self.add(at, *(("relieve", True) if self.chance.random() < 0.2 else ("round", share(self.chance))))
 
     def text(self):
         return json.dumps({"coordinators": self.numbers, "steps": self.steps})

@@ -23,7 +23,7 @@ import witness
 RENEW_AFTER = 100000
 MOST_ENTRIES = 1000000
 VERSION = (pathlib.Path(__file__).resolve().parent.parent / "VERSION").read_text().strip()
-TOPICS = "graph", "solve", "plan", "winners", "list", "stops", "end", "size"
+TOPICS = "graph", "solve", "plan", "winners", "list", "stops", "end", "size", "over"
 # the members that say whose next version or attempt is asked for
 SUBJECTS = {"job": {"job"}, "machine": {"machine", "incarnation"}, "task": {"task"}}
 STRANGE, NO_PACKET, NOBODY, VERSIONS_SPENT, ATTEMPTS_SPENT = 16, 6, 8, 14, 15
@@ -312,7 +312,9 @@ class Stream:
         """What happens as in a script."""
         at = step["at"]
         if "round" in step and at in self.world.coordinators:
-            return self.round(at, step["round"], seen)
+            return self.committed(at, part_seen(self.known(at), step["round"], seen))
+        if "relieve" in step and at in self.world.coordinators:
+            return self.committed(at, ([], reference.relief_preempts(self.known(at))))
         refused = self.world.act(**step)
         if refused:
             raise Refused(refused)
@@ -348,10 +350,9 @@ class Stream:
         # a packet of a renewal has the number 0, and no other
         self.are_own[at].append(packet.number == 0)
 
-    def round(self, at, share, seen):
-        """A round: the part of a plan that the text says, if it may be made, with what is admitted of it."""
+    def committed(self, at, plan):
+        """The lines of a plan that is committed, with what is admitted of it."""
         coordinator = self.world.coordinators[at]
-        plan = part_seen(self.known(at), share, seen)
         admission = rounds.Admission(reference.Known, reference.name, frozenset(coordinator.taken), at)
         answers = sum(admission.plan(*plan), [])
         coordinator.take(admission.added)
@@ -378,7 +379,7 @@ class Stream:
             return "end %d %d\n" % (self.world.coordinators[at].floor, len(self.world.coordinators[at].sets))
         if topic == "size":
             return self.size(at, known)
-        return "".join({"graph": reference.graph, "winners": reference.winners, "list": reference.listing}[topic](known))
+        return "".join({"graph": reference.graph, "winners": reference.winners, "list": reference.listing, "over": reference.over}[topic](known))
 
     def size(self, at, known):
         """How much the coordinator knows, and what it keeps of how it came to know it."""

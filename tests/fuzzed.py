@@ -118,7 +118,7 @@ class Draw:
         for _ in range(self.one_of((0, 2, 6, 12, 25))):
             at = self.one_of(coordinators) if self.odds() < 0.99 else self.chance.randint(0, 255)
             steps.append({"at": at, **self.act(ends.get(at, 0), names)})
-            ends[at] = ends.get(at, 0) + (not {"tell", "deliver", "round"}.isdisjoint(steps[-1]))
+            ends[at] = ends.get(at, 0) + (not {"tell", "deliver", "round", "relieve"}.isdisjoint(steps[-1]))
         return {"coordinators": coordinators, "steps": steps}, names
 
     def rounds_at(self, at):
@@ -126,7 +126,7 @@ class Draw:
         for _ in range(self.one_of((2, 3, 3))):
             for _ in range(self.one_of((1, 1, 1, 2))):
                 yield {"at": at, "tell": self.operation()}
-            yield {"at": at, "round": self.share()}
+            yield {"at": at, "relieve": True} if self.odds() < 0.1 else {"at": at, "round": self.share()}
 
     def share(self):
         """What a round is asked for by: mostly all of a plan, and seldom what is none."""
@@ -156,7 +156,7 @@ class Draw:
             return {"cut": cut}
         if draw < 0.95:
             return {"trim": self.chance.randint(0, end // 2 + (self.odds() < 0.1))}
-        return {"round": self.share()}
+        return {"relieve": True} if self.odds() < 0.3 else {"round": self.share()}
 
     def spoiled(self, tree):
         """The tree with a change at some place."""

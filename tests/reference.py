@@ -232,6 +232,12 @@ class World:
             raise NotSaid("a round has too many flows to go over")
         self.coordinators[at].take(self.choices.pick(found))
 
+    def relieve(self, at, asked):
+        coordinator = self.coordinators[at]
+        admission = rounds.Admission(Known, name, frozenset(coordinator.taken), at)
+        admission.plan([], relief_preempts(Known(coordinator.taken)))
+        coordinator.take(admission.added)
+
 
 def winners(known):
     for task, attempt in sorted(known.winners):
@@ -260,6 +266,35 @@ def requests_held(known):
     for task in known.specs:
         held[known.holder(task)].append(known.specs[task][4])
     return held
+
+
+def reliefs(known):
+    """Each open machine whose held tasks request more than its bandwidth, by id: what they request, the bandwidth, and the tasks that go,
+    with attempt, request and price."""
+    held = collections.defaultdict(list)
+    for task, (_, _, _, job, request, _) in known.specs.items():
+        if known.holder(task) is not None:
+            held[known.holder(task)].append((known.jobs[job][4], -request, task))
+    for machine in sorted(held):
+        nic, tasks = known.states[machine][4], sorted(held[machine])
+        # what a task and those behind it request
+        behind = [-sum(request for _, request, _ in tasks[place:]) for place in range(len(tasks))]
+        gone = [(task, known.attempt(task), -request, price) for (price, request, task), left in zip(tasks, behind) if left > nic]
+        if gone:
+            yield machine, behind[0], nic, gone
+
+
+def relief_preempts(known):
+    """The preempts of a relief."""
+    return [(task, attempt) for _, _, _, gone in reliefs(known) for task, attempt, _, _ in gone]
+
+
+def over(known):
+    """The lines of the machines whose bandwidth is exceeded, and of the tasks that a relief preempts there."""
+    for machine, requests, nic, gone in reliefs(known):
+        yield "over %s %d %d\n" % (name(machine), requests, nic)
+        for task, attempt, request, price in gone:
+            yield "preempt %s %d %d %d\n" % (name(task), attempt, request, price)
 
 
 def load_of(known, machine, requests):

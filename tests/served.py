@@ -84,6 +84,8 @@ STEPS = {
     "RoundOfBothOneEach": '{"at":1,"round":{"writers":[1,2],"each":1}}',
     "RoundOfAll": '{"at":1,"round":{}}',
     "RoundOfNone": '{"at":1,"round":{"writers":[]}}',
+    "Relieve": '{"at":1,"relieve":true}',
+    "ASmall": '{"at":1,"tell":{"machine":{"id":"..00a","incarnation":1,"version":1,"writer":1,"up":true,"slots":2,"nic":99}}}',
     "UBy2": '{"at":1,"tell":{"spec":{"id":"..012","version":1,"writer":2,"withdrawn":false,"job":"..001","request":300}}}',
     "VBy2": '{"at":1,"tell":{"spec":{"id":"..013","version":1,"writer":2,"withdrawn":false,"job":"..002","request":100}}}',
     "JUrgent": '{"at":1,"tell":{"job":{"id":"..002","version":1,"writer":2,"withdrawn":false,"wait":10000,"preempt":20000}}}',
@@ -248,6 +250,9 @@ RUNS = [
     ("graph", "J A T Used0 Used950", 0, CROWDED_OUT, ""),
     ("graph", "J A T OnA", 0, HELD, ""),
     ("graph", "OnA T A J", 0, HELD, ""),
+    ("winners", "J A T OnA Relieve", 0, "..011 0 1 ..00a 1 held\n", ""),
+    ("winners", "J ASmall T OnA", 0, "..011 0 1 ..00a 1 held\n", ""),
+    ("winners", "J ASmall T OnA Relieve", 0, "", ""),
     ("graph", "J A T OnA Lost", 0, LOST, ""),
     ("graph", "Lost J A T OnA", 0, LOST, ""),
     ("graph", "J A T OnA TAgain", 0, WAITING, ""),
@@ -657,6 +662,57 @@ PREEMPTS = [
 ]
 
 
+def told_job(job, preempt):
+    return '{"at":1,"tell":{"job":{"id":"..%s","version":1,"writer":1,"withdrawn":false,"wait":50,"preempt":%d}}}' % (job, preempt)
+
+
+def told_machine(machine, nic):
+    return '{"at":1,"tell":{"machine":{"id":"..%s","incarnation":1,"version":1,"writer":1,"up":true,"slots":10,"nic":%d}}}' % (machine, nic)
+
+
+def told_task(task, job, request, machine, attempt=0):
+    """A task, and that it runs on a machine, as another coordinator might have it."""
+    yield '{"at":1,"tell":{"spec":{"id":"..%s","version":1,"writer":1,"withdrawn":false,"job":"..%s","request":%d}}}' % (task, job, request)
+    if attempt:
+        yield '{"at":1,"tell":{"progress":{"id":"..%s","attempt":%d,"phase":"running"}}}' % (task, attempt)
+    yield ('{"at":1,"tell":{"propose":{"id":"..%s","attempt":%d,"coordinator":1,"machine":"..%s","incarnation":1}}}' % (task, attempt, machine))
+
+
+OVER = '{"at":1,"ask":"over"}'
+NO_RELIEFS = [
+    '{"at":1,"relieve":%s}' % asked for asked in ("false", "null", "1", '"true"', "{}", "[]", '{"each":1}')] + [
+    '{"relieve":true}', '{"at":1,"relieve":true,"each":1}', '{"at":1,"relieve":true,"round":true}', '{"at":1,"Relieve":true}',
+    '{"at":256,"relieve":true}', '{"ask":"over"}', '{"at":1,"ask":"Over"}', '{"at":1,"ask":"over","of":"machines"}', '{"at":1,"over":true}']
+OVER_A = "over ..00a 2200 1100\npreempt ..014 0 400 100\npreempt ..015 0 400 100\npreempt ..013 0 300 100\n"
+OVER_B = "over ..00b 101 100\npreempt ..017 0 101 100\n"
+OVER_D = "over ..00d 10 9\npreempt ..019 4294967295 10 800\n"
+RELIEFS = [
+    ("Relieve", "refusal 16"), (OVER, "refusal 16"), ('{"coordinators":[1,2]}', "ok"), (OVER, "ok"), ("Relieve", "ok"),
+    *((line, "refusal 16") for line in NO_RELIEFS), ('{"at":3,"relieve":true}', "refusal 8"), ('{"at":3,"ask":"over"}', "refusal 8"),
+    ('{"at":1,"ask":"end"}', "end 0 1\nok"), (told_job("001", 800), "ok"), (told_job("002", 100), "ok"),
+    *((line, "ok") for line in (told_machine("00a", 1100), told_machine("00b", 100), told_machine("00c", 1000), told_machine("00d", 9))),
+    # on the first machine three cheap tasks go, and the two dear ones that are left just fit
+    *((line, "ok") for task in (("011", "001", 600), ("012", "001", 500), ("013", "002", 300), ("014", "002", 400), ("015", "002", 400))
+      for line in told_task(*task, "00a")),
+    (OVER, OVER_A + "ok"),
+    # what requests nothing goes last of its price, and what was reported as used does not count
+    *((line, "ok") for task in (("016", "002", 0, "00b"), ("017", "002", 101, "00b"), ("018", "002", 10, "00c")) for line in told_task(*task)),
+    ('{"at":1,"tell":{"report":{"id":"..00c","incarnation":1,"number":1,"used":1000000}}}', "ok"),
+    # of a task that has no next attempt there is a line, and it stays
+    *((line, "ok") for line in told_task("019", "001", 10, "00d", 4294967295)), (OVER, OVER_A + OVER_B + OVER_D + "ok"),
+    ('{"at":2,"ask":"over"}', "ok"), ('{"at":2,"relieve":true}', "ok"),
+    ("Relieve", "preempt ..014 0 accepted\npreempt ..015 0 accepted\npreempt ..013 0 accepted\npreempt ..017 0 accepted\n"
+                "preempt ..019 4294967295 attempts-spent\nok"),
+    (OVER, OVER_D + "ok"), ("Relieve", "preempt ..019 4294967295 attempts-spent\nok"),
+    ('{"at":1,"ask":"stops"}', "".join("stop ..%s 0 ..%s 1\n" % stop for stop in (
+        ("013", "00a"), ("014", "00a"), ("015", "00a"), ("017", "00b"))) + "ok"),
+    ('{"at":1,"ask":"list","of":"machines"}', "machine ..00a 1 1 1 open 10 1100 2 1100 0\nmachine ..00b 1 1 1 open 10 100 1 0 100\n"
+                                              "machine ..00c 1 1 1 open 10 1000 1 1000000 -\nmachine ..00d 1 1 1 open 10 9 1 10 -\nok"),
+    # a machine that is closed holds nothing
+    ('{"at":1,"tell":{"machine":{"id":"..00d","incarnation":1,"version":2,"writer":1,"up":false,"slots":10,"nic":9}}}', "ok"), (OVER, "ok"),
+]
+
+
 def expanded(text):
     """The text with each `..` written out; an end of a range is no id."""
     return re.sub(r"\.\.(?!=)", ZEROS, text)
@@ -692,7 +748,7 @@ def runs(seen):
 
 def lines(seen):
     """Streams of lines that were worked out by hand."""
-    for name, stream in (("lines", LINES), ("sizes", SIZES), ("shares", SHARES), ("preempts of shares", PREEMPTS)):
+    for name, stream in (("lines", LINES), ("sizes", SIZES), ("shares", SHARES), ("preempts of shares", PREEMPTS), ("reliefs", RELIEFS)):
         text = expanded("".join(STEPS.get(line, line) + "\n" for line, _ in stream)).encode()
         status, out, err = seen("follow", text.decode())
         found, rest = followed.answers_in(out)

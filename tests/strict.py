@@ -163,7 +163,7 @@ def read_step(step, names):
         asked = read_told(asked)
     elif kind == "cut":
         asked = read_cut(asked, names)
-    elif not {"deliver": type(asked) is str, "trim": fits(asked, U64), "round": is_share(asked)}.get(kind):
+    elif not {"deliver": type(asked) is str, "trim": fits(asked, U64), "round": is_share(asked), "relieve": asked is True}.get(kind):
         return None
     return None if asked is None else {"at": step["at"], kind: asked}
 

@@ -24,7 +24,7 @@ class Kind(enum.Enum):
     STRANGE = "nothing, so the follower refuses it"
 
 
-KINDS = {"tell": Kind.TELL, "take": Kind.TELL, "round": Kind.ROUND,
+KINDS = {"tell": Kind.TELL, "take": Kind.TELL, "round": Kind.ROUND, "relieve": Kind.ROUND,
          **dict.fromkeys(("coordinators", "cut", "deliver", "news", "renew", "trim"), Kind.OURS)}
 # what questions have beside the number of the coordinator
 QUESTIONS = {"ask"}, {"ask", "task"}, {"ask", "of"}, {"ask", "job"}, {"ask", "machine", "incarnation"}

@@ -5,6 +5,7 @@ pub mod PlanText
 pub mod RoundText
 pub mod ListText
 pub mod NextText
+pub mod OverText
 pub mod SizeText
 pub mod QueryTexts
 pub mod ReasonsText

@@ -7,13 +7,14 @@ use Rattle.fm_coord.specs.Events.{Replica}
 use Rattle.fm_world.specs.Represents.{Kept, WorldRepresents}
 use Rattle.fm_world.specs.Worlds.{WorldOfSets, with_number}
 use Rattle.fm_question.specs.declared.question.Question.{Question}
-use Rattle.fm_question.specs.declared.question.Question.TheVariants.{Graph, Solve, Plan, Winners, Stops, End, Why, List as Listed, Next, Size}
+use Rattle.fm_question.specs.declared.question.Question.TheVariants.{Graph, Solve, Plan, Winners, Stops, End, Why, List as Listed, Next, Size, Over}
 use Rattle.fm_query.specs.declared.query.Query.{Query}
 use Rattle.fm_query.specs.declared.query.Query.TheVariants.{About, Agree, Packet, Version}
 use Rattle.fm_query.specs.PlanText.{IsPlanText, stops_text}
 use Rattle.fm_query.specs.ReasonsText.{IsReasonsText}
 use Rattle.fm_query.specs.ListText.{list_text}
 use Rattle.fm_query.specs.NextText.{IsNextText, HasNoNext}
+use Rattle.fm_query.specs.OverText.{over_text}
 use Rattle.fm_query.specs.SizeText.{size_text}
 use Rattle.fm_query.specs.QueryTexts.{network_of, graph_of, winners_of, difference, agreement_text, end_text, version_text, packet_line, IsSolution}
 
@@ -32,6 +33,7 @@ AnswersTo End r text = text ≡ end_text r.floor (length r.buffer)
 AnswersTo (Why task) r text = IsReasonsText (table_of r.taken) task text
 AnswersTo (Listed listing) r text = text ≡ list_text listing (table_of r.taken)
 AnswersTo (Next subject) r text = IsNextText (table_of r.taken) subject text
+AnswersTo Over r text = text ≡ over_text (table_of r.taken)
 AnswersTo Size r text = text ≡ size_text (table_of r.taken) (length r.steps) r.limit r.floor (length r.buffer)
 
 -- what is asked of is there, and the text answers the query

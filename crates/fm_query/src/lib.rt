@@ -5,6 +5,7 @@ pub mod agree;
 pub mod end_text;
 pub mod list_text;
 pub mod next_text;
+pub mod over_text;
 pub mod packet_text;
 pub mod plan_text;
 pub mod query;

@@ -10,6 +10,7 @@ use crate::agree::{agreement_text, difference};
 use crate::end_text::end_text;
 use crate::list_text::list_text;
 use crate::next_text::next_text;
+use crate::over_text::over_text;
 use crate::packet_text::packet_line;
 use crate::reasons_text::why_text;
 use crate::size_text::size_text;
@@ -97,6 +98,7 @@ fn about<N: NetKeeper>(
         Question::List(listing) => list(alloc, world, at, listing),
         Question::Next(subject) => next(alloc, world, at, subject),
         Question::Size => size(alloc, world, at),
+        Question::Over => over(alloc, world, at),
     }
 }
 
@@ -233,6 +235,17 @@ fn size<N: NetKeeper>(alloc: Global, world: &World<N>, at: CoordId) -> Result<Ve
     match world.coordinator(at) {
         None => Err(Refusal::NoCoordinator),
         Some(coordinator) => Ok(size_text(alloc, coordinator)?.into_bytes()),
+    }
+}
+
+// The machines whose held tasks request more than their bandwidth, by what the coordinator knows.
+fn over<N: NetKeeper>(alloc: Global, world: &World<N>, at: CoordId) -> Result<Vec<u8>, Refusal>
+    ensures ok { ForEachWorld world.now (λ w. IfOk result (λ text. IsText (Query.About at Question.Over) w text.items)) }
+    ensures err { ForEachWorld world.now (λ w. IfErr result (IsUnanswered (Query.About at Question.Over) w)) }
+{
+    match world.coordinator(at) {
+        None => Err(Refusal::NoCoordinator),
+        Some(coordinator) => Ok(over_text(alloc, coordinator.knowledge())?.into_bytes()),
     }
 }
 

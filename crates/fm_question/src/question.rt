@@ -28,6 +28,8 @@ pub enum Question {
     Next(Subject),
     /// How much it knows, and how long its history is, a line each.
     Size,
+    /// The machines whose held tasks request more than their bandwidth, a line each, and the tasks that a relief preempts.
+    Over,
 }
 
 /// Which records are listed.

@@ -5,6 +5,7 @@ use Rattle.serde_json.proofs.OnLiterals.{serde_json_on_literals}
 use Rattle.uuid.proofs.OnLiterals.{uuid_on_literals}
 use Rattle.fm_coord.specs.declared.entry.Range.TheVariants.{Interval, Full}
 use Rattle.fm_script.specs.declared.script.ScriptAct.TheVariants as act
+use Rattle.fm_script.specs.declared.script.RoundKind.TheVariants.{Relief}
 use Rattle.fm_question.specs.declared.question.Question.TheVariants as question
 use Rattle.fm_question.specs.declared.question.Listing.TheVariants as listing
 use Rattle.fm_question.specs.declared.question.Subject.TheVariants as subject
@@ -162,6 +163,18 @@ no_question = refl
 size : asked_by (codes "{\"at\":1,\"ask\":\"size\"}") ≡ Some (Asks 1 question.Size)
 unfolding serde_json_on_literals
 size = refl
+
+over : asked_by (codes "{\"at\":1,\"ask\":\"over\"}") ≡ Some (Asks 1 question.Over)
+unfolding serde_json_on_literals
+over = refl
+
+relief : asked_by (codes "{\"at\":1,\"relieve\":true}") ≡ Some (Does (record { at = 1; act = act.Round Relief }))
+unfolding serde_json_on_literals
+relief = refl
+
+no_relief : asked_by (codes "{\"at\":1,\"relieve\":false}") ≡ None
+unfolding serde_json_on_literals
+no_relief = refl
 
 renewal : asked_by (codes "{\"renew\":true}") ≡ Some Renews
 unfolding serde_json_on_literals

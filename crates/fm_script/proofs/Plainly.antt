@@ -7,10 +7,11 @@ use Rattle.fm_records.specs.Options.{when}
 use Rattle.fm_coord.specs.declared.entry.Range.{Range}
 use Rattle.fm_script.specs.declared.script.ScriptAct.{ScriptAct}
 use Rattle.fm_script.specs.declared.script.ScriptAct.TheVariants as act
+use Rattle.fm_script.specs.declared.script.RoundKind.TheVariants.{Share, Relief}
 use Rattle.fm_script.specs.declared.script.ScriptStep.{ScriptStep}
 use Rattle.fm_question.specs.declared.question.Question.{Question}
 use Rattle.fm_script.specs.Json.{bind, whole_number, number_8_at, text_at, has_size, items_at}
-use Rattle.fm_script.specs.Script.{is_text, either, op_of, range_of, is_named, delivery_of, round_by, round_of, act_of, script_step_of, listed_of, coordinators_of}
+use Rattle.fm_script.specs.Script.{is_text, either, op_of, range_of, is_named, delivery_of, round_by, round_of, relief_of, act_of, script_step_of, listed_of, coordinators_of}
 use Rattle.fm_script.specs.Requests.{RequestModel, Opens, Does, Cuts, News, OwnNews, Takes, Asks, Agrees, Versions, Renews, question_named, question_of_one, question_of_two, cut_under, cut_asked, when_true, general_asked, alone_of, asked_at, question_asked, own_news_asked, asked_by_three, request_from, CutsNothing, IsPlain}
 use Rattle.fm_script.specs.ShareJson.{share_in}
 use Rattle.fm_share.specs.Shares.{whole}
@@ -61,11 +62,14 @@ IfSome-step at (Some act) h = h
 -- what is beside the number of a coordinator and is no cut
 
 round_by-cuts_nothing : (o : Option Bool) (d : Data) → IfSome (round_by o d) CutsNothing
-round_by-cuts_nothing (Some b) d = IfSome-when CutsNothing b (act.Round whole) tt
-round_by-cuts_nothing None d = IfSome-map CutsNothing (share_in d) act.Round (λ share. tt)
+round_by-cuts_nothing (Some b) d = IfSome-when CutsNothing b (act.Round (Share whole)) tt
+round_by-cuts_nothing None d = IfSome-map CutsNothing (share_in d) (λ share. act.Round (Share share)) (λ share. tt)
 
 round-cuts_nothing : (d : Data) → IfSome (round_of d) CutsNothing
 round-cuts_nothing d = round_by-cuts_nothing (as_bool d) d
+
+relief-cuts_nothing : (d : Data) → IfSome (relief_of d) CutsNothing
+relief-cuts_nothing d = IfSome-given CutsNothing (as_bool d) (λ b. when b (act.Round Relief)) (λ b. IfSome-when CutsNothing b (act.Round Relief) tt)
 
 act-cuts_nothing : (names : List (List ℕ)) (d : Data) → get (codes "cut") d ≡ None → IfSome (act_of names d) CutsNothing
 act-cuts_nothing names d none =
@@ -73,7 +77,8 @@ act-cuts_nothing names d none =
     IfSome-either CutsNothing (get (codes "tell") d) (λ v. option_map act.Tell (op_of v)) _ (λ v. IfSome-map CutsNothing (op_of v) act.Tell (λ op. tt)) (
     IfSome-either CutsNothing (get (codes "deliver") d) (delivery_of names) _ (λ v. IfSome-map CutsNothing (as_str v) _ (λ name. tt)) (
     IfSome-either CutsNothing (get (codes "trim") d) (λ v. option_map act.Trim (whole_number v)) _ (λ v. IfSome-map CutsNothing (whole_number v) act.Trim (λ n. tt)) (
-    IfSome-either CutsNothing (get (codes "round") d) round_of None round-cuts_nothing tt))))
+    IfSome-either CutsNothing (get (codes "round") d) round_of _ round-cuts_nothing (
+    IfSome-either CutsNothing (get (codes "relieve") d) relief_of None relief-cuts_nothing tt)))))
 
 -- a step of the number that an object has
 abbrev numbered_step : List (List ℕ) → Data → Option ScriptStep

@@ -5,3 +5,4 @@ pub mod Texts
 pub mod Requests
 pub mod Openings
 pub mod ShareJson
+pub mod RoundPlans

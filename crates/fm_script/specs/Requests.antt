@@ -57,7 +57,8 @@ question_named word =
     cond (is_text word (codes "stops")) (Some question.Stops) (
     cond (is_text word (codes "end")) (Some question.End) (
     cond (is_text word (codes "size")) (Some question.Size) (
-    when (is_text word (codes "list")) (question.List listing.All))))))))
+    cond (is_text word (codes "over")) (Some question.Over) (
+    when (is_text word (codes "list")) (question.List listing.All)))))))))
 
 -- the records of a kind, by its name
 abbrev pub listing_named : List ℕ → Option Listing

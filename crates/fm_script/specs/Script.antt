@@ -14,6 +14,7 @@ use Rattle.fm_coord.specs.declared.entry.Range.{Range}
 use Rattle.fm_coord.specs.declared.entry.Range.TheVariants.{Interval, Full}
 use Rattle.fm_script.specs.declared.script.ScriptAct.{ScriptAct}
 use Rattle.fm_script.specs.declared.script.ScriptAct.TheVariants as act
+use Rattle.fm_script.specs.declared.script.RoundKind.TheVariants.{Share, Relief}
 use Rattle.fm_script.specs.declared.script.ScriptStep.{ScriptStep}
 use Rattle.fm_script.specs.declared.script.Tell.{Tell}
 use Rattle.fm_share.specs.Shares.{whole}
@@ -138,11 +139,15 @@ delivery_of names d = option_map (λ name. act.Deliver (position_or_len (is_text
 
 -- a round: true asks for the whole plan, and an object for its share of it
 abbrev pub round_by : Option Bool → Data → Option ScriptAct
-round_by (Some b) d = when b (act.Round whole)
-round_by None d = option_map act.Round (share_in d)
+round_by (Some b) d = when b (act.Round (Share whole))
+round_by None d = option_map (λ share. act.Round (Share share)) (share_in d)
 
 abbrev pub round_of : Data → Option ScriptAct
 round_of d = round_by (as_bool d) d
+
+-- a round of the relief is asked for by true
+abbrev pub relief_of : Data → Option ScriptAct
+relief_of d = bind (as_bool d) (λ b. when b (act.Round Relief))
 
 -- what happens in a step, given that packets of the names were cut before: the one member beside the number of its
 -- coordinator
@@ -152,7 +157,8 @@ act_of names d =
     either (get (codes "tell") d) (λ v. option_map act.Tell (op_of v)) (
     either (get (codes "deliver") d) (delivery_of names) (
     either (get (codes "trim") d) (λ v. option_map act.Trim (whole_number v)) (
-    either (get (codes "round") d) round_of None))))
+    either (get (codes "round") d) round_of (
+    either (get (codes "relieve") d) relief_of None)))))
 
 -- a step: an object of two members, the number of its coordinator and what happens there
 abbrev pub script_step_of : List (List ℕ) → Data → Option ScriptStep

@@ -25,8 +25,8 @@ use std::alloc::Global;
 
 /// What a line of a stream asks for, given that packets of the names were cut before. The line is an object of one
 /// member (`coordinators`, `renew`, or an `ask` of `agree` or `version`), or of an `at` and one of `cut`, `news`,
-/// `take`, `tell`, `deliver`, `trim`, `round` and `ask`, the last of `graph`, `solve`, `plan`, `winners`, `stops`,
-/// `end`, `size` or `list`. With more members it is an `at` with `news` and `mine`, or with an `ask`: of `why` with a
+/// `take`, `tell`, `deliver`, `trim`, `round`, `relieve` and `ask`, the last of `graph`, `solve`, `plan`, `winners`,
+/// `stops`, `end`, `size`, `over` or `list`. With more members it is an `at` with `news` and `mine`, or with an `ask`: of `why` with a
 /// `task`, of `list` with an `of` (`jobs`, `machines`, `tasks` or `waiting`), or of `next` with a `job`, with a
 /// `task`, or with a `machine` and its `incarnation`. Further members of an operation and of a cut are ignored, and of
 /// equal members the last counts.
@@ -266,6 +266,8 @@ fn question_in(word: &str) -> Option<Question>
         Some(Question::End)
     } else if word == "size" {
         Some(Question::Size)
+    } else if word == "over" {
+        Some(Question::Over)
     } else if word == "list" {
         Some(Question::List(Listing::All))
     } else {

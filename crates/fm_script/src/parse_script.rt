@@ -11,11 +11,11 @@ ghost use Rattle.fm_script.specs.Json.{number_at, number_32_at, number_8_at, fla
 ghost use Rattle.std.specs.List.{flat_map};
 ghost use Rattle.std.specs.Option.{option_to_list};
 ghost use Rattle.fm_coord.specs.Numbers.{AreDistinct};
-ghost use Rattle.fm_script.specs.Script.{parse_job, preference_entry, preference_entries, prefer_of, parse_spec, phase_named, parse_progress, first_strange, parse_machine, parse_report, propose_of, op_of, range_of, cut_of, delivery_of, round_of, act_of, script_step_of, steps_of, names_in, coordinator_of, listed_of, script_fault, IsScriptOf};
+ghost use Rattle.fm_script.specs.Script.{parse_job, preference_entry, preference_entries, prefer_of, parse_spec, phase_named, parse_progress, first_strange, parse_machine, parse_report, propose_of, op_of, range_of, cut_of, delivery_of, round_of, relief_of, act_of, script_step_of, steps_of, names_in, coordinator_of, listed_of, script_fault, IsScriptOf};
 
 use crate::names::Names;
 use crate::parse_share::share_in;
-use crate::script::{Script, ScriptAct, ScriptStep};
+use crate::script::{RoundKind, Script, ScriptAct, ScriptStep};
 use fm_coord::entry::Range;
 use fm_lattice::join::OutOfMemory;
 use fm_records::ids::{CoordId, JobId, MachineId, TaskId};
@@ -28,7 +28,7 @@ use std::alloc::Global;
 use std::mem;
 
 /// The script that a JSON text spells: an object whose `coordinators` list at least one number, distinct ones from 1 to
-/// 64, and whose `steps` list objects of an `at` and one of `tell`, `cut`, `deliver`, `trim` and `round`.
+/// 64, and whose `steps` list objects of an `at` and one of `tell`, `cut`, `deliver`, `trim`, `round` and `relieve`.
 /// `BadScript(0)` if the text is no JSON or no script as a whole, else `BadScript(K)` for the first strange step K,
 /// counted from 1. Further members of the script, of an operation and of a cut are ignored, and of equal members the
 /// last counts.
@@ -155,8 +155,10 @@ fn act_in(value: &Value, names: &Names) -> Option<ScriptAct>
         delivery_in(packet, names)
     } else if let Some(floor) = value.get("trim") {
         Some(ScriptAct::Trim(floor.as_u64()?))
+    } else if let Some(asked) = value.get("round") {
+        round_in(asked)
     } else {
-        round_in(value.get("round")?)
+        relief_in(value.get("relieve")?)
     }
 }
 
@@ -197,9 +199,20 @@ fn round_in(asked: &Value) -> Option<ScriptAct>
     ensures { result ≡ round_of (view asked.now) }
 {
     match asked.as_bool() {
-        Some(true) => Some(ScriptAct::Round(Share::whole())),
+        Some(true) => Some(ScriptAct::Round(RoundKind::Share(Share::whole()))),
         Some(false) => None,
-        None => Some(ScriptAct::Round(share_in(asked)?)),
+        None => Some(ScriptAct::Round(RoundKind::Share(share_in(asked)?))),
+    }
+}
+
+// A round of the relief is asked for by true.
+fn relief_in(asked: &Value) -> Option<ScriptAct>
+    ensures { result ≡ relief_of (view asked.now) }
+{
+    if asked.as_bool()? {
+        Some(ScriptAct::Round(RoundKind::Relief))
+    } else {
+        None
     }
 }
 

@@ -18,8 +18,17 @@ pub enum ScriptAct {
     Deliver(usize),
     /// It lets the deltas below the number go.
     Trim(u64),
-    /// It looks at what it knows, plans by a least flow of that, and commits its share of the plan.
-    Round(Share),
+    /// It looks at what it knows, and commits what the round is for.
+    Round(RoundKind),
+}
+
+/// What a round commits.
+#[derive(Debug, Clone, Copy, PartialEq, Eq, Drop)]
+pub enum RoundKind {
+    /// Its share of the plan of a least flow of what is known.
+    Share(Share),
+    /// The relief of all machines whose held tasks request more than their bandwidth: preempts alone.
+    Relief,
 }
 
 /// One step of a script.

@@ -13,8 +13,8 @@ use Rattle.fm_script.specs.declared.script.ScriptAct.{ScriptAct}
 use Rattle.fm_script.specs.declared.script.ScriptAct.TheVariants as act
 use Rattle.fm_script.specs.declared.script.ScriptStep.{ScriptStep}
 use Rattle.fm_script.specs.Openings.{new_world}
-use Rattle.fm_share.specs.declared.share.Share.{Share}
-use Rattle.fm_service.specs.WorldSteps.{step_at, IsPartAt, WorldStep}
+use Rattle.fm_script.specs.declared.script.RoundKind.{RoundKind}
+use Rattle.fm_service.specs.WorldSteps.{step_at, IsRoundPlanAt, WorldStep}
 use Rattle.fm_serve.specs.Faults.{fault_of}
 
 -- what a step asks a coordinator for; a round asks it for a view first
@@ -23,19 +23,19 @@ world_act_of (act.Tell op) = world.Tell op
 world_act_of (act.Cut range) = world.Cut range
 world_act_of (act.Deliver i) = world.Deliver i
 world_act_of (act.Trim n) = world.Trim n
-world_act_of (act.Round share) = world.View
+world_act_of (act.Round kind) = world.View
 
--- a round makes v of w: the view, and then the commit of its share of a plan by what was known
-pub record ScriptRoundStep (w : WorldOfSets) (at : ℕ) (share : Share) (v : WorldOfSets) : Type 0 where
-  pub part : Plan
-  pub part_at : IsPartAt w at share part
+-- a round makes v of w: the view, and then the commit of what the round is for, by what was known
+pub record ScriptRoundStep (w : WorldOfSets) (at : ℕ) (kind : RoundKind) (v : WorldOfSets) : Type 0 where
+  pub plan : Plan
+  pub plan_at : IsRoundPlanAt w at kind plan
   pub seen : WorldOfSets
   pub view : WorldStep w (step_at at world.View) seen
-  pub commit : WorldStep seen (step_at at (world.Commit part)) v
+  pub commit : WorldStep seen (step_at at (world.Commit plan)) v
 
 -- what happens in a step of the script makes v of w
 abbrev pub ScriptActStep : WorldOfSets → ℕ → ScriptAct → WorldOfSets → Type 0
-ScriptActStep w at (act.Round share) v = ScriptRoundStep w at share v
+ScriptActStep w at (act.Round kind) v = ScriptRoundStep w at kind v
 ScriptActStep w at a v = WorldStep w (step_at at (world_act_of a)) v
 
 -- steps, one after another, make v of w
@@ -48,14 +48,14 @@ abbrev pub After : List ℕ → List ScriptStep → (WorldOfSets → Type 0) →
 After listed steps Holds = (w : WorldOfSets) × Come (new_world listed) steps w × Holds w
 
 -- after its view a round is refused: memory ran out for a plan, or the commit is
-pub record StopsAfterView (w : WorldOfSets) (at : ℕ) (share : Share) (refusal : Refusal) : Type 0 where
+pub record StopsAfterView (w : WorldOfSets) (at : ℕ) (kind : RoundKind) (refusal : Refusal) : Type 0 where
   pub seen : WorldOfSets
   pub view : WorldStep w (step_at at world.View) seen
-  pub stopped : (refusal ≡ OutOfMemory) ⊎ ((part : Plan) × IsPartAt w at share part × (refusal ≡ refusal_of seen (step_at at (world.Commit part))))
+  pub stopped : (refusal ≡ OutOfMemory) ⊎ ((plan : Plan) × IsRoundPlanAt w at kind plan × (refusal ≡ refusal_of seen (step_at at (world.Commit plan))))
 
 -- what happens in a step of the script is refused, and why
 abbrev pub Refuses : WorldOfSets → ℕ → ScriptAct → Refusal → Type 0
-Refuses w at (act.Round share) refusal = (refusal ≡ refusal_of w (step_at at world.View)) ⊎ StopsAfterView w at share refusal
+Refuses w at (act.Round kind) refusal = (refusal ≡ refusal_of w (step_at at world.View)) ⊎ StopsAfterView w at kind refusal
 Refuses w at a refusal = refusal ≡ refusal_of w (step_at at (world_act_of a))
 
 -- a step of the script is refused, and named, counted from 1; those before it made a world of w

@@ -9,8 +9,8 @@ use Rattle.fm_delta.specs.declared.packet.Packet.{Packet}
 use Rattle.fm_round.specs.declared.plan.Plan.{Plan}
 use Rattle.fm_round.specs.declared.plan.Admitted.{Admitted}
 use Rattle.fm_round.specs.Admission.{admission}
-use Rattle.fm_share.specs.declared.share.Share.{Share}
-use Rattle.fm_share.specs.Parts.{IsPartOf}
+use Rattle.fm_script.specs.declared.script.RoundKind.{RoundKind}
+use Rattle.fm_script.specs.RoundPlans.{IsRoundPlan}
 use Rattle.fm_coord.specs.declared.entry.Call.TheVariants as call
 use Rattle.fm_coord.specs.declared.entry.Range.{Range}
 use Rattle.fm_coord.specs.declared.entry.Range.TheVariants.{Interval, Full}
@@ -111,16 +111,16 @@ module _ (k : Kept) (w : WorldOfSets) (at : ℕ) (h : WorldRepresents k w) where
     cut_told range packet text seen_so told = record { replica = here.replica; there = here.at; is = told ∙ ap line_of (seen_so here.replica here.stands) }
 
     -- a round
-    pub round_told : (share : Share) (plan : Plan) (answered : Admitted) (text : List ℕ) (v : WorldOfSets) → IsPartOf s.knowledge share plan → answered ≡ admission s.knowledge s.number plan
-        → text ≡ round_text plan answered → WorldStep w (step_at at (act.Commit plan)) v → StreamRoundStep w at share text v
-    round_told share plan answered text v part_of is told commit =
+    pub round_told : (kind : RoundKind) (plan : Plan) (answered : Admitted) (text : List ℕ) (v : WorldOfSets) → IsRoundPlan s.knowledge kind plan → answered ≡ admission s.knowledge s.number plan
+        → text ≡ round_text plan answered → WorldStep w (step_at at (act.Commit plan)) v → StreamRoundStep w at kind text v
+    round_told kind plan answered text v plan_of is told commit =
         let known = here.stands.knowledge in
         let number = here.stands.number in
         record {
           replica = here.replica;
           there = here.at;
-          part = plan;
-          part_of = subst (λ t. IsPartOf t share plan) known part_of;
+          plan = plan;
+          plan_of = subst (λ t. IsRoundPlan t kind plan) known plan_of;
           commit = commit;
           told = told ∙ ap (round_text plan) (is ∙ (λ i. admission (known i) (number i) plan));
         }

@@ -85,12 +85,12 @@ asked_for k (act.Tell op) = world.Tell op
 asked_for k (act.Cut range) = world.Cut range
 asked_for k (act.Deliver place) = world.Deliver (packet_number_at k place)
 asked_for k (act.Trim n) = world.Trim n
-asked_for k (act.Round share) = world.View
+asked_for k (act.Round kind) = world.View
 
 -- what a step as in a script makes of the world, and its text
 abbrev pub StreamActStep : Following → ℕ → ScriptAct → List ℕ → WorldOfSets → Type 0
 StreamActStep k at (act.Cut range) text v = acting.Cuts k.world at range text v
-StreamActStep k at (act.Round share) text v = StreamRoundStep k.world at share text v
+StreamActStep k at (act.Round kind) text v = StreamRoundStep k.world at kind text v
 StreamActStep k at a text v = (text ≡ []) × acting.WorldStep k.world (step_at at (asked_for k a)) v
 
 -- the names after a cut

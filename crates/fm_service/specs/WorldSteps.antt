@@ -2,8 +2,6 @@
 use Rattle.std.specs.Prelude.{◌≡◌, ℕ, List, Some, None, Result, OnOk, IfErr}
 use Rattle.fm_records.specs.Know.{table_of}
 use Rattle.fm_round.specs.declared.plan.Plan.{Plan}
-use Rattle.fm_share.specs.declared.share.Share.{Share}
-use Rattle.fm_share.specs.Parts.{IsPartOf}
 use Rattle.fm_coord.specs.declared.entry.Range.{Range}
 use Rattle.fm_coord.specs.Events.{Replica, packet_of, admitted_by}
 use Rattle.fm_world.specs.declared.step.Act.{Act}
@@ -11,6 +9,8 @@ use Rattle.fm_world.specs.declared.step.Act.TheVariants as act
 use Rattle.fm_world.specs.declared.step.Step.{Step}
 use Rattle.fm_world.specs.Worlds.{WorldOfSets, with_number, cause_of, step_of}
 use Rattle.fm_world.specs.Represents.{Kept, WorldRepresents}
+use Rattle.fm_script.specs.declared.script.RoundKind.{RoundKind}
+use Rattle.fm_script.specs.RoundPlans.{IsRoundPlan}
 use Rattle.fm_query.specs.QueryTexts.{packet_line}
 use Rattle.fm_query.specs.RoundText.{round_text}
 
@@ -23,11 +23,11 @@ pub record WorldStep (w : WorldOfSets) (s : Step) (v : WorldOfSets) : Type 0 whe
   pub accepted : cause_of w s ≡ None
   pub made : v ≡ step_of w s
 
--- what a round of the coordinator with the number commits: its share of the plan of a least flow, by what it took in
-pub record IsPartAt (w : WorldOfSets) (at : ℕ) (share : Share) (part : Plan) : Type 0 where
+-- what a round of the coordinator with the number commits, by what it took in
+pub record IsRoundPlanAt (w : WorldOfSets) (at : ℕ) (kind : RoundKind) (plan : Plan) : Type 0 where
   pub replica : Replica
   pub there : with_number w.replicas at ≡ Some replica
-  pub part_of : IsPartOf (table_of replica.taken) share part
+  pub plan_of : IsRoundPlan (table_of replica.taken) kind plan
 
 -- the line of the packet that the coordinator with the number would cut of the range
 pub record IsCutLine (w : WorldOfSets) (at : ℕ) (range : Range) (text : List ℕ) : Type 0 where
@@ -40,14 +40,14 @@ pub record Cuts (w : WorldOfSets) (at : ℕ) (range : Range) (text : List ℕ) (
   pub told : IsCutLine w at range text
   pub cut : WorldStep w (step_at at (act.Cut range)) v
 
--- a round makes v of w: its share of a plan for what is known is committed; what admission answers to each of these entries is told
-pub record StreamRoundStep (w : WorldOfSets) (at : ℕ) (share : Share) (text : List ℕ) (v : WorldOfSets) : Type 0 where
+-- a round makes v of w: what it is for is committed, by what is known; what admission answers to each entry of that is told
+pub record StreamRoundStep (w : WorldOfSets) (at : ℕ) (kind : RoundKind) (text : List ℕ) (v : WorldOfSets) : Type 0 where
   pub replica : Replica
   pub there : with_number w.replicas at ≡ Some replica
-  pub part : Plan
-  pub part_of : IsPartOf (table_of replica.taken) share part
-  pub commit : WorldStep w (step_at at (act.Commit part)) v
-  pub told : text ≡ round_text part (admitted_by replica part)
+  pub plan : Plan
+  pub plan_of : IsRoundPlan (table_of replica.taken) kind plan
+  pub commit : WorldStep w (step_at at (act.Commit plan)) v
+  pub told : text ≡ round_text plan (admitted_by replica plan)
 
 -- of a call on a world that answers ok: whatever world of sets its coordinators stood for, they then stand for one that is made of it so
 abbrev pub Makes : {T E : Type 0} → Result T E → Kept → Kept → (WorldOfSets → WorldOfSets → Type 0) → Type 0

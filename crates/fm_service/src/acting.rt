@@ -4,7 +4,9 @@
 //! decided of a plan, are made first, then their texts, and then the step takes what was made.
 
 ghost use Rattle.std.specs.Prelude.{◌≡◌, None, IfOk, IfSome, IsOkUnless, OnErr, OnOk};
+ghost use Rattle.fm_relief.specs.Relief.{relief_of, plan_of_relief};
 ghost use Rattle.fm_share.specs.Parts.{IsPartOf};
+ghost use Rattle.fm_script.specs.RoundPlans.{IsRoundPlan};
 ghost use Rattle.fm_world.specs.declared.step.Act.TheVariants as act;
 ghost use Rattle.fm_coord.specs.States.{cut_packet};
 ghost use Rattle.fm_world.specs.Worlds.{WorldOfSets, cause_of, refusal_of};
@@ -16,11 +18,15 @@ use fm_coord::entry::Range;
 use fm_coord::shared::Shared;
 use fm_delta::packet::Packet;
 use fm_edit::keepers::Keeper;
+use fm_know::knowledge::Knowledge;
+use fm_lattice::join::OutOfMemory;
 use fm_query::packet_text::packet_line;
 use fm_query::round_text::round_text;
 use fm_query::solution_text::least_plan_of;
 use fm_records::refusal::Refusal;
+use fm_relief::relief::{plan_of, relief_of};
 use fm_round::plan::Plan;
+use fm_script::script::RoundKind;
 use fm_share::part::part_of;
 use fm_share::share::Share;
 use fm_world::step::{Act, Step};
@@ -113,23 +119,23 @@ fn prepared_cut(
     Ok(prepared.line)
 }
 
-/// A round at the coordinator: its share of the plan of a least flow of its network is committed. The text has admission's answer to each
-/// entry of the share, and is made of the decision that is then carried out. The history gets one entry, since there is no view.
-/// NoCoordinator, HistoryFull, OutOfMemory; then nothing has changed. The cost is that of `World::refresh_tally`, of `least_plan_of`, of
-/// `part_of`, and of admitting the share by the tally.
+/// A round at the coordinator: its share of the plan of a least flow of its network is committed, or the relief of the machines that it
+/// knows. The text has admission's answer to each entry of that, and is made of the decision that is then carried out. The history gets
+/// one entry, since there is no view. NoCoordinator, HistoryFull, OutOfMemory; then nothing has changed. The cost is that of
+/// `World::refresh_tally`, of `least_plan_of` and `part_of` or of `relief_plan`, and of admitting the entries by the tally.
 pub(crate) fn round(
     alloc: Global,
     world: &mut World<Keeper>,
     at: u8,
-    share: &Share,
+    kind: &RoundKind,
 ) -> Result<Vec<u8>, Refusal>
     ensures ok { (w : WorldOfSets) → WorldRepresents world.old w
-        → IfOk result (λ text. (v : WorldOfSets) × StreamRoundStep w at share.now text.items v × WorldRepresents world.new v) }
+        → IfOk result (λ text. (v : WorldOfSets) × StreamRoundStep w at kind.now text.items v × WorldRepresents world.new v) }
     ensures err { EnsuresErr result world.old (λ w refusal. refusal ≡ refusal_of w (step_at at act.View)) }
     ensures unchanged { OnErr result (world.new ≡ world.old) }
 {
     world.refresh_tally(at);
-    planned_round(alloc, world, at, share)
+    planned_round(alloc, world, at, kind)
 }
 
 // The round, with the tally or without.
@@ -137,10 +143,10 @@ fn planned_round(
     alloc: Global,
     world: &mut World<Keeper>,
     at: u8,
-    share: &Share,
+    kind: &RoundKind,
 ) -> Result<Vec<u8>, Refusal>
     ensures ok { (w : WorldOfSets) → WorldRepresents world.old w
-        → IfOk result (λ text. (v : WorldOfSets) × StreamRoundStep w at share.now text.items v × WorldRepresents world.new v) }
+        → IfOk result (λ text. (v : WorldOfSets) × StreamRoundStep w at kind.now text.items v × WorldRepresents world.new v) }
     ensures err { EnsuresErr result world.old (λ w refusal. refusal ≡ refusal_of w (step_at at act.View)) }
     ensures unchanged { OnErr result (world.new ≡ world.old) }
 {
@@ -148,11 +154,34 @@ fn planned_round(
         return Err(Refusal::NoCoordinator);
     };
     coordinator.check_room()?;
-    let part = part_for(alloc, coordinator, share)?;
-    let decision = coordinator.decide(part)?;
+    let plan = plan_for(alloc, coordinator, kind)?;
+    let decision = coordinator.decide(plan)?;
     let text = round_text(alloc, &decision.plan, decision.admitted.get())?.into_bytes();
     let _admitted = world.accept(at, 0, decision)?;
     Ok(text)
+}
+
+// What the coordinator's round commits.
+fn plan_for(
+    alloc: Global,
+    coordinator: &Coordinator<Keeper>,
+    kind: &RoundKind,
+) -> Result<Plan, Refusal>
+    ensures ok { IfOk result (IsRoundPlan coordinator.now.state.knowledge kind.now) }
+    ensures err { IsOkUnless result Refusal.OutOfMemory }
+{
+    match kind {
+        RoundKind::Share(share) => part_for(alloc, coordinator, share),
+        RoundKind::Relief => Ok(relief_plan(alloc, coordinator.knowledge())?),
+    }
+}
+
+/// The preempts of the relief of what is known. Refused only if memory runs out. It costs what `relief_of` does.
+pub fn relief_plan(alloc: Global, knowledge: &Knowledge) -> Result<Plan, OutOfMemory>
+    ensures { IfOk result (λ plan. plan ≡ plan_of_relief (relief_of knowledge.now)) }
+{
+    let relief = relief_of(alloc, knowledge)?;
+    plan_of(alloc, &relief)
 }
 
 // The coordinator's share of the plan of a least flow.
@@ -165,5 +194,6 @@ fn part_for(
     ensures err { IsOkUnless result Refusal.OutOfMemory }
 {
     let plan = least_plan_of(alloc, coordinator)?;
-    Ok(part_of(alloc, coordinator.knowledge(), share, plan)?)
+    let part = part_of(alloc, coordinator.knowledge(), share, plan)?;
+    Ok(part)
 }

@@ -33,8 +33,7 @@ use fm_question::question::Question;
 use fm_records::refusal::Refusal;
 use fm_script::parse_request::read_request;
 use fm_script::request::Request;
-use fm_script::script::{ScriptAct, ScriptStep};
-use fm_share::share::Share;
+use fm_script::script::{RoundKind, ScriptAct, ScriptStep};
 use fm_world::step::Act as WorldAct;
 use fm_world::world::World;
 use std::alloc::Global;
@@ -115,7 +114,7 @@ impl Session {
             }
             ScriptAct::Trim(n) => self.step(at, WorldAct::Trim(n)),
             ScriptAct::Cut(range) => self.cut(at, range),
-            ScriptAct::Round(share) => self.round(at, &share),
+            ScriptAct::Round(kind) => self.round(at, &kind),
         }
     }
 
@@ -141,12 +140,12 @@ impl Session {
     }
 
     // A round.
-    fn round(&mut self, at: u8, share: &Share) -> Result<Vec<u8>, Refusal>
-        ensures ok { Goes result self.old self.new (asked.Does (record { at = at; act = act.Round share.now })) }
-        ensures err { StopsRequest result self.old (asked.Does (record { at = at; act = act.Round share.now })) }
+    fn round(&mut self, at: u8, kind: &RoundKind) -> Result<Vec<u8>, Refusal>
+        ensures ok { Goes result self.old self.new (asked.Does (record { at = at; act = act.Round kind.now })) }
+        ensures err { StopsRequest result self.old (asked.Does (record { at = at; act = act.Round kind.now })) }
         ensures unchanged { OnErr result (self.new ≡ self.old) }
     {
-        round(self.alloc, &mut self.world, at, share)
+        round(self.alloc, &mut self.world, at, kind)
     }
 
     // A cut whose packet has no name.

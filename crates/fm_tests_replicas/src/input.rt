@@ -54,7 +54,7 @@ static READ: [(&str, &str); 6] = [
 ];
 
 // Steps other than those of one operation, as they are read with the names of their packets.
-static READ_STEPS: [(&str, &str, &str); 17] = [
+static READ_STEPS: [(&str, &str, &str); 18] = [
     ("", "{}", "[]"),
     (
         r#"{"at":0,"cut":{"name":"a","from":0,"to":18446744073709551615}}"#,
@@ -119,22 +119,27 @@ static READ_STEPS: [(&str, &str, &str); 17] = [
     (
         r#"{"at":1,"round":true}"#,
         "{}",
-        "[ScriptStep { at: 1, act: Round(Share { writers: None, each: None }) }]",
+        "[ScriptStep { at: 1, act: Round(Share(Share { writers: None, each: None })) }]",
     ),
     (
         r#"{"at":2,"round":true},{"round":true,"at":2}"#,
         "{}",
-        "[ScriptStep { at: 2, act: Round(Share { writers: None, each: None }) }, ScriptStep { at: 2, act: Round(Share { writers: None, each: None }) }]",
+        "[ScriptStep { at: 2, act: Round(Share(Share { writers: None, each: None })) }, ScriptStep { at: 2, act: Round(Share(Share { writers: None, each: None })) }]",
     ),
     (
         r#"{"at":1,"round":{"each":2}}"#,
         "{}",
-        "[ScriptStep { at: 1, act: Round(Share { writers: None, each: Some(2) }) }]",
+        "[ScriptStep { at: 1, act: Round(Share(Share { writers: None, each: Some(2) })) }]",
     ),
     (
         r#"{"at":1,"round":{}}"#,
         "{}",
-        "[ScriptStep { at: 1, act: Round(Share { writers: None, each: None }) }]",
+        "[ScriptStep { at: 1, act: Round(Share(Share { writers: None, each: None })) }]",
+    ),
+    (
+        r#"{"at":1,"relieve":true},{"relieve":true,"at":2}"#,
+        "{}",
+        "[ScriptStep { at: 1, act: Round(Relief) }, ScriptStep { at: 2, act: Round(Relief) }]",
     ),
 ];
 
