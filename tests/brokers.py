@@ -165,8 +165,10 @@ class Bridge:
 
     def events(self):
         """What it said, so far."""
-        self.said.seek(0)
-        return [json.loads(line) for line in self.said.read().split(b"\n")[:-1]]
+        file = self.said.fileno()
+        # without a seek, which would move the place where the bridge writes
+        text = os.pread(file, os.fstat(file).st_size, 0)
+        return [json.loads(line) for line in text.split(b"\n")[:-1]]
 
     def has_said(self, event):
         return any(said["event"] == event for said in self.events())
