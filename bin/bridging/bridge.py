@@ -22,6 +22,7 @@ from bridging.listening import Listener
 from bridging.mailbox import Mailbox
 from bridging.outbox import Outbox
 from bridging.packets import number_of
+from bridging.rounds import NEVER, Rounds
 from bridging.settings import Settings, read_settings
 from bridging.telling import Clocks, Counts, Telling
 
@@ -49,6 +50,7 @@ class Bridge:
         self._broker = Broker(settings, self._mailbox, self._claim)
         self._outbox = Outbox(self._broker, settings, self._counts, self._telling, limit)
         self._inbox = Inbox(settings.number, self._outbox, self._counts, self._telling)
+        self._rounds = Rounds(settings, self._counts, self._telling)
         self._conversations, self._answers = Conversations(self._wake), Answers()
         self._listener: Optional[Listener] = None
         self._journal: Optional[Journal] = None
@@ -123,6 +125,7 @@ class Bridge:
             self._outbox.want_state(0)
         if self._journal is not None and self._journal.is_long():
             self._shorten(self._journal)
+        self._rounds.begin(self._coordinator.deltas > 0)
 
     def _claim_number(self) -> None:
         """Waits for a bridge that has the number to say so, and for the claim to come back behind the states that the
@@ -231,7 +234,7 @@ class Bridge:
         with self._wake:
             if self._has_work():
                 return
-            times = [self._refresh_at, self._report_at, time.monotonic() + LONGEST_SLEEP]
+            times = [self._refresh_at, self._report_at, self._next_round(), time.monotonic() + LONGEST_SLEEP]
             times += [self._outbox.next_time()] if self._can_send_state() else []
             times += [self._oldest + self._settings.cut_interval] if self._coordinator.own_news() else []
             self._wake.wait(max(0.001, min(times) - time.monotonic()))
@@ -249,6 +252,7 @@ class Bridge:
         self._tell()
         if self._is_exchange_due():
             self._exchange()
+        self._run_round()
         if self._outbox.is_state_due() and self._can_send_state() and not self._coordinator.own_news():
             began = Clocks()
             self._send_state(self._coordinator.cut_state(), began)
@@ -270,22 +274,48 @@ class Bridge:
         if self._stopping or not self._answers.has_room():
             return
         room = max(1, self._settings.cut_count - self._coordinator.own_news())
-        taken, before = self._conversations.take(min(AT_ONCE, room)), self._coordinator.deltas
+        taken = self._conversations.take(min(AT_ONCE, room))
         if not taken:
             return
-        if not self._coordinator.own_news():
-            self._oldest = time.monotonic()
+        before = self._begin_news()
         answers, again = self._coordinator.tell([line for _, line in taken])
         self._conversations.put_back(taken[len(answers):])
-        if self._journal is not None and again:
-            self._journal.add(again)
-            self._counts.journaled += len(again)
-        self._count_accepted(self._coordinator.deltas - before)
+        self._keep(again, before)
         told = sum(map(is_accepted, answers))
         self._counts.told += told
         self._counts.refused_lines += len(answers) - told
         for (conversation, _), answer in zip(taken, answers):
             self._answers.put(self._accepted, answer, conversation)
+
+    def _next_round(self) -> float:
+        """When a round of its own is due, if nothing else changes. A bridge that is to end runs none."""
+        is_ending = self._stopping or self._claim.is_lost or self._are_lines_ended()
+        return NEVER if is_ending else self._rounds.next_time()
+
+    def _run_round(self) -> None:
+        """Runs a round of its own if one is due: one in a step, so that lines which wait are told before the next. What it comes to is in
+        the journal before anybody hears of it."""
+        if self._next_round() <= time.monotonic():
+            before = self._begin_news()
+            answer, again = self._coordinator.run_round(self._rounds.line)
+            if again:
+                self._keep(again, before)
+            self._rounds.ran(answer)
+
+    def _begin_news(self) -> int:
+        """How many deltas there are before others are added, which are news from now on if there is none yet."""
+        if not self._coordinator.own_news():
+            self._oldest = time.monotonic()
+        return self._coordinator.deltas
+
+    def _keep(self, again: Sequence[bytes], before: int) -> None:
+        """Keeps lines that say what the deltas say behind the first `before`, and counts these deltas."""
+        if again:
+            self._rounds.note_change()
+        if self._journal is not None and again:
+            self._journal.add(again)
+            self._counts.journaled += len(again)
+        self._count_accepted(self._coordinator.deltas - before)
         if self._journal is not None and self._journal.is_long():
             self._shorten(self._journal)
 
@@ -293,6 +323,7 @@ class Bridge:
         """So many deltas were added, and perhaps something else was changed by a line of an unknown kind."""
         if self._coordinator.may_have_changed:
             self._coordinator.may_have_changed, self._outbox.is_stale = False, True
+            self._rounds.note_change()
             self._outbox.want_state(self._settings.state_interval)
             added = max(1, added)
         self._accepted += added
@@ -373,7 +404,8 @@ class Bridge:
             self._refresh_at = min(self._refresh_at, time.monotonic() + 1)
         wanted = self._inbox.wanted(mail.parcels)
         if wanted:
-            self._inbox.judged(wanted, self._coordinator.take([parcel.packet for parcel in wanted]))
+            if self._inbox.judged(wanted, self._coordinator.take([parcel.packet for parcel in wanted])):
+                self._rounds.note_change()
             self._outbox.is_stale = True
             took = [(parcel.sender, number_of(parcel.packet), parcel.is_state) for parcel in wanted]
             self._trace("took", packets=took)

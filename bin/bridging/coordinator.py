@@ -64,6 +64,15 @@ class Coordinator:
             size += sum(map(len, some))
         return answers, again
 
+    def run_round(self, line: bytes) -> tuple[bytes, list[bytes]]:
+        """The answer to a line that asks for a round, and the lines that say again what it did. If it accepted nothing, the delta that it
+        adds says nothing, and is no news: others would answer it by a round, and this one theirs, without end."""
+        has_news = self.own_news() > 0
+        (answer,), again = self.tell([line])
+        if not (again or has_news):
+            self.own = self.deltas
+        return answer, again
+
     def _tell(self, lines: Sequence[bytes], kinds: Sequence[Kind], again: list[bytes]) -> list[bytes]:
         """The answers to lines of which only the last may be other than what is told. A line that asks for what the bridge
         does itself is refused here, as one of no kind."""

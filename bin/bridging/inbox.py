@@ -5,7 +5,7 @@ from typing import Optional
 from bridging.digests import Digest, Sources
 from bridging.mailbox import Parcel
 from bridging.outbox import Outbox
-from bridging.packets import Coverage, Seen, content_of, digest_of, number_of
+from bridging.packets import Coverage, Seen, content_of, digest_of, is_empty, number_of
 from bridging.telling import Counts, Telling
 
 
@@ -70,8 +70,8 @@ class Inbox:
         self._seen.add(content)
         return True
 
-    def judged(self, parcels: Sequence[Parcel], taken: Sequence[bool]) -> None:
-        """The follower took in some of the packets, and refused the others."""
+    def judged(self, parcels: Sequence[Parcel], taken: Sequence[bool]) -> bool:
+        """The follower took in some of the packets, and refused the others. Whether one that it took in says something."""
         self._counts.taken += sum(taken)
         for parcel, is_taken in zip(parcels, taken):
             if not is_taken:
@@ -82,3 +82,4 @@ class Inbox:
                 kind = "state" if parcel.is_state else "packet"
                 said = f"a {kind} of {len(parcel.packet)} bytes on the topic of coordinator {parcel.sender} is refused"
                 self._telling.say("refused", said, sender=parcel.sender, bytes=len(parcel.packet))
+        return any(is_taken and not is_empty(parcel.packet) for parcel, is_taken in zip(parcels, taken))

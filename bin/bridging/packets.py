@@ -27,6 +27,11 @@ def number_of(packet: bytes) -> Optional[int]:
     return HEAD.unpack_from(packet)[2] if len(packet) >= HEAD.size else None
 
 
+def is_empty(packet: bytes) -> bool:
+    """Whether a packet has no record: its head is then followed by counts of 0 alone."""
+    return not any(packet[HEAD.size:])
+
+
 class Seen:
     """The packets that came or went last, by their digests."""
 

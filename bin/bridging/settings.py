@@ -12,6 +12,8 @@ FORBIDDEN = "+#/"
 # a path of a socket has at most so many bytes
 MOST_PATH = 107
 MOST_NAME = 200
+# what a round's line may say
+MOST_EACH = 4294967295
 PORT, TLS_PORT = 1883, 8883
 
 
@@ -46,6 +48,9 @@ class Settings:
     stays: bool
     listen: Optional[str]
     renew_after: int
+    rounds: Optional[float]
+    each: Optional[int]
+    writers: Optional[list[int]]
     program: Optional[str]
     is_json: bool
     is_traced: bool
@@ -85,6 +90,22 @@ def seconds(least: float) -> Callable[[str], float]:
             raise argparse.ArgumentTypeError(f"{text!r} is no number of seconds from {least:g} to 86400")
         return value
     return read
+
+
+def positive_seconds(text: str) -> float:
+    """A number of seconds above 0, to a day."""
+    value = seconds(0)(text)
+    if value == 0:
+        raise argparse.ArgumentTypeError(f"{text!r} is not above 0")
+    return value
+
+
+def numbers(text: str) -> list[int]:
+    """Numbers of coordinators, separated by commas, none twice."""
+    found = [whole(1, 64)(part) for part in text.split(",")]
+    if len(set(found)) < len(found):
+        raise argparse.ArgumentTypeError(f"{text!r} has a number twice")
+    return found
 
 
 def place(text: str) -> tuple[str, Optional[int]]:
@@ -154,6 +175,7 @@ def parser() -> argparse.ArgumentParser:
     times = words.add_argument_group("times, in seconds, and counts")
     for name, read, value, about in TIMES:
         times.add_argument(name, type=read, default=value, metavar="X", help=f"{about} ({value:g})")
+    add_rounds(words.add_argument_group("rounds"))
     other = words.add_argument_group("other")
     other.add_argument("--stay", action="store_true", dest="stays",
                        help="goes on at the end of standard input, until SIGTERM, SIGINT or SIGHUP")
@@ -181,6 +203,14 @@ def add_broker(words: argparse._ArgumentGroup) -> None:
     words.add_argument("--key", metavar="FILE", help="the key of that certificate")
 
 
+def add_rounds(words: argparse._ArgumentGroup) -> None:
+    words.add_argument("--rounds", type=positive_seconds, metavar="SECONDS",
+                       help="runs rounds of the tasks whose writer is N once something changed, and waits so long after each series")
+    words.add_argument("--each", type=whole(1, MOST_EACH), metavar="M", help="these rounds place at most so many tasks each on one machine")
+    words.add_argument("--writers", type=numbers, metavar="LIST",
+                       help="these rounds are of the tasks whose writers are listed, as in 1,3, in place of N alone")
+
+
 def read_settings(given: Sequence[str]) -> Settings:
     """The settings that the words ask for. Wrong words end the process with status 2 and a line."""
     words = parser()
@@ -191,6 +221,8 @@ def read_settings(given: Sequence[str]) -> Settings:
         words.error("--key is that of a certificate, which --cert names")
     if asked["salvages"] and not asked["journal"]:
         words.error("--salvage is of a journal, which --journal names")
+    if asked["rounds"] is None and (asked["each"] is not None or asked["writers"] is not None):
+        words.error("--each and --writers are of rounds, which --rounds asks for")
     if asked["listen"] is not None and not 0 < len(os.fsencode(asked["listen"])) <= MOST_PATH:
         words.error(f"--listen wants a path of 1 to {MOST_PATH} bytes")
     asked["stays"] = asked["stays"] or asked["listen"] is not None

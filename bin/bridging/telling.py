@@ -38,9 +38,13 @@ class Counts:
     renewals: int = 0
     journaled: int = 0
     cut_off: int = 0
+    rounds: int = 0
+    places: int = 0
+    preempts: int = 0
 
     def text(self) -> str:
         return (f"{self.told} lines told, {self.refused_lines} refused; "
+                f"{self.rounds} rounds run, with {self.places} places and {self.preempts} preempts; "
                 f"{self.sent} packets ({self.sent_bytes} bytes) and {self.states_sent} states "
                 f"({self.states_sent_bytes} bytes) sent, {self.left_to_state} left to a state; "
                 f"{self.received} received ({self.received_bytes} bytes): {self.taken} taken in, "
