@@ -1,7 +1,8 @@
 #!/usr/bin/env python3
 """Tests of bin/bridge on a real broker, by name, for tests/run: its words, its lines, its parts by themselves,
 journals, signals and TLS. Those of what it outlives are in tests/outlived.py, those of a day's use in
-tests/operated.py, and those of what it relays in tests/relayed.py.
+tests/operated.py, those of what it relays in tests/relayed.py, and those of rounds that it runs by itself in
+tests/own_rounds.py.
 
     tests/bridged.py [--program FILE] [--kills N] [GROUP..]
 
@@ -27,6 +28,7 @@ import brokers
 import hostile
 import operated
 import outlived
+import own_rounds
 import relayed
 from bridging import claims, follower, lines as lines_of, mailbox, packets, settings
 from brokers import QUICK, Bridge, Broker, told as tell, until
@@ -44,7 +46,9 @@ def words(program):
     for number in ("0", "65", "x", "-1", "1.0", ""):
         yield "the number %r" % number, is_refused(refused(1, "--number", number, program=program), 2, b"number")
     for wrong in ("--cut-count 0", "--refresh 0", "--broker a:b", "--broker :1", "--mqtt 4", "--ca /nowhere", "--key k",
-                  "--password-file p", "--user u --password-file /nowhere", "--queue x", "more", "--clu a"):
+                  "--password-file p", "--user u --password-file /nowhere", "--queue x", "more", "--clu a", "--rounds", "--rounds 0",
+                  "--rounds -1", "--rounds x", "--rounds 86401", "--each 1", "--writers 1", "--rounds 1 --each 0",
+                  "--rounds 1 --each 4294967296", "--rounds 1 --writers 0", "--rounds 1 --writers 1,1", "--rounds 1 --writers 2,65"):
         yield "the words %s" % wrong, is_refused(refused(1, "--number", "1", *wrong.split(), program=program), 2, b"")
     port = brokers.free_port()
     found = refused(port, "--number", "1", "--connect-wait", "0.5", program=program)
@@ -324,7 +328,7 @@ def skipped(_program):
 
 
 GROUPS = {"parts": parts, "words": words, "lines": lines, "divided": divided, **outlived.GROUPS, **operated.GROUPS, **relayed.GROUPS,
-          "journals": journals, "signals": signals, "secrets": secrets, "example": example, "skipped": skipped}
+          **own_rounds.GROUPS, "journals": journals, "signals": signals, "secrets": secrets, "example": example, "skipped": skipped}
 
 
 def all_tests(program, names=tuple(GROUPS), kills=KILLS):
