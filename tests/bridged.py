@@ -113,8 +113,10 @@ LINES = [
     (b'{"at":1,"ask":"next","job":"%s"}' % JOB, b"next 2\nok\n"), (b'{"at":1,"ask":"next","task":"%s"}' % TASK, b"next 1\nok\n"),
     (b'{"at":1,"ask":"next","machine":"%s","incarnation":2}' % MACHINE, b"next 1\nok\n"),
     (b'{"at":1,"ask":"next","machine":"%s"}' % MACHINE, b"refusal 16\n"), (b'{"at":2,"ask":"list"}', b"refusal 8\n"),
+    (b'{"at":1,"ask":"over"}', b"ok\n"), (b'{"at":2,"ask":"over"}', b"refusal 8\n"), (b'{"at":1,"relieve":false}', b"refusal 16\n"),
+    (b'{"at":2,"relieve":true}', b"refusal 8\n"), (b'{"at":1,"ask":"end"}', b"end 0 7\nok\n"), (b'{"at":1,"relieve":true}', b"ok\n"),
     (b'{"at":2,"ask":"next","job":"%s"}' % JOB, b"refusal 8\n"), (b'{"ask":"version"}', b"firmament %s FDG1 FDG2\nok\n" % VERSION),
-    (b'{"ask":"version","at":1}', b"refusal 16\n"), (b'{"at":1,"ask":"end"}', b"end 0 7\nok\n")]
+    (b'{"ask":"version","at":1}', b"refusal 16\n"), (b'{"at":1,"ask":"end"}', b"end 0 8\nok\n")]
 
 
 def lines(program):
