@@ -1,0 +1,6 @@
+pub mod Frames
+pub mod Tails
+pub mod Devices
+pub mod Heads
+pub mod Stores
+pub mod inner

@@ -1,0 +1,149 @@
+//! A device that is a file of the operating system.
+//!
+//! No contract can say what a file holds, so `content` is unknown here: this module is trusted to do what `Device` says. It trusts that a
+//! file of the system keeps what was synced, that a file is renamed at once or not at all, and that a lock shuts out other processes that
+//! ask.
+
+ghost use Rattle.std.specs.Prelude.{None};
+
+use crate::device::{Device, DeviceFault};
+use std::alloc::Global;
+use std::fs::{File, OpenOptions};
+use std::io::{Read, Seek, SeekFrom, Write};
+use std::{fs, io};
+
+/// The file at a path. No other process has it open as a `Disk`: a lock on the file `PATH.lock` is held as long as the
+/// value lives. From the first failure on each call fails, since what the file then holds is not known.
+#[derive(Drop)]
+pub struct Disk {
+    rt: HostRuntime,
+    path: String,
+    file: File,
+    lock: File,
+    has_failed: bool,
+}
+
+impl Disk {
+    /// Opens the file at the path, or makes an empty one. Failed if it cannot be opened, and if another process has it.
+    pub fn open(rt: &HostRuntime, path: &str) -> Result<Disk, DeviceFault> {
+        let path = String::from_str(rt.alloc(), path)?;
+        let lock = or_failed(locked(rt, path.as_str()))?;
+        let file = or_failed(growing(rt, path.as_str()))?;
+        Ok(Disk {
+            rt: rt.clone()?,
+            path,
+            file,
+            lock,
+            has_failed: false,
+        })
+    }
+
+    // Failed if a call has failed before.
+    fn check(&self) -> Result<(), DeviceFault> {
+        if self.has_failed {
+            Err(DeviceFault::Failed)
+        } else {
+            Ok(())
+        }
+    }
+
+    // The answer to a call. Its failure is noted.
+    fn noted<T: Drop>(&mut self, answer: io::Result<T>) -> Result<T, DeviceFault> {
+        self.has_failed = answer.is_err();
+        or_failed(answer)
+    }
+}
+
+// The same, or Failed.
+fn or_failed<T: Drop>(answer: io::Result<T>) -> Result<T, DeviceFault> {
+    match answer {
+        Ok(value) => Ok(value),
+        Err(_) => Err(DeviceFault::Failed),
+    }
+}
+
+// The file at the path, to which each write is added at the end.
+fn growing(rt: &HostRuntime, path: &str) -> io::Result<File> {
+    OpenOptions::new()
+        .read(true)
+        .append(true)
+        .create(true)
+        .open(rt, path)
+}
+
+// The lock beside the path, unless another process holds it.
+fn locked(rt: &HostRuntime, path: &str) -> io::Result<File> {
+    let beside = format!(in rt.alloc(); "{path}.lock")?;
+    let lock = growing(rt, beside.as_str())?;
+    if lock.try_lock().is_err() {
+        return Err(io::ErrorKind::WouldBlock.into());
+    }
+    Ok(lock)
+}
+
+// The folder of the path.
+fn folder_of(path: &str) -> &str {
+    match path.rfind('/') {
+        Some(0) => "/",
+        Some(end) => &path[..end],
+        None => ".",
+    }
+}
+
+// A new file with these bytes, on the disk, in the place of the one at the path.
+fn put_anew(rt: &HostRuntime, path: &str, bytes: &[u8]) -> io::Result<File> {
+    let beside = format!(in rt.alloc(); "{path}.new")?;
+    let mut file = growing(rt, beside.as_str())?;
+    file.set_len(0)?;
+    file.write_all(bytes)?;
+    file.sync_all()?;
+    fs::rename(rt, beside.as_str(), path)?;
+    File::open(rt, folder_of(path))?.sync_all()?;
+    Ok(file)
+}
+
+// All bytes of the file.
+fn read_all(file: &mut File, bytes: &mut Vec<u8>) -> io::Result<()> {
+    file.seek(SeekFrom::Start(0))?;
+    file.read_to_end(bytes)?;
+    Ok(())
+}
+
+impl Device for Disk {
+    ghost content = { λ _. None };
+
+    ghost synced = { λ _. 0 };
+
+    fn read(&mut self, alloc: Global) -> Result<Vec<u8>, DeviceFault> {
+        self.check()?;
+        let mut bytes = Vec::new(alloc);
+        let answer = read_all(&mut self.file, &mut bytes);
+        self.noted(answer)?;
+        Ok(bytes)
+    }
+
+    fn append(&mut self, bytes: &[u8]) -> Result<(), DeviceFault> {
+        self.check()?;
+        let answer = self.file.write_all(bytes);
+        self.noted(answer)
+    }
+
+    fn cut(&mut self, len: usize) -> Result<(), DeviceFault> {
+        self.check()?;
+        let answer = self.file.set_len(len as u64);
+        self.noted(answer)
+    }
+
+    fn sync(&mut self) -> Result<(), DeviceFault> {
+        self.check()?;
+        let answer = self.file.sync_data();
+        self.noted(answer)
+    }
+
+    fn replace(&mut self, bytes: &[u8]) -> Result<(), DeviceFault> {
+        self.check()?;
+        let answer = put_anew(&self.rt, self.path.as_str(), bytes);
+        self.file = self.noted(answer)?;
+        Ok(())
+    }
+}

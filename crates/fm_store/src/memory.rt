@@ -1,0 +1,80 @@
+//! A device in memory, for tests and for coordinators that need not outlive their process.
+
+ghost use Rattle.std.specs.Prelude.{◌≡◌, ◌≤◌, Some, length, min, [], OnOk, OnErr, take};
+
+use crate::device::{Device, DeviceFault};
+use std::alloc::Global;
+use std::marker::Model;
+
+/// A file in memory, all of which counts as on the disk once it is synced. Contracts see it as its bytes, and how many
+/// of them count so.
+#[derive(Drop)]
+pub struct Memory {
+    bytes: Vec<u8>,
+    synced: usize,
+}
+
+impl Model for Memory {
+    ghost use Rattle.std.specs.Prelude.{ℕ, List};
+
+    ghost Value = { List ℕ × ℕ };
+
+    ghost view = { λ m. (m.bytes.items, m.synced) };
+}
+
+impl Memory {
+    /// A file that holds these bytes, all on the disk.
+    pub fn new(bytes: Vec<u8>) -> Memory
+        ensures { result ≡ (bytes.items, length bytes.items) }
+    {
+        let synced = bytes.len();
+        Memory { bytes, synced }
+    }
+
+    /// The bytes that it holds.
+    pub fn bytes(&self) -> &[u8]
+        ensures { result.now ≡ self.now.0 }
+    {
+        &self.bytes
+    }
+
+    /// How many of them count as on the disk.
+    pub fn synced(&self) -> usize
+        ensures { result ≡ self.now.1 }
+    {
+        self.synced
+    }
+}
+
+impl Device for Memory {
+    ghost content = { λ m. Some m.0 };
+
+    ghost synced = { λ m. m.1 };
+
+    fn read(&mut self, alloc: Global) -> Result<Vec<u8>, DeviceFault> {
+        Ok(self.bytes.to_vec(alloc)?)
+    }
+
+    fn append(&mut self, bytes: &[u8]) -> Result<(), DeviceFault> {
+        self.bytes.reserve(bytes.len())?;
+        Ok(self.bytes.extend_from_slice(bytes)?)
+    }
+
+    fn cut(&mut self, len: usize) -> Result<(), DeviceFault> {
+        self.bytes.truncate(len);
+        self.synced = self.synced.min(len);
+        Ok(())
+    }
+
+    fn sync(&mut self) -> Result<(), DeviceFault> {
+        self.synced = self.bytes.len();
+        Ok(())
+    }
+
+    fn replace(&mut self, bytes: &[u8]) -> Result<(), DeviceFault> {
+        let anew = bytes.to_vec(*self.bytes.allocator())?;
+        self.synced = anew.len();
+        self.bytes = anew;
+        Ok(())
+    }
+}

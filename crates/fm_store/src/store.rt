@@ -1,0 +1,127 @@
+//! A store on a device: it is opened, grows by packets, and is compacted.
+//!
+//! A packet is on the disk once `append_packet` and then the device's `sync` returned Ok; several packets may share one sync. No record
+//! is changed in place. To get rid of records that later ones make superfluous, `rewrite_store` puts a store of fewer packets in the
+//! place of the old one.
+
+ghost use Rattle.std.specs.Prelude.{◌≡◌, ◌⊎◌, ◌++◌, ◌<◌, ◌^◌, ℕ, length, List, Some, IfOk, IfErr, OnOk, OnErr, IfSome};
+ghost use Rattle.std.specs.Io.KnownBytes.{Appends};
+ghost use Rattle.fm_wire.specs.Grammar.{spelling, IsPacket};
+ghost use Rattle.fm_store.specs.Frames.{frame};
+ghost use Rattle.fm_store.specs.Devices.{AppendsFront};
+ghost use Rattle.fm_store.specs.Heads.{head_record};
+ghost use Rattle.fm_store.specs.Stores.{IsStoreOf, AreFoundIn, KeepsStore, IsDamagedAt, HasOtherHead};
+ghost use Rattle.fm_store.specs.declared.store_fault.StoreFault.TheVariants as faults;
+
+use crate::device::Device;
+use crate::frames::put_frame;
+use crate::head::Head;
+use crate::recovery::{MAGIC, Recovered, recover};
+use crate::store_fault::StoreFault;
+use fm_delta::packet::Packet;
+use fm_lattice::join::OutOfMemory;
+use fm_wire::writing::encode;
+use std::alloc::Global;
+
+/// The packets of the store on the device, in the order in which they were added. An empty file becomes a store with
+/// this head, and so does one whose head was not written whole. A torn record at the end is cut off. What is then held
+/// is on the disk. Refused with OtherCluster if the store has another head, and with Damaged and a place if the bytes
+/// from there on are no record of a packet; then the device is unchanged. Refused too if the device fails or memory runs
+/// out; then the same packets are found when it is opened again. O(n log n).
+pub fn open_store<D: Device>(
+    alloc: Global,
+    device: &mut D,
+    head: &Head,
+) -> Result<Vec<Packet>, StoreFault>
+    ensures found { IfOk result (λ packets. IfSome (D.content device.old) (λ all. AreFoundIn head.now packets.items all)) }
+    ensures left { IfOk result (λ packets. IfSome (D.content device.new) (λ all. IsStoreOf head.now packets.items all)) }
+    ensures synced { OnOk result (IfSome (D.content device.new) (λ all. D.synced device.new ≡ length all)) }
+    ensures err { OnErr result (KeepsStore head.now (D.content device.old) (D.content device.new)) }
+    ensures damaged { IfErr result (λ e. (place : ℕ) → e ≡ faults.Damaged place
+        → IfSome (D.content device.old) (λ all. IsDamagedAt head.now place all)
+        × (D.content device.new ≡ D.content device.old) × (D.synced device.new ≡ D.synced device.old)) }
+    ensures other { IfErr result (λ e. e ≡ faults.OtherCluster → IfSome (D.content device.old) (λ all. HasOtherHead head.now all)
+        × (D.content device.new ≡ D.content device.old) × (D.synced device.new ≡ D.synced device.old)) }
+{
+    let bytes = device.read(alloc)?;
+    let Recovered { packets, whole } = recover(alloc, head, &bytes)?;
+    if whole == 0 {
+        let anew = store_of(alloc, head, &packets)?;
+        device.replace(&anew)?;
+        return Ok(packets);
+    }
+    if whole < bytes.len() {
+        device.cut(whole)?;
+    }
+    device.sync()?;
+    Ok(packets)
+}
+
+/// Adds the packet at the end. It is on the disk once the device is synced. Refused if memory runs out or the device
+/// fails; then a front of the packet's record may have been added, which `open_store` cuts off, and nothing more may be added
+/// before that. O(n) in the bytes of the packet.
+pub fn append_packet<D: Device>(
+    alloc: Global,
+    device: &mut D,
+    packet: &Packet,
+) -> Result<(), StoreFault>
+    ensures ok { OnOk result (Appends (D.content device.old) (D.content device.new) (frame (spelling packet.now))) }
+    ensures packet { OnOk result (IsPacket packet.now) }
+    ensures err { OnErr result (AppendsFront (D.content device.old) (D.content device.new) (frame (spelling packet.now))) }
+    ensures synced { D.synced device.new ≡ D.synced device.old }
+{
+    let mut bytes = Vec::new(alloc);
+    put_packet(alloc, &mut bytes, packet)?;
+    device.append(&bytes)?;
+    Ok(())
+}
+
+/// Compaction: puts a store with this head and these packets in the place of what the device holds, on the disk too. One
+/// packet for each coordinator, of all that it knew, makes all others superfluous. Refused if memory runs out or the
+/// device fails; then the device holds what it held. O(n) in the bytes of the packets.
+pub fn rewrite_store<D: Device>(
+    alloc: Global,
+    device: &mut D,
+    head: &Head,
+    packets: &[Packet],
+) -> Result<(), StoreFault>
+    ensures ok { OnOk result (IfSome (D.content device.new) (λ all. IsStoreOf head.now packets.now all)) }
+    ensures synced { OnOk result (IfSome (D.content device.new) (λ all. D.synced device.new ≡ length all)) }
+    ensures err { OnErr result (D.content device.new ≡ D.content device.old) }
+    ensures synced_err { OnErr result (D.synced device.new ≡ D.synced device.old) }
+{
+    let bytes = store_of(alloc, head, packets)?;
+    device.replace(&bytes)?;
+    Ok(())
+}
+
+// The bytes of a store with this head and the packets.
+fn store_of(alloc: Global, head: &Head, packets: &[Packet]) -> Result<Vec<u8>, OutOfMemory>
+    ensures { IfOk result (λ bytes. IsStoreOf head.now packets.now bytes.items) }
+{
+    let mut bytes = MAGIC.to_vec(alloc)?;
+    put_head(alloc, &mut bytes, head)?;
+    for packet in packets {
+        put_packet(alloc, &mut bytes, packet)?;
+    }
+    Ok(bytes)
+}
+
+// Adds the record of the head.
+fn put_head(alloc: Global, out: &mut Vec<u8>, head: &Head) -> Result<(), OutOfMemory>
+    ensures added { OnOk result (out.new.items ≡ out.old.items ++ frame (head_record head.now)) }
+    ensures fits { OnOk result (length (head_record head.now) < 2 ^ 64) }
+{
+    let bytes = head.to_bytes(alloc)?;
+    put_frame(out, &bytes)
+}
+
+// Adds the record of the packet.
+fn put_packet(alloc: Global, out: &mut Vec<u8>, packet: &Packet) -> Result<(), OutOfMemory>
+    ensures added { OnOk result (out.new.items ≡ out.old.items ++ frame (spelling packet.now)) }
+    ensures packet { OnOk result (IsPacket packet.now) }
+    ensures fits { OnOk result (length (spelling packet.now) < 2 ^ 64) }
+{
+    let bytes = encode(alloc, packet)?;
+    put_frame(out, &bytes)
+}
