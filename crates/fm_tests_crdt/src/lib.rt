@@ -1,4 +1,4 @@
-//! Tests of the lattice, of operations, of what is known, of deltas and of packets in bytes, by public calls alone.
+//! Tests of the lattice, of operations, of what is known, of deltas, of packets in bytes and of stores, by public calls alone.
 #![tactic(auto)]
 
 #[cfg(test)]
@@ -9,6 +9,8 @@ mod know;
 mod lattice;
 #[cfg(test)]
 mod records;
+#[cfg(test)]
+mod store;
 #[cfg(test)]
 mod told;
 #[cfg(test)]
