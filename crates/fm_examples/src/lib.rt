@@ -19,5 +19,6 @@ pub mod policy;
 pub mod records;
 pub mod round;
 pub mod schedule;
+pub mod store;
 pub mod wire;
 pub mod world;
