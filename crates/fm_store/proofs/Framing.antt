@@ -127,6 +127,16 @@ frame_not_zeros r rest front zeros none le is =
     let zero : get_or (frame r ++ rest) i 0 ≡ 0 = ap (λ (l : List ℕ). get_or l i 0) is ∙ zero_behind front zeros i none le in
     omega (arith, one, zero)
 
+-- nor is it, behind other bytes, a front of no more than these, and zeros
+pub framed_not_zeros : (before r rest front zeros : List ℕ) → AreZeros zeros → length front ≤ length before → before ++ (frame r ++ rest) ≡ front ++ zeros → ⊥
+framed_not_zeros before r rest front zeros none le is =
+    let i = length before + (48 + length r) in
+    let whole : before ++ (frame r ++ rest) ≡ (before ++ frame_front r) ++ 255 ∷ rest =
+    ap (λ (l : List ℕ). before ++ l) (frame_front_is r rest) ∙ sym (append_assoc before (frame_front r) (255 ∷ rest)) in
+    let one : get_or (before ++ (frame r ++ rest)) i 0 ≡ 255 = ap (λ (l : List ℕ). get_or l i 0) whole ∙ one_at (before ++ frame_front r) rest i (omega (arith, length-append before (frame_front r), frame_front_length r)) in
+    let zero : get_or (before ++ (frame r ++ rest)) i 0 ≡ 0 = ap (λ (l : List ℕ). get_or l i 0) is ∙ zero_behind front zeros i none (omega (arith, le)) in
+    omega (arith, one, zero)
+
 pub frame_not_torn : (r rest : List ℕ) → length r < 2 ^ 64 → IsTorn (frame r ++ rest) → ⊥
 frame_not_torn r rest fits torn = elim torn.5 [
   | inl empty ↦ frame_not_zeros r rest torn.1 torn.2 torn.4 (let len : length torn.1 ≡ 0 = ap length empty in omega (arith, len)) torn.3

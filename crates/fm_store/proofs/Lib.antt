@@ -6,3 +6,4 @@ pub mod Cutting
 pub mod Opening
 pub mod HeadLaws
 pub mod OneStore
+pub mod Finding

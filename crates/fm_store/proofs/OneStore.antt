@@ -50,7 +50,7 @@ each_take (suc n) (r ∷ rs) (p ∷ ps) a = (a.0, a.1, each_take n rs ps a.2)
 
 -- ---- one store
 
-behind : (xs : List ℕ) → drop 8 (magic ++ xs) ≡ xs
+pub behind : (xs : List ℕ) → drop 8 (magic ++ xs) ≡ xs
 behind xs = drop_at magic xs 8 refl
 
 -- how what is behind the magic bytes is read

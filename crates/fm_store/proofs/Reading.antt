@@ -12,7 +12,7 @@ use Rattle.fm_store.specs.declared.frames.Tail.TheVariants.{Clean, Torn, Damaged
 use Rattle.fm_store.proofs.Framing.{take_past, one_at, frame_same, frame_length, frame_parts, frame_not_torn, front_not_torn, body_bad, field_length}
 
 -- a frame is not a tail
-not_tail : (bytes r rest : List ℕ) (e : Tail) → length r < 2 ^ 64 → bytes ≡ frame r ++ rest → IsTail bytes e → ⊥
+pub not_tail : (bytes r rest : List ℕ) (e : Tail) → length r < 2 ^ 64 → bytes ≡ frame r ++ rest → IsTail bytes e → ⊥
 not_tail bytes r rest Clean fits is none = let len : length (frame r ++ rest) ≡ 0 = ap length (sym is ∙ none) in omega (arith, len, frame_length r rest)
 not_tail bytes r rest Torn fits is torn = frame_not_torn r rest fits (subst IsTorn is torn)
 not_tail bytes r rest Damaged fits is bad = bad.2 (r, rest, fits, is)
@@ -141,7 +141,7 @@ damage_reads rs ss r s rest e fit fits len other p =
 
 -- ---- crashes
 
-not_damaged : (bytes : List ℕ) (rs ss : List (List ℕ)) (e : Tail) → IsReadAs bytes rs Clean ⊎ IsReadAs bytes rs Torn → IsReadAs bytes ss e → (ss ≡ rs) × (e ≢ Damaged)
+pub not_damaged : (bytes : List ℕ) (rs ss : List (List ℕ)) (e : Tail) → IsReadAs bytes rs Clean ⊎ IsReadAs bytes rs Torn → IsReadAs bytes ss e → (ss ≡ rs) × (e ≢ Damaged)
 not_damaged bytes rs ss e (inl clean) p =
     let same = reads_once bytes ss rs e Clean p clean in
     (same.0, λ bad. apart (sym same.1 ∙ bad))

@@ -57,7 +57,7 @@ place_of head bytes rest ps so_far =
     omega (arith, len, length-append magic (frames rs ++ rest), length-append (frames rs) rest, length-append magic (frames rs))
 
 pub damaged_so_far : (head : HeadModel) (bytes rest : List ℕ) (ps : List Packet) (place : ℕ) → SoFar head bytes rest ps → place ≡ length bytes - length rest
-    → IsTail rest Damaged ⊎ ((r : List ℕ) × (after : List ℕ) × (rest ≡ frame r ++ after) × (fault r ≡ None → ⊥)) → IsDamagedAt head place bytes
+    → IsTail rest Damaged ⊎ ((r : List ℕ) × (after : List ℕ) × (length r < 2 ^ 64) × (rest ≡ frame r ++ after) × (fault r ≡ None → ⊥)) → IsDamagedAt head place bytes
 damaged_so_far head bytes rest ps place so_far is cause = inr (inr (record {
   records = so_far.records;
   rest = rest;
@@ -74,11 +74,11 @@ pub cause_damaged : (head : HeadModel) (bytes : List ℕ) (e : StoreFault) (plac
 cause_damaged head bytes e place is damaged = subst (λ (f : StoreFault). IsCauseOf head f bytes) (sym is) damaged
 
 -- a record that is no packet, or memory ran out for it
-pub cause_packet : (head : HeadModel) (bytes rest r after : List ℕ) (ps : List Packet) (place : ℕ) (e : StoreFault) → SoFar head bytes rest ps → place ≡ length bytes - length rest → rest ≡ frame r ++ after
+pub cause_packet : (head : HeadModel) (bytes rest r after : List ℕ) (ps : List Packet) (place : ℕ) (e : StoreFault) → SoFar head bytes rest ps → place ≡ length bytes - length rest → length r < 2 ^ 64 → rest ≡ frame r ++ after
     → (e ≡ faults.OutOfMemory) ⊎ ((e ≡ faults.Damaged place) × (fault r ≡ None → ⊥)) → IsCauseOf head e bytes
-cause_packet head bytes rest r after ps place e so_far at is (inl memory) = cause_memory head bytes e memory
-cause_packet head bytes rest r after ps place e so_far at is (inr bad) =
-    cause_damaged head bytes e place bad.0 (damaged_so_far head bytes rest ps place so_far at (inr (r, after, is, bad.1)))
+cause_packet head bytes rest r after ps place e so_far at fits is (inl memory) = cause_memory head bytes e memory
+cause_packet head bytes rest r after ps place e so_far at fits is (inr bad) =
+    cause_damaged head bytes e place bad.0 (damaged_so_far head bytes rest ps place so_far at (inr (r, after, fits, is, bad.1)))
 
 -- a tail that is damaged
 pub cause_tail : (head : HeadModel) (bytes rest : List ℕ) (ps : List Packet) (place : ℕ) → SoFar head bytes rest ps → place ≡ length bytes - length rest → IsTail rest Damaged → IsCauseOf head (faults.Damaged place) bytes

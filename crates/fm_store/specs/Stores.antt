@@ -1,5 +1,5 @@
 -- What the file of a store holds: the head, and the packets that were added, in their order (this project's profile).
-use Rattle.std.specs.Prelude.{◌≡◌, ◌⊎◌, ◌==◌, ℕ, List, [], ◌∷◌, ◌++◌, length, map, filter, Option, None, IfSome, codes}
+use Rattle.std.specs.Prelude.{◌≡◌, ◌⊎◌, ◌==◌, ◌^◌, ◌<◌, ℕ, List, [], ◌∷◌, ◌++◌, length, map, filter, Option, None, IfSome, codes}
 use Rattle.fm_records.specs.Table.{Table}
 use Rattle.fm_delta.specs.declared.packet.Packet.{Packet}
 use Rattle.fm_delta.specs.Deltas.{joined_all}
@@ -59,7 +59,7 @@ IsRecovery head packets whole bytes = ((whole ≡ 0) × (packets ≡ []) × IsUn
 
 -- the store has another head
 abbrev pub HasOtherHead : HeadModel → List ℕ → Type 0
-HasOtherHead head bytes = (other : List ℕ) × (rest : List ℕ) × (bytes ≡ magic ++ (frame other ++ rest)) × (other ≡ head_record head → ⊥)
+HasOtherHead head bytes = (other : List ℕ) × (rest : List ℕ) × (length other < 2 ^ 64) × (bytes ≡ magic ++ (frame other ++ rest)) × (other ≡ head_record head → ⊥)
 
 -- the bytes do not begin as a store
 abbrev pub IsNoStore : List ℕ → Type 0
@@ -76,7 +76,7 @@ pub record IsDamagedBehind (head : HeadModel) (place : ℕ) (bytes : List ℕ) :
   pub fit : AreRecords (head_record head ∷ records)
   pub are : bytes ≡ magic ++ (frames (head_record head ∷ records) ++ rest)
   pub at : place ≡ length (magic ++ frames (head_record head ∷ records))
-  pub cause : IsTail rest Damaged ⊎ ((r : List ℕ) × (after : List ℕ) × (rest ≡ frame r ++ after) × (fault r ≡ None → ⊥))
+  pub cause : IsTail rest Damaged ⊎ ((r : List ℕ) × (after : List ℕ) × (length r < 2 ^ 64) × (rest ≡ frame r ++ after) × (fault r ≡ None → ⊥))
 
 -- the bytes are no store from the place on, which is 0 if they do not begin as one, and 8 if the head is damaged
 abbrev pub IsDamagedAt : HeadModel → ℕ → List ℕ → Type 0

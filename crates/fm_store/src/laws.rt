@@ -12,9 +12,11 @@ ghost use Rattle.fm_store.specs.Frames.{length_field, frames};
 ghost use Rattle.fm_store.specs.Tails.{AreRecords, AreZeros, IsReadAs, whole_within};
 ghost use Rattle.fm_store.specs.Devices.{IsLeftByCrash};
 ghost use Rattle.fm_store.specs.Heads.{HeadModel, head_record};
-ghost use Rattle.fm_store.specs.Stores.{IsStoreOf, HasStoreOf, values_of, recovered};
+ghost use Rattle.fm_store.specs.Stores.{IsStoreOf, HasStoreOf, IsUnfinished, IsCauseOf, values_of, recovered};
 ghost use Rattle.fm_store.specs.declared.frames.Tail.{Tail};
 ghost use Rattle.fm_store.specs.declared.frames.Tail.TheVariants.{Damaged};
+ghost use Rattle.fm_store.specs.declared.store_fault.StoreFault.{StoreFault};
+ghost use Rattle.fm_store.specs.declared.store_fault.StoreFault.TheVariants as faults;
 
 /// Bytes are read in one way.
 pub fn law_read_once()
@@ -61,6 +63,14 @@ pub fn law_head()
 pub fn law_one_store()
     ensures { (h g : HeadModel) (ps qs : List Packet) (m n : ℕ) (bytes : List ℕ) → HasStoreOf h ps m bytes
         → HasStoreOf g qs n bytes → (h ≡ g) × (ps ≡ qs) × (m ≡ n) }
+{}
+
+/// A store, with a torn record behind it or none, is found: its bytes are not taken for unfinished, damaged or another
+/// cluster's.
+pub fn law_found()
+    ensures finished { (h : HeadModel) (ps : List Packet) (n : ℕ) (bytes : List ℕ) → HasStoreOf h ps n bytes → IsUnfinished bytes → ⊥ }
+    ensures no_fault { (h : HeadModel) (ps : List Packet) (n : ℕ) (bytes : List ℕ) (e : StoreFault)
+        → HasStoreOf h ps n bytes → IsCauseOf h e bytes → e ≡ faults.OutOfMemory }
 {}
 
 /// After a crash the store that is left has all packets that were on the disk, and then some of the others in their

@@ -19,7 +19,7 @@ pub returns-in-Err-packet_of-clause-err : goal.returns-in-Err-packet_of-clause-e
 returns-in-Err-packet_of-clause-err c =
     let place = length c.args.bytes.now - length c.loop-rest.rest.now in
     cause_packet c.args.head.now c.args.bytes.now c.loop-rest.rest.now c.in-Ok.record.now c.in-Ok.after.now c.loop-rest.packets.items place c.in-Err-packet_of.fault
-    c.loop-rest.invariant refl c.in-Ok.ensures.ok c.in-Err-packet_of.ensures.err
+    c.loop-rest.invariant refl c.in-Ok.ensures.fits c.in-Ok.ensures.ok c.in-Err-packet_of.ensures.err
 
 pub returns-in-Err-Damaged-clause-err : goal.returns-in-Err-Damaged-clause-err
 returns-in-Err-Damaged-clause-err c =
