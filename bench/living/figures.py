@@ -3,21 +3,29 @@ import collections
 import csv
 import statistics
 
+from .causes import CAUSES
+
 QUANTILES = (("median", 0.5), ("p90", 0.9), ("p99", 0.99), ("p999", 0.999), ("most", 1.0))
 POINTS = 200
 RULES = "gone", "held", "attempts-spent", "contested", "no-slot", "no-room"
 # the columns of the table of lives: a heading, and the path to a value
 COLUMNS = (
-    ("tasks", "tasks"), ("machines", "machines"), ("coordinators", "coordinators"), ("seconds", "seconds"), ("rounds", "rounds"),
-    ("tasks told", "tasks_told"), ("start: told in, s", "start.telling"), ("start: rounds", "start.rounds"),
+    ("tasks", "tasks"), ("machines", "machines"), ("coordinators", "coordinators"), ("sharing", "sharing"), ("seconds", "seconds"),
+    ("rounds", "rounds"), ("tasks told", "tasks_told"), ("tasks that came", "tasks_came"),
+    ("start: told in, s", "start.telling"), ("start: rounds", "start.rounds"),
     ("start: first round, ms", "start.first_round"), ("round, median ms", "round.median"), ("round, 99 % ms", "round.p99"),
     ("round, most ms", "round.most"), ("telling before it, median ms", "telling.median"), ("taking in packets, median ms", "taking.median"),
     ("turn, median ms", "turn.median"), ("latency, median ms", "latency.median"), ("latency, 99 % ms", "latency.p99"),
     ("network and its text, ms", "beside.graph"), ("solve, ms", "beside.solve"), ("plan, ms", "beside.plan"),
     ("LEMON's run, ms", "beside.lemon"), ("with reading, ms", "beside.whole"), ("costs checked", "beside.checks"),
-    ("most memory, MB", "memory"), ("places refused", "refused_places"), ("preempted", "preempted"),
+    ("most memory, MB", "memory"), ("places refused", "refused_places"), ("started twice", "stale.started_twice"),
+    ("started when over", "stale.started_when_over"), ("preempted", "preempted"),
     ("bandwidth used, %", "bandwidth.carried"), ("beyond nics, %", "bandwidth.beyond"),
-    ("blind: used, %", "blind.carried"), ("blind: beyond nics, %", "blind.beyond"), ("runs in vain, %", "stale.wasted"),
+    ("machines beyond their nics, % of time", "bandwidth.crowded"), ("most beyond a nic, % of it", "bandwidth.most_beyond"),
+    ("machines with too many tasks, % of time", "bandwidth.overfull"),
+    ("blind: used, %", "blind.carried"), ("blind: beyond nics, %", "blind.beyond"),
+    ("blind: machines beyond their nics, % of time", "blind.crowded"), ("blind: most beyond a nic, % of it", "blind.most_beyond"),
+    ("runs in vain, %", "stale.wasted"),
 )
 
 
@@ -47,10 +55,13 @@ def thinned(rows):
 
 
 def bandwidth(ground):
-    """Shares of all bandwidth that was up, over time, in percent; and seconds of machines with too much asked, and too many runs."""
-    offered = ground.sums["offered"] or 1
-    shares = {name: round(100 * ground.sums[name] / offered, 3) for name in ("carried", "beyond")}
-    return {**shares, "crowded_seconds": round(ground.sums["crowded"], 1), "overfull_seconds": round(ground.sums["overfull"], 1)}
+    """Shares of all bandwidth that was up, over time, in percent. Of machines with too much asked, and with too many runs, the seconds, and
+    in percent of those of all machines that were up. And the most that was asked for beyond a nic, in percent of it."""
+    sums = ground.sums
+    shares = {name: round(100 * sums[name] / (sums["offered"] or 1), 3) for name in ("carried", "beyond")}
+    shares.update((name, round(100 * sums[name] / (sums["up"] or 1), 3)) for name in ("crowded", "overfull"))
+    return {**shares, "most_beyond": round(100 * ground.most_beyond, 1), "crowded_seconds": round(sums["crowded"], 1),
+            "overfull_seconds": round(sums["overfull"], 1)}
 
 
 def shares_over_time(series):
@@ -105,12 +116,18 @@ def stale(simulation):
     return {**{name.replace(" ", "_"): simulation.counts[name] for name in names}, "wasted": round(100 * simulation.wasted / (whole or 1), 3)}
 
 
+def causes(simulation):
+    """How many tasks were preempted, or started in vain, after the start, by the cause."""
+    return [{"what": what, "cause": cause, "count": simulation.causes[what, cause]} for what, those in CAUSES.items() for cause, _ in those]
+
+
 def tasks(simulation):
-    """How the tasks ended that were told: all of them, done, withdrawn, running and waiting."""
+    """How the tasks ended that were told: all of them, those that came after the start, done, withdrawn, running and waiting."""
     states = simulation.outside.tasks.values()
     ends = collections.Counter(state.end for state in states)
     running = sum(state.end is None and bool(simulation.ground.runs_of(state.task.name)) for state in states)
-    return {"tasks_told": len(states), "done": ends["done"], "withdrawn": ends["withdrawn"], "running": running, "waiting": ends[None] - running}
+    return {"tasks_told": len(states), "tasks_came": sum(state.came > 0 for state in states), "done": ends["done"],
+            "withdrawn": ends["withdrawn"], "running": running, "waiting": ends[None] - running}
 
 
 def figures(simulation, blind, parameters):
@@ -126,11 +143,11 @@ def figures(simulation, blind, parameters):
         "renewals": quantiles(turn.renewal for turn in turns if turn.renewal),
         "operations": sum(turn.told for turn in turns), "latency": quantiles(simulation.latencies),
         "memory": round(max(memory) / 1e6, 1), "memory_of_each": [round(most / 1e6, 1) for most in memory],
-        "placed": simulation.counts["placed"], "preempted": simulation.counts["preempted"],
+        "placed": simulation.counts["placed"], "preempted": simulation.counts["preempted"] - simulation.counts["preempted at the start"],
         "machines_failed": simulation.counts["machines failed"], "runs_lost": simulation.counts["runs lost with machines"],
         "refused_places": sum(count for (_, kind, _), count in simulation.refused.items() if kind == "place"), "refused": refusals(simulation),
         "bandwidth": bandwidth(simulation.ground), "blind": bandwidth(blind_ground), "stale": stale(simulation),
-        "beside": beside(simulation.checks),
+        "causes": causes(simulation), "beside": beside(simulation.checks),
         "curves": {"latency": curve(simulation.latencies), "bandwidth": shares_over_time(simulation.series),
                    "blind": shares_over_time(blind_series), "refusals": refusals_over_time(simulation),
                    "memory": memory_over_time(simulation)}}

@@ -19,23 +19,32 @@ class Host:
 
 
 class Ground:
-    """Machines and runs. Sums over time are kept: bandwidth that is carried, and that is asked for beyond nics, times seconds."""
+    """Machines and runs. Sums over time are kept: bandwidth that is carried, and that is asked for beyond nics, times seconds; and seconds
+    of machines that are up, that have too much bandwidth, and too many runs. `most_beyond` is the most that was asked for beyond a nic for
+    any time, as a part of that nic."""
 
     def __init__(self):
         self.hosts, self.runs, self.of_task = {}, {}, {}
         self.time = 0.0
-        self.carried = self.beyond = self.offered = self.crowded = self.overfull = 0
+        self.carried = self.beyond = self.offered = self.up = self.crowded = self.overfull = 0
         self.sums = collections.Counter()
+        # machines to which too much came since time went on: what is there only between two changes at one time does not count
+        self.most_beyond, self.raised = 0.0, []
 
     def advance(self, time):
         """Time goes on to then."""
-        for name in "carried", "beyond", "offered", "crowded", "overfull":
+        if time == self.time:
+            return
+        for name in "carried", "beyond", "offered", "up", "crowded", "overfull":
             self.sums[name] += getattr(self, name) * (time - self.time)
+        self.most_beyond = max([self.most_beyond, *(host.asked / host.nic - 1 for host in self.raised)])
+        self.raised.clear()
         self.time = time
 
     def add_host(self, name, slots, nic):
         self.hosts[name] = Host(slots, nic)
         self.offered += nic
+        self.up += 1
 
     def changed(self, host, requests, offered=0):
         """Bandwidth more or less is asked for at a machine, before its runs change."""
@@ -47,6 +56,8 @@ class Ground:
         self.beyond += max(0, host.asked - host.nic)
         self.crowded += host.asked > host.nic
         self.offered += offered
+        if host.asked > host.nic > 0:
+            self.raised.append(host)
 
     def start(self, key, machine, task, request):
         host = self.hosts[machine]
@@ -75,6 +86,7 @@ class Ground:
         host = self.hosts[machine]
         lost = [(key, self.stop(key)) for key in list(host.runs)]
         host.is_up = False
+        self.up -= 1
         self.changed(host, 0, -host.nic)
         return lost
 
@@ -83,6 +95,7 @@ class Ground:
         host.is_up = True
         host.incarnation += 1
         host.version += 1
+        self.up += 1
         self.changed(host, 0, host.nic)
 
     def runs_of(self, task):

@@ -54,6 +54,11 @@ class Known:
         entries = self.entries.get((task, self.attempt(task)))
         return min(entries.items()) if entries else None
 
+    def held(self):
+        """How many tasks each spot holds: a machine at an incarnation."""
+        there = (task for task, attempt in self.entries if attempt == self.attempt(task))
+        return collections.Counter(self.winner(task)[1] for task in there if not self.is_done(task) and task not in self.withdrawn)
+
     def is_to_run(self, task, attempt, coordinator):
         """Whether the coordinator's proposal for the attempt is the one that wins, and the task is neither done nor withdrawn."""
         winner = self.winner(task)
@@ -83,9 +88,9 @@ class Member:
         self.operations += len(operations)
         return taken
 
-    def round(self):
-        """Holds a round: the seconds, and the entries of its plan with their answers."""
-        taken, text = self.follower.ask(line_of({"at": self.number, "round": True}))
+    def round(self, is_own):
+        """Holds a round, of its own tasks or of the whole plan: the seconds, and the entries that it carries out with their answers."""
+        taken, text = self.follower.ask(line_of({"at": self.number, "round": {"writers": [self.number]} if is_own else True}))
         self.count(1)
         entries = list(map(entry_of, text.splitlines()))
         self.operations += sum(entry.answer == "accepted" for entry in entries)

@@ -11,20 +11,22 @@ class TaskState:
         self.is_placed, self.end, self.finisher = False, None, None
 
 
-def register(event, withdrawn):
-    return {"job": {"id": event.name, "version": 1 + withdrawn, "writer": 1, "withdrawn": withdrawn, "wait": event.wait,
+# the writer of each record is the coordinator that is told it
+
+def register(event, withdrawn, owner):
+    return {"job": {"id": event.name, "version": 1 + withdrawn, "writer": owner.number, "withdrawn": withdrawn, "wait": event.wait,
                     "preempt": event.preempt}}
 
 
-def spec(task, job):
-    fields = {"id": task.name, "version": 1, "writer": 1, "withdrawn": False, "job": job, "request": task.request}
+def spec(task, job, owner):
+    fields = {"id": task.name, "version": 1, "writer": owner.number, "withdrawn": False, "job": job, "request": task.request}
     if task.prefers:
         fields["prefer"] = [{"machine": host, "credit": credit} for host, credit in task.prefers]
     return {"spec": fields}
 
 
-def state(name, host):
-    return {"machine": {"id": name, "incarnation": host.incarnation, "version": host.version, "writer": 1, "up": host.is_up,
+def state(name, host, owner):
+    return {"machine": {"id": name, "incarnation": host.incarnation, "version": host.version, "writer": owner.number, "up": host.is_up,
                         "slots": host.slots, "nic": host.nic}}
 
 
@@ -61,7 +63,12 @@ class Outside:
         self.reports[event.name] = 0
         first = self.ground.time + self.chance.random() * self.settings.report_every
         self.simulation.at(first, self.measure, event.name)
-        return self.owner(event.name), [state(event.name, self.ground.hosts[event.name])]
+        return self.told_state(event.name)
+
+    def told_state(self, name):
+        """A machine's state, and the coordinator that is told it."""
+        owner = self.owner(name)
+        return owner, [state(name, self.ground.hosts[name], owner)]
 
     def job(self, event):
         owner = self.owner(event.name)
@@ -69,7 +76,7 @@ class Outside:
         for task in event.tasks:
             self.tasks[task.name] = TaskState(task, event.name, owner, self.ground.time)
         self.live += len(event.tasks)
-        return owner, [register(event, False), *(spec(task, event.name) for task in event.tasks)]
+        return owner, [register(event, False, owner), *(spec(task, event.name, owner) for task in event.tasks)]
 
     def withdrawal(self, event):
         """A job is withdrawn: what runs of it stops at once."""
@@ -80,7 +87,8 @@ class Outside:
             for key in list(self.ground.runs_of(task.name)):
                 self.ground.stop(key)
                 self.simulation.counts["runs withdrawn"] += 1
-        return self.owner(event.name), [register(job, True)]
+        owner = self.owner(event.name)
+        return owner, [register(job, True, owner)]
 
     def over(self, task, end):
         task.end = end
@@ -99,11 +107,11 @@ class Outside:
         host = self.ground.hosts[name]
         if not host.is_up and host.incarnation == incarnation:
             host.version += 1
-            self.simulation.hand(self.owner(name), [state(name, host)])
+            self.simulation.hand(*self.told_state(name))
 
     def recovery(self, event):
         self.ground.recover(event.name)
-        return self.owner(event.name), [state(event.name, self.ground.hosts[event.name])]
+        return self.told_state(event.name)
 
     def measure(self, name):
         """A machine measures what its runs use, which a report says a while later."""

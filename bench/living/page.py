@@ -6,6 +6,7 @@ import pathlib
 import sys
 
 from . import plots
+from .causes import CAUSES
 from .figures import COLUMNS, value_at
 
 STYLE = """
@@ -21,12 +22,15 @@ and run times are drawn from distributions with heavy tails, machines fail far m
 a network: packets go from process to process, and each is on its way for a millisecond. The coordinators are real: each is a process of
 <code>firmament follow</code>, and simulated time contains what each answer took. With several, each is taken to run on a machine of its own.
 Parameters and their sources are in <code>bench/living/README.md</code>."""
-NOTES = """A round plans and admits by what the coordinator knows when it begins; the next one begins when it ended, if something was told or can still
-be placed. Latency is from a task's arrival to the end of the round that places it first, so it contains the rest of the round before; tasks of the
-start are not counted. A turn is all that a coordinator does between two times when it is free: it exchanges packets, is renewed, is told what came,
-and holds a round. LEMON solves the dump of the same network from scratch (the better of network simplex and cost scaling, the median of the
-rounds that were checked), and costs are equal. Bandwidth is what the running tasks ask for; beyond nics is what the tasks of a machine ask for
-together above its nic. Runs in vain were preempted, lost to another coordinator's proposal, or went on when their task was over."""
+NOTES = """If sharing is own, a coordinator carries out what its plans have for the tasks that were told to it; if it is all, it carries
+out whole plans. A round plans and admits by what the coordinator knows when it begins; the next one begins when it ended, if something
+was told or can still be placed. Latency is from a task's arrival to the end of the round that places it first, so it contains the rest
+of the round before; tasks of the start are not counted. A turn is all that a coordinator does between two times when it is free: it
+exchanges packets, is renewed, is told what came, and holds a round. LEMON solves the dump of the same network from scratch (the better
+of network simplex and cost scaling, the median of the rounds that were checked), and costs are equal. Bandwidth is what the running
+tasks ask for; beyond nics is what the tasks of a machine ask for together above its nic. A machine is beyond its nic as long as they
+ask for more than it. A task is started twice if it is started while another run of it goes on, and started when over if it was done, or
+its job withdrawn. Runs in vain were preempted, lost to another coordinator's proposal, or went on when their task was over."""
 
 CLOCKS = {"wall": "Times are by the clock.", "processor": "Times of coordinators are those for which each process had a processor, since the "
           "machine had other work. LEMON's are by the clock, so they are not shown here: only its costs were compared."}
@@ -58,12 +62,26 @@ def refused(lives):
     return '<div class="table"><table>%s</table></div>' % "\n".join(lines)
 
 
+def causes(lives):
+    """Why tasks were preempted, and started in vain. Older results do not say."""
+    texts, lines = {(what, cause): text for what, those in CAUSES.items() for cause, text in those}, []
+    for life in lives:
+        for row in life.get("causes", ()):
+            part = "%.2g %%" % (100 * row["count"] / plots.came(life))
+            cells = (plots.named(life), row["what"], texts[row["what"], row["cause"]], row["count"], part)
+            lines += ["<tr>%s</tr>" % "".join("<td>%s</td>" % shown(cell) for cell in cells)] if row["count"] else []
+    head = "<tr><th>life</th><th>tasks</th><th>why</th><th>count</th><th>of the tasks that came</th></tr>"
+    table = '<div class="table"><table>%s</table></div>' % "\n".join([head, *lines])
+    return "<h2>What was done in vain, and why</h2>\n" + table if lines else ""
+
+
 def page(results):
-    lives = [life for life in results["lives"] if "broke" not in life]
+    # older results do not say how work was shared: coordinators carried out whole plans
+    lives = [{"sharing": "all", **life} for life in results["lives"]]
+    lives, broken = ([life for life in lives if ("broke" in life) is is_broken] for is_broken in (False, True))
     for life in lives if results["clock"] == "processor" else ():
         life["beside"] = {name: value for name, value in life["beside"].items() if name not in ("lemon", "whole")}
-    broke = ["<p class=broke>%s tasks, %d coordinators: %s</p>" % (shown(life["tasks"]), life["coordinators"], html.escape(life["broke"]))
-             for life in results["lives"] if "broke" in life]
+    broke = ["<p class=broke>%s: %s</p>" % (plots.named(life), html.escape(life["broke"])) for life in broken]
     drawn = "\n".join("<div>%s</div>" % svg for _, svg in plots.all_plots(lives)) if lives else ""
     how = "Date: %(date)s. Build: %(build)s. Machine: %(machine)s. Command: <code>%(command)s</code>. %(clock)s" % {
         **{name: html.escape(str(results[name])) for name in ("date", "build", "machine", "command")}, "clock": CLOCKS[results["clock"]]}
@@ -75,6 +93,7 @@ def page(results):
 <h2>Figures</h2>
 {table(lives)}{"".join(broke)}
 <p class="how">{NOTES}</p>
+{causes(lives)}
 <h2>What is simulated</h2>
 <p class="how">{SIMULATED}</p>
 <h2>Refused by admission</h2>

@@ -26,14 +26,27 @@ def finished(axes, **labels):
             axis.set_major_formatter(ticker.FuncFormatter(lambda value, _: format(value, ",.10g")))
             axis.set_minor_formatter(ticker.NullFormatter())
     if axes.get_legend_handles_labels()[0]:
-        axes.legend(loc="upper left", bbox_to_anchor=(0, -0.14), ncol=2)
+        axes.legend(loc="upper left", bbox_to_anchor=(0, -0.14), ncol=2, columnspacing=1, handlelength=1.6)
     else:
         axes.text(0.5, 0.5, "none", transform=axes.transAxes, ha="center", color=COLORS[5])
 
 
 def named(life):
-    many = life["coordinators"]
-    return "%s tasks, %s" % (format(life["tasks"], ","), "1 coordinator" if many == 1 else "%d coordinators" % many)
+    many = "1 coordinator" if life["coordinators"] == 1 else "%d coordinators" % life["coordinators"]
+    return "%s tasks, %s%s" % (format(life["tasks"], ","), many, whole(life, ", whole plans"))
+
+
+def whole(life, text):
+    """The text, if several coordinators carried out whole plans."""
+    return text if life["coordinators"] > 1 and life["sharing"] == "all" else ""
+
+
+def drawn(lives):
+    """Each life with how its line looks: a color for each size, and dashes for whole plans."""
+    sizes = list(dict.fromkeys((life["tasks"], life["coordinators"]) for life in lives))
+    for life in lives:
+        color = COLORS[sizes.index((life["tasks"], life["coordinators"])) % len(COLORS)]
+        yield life, {"label": named(life), "color": color, "linestyle": whole(life, "--") or "-"}
 
 
 def svg(draw, *given, size=(6.2, 3.9)):
@@ -49,10 +62,10 @@ def svg(draw, *given, size=(6.2, 3.9)):
 
 
 def latency(axes, lives):
-    for life in lives:
+    for life, look in drawn(lives):
         points = life["curves"]["latency"]
         if points:
-            axes.plot([at for _, at in points], [100 * part for part, _ in points], label=named(life), linewidth=1.8)
+            axes.plot([at for _, at in points], [100 * part for part, _ in points], linewidth=1.8, **look)
     finished(axes, title="From told to placed", xscale="log", xlabel="simulated time, ms", ylabel="% of tasks placed", ylim=(0, 101))
 
 
@@ -72,10 +85,10 @@ def rounds(axes, lives):
 
 
 def memory(axes, lives):
-    for life in lives:
+    for life, look in drawn(lives):
         for number, points in life["curves"]["memory"].items():
             if int(number) == 1:
-                axes.plot(*zip(*points), label=named(life), linewidth=1.8)
+                axes.plot(*zip(*points), linewidth=1.8, **look)
     finished(axes, title="Memory of the first coordinator", yscale="log", xlabel="simulated time, s", ylabel="MB")
 
 
@@ -88,12 +101,12 @@ def carried(axes, life):
 
 
 def beyond(axes, lives):
-    for life in lives:
+    for life, look in drawn(lives):
         points = life["curves"]["bandwidth"]
-        axes.plot([one[0] for one in points], [one[2] for one in points], label=named(life), linewidth=1.8)
+        axes.plot([one[0] for one in points], [one[2] for one in points], linewidth=1.8, **look)
     points = lives[-1]["curves"]["blind"]
-    axes.plot([one[0] for one in points], [one[2] for one in points], "--", label="random machine with a free slot", color=COLORS[5])
-    finished(axes, title="Asked beyond nics, by coordinators that share", xlabel="simulated time, s", ylabel="% of all bandwidth", ylim=(0, None))
+    axes.plot([one[0] for one in points], [one[2] for one in points], ":", label="random machine with a free slot", color=COLORS[5])
+    finished(axes, title="Asked beyond nics, by how many share", xlabel="simulated time, s", ylabel="% of all bandwidth", ylim=(0, None))
 
 
 def refusals(axes, life):
@@ -108,16 +121,21 @@ def refusals(axes, life):
     finished(axes, title="Refused by admission: " + named(life), xlabel="simulated time, s", ylabel="entries of plans")
 
 
+def came(life):
+    """How many tasks came. Older results have only how many of them were placed."""
+    return life.get("tasks_came", life["latency"]["count"]) or 1
+
+
 def stale(axes, lives):
     """What coordinators did in vain, beside what they did."""
-    bars = (("tasks started twice", lambda life: 100 * life["stale"]["started_twice"] / (life["latency"]["count"] or 1)),
-            ("tasks preempted", lambda life: 100 * life["preempted"] / (life["latency"]["count"] or 1)),
+    bars = (("tasks started twice", lambda life: 100 * life["stale"]["started_twice"] / came(life)),
+            ("tasks preempted", lambda life: 100 * life["preempted"] / came(life)),
             ("time of runs in vain", lambda life: life["stale"]["wasted"]))
     for place, (name, part) in enumerate(bars):
         axes.bar([at + 0.26 * (place - 1) for at in range(len(lives))], [part(life) for life in lives], 0.24, label=name, color=COLORS[place])
-    axes.set_xticks(range(len(lives)), ["%d" % life["coordinators"] for life in lives])
-    finished(axes, title="What stale knowledge costs: %s tasks" % format(lives[0]["tasks"], ","), xlabel="coordinators",
-             ylabel="% of tasks that came, of all run time")
+    axes.set_xticks(range(len(lives)), ["%d%s" % (life["coordinators"], whole(life, ", all")) for life in lives])
+    finished(axes, title="What stale knowledge costs: %s tasks" % format(lives[0]["tasks"], ","),
+             xlabel="coordinators; all: they carry out whole plans", ylabel="% of tasks that came, of all run time")
 
 
 def all_plots(lives):
@@ -128,7 +146,8 @@ def all_plots(lives):
     largest, most = max(lives, key=lambda life: (life["tasks"], -life["coordinators"])), max(lives, key=lambda life: life["coordinators"])
     yield "bandwidth", svg(carried, largest)
     if most["coordinators"] > 1:
-        same = sorted((life for life in lives if life["tasks"] == most["tasks"]), key=lambda life: life["coordinators"])
+        same = [life for life in lives if life["tasks"] == most["tasks"]]
+        same.sort(key=lambda life: (whole(life, "all"), life["coordinators"]))
         yield "beyond", svg(beyond, same)
         yield "stale", svg(stale, same)
     yield "refusals", svg(refusals, largest)

@@ -4,6 +4,7 @@ import dataclasses
 import heapq
 import itertools
 
+from . import causes
 from .grounds import Ground
 from .members import Fact
 from .outside import Outside, done
@@ -22,6 +23,8 @@ class Settings:
     exchange_after: int = 100
     delay: float = 0.001
     renew_after: int = 100000
+    # what a coordinator carries out of its plans: the entries of its own tasks, which were told to it, or all
+    sharing: str = "own"
     # a machine measures so often, its report lags, and says such a share of what its runs ask for
     report_every: float = 20.0
     report_lag: tuple = (0.5, 3.0)
@@ -45,7 +48,7 @@ class Simulation:
         self.ground, self.counts, self.wasted = Ground(), collections.Counter(), 0.0
         self.queue, self.serial, self.is_ended = [], itertools.count(), False
         self.turns, self.first_turns, self.latencies, self.series, self.checks = [], [], [], [], []
-        self.refused, self.rounds = collections.Counter(), 0
+        self.refused, self.causes, self.rounds = collections.Counter(), collections.Counter(), 0
         self.outside = Outside(self)
         self.events = events
 
@@ -73,32 +76,42 @@ class Simulation:
     # the start
 
     def begin(self):
-        """The first coordinator is told of the cluster as it is at the start, and places its tasks; the others take it in."""
-        first, operations = self.members[0], []
+        """Each coordinator is told its part of the cluster as it is at the start, and then each in turn places its tasks. The others take
+        in both at once."""
+        parts = {member: [] for member in self.members}
         for event in self.events:
             if event.time == 0:
-                operations += self.outside.handle(event)[1]
-        for place in range(0, len(operations), self.settings.bulk):
-            some = operations[place:place + self.settings.bulk]
-            telling = first.tell(some)
-            self.first_turns.append(self.turn_of(first, len(some), telling, self.spread(first)))
+                owner, operations = self.outside.handle(event)
+                if operations:
+                    parts[owner] += operations
+        for member, operations in parts.items():
+            for place in range(0, len(operations), self.settings.bulk):
+                some = operations[place:place + self.settings.bulk]
+                telling = member.tell(some)
+                self.first_turns.append(self.turn_of(member, len(some), telling, self.spread(member)))
+        for member in self.members:
+            self.place_first(member)
+        self.causes.clear()
+
+    def place_first(self, member):
+        """A coordinator places its tasks of the start, in rounds, as long as one places or preempts some of them."""
         starts, is_due = [], True
         while is_due:
-            seconds, entries = first.round()
-            more, preempted = self.taken_in(first, entries)
+            seconds, entries = member.round(True)
+            more, preempted = self.taken_in(member, entries)
             starts, count = [start for start in starts + more if start[0] not in preempted], len(starts) + len(more)
             self.counts["preempted at the start"] += count - len(starts)
-            self.first_turns.append(self.turn_of(first, 0, 0.0, self.spread(first), seconds, entries))
+            self.first_turns.append(self.turn_of(member, 0, 0.0, self.spread(member), seconds, entries))
             is_due = bool(more or preempted) and len(more) < len(entries)
-        self.start_all(first, starts)
+        self.start_all(member, starts)
 
-    def spread(self, first):
-        """Everybody else takes in what the first one has news of: the packets, the seconds of taking in, and those of renewals."""
+    def spread(self, member):
+        """Everybody else takes in what a coordinator has news of: the packets, the seconds of taking in, and those of renewals."""
         if len(self.members) == 1:
-            first.let_go()
-            return 0, 0.0, self.renewed(first)
-        _, packet = first.cut()
-        seconds = sum(self.took(other, packet) for other in self.members[1:])
+            member.let_go()
+            return 0, 0.0, self.renewed(member)
+        _, packet = member.cut()
+        seconds = sum(self.took(other, packet) for other in self.members if other is not member)
         return 1, seconds, sum(map(self.renewed, self.members))
 
     # turns
@@ -121,7 +134,7 @@ class Simulation:
         seconds, entries, is_checked, starts = None, [], False, []
         if member.is_due:
             is_checked = self.check(member)
-            seconds, entries = member.round()
+            seconds, entries = member.round(self.settings.sharing == "own")
             self.rounds += 1
             starts, preempted = self.taken_in(member, entries)
             stops += preempted
@@ -203,7 +216,7 @@ class Simulation:
 
     def taken_in(self, member, entries):
         """What the answers to a plan come to: the runs that start, and those that stop."""
-        starts, stops = [], []
+        starts, stops, preempts = [], [], causes.Preempts(member.known, self.ground.hosts)
         for entry in entries:
             if entry.answer != "accepted":
                 self.refused[member.number, entry.kind, entry.answer] += 1
@@ -211,6 +224,7 @@ class Simulation:
                 attempt = member.known.placed(entry.task, member.number, (entry.machine, entry.number))
                 starts.append(((entry.task, attempt, member.number), entry.machine, entry.number))
             else:
+                self.causes["preempted", preempts.cause(entry.task)] += 1
                 member.known.own(Fact("attempt", entry.task, entry.number + 1))
                 stops.append((entry.task, entry.number, member.number))
         self.counts["placed"] += len(starts)
@@ -238,8 +252,9 @@ class Simulation:
             if not host.is_up or host.incarnation != incarnation:
                 self.counts["placed where a machine had gone"] += 1
                 continue
-            self.counts["started twice"] += bool(self.ground.runs_of(key[0]))
-            self.counts["started when over"] += state.end is not None
+            for what, cause in causes.of_start(key, self.ground.runs_of(key[0]), state.end):
+                self.counts[what] += 1
+                self.causes[what, cause] += 1
             self.ground.start(key, machine, key[0], state.task.request)
             self.at(self.ground.time + state.task.seconds, self.outside.run_ends, key)
 
