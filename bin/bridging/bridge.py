@@ -107,14 +107,14 @@ class Bridge:
 
     def _begin(self) -> None:
         """Connects, claims the number, tells the journal, and takes in the states that the broker keeps."""
-        self._broker.connect()
+        self._broker.connect(self._settings.connect_wait)
         self._connection = self._broker.connection
         self._claim_number()
         lines, asked = 0, self._settings
         if asked.journal is not None:
             self._journal = Journal(asked.journal, asked.cluster, asked.number, asked.salvages)
             lines = self._tell_again(self._journal)
-        place = f"{self._settings.host}:{self._settings.port}, cluster {self._settings.cluster}"
+        place = f"{self._settings.access.place}, cluster {self._settings.cluster}"
         self._telling.say("connected", f"connected to {place}; {lines} lines of a journal told", lines=lines)
         self._exchange()
         self._fetch_states()

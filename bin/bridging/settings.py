@@ -6,15 +6,13 @@ import pathlib
 from collections.abc import Callable, Sequence
 from typing import NoReturn, Optional
 
+from bridging.access import Access, NoAccess, access_of, add_broker, cluster_name, whole
 from bridging.endings import WRONG_WORDS
 
-FORBIDDEN = "+#/"
 # a path of a socket has at most so many bytes
 MOST_PATH = 107
-MOST_NAME = 200
 # what a round's line may say
 MOST_EACH = 4294967295
-PORT, TLS_PORT = 1883, 8883
 
 
 @dataclasses.dataclass(frozen=True)
@@ -23,15 +21,7 @@ class Settings:
 
     cluster: str
     number: int
-    host: str
-    port: int
-    version: int
-    user: Optional[str]
-    password: Optional[str]
-    is_tls: bool
-    ca: Optional[str]
-    cert: Optional[str]
-    key: Optional[str]
+    access: Access
     journal: Optional[pathlib.Path]
     salvages: bool
     is_confirmed: bool
@@ -55,28 +45,6 @@ class Settings:
     is_json: bool
     is_traced: bool
     report: float
-
-
-def cluster_name(text: str) -> str:
-    """A name that can be one level of a topic."""
-    fine = 0 < len(text) <= MOST_NAME and text.isprintable() and not any(letter in FORBIDDEN for letter in text)
-    try:
-        text.encode()
-    except UnicodeEncodeError:
-        fine = False
-    if not fine:
-        raise argparse.ArgumentTypeError(
-            f"{text!r} is no name of a cluster: 1 to {MOST_NAME} printable characters other than + # and /")
-    return text
-
-
-def whole(least: int, most: int) -> Callable[[str], int]:
-    """Reads a whole number of the range."""
-    def read(text: str) -> int:
-        if not (text.isascii() and text.isdigit() and len(text) <= 12 and least <= int(text) <= most):
-            raise argparse.ArgumentTypeError(f"{text!r} is no whole number from {least} to {most}")
-        return int(text)
-    return read
 
 
 def seconds(least: float) -> Callable[[str], float]:
@@ -106,16 +74,6 @@ def numbers(text: str) -> list[int]:
     if len(set(found)) < len(found):
         raise argparse.ArgumentTypeError(f"{text!r} has a number twice")
     return found
-
-
-def place(text: str) -> tuple[str, Optional[int]]:
-    """A host, and its port behind a colon if there is one; an address with colons stands in brackets."""
-    host, colon, port = text.rpartition(":")
-    if not colon or text.endswith("]"):
-        host, port = text, ""
-    if not host.strip("[]") or (colon and not text.endswith("]") and not port):
-        raise argparse.ArgumentTypeError(f"{text!r} is no HOST or HOST:PORT")
-    return host.strip("[]"), whole(1, 65535)(port) if port else None
 
 
 class Words(argparse.ArgumentParser):
@@ -190,19 +148,6 @@ def parser() -> argparse.ArgumentParser:
     return words
 
 
-def add_broker(words: argparse._ArgumentGroup) -> None:
-    words.add_argument("--broker", type=place, default=("127.0.0.1", None), metavar="HOST[:PORT]",
-                       help=f"127.0.0.1 if it is not given, and port {PORT}, or {TLS_PORT} with TLS")
-    words.add_argument("--mqtt", choices=(3, 5), type=int, default=3, dest="version", help="3 for 3.1.1 (3)")
-    words.add_argument("--user", metavar="NAME", help="the user name for the broker")
-    words.add_argument("--password-file", type=pathlib.Path, metavar="FILE",
-                       help="its first line is the user's password")
-    words.add_argument("--tls", action="store_true", help="TLS, with the certificates that the system trusts")
-    words.add_argument("--ca", metavar="FILE", help="TLS, with the certificates of authorities in the file")
-    words.add_argument("--cert", metavar="FILE", help="TLS with a certificate of one's own")
-    words.add_argument("--key", metavar="FILE", help="the key of that certificate")
-
-
 def add_rounds(words: argparse._ArgumentGroup) -> None:
     words.add_argument("--rounds", type=positive_seconds, metavar="SECONDS",
                        help="runs rounds of the tasks whose writer is N once something changed, and waits so long after each series")
@@ -215,10 +160,10 @@ def read_settings(given: Sequence[str]) -> Settings:
     """The settings that the words ask for. Wrong words end the process with status 2 and a line."""
     words = parser()
     asked = vars(words.parse_args(given))
-    (host, port), secret, is_tls = asked.pop("broker"), asked.pop("password_file"), asked.pop("tls")
-    is_tls = bool(is_tls or asked["ca"] or asked["cert"])
-    if asked["key"] and not asked["cert"]:
-        words.error("--key is that of a certificate, which --cert names")
+    try:
+        access = access_of(asked, "--")
+    except NoAccess as why:
+        words.error(str(why))
     if asked["salvages"] and not asked["journal"]:
         words.error("--salvage is of a journal, which --journal names")
     if asked["rounds"] is None and (asked["each"] is not None or asked["writers"] is not None):
@@ -226,12 +171,4 @@ def read_settings(given: Sequence[str]) -> Settings:
     if asked["listen"] is not None and not 0 < len(os.fsencode(asked["listen"])) <= MOST_PATH:
         words.error(f"--listen wants a path of 1 to {MOST_PATH} bytes")
     asked["stays"] = asked["stays"] or asked["listen"] is not None
-    if secret and asked["user"] is None:
-        words.error("--password-file wants --user")
-    try:
-        password = secret.read_text().split("\n")[0] if secret else None
-        for file in (asked["ca"], asked["cert"], asked["key"]):
-            open(file or os.devnull, "rb").close()
-    except (OSError, ValueError) as why:
-        words.error(f"a file cannot be read: {why}")
-    return Settings(host=host, port=port or (TLS_PORT if is_tls else PORT), password=password, is_tls=is_tls, **asked)
+    return Settings(access=access, **asked)
