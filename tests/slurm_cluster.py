@@ -24,8 +24,8 @@ NOTE = re.compile(r"fetohamu=([0-9a-f-]{36}),(\d+),(\d+),(\d+),(\d+),(\w+)")
 # jobs in these states are over
 OVER = ("COMPLETED", "CANCELLED", "FAILED", "TIMEOUT", "NODE_FAIL")
 
-# a job: it writes a line when it starts and when it ends, also by a signal; bash waits so that it hears signals at once. The first number is
-# how long it sleeps; a second one is how long after a requeue
+# a job: it writes a line when it starts and when it ends, also by a signal; bash waits so that it hears signals at once. Its first word is how
+# long it sleeps, or a file that it waits for; a second one is the same after a requeue
 JOB = """\
 #!/bin/bash
 line="${SLURM_ARRAY_JOB_ID:-$SLURM_JOB_ID}${SLURM_ARRAY_TASK_ID:+_$SLURM_ARRAY_TASK_ID} ${SLURM_RESTART_COUNT:-0} $SLURMD_NODENAME"
@@ -33,8 +33,10 @@ trap 'echo "end $line $EPOCHREALTIME" >> RECORDS' EXIT
 trap 'exit 1' TERM
 echo "start $line $EPOCHREALTIME" >> RECORDS
 [ "${SLURM_RESTART_COUNT:-0}" = 0 ] || shift $(($# - 1))
-sleep "$1" &
-wait $!
+case $1 in
+*[!0-9.]*) until [ -e "FOLDER/$1" ]; do sleep 0.2 & wait $!; done ;;
+*) sleep "$1" & wait $! ;;
+esac
 """
 # scontrol for the adapter, which is killed by the next command that changes a job, if the file `crash` says so
 CRASHING = """\
@@ -50,18 +52,24 @@ after) SCONTROL "$@"; kill -9 $PPID ;;
 esac
 echo "$when $*" >> FOLDER/crashes
 """
+# times after which the adapter gives something up are long, since Slurm, jobs and exporters may wait for a processor
 CONFIGURATION = """\
 [slurm]
 queues = net
 run = netrun
 commands = {commands}
+command-wait = 300
 [adapter]
 lock = {folder}/lock
 interval = 0.25
+start-wait = 300
+follower-wait = 300
 {more}
 [use]
 source = exporter
 device = eth0
+wait = 30
+stale = 300
 """
 
 
@@ -169,7 +177,7 @@ class Cluster:
             stack.enter_context(self.lab)
             self.records.touch()
             self.records.chmod(0o666)
-            self.script.write_text(JOB.replace("RECORDS", str(self.records)))
+            self.script.write_text(JOB.replace("RECORDS", str(self.records)).replace("FOLDER", str(self.folder)))
             self.script.chmod(0o755)
             self.exporters = stack.enter_context(Exporters(NODES, self.fetching))
             self.make_commands()
@@ -215,8 +223,17 @@ class Cluster:
         (self.folder / "crash.new").write_text(when)
         (self.folder / "crash.new").rename(self.folder / "crash")
 
+    def let_go(self, name):
+        """Lets the jobs end that wait for the file of the name, and those that will."""
+        (self.folder / name).touch()
+
+    def goes_on(self, adapter, passes=4):
+        """Whether the adapter made so many further passes: what it was to do by what it knew then is done."""
+        wanted = len(adapter.events("pass")) + passes
+        return until(lambda: len(adapter.events("pass")) >= wanted)
+
     def submit(self, seconds, request=0, *words, later=None):
-        """Submits a job that sleeps so long, or after a requeue another time, and answers its number."""
+        """Submits a job that sleeps so long, or waits for a file, or after a requeue another one, and answers its number."""
         gres = [f"--gres=bandwidth:{request}"] if request else []
         return self.lab.did("sbatch", "--parsable", "-o", "/dev/null", "-p", QUEUE, *gres, *words, str(self.script), str(seconds),
                             *([] if later is None else [str(later)]))
@@ -296,6 +313,21 @@ class Cluster:
                   if len(set(attempts.values())) < len(attempts)}
         return sorted(found)
 
+    def uses(self, adapter):
+        """The use of each node that the adapter's follower was told last."""
+        nodes, uses = self.nodes_told(adapter), {}
+        for line, _ in adapter.asked():
+            report = line.get("tell", {}).get("report")
+            if report and report["id"] in nodes:
+                uses[nodes[report["id"]]] = report["used"]
+        return uses
+
+    def nodes_told(self, adapter):
+        """The nodes by the ids of their machines: each has a bandwidth of its own."""
+        by_bandwidth = {bandwidth: node for node, bandwidth in self.lab.bandwidths.items()}
+        machines = [line["tell"]["machine"] for line, _ in adapter.asked() if "machine" in line.get("tell", {})]
+        return {machine["id"]: by_bandwidth.get(machine["nic"]) for machine in machines}
+
     def most_at_once(self):
         """How many jobs a node ran at the same time, at most."""
         counts = (collections.Counter(it.node for it in jobs if it.state == "RUNNING") for _, jobs in self.samples)
@@ -333,11 +365,8 @@ class Cluster:
 
     def winners(self, adapter):
         """What the adapter's follower answered each time that it was asked for winners: the tasks that are held, with attempt and node."""
-        nodes, by_bandwidth = {}, {bandwidth: node for node, bandwidth in self.lab.bandwidths.items()}
+        nodes = self.nodes_told(adapter)
         for line, answer in adapter.asked():
-            machine = line.get("tell", {}).get("machine")
-            if machine:
-                nodes[machine["id"]] = by_bandwidth.get(machine["nic"])
             if line.get("ask") == "winners":
                 yield {(it[0], int(it[1]), nodes.get(it[3])) for it in map(str.split, answer[:-1]) if it[5] == "held"}
 

@@ -31,8 +31,8 @@ PLUGINS = "slurm-wlm-basic-plugins"
 RELEASE = "22.05"
 # below the ports that systems give to clients
 PORTS = range(15000, 30000)
-# the longest that anything here is waited for
-PATIENCE = float(os.environ.get("PATIENCE", 60))
+# the longest that anything here is waited for: most of it takes less than a second if processors are free
+PATIENCE = float(os.environ.get("PATIENCE", 300))
 
 
 def found(name):
@@ -140,7 +140,7 @@ class Lab:
         words = ["--foreground", "--force", f"--key-file={key}", f"--socket={folder}/socket", f"--pid-file={folder}/pid",
                  f"--seed-file={folder}/seed", f"--log-file={self.folder}/log/munged", "--num-threads=1"]
         munged = self.supervisor.start([found("munged"), *words], self.folder / "log/munged.said")
-        if not until((folder / "socket").exists, 10, 0.01) or munged.status() is not None:
+        if not until((folder / "socket").exists, pause=0.01) or munged.status() is not None:
             raise NotStarted("munged does not start on this machine: " + (self.folder / "log/munged.said").read_text().strip()[-300:])
 
     def start_daemon(self, name):
@@ -227,7 +227,8 @@ PartitionName=netrun Nodes=ALL MaxNodes=1 State=UP
 
 
 # what is not the default is due to a cluster without systemd and cgroups on one machine, or shortens a test. A node that does not respond for
-# a while returns to service; one that is set DOWN stays so
+# a while returns to service; one that is set DOWN stays so. The last lines are times after which Slurm gives something up, or kills it: long
+# ones, since daemons and jobs may wait for a processor
 COMMON = """\
 ClusterName=lab
 SlurmctldHost={host}
@@ -253,8 +254,11 @@ SelectType=select/cons_tres
 SchedulerParameters=batch_sched_delay=0,sched_interval=5,bf_interval=5
 GresTypes=bandwidth
 ReturnToService=1
-KillWait=3
-SlurmdTimeout=30
-MinJobAge=600
+MinJobAge=3600
+MessageTimeout=100
+SlurmdTimeout=600
+BatchStartTimeout=300
+KillWait=60
+UnkillableStepTimeout=600
 {nodes}
 """

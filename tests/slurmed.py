@@ -21,16 +21,18 @@ ROOT = pathlib.Path(__file__).resolve().parent.parent
 sys.path[:0] = [str(ROOT / "tests")]
 import slurm_lab
 from slurm_cluster import OVER, QUEUE, RUN, Cluster
-from slurm_lab import NODES, until
+from slurm_lab import NODES, PATIENCE, until
 
 PROGRAM = ROOT / "crates/fm_cli/out/fm_cli"
 # a request that two thirds of the lab's nodes have room for once
 WIDE = 60
+# seconds that no test takes
+LONG = 100000
 
 
-def all_over(cluster, patience=90):
+def all_over(cluster):
     """Whether all jobs are over in time."""
-    return bool(until(cluster.are_over, patience, 0.2))
+    return bool(until(cluster.are_over, pause=0.2))
 
 
 def held(cluster):
@@ -56,23 +58,29 @@ def placed(program):
     with Cluster(program) as cluster:
         cluster.exporters.silent.add("n4")
         cluster.exporters.others["n1"] = 70
-        cluster.acting()
-        time.sleep(1)
-        wide, narrow = [cluster.submit(2, WIDE) for _ in range(3)], [cluster.submit(1, 10) for _ in range(2)]
-        free = [cluster.submit(1) for _ in range(2)]
+        adapter = cluster.acting()
+        wide = [cluster.submit("wide", WIDE) for _ in range(3)]
+        narrow, free = [cluster.submit("small", 10) for _ in range(2)], [cluster.submit("small") for _ in range(2)]
+        until(lambda: len(cluster.starts()) == 6)
+        # more jobs wait to be let go than there are nodes for them
+        most = until(lambda: (found := cluster.most_at_once()) > 1 and found)
+        yield "a node runs several jobs at the same time: %s" % most, most
+        fine = cluster.goes_on(adapter) and len(cluster.starts()) == 6
+        yield "a job for which there is no room does not run: %s" % on(cluster, wide), fine
+        for name in "wide", "small":
+            cluster.let_go(name)
         fine = until(lambda: len(cluster.lines("end")) == 7)
         yield "all ran: %s" % on(cluster, wide + narrow + free), fine
         found = on(cluster, wide)
         yield "none goes to a node that is busy or not measured: %s" % found, {node for nodes in found.values() for node in nodes} == {"n2", "n3"}
         yield "a small one to none that was not measured: %s" % on(cluster, narrow), all(it and it[0] != "n4" for it in on(cluster, narrow).values())
-        yield "a node runs several jobs at the same time: %d" % cluster.most_at_once(), cluster.most_at_once() > 1
         cluster.exporters.others.update(n2=70, n3=70)
-        time.sleep(1.5)
+        seen = until(lambda: all(cluster.uses(adapter).get(node, 0) >= 70 for node in ("n2", "n3")))
+        yield "the adapter learns that two links are busy now: %s" % cluster.uses(adapter), seen
         waits = cluster.submit(1, WIDE)
         said = until(lambda: "waits" in cluster.job(waits).comment)
         yield "why a job waits: %r" % cluster.job(waits).comment, said
-        time.sleep(1)
-        yield "and it does not start", not cluster.starts(waits)
+        yield "and it does not start", cluster.goes_on(adapter) and not cluster.starts(waits)
         cluster.exporters.silent.clear()
         until(lambda: cluster.starts(waits))
         yield "a node that is measured gets it: %s" % on(cluster, [waits]), on(cluster, [waits])[waits] == ["n4"]
@@ -88,9 +96,10 @@ def used(program):
         cluster.control("update", "NodeName=n2", "State=DRAIN", "Reason=test")
         # the one node that a request for 103 fits on carries other traffic, so this waits
         cluster.exporters.others["n4"] = 50
-        cluster.acting(without=["n2"])
-        array = cluster.submit(1, 10, "--array=0-4%2")
-        withheld, longest, again = cluster.submit(1, 10, "--hold"), cluster.submit(90, WIDE), [cluster.submit(60, 6, later=1) for _ in range(5)]
+        adapter = cluster.acting(without=["n2"])
+        array = cluster.submit("array", 10, "--array=0-4%2")
+        withheld, longest = cluster.submit(1, 10, "--hold"), cluster.submit(LONG, WIDE)
+        again = [cluster.submit(LONG, 6, later=1) for _ in range(5)]
         later = cluster.submit(1, 10, f"--dependency=afterok:{array}")
         until(lambda: all(cluster.starts(it) for it in [longest, *again]))
         for job in again:
@@ -100,7 +109,7 @@ def used(program):
         cancelled = cluster.submit(1, 103)
         held_later = cluster.submit(1, 103)
         cluster.control("hold", held_later)
-        yield from arrayed(cluster, array, later)
+        yield from arrayed(cluster, adapter, array, later)
         yield "a job that its user holds stays in its queue", cluster.partitions(withheld) == {QUEUE} and not cluster.starts(withheld)
         yield "a job that waits for room stays in its queue", cluster.partitions(cancelled) == {QUEUE} and not cluster.starts(cancelled)
         cluster.lab.did("scancel", cancelled, longest)
@@ -117,17 +126,24 @@ def used(program):
         yield "a held job still waits, though there is room", not cluster.starts(held_later) and cluster.partitions(held_later) == {QUEUE}
         cluster.exporters.others["n4"] = 0
         cluster.control("update", "NodeName=n2", "State=RESUME")
-        wide = [cluster.submit(2, 100) for _ in range(4)]
+        # each takes a whole link until all have one
+        wide = [cluster.submit("links", 100) for _ in range(4)]
         until(lambda: all(cluster.starts(it) for it in wide))
+        cluster.let_go("links")
         yield "a node that is resumed gets jobs: %s" % on(cluster, wide), ["n2"] in on(cluster, wide).values()
         cluster.control("release", held_later)
         yield "all end", all_over(cluster)
         yield from held(cluster)
 
 
-def arrayed(cluster, array, later):
+def arrayed(cluster, adapter, array, later):
     """An array of five with a throttle of two, and a job that waits for it."""
     names = [f"{array}_{index}" for index in range(5)]
+    started = lambda: [it.job for it in cluster.starts() if it.job in names]
+    placed = lambda: [it.job for it in max(([it for it in jobs if it.is_placed and it.job in names] for _, jobs in cluster.samples), key=len)]
+    fine = until(lambda: len(started()) == len(placed()) == 2) and cluster.goes_on(adapter)
+    yield "two elements start and go on, and no third is placed: %s %s" % (started(), placed()), fine and len(started()) == len(placed()) == 2
+    cluster.let_go("array")
     until(lambda: cluster.starts(later))
     lines = [it for it in cluster.lines() if it.job in names]
     most = now = 0
@@ -137,8 +153,7 @@ def arrayed(cluster, array, later):
     yield "each element of an array ran once: %s" % [it.job for it in lines if it.what == "start"], sorted(
         it.job for it in lines if it.what == "start") == names
     yield "at most two at the same time: %d" % most, most == 2
-    most = max(([it for it in jobs if it.is_placed and it.job in names] for _, jobs in cluster.samples), key=len)
-    yield "nor more than two that are placed: %s" % most, len(most) == 2
+    yield "nor more than two that are placed: %s" % placed(), len(placed()) == 2
     first = cluster.starts(later)
     yield "a job that waits for an array starts after it", bool(first) and len(lines) == 10 and first[0].at > max(it.at for it in lines)
 
@@ -151,7 +166,7 @@ def killed(program):
     chance = random.Random(73)
     with Cluster(program) as cluster:
         adapter = cluster.acting()
-        steady, longest = cluster.submit(300, 5), cluster.submit(300, 5)
+        steady, longest = cluster.submit(LONG, 5), cluster.submit(LONG, 5)
         until(lambda: cluster.starts(steady) and cluster.starts(longest))
         jobs, requeues = [], 0
         for turn, when in enumerate(("before", "during", "after", "drawn") * 3):
@@ -211,10 +226,9 @@ def replaced(program):
         cluster.lab.restart("controller")
         jobs += [cluster.submit(1, WIDE) for _ in range(3)]
         yield "slurmctld ended, and all jobs run", until(lambda: all(cluster.starts(it) for it in jobs))
-        longer = [cluster.submit(200, WIDE) for _ in range(3)]
-        until(lambda: all(cluster.starts(it) for it in longer))
-        # what slurmctld knows is on the disk after five seconds
-        time.sleep(6)
+        longer = [cluster.submit(LONG, WIDE) for _ in range(3)]
+        until(lambda: all(cluster.starts(it) for it in longer) and set(longer) <= set(cluster.running()))
+        yield "what slurmctld knows of them is on the disk", kept_on_disk(cluster, longer)
         cluster.lab.restart("controller", signal.SIGKILL)
         until(lambda: cluster.shown() is not None)
         jobs += [cluster.submit(1, 30) for _ in range(3)]
@@ -226,6 +240,14 @@ def replaced(program):
         yield "all end", all_over(cluster)
         yield "the second one is there", second.is_there() and second.end() == 0
         yield from held(cluster)
+
+
+def kept_on_disk(cluster, jobs):
+    """Waits until slurmctld wrote down that the jobs run: it does so some seconds after a change, as here of their names."""
+    marks = [f"mark-of-{job}" for job in jobs]
+    for job, mark in zip(jobs, marks):
+        cluster.control("update", f"JobId={job}", f"JobName={mark}")
+    return until(lambda: all(mark.encode() in (cluster.lab.folder / "state/job_state").read_bytes() for mark in marks))
 
 
 def failed(cluster, jobs):
@@ -275,20 +297,25 @@ def checked(program):
         status, said = check()
         yield "a queue that starts jobs: %d %s" % (status, said), status == 13 and "net" in said and said.count("\n") == 1
         cluster.control("update", "PartitionName=net", "State=DOWN")
+        cluster.stop_watch()
         cluster.lab.daemons["controller"].kill()
+        # Slurm's commands try to reach it for as long as a message may take
+        cluster.configuration.write_text(cluster.configuration.read_text().replace("command-wait = 300", "command-wait = 5"))
         status, said = check()
         yield "no slurmctld: %d %s" % (status, said), status == 13 and said.count("\n") == 1
 
 
 def check_of(cluster):
     words = [sys.executable, "-B", os.environ.get("SLURM_ADAPTER", ROOT / "bin/slurm"), "--check", cluster.configuration]
-    done = subprocess.run(words, env={**os.environ, **cluster.lab.environment}, stdin=subprocess.DEVNULL, capture_output=True, text=True, timeout=60)
+    done = subprocess.run(words, env={**os.environ, **cluster.lab.environment}, stdin=subprocess.DEVNULL, capture_output=True, text=True,
+                          timeout=3 * PATIENCE)
     return done.returncode, done.stderr
 
 
 def example(program):
     """The example runs with one command, and ends in what was checked."""
-    done = subprocess.run([ROOT / "examples/slurm/run", "--program", program], stdin=subprocess.DEVNULL, capture_output=True, text=True, timeout=180)
+    done = subprocess.run([ROOT / "examples/slurm/run", "--program", program], stdin=subprocess.DEVNULL, capture_output=True, text=True,
+                          timeout=6 * PATIENCE)
     yield "the example: %s" % (done.stdout + done.stderr)[-400:], done.returncode == 0 and "each job started once" in done.stdout
 
 
@@ -310,7 +337,7 @@ os.kill(os.getpid(), 9)
 def ended(_program):
     """A lab ends with the process that started it, also if that is killed, and with it all that it runs."""
     command = [sys.executable, "-B", "-c", KILLED, str(ROOT / "tests")]
-    done = subprocess.run(command, stdin=subprocess.DEVNULL, capture_output=True, text=True, timeout=180)
+    done = subprocess.run(command, stdin=subprocess.DEVNULL, capture_output=True, text=True, timeout=6 * PATIENCE)
     folder = pathlib.Path(done.stdout.strip() or "/nowhere")
     yield "a lab that is killed: %s" % done.stderr[-200:], done.returncode == -9 and folder.name.startswith("fetohamu-slurm-")
     yield "its folder goes", until(lambda: not folder.exists())
@@ -331,7 +358,7 @@ def skipped(_program):
     """If a package is missing, it is named, and nothing fails but what cannot run."""
     env = {**os.environ, "SLURM_COMMANDS": "/nowhere"}
     for command, status in ([ROOT / "examples/slurm/run"], 10), ([ROOT / "tests/slurmed.py", "placed"], 0):
-        done = subprocess.run(command, env=env, stdin=subprocess.DEVNULL, capture_output=True, text=True, timeout=60)
+        done = subprocess.run(command, env=env, stdin=subprocess.DEVNULL, capture_output=True, text=True, timeout=PATIENCE)
         said = done.stdout + done.stderr
         yield "%s without Slurm: %d %s" % (command[0].name, done.returncode, said), done.returncode == status and "slurmctld" in said
 

@@ -21,7 +21,7 @@ import time
 
 PARENT_DEATH, CHILD_SUBREAPER = 1, 36
 # seconds that an answer may take
-PATIENCE = 30
+PATIENCE = float(os.environ.get("PATIENCE", 300))
 
 
 class Process:
