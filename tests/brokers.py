@@ -1,5 +1,6 @@
 """A broker and bridges as processes on the loopback address, for tests/bridged.py, examples/brokered/run and
 bench/bridge. All of them end with the process that started them, by `with`."""
+import fcntl
 import getpass
 import importlib.util
 import json
@@ -59,6 +60,13 @@ def until(holds, patience=PATIENCE, pause=0.02):
     return found
 
 
+def log():
+    """A file to which processes write while it is read: behind its end, wherever it was read last."""
+    file = tempfile.TemporaryFile()
+    fcntl.fcntl(file, fcntl.F_SETFL, fcntl.fcntl(file, fcntl.F_GETFL) | os.O_APPEND)
+    return file
+
+
 class Broker:
     """Mosquitto on a free port, with its store in a folder, and further lines of its configuration."""
 
@@ -106,7 +114,7 @@ class Bridge:
 
     def __init__(self, port, number, *words, cluster="test", program=PROGRAM):
         self.number, self.heard = number, bytearray()
-        self.said = tempfile.TemporaryFile()
+        self.said = log()
         command = [BRIDGE, "--cluster", cluster, "--number", str(number), "--broker", f"127.0.0.1:{port}", "--program", program]
         self.run = subprocess.Popen([*command, "--json", *words], stdin=subprocess.PIPE, stdout=subprocess.PIPE, stderr=self.said, bufsize=0)
         self.changed = threading.Condition()
