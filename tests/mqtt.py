@@ -87,7 +87,7 @@ class End:
     """One end of a connection, to which several threads write whole packets."""
 
     def __init__(self, end):
-        self.socket, self.lock = end, threading.Lock()
+        self.socket, self.lock, self.is_deaf = end, threading.Lock(), False
 
     def send(self, frames):
         with self.lock:
@@ -118,6 +118,8 @@ class Way:
             end.close()
 
     def pass_on(self, kind, flags, body):
+        if self.near.is_deaf:
+            return
         fault = None
         if kind == PUBLISH:
             fault = self.proxy.fault()
@@ -197,6 +199,11 @@ class Proxy:
 
     def mend(self):
         self.is_cut = False
+
+    def deafen(self):
+        """Has nothing more come of the connections that there are, which stay; others are as before."""
+        for end in self.ends:
+            end.is_deaf = True
 
     def run(self):
         while True:

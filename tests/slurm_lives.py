@@ -3,8 +3,9 @@
     tests/slurm_lives.py [--program FILE] [--seeds N] [--first SEED]
 
 A life is drawn by a seed: jobs, arrays, users and administrators, failures, what other traffic there is. In some the adapter is killed after
-drawn commands, or after each; in some a second one makes its passes in the midst of those of the first. Each command is judged as it comes,
-by what the model knows to be true: that is what docs/slurm.md promises. Ends in a line 'N passed, M failed'.
+drawn commands, or after each. In some a second one makes its passes in the midst of those of the first, or takes the lock that both have when the
+first one is stopped. Each command is judged as it comes, by what the model knows to be true: that is what docs/slurm.md promises. Ends in a
+line 'N passed, M failed'.
 """
 import argparse
 import collections
@@ -24,6 +25,8 @@ from slurming import passes, settings, slurm
 from slurming.endings import Failure
 from slurming.events import Events
 from slurming.follower import Coordinator
+from slurming.leases import Lease, Times
+from slurming.locks import Lost
 from slurming.telling import Moment
 from slurming.usage import Reading
 
@@ -74,10 +77,11 @@ class Watched(Coordinator):
 class Run:
     """An adapter: its passes, and the readings that it got."""
 
-    def __init__(self, life):
-        self.life, self.readings, self.followers = life, collections.defaultdict(list), []
+    def __init__(self, life, lease=None):
+        self.life, self.lease, self.readings, self.followers = life, lease, collections.defaultdict(list), []
         told = Events(True, life.said)
-        self.passes = passes.Passes(life.settings, slurm.Slurm(self, "bandwidth"), self, told, lambda: Watched(life, self, life.program))
+        asked = slurm.Slurm(self, "bandwidth", lambda: life.guard(self))
+        self.passes = passes.Passes(life.settings, asked, self, told, lambda: Watched(life, self, life.program))
         self.passes.know("model", False)
 
     def run(self, words):
@@ -125,9 +129,10 @@ class Run:
 class Life:
     """A life, and what is wrong in it. `kill_at` is the number of the command behind which the adapter is killed, or 0 for each; `kills` is
     the chance that it is killed behind a command; `is_double` gives it a second adapter; `faults` is the chance that a command is lost, or its
-    answer, or that the follower ends."""
+    answer, or that the follower ends; `stops` gives it a second adapter and both a lock, and is the chance that one is stopped before it looks at
+    the lock."""
 
-    def __init__(self, seed, program, kill_at=None, kills=0.0, is_double=False, faults=0.0, steps=STEPS):
+    def __init__(self, seed, program, kill_at=None, kills=0.0, is_double=False, faults=0.0, stops=0.0, steps=STEPS):
         self.chance, self.program, self.steps = random.Random("life %s" % seed), program, steps
         self.settings = settings.settings_of(GIVEN)
         self.kill_at, self.kills, self.is_double, self.faults = kill_at, kills, is_double, faults
@@ -146,7 +151,8 @@ class Life:
         self.wrong, self.log, self.preempted = [], [], set()
         self.attempts, self.homes, self.words, self.ids, self.placed_at = {}, {}, {}, {}, {}
         self.commands, self.faulty, self.may_adopt, self.inner, self.is_away = 0, False, False, None, False
-        self.is_undisturbed = not (kills or is_double or faults) and kill_at is None
+        self.stops, self.is_stopped, self.runs, self.lost = stops, False, [], 0
+        self.is_undisturbed = not (kills or is_double or faults or stops) and kill_at is None
         self.kill_chance = random.Random("kills %s" % seed)
 
     # what is judged
@@ -174,6 +180,35 @@ class Life:
             if self.kill_at in (0, self.commands) or self.kill_chance.random() < self.kills:
                 raise Killed
         return slurm.Answer(124, "", "it took too long") if lost == "answer" else answer
+
+    def guard(self, run):
+        """What an adapter asks before each command that changes a job: whether it still has the lock."""
+        if run.lease is None:
+            return
+        if not self.is_stopped and self.kill_chance.random() < self.stops:
+            self.stop(run)
+        if not run.lease.holds(self.steady):
+            raise Lost
+
+    def stop(self, run):
+        """An adapter is stopped in the midst of a pass, until the other one has the lock and has made some passes."""
+        self.is_stopped = True
+        for _ in range(int(Times().silence) + self.chance.choice((2, 4))):
+            self.advance(1.0)
+            self.turn(next(at for at, other in enumerate(self.runs) if other is not run))
+        self.is_stopped = False
+
+    def turn(self, at):
+        """An adapter asks for the lock, or claims it again, and makes a pass if it has it."""
+        lease = self.runs[at].lease
+        self.send(lease.claim(self.steady) or lease.beat(self.steady))
+        if lease.holds(self.steady):
+            self.runs[at] = self.pass_of(self.runs[at])
+
+    def send(self, text):
+        """A broker hands a claim out to all, and what they answer."""
+        for lease in [run.lease for run in self.runs] if text is not None else ():
+            self.send(lease.hear(text, self.steady))
 
     def look(self, run, words):
         """Judges a command before it is done."""
@@ -386,7 +421,9 @@ class Life:
 
     def live(self):
         """Answers what is wrong, a line each."""
-        runs = [Run(self) for _ in range(1 + self.is_double)]
+        self.runs = runs = [Run(self, Lease(1) if self.stops else None) for _ in range(1 + (self.is_double or self.stops > 0))]
+        for run in runs if self.stops else ():
+            run.lease.listen(self.steady - Times().silence)
         try:
             for step in range(self.steps):
                 for _ in range(self.chance.choice((0, 1, 1, 2))):
@@ -414,9 +451,15 @@ class Life:
         self.slurm.save()
         for at in range(len(runs)):
             self.inner = runs[1 - at] if self.is_double else None
-            runs[at] = self.pass_of(runs[at])
+            if runs[at].lease is not None:
+                self.turn(at)
+            else:
+                runs[at] = self.pass_of(runs[at])
         self.slurm.is_answering = True
-        seconds = self.chance.choice((0.7, 1.0, 1.0, 1.3, 2.5))
+        self.advance(self.chance.choice((0.7, 1.0, 1.0, 1.3, 2.5)))
+
+    def advance(self, seconds):
+        """Time goes by, also by the clock of the adapters."""
         self.slurm.advance(seconds)
         self.steady += seconds + self.chance.choice((-0.3, 0.0, 0.3))
         self.slurm.hear() if self.chance.random() < 0.5 else None
@@ -440,6 +483,11 @@ class Life:
             except Failure:
                 run.close()
                 return run
+            except Lost:
+                run.close()
+                run.lease.release()
+                self.lost += 1
+                return Run(self, run.lease)
             except Killed:
                 self.look_around(False)
                 run.close()
@@ -453,6 +501,7 @@ class Life:
 
     def mend(self):
         """Nothing fails any more, nobody holds anything, what can never be placed is cancelled, and jobs are short."""
+        self.stops = 0.0
         for node in self.slurm.nodes.values():
             node.flags, node.base, node.refuses, node.is_answering, node.others = (), "IDLE", False, True, 0.0
         self.slurm.hear()
@@ -471,17 +520,19 @@ def id_of(job):
 
 def lives(program, count, first=0):
     """Lives in which nobody kills the adapter, and others in which it is killed after drawn commands, after each, or has a second beside it,
-    or in which commands, answers and followers are lost."""
+    or in which commands, answers and followers are lost, or the lock is."""
     kinds = (("undisturbed", {}), ("killed now and then", {"kills": 0.2}), ("killed after each command", {"kill_at": 0}),
-             ("two adapters", {"is_double": True}), ("faults", {"faults": 0.1}))
-    happened = collections.Counter()
+             ("two adapters", {"is_double": True}), ("faults", {"faults": 0.1}), ("a lock over a broker", {"stops": 0.1}))
+    happened, lost = collections.Counter(), 0
     for seed in range(first, first + count):
         for name, how in kinds:
             life = Life(seed, program, **how)
             wrong = life.live()
+            lost += life.lost
             happened.update(json.loads(line)["event"] for line in life.said.getvalue().splitlines())
             yield "life %d, %s: %s" % (seed, name, wrong[:3] or "as promised"), not wrong
     yield "all kinds of events came: %s" % dict(happened), all(happened[event] for event in EVENTS)
+    yield "adapters lost their lock %d times in the midst of a pass" % lost, lost >= count
 
 
 def one_kill(program, seed, steps=8):

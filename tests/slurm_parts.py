@@ -1,5 +1,5 @@
 """Tests of the parts of bin/slurm by themselves: what Slurm's commands print, the configuration, ids, notes, prices, the measure of links,
-the lock, and how an adapter begins and ends. What commands print was printed by Slurm 22.05.8.
+the locks, and how an adapter begins and ends. What commands print was printed by Slurm 22.05.8.
 
     tests/slurm_parts.py [--program FILE]
 
@@ -24,6 +24,7 @@ import uuid
 ROOT = pathlib.Path(__file__).resolve().parent.parent
 sys.dont_write_bytecode = True
 sys.path[:0] = [str(ROOT / "tests"), str(ROOT / "bin")]
+import slurm_leases
 import slurm_model as model
 from slurming import identities, jobs, locks, nodes, notes, prices, rooms, settings, slurm, usage
 from slurming.endings import Failure
@@ -360,7 +361,11 @@ WRONG = (
     ("slurm", "queues", ""), ("slurm", "queues", "a a"), ("slurm", "queues", "a/b"), ("slurm", "run", "a b"), ("slurm", "run", "net"),
     ("slurm", "gres", ""), ("slurm", "releases", "22"), ("slurm", "releases", ""), ("slurm", "commands", "bin"),
     ("slurm", "command-wait", "0"), ("slurm", "command-wait", "nan"), ("slurm", "cluster", "a\nb"), ("slurm", "colour", "blue"),
-    ("adapter", "lock", "lock"), ("adapter", "lock", ""), ("adapter", "coordinator", "65"), ("adapter", "coordinator", "0"),
+    ("adapter", "lock", "lock"), ("adapter", "lock", ""), ("adapter", "lock", "mqtt://here"), ("adapter", "lock", "mqtt://here/"),
+    ("adapter", "lock", "mqtt:///blue"), ("adapter", "lock", "mqtt://here:0/blue"), ("adapter", "lock", "mqtt://here:65536/blue"),
+    ("adapter", "lock", "mqtt://here:x/blue"), ("adapter", "lock", "mqtt://a b/blue"), ("adapter", "lock", "mqtt://me@here/blue"),
+    ("adapter", "lock", "mqtt://here/a/b"), ("adapter", "lock", "mqtt://here/a+b"), ("adapter", "lock", "mqtt://here/#"),
+    ("adapter", "lock", "mqtt://here/" + "x" * 201), ("adapter", "lock", "mqtts://here/blue"), ("adapter", "coordinator", "65"), ("adapter", "coordinator", "0"),
     ("adapter", "interval", "0"), ("adapter", "interval", "x"), ("adapter", "start-wait", "-1"), ("adapter", "whys", "1.5"),
     ("adapter", "rounds", "-1"), ("adapter", "tasks", "0"), ("use", "source", "guess"), ("use", "port", "0"), ("use", "port", "65536"),
     ("use", "device", "a/b"), ("use", "device", ".."), ("use", "wait", "0"), ("use", "stale", "0"), ("use", "settle", "-1"),
@@ -390,6 +395,32 @@ def configurations():
         why = refused(given)
         yield "[%s] %s = %r: %s" % (section, option, text, why), why is not None and f"[{section}]" in why and "\n" not in why
     yield "no lock", "lock" in (refused({}) or "")
+    yield from over_brokers(refused)
+
+
+def over_brokers(refused):
+    """A lock over a broker, and how its broker is reached."""
+    def read(lock, **options):
+        found = settings.settings_of({"adapter": {"lock": lock}, **({"broker": options} if options else {})})
+        return found.lock.cluster, found.access.place, found.access.version, found.access.is_tls
+    for lock, options, wanted in (
+            ("mqtt://here/blue", {}, ("blue", "here:1883", 3, False)), ("mqtt://h-1.example:1/my cluster", {}, ("my cluster", "h-1.example:1", 3, False)),
+            ("mqtt://[::1]/blue", {}, ("blue", "[::1]:1883", 3, False)), ("mqtt://10.0.0.1:5/b", {"mqtt": "5"}, ("b", "10.0.0.1:5", 5, False)),
+            ("mqtt://here/blue", {"tls": "yes"}, ("blue", "here:8883", 3, True)), ("mqtt://here/blue", {"tls": "no"}, ("blue", "here:1883", 3, False)),
+            ("mqtt://here:9/blue", {"ca": "/dev/null"}, ("blue", "here:9", 3, True)),
+            ("mqtt://here/blue", {"cert": "/dev/null", "key": "/dev/null"}, ("blue", "here:8883", 3, True))):
+        yield "%s %s" % (lock, options), read(lock, **options) == wanted
+    with tempfile.NamedTemporaryFile("w") as secret:
+        secret.write("open sesame\nno more\n")
+        secret.flush()
+        found = settings.settings_of({"adapter": {"lock": "mqtt://here/blue"}, "broker": {"user": "one", "password-file": secret.name}})
+        yield "a user and a password", (found.access.user, found.access.password) == ("one", "open sesame")
+    for options in ({"mqtt": "4"}, {"user": ""}, {"password-file": "/dev/null"}, {"user": "one", "password-file": "/nowhere"}, {"tls": "maybe"},
+                    {"ca": "ca.pem"}, {"ca": "/nowhere"}, {"key": "/dev/null"}, {"cert": "/nowhere"}, {"host": "here"}, {"password": "x"}):
+        why = refused({"adapter": {"lock": "mqtt://here/blue"}, "broker": options})
+        yield "[broker] %s: %s" % (options, why), why is not None and "[broker]" in why and "\n" not in why
+    why = refused({**WELL, "broker": {}})
+    yield "[broker] beside a lock that is a file: %s" % why, why is not None and "[broker]" in why
 
 
 # how an adapter begins and ends
@@ -588,6 +619,8 @@ def all_tests(program):
                  configurations, locked, said, modelled):
         for name, fine in test():
             yield "%s: %s" % (test.__name__, name), fine
+    for name, fine in slurm_leases.all_tests():
+        yield "leases: " + name, fine
     for test in ends, faults, acting:
         for name, fine in test(program):
             yield "%s: %s" % (test.__name__, name), fine

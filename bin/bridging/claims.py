@@ -1,4 +1,5 @@
-"""Whose a coordinator's number is, told by messages on the number's own topic.
+"""Whose a coordinator's number is, told by messages on the number's own topic. An adapter of bin/slurm has its lock in the same way, for
+as long as its claims come back (slurming/leases.py).
 
 A bridge claims its number each time that it connects. One that has the number already answers that it is taken. Of two
 that ask at the same time, or that both have the number since neither could hear the other, the lesser rank keeps it. A
@@ -69,9 +70,18 @@ class Claim:
     def token(self) -> str:
         return self._token
 
+    @property
+    def turn(self) -> int:
+        """The how manieth claim was asked for last."""
+        return self._turn
+
     def run(self) -> None:
         """The number is ours: no other bridge that has it answered in time."""
         self.is_running, self._since, self._began = True, time.time(), time.monotonic()
+
+    def end(self) -> None:
+        """The number is given up, as the next claim that is asked for says."""
+        self.is_running = False
 
     def ask(self, is_new: bool) -> bytes:
         """A claim to be sent; `is_new` asks others to make their states current."""

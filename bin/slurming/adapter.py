@@ -7,10 +7,11 @@ import time
 from collections.abc import Sequence
 
 from bridging.follower import usual_program
+from bridging.package import with_paho
 from slurming.endings import FOLLOWER_ENDED, LOCKED, NO_SLURM, NOT_READY, WELL, Failure
 from slurming.events import Events
 from slurming.follower import Coordinator
-from slurming.locks import Lock
+from slurming.locks import AnyLock, Lock, Lost
 from slurming.passes import Passes
 from slurming.settings import Settings, read_configuration, read_words
 from slurming.slurm import Commands, NoAnswer, Slurm
@@ -30,9 +31,9 @@ class Adapter:
     def __init__(self, settings: Settings, asked: argparse.Namespace, events: Events) -> None:
         self._settings, self._asked, self._events = settings, asked, events
         self._stopping = threading.Event()
-        self._slurm = Slurm(Commands(settings.commands, settings.command_wait), settings.gres)
-        self._lock = Lock(settings.lock)
-        self._asked_at = float("-inf")
+        self._lock = lock_of(settings)
+        self._slurm = Slurm(Commands(settings.commands, settings.command_wait), settings.gres, self._lock.check)
+        self._asked_at, self._made = float("-inf"), 0
         self._ends: collections.deque[float] = collections.deque(maxlen=MOST_ENDS)
 
     def stop(self, *_signal: object) -> None:
@@ -40,7 +41,7 @@ class Adapter:
         self._stopping.set()
 
     def check(self) -> int:
-        """Says what is wrong with Slurm's configuration."""
+        """Says what is wrong with Slurm's configuration, and with the broker of the lock if it has one."""
         self._check_release()
         try:
             faults = self._faults()
@@ -49,49 +50,61 @@ class Adapter:
             raise Failure(NOT_READY, str(why)) from None
         faults += [f"partition {self._settings.run} has no nodes"] if not nodes else []
         faults += [f"node {node.name} has no Gres={self._settings.gres}:N that can be read" for node in nodes if node.bandwidth is None]
-        for fault in faults:
-            self._events.say("fault", fault, about="the configuration of Slurm")
-        if not faults:
+        wrong = [("the configuration of Slurm", fault) for fault in faults] + [("the lock", fault) for fault in self._lock.faults()]
+        for about, fault in wrong:
+            self._events.say("fault", fault, about=about)
+        if not wrong:
             self._events.say("fine", f"{len(nodes)} nodes in {self._settings.run}; nothing is wrong")
-        return NOT_READY if faults else WELL
+        return NOT_READY if wrong else WELL
 
     def run(self) -> int:
-        """Makes passes until a signal, or as many as are asked for."""
+        """Makes passes until a signal, or as many as are asked for, while it has the lock."""
         self._check_release()
         program = self._asked.program or usual_program()
         source = source_of(self._settings)
-        if not self._take_lock():
-            return WELL
-        passes = Passes(self._settings, self._slurm, source, self._events,
-                        lambda: Coordinator(program, self._settings.coordinator, self._settings.follower_wait))
+        begin = lambda: Coordinator(program, self._settings.coordinator, self._settings.follower_wait)
         try:
-            made = 0
-            while not self._stopping.is_set():
-                began = time.monotonic()
-                self._lock.check()
-                self._pass(passes)
-                made += 1
-                if made == self._asked.passes:
-                    break
-                self._stopping.wait(max(0.0, began + self._settings.interval - time.monotonic()))
+            has_lock = self._take_lock()
+            while has_lock and not self._act(Passes(self._settings, self._slurm, source, self._events, begin)):
+                has_lock = self._take_lock()
         finally:
-            passes.close()
             self._lock.release()
-        self._events.say("stopped", f"stopped after {made} passes")
+        if has_lock:
+            self._events.say("stopped", f"stopped after {self._made} passes")
         return WELL
 
     def _take_lock(self) -> bool:
         """Waits for the lock. Whether this adapter has it, and was not stopped before."""
-        is_said = False
+        said = ""
         while not self._lock.take():
-            if self._asked.is_impatient:
-                raise Failure(LOCKED, f"another adapter has the lock {self._settings.lock}")
-            if not is_said:
-                is_said = True
-                self._events.say("standby", f"stands by: another adapter has the lock {self._settings.lock}", lock=self._settings.lock)
+            why = self._lock.why
+            if self._asked.is_impatient and self._lock.is_settled:
+                raise Failure(LOCKED, why)
+            if said != why:
+                said = why
+                self._events.say("standby", f"stands by: {why}", lock=self._lock.name)
             if self._stopping.wait(STANDBY):
                 return False
-        self._events.say("acting", f"acts: it has the lock {self._settings.lock}", lock=self._settings.lock)
+        self._events.say("acting", f"acts: it has the lock {self._lock.name}", lock=self._lock.name)
+        return True
+
+    def _act(self, passes: Passes) -> bool:
+        """Makes passes that know nothing of what was before them, since others may have acted. Whether that is all; else the lock is lost."""
+        self._asked_at = float("-inf")
+        try:
+            while not self._stopping.is_set():
+                began = time.monotonic()
+                self._lock.check()
+                self._pass(passes)
+                self._made += 1
+                if self._made == self._asked.passes:
+                    break
+                self._stopping.wait(max(0.0, began + self._settings.interval - time.monotonic()))
+        except Lost as why:
+            self._events.say("standby", f"stands by: {why}", lock=self._lock.name)
+            return False
+        finally:
+            passes.close()
         return True
 
     def _pass(self, passes: Passes) -> None:
@@ -153,6 +166,14 @@ class Adapter:
         return faults
 
 
+def lock_of(settings: Settings) -> AnyLock:
+    """The lock that the configuration names."""
+    if settings.access is None or isinstance(settings.lock, str):
+        return Lock(str(settings.lock))
+    from slurming.broker_locks import BrokerLock  # it alone needs paho-mqtt
+    return BrokerLock(settings.access, settings.lock.cluster, settings.coordinator)
+
+
 def source_of(settings: Settings) -> Source:
     """What reads how busy links are."""
     if settings.source == "exporter":
@@ -160,11 +181,21 @@ def source_of(settings: Settings) -> Source:
     return Devices(settings.device_of) if settings.source == "sys" else Unmeasured()
 
 
+def look_for_paho() -> None:
+    try:
+        with_paho()
+    except Failure as why:
+        raise Failure(why.status, f"the lock is over a broker, and {why}") from None
+
+
 def main(given: Sequence[str]) -> int:
     asked = read_words(given)
     events = Events(asked.is_json)
     try:
-        adapter = Adapter(read_configuration(asked.configuration), asked, events)
+        settings = read_configuration(asked.configuration)
+        if settings.access is not None:
+            look_for_paho()
+        adapter = Adapter(settings, asked, events)
         if asked.is_check:
             return adapter.check()
         for number in signal.SIGTERM, signal.SIGINT, signal.SIGHUP:

@@ -6,14 +6,16 @@ import math
 import os
 import re
 from collections.abc import Callable, Mapping, Sequence
-from typing import Any, NoReturn
+from typing import Any, NamedTuple, NoReturn
 
+from bridging.access import Access, NoAccess, access_of, cluster_name
 from slurming.endings import WRONG_CONFIGURATION, WRONG_WORDS, Failure
 from slurming.nodes import Node
 from slurming.prices import NEVER, Prices
 
 NAME = re.compile(r"[A-Za-z0-9_.-]{1,128}")
 SOURCES = ("exporter", "sys", "none")
+OVER_BROKER = re.compile(r"mqtt://([A-Za-z0-9_.-]+|\[[0-9A-Fa-f:.]+\])(?::([0-9]{1,5}))?/(.*)", re.DOTALL)
 
 
 class Wrong(Exception):
@@ -74,6 +76,33 @@ def path(text: str) -> str:
     return text
 
 
+class Shared(NamedTuple):
+    """A lock over a broker: where that is, its port if it is named, and the cluster whose coordinator's number is claimed."""
+
+    host: str
+    port: int | None
+    cluster: str
+
+
+def lock(text: str) -> str | Shared:
+    """The path of a file, or the broker and the cluster."""
+    if text.startswith("/"):
+        return path(text)
+    found = OVER_BROKER.fullmatch(text)
+    if found is None or not 1 <= int(found[2] or 1) <= 65535:
+        raise Wrong("is no absolute path, and no mqtt://HOST:PORT/CLUSTER")
+    try:
+        return Shared(found[1].strip("[]"), int(found[2]) if found[2] else None, cluster_name(found[3]))
+    except argparse.ArgumentTypeError as why:
+        raise Wrong(f"names no cluster: {why}") from None
+
+
+def some(text: str) -> str:
+    if not text:
+        raise Wrong("is empty")
+    return text
+
+
 def device(text: str) -> str:
     if not re.fullmatch(r"[^/\s]{1,15}", text) or text in (".", ".."):
         raise Wrong("is no name of a network device")
@@ -93,7 +122,7 @@ OPTIONS: Mapping[str, Mapping[str, tuple[Callable[[str], Any], str | None]]] = {
         "cluster": (name, ""), "queues": (names, "net"), "run": (name, "netrun"), "gres": (name, "bandwidth"),
         "releases": (releases, "22.05"), "commands": (path, ""), "command-wait": (real(0.1, 600), "20")},
     "adapter": {
-        "lock": (path, None), "coordinator": (whole(1, 64), "1"), "interval": (real(0.05, 3600), "1"),
+        "lock": (lock, None), "coordinator": (whole(1, 64), "1"), "interval": (real(0.05, 3600), "1"),
         "start-wait": (real(0, 86400), "15"), "avoid": (real(0, 86400), "60"), "whys": (whole(0, 10000), "10"),
         "rounds": (whole(0, 1000000), "200"), "tasks": (whole(1, 10000000), "50000"), "follower-wait": (real(0.1, 3600), "60")},
     "use": {
@@ -102,6 +131,9 @@ OPTIONS: Mapping[str, Mapping[str, tuple[Callable[[str], Any], str | None]]] = {
 PRICES: Mapping[str, Callable[[str], Any]] = {
     "wait": whole(0, NEVER), "age": real(0, NEVER), "priority": real(0, NEVER), "most": whole(0, NEVER), "preempt": whole(0, NEVER)}
 OF_NODES: Mapping[str, Callable[[str], Any]] = {"exporter": place, "device": device}
+# those of the words of bin/bridge that are about the broker
+OF_BROKER: Mapping[str, Callable[[str], Any]] = {
+    "mqtt": one_of("3", "5"), "user": some, "password-file": path, "tls": one_of("yes", "no"), "ca": path, "cert": path, "key": path}
 
 
 @dataclasses.dataclass(frozen=True)
@@ -115,7 +147,8 @@ class Settings:
     releases: tuple[str, ...]
     commands: str
     command_wait: float
-    lock: str
+    lock: str | Shared
+    access: Access | None
     coordinator: int
     interval: float
     start_wait: float
@@ -182,11 +215,29 @@ def settings_of(given: Mapping[str, Mapping[str, str]]) -> Settings:
         elif kind == "node" and NAME.fullmatch(whose):
             refuse_unknown(section, of_section, OF_NODES)
             node_options[whose] = {option: read_value(section, option, text, OF_NODES[option]) for option, text in of_section.items()}
-        elif section != "prices" and section not in OPTIONS:
+        elif section not in ("prices", "broker") and section not in OPTIONS:
             raise Wrong(f"[{section}] is no section" + (", since the queue is not among [slurm] queues" if kind == "queue" else ""))
     if found["run"] in found["queues"]:
         raise Wrong(f"[slurm] run = {found['run']} is one of the queues")
-    return Settings(prices=prices, queue_prices=queue_prices, node_options=node_options, **found)
+    access = access_for(found["lock"], given.get("broker"))
+    return Settings(prices=prices, queue_prices=queue_prices, node_options=node_options, access=access, **found)
+
+
+def access_for(shared: str | Shared, given: Mapping[str, str] | None) -> Access | None:
+    """How to get at the broker of a lock, if it has one."""
+    if isinstance(shared, str):
+        if given is not None:
+            raise Wrong("[broker] is of no use, since [adapter] lock is a path and names no broker")
+        return None
+    given = given or {}
+    refuse_unknown("broker", given, OF_BROKER)
+    found = {option: read_value("broker", option, text, OF_BROKER[option]) for option, text in given.items()}
+    asked = {name: found.get(name.replace("_", "-")) for name in ("user", "password_file", "ca", "cert", "key")}
+    asked |= {"broker": (shared.host, shared.port), "version": int(found.get("mqtt", 3)), "tls": found.get("tls") == "yes"}
+    try:
+        return access_of(asked, "")
+    except NoAccess as why:
+        raise Wrong(f"[broker] {why}") from None
 
 
 def prices_of(section: str, given: Mapping[str, str], base: Prices) -> Prices:
@@ -215,11 +266,13 @@ def read_value(section: str, option: str, text: str, read: Callable[[str], Any])
 
 DESCRIPTION = """\
 Places the jobs of Slurm's queue partitions as a coordinator decides, which knows how busy the nodes' links are. Slurm starts,
-watches, requeues and accounts them. Of several adapters with one lock one acts, and the others stand by.
+watches, requeues and accounts them. Of several adapters with one lock one acts, and the others stand by. The lock is a file, or for
+adapters on several machines a number that is claimed over an MQTT broker: lock=PATH or lock=mqtt://HOST:PORT/CLUSTER.
 """
 STATUSES = """\
-Statuses: 0 well; 2 wrong words; 3 a wrong configuration; 11 no program; 12 no commands of Slurm, or another release; 13 with --check:
-Slurm does not answer, or is not set up; 14 the lock; 15 the follower. docs/slurm.md has the options, and says what is done when.
+Statuses: 0 well; 2 wrong words; 3 a wrong configuration; 10 the lock is over a broker, and there is no paho-mqtt; 11 no program; 12 no
+commands of Slurm, or another release; 13 with --check: Slurm does not answer, or is not set up, or there is no broker; 14 the lock; 15 the
+follower. docs/slurm.md has the options, and says what is done when.
 """
 
 
@@ -243,10 +296,10 @@ def read_words(given: Sequence[str]) -> argparse.Namespace:
                   formatter_class=argparse.RawDescriptionHelpFormatter)
     words.add_argument("configuration", metavar="CONFIGURATION", help="the configuration file")
     words.add_argument("--check", action="store_true", dest="is_check",
-                       help="says what is wrong with the configuration and with Slurm's, changes nothing and ends")
+                       help="says what is wrong with the configuration, with Slurm's and with the broker of the lock, changes nothing and ends")
     words.add_argument("--passes", type=count, default=0, metavar="N", help="ends after N passes; with 0 at a signal (0)")
     words.add_argument("--no-wait", action="store_true", dest="is_impatient",
-                       help="ends with status 14 if another adapter has the lock, and does not stand by")
+                       help="ends with status 14 if another adapter has the lock, or no broker answers, and does not stand by")
     words.add_argument("--json", action="store_true", dest="is_json", help="says what it does as JSON, an object a line")
     words.add_argument("--program", metavar="FILE", help="the program `firmament` (what bin/firmament runs)")
     return words.parse_args(given)

@@ -7,7 +7,7 @@ for as seconds after 1970 (SLURM_TIME_FORMAT), so no time zone matters.
 import os
 import re
 import subprocess
-from collections.abc import Sequence
+from collections.abc import Callable, Sequence
 from typing import NamedTuple
 
 from slurming.endings import NO_SLURM, Failure
@@ -65,10 +65,11 @@ class Commands:
 
 
 class Slurm:
-    """What an adapter asks Slurm, and has it do."""
+    """What an adapter asks Slurm, and has it do. The guard is asked before each command that changes a job, and raises if it is not to be
+    given."""
 
-    def __init__(self, commands: Commands, gres: str) -> None:
-        self._commands, self._gres = commands, gres
+    def __init__(self, commands: Commands, gres: str, guard: Callable[[], None] = lambda: None) -> None:
+        self._commands, self._gres, self._guard = commands, gres, guard
 
     # what is asked
 
@@ -131,6 +132,7 @@ class Slurm:
         return self._done("release", job)
 
     def _done(self, *words: str) -> str:
+        self._guard()
         answer = self._commands.run(["scontrol", *words])
         said = (answer.err + answer.out).strip()
         if is_silent(answer):
