@@ -25,7 +25,11 @@ pub fn over_text(alloc: Global, knowledge: &Knowledge) -> Result<String, Refusal
 }
 
 // Appends the lines of each machine.
-fn write_relief(alloc: Global, relief: &[OverfullMachine], lines: &mut String) -> Result<(), Refusal>
+fn write_relief(
+    alloc: Global,
+    relief: &[OverfullMachine],
+    lines: &mut String,
+) -> Result<(), Refusal>
     ensures ok { OnOk result (string_bytes lines.new ≡ string_bytes lines.old ++ flat_map over_lines relief.now) }
     ensures err { IsOkUnless result Refusal.OutOfMemory }
 {
@@ -36,7 +40,11 @@ fn write_relief(alloc: Global, relief: &[OverfullMachine], lines: &mut String) -
 }
 
 // Appends the lines of a machine.
-fn write_machine(alloc: Global, overfull: &OverfullMachine, lines: &mut String) -> Result<(), Refusal>
+fn write_machine(
+    alloc: Global,
+    overfull: &OverfullMachine,
+    lines: &mut String,
+) -> Result<(), Refusal>
     ensures ok { OnOk result (string_bytes lines.new ≡ string_bytes lines.old ++ over_lines overfull.now) }
     ensures err { IsOkUnless result Refusal.OutOfMemory }
 {
