@@ -1,9 +1,11 @@
--- What a certified flow says of each other: how much dearer that is at least for its units on one arc.
+-- What a certified flow says of each other: how much dearer that is at least for its units on one arc, and that its potentials fit
+-- each that is least.
 use Rattle.std.proofs.Common.{◌≡◌, sym, subst, refl, inl, inr, ℕ, ◌+◌, ◌-◌, ◌*◌, ◌≤◌, ◌<◌, List, [], ◌∷◌, Some, arith}
 use Rattle.std.specs.Prelude.{ℤ, pos, ◌+ℤ◌, ◌-ℤ◌, ◌≤ℤ◌}
 use Rattle.std.proofs.lemmas.Int.{ints}
 use borrow.Author.Differences.{up, down}
-use Rattle.std.proofs.Math.Nat.{add-mul, mul-le-mul_right, one-mul, mul-zero, mul_comm}
+use Rattle.std.proofs.Math.Nat.{add-mul, mul-add, mul-le-mul_right, one-mul, mul-zero, mul_comm}
+use Rattle.std.proofs.lemmas.Bool.{cases_lt}
 use Rattle.std.proofs.lemmas.List.Sums.{sum_by-cons}
 use Rattle.fm_records.specs.Sets.{IsMember}
 use Rattle.fm_net.specs.declared.node.Node.{Node}
@@ -62,6 +64,24 @@ module _ (c uu ud vu vd d : ℕ) where
       let one : 1 * d ≤ f * d = mul-le-mul_right d some in
       omega (arith, all, one, one-mul d, add-mul (c + uu + vd) d f, add-mul vu ud f, add-mul (c + uu) vd f, add-mul c uu f, mul_comm f d)
 
+-- more units where each is dearer
+dearer_by : (p q x y d : ℕ) → y ≡ x + d → 0 < d → q < p → p * x + q * y < p * y + q * x
+dearer_by p q x y d is some dear =
+    let more : (q + 1) * d ≤ p * d = mul-le-mul_right d (omega arith) in
+    rw is (omega (arith, more, some, add-mul q 1 d, one-mul d, mul-add p x d, mul-add q x d))
+
+-- at potentials of an arc's ends u and v: g is dearer than f if it has more units where each costs, or fewer where each saves
+module _ (c uu ud vu vd : ℕ) where
+  more_cost : (f g : ℕ) → f < g → vu + ud < c + uu + vd → c * f + uu * f + vd * f + (vu * g + ud * g) < c * g + uu * g + vd * g + (vu * f + ud * f)
+  more_cost f g above dear =
+      let apart = dearer_by (c + uu + vd) (vu + ud) f g (g - f) (omega arith) (omega arith) dear in
+      omega (arith, apart, add-mul (c + uu) vd f, add-mul c uu f, add-mul (c + uu) vd g, add-mul c uu g, add-mul vu ud f, add-mul vu ud g)
+
+  fewer_save : (f g : ℕ) → g < f → c + uu + vd < vu + ud → c * f + uu * f + vd * f + (vu * g + ud * g) < c * g + uu * g + vd * g + (vu * f + ud * f)
+  fewer_save f g below cheap =
+      let apart = dearer_by (vu + ud) (c + uu + vd) g f (f - g) (omega arith) (omega arith) cheap in
+      omega (arith, apart, add-mul (c + uu) vd f, add-mul c uu f, add-mul (c + uu) vd g, add-mul c uu g, add-mul vu ud f, add-mul vu ud g)
+
 -- a further unit over an arc that is not full saves nothing, and neither does one less over an arc that has some
 abbrev NoGain : Net → Units → (Node → ℤ) → Type 0
 NoGain net f at = (from to : Node) (arc : ℕ × ℕ) → arc_at net from to ≡ Some arc → f from to < arc.0 → pos 0 ≤ℤ reduced_cost arc.1 (at from) (at to)
@@ -117,3 +137,26 @@ module _ (net : Net) (f g : Units) (at : Node → ℤ) (can : CanBeNet net) (ff 
         let by : left rise fall f g one + d ≤ right rise fall f g one = rw none (omega (arith, gap, mul-zero arc.1, mul-zero (rise from), mul-zero (fall to), mul-zero (rise to), mul-zero (fall from))) in
         let all = apart d one member by in
         omega (arith, ints)
+
+    -- if g costs no more, the potentials fit it too
+    module _ (no_more : cost_of net g ≤ cost_of net f) where
+      not_apart : left rise fall f g one < right rise fall f g one → ⊥
+      not_apart by = let all = apart 1 one member (omega arith) in omega arith
+
+      pub gains_none : g from to < arc.0 → pos 0 ≤ℤ reduced_cost arc.1 (at from) (at to)
+      gains_none below = elim (cases_lt (arc.1 + rise from + fall to) (rise to + fall from)) [
+        | inl cheap ↦ elim (cases_lt (f from to) arc.0) [
+          | inl free ↦ no_gain from to arc there free
+          | inr full ↦ absurd (not_apart (fewer_save arc.1 (rise from) (fall from) (rise to) (fall to) (f from to) (g from to) (omega arith) cheap))
+        ]
+        | inr dear ↦ omega (arith, ints)
+      ]
+
+      pub wastes_none : 0 < g from to → reduced_cost arc.1 (at from) (at to) ≤ℤ pos 0
+      wastes_none some = elim (cases_lt (rise to + fall from) (arc.1 + rise from + fall to)) [
+        | inl dear ↦ elim (cases_lt 0 (f from to)) [
+          | inl used ↦ no_waste from to arc there used
+          | inr none ↦ absurd (not_apart (more_cost arc.1 (rise from) (fall from) (rise to) (fall to) (f from to) (g from to) (omega arith) dear))
+        ]
+        | inr cheap ↦ omega (arith, ints)
+      ]

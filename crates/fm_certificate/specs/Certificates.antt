@@ -7,7 +7,7 @@ use Rattle.fm_records.specs.Options.{or_else}
 use Rattle.fm_net.specs.declared.node.Node.{Node}
 use Rattle.fm_net.specs.Nodes.{node_cmp}
 use Rattle.fm_net.specs.Net.{Net, arc_at}
-use Rattle.fm_certificate.specs.Flows.{units_in, IsFeasible}
+use Rattle.fm_certificate.specs.Flows.{Units, units_in, IsFeasible}
 
 -- the potential that a map gives a node; 0 if it has none
 abbrev pub potential_in : List (Node × ℤ) → Node → ℤ
@@ -31,3 +31,8 @@ pub record IsCertified (net : Net) (flow : List ((Node × Node) × ℕ)) (potent
   -- a further unit saves nothing, and neither does one less
   pub no_gain : (from to : Node) (arc : ℕ × ℕ) → arc_at net from to ≡ Some arc → units_in flow from to < arc.0 → pos 0 ≤ℤ reduced_cost arc.1 (potential_in potentials from) (potential_in potentials to)
   pub no_waste : (from to : Node) (arc : ℕ × ℕ) → arc_at net from to ≡ Some arc → 0 < units_in flow from to → reduced_cost arc.1 (potential_in potentials from) (potential_in potentials to) ≤ℤ pos 0
+
+-- complementary slackness: over each arc a further unit saves nothing if one fits, and neither does one less if there is one
+pub record MeetsSlackness (net : Net) (units : Units) (potentials : List (Node × ℤ)) : Type 0 where
+  pub no_gain : (from to : Node) (arc : ℕ × ℕ) → arc_at net from to ≡ Some arc → units from to < arc.0 → pos 0 ≤ℤ reduced_cost arc.1 (potential_in potentials from) (potential_in potentials to)
+  pub no_waste : (from to : Node) (arc : ℕ × ℕ) → arc_at net from to ≡ Some arc → 0 < units from to → reduced_cost arc.1 (potential_in potentials from) (potential_in potentials to) ≤ℤ pos 0

@@ -1,15 +1,27 @@
 //! The laws of flows, each the contract of a function that does nothing.
 
 ghost use Rattle.std.specs.Prelude.{◌≡◌, ◌<◌, ℕ, ℤ, ◌+ℤ◌, ◌-ℤ◌, ◌≤ℤ◌, pos, List, Some};
+ghost use Rattle.std.specs.Map.{keys_of};
 ghost use Rattle.fm_net.specs.declared.node.Node.{Node as NodeName};
 ghost use Rattle.fm_net.specs.Net.{Net, CanBeNet, arc_at};
 ghost use Rattle.fm_certificate.specs.Flows.{Units, units_in, cost_of, IsFeasible, IsLeast};
-ghost use Rattle.fm_certificate.specs.Certificates.{potential_in, reduced_cost, IsCertified};
+ghost use Rattle.fm_certificate.specs.Certificates.{potential_in, reduced_cost, IsCertified, MeetsSlackness};
 
 /// A flow that potentials certify is least: no feasible flow of the network costs less. Complementary slackness.
 pub fn law_least()
     ensures { (net : Net) (flow : List ((NodeName × NodeName) × ℕ)) (potentials : List (NodeName × ℤ)) → CanBeNet net
         → IsCertified net flow potentials → IsLeast net (units_in flow) }
+{}
+
+/// Potentials that certify one flow of a network show each of its least flows to be least: over each arc that flow meets
+/// complementary slackness with them. So they certify it too, if its keys are the network's arcs.
+pub fn law_every_least()
+    ensures slackness { (net : Net) (flow : List ((NodeName × NodeName) × ℕ)) (potentials : List (NodeName × ℤ))
+        (others : Units) → CanBeNet net → IsCertified net flow potentials → IsLeast net others
+        → MeetsSlackness net others potentials }
+    ensures certified { (net : Net) (flow others : List ((NodeName × NodeName) × ℕ)) (potentials : List (NodeName × ℤ))
+        → CanBeNet net → IsCertified net flow potentials → IsLeast net (units_in others)
+        → keys_of others ≡ keys_of net.arcs → IsCertified net others potentials }
 {}
 
 /// How much dearer than a certified flow every feasible flow is that differs from it on an arc: by its reduced cost at least,
