@@ -1,11 +1,14 @@
 """Tests of `firmament follow` at its ends, by name, for tests/streams.py: answers that come before the next line is written, bytes one
 at a time, readers and writers that fail or go away, terminals, and packets between processes."""
+import contextlib
+import fcntl
 import os
 import pathlib
 import pty
 import random
 import resource
 import select
+import signal
 import subprocess
 import tempfile
 import threading
@@ -21,6 +24,8 @@ from lined import EMPTY_GRAPH, GRAPH, NO_INPUT, NO_OUTPUT, OPEN, digits_of, end_
 ROOT = pathlib.Path(__file__).resolve().parent.parent
 # how long an answer may take, before the next line is written
 PATIENCE = 5
+# so many interrupts of one read or write are a failure
+MOST_INTERRUPTS = 16777217
 
 
 class Talk:
@@ -141,6 +146,64 @@ def failing(program):
         yield "a file with room for 40 bytes", (status, file.read(), err) == (6, wanted[1][:40], NO_OUTPUT)
 
 
+def interrupted(program):
+    """Signals come while the program waits to write into a full pipe, or to read from an empty one: nothing is lost, and nothing comes
+    twice. A read or write that is interrupted for ever fails."""
+    text = lines(OPEN) + lines(GRAPH) * 10000
+    wanted = seen(program, text)
+    with tempfile.TemporaryDirectory() as folder:
+        library = refusing.library(folder, "narrow")
+        for name, feed, drain in ("reads", 0.02, 0), ("writes", 0, 0.02):
+            status, out, err, told = signalled(program, library, text, feed, drain)
+            yield "signals between %s: the answers" % name, (status, out, err) == wanted
+            yield "some %s are interrupted: %d" % (name, told.count(name[0])), told.count(name[0]) >= 20
+        text = lines(OPEN, GRAPH)
+        for name, fault in ("READ", (3, b"", NO_INPUT)), ("WRITE", (6, b"", NO_OUTPUT)):
+            for more, wanted in (-1, seen(program, text)), (0, fault):
+                env = {"LD_PRELOAD": library, name + "_INTERRUPTS": str(MOST_INTERRUPTS + more)}
+                yield "%d interrupts of one %s" % (MOST_INTERRUPTS + more, name.lower()), seen(program, text, env=env) == wanted
+
+
+def signalled(program, library, text, feed, drain):
+    """A run that is sent signals all the time, from its first answer on. Its input comes in pieces, so many seconds apart, and its answers
+    are taken so many seconds apart. The status and the texts of the run, and which calls were interrupted."""
+    (heard, tells), (reader, writer) = os.pipe(), os.pipe()
+    fcntl.fcntl(writer, fcntl.F_SETPIPE_SZ, 4096)
+    env = {"LD_PRELOAD": library, "SIGNAL": str(int(signal.SIGUSR1)), "TELLS": str(tells)}
+    run = subprocess.Popen([program, "follow"], stdin=subprocess.PIPE, stdout=writer, stderr=subprocess.PIPE, env=env, pass_fds=[tells])
+    for end in tells, writer:
+        os.close(end)
+
+    def give():
+        # if the program ends before, its status tells
+        with contextlib.suppress(BrokenPipeError), run.stdin:
+            for place in range(0, len(text), 4096):
+                run.stdin.write(text[place:place + 4096])
+                run.stdin.flush()
+                time.sleep(feed)
+
+    def send():
+        while run.poll() is None:
+            run.send_signal(signal.SIGUSR1)
+            time.sleep(0.001)
+    giver, sender = threading.Thread(target=give), threading.Thread(target=send)
+    giver.start()
+    # the signal is caught before the program begins
+    select.select([reader], [], [])
+    sender.start()
+    out = b""
+    while piece := os.read(reader, 4096):
+        out += piece
+        time.sleep(drain)
+    giver.join()
+    err, status = run.stderr.read(), run.wait(timeout=60)
+    sender.join()
+    told = b"".join(iter(lambda: os.read(heard, 1 << 16), b"")).decode()
+    for end in reader, heard:
+        os.close(end)
+    return status, out, err, told
+
+
 def typed(program):
     """Lines that are typed at a terminal are answered, and a terminal is sent the answers alone."""
     screen, end = pty.openpty()
@@ -241,4 +304,4 @@ def exchanged(chance, told, one, other, has_rounds):
     return found
 
 
-GROUPS = {"turns": turns, "bytewise": bytewise, "failing": failing, "typed": typed, "ends": ends, "exchanges": exchanges}
+GROUPS = {"turns": turns, "bytewise": bytewise, "failing": failing, "interrupted": interrupted, "typed": typed, "ends": ends, "exchanges": exchanges}

@@ -2,6 +2,7 @@
 #![tactic(auto)]
 
 use fm_dimacs::out::Over;
+use fm_io::interrupts::Resuming;
 use fm_io::source::Input;
 use fm_records::refusal::Refusal;
 use fm_serve::ending::Ending;
@@ -20,7 +21,7 @@ fn main(rt: HostRuntime) -> ExitCode {
     let ending = match (given_words(&rt), BufReader::new(alloc, rt.reader())) {
         (Ok(words), Ok(reader)) => {
             let source = Input::new(reader);
-            let sink = Over::new(io::writer(&rt));
+            let sink = Over::new(Resuming::new(io::writer(&rt)));
             if rt.stderr().is_terminal() {
                 serve_watched(&rt, alloc, &words, source, sink).0
             } else {

@@ -7,7 +7,6 @@ pub mod dump;
 pub mod laws;
 pub mod out;
 pub mod read;
-mod retry;
 pub mod solution;
 mod tokens;
 pub mod write_all;

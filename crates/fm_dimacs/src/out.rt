@@ -7,7 +7,6 @@ ghost use Rattle.std.specs.Prelude.{◌≡◌, ◌≤◌, ◌||◌, ℕ, List, B
 ghost use Rattle.std.specs.Io.KnownBytes.{Appends, Keeps};
 ghost use Rattle.fm_dimacs.specs.Sending.{fails_at};
 
-use crate::retry::write_some;
 use std::io::Write;
 use std::marker::Model;
 
@@ -30,7 +29,8 @@ pub trait Out {
         ensures { result ≡ has_failed self.now };
 }
 
-/// An `Out` over any writer, with 0 for its fault. A write that was interrupted is made again.
+/// An `Out` over any writer, with 0 for each of its faults. A write that a signal interrupted is one too: a writer whose
+/// process takes signals makes those again itself (`Resuming` of `fm_io`).
 #[derive(Debug, Drop)]
 pub struct Over<W> {
     writer: W,
@@ -85,7 +85,7 @@ impl<W: Write> Out for Over<W> {
     ghost has_failed = { λ o. o.1 };
 
     fn put(&mut self, piece: &[u8]) -> usize {
-        let taken = write_some(&mut self.writer, piece);
+        let taken = self.writer.write(piece).unwrap_or(0);
         if taken == 0 && !piece.is_empty() {
             self.failed = true;
         }

@@ -3,6 +3,7 @@
 
 pub mod follow;
 pub mod input;
+pub mod interrupts;
 pub mod lines;
 mod replies;
 pub mod responder;

@@ -1,11 +1,13 @@
 //! Sources of bytes, which may give a part of what they are asked for, end, or fail.
 //!
-//! `Input` makes a source of any reader. A read that was interrupted is made again, since that is no failure.
+//! `Input` makes a source of any reader. A read that was interrupted is made again, since that is no failure; one that
+//! is interrupted for ever fails.
 
 ghost use Rattle.std.specs.Prelude.{◌≡◌, ◌≤◌, ◌||◌, ℕ, List, Bool, Option, false, is_none, length, IfSome, MatchOption};
 ghost use Rattle.std.specs.Io.KnownBytes.{Keeps};
 ghost use Rattle.fm_io.specs.Sources.{SourceGives};
 
+use crate::interrupts::MOST_INTERRUPTS;
 use std::io::{ErrorKind, Read};
 use std::marker::Model;
 
@@ -26,7 +28,8 @@ pub trait Source {
         ensures fails { has_failed self.new ≡ (has_failed self.old || is_none result) };
 }
 
-/// A source over any reader. A read that was interrupted is made again.
+/// A source over any reader. A read that was interrupted is made again. It fails at the `MOST_INTERRUPTS`-th interrupt of
+/// one `get`.
 #[derive(Debug, Drop)]
 pub struct Input<R> {
     reader: R,
@@ -67,14 +70,13 @@ impl<R: Read> Source for Input<R> {
     }
 }
 
-// How many bytes the reader puts at the front of the piece; None if it fails. A read that was interrupted is made
-// again.
+// How many bytes the reader puts at the front of the piece; None if it fails, or at the `MOST_INTERRUPTS`-th interrupt.
 fn read_some<R: Read>(reader: &mut R, piece: &mut [u8]) -> Option<usize>
     ensures within { IfSome result (λ n. n ≤ length piece.new) }
     ensures gives { MatchOption result (Keeps (R.remaining reader.old) (R.remaining reader.new))
         (λ n. SourceGives (R.remaining reader.old) (R.remaining reader.new) n piece.new) }
 {
-    for _ in 0..u64::MAX {
+    for _ in 0..MOST_INTERRUPTS {
         match reader.read(piece) {
             Ok(count) => return Some(count),
             Err(error) => {

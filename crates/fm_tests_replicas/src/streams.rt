@@ -1,7 +1,8 @@
 //! Readers and writers that fail or are interrupted.
 
-use fm_dimacs::out::Over;
+use fm_dimacs::out::{Out, Over};
 use fm_io::input::read_input;
+use fm_io::interrupts::Resuming;
 use fm_io::sending::send;
 use fm_io::source::Input;
 use fm_records::refusal::Refusal;
@@ -98,13 +99,13 @@ impl Write for Narrow {
     }
 }
 
-fn sink_of(alloc: Global, room: usize, flushes: bool) -> Over<Narrow> {
-    Over::new(Narrow {
+fn sink_of(alloc: Global, room: usize, flushes: bool) -> Over<Resuming<Narrow>> {
+    Over::new(Resuming::new(Narrow {
         bytes: Vec::new(alloc),
         room,
         flushes,
         waits: false,
-    })
+    }))
 }
 
 #[test]
@@ -119,7 +120,10 @@ fn a_writer_fails_at_each_write_in_turn(rt: HostRuntime) -> Result<(), Fail> {
             Ok(())
         };
         assert_eq!(rt; sent, wanted, "with room for {room} bytes");
-        assert_eq!(rt; sink.into_inner().bytes.as_slice(), &TEXT[..room]);
+        assert_eq!(rt;
+            sink.into_inner().into_inner().bytes.as_slice(),
+            &TEXT[..room]
+        );
     }
     Ok(())
 }
@@ -128,5 +132,17 @@ fn a_writer_fails_at_each_write_in_turn(rt: HostRuntime) -> Result<(), Fail> {
 fn a_text_that_is_not_let_out_is_a_fault(rt: HostRuntime) -> Result<(), Fail> {
     let mut sink = sink_of(rt.alloc(), TEXT.len(), false);
     assert_eq!(rt; send(&mut sink, TEXT), Err(Refusal::WriteFault));
+    Ok(())
+}
+
+#[test]
+fn an_interrupted_write_is_a_fault_of_over(rt: HostRuntime) -> Result<(), Fail> {
+    let mut sink = Over::new(
+        sink_of(rt.alloc(), TEXT.len(), true)
+            .into_inner()
+            .into_inner(),
+    );
+    assert_eq!(rt; (sink.put(TEXT), sink.failed()), (0, true));
+    assert_eq!(rt; (sink.put(TEXT), sink.failed()), (1, true));
     Ok(())
 }
