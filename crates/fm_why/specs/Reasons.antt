@@ -1,5 +1,5 @@
 -- Why a task waits or runs, in numbers that hold of every schedule.
-use Rattle.std.specs.Prelude.{◌≡◌, ◌↔◌, ℕ, ◌+◌, ◌≤◌, ◌<◌, ◌^◌, Some, None, option_map, map, length, slice_get, min, IsTrue, IfSome}
+use Rattle.std.specs.Prelude.{◌≡◌, ◌↔◌, ℕ, ◌+◌, ◌≤◌, ◌<◌, ◌^◌, Some, None, [], false, option_map, map, length, slice_get, min, IsTrue, IfSome}
 use Rattle.std.specs.List.{All, zip}
 use Rattle.std.specs.List.Sorted.{IsPermutation, IsNonDecreasingBy}
 use Rattle.std.specs.Option.{IsSomeAnd}
@@ -14,7 +14,7 @@ use Rattle.fm_why.specs.Running.{IsDearer, IsDearerOver}
 use Rattle.fm_why.specs.MachineOptions.{way_cost, roomy}
 use Rattle.fm_why.specs.Pricing.{StaysLeast}
 use Rattle.fm_why.specs.Alternatives.{IsExampleFor}
-use Rattle.fm_why.specs.Remedies.{IsRemedy}
+use Rattle.fm_why.specs.Remedies.{IsRemedy, AreOneOfEach}
 use Rattle.fm_why.specs.declared.reasons.TheConstants.{SHOWN}
 use Rattle.fm_why.specs.declared.reasons.Choice.{Choice}
 use Rattle.fm_why.specs.declared.reasons.Choices.{Choices}
@@ -37,8 +37,9 @@ pub record IsFound (net : Net) (t j : ℕ) (choices : Choices) : Type 0 where
 
 -- a live task that no machine holds: its request and its price of waiting; the schedule; each machine to which it has a way, the
 -- cheapest first; the price of waiting, for this task alone, up to which that schedule stays least from the present one on: at
--- each if there is none; for each of the first of these machines, possibly a schedule that runs it there; and up to two changes
--- after which some least schedule runs it
+-- each if there is none; for each of the first of these machines, possibly a schedule that runs it there; and, only if the
+-- schedule that was found leaves it waiting, up to two changes after which some least schedule runs it, a slot before bandwidth.
+-- What is open: how great the bounds are, since 0 is one; and that schedules and changes are found, since none has to be shown.
 pub record AreChoices (k : Table) (t : ℕ) (spec : SpecReg) (choices : Choices) : Type 0 where
   pub request : choices.request ≡ spec.request
   pub wait : Some choices.wait ≡ option_map (λ job. job.wait) (job_of k spec.job)
@@ -55,6 +56,8 @@ pub record AreChoices (k : Table) (t : ℕ) (spec : SpecReg) (choices : Choices)
   pub shown : length choices.examples.items ≡ min SHOWN (length choices.machines.items)
   pub remedies : All (IsRemedy k t spec.request) choices.remedies.items
   pub few : length choices.remedies.items ≤ 2
+  pub one_of_each : AreOneOfEach (map (λ e. e.change) choices.remedies.items)
+  pub only_waiting : choices.waits ≡ false → choices.remedies.items ≡ []
 
 -- the reasons are those of the task: it is not known; or not live; or held, and by whom; or free
 abbrev pub AreReasons : Table → ℕ → Reasons → Type 0

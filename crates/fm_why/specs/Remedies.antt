@@ -1,5 +1,5 @@
 -- Changes of one machine after which some least schedule runs a task that waits; this project's profile.
-use Rattle.std.specs.Prelude.{◌≡◌, ℕ, ◌+◌, [], ◌∷◌, Option, Some, None}
+use Rattle.std.specs.Prelude.{◌≡◌, ℕ, ◌+◌, List, [], ◌∷◌, Option, Some, None}
 use Rattle.fm_records.specs.declared.ops.Op.{Op}
 use Rattle.fm_records.specs.Ops.{op_fault}
 use Rattle.fm_records.specs.Options.{and_then}
@@ -32,6 +32,14 @@ change_op k m change =
 -- what is known once the operation is told too
 abbrev pub with_op : Table → Op → Table
 with_op k o = table_join k (table_of (o ∷ []))
+
+-- changes of which none is of the same kind as another: none, a slot, bandwidth, or a slot and then bandwidth
+abbrev pub AreOneOfEach : List Change → Type 0
+AreOneOfEach [] = Unit {0}
+AreOneOfEach (Slot ∷ []) = Unit {0}
+AreOneOfEach (Bandwidth by ∷ []) = Unit {0}
+AreOneOfEach (Slot ∷ Bandwidth by ∷ []) = Unit {0}
+AreOneOfEach _ = ⊥
 
 -- a schedule that runs the task on the machine and costs so much, and none costs less
 pub record RunsAt (k : Table) (t m cost : ℕ) : Type 0 where

@@ -3,13 +3,15 @@
 //! That a machine lacks a slot does not show that one more would help, since another task may take it. So the change is
 //! told to the copy, and its network is built and solved.
 
-ghost use Rattle.std.specs.Prelude.{◌≡◌, ◌≤◌, ◌+◌, ℕ, Some, None, IfOk, IfSome, IsTrue, length};
+ghost use Rattle.std.specs.Prelude.{◌≡◌, ◌≤◌, ◌+◌, ℕ, Some, None, IfOk, IfSome, IsTrue, length, map};
 ghost use Rattle.std.specs.List.{All};
 ghost use Rattle.fm_records.specs.Ops.{op_fault};
 ghost use Rattle.fm_records.specs.Table.{Table};
 ghost use Rattle.fm_certificate.specs.Flows.{units_in};
 ghost use Rattle.fm_why.specs.Running.{RunsOn};
 ghost use Rattle.fm_why.specs.Remedies.{more_slots, more_bandwidth, change_op, with_op, RunsAt, IsTight, IsRemedy};
+ghost use Rattle.fm_why.specs.Remedies.{AreOneOfEach};
+ghost use Rattle.fm_why.specs.inner.ChangeKinds.{IsBandwidth};
 
 use crate::reasons::{Change, Choice, Remedy};
 use crate::running::{Target, runs_on};
@@ -42,6 +44,7 @@ pub(crate) fn remedies_of(
 ) -> Result<Vec<Remedy>, OutOfMemory>
     ensures each { IfOk result (λ found. All (IsRemedy knowledge.now task request) found.items) }
     ensures few { IfOk result (λ found. length found.items ≤ 2) }
+    ensures one_of_each { IfOk result (λ found. AreOneOfEach (map (λ e. e.change) found.items)) }
 {
     let slot = with_slot(alloc, knowledge, task, request, machines)?;
     let bandwidth = with_bandwidth(alloc, knowledge, task, request)?;
@@ -57,6 +60,8 @@ fn listed(
     ensures each { (k : Table) (t r : ℕ) → IfSome slot (IsRemedy k t r) → IfSome bandwidth (IsRemedy k t r)
         → IfOk result (λ found. All (IsRemedy k t r) found.items) }
     ensures few { IfOk result (λ found. length found.items ≤ 2) }
+    ensures one_of_each { IfSome slot (λ e. e.change ≡ Change.Slot) → IfSome bandwidth (λ e. IsBandwidth e.change)
+        → IfOk result (λ found. AreOneOfEach (map (λ e. e.change) found.items)) }
 {
     let mut found = Vec::new(alloc);
     if let Some(remedy) = slot {
@@ -76,7 +81,8 @@ fn with_slot(
     request: u32,
     machines: &[Choice],
 ) -> Result<Option<Remedy>, OutOfMemory>
-    ensures { IfOk result (λ found. IfSome found (IsRemedy knowledge.now task request)) }
+    ensures remedy { IfOk result (λ found. IfSome found (IsRemedy knowledge.now task request)) }
+    ensures kind { IfOk result (λ found. IfSome found (λ e. e.change ≡ Change.Slot)) }
 {
     let Some(first) = machines.first() else {
         return Ok(None);
@@ -97,7 +103,8 @@ fn with_bandwidth(
     task: TaskId,
     request: u32,
 ) -> Result<Option<Remedy>, OutOfMemory>
-    ensures { IfOk result (λ found. IfSome found (IsRemedy knowledge.now task request)) }
+    ensures remedy { IfOk result (λ found. IfSome found (IsRemedy knowledge.now task request)) }
+    ensures kind { IfOk result (λ found. IfSome found (λ e. IsBandwidth e.change)) }
 {
     let Some(lack) = least_lack(alloc, knowledge, request)? else {
         return Ok(None);
@@ -118,7 +125,8 @@ fn remedy_of(
     aim: &Target,
     change: Change,
 ) -> Result<Option<Remedy>, OutOfMemory>
-    ensures { IfOk result (λ found. IfSome found (IsRemedy knowledge.now aim.now.task aim.now.request)) }
+    ensures remedy { IfOk result (λ found. IfSome found (IsRemedy knowledge.now aim.now.task aim.now.request)) }
+    ensures kind { IfOk result (λ found. IfSome found (λ e. e.change ≡ change)) }
 {
     let Some(op) = change_op(knowledge, aim.machine, change) else {
         return Ok(None);

@@ -3,13 +3,13 @@
 //! A least flow gives no reason by itself. Its potentials do: they bound what each schedule costs that runs the task
 //! elsewhere, or lets it wait. Examples and changes of a machine show what the bounds cannot.
 
-ghost use Rattle.std.specs.Prelude.{◌≡◌, ◌↔◌, ◌+◌, ◌<◌, ◌≤◌, ◌^◌, Some, None, IfOk, IfSome, IsTrue, length, option_map, slice_get, take};
+ghost use Rattle.std.specs.Prelude.{◌≡◌, ◌↔◌, ◌+◌, ◌<◌, ◌≤◌, ◌^◌, Some, None, IfOk, IfSome, IsTrue, [], false, length, map, option_map, slice_get, take};
 ghost use Rattle.std.specs.List.{All};
 ghost use Rattle.fm_records.specs.Facts.{job_of, live_spec, holder_of};
 ghost use Rattle.fm_net.specs.Network.{net_of};
 ghost use Rattle.fm_certificate.specs.Certificates.{IsCertified};
 ghost use Rattle.fm_why.specs.inner.Schedule.{IsSchedule};
-ghost use Rattle.fm_why.specs.Remedies.{IsRemedy};
+ghost use Rattle.fm_why.specs.Remedies.{IsRemedy, AreOneOfEach};
 ghost use Rattle.fm_why.specs.Reasons.{AreChoices, AreReasons};
 
 use crate::alternative::examples_on;
@@ -118,6 +118,8 @@ fn remedies(
 ) -> Result<Vec<Remedy>, OutOfMemory>
     ensures each { IfOk result (λ found. All (IsRemedy knowledge.now task request) found.items) }
     ensures few { IfOk result (λ found. length found.items ≤ 2) }
+    ensures one_of_each { IfOk result (λ found. AreOneOfEach (map (λ e. e.change) found.items)) }
+    ensures only_waiting { IfOk result (λ found. waits ≡ false → found.items ≡ []) }
 {
     if waits {
         remedies_of(alloc, knowledge, task, request, machines)
