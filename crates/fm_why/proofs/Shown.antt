@@ -1,8 +1,10 @@
 -- Machines, each beside what was found for it.
-use Rattle.std.proofs.Common.{◌≡◌, ◌∙◌, ◌++◌, ◌≤◌, ap, refl, sym, subst, ℕ, suc, zero, List, [], ◌∷◌, Some, length, arith}
-use Rattle.std.specs.Prelude.{slice_get, take}
+use Rattle.std.proofs.Common.{◌≡◌, ◌∙◌, ◌++◌, ◌≤◌, ap, refl, sym, subst, ℕ, suc, zero, Bool, true, List, [], ◌∷◌, Some, length, map, arith}
+use Rattle.std.specs.Prelude.{slice_get, take, filter}
 use Rattle.std.specs.List.{All, zip}
+use Rattle.std.proofs.lemmas.List.{map-append, append_assoc}
 use Rattle.std.proofs.lemmas.List.Elements.{All-nil, All-push}
+use Rattle.fm_why.specs.declared.reasons.Choice.{Choice}
 
 zip_none : {A B : Type 0} (xs : List A) (ys : List B) → ys ≡ [] → zip xs ys ≡ []
 zip_none [] ys none = refl
@@ -31,3 +33,17 @@ zip_take zero (a ∷ xs) [] le = refl
 zip_take (suc n) (a ∷ xs) [] le = refl
 zip_take zero (a ∷ xs) (b ∷ ys) le = absurd (omega (arith, le))
 zip_take (suc n) (a ∷ xs) (b ∷ ys) le = ap (λ ps. (a, b) ∷ ps) (zip_take n xs ys (omega (arith, le)))
+
+filter_kept : (p : ℕ → Bool) (m : ℕ) (ms : List ℕ) → p m ≡ true → filter p (m ∷ ms) ≡ m ∷ filter p ms
+filter_kept p m ms kept = rw kept refl
+
+-- a walk over machines that keeps the next one
+pub next_kept : (p : ℕ → Bool) (xs : List Choice) (e : Choice) (m : ℕ) (ms all : List ℕ) → e.machine ≡ m → p m ≡ true → map (λ (e : Choice). e.machine) xs ++ filter p (m ∷ ms) ≡ all
+    → map (λ (e : Choice). e.machine) (xs ++ e ∷ []) ++ filter p ms ≡ all
+next_kept p xs e m ms all is kept before =
+    let names = map (λ (e : Choice). e.machine) xs in
+    ap (λ ys. ys ++ filter p ms) (map-append (λ (e : Choice). e.machine) xs (e ∷ []))
+    ∙ append_assoc names (e.machine ∷ []) (filter p ms)
+    ∙ ap (λ k. names ++ (k ∷ filter p ms)) is
+    ∙ ap (λ ys. names ++ ys) (sym (filter_kept p m ms kept))
+    ∙ before

@@ -1,5 +1,6 @@
 pub mod Running
 pub mod MachineOptions
+pub mod Bounds
 pub mod Pricing
 pub mod Alternatives
 pub mod Remedies

@@ -1,17 +1,21 @@
 -- Why a task waits or runs, in numbers that hold of every schedule.
-use Rattle.std.specs.Prelude.{◌≡◌, ◌↔◌, ℕ, ◌+◌, ◌≤◌, ◌<◌, ◌^◌, Some, None, [], false, option_map, map, length, slice_get, min, IsTrue, IfSome}
+use Rattle.std.specs.Prelude.{◌≡◌, ◌↔◌, ℕ, ℤ, List, ◌+◌, ◌≤◌, ◌<◌, ◌^◌, Some, None, [], false, option_map, map, length, slice_get, min, IsTrue, IfSome}
 use Rattle.std.specs.List.{All, zip}
 use Rattle.std.specs.List.Sorted.{IsPermutation, IsNonDecreasingBy}
 use Rattle.std.specs.Option.{IsSomeAnd}
 use Rattle.fm_records.specs.declared.records.SpecReg.{SpecReg}
 use Rattle.fm_records.specs.Table.{Table}
 use Rattle.fm_records.specs.Facts.{job_of, spec_of, live_spec, holder_of}
+use Rattle.fm_records.specs.Options.{or_else}
+use Rattle.fm_net.specs.declared.node.Node.{Node}
 use Rattle.fm_net.specs.declared.node.Node.TheVariants.{Unscheduled, Task}
 use Rattle.fm_net.specs.Net.{Net}
 use Rattle.fm_net.specs.Network.{net_of}
-use Rattle.fm_certificate.specs.Flows.{Units, cost_of, IsLeast}
+use Rattle.fm_certificate.specs.Flows.{Units, units_in, cost_of, IsLeast}
+use Rattle.fm_certificate.specs.Certificates.{potential_in, IsCertified}
 use Rattle.fm_why.specs.Running.{IsDearer, IsDearerOver}
 use Rattle.fm_why.specs.MachineOptions.{way_cost, roomy}
+use Rattle.fm_why.specs.Bounds.{gap_at, IsBound}
 use Rattle.fm_why.specs.Pricing.{StaysLeast}
 use Rattle.fm_why.specs.Alternatives.{IsExampleFor}
 use Rattle.fm_why.specs.Remedies.{IsRemedy, AreOneOfEach}
@@ -28,9 +32,14 @@ pub record IsChoice (net : Net) (least t r : ℕ) (choice : Choice) : Type 0 whe
   pub dearer : IsDearer net least t choice.machine choice.dearer
   pub fits : choice.dearer < 2 ^ 111
 
--- the schedule that was found: what it costs, which is least, and whether it leaves the task to its job
+-- the schedule that was found, with potentials that certify it: what it costs, which is least, and whether it leaves the task to its
+-- job
 pub record IsFound (net : Net) (t j : ℕ) (choices : Choices) : Type 0 where
+  pub flow : List ((Node × Node) × ℕ)
+  pub potentials : List (Node × ℤ)
+  pub certified : IsCertified net flow potentials
   pub units : Units
+  pub sends : units ≡ units_in flow
   pub least : IsLeast net units
   pub cost : choices.least ≡ cost_of net units
   pub waits : IsTrue choices.waits ↔ (0 < units (Task t) (Unscheduled j))
@@ -39,7 +48,8 @@ pub record IsFound (net : Net) (t j : ℕ) (choices : Choices) : Type 0 where
 -- cheapest first; the price of waiting, for this task alone, up to which that schedule stays least from the present one on: at
 -- each if there is none; for each of the first of these machines, possibly a schedule that runs it there; and, only if the
 -- schedule that was found leaves it waiting, up to two changes after which some least schedule runs it, a slot before bandwidth.
--- What is open: how great the bounds are, since 0 is one; and that schedules and changes are found, since none has to be shown.
+-- How much dearer schedules are is a bound that holds of each, and just the one that the potentials give. What is open: which of
+-- the potentials that certify the schedule these are; and that schedules and changes are found, since none has to be shown.
 pub record AreChoices (k : Table) (t : ℕ) (spec : SpecReg) (choices : Choices) : Type 0 where
   pub request : choices.request ≡ spec.request
   pub wait : Some choices.wait ≡ option_map (λ job. job.wait) (job_of k spec.job)
@@ -47,6 +57,8 @@ pub record AreChoices (k : Table) (t : ℕ) (spec : SpecReg) (choices : Choices)
   pub waiting : IsDearerOver (net_of k) choices.least (Task t) (Unscheduled spec.job) choices.waiting
   pub each : All (IsChoice (net_of k) choices.least t spec.request) choices.machines.items
   pub all : IsPermutation (roomy k spec.request) (map (λ e. e.machine) choices.machines.items)
+  pub bounds : All (IsBound (net_of k) found.units (potential_in found.potentials) t spec.request) choices.machines.items
+  pub waits_bound : choices.waiting ≡ or_else 0 (gap_at (net_of k) found.units (potential_in found.potentials) (Task t) (Unscheduled spec.job))
   pub cheapest_first : IsNonDecreasingBy (λ e. e.dearer) choices.machines.items
   pub known : choices.known ≡ length k.machines
   pub price : choices.price ≡ option_map (λ e. choices.wait + e.dearer) (slice_get choices.machines.items 0)

@@ -6,9 +6,11 @@
 ghost use Rattle.std.specs.Prelude.{◌≡◌, ◌⊎◌, ◌<◌, ◌<ℤ◌, ◌^◌, ℕ, pos, Some, IfSome, option_map};
 ghost use Rattle.fm_certificate.specs.Flows.{units_in};
 ghost use Rattle.fm_certificate.specs.Certificates.{potential_in, reduced_cost, AreSmall};
+ghost use Rattle.fm_records.specs.Options.{or_else};
 ghost use Rattle.fm_net.specs.Net.{arc_at};
 ghost use Rattle.fm_why.specs.Running.{IsDearerOver};
 ghost use Rattle.fm_why.specs.MachineOptions.{cost_at};
+ghost use Rattle.fm_why.specs.Bounds.{above_zero, gap_of, gap_at};
 ghost use Rattle.fm_why.specs.inner.MachineWays.{IsGap};
 ghost use Rattle.fm_why.specs.inner.Schedule.{IsSchedule};
 
@@ -49,6 +51,8 @@ pub(crate) fn toll_of(
         IsGap (units_in schedule.now.flow) (potential_in schedule.now.potentials) from.now to.now e.cost e.more) }
     ensures fits { IfSome result (λ e. e.more < 2 ^ 110) }
     ensures dearer { IfSome result (λ e. IsDearerOver network.now schedule.now.least from.now to.now e.more) }
+    ensures more { option_map (λ e. e.more) result ≡ gap_at network.now (units_in schedule.now.flow)
+        (potential_in schedule.now.potentials) from.now to.now }
 {
     network.known();
     let (_, cost) = network.arc(*from, *to)?;
@@ -63,6 +67,8 @@ pub(crate) fn more_over(network: &Network, schedule: &CertifiedFlow, from: &Node
         → IsGap (units_in schedule.now.flow) (potential_in schedule.now.potentials) from.now to.now arc.1 result }
     ensures fits { result < 2 ^ 110 }
     ensures dearer { IsDearerOver network.now schedule.now.least from.now to.now result }
+    ensures is { result ≡ or_else 0 (gap_at network.now (units_in schedule.now.flow)
+        (potential_in schedule.now.potentials) from.now to.now) }
 {
     network.known();
     match toll_of(network, schedule, from, to) {
@@ -75,6 +81,7 @@ pub(crate) fn more_over(network: &Network, schedule: &CertifiedFlow, from: &Node
 fn gap(flow: &Flow, potentials: &Potentials, from: &Node, to: &Node, cost: u32) -> u128
     requires small { AreSmall potentials.now }
     ensures gap { IsGap (units_in flow.now) (potential_in potentials.now) from.now to.now cost result }
+    ensures is { result ≡ gap_of (units_in flow.now) (potential_in potentials.now) from.now to.now cost }
     ensures fits { result < 2 ^ 110 }
 {
     if flow.units(*from, *to).unwrap_or(0) != 0 {
@@ -87,6 +94,7 @@ fn gap(flow: &Flow, potentials: &Potentials, from: &Node, to: &Node, cost: u32) 
 fn above_zero(number: i128) -> u128
     requires { number <ℤ pos (2 ^ 110) }
     ensures part { (result ≡ 0) ⊎ (pos result ≡ number) }
+    ensures is { result ≡ above_zero number }
     ensures fits { result < 2 ^ 110 }
 {
     if number < 0 { 0 } else { number as u128 }

@@ -3,15 +3,18 @@
 //! A way goes over the task's request, or over an arc of its own to a machine that it prefers. What either makes dearer
 //! follows from reduced costs (`bounds`), so each machine takes a few look-ups and no other flow.
 
-ghost use Rattle.std.specs.Prelude.{◌≡◌, ◌≤◌, ◌<◌, ◌^◌, IfSome, IfOk, map, option_map};
+ghost use Rattle.std.specs.Prelude.{◌≡◌, ◌≤◌, ◌<◌, ◌+◌, ◌^◌, IfSome, IfOk, map, option_map};
 ghost use Rattle.std.specs.List.{All};
 ghost use Rattle.std.specs.List.Sorted.{IsPermutation, IsNonDecreasingBy};
+ghost use Rattle.fm_records.specs.Options.{or_else};
+ghost use Rattle.fm_certificate.specs.Flows.{units_in};
+ghost use Rattle.fm_certificate.specs.Certificates.{potential_in};
 ghost use Rattle.fm_net.specs.declared.node.Node.{Node as NodeName};
 ghost use Rattle.fm_why.specs.Running.{GoesOver, IsDearer, IsDearerIf};
 ghost use Rattle.fm_why.specs.MachineOptions.{cost_at, lesser, way_cost};
+ghost use Rattle.fm_why.specs.Bounds.{gap_at};
 ghost use Rattle.fm_why.specs.inner.MachineWays.{IsOnlyRequest, machine_ways};
-ghost use Rattle.fm_why.specs.inner.Schedule.{IsSchedule};
-ghost use Rattle.fm_why.specs.Reasons.{IsChoice};
+ghost use Rattle.fm_why.specs.inner.Schedule.{IsSchedule, IsBounded};
 
 use crate::bounds::{ArcGap, CertifiedFlow, more_over, toll_of};
 use crate::reasons::Choice;
@@ -34,7 +37,7 @@ pub(crate) fn choices_of(
 ) -> Result<Vec<Choice>, OutOfMemory>
     requires schedule { IsSchedule network.now schedule.now }
     requires only { IsOnlyRequest network.now task request }
-    ensures each { IfOk result (λ all. All (IsChoice network.now schedule.now.least task request) all.items) }
+    ensures each { IfOk result (λ all. All (IsBounded network.now schedule.now task request) all.items) }
     ensures all { IfOk result (λ all.
         IsPermutation (machine_ways knowledge.now network.now task request) (map (λ e. e.machine) all.items)) }
     ensures cheapest_first { IfOk result (λ all. IsNonDecreasingBy (λ e. e.dearer) all.items) }
@@ -55,7 +58,7 @@ fn listed(
 ) -> Result<Vec<Choice>, OutOfMemory>
     requires schedule { IsSchedule network.now schedule.now }
     requires only { IsOnlyRequest network.now task request }
-    ensures each { IfOk result (λ all. All (IsChoice network.now schedule.now.least task request) all.items) }
+    ensures each { IfOk result (λ all. All (IsBounded network.now schedule.now task request) all.items) }
     ensures all { IfOk result (λ all. map (λ e. e.machine) all.items
         ≡ machine_ways knowledge.now network.now task request) }
 {
@@ -82,6 +85,7 @@ fn choice_of(
     ensures machine { IfSome result (λ e. e.machine ≡ machine) }
     ensures dearer { IfSome result (λ e. IsDearer network.now schedule.now.least task machine e.dearer) }
     ensures fits { IfSome result (λ e. e.dearer < 2 ^ 111) }
+    ensures bounded { IfSome result (IsBounded network.now schedule.now task request) }
 {
     let over = over_request(network, schedule, task, request, machine);
     let own = toll_of(
@@ -112,6 +116,11 @@ fn over_request(
     ensures dearer { IfSome result (λ e.
         IsDearerIf network.now schedule.now.least (GoesOver network.now task request machine) e.more) }
     ensures fits { IfSome result (λ e. e.more < 2 ^ 111) }
+    ensures more { option_map (λ e. e.more) result ≡ option_map
+        (λ gap. or_else 0 (gap_at network.now (units_in schedule.now.flow) (potential_in schedule.now.potentials)
+        (NodeName.Task task) (NodeName.Request request)) + gap)
+        (gap_at network.now (units_in schedule.now.flow) (potential_in schedule.now.potentials)
+        (NodeName.Request request) (NodeName.Machine machine)) }
 {
     network.known();
     let via = Node::Request(request);
@@ -129,6 +138,8 @@ fn cheaper(over: Option<ArcGap>, own: Option<ArcGap>) -> Option<ArcGap>
         ≡ lesser (option_map (λ e. e.cost) over) (option_map (λ e. e.cost) own) }
     ensures over { IfSome result (λ e. IfSome over (λ a. e.more ≤ a.more)) }
     ensures own { IfSome result (λ e. IfSome own (λ b. e.more ≤ b.more)) }
+    ensures more { option_map (λ e. e.more) result
+        ≡ lesser (option_map (λ e. e.more) over) (option_map (λ e. e.more) own) }
 {
     match (over, own) {
         (Some(over), Some(own)) => Some(ArcGap {
