@@ -6,6 +6,7 @@ use fm_records::ids::{JobId, MachineId, TaskId};
 use fm_records::ops::{Op, Phase};
 use fm_records::prefer::Prefer;
 use fm_records::refusal::Refusal;
+use fm_wire::packet_size::packet_size;
 use fm_wire::reading::{decode, fault_of};
 use fm_wire::writing::encode;
 use std::alloc::Global;
@@ -46,10 +47,11 @@ fn reads(alloc: Global, bytes: &[u8], packet: &Packet) -> Result<bool, Fail> {
     Ok(are_same(&read, packet))
 }
 
-// Whether the bytes spell the packet in FDG2, in both directions.
+// Whether the bytes spell the packet in FDG2, in both directions, and are as many as its size says.
 fn spells(alloc: Global, bytes: &[u8], packet: &Packet) -> Result<bool, Fail> {
     let written = bytes_of(alloc, packet)?;
-    Ok(written.as_slice() == bytes && reads(alloc, bytes, packet)?)
+    let is_sized = packet_size(&packet.value) == bytes.len() as u128;
+    Ok(is_sized && written.as_slice() == bytes && reads(alloc, bytes, packet)?)
 }
 
 // Whether the bytes spell the packet in FDG1: they are read as the packet, and if it has no spec it is written with

@@ -222,7 +222,7 @@ machine_out m (i, (Some s, Some r)) h =
 abbrev Entry : Type 0
 Entry = ((ℕ × ℕ) × ℕ) × Spot
 
-abbrev HasEntry : Entry → Type 0
+abbrev pub HasEntry : Entry → Type 0
 HasEntry e = ((id ⨾ attempt) ⨾ coordinator_field).has e.0 × spot.has e.1
 
 entry_in : (at : ℕ × ℕ) (c : ℕ) (s : Spot) → in_range (propose_op at c s) ≡ true → HasEntry ((at, c), s)
@@ -300,7 +300,7 @@ any_values (e ∷ es) = (tt, any_values es)
 abbrev Spots : Type 0
 Spots = List (ℕ × Spot)
 
-spots_in : (at : ℕ × ℕ) (spots : Spots) → all_in_range (entry_ops (at, spots)) ≡ true → AllByRecursion HasEntry (flat_at at spots)
+pub spots_in : (at : ℕ × ℕ) (spots : Spots) → all_in_range (entry_ops (at, spots)) ≡ true → AllByRecursion HasEntry (flat_at at spots)
 spots_in at [] h = tt
 spots_in at (s ∷ spots) h = let t = first_passes (propose_op at s.0 s.1) (entry_ops (at, spots)) h in (entry_in at s.0 s.1 t.0, spots_in at spots t.1)
 

@@ -6,5 +6,6 @@ pub mod Widths
 pub mod Lawful
 pub mod PacketLawful
 pub mod Preferring
+pub mod Sizes
 pub mod InRange
 pub mod PacketLaws

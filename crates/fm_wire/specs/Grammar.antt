@@ -186,6 +186,10 @@ spelling_in v p = packet.spell (v, lists_of p)
 abbrev pub spelling : Packet → List ℕ
 spelling = spelling_in Fdg2
 
+-- how many bytes a packet has
+abbrev pub packet_size : Packet → ℕ
+packet_size p = length (spelling p)
+
 -- the place of the first fault of bytes that are no packet's, by the version that their first word names
 abbrev pub fault : List ℕ → Option ℕ
 fault = fault_in packet

@@ -8,6 +8,7 @@ mod decode_error;
 mod flat_proposals;
 pub mod laws;
 mod number_codecs;
+pub mod packet_size;
 mod preferences;
 pub mod reading;
 mod record_codecs;

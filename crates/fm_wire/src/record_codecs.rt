@@ -20,7 +20,7 @@ use fm_records::records::{
 };
 
 // What may be known of a machine at its incarnation: its state, and its report.
-type Parts = Both<Opt<Max<MachineReg>>, Opt<Max<Report>>>;
+pub(crate) type Parts = Both<Opt<Max<MachineReg>>, Opt<Max<Report>>>;
 
 const GREATEST_PRICE: u32 = 1_000_000_000;
 
