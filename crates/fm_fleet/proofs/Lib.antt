@@ -1,3 +1,4 @@
 pub mod Logs
 pub mod May
 pub mod Seating
+pub mod Wholes

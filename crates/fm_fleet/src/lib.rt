@@ -3,6 +3,7 @@
 
 pub mod audit;
 pub mod closing;
+pub mod laws;
 mod locked_coordinator;
 pub mod node;
 mod owners;

@@ -8,7 +8,7 @@ use fm_delta::packet::Packet;
 use fm_fleet::audit::audit;
 use fm_fleet::closing::{Closed, close};
 use fm_fleet::node::Node;
-use fm_fleet::round::{Gate, NoGate, run_round};
+use fm_fleet::round::{Gate, NoGate, run_round, run_share_round};
 use fm_fleet::seat::{NodeName, Seat, SeatLog};
 use fm_know::knowledge::Knowledge;
 use fm_policy::rebuilder::Rebuilder;
@@ -17,6 +17,8 @@ use fm_records::ops::{Field, Op, Phase};
 use fm_records::prefer::Prefer;
 use fm_records::refusal::Refusal;
 use fm_round::plan::Answer;
+use fm_share::share::Share;
+use fm_share::writers::Writers;
 use std::alloc::Global;
 use std::marker::Brand;
 use std::sync::Wait;
@@ -49,11 +51,11 @@ fn machine() -> Op {
     }
 }
 
-fn task() -> Op {
+fn task(id: u128, writer: u8) -> Op {
     Op::Spec {
-        id: TaskId::new(17),
+        id: TaskId::new(id),
         version: 1,
-        writer: 1,
+        writer,
         withdrawn: false,
         job: JobId::new(1),
         request: 100,
@@ -69,9 +71,16 @@ fn is(fact: bool, otherwise: &'static str) -> Result<(), Fail> {
 fn three_told(alloc: Global) -> Result<Coordinator<Rebuilder>, Fail> {
     let number = CoordId::new(1).ok_or("no such number")?;
     let mut coordinator = Coordinator::new(alloc, number, 1_000, Rebuilder::new(alloc)?);
-    for op in [job(1, 500), machine(), task()] {
+    for op in [job(1, 500), machine(), task(17, 1)] {
         coordinator.tell(0, op)?;
     }
+    Ok(coordinator)
+}
+
+// A coordinator that was told of a second task too, whose spec another writer wrote.
+fn four_told(alloc: Global) -> Result<Coordinator<Rebuilder>, Fail> {
+    let mut coordinator = three_told(alloc)?;
+    coordinator.tell(0, task(18, 2))?;
     Ok(coordinator)
 }
 
@@ -82,6 +91,7 @@ enum Scene {
     TwoThreads,
     MergeWhileHeld,
     NothingHeld,
+    ShareOfAnother,
 }
 
 fn play<L: NodeName + Send + Sync, R: Threads + Wait + Sync>(
@@ -107,6 +117,7 @@ fn play<L: NodeName + Send + Sync, R: Threads + Wait + Sync>(
         Scene::TwoThreads => two_threads(rt, alloc, node, one, two),
         Scene::MergeWhileHeld => merge_while_held(rt, alloc, &node, one, two),
         Scene::NothingHeld => nothing_held(rt, alloc, &node, one),
+        Scene::ShareOfAnother => share_of_another(rt, alloc, &node, one),
     }
 }
 
@@ -409,6 +420,47 @@ fn nothing_held<L: NodeName, R: Wait>(
     is(answered == Some(Answer::Accepted), "the task is placed")
 }
 
+// The only operation of a round of a share.
+fn operation<L: NodeName, R: Wait>(
+    rt: &R,
+    alloc: Global,
+    node: &Node<Rebuilder, L>,
+    mut seat: Seat<L>,
+    share: &Share,
+) -> Result<Option<Op>, Refusal> {
+    let mut gate = NoGate;
+    let admitted = run_share_round(rt, alloc, node, &mut seat, &mut gate, share)?;
+    match admitted.get().ops.as_slice() {
+        [op] => Ok(Some(*op)),
+        _ => Ok(None),
+    }
+}
+
+fn share_of_another<L: NodeName, R: Wait>(
+    rt: &R,
+    alloc: Global,
+    node: &Node<Rebuilder, L>,
+    one: Seat<L>,
+) -> Result<(), Fail> {
+    let writer = CoordId::new(2).ok_or("no such number")?;
+    let share = Share {
+        writers: Some(Writers::of(&[writer])),
+        each: None,
+    };
+    let operation = operation(rt, alloc, node, one, &share)?;
+    let placed = Op::Propose {
+        id: TaskId::new(18),
+        attempt: 0,
+        coordinator: 1,
+        machine: MachineId::new(10),
+        incarnation: 1,
+    };
+    is(
+        operation == Some(placed),
+        "the task of the second writer alone is placed",
+    )
+}
+
 #[test]
 fn calls_of_a_seat_are_counted_and_close_wants_all_seats(rt: HostRuntime) -> Result<(), Fail> {
     picked(&rt, rt.alloc(), three_told(rt.alloc())?, Scene::CallsInTurn)
@@ -432,4 +484,14 @@ fn a_node_is_called_while_a_round_is_held(rt: HostRuntime) -> Result<(), Fail> {
 #[test]
 fn a_round_places_a_task(rt: HostRuntime) -> Result<(), Fail> {
     picked(&rt, rt.alloc(), three_told(rt.alloc())?, Scene::NothingHeld)
+}
+
+#[test]
+fn a_round_of_a_share_places_only_tasks_of_its_writers(rt: HostRuntime) -> Result<(), Fail> {
+    picked(
+        &rt,
+        rt.alloc(),
+        four_told(rt.alloc())?,
+        Scene::ShareOfAnother,
+    )
 }
