@@ -48,9 +48,10 @@ pub fn run_round<N: NetKeeper, L: NodeName, G: Gate, R: Wait>(
     run_share_round(rt, alloc, node, seat, gate, &Share::whole())
 }
 
-/// As `run_round`, but only the share of the plan is committed, by what was seen: the entries of tasks whose spec one of
-/// its writers wrote, and of these places at most so many on each machine. What is planned stays the same. A whole share
-/// costs nothing, another what `part_of` does. OutOfMemory, HistoryFull; then the seat is unchanged, or has only the view.
+/// As `run_round`, but only a share of the plan is committed, by what was seen: the entries of tasks whose spec one of
+/// its writers wrote, and of these places at most so many on each machine. What is planned stays the same. It costs
+/// what `run_round` and `part_of` do; a whole share costs nothing more. OutOfMemory, HistoryFull; then the seat is
+/// unchanged, or has only the view.
 pub fn run_share_round<N: NetKeeper, L: NodeName, G: Gate, R: Wait>(
     rt: &R,
     alloc: Global,
