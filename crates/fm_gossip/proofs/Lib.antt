@@ -2,6 +2,7 @@ mod Causes
 pub mod Columns
 mod Drained
 mod Ending
+mod Leaving
 mod Merging
 mod Passing
 mod Seated

@@ -1,5 +1,5 @@
 -- Coordinators that exchange all that they know, once their threads have ended (this project's profile).
-use Rattle.std.specs.Prelude.{◌≡◌, ◌⊎◌, ℕ, ◌==◌, not, List, [], ◌∷◌, map, filter}
+use Rattle.std.specs.Prelude.{◌≡◌, ◌⊎◌, ℕ, ◌==◌, not, List, [], ◌∷◌, ◌++◌, map, filter}
 use Rattle.fm_records.specs.declared.refusal.Refusal.{Refusal}
 use Rattle.fm_records.specs.declared.refusal.Refusal.TheVariants.{OutOfMemory, HistoryFull}
 use Rattle.fm_delta.specs.declared.packet.Packet.{Packet}
@@ -35,3 +35,33 @@ after_exchange ss = map (told_by_others (map whole_packet ss)) (map cut_off ss)
 -- by which numbers an exchange is refused: out of memory, or a full history. That a history is full is not said
 abbrev pub StopsExchange : Refusal → Type 0
 StopsExchange r = (r ≡ OutOfMemory) ⊎ (r ≡ HistoryFull)
+
+-- what an exchange that was refused while they cut leaves: the first of them cut all that they know, and the others are as they were
+pub record AreLeftCutting (olds news : List State) : Type 0 where
+  pub cut : List State
+  pub uncut : List State
+  pub were : olds ≡ cut ++ uncut
+  pub are : news ≡ map cut_off cut ++ uncut
+
+-- the coordinator merged the packets of the others up to one that was refused, and none from there on
+pub record IsLeftMerging (packets : List Packet) (old new : State) : Type 0 where
+  pub merged : List Packet
+  pub refused : Packet
+  pub later : List Packet
+  pub of : of_others old.number packets ≡ merged ++ refused ∷ later
+  pub is : new ≡ merged_in old merged
+
+-- and one that was refused while they merge: the first of them merged all packets of the others, the next one those up to the refused
+-- one, and the others none
+pub record AreLeftMerging (packets : List Packet) (olds news : List State) : Type 0 where
+  pub told : List State
+  pub old : State
+  pub new : State
+  pub untold : List State
+  pub were : olds ≡ told ++ old ∷ untold
+  pub are : news ≡ map (told_by_others packets) told ++ new ∷ untold
+  pub midst : IsLeftMerging packets old new
+
+-- what a refused exchange leaves: it was refused while they cut, or while they merge, once all had cut
+abbrev pub AreLeft : List State → List State → Type 0
+AreLeft olds news = AreLeftCutting olds news ⊎ AreLeftMerging (map whole_packet olds) (map cut_off olds) news

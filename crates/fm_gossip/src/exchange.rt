@@ -2,8 +2,8 @@
 //!
 //! Each cuts all that it knows before any of them merges, so that afterwards all know the same, whatever they knew
 //! before.
-ghost use Rattle.std.specs.Prelude.{◌≡◌, ◌++◌, map, IfErr, OnOk};
-ghost use Rattle.fm_gossip.specs.Exchanges.{whole_packet, cut_off, merged_in, of_others, told_by_others, after_exchange, StopsExchange};
+ghost use Rattle.std.specs.Prelude.{◌≡◌, ◌++◌, map, IfErr, OnErr, OnOk};
+ghost use Rattle.fm_gossip.specs.Exchanges.{whole_packet, cut_off, merged_in, of_others, told_by_others, after_exchange, StopsExchange, AreLeftCutting, IsLeftMerging, AreLeftMerging, AreLeft};
 
 use fm_coord::coordinator::Coordinator;
 use fm_coord::entry::Range;
@@ -14,13 +14,15 @@ use fm_records::refusal::Refusal;
 use std::alloc::Global;
 
 /// Each coordinator cuts all that it knows, and then merges the packet of each of the others, in order.
-/// HistoryFull, OutOfMemory; then each coordinator is as it was, or did so in part.
+/// HistoryFull, OutOfMemory; then the first of them cut and the others are as they were. Or all cut, the first merged
+/// all packets of the others, the next one those up to a refused one, and the others none.
 pub fn exchange<N: NetKeeper>(
     alloc: Global,
     coordinators: &mut [Coordinator<N>],
 ) -> Result<(), Refusal>
     ensures ok { OnOk result (map (λ c. c.state) coordinators.new
         ≡ after_exchange (map (λ c. c.state) coordinators.old)) }
+    ensures left { OnErr result (AreLeft (map (λ c. c.state) coordinators.old) (map (λ c. c.state) coordinators.new)) }
     ensures err { IfErr result StopsExchange }
 {
     let mut packets = Vec::new(alloc);
@@ -38,6 +40,8 @@ fn cut_all<N: NetKeeper>(
         ≡ map cut_off (map (λ c. c.state) coordinators.old)) }
     ensures packets { OnOk result (packets.new.items
         ≡ packets.old.items ++ map whole_packet (map (λ c. c.state) coordinators.old)) }
+    ensures left { OnErr result
+        (AreLeftCutting (map (λ c. c.state) coordinators.old) (map (λ c. c.state) coordinators.new)) }
     ensures err { IfErr result StopsExchange }
 {
     let Some((first, rest)) = coordinators.split_first_mut() else {
@@ -54,6 +58,8 @@ fn tell_all<N: NetKeeper>(
 ) -> Result<(), Refusal>
     ensures told { OnOk result (map (λ c. c.state) coordinators.new
         ≡ map (told_by_others packets.now) (map (λ c. c.state) coordinators.old)) }
+    ensures left { OnErr result (AreLeftMerging packets.now
+        (map (λ c. c.state) coordinators.old) (map (λ c. c.state) coordinators.new)) }
     ensures err { IfErr result StopsExchange }
 {
     let Some((first, rest)) = coordinators.split_first_mut() else {
@@ -70,6 +76,7 @@ fn merge_others<N: NetKeeper>(
     packets: &[Shared<Packet>],
 ) -> Result<(), Refusal>
     ensures merged { OnOk result (coordinator.new.state ≡ told_by_others packets.now coordinator.old.state) }
+    ensures left { OnErr result (IsLeftMerging packets.now coordinator.old.state coordinator.new.state) }
     ensures err { IfErr result StopsExchange }
 {
     let own = coordinator.number().value();
