@@ -117,12 +117,24 @@ LINES = [
     (b'{"at":2,"relieve":true}', b"refusal 8\n"), (b'{"at":1,"ask":"end"}', b"end 0 7\nok\n"), (b'{"at":1,"relieve":true}', b"ok\n"),
     (b'{"at":2,"ask":"next","job":"%s"}' % JOB, b"refusal 8\n"), (b'{"ask":"version"}', b"firmament %s FDG1 FDG2\nok\n" % VERSION),
     (b'{"ask":"version","at":1}', b"refusal 16\n"), (b'{"at":1,"ask":"end"}', b"end 0 8\nok\n")]
+NO_LINE = b"refused 16\nthe line is none that can be asked now, by its form or by a member\nok\n"
+# what the bridge does itself is refused, and a check says so
+CHECKED = [
+    *((line, NO_LINE) for line in REFUSED if line.startswith((b'{"at"', b'{"co', b'{"re')) and b"0000" not in line),
+    *((line, b"accepted\nok\n") for line in (
+        b'{"at":1,"cut":{}}', b'{"ask":"agree"}', b'{"at":1,"ask":"list","of":"jobs"}', b'{"at":1,"round":{"each":1}}', b'{"at":1,"relieve":true}',
+        b'{"ask":"check","line":{"renew":true}}', b'{"ask":"check","line":{}}', tell(1, {"job": hostile.OPERATIONS["job"]})[:-1])),
+    (tell(1, {"job": {**hostile.OPERATIONS["job"], "writer": 0}})[:-1], b"refused 2\nwriter must be from 1 to 64\nok\n"),
+    (b'{"at":1,"take":"46"}', b"refused 6\nthe digits are no packet: see byte 1\nok\n"),
+    (b'{"at":2,"ask":"graph"}', b"refused 8\nno coordinator has the number 2\nok\n"), (b'{"at":1,"round":{"each":0}}', NO_LINE), (b'{}', NO_LINE)]
+CHECKS = [*((b'{"ask":"check","line":%s}' % line, end) for line, end in CHECKED), (b'{"at":1,"ask":"check","line":{"renew":true}}', b"refusal 16\n"),
+          (b'{"ask":"check","line":1}', b"refusal 16\n"), (b'{"ask":"check"}', b"refusal 16\n"), (b'{"at":1,"ask":"end"}', b"end 0 8\nok\n")]
 
 
 def lines(program):
     """Lines of an operator are answered one by one, in order, and those that would interfere are refused."""
     with running(program, [1]) as (_, (bridge,)):
-        for line, end in LINES:
+        for line, end in LINES + CHECKS:
             answer = bridge.ask(line.decode("latin-1") if line != b"\xff" else "x")
             yield "line %r: %r" % (line[:40], answer[-40:]), answer.endswith(end)
         bridge.write(b"\xff\n" + tell(1, {"job": hostile.OPERATIONS["job"]}) + b'{"at":1,"ask":"graph"}')
@@ -187,6 +199,10 @@ def parts(program):
     asked = [line for line, end in LINES if b'"ask"' in line and end != b"refusal 16\n"]
     yield "questions are known as such", {lines_of.kind_of(line) for line in asked} == {lines_of.Kind.QUESTION}
     asked = [line for line, end in LINES if b'"round"' in line and end == b"ok\n"]
+    kinds = [lines_of.kind_of(line) for line, end in CHECKS if end != b"refusal 16\n"]
+    yield "checks are known as such", set(kinds) == {lines_of.Kind.QUESTION, lines_of.Kind.CHECK_OF_OURS}
+    ours = [line for line, _ in CHECKED if lines_of.kind_of(line) is lines_of.Kind.OURS]
+    yield "checks of %d lines that a bridge does itself" % len(ours), len(ours) == kinds.count(lines_of.Kind.CHECK_OF_OURS) == 8
     yield "%d rounds are known as such" % len(asked), {lines_of.kind_of(line) for line in asked} == {lines_of.Kind.ROUND}
     for name in ("a\0b", "\ud800", "+", "blue"):
         try:

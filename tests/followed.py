@@ -10,6 +10,7 @@ which nothing needs to be listed; and of a round's plan, or of the part of it th
 out, and what was admitted is taken in. If nothing was seen, one answer that may come is made.
 """
 import argparse
+import json
 import pathlib
 import re
 import sys
@@ -26,18 +27,22 @@ VERSION = (pathlib.Path(__file__).resolve().parent.parent / "VERSION").read_text
 TOPICS = "graph", "solve", "plan", "winners", "list", "stops", "end", "size", "over"
 # the members that say whose next version or attempt is asked for
 SUBJECTS = {"job": {"job"}, "machine": {"machine", "incarnation"}, "task": {"task"}}
-STRANGE, NO_PACKET, NOBODY, VERSIONS_SPENT, ATTEMPTS_SPENT = 16, 6, 8, 14, 15
+STRANGE = reference.Why(16, "the line is none that can be asked now, by its form or by a member")
+VERSIONS_SPENT = reference.Why(14, "the known version is 18446744073709551615, the greatest")
+ATTEMPTS_SPENT = reference.Why(15, "the known attempt is 4294967295, the greatest")
+# what a line is checked by
+CHECK = b'{"ask":"check","line":%s}'
 END = re.compile(rb"ok\n|refusal [0-9]+\n")
 PLACE = re.compile(r"place (\S{36}) (\S{36}) ([0-9]+)(?: \S+)?")
 PREEMPT = re.compile(r"preempt (\S{36}) ([0-9]+)(?: \S+)?")
 
 
 class Refused(Exception):
-    """The line is refused, by that number."""
+    """The line is refused, by that number and for that cause."""
 
-    def __init__(self, number):
-        super().__init__(number)
-        self.number = number
+    def __init__(self, why):
+        super().__init__(why)
+        self.why = why
 
 
 def lines_of(text):
@@ -60,14 +65,23 @@ def answers_in(out):
 
 # lines
 
-def request_in(line, names):
-    """What the line asks for, as a kind and what belongs to it, given that packets of the names were cut before."""
+def value_in(line):
+    """The value that the line spells."""
     if len(line) > strict.LINE:
         raise Refused(STRANGE)
     try:
-        value = strict.read_json(line)
+        return strict.read_json(line)
     except (strict.Strange, RecursionError):
         raise Refused(STRANGE)
+
+
+def is_check(value):
+    """Whether a line of the value asks to check another one."""
+    return type(value) is dict and value.keys() == {"ask", "line"} and value["ask"] == "check" and type(value["line"]) is dict
+
+
+def request_in(value, names):
+    """What a line of the value asks for, as a kind and what belongs to it, given that packets of the names were cut before."""
     request = None
     if type(value) is dict and len(value) == 1:
         request = alone(*next(iter(value.items())))
@@ -131,9 +145,11 @@ def packet_of(digits):
     """The packet that hexadecimal digits spell."""
     if not re.fullmatch("(?:[0-9a-fA-F]{2})*", digits):
         raise Refused(STRANGE)
-    packet = reference.packet_in(bytes.fromhex(digits))
+    spelled = bytes.fromhex(digits)
+    packet, fault = reference.packet_in(spelled), reference.fault_in(spelled)
+    assert (packet is None) != (fault is None), "two readers of packets say something else of %s" % digits
     if packet is None:
-        raise Refused(NO_PACKET)
+        raise Refused(reference.Why(6, "the digits are no packet: see byte %d" % fault))
     return packet
 
 
@@ -275,23 +291,46 @@ class Stream:
     def answer(self, line, seen=b""):
         """What is answered to the line: if several answers may come, the one that was seen, if it is one of them."""
         try:
-            text = self.text(line, seen.rpartition(b"ok\n")[0].decode("utf-8", "replace"))
+            value = value_in(line)
+            if is_check(value):
+                # nothing changes, and nothing is renewed
+                return self.checked(value["line"]).encode() + b"ok\n"
+            text = self.text(value, seen.rpartition(b"ok\n")[0].decode("utf-8", "replace"))
         except Refused as refused:
-            return b"refusal %d\n" % refused.number
+            return b"refusal %d\n" % refused.why.number
         if any(count >= self.renew_after for count in self.entries.values()):
             self.renew()
         return text.encode() + b"ok\n"
 
-    def text(self, line, seen):
-        kind, *asked = request_in(line, self.world.packets if self.world else ())
+    def text(self, value, seen):
+        kind, *asked = self.request(value)
+        return getattr(self, kind)(*asked, *[seen] * (kind in ("ask", "why", "act"))) or ""
+
+    def checked(self, value):
+        """What is said of a line of the value: whether it would be answered now by a refusal, and why."""
+        try:
+            if not is_check(value):
+                self.request(value)
+        except Refused as refused:
+            return "refused %d\n%s\n" % refused.why
+        return "accepted\n"
+
+    def request(self, value):
+        """What a line of the value asks for, if it is not refused now. Nothing happens."""
+        kind, *asked = request_in(value, self.world.packets if self.world else ())
         if (kind == "open") != (self.world is None):
             raise Refused(STRANGE)
         if kind == "take":
             # the digits are read before anybody is looked for
             asked[1] = packet_of(asked[1])
         if kind in ("news", "own_news", "take", "ask", "why", "listing", "next_one") and asked[0] not in self.world.coordinators:
-            raise Refused(NOBODY)
-        return getattr(self, kind)(*asked, *[seen] * (kind in ("ask", "why", "act"))) or ""
+            raise Refused(reference.nobody(asked[0]))
+        why = self.world.why_not(**asked[0]) if kind == "act" else None
+        if why:
+            raise Refused(why)
+        if kind == "next_one":
+            self.next_one(*asked)
+        return kind, *asked
 
     def open(self, numbers):
         self.world = reference.World({"coordinators": numbers, "steps": []})
@@ -311,13 +350,12 @@ class Stream:
     def act(self, step, seen):
         """What happens as in a script."""
         at = step["at"]
-        if "round" in step and at in self.world.coordinators:
+        if "round" in step:
             return self.committed(at, part_seen(self.known(at), step["round"], seen))
-        if "relieve" in step and at in self.world.coordinators:
+        if "relieve" in step:
             return self.committed(at, ([], reference.relief_preempts(self.known(at))))
         refused = self.world.act(**step)
-        if refused:
-            raise Refused(refused)
+        assert refused is None, "what is not refused is refused by %s" % refused
         self.entries[at] += 1
         self.are_own[at] += [True] * ("tell" in step) + [False] * ("deliver" in step)
         return self.digits(step["cut"]["name"]) if "cut" in step else ""
@@ -416,10 +454,42 @@ def foretold(text, renew_after=RENEW_AFTER):
     return [stream.answer(line) for line in lines_of(text)]
 
 
+def with_checks(text, is_chosen=lambda line: True):
+    """The stream in which each line that is chosen is checked before it is sent. What is no JSON object cannot be part of a line."""
+    found = []
+    for line in lines_of(text):
+        if is_object(line) and is_chosen(line):
+            found.append(CHECK % line)
+        found.append(line)
+    return b"".join(line + b"\n" for line in found)
+
+
+def is_object(line):
+    """Whether the line spells an object, as far as it is to be put into another line."""
+    try:
+        return type(json.loads(line)) is dict
+    except (ValueError, RecursionError):
+        return False
+
+
+def foretold_of(line, following, said, answer):
+    """What a check that was answered had said of the line behind it, and something else came; or None."""
+    if line != CHECK % following or not is_object(following) or not said.endswith(b"ok\n") or answer in (b"", b"refusal 1\n"):
+        return None
+    refused = re.fullmatch(rb"refused ([0-9]+)\n[^\n]+\nok\n", said)
+    came = answer == b"refusal %s\n" % refused[1] if refused else said == b"accepted\nok\n" and answer.endswith(b"ok\n")
+    return None if came else "%r was checked: %r, and then %r came" % (following[:300], said, answer[-300:])
+
+
 def wrong(text, out, renew_after=RENEW_AFTER, passed_over=None):
-    """What is wrong with the answers to the lines of a text, or None. A line with the answer that is passed over changed nothing."""
+    """What is wrong with the answers to the lines of a text, or None. A line with the answer that is passed over changed nothing. What a
+    check of the next line said is what came."""
     stream, (given, rest) = Stream(renew_after), answers_in(out)
     lines = lines_of(text)
+    said = map(foretold_of, lines, lines[1:], given, given[1:])
+    broken = next(filter(None, said), None)
+    if broken:
+        return broken
     for place, line in enumerate(lines):
         seen = given[place] if place < len(given) else b""
         wanted = seen if seen and seen == passed_over else stream.answer(line, seen)

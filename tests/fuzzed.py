@@ -279,6 +279,8 @@ class Draw:
         yield {"coordinators": script["coordinators"]}
         for step in script["steps"]:
             is_look = step["at"] == first and "round" in step and self.odds() < 0.8
+            if self.odds() < 0.1:
+                yield {"ask": "check", "line": json.loads(json.dumps(step))}
             yield {"at": first, "ask": "graph"} if is_look else step
             if self.odds() < 0.1:
                 yield {"at": self.one_of(script["coordinators"]), "ask": self.one_of(followed.TOPICS)}
@@ -383,7 +385,7 @@ def edits(text):
     keepers, names = {}, set()
     for line in followed.lines_of(text):
         try:
-            kind, asked, *more = followed.request_in(line, names)
+            kind, asked, *more = followed.request_in(followed.value_in(line), names)
         except (followed.Refused, IndexError):
             continue
         if kind == "open" and not keepers:

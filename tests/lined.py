@@ -105,7 +105,9 @@ def every_kind():
         {"at": 1, "trim": 4}, {"at": 2, "round": {"writers": [1, 2], "each": 1}}, {"at": 2, "round": True}, tell("propose", at=2, attempt=1),
         *asks([2]), *explains([2]), *records([2]), {"renew": True},
         {"at": 1, "round": {}}, {"at": 2, "news": True}, {"at": 2, "deliver": "some"}, {"at": 1, "round": {"each": 0}},
-        *asks([1]), {"ask": "version"},
+        *asks([1]), {"ask": "version"}, *({"ask": "check", "line": checked} for checked in (
+            tell("spec", prefer=[{"machine": MACHINE, "credit": 1}]), tell("job", writer=0), {"at": 2, "take": reference.packed(packet)[1].strip()},
+            {"at": 2, "take": "46"}, {"at": 1, "cut": {"from": 2, "to": 1}}, {"at": 9, "news": True}, {"at": 1, "ask": "next", "job": JOB}, {})),
         *explains([1], [TASK, TASK[:-1] + "2", TASK[:-1] + "3", JOB]))
 
 

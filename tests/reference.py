@@ -32,6 +32,11 @@ PHASES = ["pending", "running", "done"]
 # what a list may be of, if not of all records
 LISTED = ("jobs", "machines", "tasks", "waiting")
 
+# the number and the cause of a refusal
+Why = collections.namedtuple("Why", "number cause")
+BEYOND = Why(4, "there are no such deltas")
+UNNAMED = Why(9, "no packet has this name")
+
 LIMITS = {"writer": (1, 64), "coordinator": (1, 64), "wait": (0, 10 ** 9), "preempt": (0, 10 ** 9), "request": (0, 10 ** 6),
           "slots": (1, 1000), "nic": (0, 10 ** 6), "used": (0, 10 ** 9)}
 
@@ -66,6 +71,14 @@ def out_of_range(fields):
     machines = [machine for machine, _ in prefer]
     return (any(not LIMITS[field][0] <= fields[field] <= LIMITS[field][1] for field in LIMITS.keys() & fields.keys())
             or machines != sorted(set(machines)) or any(credit > 10 ** 9 for _, credit in prefer))
+
+
+def range_fault(kind, fields):
+    """What is wrong with the first field of an operation that is beyond its limits, in the order in which docs/formats.md lists them."""
+    for field in strict.FIELDS[kind]:
+        if field in LIMITS and not LIMITS[field][0] <= fields[field] <= LIMITS[field][1]:
+            return "%s must be from %d to %d" % (field, *LIMITS[field])
+    return "prefer must list machines by rising id, with credits from 0 to 1000000000"
 
 
 def preferred(fields):
@@ -178,6 +191,11 @@ class Choices:
         return Choices(path[:-1] + [path[-1] + 1]) if path else None
 
 
+def nobody(at):
+    """Why a coordinator that is not listed is refused."""
+    return Why(8, "no coordinator has the number %d" % at)
+
+
 class World:
     """What the steps of a script come to. Each act answers the number of its refusal, if it is refused."""
 
@@ -191,37 +209,45 @@ class World:
                 raise Refused(refused, place)
 
     def act(self, at, **act):
+        why = self.why_not(at, **act)
+        if why:
+            return why.number
         (kind, asked), = act.items()
-        return getattr(self, kind)(at, asked) if at in self.coordinators else 8
+        getattr(self, kind)(at, asked)
+
+    def why_not(self, at, **act):
+        """Why an act is refused now, or None. Nothing happens."""
+        if at not in self.coordinators:
+            return nobody(at)
+        (kind, asked), = act.items()
+        sender = self.coordinators[at]
+        if kind == "tell":
+            (kind, fields), = asked.items()
+            return Why(2, range_fault(kind, fields)) if out_of_range(dict(operation(kind, fields)[1])) else None
+        if kind == "deliver":
+            return None if asked in self.packets else UNNAMED
+        if kind == "trim":
+            return None if sender.floor <= asked <= len(sender.sets) else BEYOND
+        if kind == "cut" and "from" in asked:
+            if not asked["from"] <= asked["to"] <= len(sender.sets):
+                return BEYOND
+            return Why(5, "deltas below %d are trimmed" % sender.floor) if asked["from"] < sender.floor else None
+        return None
 
     def tell(self, at, asked):
         (kind, fields), = asked.items()
-        op = operation(kind, fields)
-        if out_of_range(dict(op[1])):
-            return 2
-        self.coordinators[at].take({op})
+        self.coordinators[at].take({operation(kind, fields)})
 
     def cut(self, at, asked):
         sender = self.coordinators[at]
-        operations = set(sender.taken)
-        if "from" in asked:
-            start, end = asked["from"], asked["to"]
-            if start > end or end > len(sender.sets):
-                return 4
-            if start < sender.floor:
-                return 5
-            operations = set().union(*sender.sets[start:end])
+        operations = set().union(*sender.sets[asked["from"]:asked["to"]]) if "from" in asked else set(sender.taken)
         sender.cuts += 1
         self.packets[asked["name"]] = Packet(at, sender.cuts, operations)
 
     def deliver(self, at, asked):
-        if asked not in self.packets:
-            return 9
         self.coordinators[at].take(self.packets[asked].operations)
 
     def trim(self, at, asked):
-        if not self.coordinators[at].floor <= asked <= len(self.coordinators[at].sets):
-            return 4
         self.coordinators[at].floor = asked
 
     def round(self, at, asked):
@@ -493,6 +519,84 @@ def packet_in(spelled):
     """The packet that the bytes spell, or None: there is one spelling only in each version."""
     packet = read_packet(spelled)
     return packet if packet and packed(packet, spelled[:4])[1] == spelled.hex() + "\n" else None
+
+
+class Fault(Exception):
+    """Bytes are no packet's: the place of the first fault."""
+
+    def __init__(self, place):
+        super().__init__(place)
+        self.place = place
+
+
+class Fields:
+    """Bytes that are read field by field."""
+
+    def __init__(self, spelled):
+        self.spelled, self.at = spelled, 0
+
+    def take(self, size, least=0, most=None):
+        """The number in the next field of so many bytes, if it is allowed."""
+        if len(self.spelled) < self.at + size:
+            raise Fault(len(self.spelled))
+        number = int.from_bytes(self.spelled[self.at:self.at + size], "big")
+        if number < least or most is not None and number > most:
+            raise Fault(self.at)
+        self.at += size
+        return number
+
+    def skip(self, *fields):
+        """Fields of so many bytes each, with their limits."""
+        for field in fields:
+            self.take(*field)
+
+    def rising(self, count, key, rest):
+        """So many records, whose keys rise."""
+        last = ()
+        for _ in range(count):
+            begin = self.at
+            found = tuple(self.take(*field) for field in key)
+            if found <= last:
+                raise Fault(begin)
+            last = found
+            rest()
+
+    def spec(self, version):
+        self.skip((8,), (1, *LIMITS["writer"]), (1, 0, 1), (16,), (4, *LIMITS["request"]))
+        if version == b"FDG2":
+            self.rising(self.take(1, 0, 4), [(16,)], lambda: self.take(4, 0, 10 ** 9))
+
+    def task(self, version):
+        self.skip((4,), (1, 0, 2))
+        if self.take(1, 0, 1):
+            self.spec(version)
+
+    def machine(self):
+        self.take(8)
+        parts = self.take(1, 1, 3)
+        if parts != 2:
+            self.skip((8,), (1, *LIMITS["writer"]), (1, 0, 1), (4, *LIMITS["slots"]), (4, *LIMITS["nic"]))
+        if parts != 1:
+            self.skip((8,), (4, *LIMITS["used"]))
+
+    def packet(self):
+        version = self.take(4, *(int.from_bytes(word, "big") for word in (b"FDG1", b"FDG2"))).to_bytes(4, "big")
+        self.skip((1, *LIMITS["coordinator"]), (8,))
+        self.rising(self.take(8), [(16,)], lambda: self.skip((8,), (1, *LIMITS["writer"]), (1, 0, 1), (4, *LIMITS["wait"]), (4, *LIMITS["preempt"])))
+        self.rising(self.take(8), [(16,)], lambda: self.task(version))
+        self.rising(self.take(8), [(16,)], self.machine)
+        self.rising(self.take(8), [(16,), (4,), (1, *LIMITS["coordinator"])], lambda: self.skip((16,), (8,)))
+        if self.at < len(self.spelled):
+            raise Fault(self.at)
+
+
+def fault_in(spelled):
+    """The place of the first fault of bytes that are no packet's, or None."""
+    try:
+        Fields(spelled).packet()
+    except Fault as fault:
+        return fault.place
+    return None
 
 
 def read_packet(spelled):

@@ -712,6 +712,150 @@ RELIEFS = [
     ('{"at":1,"tell":{"machine":{"id":"..00d","incarnation":1,"version":2,"writer":1,"up":false,"slots":10,"nic":9}}}', "ok"), (OVER, "ok"),
 ]
 
+# checks
+
+def checked(line):
+    """The line that checks another one, by the name of a step or as it stands."""
+    return '{"ask":"check","line":%s}' % STEPS.get(line, line)
+
+
+def foretold(number, cause):
+    """The answer to a check of a line that would be refused so."""
+    return "refused %d\n%s\nok" % (number, cause)
+
+
+def told(kind, **fields):
+    """A line that tells an operation with other fields than it mostly has."""
+    usual = {"job": {"id": "..001", "version": 1, "writer": 1, "withdrawn": False, "wait": 500, "preempt": 800},
+             "spec": {"id": "..011", "version": 1, "writer": 1, "withdrawn": False, "job": "..001", "request": 100},
+             "machine": {"id": "..00a", "incarnation": 1, "version": 1, "writer": 1, "up": True, "slots": 2, "nic": 1000},
+             "report": {"id": "..00a", "incarnation": 1, "number": 1, "used": 0},
+             "propose": {"id": "..011", "attempt": 0, "coordinator": 1, "machine": "..00a", "incarnation": 1}}[kind]
+    return json.dumps({"at": 1, "tell": {kind: {**usual, **fields}}})
+
+
+def taken(digits, at=1):
+    return '{"at":%d,"take":"%s"}' % (at, digits)
+
+
+def with_bytes(place, other):
+    """The packet's digits with other ones from a byte on."""
+    return ONE_OF_EACH[:2 * place] + other + ONE_OF_EACH[2 * place + len(other):]
+
+
+ZERO, MOST_COST, MOST_BANDWIDTH = "0" * 32, "3b9aca01", "000f4241"
+# a job, a task with a spec that prefers two machines, a machine with its state and a report, and two proposals for an attempt
+ONE_OF_EACH = "".join((
+    "46444732", "01", "0000000000000003",
+    "0000000000000001", ZERO[:-2] + "01", "0000000000000001", "01", "00", "000001f4", "00000320",
+    "0000000000000001", ZERO[:-2] + "11", "00000000", "00", "01", "0000000000000001", "01", "00", ZERO[:-2] + "01", "00000064",
+    "02", ZERO[:-2] + "0a", "00000001", ZERO[:-2] + "0b", "00000001",
+    "0000000000000001", ZERO[:-2] + "0a", "0000000000000001", "03", "0000000000000001", "01", "01", "00000002", "000003e8",
+    "0000000000000001", "00000000",
+    "0000000000000002", ZERO[:-2] + "11", "00000000", "01", ZERO[:-2] + "0a", "0000000000000001",
+    ZERO[:-2] + "11", "00000000", "02", ZERO[:-2] + "0b", "0000000000000001"))
+# digits of no packet, each with the byte where that is seen first
+NO_PACKETS = [
+    ("", 0), ("46", 1), ("46444732", 4), (ONE_OF_EACH[:200], 100), (ONE_OF_EACH[:-2], 316), (ONE_OF_EACH + "00", 317), (2 * ONE_OF_EACH, 317),
+    *((with_bytes(place, other), place) for place, other in (
+        (4, "00"), (4, "41"), (45, "00"), (45, "41"), (46, "02"), (47, MOST_COST), (51, MOST_COST), (83, "03"), (84, "02"), (93, "00"), (94, "02"),
+        (111, MOST_BANDWIDTH), (115, "05"), (132, MOST_COST), (136, ZERO[:-2] + "0a"), (152, MOST_COST), (188, "00"), (188, "04"), (197, "41"),
+        (198, "02"), (199, "00000000"), (199, "000003e9"), (203, MOST_BANDWIDTH), (215, MOST_COST), (247, "00"), (292, "41"))),
+    # a version that there is not is seen at its first byte, and a record that does not come after the last one too
+    (with_bytes(3, "30"), 0), (with_bytes(3, "33"), 0), (with_bytes(292, "01"), 272), (with_bytes(287, "1000000000" + "00"), 292),
+    (with_bytes(287, "10"), 272), (with_bytes(136, ZERO[:-2] + "09" + MOST_COST), 136),
+    # a second job, and its writer, are read where the tasks are
+    (with_bytes(20, "02"), 79)]
+NO_RANGE = [
+    ("job", "writer", (0, 65, 255), 1, 64), ("job", "wait", (1000000001, 4294967295), 0, 1000000000), ("job", "preempt", (1000000001,), 0, 1000000000),
+    ("spec", "writer", (0, 65), 1, 64), ("spec", "request", (1000001, 4294967295), 0, 1000000), ("machine", "writer", (0, 65), 1, 64),
+    ("machine", "slots", (0, 1001), 1, 1000), ("machine", "nic", (1000001,), 0, 1000000), ("report", "used", (1000000001,), 0, 1000000000),
+    ("propose", "coordinator", (0, 65), 1, 64)]
+PREFER_A, PREFER_B = ({"machine": "..00%s" % name, "credit": 1} for name in "ab")
+NO_PREFERENCES = [[PREFER_B, PREFER_A], [PREFER_A, PREFER_A], [{**PREFER_A, "credit": 1000000001}], [PREFER_A, {**PREFER_B, "credit": 4294967295}]]
+# of several fields that are beyond their ranges the first is named
+FIRST = [
+    (told("job", preempt=1000000001, wait=1000000001, writer=0), "writer must be from 1 to 64"),
+    (told("job", preempt=1000000001, wait=1000000001), "wait must be from 0 to 1000000000"),
+    (told("spec", prefer=NO_PREFERENCES[0], request=1000001, writer=65), "writer must be from 1 to 64"),
+    (told("spec", prefer=NO_PREFERENCES[0], request=1000001), "request must be from 0 to 1000000"),
+    (told("machine", nic=1000001, slots=0, writer=65), "writer must be from 1 to 64"), (told("machine", nic=1000001, slots=0), "slots must be from 1 to 1000")]
+NO_CHECKS = [
+    '{"ask":"check"}', '{"line":{"ask":"agree"}}', '{"ask":"check","line":1}', '{"ask":"check","line":null}', '{"ask":"check","line":true}',
+    '{"ask":"check","line":[]}', '{"ask":"check","line":[{"ask":"agree"}]}', '{"ask":"check","line":"{}"}', '{"ask":"check","line":""}',
+    '{"at":1,"ask":"check","line":{"ask":"agree"}}', '{"at":1,"ask":"check"}', '{"ask":"check","line":{"ask":"agree"},"more":1}',
+    '{"ask":"Check","line":{"ask":"agree"}}', '{"ask":["check"],"line":{"ask":"agree"}}', '{"ask":true,"line":{"ask":"agree"}}',
+    '{"ask":"agree","line":{"ask":"agree"}}', '{"check":{"ask":"agree"}}', '{"ask":"check","Line":{"ask":"agree"}}',
+    '{"ask":"check","line":{"ask":"agree"},"line":1}', '{"ask":"check","of":{"ask":"agree"}}', '{"ask":"check","line":{"ask":"agree"}', '{"ask":"check","line":{]}']
+NO_LINE = foretold(16, "the line is none that can be asked now, by its form or by a member")
+NO_DELTAS, NOT_NAMED = foretold(4, "there are no such deltas"), foretold(9, "no packet has this name")
+# what is asked of a coordinator, without its number
+AT_ANY = ['"tell":{"job":{"id":"..001","version":1,"writer":65,"withdrawn":false,"wait":0,"preempt":0}}', '"cut":{}', '"cut":{"from":9,"to":1}',
+          '"deliver":"none"', '"trim":9', '"news":true', '"news":true,"mine":true', '"take":"%s"' % ONE_OF_EACH, '"round":true', '"round":{}',
+          '"relieve":true', '"ask":"graph"', '"ask":"size"', '"ask":"list","of":"jobs"', '"ask":"next","job":"..001"', '"ask":"why","task":"..011"']
+# lines that are accepted by coordinators that were told nothing
+FINE = ['{"ask":"agree"}', '{"ask":"version"}', '{"renew":true}', *('{"at":2,%s}' % asked for asked in AT_ANY[1:2] + AT_ANY[5:]),
+        '{"at":1,"cut":{"from":0,"to":0}}', '{"at":1,"trim":0}', '{"at":1,"cut":{"name":"p"}}', told("spec", prefer=[PREFER_A, PREFER_B]),
+        *(told(kind, **{field: number}) for kind, field, _, *ends in NO_RANGE for number in ends)]
+CHECKS = [
+    # before the coordinators are listed
+    (checked('{"coordinators":[1,2]}'), "accepted\nok"), (checked('{"coordinators":[]}'), NO_LINE), (checked('{"coordinators":[1,1]}'), NO_LINE),
+    *((checked(line), NO_LINE) for line in ("J", '{"ask":"agree"}', '{"ask":"version"}', '{"renew":true}', '{"at":3,"trim":1}', '{}')),
+    (checked(checked("J")), "accepted\nok"), (checked('{"ask":"check","line":1}'), NO_LINE), *((line, "refusal 16") for line in NO_CHECKS),
+    ('{"coordinators":[1,2]}', "ok"), (checked('{"coordinators":[1,2]}'), NO_LINE), (checked('{"coordinators":[3]}'), NO_LINE),
+    # what is no check is refused as any other line, and what is checked may have any members, in any order, as a line has
+    *((line, "refusal 16") for line in NO_CHECKS), *((checked(line), NO_LINE) for line in ("Strange", "RoundOfNone", '{}', *NO_LINES)),
+    *((checked(line), NO_LINE) for line in NO_CHECKS[:-2]), ('{"line":{"ask":"agree"},"ask":"check"}', "accepted\nok"),
+    ('{"line":1,"ask":"list","ask":"check","line":{"ask":[],"ask":"agree"}}', "accepted\nok"), ('{"\\u0061sk":"ch\\u0065ck","line":{"ask":"agree"}}', "accepted\nok"),
+    *((checked(line), "accepted\nok") for line in FINE),
+    # a check of a check says nothing of the line that this one checks
+    *((checked(checked(line)), "accepted\nok") for line in ("J", "Strange", '{}', checked("Strange"))), (checked(checked("1")), NO_LINE),
+    (checked('{"ask":"check","line":{},"at":1}'), NO_LINE),
+    # fields of operations
+    *((checked(told(kind, **{field: number})), foretold(2, "%s must be from %d to %d" % (field, *ends))) for kind, field, numbers, *ends in NO_RANGE
+      for number in numbers),
+    *((checked(told("spec", prefer=prefer)), foretold(2, "prefer must list machines by rising id, with credits from 0 to 1000000000"))
+      for prefer in NO_PREFERENCES), *((checked(line), foretold(2, cause)) for line, cause in FIRST),
+    (checked(told("job", wait=4294967296, writer=0)), NO_LINE),
+    # a coordinator that is not listed comes before all but the form and the digits
+    *((checked('{"at":%d,%s}' % (at, asked)), foretold(8, "no coordinator has the number %d" % at)) for at in (0, 3, 255) for asked in AT_ANY),
+    (checked('{"at":256,"trim":9}'), NO_LINE), (checked('{"at":3,"trim":-1}'), NO_LINE), (checked(taken("464", at=3)), NO_LINE),
+    (checked(taken("46", at=3)), foretold(6, "the digits are no packet: see byte 1")),
+    # digits
+    *((checked(taken(digits)), NO_LINE) for digits in ("4", "4g", " 46", ONE_OF_EACH[:-1])), (checked('{"at":1,"take":7}'), NO_LINE),
+    *((checked(taken(digits)), foretold(6, "the digits are no packet: see byte %d" % place)) for digits, place in NO_PACKETS),
+    *((taken(digits), "refusal 6") for digits, _ in NO_PACKETS[-4:]), (checked(taken(ONE_OF_EACH.upper())), "accepted\nok"),
+    # there are no deltas, and no packets with names
+    *((checked(line), NO_DELTAS) for line in ("Trim1", "CutFirst", "CutBackwards", '{"at":1,"cut":{"from":1,"to":0}}')), (checked("GetFirst"), NOT_NAMED),
+    # of all this nothing happened, and no packet was cut
+    (SIZE, sized(*NOTHING_KNOWN)), (SIZE.replace("1", "2"), sized(*NOTHING_KNOWN)), (checked('{"at":2,"news":true}'), "accepted\nok"),
+    ('{"at":2,"news":true}', "46444732020000000000000001" + 2 * ZERO + "\nok"),
+    # news that are checked are news afterwards
+    (told("job").replace("1", "2", 1), "ok"), *((checked('{"at":2,%s}' % asked), "accepted\nok") for asked in AT_ANY[5:7]),
+    *(('{"at":2,%s}' % asked, "4644473202000000000000000%d" % place + ONE_OF_EACH[26:110] + ZERO[:16] + ZERO + "\nok")
+      for place, asked in enumerate(AT_ANY[5:7], 2)),
+    # what was trimmed, what was named
+    *((step, "ok") for step in ("J", "A", "T")), (checked("CutFirst"), "accepted\nok"), (checked("Trim1"), "accepted\nok"), ("Trim1", "ok"),
+    (checked("CutFirst"), foretold(5, "deltas below 1 are trimmed")), ("CutFirst", "refusal 5"), (checked("CutFour"), NO_DELTAS), (checked("Trim9"), NO_DELTAS),
+    (checked('{"at":1,"trim":0}'), NO_DELTAS), (checked("CutLater"), "accepted\nok"), ("Trim2", "ok"),
+    (checked("CutLater"), foretold(5, "deltas below 2 are trimmed")), (checked('{"at":2,"deliver":"none"}'), NOT_NAMED),
+    (checked("CutNone"), "accepted\nok"), (checked('{"at":2,"deliver":"none"}'), NOT_NAMED),
+    ("CutNone", "46444732010000000000000001" + 2 * ZERO + "\nok"), (checked("CutNone"), NO_LINE), (checked('{"at":3,"cut":{"name":"none"}}'), NO_LINE),
+    (checked('{"at":2,"deliver":"none"}'), "accepted\nok"), (checked('{"at":2,"cut":{"name":"none","from":9,"to":1}}'), NO_LINE),
+    # a round that is checked places nothing, and what it would place may be asked for afterwards
+    *((checked(line), "accepted\nok") for line in ("Round", "RoundOf2OneEach", "Relieve", "Round")), ('{"at":1,"ask":"winners"}', "ok"),
+    ("Round", "place ..011 ..00a 1 accepted\nok"), ('{"at":1,"ask":"end"}', "end 2 4\nok"),
+    # what is spent
+    (JOB_OF % MOST_VERSION, "ok"), (checked(NEXT_JOB % "001"), foretold(14, "the known version is 18446744073709551615, the greatest")),
+    (checked(NEXT_JOB % "002"), "accepted\nok"), (A_OF % (MOST_VERSION, MOST_VERSION), "ok"),
+    (checked(NEXT_A % MOST_VERSION), foretold(14, "the known version is 18446744073709551615, the greatest")), (checked(NEXT_A % 1), "accepted\nok"),
+    ("Last", "ok"), (checked(NEXT_TASK % "011"), foretold(15, "the known attempt is 4294967295, the greatest")),
+    (checked(NEXT_TASK % "012"), "accepted\nok"), (NEXT_TASK % "011", "refusal 15"),
+    # a renewal that is checked is none
+    (checked('{"renew":true}'), "accepted\nok"), (checked('{"renew":false}'), NO_LINE), ('{"at":1,"ask":"end"}', "end 2 7\nok"), (checked("CutNone"), NO_LINE),
+    ('{"renew":true}', "ok"), (checked("CutNone"), NO_DELTAS), (checked('{"at":2,"deliver":"none"}'), NOT_NAMED), ('{"at":1,"ask":"end"}', "end 0 1\nok"),
+]
+
 
 def expanded(text):
     """The text with each `..` written out; an end of a range is no id."""
@@ -748,7 +892,8 @@ def runs(seen):
 
 def lines(seen):
     """Streams of lines that were worked out by hand."""
-    for name, stream in (("lines", LINES), ("sizes", SIZES), ("shares", SHARES), ("preempts of shares", PREEMPTS), ("reliefs", RELIEFS)):
+    for name, stream in (("lines", LINES), ("sizes", SIZES), ("shares", SHARES), ("preempts of shares", PREEMPTS), ("reliefs", RELIEFS),
+                         ("checks", CHECKS)):
         text = expanded("".join(STEPS.get(line, line) + "\n" for line, _ in stream)).encode()
         status, out, err = seen("follow", text.decode())
         found, rest = followed.answers_in(out)
@@ -869,13 +1014,20 @@ def life(seed):
     yield from (line for at in (1, 2) for line in asked_of(chance, at, True))
 
 
+def checked_life(seed):
+    """The text of these lines, of which half, but for questions of lists and sizes, are checked before."""
+    chance = random.Random("checked %d" % seed)
+    text = "".join(json.dumps(line) + "\n" for line in life(seed)).encode()
+    return followed.with_checks(text, lambda line: not re.search(b'"(list|size)"', line) and chance.random() < 0.5)
+
+
 def lives(seen):
     """Lists and sizes behind each line of drawn lives, and next versions and attempts, are what is worked out."""
     shapes, sizes = set(), set()
     for seed in range(LIVES):
-        text = "".join(json.dumps(line) + "\n" for line in life(seed))
-        status, out, err = seen("follow", text)
-        why = followed.wrong(text.encode(), out)
+        text = checked_life(seed)
+        status, out, err = seen("follow", text.decode())
+        why = followed.wrong(text, out)
         yield "life %d: %s" % (seed, why), (status, err, why) == (0, b"", None)
         shapes |= set(map(shape, out.decode().splitlines()))
         sizes |= set(re.findall(r"^([a-z]+) [1-9][0-9]*$", out.decode(), re.MULTILINE))
@@ -885,7 +1037,7 @@ def lives(seen):
 
 def shape(line):
     """A line without its ids and numbers, but for that of a refusal."""
-    return line if line.startswith("refusal") else re.sub(r"\b[0-9]+\b", "N", re.sub(r"\S{8}(-\S{4}){3}-\S{12}", "ID", line))
+    return line if line.startswith("refus") else re.sub(r"\b[0-9]+\b", "N", re.sub(r"\S{8}(-\S{4}){3}-\S{12}", "ID", line))
 
 
 def scripts(seen):

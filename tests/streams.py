@@ -82,7 +82,8 @@ def scripted(program, count=12):
             given = json.loads(text)
             stream = [{"coordinators": given["coordinators"]}, *given["steps"]]
             end = asks(given["coordinators"])
-            yield judged("%s %d" % (name, seed), program, lines(*stream, *end, *explains(given["coordinators"]), *records(given["coordinators"])))
+            more = lines(*end, *explains(given["coordinators"]), *records(given["coordinators"]))
+            yield judged("%s %d" % (name, seed), program, half_checked(lines(*stream), name, seed) + more)
             if name in ("gossip", "tells", "corners"):
                 yield "ends of %s %d" % (name, seed), ends_alike(program, text.encode(), stream + end)
 
@@ -295,14 +296,38 @@ def large(program):
 
 # what lines do to each other
 
+def half_checked(text, *seed):
+    """The stream, of which half of the lines are checked before they are sent."""
+    chance = random.Random("checked %s" % (seed,))
+    return followed.with_checks(text, lambda _line: chance.random() < 0.5)
+
+
 def weaves(program, count=24):
-    """Drawn streams of all kinds of lines, renewed after so many entries too: what is answered is as it is to be."""
+    """Drawn streams of all kinds of lines, of which half are checked before, renewed after so many entries too: what is answered is as it
+    is to be."""
     for seed in range(count):
-        text = woven(seed, strange=0.1)
+        text = half_checked(woven(seed, strange=0.1), "woven", seed)
         for renew_after in (None, 5) if seed % 4 else (None, 1, 2, 3, 5, 17, 1000000):
             yield judged("woven %d, renewed after %s" % (seed, renew_after), program, text, renew_after)
     yield judged("every kind", program, every_kind())
     yield judged("every kind, renewed after 5", program, every_kind(), 5)
+
+
+def checks(program):
+    """Each line of a stream is checked before it is sent: what was said comes, and nothing else changes, also if each line renews."""
+    said, many = set(), [("woven %d" % seed, woven(seed, strange=0.3)) for seed in range(8)]
+    for name, text in ("every kind", every_kind()), ("short", short()), *many:
+        for words in [], ["--renew-after", "1"], ["--renew-after", "3"]:
+            plain, checked = answers(program, text, *words), followed.with_checks(text)
+            found, given = answers(program, checked, *words), followed.lines_of(checked)
+            is_one = [line == followed.CHECK % following for line, following in zip(given, given[1:])] + [False]
+            others = [answer for answer, is_check in zip(found, is_one) if not is_check]
+            yield "%s with checks, %s: as without" % (name, words), len(given) == len(found) and others == plain
+            broken = next(filter(None, map(followed.foretold_of, given, given[1:], found, found[1:])), None)
+            yield "%s with checks, %s: what was said comes: %s" % (name, words, broken), broken is None
+            said |= {answer.split(b"\n")[0] for answer, is_check in zip(found, is_one) if is_check}
+    wanted = {b"accepted", *(b"refused %d" % number for number in (2, 4, 6, 8, 9, 16))}
+    yield "what checks say, but for %s" % (wanted - said or "nothing"), said == wanted
 
 
 # lines that are refused at a coordinator 7077 that is listed, if they do not open a stream
@@ -393,6 +418,8 @@ def hostile_lines(draw, count):
     given += [draw.spelled({"at": 1, "tell": op}).encode() for op in (draw.cluster() if draw.odds() < 0.7 else ())]
     while len(given) < count:
         tree, chosen = hostile_value(draw, names, packets), draw.odds()
+        if draw.odds() < 0.05:
+            tree = {"ask": "check", "line": tree}
         for _ in range(draw.one_of((1, 1, 2)) if chosen < 0.3 else 0):
             tree = draw.spoiled(tree)
         text = draw.spelled(tree, 0.02 if chosen < 0.1 else 0.0).encode("utf-8", "surrogatepass")
@@ -418,11 +445,11 @@ def hostile_value(draw, names, packets):
 
 
 def hostile_streams(program, count=LINES, each=100):
-    """Drawn lines in streams of a hundred: each is answered as it is to be, and nothing stops the stream."""
+    """Drawn lines in streams of a hundred, of which half are checked before: each is answered as it is to be, and nothing stops the stream."""
     for seed in range(-(-count // each)):
         draw = fuzzed.Draw(random.Random("hostile lines %d" % seed))
         renew_after = draw.one_of((None, None, 3, 40))
-        yield judged("hostile lines %d" % seed, program, hostile_lines(draw, each), renew_after)
+        yield judged("hostile lines %d" % seed, program, half_checked(hostile_lines(draw, each), "hostile", seed), renew_after)
 
 
 # memory
@@ -435,6 +462,7 @@ def kept(program, allocator):
     asked = [line(value) for value in asks([1, 2])]
     for name, words, kind in (("refused lines", [], lambda n: strange[n % len(strange)] % n),
                               ("questions", [], lambda n: asked[n % len(asked)]),
+                              ("checks", [], lambda n: followed.CHECK % (strange[n % 4] % n)),
                               ("tells", ["--renew-after", "50"], lambda n: line(tell("report", number=n, id=MACHINE[:-1] + "%x" % (n % 5)))),
                               ("packets", ["--renew-after=50"], lambda n: b'{"at":1,"cut":{"name":"%08d"}}' % n),
                               ("renewals", [], lambda n: b'{"renew":true}')):
@@ -479,7 +507,7 @@ def wrong_without_memory(text, found, starts):
 
 
 GROUPS = {"cases": cases, "scripted": scripted, "plans": plans, "day": day, "by_hand": by_hand, "packet_forms": packet_forms,
-          "pieces": pieces, "sizes": sizes, "weaves": weaves, "refused_between": refused_between, "renewals": renewals, **piped.GROUPS,
+          "pieces": pieces, "sizes": sizes, "weaves": weaves, "checks": checks, "refused_between": refused_between, "renewals": renewals, **piped.GROUPS,
           "hostile": hostile_streams, "kept": kept, "memory": memory}
 
 

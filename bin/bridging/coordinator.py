@@ -24,6 +24,7 @@ PORTION = 1 << 20
 # the follower renews itself when its history is full, which would change the numbers of deltas: so it is never let
 # come there
 FULL_HISTORY, MOST_ENTRIES = 1000000, 900000
+CHECK_OF_NO_KIND = b'{"ask":"check","line":{}}'
 
 
 def take_line(number: int, packet: bytes) -> bytes:
@@ -75,8 +76,9 @@ class Coordinator:
 
     def _tell(self, lines: Sequence[bytes], kinds: Sequence[Kind], again: list[bytes]) -> list[bytes]:
         """The answers to lines of which only the last may be other than what is told. A line that asks for what the bridge
-        does itself is refused here, as one of no kind."""
-        heard = iter(self._follower.ask([line for line, kind in zip(lines, kinds) if kind is not Kind.OURS]))
+        does itself is refused here, as one of no kind, and a check of it is answered as one of a line of no kind."""
+        asked = [CHECK_OF_NO_KIND if kind is Kind.CHECK_OF_OURS else line for line, kind in zip(lines, kinds) if kind is not Kind.OURS]
+        heard = iter(self._follower.ask(asked))
         answers = [NO_LINE if kind is Kind.OURS else next(heard) for kind in kinds]
         # questions add no entry, but it does no harm to count them
         self._entries += sum(map(is_accepted, answers))

@@ -21,6 +21,7 @@ class Kind(enum.Enum):
     CUT = "a cut of all that is known, which adds no delta, and takes the number of a packet"
     QUESTION = "a question, which adds nothing"
     OURS = "what the bridge does itself, and nobody else may"
+    CHECK_OF_OURS = "whether such a line would be accepted: it is refused"
     STRANGE = "nothing, so the follower refuses it"
 
 
@@ -35,12 +36,20 @@ DECODER = json.JSONDecoder(parse_int=str, parse_float=str)
 def kind_of(line: bytes) -> Kind:
     """The kind of a line. What is strange here is refused by the follower, which takes fewer texts for JSON."""
     try:
-        value = DECODER.decode(line.decode())
+        return kind_of_value(DECODER.decode(line.decode()))
     except (ValueError, RecursionError):
         return Kind.STRANGE
-    others = value.keys() - {"at"} if isinstance(value, dict) else set()
+
+
+def kind_of_value(value: object) -> Kind:
+    """The kind of a line of the value."""
+    if not isinstance(value, dict):
+        return Kind.STRANGE
+    others = value.keys() - {"at"}
     if others in QUESTIONS:
         return Kind.QUESTION
+    if others == {"ask", "line"}:
+        return Kind.CHECK_OF_OURS if len(value) == 2 and kind_of_value(value["line"]) is Kind.OURS else Kind.QUESTION
     if others == {"news", "mine"}:
         return Kind.OURS
     if len(others) != 1:
