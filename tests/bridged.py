@@ -102,7 +102,7 @@ LINES = [
     (b'{"at":1,"round":true}', b"ok\n"), (b'{"at":1,"ask":"stops"}', b"ok\n"), (b'{"at":1,"ask":"end"}', b"end 0 1\nok\n"),
     *((b'{"at":1,"round":%s}' % share, b"ok\n") for share in (b"{}", b'{"writers":[1]}', b'{"each":2,"writers":[1,3]}')),
     (b'{"at":1,"round":{"writers":[]}}', b"refusal 16\n"), (b'{"at":1,"round":{"each":0}}', b"refusal 16\n"),
-    (b'{"at":2,"round":{}}', b"refusal 8\n"), (b'{"at":1,"ask":"size"}', b"limit 1000000\nfirst 0\nnext 4\nok\n"), (b'{"at":1,"ask":"size","of":"jobs"}', b"refusal 16\n"),
+    (b'{"at":2,"round":{}}', b"refusal 8\n"), (b'{"at":1,"ask":"size"}', b"limit 1000000\nfirst 0\nnext 4\npacket 45\nok\n"), (b'{"at":1,"ask":"size","of":"jobs"}', b"refusal 16\n"),
     (b'{"at":1,"ask":"why","task":"%s"}' % UNKNOWN, b"task %s is not known\nok\n" % UNKNOWN),
     (b'{"at":1,"ask":"why","task":"7"}', b"refusal 16\n"),
     # what graphs do not show: a job without tasks, a task without a spec, and a machine without a state

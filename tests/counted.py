@@ -70,21 +70,36 @@ def stays(program):
     yield "a Full packet of 20,000 tasks round 8 coordinators leaves %d bytes, less than two copies" % stayed, stayed < 2 * PAIR * count
 
 
-def allocations(allocator, program, lines):
-    """How many allocations the last line of a stream makes."""
+def allocations(allocator, program, lines, field="count"):
+    """How many allocations the last line of a stream makes, or another count."""
     counts = []
     for given in lines, lines[:-1]:
         (status, _, err), numbers = allocator.run(program, ["follow"], "".join(json.dumps(line) + "\n" for line in given).encode())
         assert status == 0, err
-        counts.append(numbers["count"])
+        counts.append(numbers[field])
     return counts[0] - counts[1]
+
+
+def cluster(tasks):
+    """The lines of a stream that tell a coordinator ten machines and so many tasks."""
+    machine = {"incarnation": 1, "version": 1, "writer": 1, "up": True, "slots": 20, "nic": 100000}
+    machines = [{"at": 1, "tell": {"machine": {**machine, "id": drawn.unique(500 + number)}}} for number in range(10)]
+    return [{"coordinators": [1]}, {"at": 1, "tell": job()}, *machines, *told(1, 0, tasks)]
+
+
+def kept(allocator, program):
+    """That a size of a stream makes the tally once: what a second one asks for does not grow with the cluster."""
+    look = {"at": 1, "ask": "size"}
+    sizes = [[allocations(allocator, program, [*cluster(tasks), {"at": 1, "round": True}, *[look] * times], "asked") for times in (1, 2)]
+             for tasks in (100, 1000)]
+    (small, again), (large, later) = sizes
+    yield "a size after a round of 100 and of 1,000 tasks asks for %d and %d bytes, and again for %d and %d" % (small, large, again, later), (
+        large - small > 20000 and abs(later - again) < 1024)
 
 
 def once(allocator, program):
     """That a stream decides a round once, and joins a cut once: by what these took when it made them twice."""
-    machine = {"incarnation": 1, "version": 1, "writer": 1, "up": True, "slots": 20, "nic": 100000}
-    machines = [{"at": 1, "tell": {"machine": {**machine, "id": drawn.unique(500 + number)}}} for number in range(10)]
-    known = [{"coordinators": [1]}, {"at": 1, "tell": job()}, *machines, *told(1, 0, 100)]
+    known = cluster(100)
     made = allocations(allocator, program, [*known, {"at": 1, "round": True}])
     yield "a round of a stream that places 100 tasks makes %d allocations, where it made %d" % (made, ROUND_TWICE), 0 < 4 * made <= 3 * ROUND_TWICE
     made = allocations(allocator, program, [*known, {"at": 1, "news": True}])

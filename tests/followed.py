@@ -420,9 +420,11 @@ class Stream:
         return "".join({"graph": reference.graph, "winners": reference.winners, "list": reference.listing, "over": reference.over}[topic](known))
 
     def size(self, at, known):
-        """How much the coordinator knows, and what it keeps of how it came to know it."""
+        """How much the coordinator knows, what it keeps of how it came to know it, and how large a packet of all of it is."""
         coordinator = self.world.coordinators[at]
-        kept = {"entries": self.entries[at], "limit": MOST_ENTRIES, "first": coordinator.floor, "next": len(coordinator.sets)}
+        whole = reference.packed(reference.Packet(at, coordinator.cuts + 1, coordinator.taken))[1]
+        kept = {"entries": self.entries[at], "limit": MOST_ENTRIES, "first": coordinator.floor, "next": len(coordinator.sets),
+                "packet": len(whole) // 2}
         return "".join("%s %d\n" % line for line in {**reference.sizes(known), **kept}.items())
 
     def why(self, at, task, seen):

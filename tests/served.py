@@ -581,12 +581,12 @@ LINES = [
 ]
 
 
-SIZED = "jobs machines tasks proposals waiting held over open closed requested reported spare entries limit first next".split()
+SIZED = "jobs machines tasks proposals waiting held over open closed requested reported spare entries limit first next packet".split()
 
 
-def sized(*numbers, entries=0, first=0, last=0):
+def sized(*numbers, entries=0, first=0, last=0, packet=45):
     """The answer to a question of size, with the numbers of what is known."""
-    return "".join("%s %d\n" % line for line in zip(SIZED, (*numbers, entries, 1000000, first, last))) + "ok"
+    return "".join("%s %d\n" % line for line in zip(SIZED, (*numbers, entries, 1000000, first, last, packet))) + "ok"
 
 
 SIZE = '{"at":1,"ask":"size"}'
@@ -595,28 +595,28 @@ SIZES = [
     (SIZE, "refusal 16"), ('{"coordinators":[2,1]}', "ok"), (SIZE, sized(*NOTHING_KNOWN)), ('{"ask":"size","at":2}', sized(*NOTHING_KNOWN)),
     ('{"at":3,"ask":"size"}', "refusal 8"),
     # a task that is told to be done is no live one without a spec, and a machine that nothing but a report is known of is closed
-    ("TDone", "ok"), ("Used40", "ok"), (SIZE, sized(0, 1, 1, 0, 0, 0, 1, 0, 1, 0, 0, 0, entries=2, last=2)),
-    ("TAgain", "ok"), ("J", "ok"), ("A", "ok"), (SIZE, sized(1, 1, 1, 0, 0, 0, 1, 1, 0, 0, 40, 960, entries=5, last=5)),
-    ("T", "ok"), ("J", "ok"), (SIZE, sized(1, 1, 1, 0, 1, 0, 0, 1, 0, 0, 40, 960, entries=7, last=7)),
+    ("TDone", "ok"), ("Used40", "ok"), (SIZE, sized(0, 1, 1, 0, 0, 0, 1, 0, 1, 0, 0, 0, entries=2, last=2, packet=104)),
+    ("TAgain", "ok"), ("J", "ok"), ("A", "ok"), (SIZE, sized(1, 1, 1, 0, 0, 0, 1, 1, 0, 0, 40, 960, entries=5, last=5, packet=156)),
+    ("T", "ok"), ("J", "ok"), (SIZE, sized(1, 1, 1, 0, 1, 0, 0, 1, 0, 0, 40, 960, entries=7, last=7, packet=187)),
     # proposals are counted for each attempt, and for each coordinator once
-    ("OnA", "ok"), ("OnB", "ok"), ("OnB", "ok"), (SIZE, sized(1, 1, 1, 2, 1, 0, 0, 1, 0, 0, 40, 960, entries=10, last=10)),
-    ('{"at":1,"round":{"writers":[2]}}', "ok"), (SIZE, sized(1, 1, 1, 2, 1, 0, 0, 1, 0, 0, 40, 960, entries=11, last=11)),
+    ("OnA", "ok"), ("OnB", "ok"), ("OnB", "ok"), (SIZE, sized(1, 1, 1, 2, 1, 0, 0, 1, 0, 0, 40, 960, entries=10, last=10, packet=277)),
+    ('{"at":1,"round":{"writers":[2]}}', "ok"), (SIZE, sized(1, 1, 1, 2, 1, 0, 0, 1, 0, 0, 40, 960, entries=11, last=11, packet=277)),
     ('{"at":1,"round":{"writers":[1]}}', "place ..011 ..00a 1 accepted\nok"),
-    (SIZE, sized(1, 1, 1, 3, 0, 1, 0, 1, 0, 100, 40, 900, entries=12, last=12)),
-    ("U500", "ok"), ("B", "ok"), (SIZE, sized(1, 2, 2, 3, 1, 1, 0, 2, 0, 100, 40, 1900, entries=14, last=14)),
-    ("Used950", "ok"), (SIZE, sized(1, 2, 2, 3, 1, 1, 0, 2, 0, 100, 950, 1050, entries=15, last=15)),
+    (SIZE, sized(1, 1, 1, 3, 0, 1, 0, 1, 0, 100, 40, 900, entries=12, last=12, packet=322)),
+    ("U500", "ok"), ("B", "ok"), (SIZE, sized(1, 2, 2, 3, 1, 1, 0, 2, 0, 100, 40, 1900, entries=14, last=14, packet=418)),
+    ("Used950", "ok"), (SIZE, sized(1, 2, 2, 3, 1, 1, 0, 2, 0, 100, 950, 1050, entries=15, last=15, packet=418)),
     # what has too great a load has nothing to spare
-    ("Used1001", "ok"), (SIZE, sized(1, 2, 2, 3, 1, 1, 0, 2, 0, 100, 1001, 1000, entries=16, last=16)),
+    ("Used1001", "ok"), (SIZE, sized(1, 2, 2, 3, 1, 1, 0, 2, 0, 100, 1001, 1000, entries=16, last=16, packet=418)),
     # what is refused or asked adds no entry; cuts, news and trims add one and no delta, and own news that there are none add none
-    ("Trim9", "ok"), (SIZE, sized(1, 2, 2, 3, 1, 1, 0, 2, 0, 100, 1001, 1000, entries=17, first=9, last=16)),
+    ("Trim9", "ok"), (SIZE, sized(1, 2, 2, 3, 1, 1, 0, 2, 0, 100, 1001, 1000, entries=17, first=9, last=16, packet=418)),
     ("Trim1", "refusal 4"), ("GetA", "refusal 9"), ("NoSlots", "refusal 2"), ('{"at":1,"ask":"end"}', "end 9 16\nok"),
     ('{"at":2,"news":true,"mine":true}', "ok"), (SIZE.replace("1", "2"), sized(*NOTHING_KNOWN)),
-    (SIZE, sized(1, 2, 2, 3, 1, 1, 0, 2, 0, 100, 1001, 1000, entries=17, first=9, last=16)),
+    (SIZE, sized(1, 2, 2, 3, 1, 1, 0, 2, 0, 100, 1001, 1000, entries=17, first=9, last=16, packet=418)),
     # a machine that is lost, or down, has reported nothing and has nothing to spare, and its tasks wait
-    ("Lost", "ok"), (SIZE, sized(1, 2, 2, 3, 2, 0, 0, 1, 1, 0, 0, 1000, entries=18, first=9, last=17)),
-    ("TGone", "ok"), (SIZE, sized(1, 2, 2, 3, 1, 0, 1, 1, 1, 0, 0, 1000, entries=19, first=9, last=18)),
-    ("JGone", "ok"), (SIZE, sized(1, 2, 2, 3, 0, 0, 2, 1, 1, 0, 0, 1000, entries=20, first=9, last=19)),
-    ('{"renew":true}', "ok"), (SIZE, sized(1, 2, 2, 3, 0, 0, 2, 1, 1, 0, 0, 1000, entries=1, last=1)),
+    ("Lost", "ok"), (SIZE, sized(1, 2, 2, 3, 2, 0, 0, 1, 1, 0, 0, 1000, entries=18, first=9, last=17, packet=400)),
+    ("TGone", "ok"), (SIZE, sized(1, 2, 2, 3, 1, 0, 1, 1, 1, 0, 0, 1000, entries=19, first=9, last=18, packet=400)),
+    ("JGone", "ok"), (SIZE, sized(1, 2, 2, 3, 0, 0, 2, 1, 1, 0, 0, 1000, entries=20, first=9, last=19, packet=400)),
+    ('{"renew":true}', "ok"), (SIZE, sized(1, 2, 2, 3, 0, 0, 2, 1, 1, 0, 0, 1000, entries=1, last=1, packet=400)),
     (SIZE.replace("1", "2"), sized(*NOTHING_KNOWN, entries=1, last=1)),
 ]
 

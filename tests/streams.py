@@ -143,7 +143,7 @@ def day(program):
 
 WHOSE = b'"%s"' % TASK.encode()
 EMPTY_SIZE = (b"jobs 0\nmachines 0\ntasks 0\nproposals 0\nwaiting 0\nheld 0\nover 0\nopen 0\nclosed 0\nrequested 0\nreported 0\nspare 0\n"
-              b"entries 0\nlimit 1000000\nfirst 0\nnext 0\nok\n")
+              b"entries 0\nlimit 1000000\nfirst 0\nnext 0\npacket 45\nok\n")
 STRANGE = [
     b"", b" ", b"null", b"[]", b"{}", b"7", b"x", b'"ok"', b"ok", b'{"coordinators":[1]}', b'{"coordinators":[1,2]}',
     b'{"renew":false}', b'{"renew":1}', b'{"renew":"true"}', b'{"renew":true,"at":1}', b'{"renew":true,"more":1}',
@@ -290,6 +290,8 @@ def large(program):
     wanted = [("".join(text(known)) + "ok\n").encode() for text in (reference.graph, reference.winners, reference.listing)]
     yield "a cluster, told", found[:-5] == [b"ok\n"] * (len(script["steps"]) + 1) and found[-4:-1] == wanted
     digits = digits_of(found[-5])
+    sized = answers(program, lines(OPEN, {"at": 1, "take": digits}, {"at": 1, "ask": "size"}))[2]
+    yield "the size of that packet, %d digits: %r" % (len(digits), sized[-30:]), sized.endswith(b"\npacket %d\nok\n" % (len(digits) // 2))
     passed = answers(program, lines(OPEN, {"at": 1, "take": digits}, *last))
     yield "a cluster, in a packet of %d digits" % len(digits), passed[2:-1] == wanted
 

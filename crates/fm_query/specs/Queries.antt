@@ -3,7 +3,10 @@ use Rattle.std.specs.Prelude.{◌≡◌, ◌⊎◌, ℕ, List, length, Bool, fal
 use Rattle.fm_records.specs.declared.refusal.Refusal.{Refusal}
 use Rattle.fm_records.specs.declared.refusal.Refusal.TheVariants.{OutOfMemory, NoCoordinator, NoPacket}
 use Rattle.fm_records.specs.Know.{table_of}
-use Rattle.fm_coord.specs.Events.{Replica}
+use Rattle.fm_wire.specs.Grammar.{packet_size}
+use Rattle.fm_coord.specs.declared.entry.Range.TheVariants.{Full}
+use Rattle.fm_coord.specs.Events.{Replica, packet_of}
+use Rattle.fm_coord.specs.Replays.{seen_packet}
 use Rattle.fm_world.specs.Represents.{Kept, WorldRepresents}
 use Rattle.fm_world.specs.Worlds.{WorldOfSets, with_number}
 use Rattle.fm_question.specs.declared.question.Question.{Question}
@@ -22,6 +25,10 @@ use Rattle.fm_query.specs.QueryTexts.{network_of, graph_of, winners_of, differen
 abbrev pub ForEachWorld : Kept → (WorldOfSets → Type 0) → Type 0
 ForEachWorld kept Holds = (w : WorldOfSets) → WorldRepresents kept w → Holds w
 
+-- how many bytes the replica's next packet has, if it is one of all that it received
+abbrev pub full_size : Replica → ℕ
+full_size r = packet_size (seen_packet (packet_of r Full))
+
 -- the text answers a question to the replica, by what it received
 abbrev pub AnswersTo : Question → Replica → List ℕ → Type 0
 AnswersTo Graph r text = text ≡ graph_of r
@@ -34,7 +41,7 @@ AnswersTo (Why task) r text = IsReasonsText (table_of r.taken) task text
 AnswersTo (Listed listing) r text = text ≡ list_text listing (table_of r.taken)
 AnswersTo (Next subject) r text = IsNextText (table_of r.taken) subject text
 AnswersTo Over r text = text ≡ over_text (table_of r.taken)
-AnswersTo Size r text = text ≡ size_text (table_of r.taken) (length r.steps) r.limit r.floor (length r.buffer)
+AnswersTo Size r text = text ≡ size_text (table_of r.taken) (length r.steps) r.limit r.floor (length r.buffer) (full_size r)
 
 -- what is asked of is there, and the text answers the query
 abbrev pub IsText : Query → WorldOfSets → List ℕ → Type 0

@@ -88,6 +88,7 @@ history_lines entries limit first next =
     size_line (codes "entries") entries ++ (size_line (codes "limit") limit
     ++ (size_line (codes "first") first ++ size_line (codes "next") next))
 
--- how much a coordinator knows, and how long its history is
-abbrev pub size_text : Table → ℕ → ℕ → ℕ → ℕ → List ℕ
-size_text k entries limit first next = known_size_text k ++ history_lines entries limit first next
+-- how much a coordinator knows, how long its history is, and how many bytes a packet of all that it knows has
+abbrev pub size_text : Table → ℕ → ℕ → ℕ → ℕ → ℕ → List ℕ
+size_text k entries limit first next packet =
+    known_size_text k ++ (history_lines entries limit first next ++ size_line (codes "packet") packet)

@@ -53,7 +53,8 @@ pub struct QueryAnswer {
 /// AttemptsSpent if there is no next version or attempt, which only `Next` asks for; else refused only if memory runs
 /// out. Knowledge, deltas and histories are unchanged, also after a refusal; `Graph` leaves the coordinator's network
 /// fresh. The cost is that of building the network (`Graph`, if it is stale), of solving it, of one walk over what is
-/// known, or of a look-up (`End`, `Next`).
+/// known, or of a look-up (`End`, `Next`). `Size` has the coordinator make its tally, which it keeps until something is
+/// told.
 pub fn ask<N: NetKeeper>(
     alloc: Global,
     world: &mut World<N>,
@@ -97,7 +98,10 @@ fn about<N: NetKeeper>(
         Question::Why(task) => reasons(alloc, world, at, task),
         Question::List(listing) => list(alloc, world, at, listing),
         Question::Next(subject) => next(alloc, world, at, subject),
-        Question::Size => size(alloc, world, at),
+        Question::Size => {
+            world.refresh_tally(at.value());
+            size(alloc, world, at)
+        }
         Question::Over => over(alloc, world, at),
     }
 }

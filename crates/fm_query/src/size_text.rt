@@ -1,4 +1,5 @@
-//! How much a coordinator knows, as lines: records, where tasks and machines are, bandwidth, and how long its history is.
+//! How much a coordinator knows, as lines: records, where tasks and machines are, bandwidth, how long its history is, and
+//! how large a packet of all that it knows would be.
 //!
 //! Each number is exact: none stops at a greatest value.
 
@@ -12,8 +13,11 @@ ghost use Rattle.fm_query.specs.SizeText.{held_request, open_count, closed_count
 ghost use Rattle.fm_query.specs.SizeText.{size_line, record_lines, place_lines, bandwidth_lines, known_size_text};
 ghost use Rattle.fm_query.specs.SizeText.{history_lines, size_text};
 ghost use Rattle.fm_delta.specs.Deltas.{end_of};
+ghost use Rattle.fm_wire.specs.Grammar.{packet_size as size_of_packet};
+ghost use Rattle.fm_coord.specs.States.{cut_packet};
 
 use fm_coord::coordinator::Coordinator;
+use fm_coord::entry::Range;
 use fm_know::facts::request_in;
 use fm_know::knowledge::Knowledge;
 use fm_policy::keeper::NetKeeper;
@@ -21,6 +25,7 @@ use fm_records::ids::{MachineId, TaskId};
 use fm_records::records::TaskRec;
 use fm_records::refusal::Refusal;
 use fm_tally::tally::{LiveTask, Tally};
+use fm_wire::packet_size::packet_size;
 use std::alloc::Global;
 
 // How many records there are of each kind.
@@ -67,22 +72,45 @@ struct OneMachine {
     spare: u32,
 }
 
-/// How much the coordinator knows, as `write_known_size` has it, and then `entries` and `limit`, how many entries its
-/// history has and may have, and `first` and `next`, the numbers of the first delta that it keeps and of the next one
-/// that it will receive. Refused only if memory runs out. It costs what `write_known_size` does.
+/// How much the coordinator knows, as `write_known_size` has it, and then:
+///
+/// - `entries` and `limit`: how many entries its history has, and may have
+/// - `first` and `next`: the numbers of the first delta that it keeps, and of the next one that it will receive
+/// - `packet`: how many bytes its next packet has if it is one of all that is known
+///
+/// Refused only if memory runs out. If the coordinator has its tally, it is taken, and only the text needs memory; else
+/// it costs what `write_known_size` does. The packet is not made: of it only a walk over the records is needed.
 pub fn size_text<N: NetKeeper>(
     alloc: Global,
     coordinator: &Coordinator<N>,
 ) -> Result<String, Refusal>
     ensures ok { IfOk result (λ text. string_bytes text
         ≡ size_text coordinator.now.state.knowledge (length coordinator.now.state.history) coordinator.now.state.limit
-        coordinator.now.state.deltas.floor (end_of coordinator.now.state.deltas)) }
+        coordinator.now.state.deltas.floor (end_of coordinator.now.state.deltas)
+        (size_of_packet (cut_packet coordinator.now.state Range.Full))) }
     ensures err { IsOkUnless result Refusal.OutOfMemory }
 {
     let mut lines = String::new(alloc);
-    write_known_size(alloc, coordinator.knowledge(), &mut lines)?;
+    write_by_tally(alloc, coordinator, &mut lines)?;
     write_history(coordinator, &mut lines)?;
+    write_size("packet", packet_size(coordinator.knowledge()), &mut lines)?;
     Ok(lines)
+}
+
+// Appends how much is known, by the tally that the coordinator has, or by one that is made.
+fn write_by_tally<N: NetKeeper>(
+    alloc: Global,
+    coordinator: &Coordinator<N>,
+    lines: &mut String,
+) -> Result<(), Refusal>
+    ensures ok { OnOk result (string_bytes lines.new
+        ≡ string_bytes lines.old ++ known_size_text coordinator.now.state.knowledge) }
+    ensures err { IsOkUnless result Refusal.OutOfMemory }
+{
+    match coordinator.tally() {
+        Some(tally) => write_tallied_size(coordinator.knowledge(), tally, lines),
+        None => write_known_size(alloc, coordinator.knowledge(), lines),
+    }
 }
 
 // Appends how long the history is, and which deltas are kept.
@@ -120,9 +148,22 @@ pub fn write_known_size(
     ensures err { IsOkUnless result Refusal.OutOfMemory }
 {
     let tally = Tally::of(alloc, knowledge)?;
+    write_tallied_size(knowledge, &tally, lines)
+}
+
+// The same, with the tally of what is known.
+fn write_tallied_size(
+    knowledge: &Knowledge,
+    tally: &Tally,
+    lines: &mut String,
+) -> Result<(), Refusal>
+    requires { TallyIsFor knowledge.now tally.now }
+    ensures ok { OnOk result (string_bytes lines.new ≡ string_bytes lines.old ++ known_size_text knowledge.now) }
+    ensures err { IsOkUnless result Refusal.OutOfMemory }
+{
     let records = size_of_records(knowledge);
-    let tasks = size_of_tasks(knowledge, &tally);
-    let machines = size_of_machines(knowledge, &tally);
+    let tasks = size_of_tasks(knowledge, tally);
+    let machines = size_of_machines(knowledge, tally);
     write_records(&records, lines)?;
     write_places(&tasks, &machines, lines)?;
     write_bandwidth(&tasks, &machines, lines)
