@@ -13,13 +13,15 @@ ghost use Rattle.fm_query.specs.ListText.{open_text as text_of_open, task_place_
 
 use crate::text_lines::write_map;
 use crate::unpack::phase_text;
+use fm_coord::coordinator::Coordinator;
 use fm_know::knowledge::Knowledge;
 use fm_lattice::constructors::{Max, Opt};
+use fm_policy::keeper::NetKeeper;
 use fm_question::question::Listing;
 use fm_records::ids::{MachineId, TaskId};
 use fm_records::records::{MachineRec, MachineReg, SpecReg, TaskRec};
 use fm_records::refusal::Refusal;
-use fm_tally::tally::{OpenMachine, Tally};
+use fm_tally::tally::{LiveTask, OpenMachine, Tally};
 use std::alloc::Global;
 
 /// A line for each record of the kind that is known, by id; for all kinds, jobs come first, then machines, then tasks:
@@ -29,31 +31,78 @@ use std::alloc::Global;
 /// - `task ID ATTEMPT PHASE VERSION WRITER JOB REQUEST`, and `held MACHINE`, `waiting` or `over`
 ///
 /// What is not known is `-`. A closed machine holds nothing and has no spare. A task that is not live is over.
-/// Refused only if memory runs out. One walk over the records; each task's job, winner and machine are looked up.
+/// Refused only if memory runs out. One walk over the records. Of a list of more than jobs a tally is made, in which each
+/// machine and each task is looked up.
 pub fn list_text(alloc: Global, knowledge: &Knowledge, listing: Listing) -> Result<String, Refusal>
     ensures ok { IfOk result (λ text. string_bytes text ≡ list_text listing knowledge.now) }
     ensures err { IsOkUnless result Refusal.OutOfMemory }
 {
     let mut lines = String::new(alloc);
     match listing {
-        Listing::All => write_all(alloc, knowledge, &mut lines)?,
         Listing::Jobs => write_jobs(alloc, knowledge, &mut lines)?,
-        Listing::Machines => write_machines(alloc, knowledge, &mut lines)?,
-        Listing::Tasks => write_tasks(alloc, knowledge, &mut lines)?,
-        Listing::Waiting => write_waiting(alloc, knowledge, &mut lines)?,
+        Listing::All | Listing::Machines | Listing::Tasks | Listing::Waiting => {
+            let tally = Tally::of(alloc, knowledge)?;
+            write_listing(alloc, knowledge, &tally, listing, &mut lines)?;
+        }
     }
     Ok(lines)
 }
 
+/// The list of what the coordinator knows, as `list_text` has it. If the coordinator has its tally, it is taken, and none
+/// is made. Refused only if memory runs out.
+pub fn list_of<N: NetKeeper>(
+    alloc: Global,
+    coordinator: &Coordinator<N>,
+    listing: Listing,
+) -> Result<String, Refusal>
+    ensures ok { IfOk result (λ text. string_bytes text ≡ list_text listing coordinator.now.state.knowledge) }
+    ensures err { IsOkUnless result Refusal.OutOfMemory }
+{
+    let knowledge = coordinator.knowledge();
+    let Some(tally) = coordinator.tally() else {
+        return list_text(alloc, knowledge, listing);
+    };
+    let mut lines = String::new(alloc);
+    write_listing(alloc, knowledge, tally, listing, &mut lines)?;
+    Ok(lines)
+}
+
+// Appends the lines of the kind.
+fn write_listing(
+    alloc: Global,
+    knowledge: &Knowledge,
+    tally: &Tally,
+    listing: Listing,
+    lines: &mut String,
+) -> Result<(), Refusal>
+    requires { TallyIsFor knowledge.now tally.now }
+    ensures ok { OnOk result (string_bytes lines.new ≡ string_bytes lines.old ++ list_text listing knowledge.now) }
+    ensures err { IsOkUnless result Refusal.OutOfMemory }
+{
+    match listing {
+        Listing::All => write_all(alloc, knowledge, tally, lines),
+        Listing::Jobs => write_jobs(alloc, knowledge, lines),
+        Listing::Machines => write_machines(alloc, knowledge, tally, lines),
+        Listing::Tasks => write_tasks(alloc, knowledge, tally, lines),
+        Listing::Waiting => write_waiting(alloc, knowledge, tally, lines),
+    }
+}
+
 // Appends all lines.
-fn write_all(alloc: Global, knowledge: &Knowledge, lines: &mut String) -> Result<(), Refusal>
+fn write_all(
+    alloc: Global,
+    knowledge: &Knowledge,
+    tally: &Tally,
+    lines: &mut String,
+) -> Result<(), Refusal>
+    requires { TallyIsFor knowledge.now tally.now }
     ensures ok { OnOk result (string_bytes lines.new
         ≡ string_bytes lines.old ++ list_text Listing.All knowledge.now) }
     ensures err { IsOkUnless result Refusal.OutOfMemory }
 {
     write_jobs(alloc, knowledge, lines)?;
-    write_machines(alloc, knowledge, lines)?;
-    write_tasks(alloc, knowledge, lines)
+    write_machines(alloc, knowledge, tally, lines)?;
+    write_tasks(alloc, knowledge, tally, lines)
 }
 
 // Appends a line for each job.
@@ -65,17 +114,7 @@ fn write_jobs(alloc: Global, knowledge: &Knowledge, lines: &mut String) -> Resul
 }
 
 // Appends a line for each machine.
-fn write_machines(alloc: Global, knowledge: &Knowledge, lines: &mut String) -> Result<(), Refusal>
-    ensures ok { OnOk result (string_bytes lines.new
-        ≡ string_bytes lines.old ++ flat_map (listed_machine knowledge.now) knowledge.now.machines) }
-    ensures err { IsOkUnless result Refusal.OutOfMemory }
-{
-    let tally = Tally::of(alloc, knowledge)?;
-    write_tallied(alloc, knowledge, &tally, lines)
-}
-
-// The same, with the tally of what is known.
-fn write_tallied(
+fn write_machines(
     alloc: Global,
     knowledge: &Knowledge,
     tally: &Tally,
@@ -163,25 +202,37 @@ fn write_use(found: Option<OpenMachine>, line: &mut String) -> Result<(), Refusa
 }
 
 // Appends a line for each task.
-fn write_tasks(alloc: Global, knowledge: &Knowledge, lines: &mut String) -> Result<(), Refusal>
+fn write_tasks(
+    alloc: Global,
+    knowledge: &Knowledge,
+    tally: &Tally,
+    lines: &mut String,
+) -> Result<(), Refusal>
+    requires { TallyIsFor knowledge.now tally.now }
     ensures ok { OnOk result (string_bytes lines.new
         ≡ string_bytes lines.old ++ flat_map (listed_task knowledge.now) knowledge.now.tasks) }
     ensures err { IsOkUnless result Refusal.OutOfMemory }
 {
     for (task, known) in knowledge.tasks().iter() {
-        write_task(alloc, knowledge, *task, known, lines)?;
+        write_task(alloc, knowledge, tally, *task, known, lines)?;
     }
     Ok(())
 }
 
 // Appends a line for each live task that no machine holds.
-fn write_waiting(alloc: Global, knowledge: &Knowledge, lines: &mut String) -> Result<(), Refusal>
+fn write_waiting(
+    alloc: Global,
+    knowledge: &Knowledge,
+    tally: &Tally,
+    lines: &mut String,
+) -> Result<(), Refusal>
+    requires { TallyIsFor knowledge.now tally.now }
     ensures ok { OnOk result (string_bytes lines.new
         ≡ string_bytes lines.old ++ flat_map (waiting_line knowledge.now) knowledge.now.tasks) }
     ensures err { IsOkUnless result Refusal.OutOfMemory }
 {
     for (task, known) in knowledge.tasks().iter() {
-        write_if_waiting(alloc, knowledge, *task, known, lines)?;
+        write_if_waiting(alloc, knowledge, tally, *task, known, lines)?;
     }
     Ok(())
 }
@@ -190,18 +241,21 @@ fn write_waiting(alloc: Global, knowledge: &Knowledge, lines: &mut String) -> Re
 fn write_if_waiting(
     alloc: Global,
     knowledge: &Knowledge,
+    tally: &Tally,
     task: TaskId,
     known: &TaskRec,
     line: &mut String,
 ) -> Result<(), Refusal>
+    requires { TallyIsFor knowledge.now tally.now }
     ensures ok { OnOk result (string_bytes line.new
         ≡ string_bytes line.old ++ waiting_line knowledge.now (task, known.now)) }
     ensures err { IsOkUnless result Refusal.OutOfMemory }
 {
-    if knowledge.is_live(task) && knowledge.holder(task).is_none() {
-        write_task(alloc, knowledge, task, known, line)
-    } else {
-        Ok(())
+    match tally.tasks.get(&task) {
+        Some(LiveTask { holder: None, .. }) => {
+            write_task(alloc, knowledge, tally, task, known, line)
+        }
+        _ => Ok(()),
     }
 }
 
@@ -209,10 +263,12 @@ fn write_if_waiting(
 fn write_task(
     alloc: Global,
     knowledge: &Knowledge,
+    tally: &Tally,
     task: TaskId,
     known: &TaskRec,
     line: &mut String,
 ) -> Result<(), Refusal>
+    requires { TallyIsFor knowledge.now tally.now }
     ensures ok { OnOk result (string_bytes line.new
         ≡ string_bytes line.old ++ listed_task knowledge.now (task, known.now)) }
     ensures err { IsOkUnless result Refusal.OutOfMemory }
@@ -222,7 +278,7 @@ fn write_task(
     let phase = phase_text(known.1.0.phase);
     write!(line, "task {name} {attempt} {phase} ")?;
     write_spec(alloc, &known.0, line)?;
-    write_place(alloc, knowledge, task, line)
+    write_place(alloc, knowledge, tally, task, line)
 }
 
 // Appends what a task's spec says, if one is known.
@@ -257,19 +313,26 @@ fn write_known_spec(alloc: Global, spec: &SpecReg, line: &mut String) -> Result<
 fn write_place(
     alloc: Global,
     knowledge: &Knowledge,
+    tally: &Tally,
     task: TaskId,
     line: &mut String,
 ) -> Result<(), Refusal>
+    requires { TallyIsFor knowledge.now tally.now }
     ensures ok { OnOk result (string_bytes line.new ≡ string_bytes line.old
         ++ (codes " " ++ (text_of_place (is_live knowledge.now task) (holder_of knowledge.now task) ++ codes "\n"))) }
     ensures err { IsOkUnless result Refusal.OutOfMemory }
 {
-    match knowledge.holder(task) {
-        Some(machine) => {
+    match tally.tasks.get(&task) {
+        Some(
+            LiveTask {
+                holder: Some(machine),
+                ..
+            },
+        ) => {
             let machine = machine.text(alloc)?;
             write!(line, " held {machine}\n")?;
         }
-        None if knowledge.is_live(task) => line.push_str(" waiting\n")?,
+        Some(_) => line.push_str(" waiting\n")?,
         None => line.push_str(" over\n")?,
     }
     Ok(())

@@ -8,7 +8,7 @@ ghost use Rattle.fm_query.specs.Queries.{ForEachWorld, IsText, differs_in, IsUna
 
 use crate::agree::{agreement_text, difference};
 use crate::end_text::end_text;
-use crate::list_text::list_text;
+use crate::list_text::list_of;
 use crate::next_text::next_text;
 use crate::over_text::over_text;
 use crate::packet_text::packet_line;
@@ -53,8 +53,8 @@ pub struct QueryAnswer {
 /// AttemptsSpent if there is no next version or attempt, which only `Next` asks for; else refused only if memory runs
 /// out. Knowledge, deltas and histories are unchanged, also after a refusal; `Graph` leaves the coordinator's network
 /// fresh. The cost is that of building the network (`Graph`, if it is stale), of solving it, of one walk over what is
-/// known, or of a look-up (`End`, `Next`). `Size` has the coordinator make its tally, which it keeps until something is
-/// told.
+/// known, or of a look-up (`End`, `Next`). `List`, but of jobs, and `Size` have the coordinator make its tally, which it
+/// keeps until something is told.
 pub fn ask<N: NetKeeper>(
     alloc: Global,
     world: &mut World<N>,
@@ -96,13 +96,28 @@ fn about<N: NetKeeper>(
         Question::Stops => stops(alloc, world, at),
         Question::End => end(alloc, world, at),
         Question::Why(task) => reasons(alloc, world, at, task),
-        Question::List(listing) => list(alloc, world, at, listing),
+        Question::List(listing) => {
+            refresh_for(world, at, listing);
+            list(alloc, world, at, listing)
+        }
         Question::Next(subject) => next(alloc, world, at, subject),
         Question::Size => {
             world.refresh_tally(at.value());
             size(alloc, world, at)
         }
         Question::Over => over(alloc, world, at),
+    }
+}
+
+// Has the coordinator make its tally, if the list needs one and there is memory for it.
+fn refresh_for<N: NetKeeper>(world: &mut World<N>, at: CoordId, listing: Listing)
+    ensures { world.new ≡ world.old }
+{
+    match listing {
+        Listing::Jobs => {}
+        Listing::All | Listing::Machines | Listing::Tasks | Listing::Waiting => {
+            world.refresh_tally(at.value());
+        }
     }
 }
 
@@ -207,7 +222,7 @@ fn list<N: NetKeeper>(
 {
     match world.coordinator(at) {
         None => Err(Refusal::NoCoordinator),
-        Some(coordinator) => Ok(list_text(alloc, coordinator.knowledge(), listing)?.into_bytes()),
+        Some(coordinator) => Ok(list_of(alloc, coordinator, listing)?.into_bytes()),
     }
 }
 

@@ -1,7 +1,7 @@
 use Rattle.std.proofs.Common.{◌≡◌, ◌++◌, string_bytes}
 use Rattle.std.specs.List.{flat_map}
 use Rattle.fm_query.specs.ListText.{listed_machine}
-use Rattle.fm_query.proofs.list_text.write_tallied.Given as goal
+use Rattle.fm_query.proofs.list_text.write_machines.Given as goal
 
 abbrev pub invariant-loop-machine : goal.invariant-loop-machine
 invariant-loop-machine l =
