@@ -9,4 +9,5 @@ pub mod OverText
 pub mod SizeText
 pub mod QueryTexts
 pub mod ReasonsText
+pub mod FieldRanges
 pub mod Queries

@@ -3,6 +3,7 @@
 
 pub mod agree;
 pub mod end_text;
+pub mod field_ranges;
 pub mod list_text;
 pub mod next_text;
 pub mod over_text;
