@@ -6,3 +6,5 @@ pub mod Examples
 pub mod Opening
 pub mod Room
 pub mod ShareExamples
+pub mod Faults
+pub mod Asking

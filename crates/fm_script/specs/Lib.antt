@@ -2,6 +2,7 @@ pub mod Json
 pub mod CoordinatorLists
 pub mod Script
 pub mod Texts
+pub mod ScriptFaults
 pub mod Requests
 pub mod Openings
 pub mod ShareJson

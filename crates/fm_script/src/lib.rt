@@ -2,6 +2,8 @@
 #![tactic(auto)]
 
 pub mod coordinators;
+pub mod fault_laws;
+pub mod find_fault;
 pub mod initial_world;
 pub mod names;
 pub mod parse_request;
@@ -10,3 +12,4 @@ mod parse_share;
 pub mod parse_tells;
 pub mod request;
 pub mod script;
+pub mod script_fault;

@@ -121,7 +121,7 @@ fn steps_in(alloc: Global, items: Vec<Value>, names: &mut Names) -> Result<Vec<S
 }
 
 // Keeps the name that a step gives a packet, if it cuts one.
-fn keep_name(item: &Value, names: &mut Names) -> Result<(), OutOfMemory>
+pub(crate) fn keep_name(item: &Value, names: &mut Names) -> Result<(), OutOfMemory>
     requires { IsSome (script_step_of names.old (view item.now)) }
     ensures { OnOk result (names.new ≡ names.old ++ names_in (view item.now)) }
 {
@@ -186,7 +186,7 @@ pub(crate) fn range_in(cut: &Value) -> Option<Range>
 }
 
 // A delivery by a packet's name.
-fn delivery_in(packet: &Value, names: &Names) -> Option<ScriptAct>
+pub(crate) fn delivery_in(packet: &Value, names: &Names) -> Option<ScriptAct>
     ensures { result ≡ delivery_of names.now (view packet.now) }
 {
     let name = packet.as_str()?;
@@ -195,7 +195,7 @@ fn delivery_in(packet: &Value, names: &Names) -> Option<ScriptAct>
 }
 
 // A round of the whole plan is asked for by true, and of a share by an object.
-fn round_in(asked: &Value) -> Option<ScriptAct>
+pub(crate) fn round_in(asked: &Value) -> Option<ScriptAct>
     ensures { result ≡ round_of (view asked.now) }
 {
     match asked.as_bool() {
@@ -206,7 +206,7 @@ fn round_in(asked: &Value) -> Option<ScriptAct>
 }
 
 // A round of the relief is asked for by true.
-fn relief_in(asked: &Value) -> Option<ScriptAct>
+pub(crate) fn relief_in(asked: &Value) -> Option<ScriptAct>
     ensures { result ≡ relief_of (view asked.now) }
 {
     if asked.as_bool()? {
@@ -274,7 +274,7 @@ fn spec_in(fields: &Value) -> Option<Op>
 }
 
 // The machines that a spec prefers: none if it has no such member.
-fn prefer_in(fields: &Value) -> Option<Prefer>
+pub(crate) fn prefer_in(fields: &Value) -> Option<Prefer>
     ensures { result ≡ prefer_of (view fields.now) }
 {
     if fields.get("prefer").is_none() {
@@ -353,7 +353,7 @@ fn propose_in(fields: &Value) -> Option<Op>
 }
 
 // A phase by its name.
-fn phase_in(name: &str) -> Option<Phase>
+pub(crate) fn phase_in(name: &str) -> Option<Phase>
     ensures { result ≡ phase_named name.now }
 {
     if name == "pending" {
@@ -384,7 +384,7 @@ pub(crate) fn number_in(fields: &Value, name: &str) -> Option<u64>
     fields.get(name)?.as_u64()
 }
 
-fn number_32_in(fields: &Value, name: &str) -> Option<u32>
+pub(crate) fn number_32_in(fields: &Value, name: &str) -> Option<u32>
     ensures { result ≡ number_32_at name.now (view fields.now) }
 {
     u32::try_from(number_in(fields, name)?).ok()
@@ -396,7 +396,7 @@ pub(crate) fn number_8_in(fields: &Value, name: &str) -> Option<u8>
     u8::try_from(number_in(fields, name)?).ok()
 }
 
-fn flag_in(fields: &Value, name: &str) -> Option<bool>
+pub(crate) fn flag_in(fields: &Value, name: &str) -> Option<bool>
     ensures { result ≡ flag_at name.now (view fields.now) }
 {
     fields.get(name)?.as_bool()
