@@ -7,7 +7,7 @@ use Rattle.fm_records.specs.Ids.{read_id}
 use Rattle.clap.specs.Words.{Row}
 use Rattle.fm_args.specs.declared.words.ScriptQuestion.{ScriptQuestion}
 use Rattle.fm_args.specs.declared.words.ScriptQuestion.TheVariants as question
-use Rattle.fm_args.specs.Invocation.{Text, agree, ask, fleet, follow, pack, run, unpack, why, wrong}
+use Rattle.fm_args.specs.Invocation.{Text, agree, ask, check, fleet, follow, pack, run, unpack, why, wrong}
 use Rattle.fm_args.specs.CommandLine.{Form, asks, commands, default_renew_after, fleets, follows, telling_of_words, most_renew_after, nothing, packs, whys}
 use Rattle.fm_args.specs.Parser.{told_as, told_with}
 use Rattle.fm_args.specs.inner.ParserOutcomes.{tellings}
@@ -112,6 +112,10 @@ agree_told : IsTold (record { name = codes "agree"; takes = nothing (run agree) 
 unfolding clap_on_literals
 agree_told program rest = enter program (codes "agree") rest (built_with (codes "agree") (helper ∷ [])) refl refl refl ∙ bare (codes "agree") (told_as (codes "agree")) (run agree) refl rest
 
+check_told : IsTold (record { name = codes "check"; takes = nothing (run check) })
+unfolding clap_on_literals
+check_told program rest = enter program (codes "check") rest (built_with (codes "check") (helper ∷ [])) refl refl refl ∙ bare (codes "check") (told_as (codes "check")) (run check) refl rest
+
 fleet_told : IsTold (record { name = codes "fleet"; takes = fleets })
 unfolding clap_on_literals
 fleet_told program rest = enter program (codes "fleet") rest (shape of_fleet) refl refl refl ∙ takes_number of_fleet rest
@@ -153,4 +157,4 @@ unfolding clap_on_literals
 winners_told program rest = enter program (codes "winners") rest (shape of_winners) refl refl refl ∙ takes_number of_winners rest
 
 pub each_told : Each IsTold commands
-each_told = (agree_told, (fleet_told, (follow_told, (graph_told, (list_told, (pack_told, (solve_told, (plan_told, (unpack_told, (why_told, (winners_told, tt)))))))))))
+each_told = (agree_told, (check_told, (fleet_told, (follow_told, (graph_told, (list_told, (pack_told, (solve_told, (plan_told, (unpack_told, (why_told, (winners_told, tt))))))))))))

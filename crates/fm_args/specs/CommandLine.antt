@@ -9,7 +9,7 @@ use Rattle.clap.specs.ValueTests.{is_numeral}
 use Rattle.fm_records.specs.Ids.{read_id}
 use Rattle.fm_args.specs.declared.words.ScriptQuestion.{ScriptQuestion}
 use Rattle.fm_args.specs.declared.words.ScriptQuestion.TheVariants as question
-use Rattle.fm_args.specs.Invocation.{Telling, Text, agree, ask, fleet, follow, help, pack, page, run, unpack, version, why, wrong}
+use Rattle.fm_args.specs.Invocation.{Telling, Text, agree, ask, check, fleet, follow, help, pack, page, run, unpack, version, why, wrong}
 
 -- ---- one word
 
@@ -154,6 +154,7 @@ pub record Form : Type 0 where
 -- all that there are
 abbrev pub commands : List Form
 commands = record { name = codes "agree"; takes = nothing (run agree) }
+    ∷ record { name = codes "check"; takes = nothing (run check) }
     ∷ record { name = codes "fleet"; takes = fleets }
     ∷ record { name = codes "follow"; takes = follows }
     ∷ record { name = codes "graph"; takes = asks question.Graph }

@@ -12,12 +12,14 @@ Text = List ℕ
 
 -- a command: the question about a coordinator, with its number if one is told
 -- or whether all coordinators know the same
+-- or the first fault of a script
 -- or the packet of the name
 -- or the records of a packet
 -- or why the task of the number waits or runs, by what that coordinator knows
 pub data ArgsModel : Type 0 where
   ask : ScriptQuestion → Option ℕ → ArgsModel
   agree : ArgsModel
+  check : ArgsModel
   pack : Text → ArgsModel
   unpack : ArgsModel
   why : ℕ → Option ℕ → ArgsModel
@@ -41,6 +43,7 @@ pub data Telling : Type 0 where
 abbrev pub args_model : Command → ArgsModel
 args_model (command.Ask question at) = ask question at
 args_model command.Agree = agree
+args_model command.Check = check
 args_model (command.Pack name) = pack name.now
 args_model command.Unpack = unpack
 args_model (command.Why task at) = why task at

@@ -54,6 +54,7 @@ fn is_topic(word: &str) -> bool
     matches!(
         word,
         "agree"
+            | "check"
             | "fleet"
             | "follow"
             | "graph"

@@ -3,7 +3,7 @@
 ghost use Rattle.std.specs.Prelude.{◌≡◌, ◌≤◌, ◌<◌, ◌^◌, ◌∷◌, [], ℕ, List, None, Some, codes, decimal};
 ghost use Rattle.fm_args.specs.CommandLine.{telling_of, look_of, parsed_number, plain};
 ghost use Rattle.fm_records.specs.Ids.{id_text};
-ghost use Rattle.fm_args.specs.Invocation.{Text, ask, fleet, follow, help, pack, page, run, version, why, wrong};
+ghost use Rattle.fm_args.specs.Invocation.{Text, ask, check, fleet, follow, help, pack, page, run, version, why, wrong};
 ghost use Rattle.fm_args.specs.declared.words.ScriptQuestion.TheVariants.{Graph, Plan, Solve, Winners};
 
 /// A number in range that is written in decimal digits, as the program itself writes numbers, is read as that number.
@@ -20,6 +20,7 @@ pub fn law_examples()
     ensures left_out { (p : Text) → telling_of (p ∷ codes "winners" ∷ []) ≡ run (ask Winners None) }
     ensures twice { (p : Text) → telling_of (p ∷ codes "graph" ∷ codes "--at=1" ∷ codes "--at=1" ∷ []) ≡ wrong }
     ensures plan { (p : Text) → telling_of (p ∷ codes "plan" ∷ codes "--at=7" ∷ []) ≡ run (ask Plan (Some 7)) }
+    ensures check { (p : Text) → telling_of (p ∷ codes "check" ∷ []) ≡ run check }
     ensures no_rounds { (p : Text) → telling_of (p ∷ codes "fleet" ∷ []) ≡ fleet 0 }
     ensures default { (p : Text) → telling_of (p ∷ codes "follow" ∷ []) ≡ follow 100000 }
     ensures renewal { (p : Text) → telling_of (p ∷ codes "follow" ∷ codes "--renew-after=1" ∷ []) ≡ follow 1 }

@@ -35,6 +35,7 @@ fn named_as<'a>(alloc: Global, name: &str, inner: &ArgMatches<'a>) -> Words<'a>
 {
     match name {
         "agree" => Words::Run(Command::Agree),
+        "check" => Words::Run(Command::Check),
         "fleet" => runs(inner),
         "follow" => follows(inner),
         "graph" => asks(ScriptQuestion::Graph, inner),

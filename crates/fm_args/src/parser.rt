@@ -5,7 +5,7 @@ ghost use Rattle.clap.specs.Words.{app_of, new_app, rule_of, with_rule};
 ghost use Rattle.clap.specs.declared.builder.command.Command.TheViews.{out-Command};
 ghost use Rattle.fm_args.specs.CommandLine.{asks, commands, fleets, follows, most_renew_after, nothing, packs, whys};
 ghost use Rattle.fm_args.specs.Parser.{command_app, firmament, name_rule, no_commands, number_rule, with_commands};
-ghost use Rattle.fm_args.specs.Invocation.{agree, run, unpack};
+ghost use Rattle.fm_args.specs.Invocation.{agree, check, run, unpack};
 ghost use Rattle.fm_args.specs.declared.words.ScriptQuestion.TheVariants as question;
 
 use super::words::{MOST_RENEW_AFTER, MOST_ROUNDS};
@@ -31,18 +31,20 @@ pub fn parser<'a>(alloc: Global) -> Result<Command<'a>, OutOfMemory>
     Ok(with_winners)
 }
 
-// The program with the first six of its commands.
+// The program with the first seven of its commands.
 fn up_to_pack<'a>(alloc: Global) -> Result<Command<'a>, OutOfMemory>
-    ensures { IfOk result (λ c. app_of c ≡ with_commands (take 6 commands)) }
+    ensures { IfOk result (λ c. app_of c ≡ with_commands (take 7 commands)) }
 {
     let agree = agree(alloc);
+    let check = check(alloc);
     let fleet = fleet(alloc)?;
     let follow = follow(alloc)?;
     let graph = graph(alloc)?;
     let list = list(alloc)?;
     let pack = pack(alloc)?;
     let with_agree = program(alloc)?.subcommand(agree)?;
-    let with_fleet = with_agree.subcommand(fleet)?;
+    let with_check = with_agree.subcommand(check)?;
+    let with_fleet = with_check.subcommand(fleet)?;
     let with_follow = with_fleet.subcommand(follow)?;
     let with_graph = with_follow.subcommand(graph)?;
     let with_list = with_graph.subcommand(list)?;
@@ -77,6 +79,19 @@ fn agree<'a>(alloc: Global) -> Command<'a>
             "Prints `same` if all coordinators know the same, else `differ A B`: the first that is listed, and the first that knows something else; then the status is 5",
         )
         .after_help("Example: firmament agree < examples/gossip.json")
+}
+
+fn check<'a>(alloc: Global) -> Command<'a>
+    ensures app { app_of result ≡ command_app (codes "check") (nothing (run check)) }
+    ensures local { (out-Command result).has_globals ≡ false }
+{
+    Command::new(alloc, "check")
+        .about(
+            "Runs nothing, and prints `accepted`, or the first fault of the script: the step, its member, and what is wanted there; then the status is 3",
+        )
+        .after_help(
+            "What depends on how far a history goes is found by running alone: whether it is full, and which deltas it has.\n\nExample: firmament check < examples/first.json",
+        )
 }
 
 fn fleet<'a>(alloc: Global) -> Result<Command<'a>, OutOfMemory>

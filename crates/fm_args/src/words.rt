@@ -34,6 +34,8 @@ pub enum Command<'a> {
     },
     /// Say whether all coordinators know the same.
     Agree,
+    /// Say what is the first fault of the script, as far as that is found without running it.
+    Check,
     /// Print the bytes of the packet that was cut under the name.
     Pack {
         name: &'a str,
