@@ -16,7 +16,7 @@ use Rattle.fm_records.specs.declared.refusal.Refusal.TheVariants.{OutOfMemory, B
 use Rattle.fm_records.specs.Ids.{id_text}
 use Rattle.fm_records.specs.Table.{TaskValue, MachineValue, Table}
 use Rattle.fm_delta.specs.declared.packet.Packet.{Packet}
-use Rattle.fm_wire.specs.Grammar.{Spells, fault}
+use Rattle.fm_wire.specs.Grammar.{Spells, IsSpelling, fault}
 
 abbrev pub flag_text : Bool → List ℕ
 flag_text b = if b then codes "true" else codes "false"
@@ -104,6 +104,13 @@ IsNoPacketIn digits refusal =
     (refusal ≡ OutOfMemory)
     ⊎ (((refusal ≡ BadScript 0) × (e : FromHexError) × (decode_of digits ≡ Err e))
     ⊎ ((bytes : List ℕ) × (decode_of digits ≡ Ok bytes) × (option_map BadPacket (fault bytes) ≡ Some refusal)))
+
+-- the digits encode a packet's bytes; or they are no digits, or their bytes have that fault first
+abbrev pub IsFaultOf : List ℕ → Option Refusal → Type 0
+IsFaultOf digits None = (bytes : List ℕ) × (decode_of digits ≡ Ok bytes) × IsSpelling bytes
+IsFaultOf digits (Some e) =
+    ((e ≡ BadScript 0) × (why : FromHexError) × (decode_of digits ≡ Err why))
+    ⊎ ((bytes : List ℕ) × (decode_of digits ≡ Ok bytes) × (option_map BadPacket (fault bytes) ≡ Some e))
 
 -- the text is the lines of the packet that the input spells, with at most one line feed behind its digits
 pub record IsUnpacked (input text : List ℕ) : Type 0 where
