@@ -8,10 +8,11 @@ ghost use Rattle.fm_gossip.specs.inner.EarlyEnds.{may_end, named_end};
 
 use fm_records::refusal::Refusal;
 
-/// Why a thread ended early: it was refused, or it found the fleet stopped.
+/// Why a thread ended early: it was refused, a packet is left that it does not await, or it found the fleet stopped.
 #[derive(Clone, Copy, Drop)]
 pub(crate) enum Early {
     Refused(Refusal),
+    Left,
     Stopped,
 }
 
@@ -26,7 +27,7 @@ impl From<Refusal> for Early {
     }
 }
 
-/// Which of two is named: the first that was refused, else that one was stopped, if one was.
+/// Which of two is named: the first that was not only stopped, else that one was stopped, if one was.
 pub(crate) fn first_of(one: Option<Early>, other: Option<Early>) -> Option<Early>
     ensures named { result ≡ named_end one other }
     ensures none { result ≡ None → (one ≡ None) × (other ≡ None) }
@@ -34,7 +35,7 @@ pub(crate) fn first_of(one: Option<Early>, other: Option<Early>) -> Option<Early
         → IfSome result (λ early. IsTrue (may_end early)) }
 {
     match (one, other) {
-        (None, _) | (Some(Early::Stopped), Some(Early::Refused(_))) => other,
+        (None, _) | (Some(Early::Stopped), Some(Early::Refused(_) | Early::Left)) => other,
         _ => one,
     }
 }

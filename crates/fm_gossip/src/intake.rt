@@ -1,8 +1,8 @@
 //! Intakes: what a coordinator's first thread does, which tells its operations and exchanges packets with all others.
 //!
 //! It puts its packet into all other inboxes before it waits for theirs, so no two intakes wait for each other. It
-//! awaits one packet of each other coordinator, and refuses any other packet. It counts the rings of the bell before it
-//! looks into its inbox, and waits for one more if that is empty, so that no packet is missed.
+//! awaits one packet of each other coordinator, and merges no other packet: it ends if one comes. It counts the rings of
+//! the bell before it looks into its inbox, and waits for one more if that is empty, so that no packet is missed.
 ghost use Rattle.std.specs.Prelude.{◌≡◌, ◌+◌, ◌<◌, ◌^◌, ℕ, List, [], ◌∷◌, length, map, cond, vec_len, slice_get, Some, None, IsTrue, IfOk, IfErr, IfSome, OnOk, MatchOption};
 ghost use Rattle.fm_inbox.specs.Ports.{InboxModel, after_put, after_take};
 ghost use Rattle.fm_gossip.specs.Served.{all_told, IsFirst, IsIntake, AreMerged};
@@ -42,8 +42,9 @@ pub(crate) struct Taken<L: NodeName> {
 }
 
 /// Tells all, cuts what is then known, puts a copy to each of the others, and merges a packet from each of them. If
-/// something is refused, the fleet is stopped. If that is stopped while it waits for a packet, it ends too.
-/// NotMine with the sender of a packet that is not awaited.
+/// something is refused, or a packet comes that is not awaited, the fleet is stopped. That packet is not merged, and it
+/// is for the closing of the inboxes to refuse it, as one that is left. If the fleet is stopped while it waits for a
+/// packet, it ends too.
 pub(crate) fn take_in<N: NetKeeper, L: NodeName, R: Wait>(
     rt: &R,
     node: &Node<N, L>,
@@ -190,7 +191,7 @@ fn put_unless<R: Wait>(
     }
 }
 
-// Merges a packet of each of those that are awaited, as they come.
+// Merges a packet of each of those that are awaited, as they come. It ends if another packet comes, and leaves it.
 #[tactic(auto, using(crate::proofs::Stopping::call_stops, crate::proofs::Stopping::merge_packet))]
 fn merge_all<N: NetKeeper, L: NodeName, R: Wait>(
     rt: &R,
@@ -208,8 +209,7 @@ fn merge_all<N: NetKeeper, L: NodeName, R: Wait>(
     while !awaited.is_empty() {
         let packet = next_packet(rt, own, halt)?;
         let Some(place) = index_of(&awaited, &packet) else {
-            let sender = packet.sender.value();
-            return Err(Early::Refused(Refusal::NotMine(u32::from(sender))));
+            return Err(Early::Left);
         };
         awaited.remove(place);
         node.merge(rt, seat, packet)?;

@@ -47,9 +47,8 @@ pub struct FleetFault<N: NetKeeper, G> {
 /// refused as below. Once a thread is refused, no round begins and no packet is waited for. The fleet is then refused
 /// with the first refusal by member, as listed, the intake's before the solver's, and not the first in time; what only
 /// ended since another was refused is not named. All coordinators come back. OutOfMemory, also if a thread cannot be
-/// made; BadOp; HistoryFull; InboxFull with more members than an inbox has room; NotMine with the sender of a packet that
-/// is not awaited, or if an audit fails or a packet is left. If memory runs out before the first thread, the members
-/// come back.
+/// made; BadOp; HistoryFull; InboxFull with more members than an inbox has room; NotMine if an audit fails, or a packet
+/// is left. If memory runs out before the first thread, the members come back.
 pub fn run_fleet<N: NetKeeper + Send + Drop, G: Gate + Send + Drop, R: Threads + Wait + Sync>(
     rt: &R,
     alloc: Global,
@@ -126,7 +125,7 @@ fn prepared<N: NetKeeper + Drop, G: Drop>(
     Ok((links, inboxes, rooms))
 }
 
-// Closes the inboxes, unless a member ended early.
+// Closes the inboxes, unless a member ended early. NotMine(0) if a packet is left.
 fn closed<N: NetKeeper + Drop, R: Wait>(
     rt: &R,
     alloc: Global,
@@ -145,6 +144,8 @@ fn closed<N: NetKeeper + Drop, R: Wait>(
     match first_early(dones) {
         None => close_all(rt, alloc, inboxes, dones),
         Some(Early::Refused(refusal)) => Err(refusal),
+        // A packet that no intake awaits is left, as one that is still in an inbox.
+        Some(Early::Left) => Err(Refusal::NotMine(0)),
         // A thread that stops a fleet was refused, and leaves that.
         Some(Early::Stopped) => Err(Refusal::OutOfMemory),
     }

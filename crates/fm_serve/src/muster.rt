@@ -32,7 +32,7 @@ use std::thread::Threads;
 /// caller must ensure that no two of them have one number. Each round that is done adds 1 to the counter, for
 /// observers. The first tell whose coordinator is not listed, or a field of which is out of range, is named, and then
 /// no thread was started: NoCoordinator, BadOp. Else no step is named: OutOfMemory, also if a thread cannot be made;
-/// HistoryFull; InboxFull; NotMine if an audit fails, or a packet is left or not awaited; Stuck.
+/// HistoryFull; InboxFull; NotMine if an audit fails, or a packet is left; Stuck.
 pub fn muster<R: Threads + Wait + Sync>(
     rt: &R,
     alloc: Global,
