@@ -22,7 +22,7 @@ OF_EDITS = 1.7
 # the jobs of the first proof while other work takes longer than its chain
 FIRST = 2
 # the tasks that mostly wait: the tests with a broker take a minute and a half of a processor in ten, and those on Slurm 20 s in two
-IDLE = {("tests/run", "brokered"), ("tests/run", "slurm"), ("tests/run", "slurm_standby")}
+IDLE = {("tests/run", group) for group in ("brokered", "brokered_kills", "brokered_lasting", "slurm", "slurm_standby")}
 
 
 def at_priority(lower, call, *given):

@@ -348,6 +348,12 @@ def skipped(_program):
 GROUPS = {"parts": parts, "words": words, "lines": lines, "divided": divided, **outlived.GROUPS, **operated.GROUPS, **relayed.GROUPS,
           **own_rounds.GROUPS, "journals": journals, "signals": signals, "secrets": secrets, "example": example, "skipped": skipped}
 
+# what the gate runs side by side, as groups of tests/run: they mostly wait, each some three minutes
+KILLED = ("kills", "strangers", "limits", "looked_at", "slow_readers", "unread_errors", "memory_kept", "hangs")
+LASTING = (*operated.GROUPS, *relayed.GROUPS, *own_rounds.GROUPS, "journals", "signals", "secrets", "example", "skipped")
+SIDES = {"brokered_kills": KILLED, "brokered_lasting": tuple(it for it in LASTING if it not in KILLED)}
+SIDES["brokered"] = tuple(it for it in GROUPS if not any(it in side for side in SIDES.values()))
+
 
 def all_tests(program, names=tuple(GROUPS), kills=KILLS):
     """Each test of the groups, by name; none, with a word, if a package is not installed."""

@@ -7,3 +7,4 @@ pub mod Requests
 pub mod Openings
 pub mod ShareJson
 pub mod RoundPlans
+pub mod Lines

@@ -159,19 +159,32 @@ request_from names d =
     bind (number_8_at (codes "at") d) (λ at.
     asked_at names at d)))))
 
+-- the line that a value asks to check: it is an object of two members, an `ask` that is `check` and a `line` that is an object
+abbrev pub line_checked : Data → Option Data
+line_checked d =
+    bind (when (has_size 2 d) d) (λ d.
+    bind (text_at (codes "ask") d) (λ word.
+    bind (when (is_text word (codes "check")) d) (λ d.
+    bind (get (codes "line") d) (λ line.
+    when (is_some (as_object line)) line))))
+
+-- the value asks for nothing known, and to check nothing, given that packets of the names were cut before
+abbrev pub AsksNothing : List (List ℕ) → Data → Type 0
+AsksNothing names d = (line_checked d ≡ None) × (request_from names d ≡ None)
+
 -- the line is JSON, and its value asks for that, given that packets of the names were cut before
 pub record Requests (names : List (List ℕ)) (line : List ℕ) (asked : RequestModel) : Type 0 where
   pub value : Data
   pub read : read_text line ≡ Some value
   pub asks : request_from names value ≡ Some asked
 
--- the line is no JSON, or its value asks for nothing known; or memory ran out
+-- the line is no JSON, or its value asks for nothing; or memory ran out
 abbrev pub RequestsNothing : List (List ℕ) → List ℕ → Refusal → Type 0
 RequestsNothing names line refusal =
     (refusal ≡ OutOfMemory)
     ⊎ ((refusal ≡ BadScript 0)
     × ((IsUtf8 line → read_text line ≡ None)
-    ⊎ ((d : Data) × (read_text line ≡ Some d) × (request_from names d ≡ None))))
+    ⊎ ((d : Data) × (read_text line ≡ Some d) × AsksNothing names d)))
 
 -- a step cuts no packet
 abbrev pub CutsNothing : ScriptAct → Type 0

@@ -1,5 +1,5 @@
 -- The script that a JSON value spells (this project's profile).
-use Rattle.std.specs.Prelude.{◌≡◌, ℕ, ◌+◌, ◌==◌, nat_eq, nat_le, List, [], ◌∷◌, ◌++◌, length, map, Bool, not, cond, codes, Option, Some, None, is_some, is_none, option_map}
+use Rattle.std.specs.Prelude.{◌≡◌, ℕ, ◌+◌, nat_eq, nat_le, List, [], ◌∷◌, ◌++◌, length, map, Bool, not, cond, codes, Option, Some, None, is_some, is_none, option_map}
 use Rattle.std.specs.List.{list_any, flat_map, position_or_len}
 use Rattle.std.specs.Option.{option_to_list}
 use Rattle.std.specs.Cmp.Lexicographic.{pointwise}

@@ -3,18 +3,19 @@
 //! A line comes from outside, so its form is checked here and nowhere else: which members there are, their types, and
 //! names. Ranges of operations and digits of packets are checked by what they are for.
 
-ghost use Rattle.std.specs.Prelude.{◌≡◌, IfOk, IfErr, option_map};
+ghost use Rattle.std.specs.Prelude.{◌≡◌, ◌⊎◌, IfOk, IfErr, option_map};
 ghost use Rattle.serde_json.specs.Find.{as_str};
 ghost use Rattle.serde_json.specs.View.{view};
 ghost use Rattle.fm_script.specs.Json.{bind};
 ghost use Rattle.fm_script.specs.Script.{coordinators_of, script_step_of};
-ghost use Rattle.fm_script.specs.Requests.{Asks, Does, Opens, Takes, request_model, question_named, listing_named, job_or_task_in, machine_in, question_of_one, question_of_two, cut_under, cut_asked, when_true, general_asked, alone_of, asked_at, question_asked, own_news_asked, asked_by_three, request_from, Requests, RequestsNothing, IsPlain};
+ghost use Rattle.fm_script.specs.Requests.{Asks, Does, Opens, Takes, request_model, question_named, listing_named, job_or_task_in, machine_in, question_of_one, question_of_two, cut_under, cut_asked, when_true, general_asked, alone_of, asked_at, question_asked, own_news_asked, asked_by_three, request_from, line_checked, AsksNothing, RequestsNothing};
+ghost use Rattle.fm_script.specs.Lines.{IsAskedBy, IsCheckedLine, IsLineOf, IsLine, IsPlainLine};
 
 use crate::names::Names;
 use crate::parse_script::{
     coordinators_in, is_object_of, items_in, number_8_in, number_in, range_in, step_in, text_in,
 };
-use crate::request::Request;
+use crate::request::{CheckedLine, CheckedRequest, Request, StreamLine};
 use fm_coord::entry::Range;
 use fm_lattice::join::OutOfMemory;
 use fm_question::question::{Listing, Question, Subject};
@@ -28,22 +29,81 @@ use std::alloc::Global;
 /// `take`, `tell`, `deliver`, `trim`, `round`, `relieve` and `ask`, the last of `graph`, `solve`, `plan`, `winners`,
 /// `stops`, `end`, `size`, `over` or `list`. With more members it is an `at` with `news` and `mine`, or with an `ask`: of `why` with a
 /// `task`, of `list` with an `of` (`jobs`, `machines`, `tasks` or `waiting`), or of `next` with a `job`, with a
-/// `task`, or with a `machine` and its `incarnation`. Further members of an operation and of a cut are ignored, and of
-/// equal members the last counts.
+/// `task`, or with a `machine` and its `incarnation`. Or it has an `ask` of `check` and a `line` that is an object, which asks for
+/// anything or nothing. Further members of an operation and of a cut are ignored, and of equal members the last counts.
 /// `BadScript(0)` if the line is no JSON or asks for nothing known, as a cut under one of the names; `OutOfMemory` if
 /// memory runs out. It costs the reading of the line as JSON, and a look-up of a name.
-pub fn read_request(alloc: Global, line: &[u8], names: &Names) -> Result<Request, Refusal>
-    ensures ok { IfOk result (λ q. Requests names.now line.now (request_model q)) }
+pub fn read_line(alloc: Global, line: &[u8], names: &Names) -> Result<StreamLine, Refusal>
+    ensures ok { IfOk result (λ l. IsLine names.now line.now l) }
     ensures err { IfErr result (λ e. RequestsNothing names.now line.now e) }
-    ensures plain { IfOk result (λ q. IsPlain (request_model q)) }
+    ensures plain { IfOk result (λ l. IsPlainLine l) }
 {
     match Value::from_slice(alloc, line) {
-        Ok(value) => match request_in(alloc, &value, names)? {
-            Some(request) => Ok(request),
-            None => Err(Refusal::BadScript(0)),
-        },
+        Ok(value) => line_in(alloc, &value, names),
         Err(error) if error.is_memory() => Err(Refusal::OutOfMemory),
         Err(_) => Err(Refusal::BadScript(0)),
+    }
+}
+
+// What the value of a line asks for.
+fn line_in(alloc: Global, value: &Value, names: &Names) -> Result<StreamLine, Refusal>
+    ensures ok { IfOk result (λ l. IsLineOf names.now (view value.now) l) }
+    ensures err { IfErr result (λ e. (e ≡ Refusal.OutOfMemory)
+        ⊎ ((e ≡ Refusal.BadScript 0) × AsksNothing names.now (view value.now))) }
+    ensures plain { IfOk result (λ l. IsPlainLine l) }
+{
+    if let Some(line) = line_checked_in(value) {
+        let checked = checked_in(alloc, line, names)?;
+        return Ok(StreamLine::Check(checked));
+    }
+    match request_in(alloc, value, names)? {
+        Some(request) => Ok(StreamLine::Request(request)),
+        None => Err(Refusal::BadScript(0)),
+    }
+}
+
+// The line that a value asks to check.
+fn line_checked_in(value: &Value) -> Option<&Value>
+    ensures { option_map (λ v. view v.now) result ≡ line_checked (view value.now) }
+{
+    if !is_object_of(value, 2) {
+        return None;
+    }
+    if text_in(value, "ask")? != "check" {
+        return None;
+    }
+    let line = value.get("line")?;
+    match line.as_object() {
+        Some(_) => Some(line),
+        None => None,
+    }
+}
+
+// What the line that is checked asks for.
+fn checked_in(alloc: Global, line: &Value, names: &Names) -> Result<CheckedLine, OutOfMemory>
+    ensures { IfOk result (λ c. IsCheckedLine names.now (view line.now) c) }
+{
+    let asked = checked_request_in(alloc, line, names)?;
+    Ok(CheckedLine {
+        at: number_8_in(line, "at").unwrap_or(0),
+        asked,
+    })
+}
+
+// The same, without its number.
+fn checked_request_in(
+    alloc: Global,
+    line: &Value,
+    names: &Names,
+) -> Result<CheckedRequest, OutOfMemory>
+    ensures { IfOk result (λ asked. IsAskedBy names.now (view line.now) asked) }
+{
+    if line_checked_in(line).is_some() {
+        return Ok(CheckedRequest::Check);
+    }
+    match request_in(alloc, line, names)? {
+        Some(request) => Ok(CheckedRequest::Request(request)),
+        None => Ok(CheckedRequest::Nothing),
     }
 }
 

@@ -1,4 +1,4 @@
-//! What a line of a stream asks for, as data.
+//! What a line of a stream asks for, as data: a request, or to check the line of one.
 
 use crate::script::ScriptStep;
 use fm_coord::entry::Range;
@@ -44,4 +44,30 @@ pub enum Request {
     Version,
     /// The coordinators are renewed.
     Renew,
+}
+
+/// A line of a stream.
+#[derive(Debug, Drop)]
+pub enum StreamLine {
+    Request(Request),
+    /// What would the line be answered now?
+    Check(CheckedLine),
+}
+
+/// The line that is checked.
+#[derive(Debug, Drop)]
+pub struct CheckedLine {
+    /// The number in its `at`, and 0 if it has none.
+    pub at: u8,
+    pub asked: CheckedRequest,
+}
+
+/// What the line that is checked asks for.
+#[derive(Debug, Drop)]
+pub enum CheckedRequest {
+    /// Nothing known.
+    Nothing,
+    /// To check a line, which is not looked at.
+    Check,
+    Request(Request),
 }

@@ -23,13 +23,13 @@ module _ (old new : StreamService) (line : List ℕ) (most : new.renew_after ≡
     accept text acc behind stand None here = absurd here
     accept text acc behind stand (Some k) here =
         let went = acc behind stand k here in
-        (Some went.0, inl went.1, subst (λ o. IsIn o (Some went.0)) (sym is) went.2)
+        (Some went.0, went.1, subst (λ o. IsIn o (Some went.0)) (sym is) went.2)
 
     reject : (refusal : Refusal) → Rejects {T = Vec ℕ} (Err refusal) d line → e ≡ d → (behind : Packet → List Op) → (k : Option Following) → IsIn (Some d) k
         → Goes old.renew_after behind new.session line (refusal_reply refusal) k
     reject refusal rej same behind None here = absurd here
     reject refusal rej same behind (Some k) here =
-        (Some k, inr (rej k here), subst (λ o. IsIn o (Some k)) (sym is) (subst (λ (x : Session). SessionAt x k) (sym same) here))
+        (Some k, inr (inl (rej k here)), subst (λ o. IsIn o (Some k)) (sym is) (subst (λ (x : Session). SessionAt x k) (sym same) here))
 
     pub by_session : (r : Result (Vec ℕ) Refusal) → Accepts old.renew_after r d e line → Rejects r d line → OnErr r (e ≡ d)
         → MatchResult r (λ text. AnswersSo old line (accepted_reply text.items) new) (λ refusal. AnswersSo old line (refusal_reply refusal) new × (new ≡ old))
@@ -40,12 +40,12 @@ module _ (old new : StreamService) (line : List ℕ) (most : new.renew_after ≡
   -- no coordinator is listed yet
   module _ (was : old.session ≡ None) where
     begin : (text : Vec ℕ) → Begins old.renew_after (Ok text) new line → (behind : Packet → List Op) → (k : Option Following) → IsIn None k → Goes old.renew_after behind new.session line (accepted_reply text.items) k
-    begin text acc behind None here = let went = acc behind in (Some went.0, inl went.1, went.2)
+    begin text acc behind None here = acc behind
     begin text acc behind (Some k) here = absurd here
 
     refuse : (refusal : Refusal) → IsRefused None line (refusal_reply refusal) None → new ≡ old → (behind : Packet → List Op) → (k : Option Following) → IsIn None k
         → Goes old.renew_after behind new.session line (refusal_reply refusal) k
-    refuse refusal rej same behind None here = (None, inr rej, subst (λ (x : StreamService). IsIn x.session None) (sym same) (subst (λ o. IsIn o None) (sym was) tt))
+    refuse refusal rej same behind None here = (None, inr (inl rej), subst (λ (x : StreamService). IsIn x.session None) (sym same) (subst (λ o. IsIn o None) (sym was) tt))
     refuse refusal rej same behind (Some k) here = absurd here
 
     pub by_list : (r : Result (Vec ℕ) Refusal) → Begins old.renew_after r new line → IfErr r (λ e. IsRefused None line (refusal_reply e) None) → OnErr r (new ≡ old)

@@ -1,6 +1,8 @@
 pub mod Results
 pub mod Anew
 pub mod Steps
+pub mod StepCauses
+pub mod Verdicts
 pub mod OwnDeltas
 pub mod Sessions
 pub mod Followers

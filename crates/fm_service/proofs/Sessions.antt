@@ -20,7 +20,7 @@ use Rattle.fm_script.specs.Requests.{RequestModel, Does, Renews, Requests, reque
 use Rattle.fm_io.specs.Replies.{accepted_reply}
 use Rattle.fm_service.specs.declared.session.Session.{Session}
 use Rattle.fm_service.specs.WorldSteps.{step_at, WorldStep}
-use Rattle.fm_service.specs.StreamSteps.{Following, StandBehind, packet_by_ops, packet_number_at, at_world, DoesAt, fresh, is_due, IsAccepted, IsStreamState, RefusesIn}
+use Rattle.fm_service.specs.StreamSteps.{Following, StandBehind, packet_by_ops, packet_number_at, at_world, DoesAt, fresh, is_due, Answers, IsStreamState, RefusesIn}
 use Rattle.fm_service.specs.Renewing.{renewed_world}
 use Rattle.fm_service.specs.Sessions.{SessionAt}
 use Rattle.fm_service.specs.inner.SessionSteps.{Goes, StopsRequest}
@@ -59,11 +59,11 @@ Settled most mid new j = (new ≡ mid) ⊎ (is_due most j.world × SessionAt new
 
 pub accepts : (most : ℕ) (behind : Packet → List Op) (mid new : Session) (k j : Following) (line text : List ℕ) (asked : RequestModel)
     → Requests k.named.names line asked → DoesAt behind k asked text j → SessionAt mid j → Settled most mid new j
-    → (i : Following) × IsAccepted most behind (Some k) line (accepted_reply text) (Some i) × SessionAt new i
+    → (i : Following) × Answers most behind (Some k) line (accepted_reply text) (Some i) × SessionAt new i
 accepts most behind mid new k j line text asked requests does at (inl same) =
-    (j, record { asked = asked; requests = requests; text = text; made = Some j; does = (j, does, refl); settles = inl refl; is = refl }, subst (λ (d : Session). SessionAt d j) (sym same) at)
+    (j, inl (record { asked = asked; requests = requests; text = text; made = Some j; does = (j, does, refl); settles = inl refl; is = refl }), subst (λ (d : Session). SessionAt d j) (sym same) at)
 accepts most behind mid new k j line text asked requests does at (inr (due, anew)) =
-    (fresh (renewed_world j.world), record { asked = asked; requests = requests; text = text; made = Some j; does = (j, does, refl); settles = inr (j, refl, due, refl); is = refl }, anew)
+    (fresh (renewed_world j.world), inl (record { asked = asked; requests = requests; text = text; made = Some j; does = (j, does, refl); settles = inr (j, refl, due, refl); is = refl }), anew)
 
 -- before coordinators are listed every other request is refused
 pub too_early : (q : Request) → ((listed : Vec ℕ) → q ≡ request.Open listed → ⊥) → RefusesIn None (request_model q) (BadScript 0)

@@ -1,6 +1,8 @@
 -- The effect of the lines of a stream, by the sets of operations that coordinators took in (this project's profile).
 use Rattle.std.specs.Prelude.{◌≡◌, ◌⊎◌, ℕ, ◌++◌, ◌∷◌, List, [], cond, length, nat_le, nat_lt, replicate, get_or, slice_set, Option, Some, None, unwrap_or, slice_get, IsTrue}
 use Rattle.std.specs.List.{list_any}
+use Rattle.serde_json.specs.Data.{Data}
+use Rattle.serde_json.specs.Read.{read as read_text}
 use Rattle.fm_records.specs.declared.ops.Op.{Op}
 use Rattle.fm_records.specs.declared.refusal.Refusal.{Refusal}
 use Rattle.fm_records.specs.declared.refusal.Refusal.TheVariants.{OutOfMemory, BadScript}
@@ -18,7 +20,8 @@ use Rattle.fm_world.specs.Represents.{Kept, WorldRepresents}
 use Rattle.fm_script.specs.declared.script.ScriptAct.{ScriptAct}
 use Rattle.fm_script.specs.declared.script.ScriptAct.TheVariants as act
 use Rattle.fm_script.specs.Script.{is_named}
-use Rattle.fm_script.specs.Requests.{RequestModel, Opens, Does, Cuts, News, OwnNews, Takes, Asks, Agrees, Versions, Renews, Requests, RequestsNothing}
+use Rattle.fm_script.specs.Requests.{RequestModel, Opens, Does, Cuts, News, OwnNews, Takes, Asks, Agrees, Versions, Renews, request_from, line_checked, AsksNothing, Requests, RequestsNothing}
+use Rattle.fm_script.specs.Lines.{at_of}
 use Rattle.fm_query.specs.declared.query.Query.TheVariants as query
 use Rattle.fm_query.specs.Queries.{IsText, IsUnanswered}
 use Rattle.fm_query.specs.Unpacked.{IsPacketIn, IsNoPacketIn}
@@ -28,6 +31,7 @@ use Rattle.fm_service.specs.WorldSteps.{step_at, StreamRoundStep}
 use Rattle.fm_service.specs.WorldSteps as acting
 use Rattle.fm_service.specs.Renewing.{renewed_world}
 use Rattle.fm_service.specs.OwnNews.{own_news_since, own_mark_after}
+use Rattle.fm_service.specs.VerdictText.{verdict_text}
 
 -- the packets that were cut under a name, in the order of their cuts: their names, and their numbers among all packets
 pub record Named : Type 0 where
@@ -198,6 +202,35 @@ is_due most w = IsTrue (list_any (λ r. nat_le most (length r.steps)) w.replicas
 abbrev pub Settles : ℕ → Option Following → Option Following → Type 0
 Settles most made new = (new ≡ made) ⊎ ((k : Following) × (made ≡ Some k) × is_due most k.world × (new ≡ Some (fresh (renewed_world k.world))))
 
+-- why a line whose value is that may be refused: memory runs out, it asks for nothing, or for what is refused. A line that asks to check
+-- another is refused only for want of memory
+abbrev pub MayBeRefused : Option Following → Data → Refusal → Type 0
+MayBeRefused old d e =
+    (e ≡ OutOfMemory)
+    ⊎ ((AsksNothing (cut_names_in old) d × (e ≡ BadScript 0))
+    ⊎ ((asked : RequestModel) × (line_checked d ≡ None) × (request_from (cut_names_in old) d ≡ Some asked) × RefusesIn old asked e))
+
+-- what is said beforehand of a line that may be refused so: that it is accepted, if it is refused at most because memory runs out; else
+-- another refusal that it may get
+abbrev pub IsVerdict : (Refusal → Type 0) → Option Refusal → Type 0
+IsVerdict MayCome None = (e : Refusal) → MayCome e → e ≡ OutOfMemory
+IsVerdict MayCome (Some e) = MayCome e × (e ≡ OutOfMemory → ⊥)
+
+-- the text says what a line whose value is that would be answered
+abbrev pub TellsVerdict : Option Following → Data → List ℕ → Type 0
+TellsVerdict old d text = (verdict : Option Refusal) × IsVerdict (MayBeRefused old d) verdict × (text ≡ verdict_text (at_of d) verdict)
+
+-- a line asks to check another: what that would be answered is told, and nothing changes
+pub record IsChecked (old : Option Following) (line answer : List ℕ) (new : Option Following) : Type 0 where
+  pub value : Data
+  pub read : read_text line ≡ Some value
+  pub inner : Data
+  pub checks : line_checked value ≡ Some inner
+  pub text : List ℕ
+  pub tells : TellsVerdict old inner text
+  pub is : answer ≡ accepted_reply text
+  pub same : new ≡ old
+
 -- a line is accepted: what it asks for is done, and its text told
 pub record IsAccepted (most : ℕ) (behind : Packet → List Op) (old : Option Following) (line answer : List ℕ) (new : Option Following) : Type 0 where
   pub asked : RequestModel
@@ -217,7 +250,7 @@ pub record IsRefused (old : Option Following) (line answer : List ℕ) (new : Op
 
 -- a line is answered so, and makes new of old
 abbrev pub Answers : ℕ → (Packet → List Op) → Option Following → List ℕ → List ℕ → Option Following → Type 0
-Answers most behind old line answer new = IsAccepted most behind old line answer new ⊎ IsRefused old line answer new
+Answers most behind old line answer new = IsAccepted most behind old line answer new ⊎ (IsRefused old line answer new ⊎ IsChecked old line answer new)
 
 -- the world, the names and the marks are those of the stream
 pub record IsStreamState (world : Kept) (named : Named) (marks own_marks : List ℕ) (k : Following) : Type 0 where

@@ -23,6 +23,7 @@ use crate::acting::{cut, prepare_cut, round, share_for, take_step};
 use crate::cut_names::NamedPackets;
 use crate::own_news::own_news_since;
 use crate::renewing::renewed;
+use crate::verdict::check_line;
 use fm_coord::coordinator::Coordinator;
 use fm_coord::entry::Range;
 use fm_edit::keepers::Keeper;
@@ -31,8 +32,8 @@ use fm_query::packet_text::packet_in;
 use fm_query::query::{Query, QueryAnswer, ask};
 use fm_question::question::Question;
 use fm_records::refusal::Refusal;
-use fm_script::parse_request::read_request;
-use fm_script::request::Request;
+use fm_script::parse_request::read_line;
+use fm_script::request::{Request, StreamLine};
 use fm_script::script::{RoundKind, ScriptAct, ScriptStep};
 use fm_world::step::Act as WorldAct;
 use fm_world::world::World;
@@ -64,13 +65,17 @@ impl Session {
     }
 
     /// Does what the line asks for, and returns its text. Then, if a history has as many entries as that, the
-    /// coordinators are renewed, if there is memory for it. A line that is refused changes nothing.
+    /// coordinators are renewed, if there is memory for it. A line that is refused changes nothing, and neither does one that asks to
+    /// check another.
     pub(crate) fn answer(&mut self, most: usize, line: &[u8]) -> Result<Vec<u8>, Refusal>
         ensures ok { Accepts most result self.old self.new line.now }
         ensures err { Rejects result self.old line.now }
         ensures unchanged { OnErr result (self.new ≡ self.old) }
     {
-        let request = read_request(self.alloc, line, self.named.names())?;
+        let request = match read_line(self.alloc, line, self.named.names())? {
+            StreamLine::Request(request) => request,
+            StreamLine::Check(checked) => return check_line(self, &checked),
+        };
         let text = self.execute(request)?;
         self.settle(most);
         Ok(text)
@@ -130,8 +135,8 @@ impl Session {
         Ok(Vec::new(self.alloc))
     }
 
-    // The number of the packet whose name has the place, or one after those of all packets.
-    fn number_at(&self, place: usize) -> usize
+    /// The number of the packet whose name has the place, or one after those of all packets.
+    pub(crate) fn number_at(&self, place: usize) -> usize
         ensures { (k : Following) → SessionAt self.now k → result ≡ packet_number_at k place }
     {
         self.named
@@ -309,8 +314,8 @@ fn is_due(coordinators: &[Coordinator<Keeper>], most: usize) -> bool
     }
 }
 
-// What is news: the deltas from the mark to the end, or all that is known if some of these were trimmed.
-fn news_between(mark: u64, floor: u64, end: u64) -> Range
+/// What is news: the deltas from the mark to the end, or all that is known if some of these were trimmed.
+pub(crate) fn news_between(mark: u64, floor: u64, end: u64) -> Range
     ensures { result ≡ cond (nat_lt mark floor) range.Full (range.Interval mark end) }
 {
     if mark < floor {

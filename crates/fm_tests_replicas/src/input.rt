@@ -1,7 +1,7 @@
 //! Scripts and lines of a stream: each kind of operation, step and line is read.
 
 use fm_script::names::Names;
-use fm_script::parse_request::read_request;
+use fm_script::parse_request::read_line;
 use fm_script::parse_script::read_script;
 use std::alloc::Global;
 use std::test::Fail;
@@ -144,80 +144,96 @@ static READ_STEPS: [(&str, &str, &str); 18] = [
 ];
 
 // Lines of a stream, as they are read.
-static READ_LINES: [(&str, &str); 22] = [
+static READ_LINES: [(&str, &str); 26] = [
     (
         r#"{"coordinators":[64,1]}"#,
-        "Open([CoordId { number: 64 }, CoordId { number: 1 }])",
+        "Request(Open([CoordId { number: 64 }, CoordId { number: 1 }]))",
     ),
     (
         r#"{"at":255,"trim":7}"#,
-        "Do(ScriptStep { at: 255, act: Trim(7) })",
+        "Request(Do(ScriptStep { at: 255, act: Trim(7) }))",
     ),
     (
         r#"{"deliver":"b","at":1}"#,
-        "Do(ScriptStep { at: 1, act: Deliver(1) })",
+        "Request(Do(ScriptStep { at: 1, act: Deliver(1) }))",
     ),
     (
         r#"{"at":1,"cut":{}}"#,
-        "Cut { at: 1, range: Full, name: None }",
+        "Request(Cut { at: 1, range: Full, name: None })",
     ),
     (
         r#"{"at":1,"cut":{"to":0,"more":[],"from":18446744073709551615}}"#,
-        "Cut { at: 1, range: Interval(18446744073709551615, 0), name: None }",
+        "Request(Cut { at: 1, range: Interval(18446744073709551615, 0), name: None })",
     ),
     (
         r#"{"at":1,"cut":{"name":"b"}}"#,
-        r#"Cut { at: 1, range: Full, name: Some("b") }"#,
+        r#"Request(Cut { at: 1, range: Full, name: Some("b") })"#,
     ),
-    (r#"{"at":0,"news":true}"#, "News { at: 0 }"),
+    (r#"{"at":0,"news":true}"#, "Request(News { at: 0 })"),
     (
         r#"{"at":2,"take":"46444732"}"#,
-        r#"Take { at: 2, digits: "46444732" }"#,
+        r#"Request(Take { at: 2, digits: "46444732" })"#,
     ),
     (
         r#"{"at":1,"ask":"graph"}"#,
-        "Ask { at: 1, question: Graph }",
+        "Request(Ask { at: 1, question: Graph })",
     ),
     (
         r#"{"at":1,"ask":"solve"}"#,
-        "Ask { at: 1, question: Solve }",
+        "Request(Ask { at: 1, question: Solve })",
     ),
-    (r#"{"at":1,"ask":"plan"}"#, "Ask { at: 1, question: Plan }"),
+    (r#"{"at":1,"ask":"plan"}"#, "Request(Ask { at: 1, question: Plan })"),
     (
         r#"{"at":1,"ask":"winners"}"#,
-        "Ask { at: 1, question: Winners }",
+        "Request(Ask { at: 1, question: Winners })",
     ),
     (
         r#"{"at":1,"ask":"stops"}"#,
-        "Ask { at: 1, question: Stops }",
+        "Request(Ask { at: 1, question: Stops })",
     ),
     (
         r#"{"at":1,"ask":"list"}"#,
-        "Ask { at: 1, question: List(All) }",
+        "Request(Ask { at: 1, question: List(All) })",
     ),
     (
         r#"{"at":1,"ask":"list","of":"waiting"}"#,
-        "Ask { at: 1, question: List(Waiting) }",
+        "Request(Ask { at: 1, question: List(Waiting) })",
     ),
     (
         r#"{"at":1,"ask":"why","task":"00000000-0000-0000-0000-000000000015"}"#,
-        "Ask { at: 1, question: Why(TaskId { number: 21 }) }",
+        "Request(Ask { at: 1, question: Why(TaskId { number: 21 }) })",
     ),
     (
         r#"{"at":1,"ask":"next","job":"00000000-0000-0000-0000-000000000001"}"#,
-        "Ask { at: 1, question: Next(Job(JobId { number: 1 })) }",
+        "Request(Ask { at: 1, question: Next(Job(JobId { number: 1 })) })",
     ),
     (
         r#"{"at":1,"ask":"next","task":"00000000-0000-0000-0000-000000000015"}"#,
-        "Ask { at: 1, question: Next(Task(TaskId { number: 21 })) }",
+        "Request(Ask { at: 1, question: Next(Task(TaskId { number: 21 })) })",
     ),
     (
         r#"{"incarnation":18446744073709551615,"machine":"00000000-0000-0000-0000-00000000000a","ask":"next","at":1}"#,
-        "Ask { at: 1, question: Next(Machine(MachineId { number: 10 }, 18446744073709551615)) }",
+        "Request(Ask { at: 1, question: Next(Machine(MachineId { number: 10 }, 18446744073709551615)) })",
     ),
-    (r#" { "ask" : "agree" } "#, "Agree"),
-    (r#"{"ask":"version"}"#, "Version"),
-    (r#"{"renew":true}"#, "Renew"),
+    (r#" { "ask" : "agree" } "#, "Request(Agree)"),
+    (r#"{"ask":"version"}"#, "Request(Version)"),
+    (r#"{"renew":true}"#, "Request(Renew)"),
+    (
+        r#"{"ask":"check","line":{"at":7,"trim":3}}"#,
+        "Check(CheckedLine { at: 7, asked: Request(Do(ScriptStep { at: 7, act: Trim(3) })) })",
+    ),
+    (
+        r#"{"line":{"at":256,"trim":3},"ask":"check"}"#,
+        "Check(CheckedLine { at: 0, asked: Nothing })",
+    ),
+    (
+        r#"{"ask":"check","line":{"line":{},"ask":"check"}}"#,
+        "Check(CheckedLine { at: 0, asked: Check })",
+    ),
+    (
+        r#"{"ask":"check","line":{"line":[],"ask":"check"}}"#,
+        "Check(CheckedLine { at: 0, asked: Nothing })",
+    ),
 ];
 
 // The script that the text spells, as it is printed.
@@ -260,8 +276,8 @@ fn each_kind_of_line_is_read(rt: HostRuntime) -> Result<(), Fail> {
     let mut names = Names::new(alloc);
     names.add("a")?;
     for (line, read) in &READ_LINES {
-        let request = read_request(alloc, line.as_bytes(), &names)?;
-        let printed = format!(in alloc; "{request:?}")?;
+        let asked = read_line(alloc, line.as_bytes(), &names)?;
+        let printed = format!(in alloc; "{asked:?}")?;
         assert_eq!(rt; printed.as_str(), *read);
     }
     Ok(())
