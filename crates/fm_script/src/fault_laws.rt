@@ -9,10 +9,11 @@ ghost use Rattle.fm_script.specs.declared.script.ScriptStep.{ScriptStep};
 ghost use Rattle.fm_script.specs.Script.{script_step_of, script_fault, IsScriptOf};
 ghost use Rattle.fm_script.specs.ScriptFaults.{step_form, form_fault, value_fault, first_asking, refusal_named, IsScript};
 
-/// A value has a fault of form exactly if it is no step, and exactly if it is no script. The fault of a script is at the
-/// step that `read_script` names, and 0 is the script as a whole.
+/// A value has a fault of form as a step exactly if it is no step, and as a script exactly if it is no script. The
+/// fault of a script is at the step that `read_script` names, where 0 is the script as a whole.
 pub fn law_form()
-    ensures step { (names : List (List ℕ)) (d : Data) → is_none (step_form names d) ≡ is_some (script_step_of names d) }
+    ensures step { (names : List (List ℕ)) (d : Data)
+        → is_none (step_form names d) ≡ is_some (script_step_of names d) }
     ensures script { (d : Data) → form_fault d ≡ None ↔ IsScript d }
     ensures named { (d : Data) → option_map refusal_named (form_fault d) ≡ option_map refusal.BadScript (script_fault d) }
 {}

@@ -58,7 +58,8 @@ pub enum CutFault {
 pub enum TellFault {
     /// It is no object of one member that is named for a kind.
     Kind,
-    /// A field is missing, or its value is not of the field's type. It is the first of the kind's fields that is at fault.
+    /// A field is missing, or its value is not of the field's type. It is the first of the kind's fields that is at
+    /// fault.
     Lacks(OpKind, FieldName),
 }
 
