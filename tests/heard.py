@@ -3,7 +3,7 @@ import itertools
 import json
 import re
 
-BARE = ("agree", "unpack")
+BARE = ("agree", "check", "unpack")
 QUESTIONS = ("graph", "solve", "plan", "winners", "list")
 # the option of a command with its least and its most number, and the number of one that is left out
 NUMBERED = {"fleet": ("rounds", 0, 1000), "follow": ("renew-after", 1, 1000000), **dict.fromkeys(QUESTIONS, ("at", 0, 255))}

@@ -857,6 +857,107 @@ CHECKS = [
 ]
 
 
+def but(told, member, value):
+    """The step of the name with another value of a member, or without the member if there is none."""
+    at = json.loads(STEPS[told])
+    (fields,) = at["tell"].values()
+    if value is None:
+        del fields[member]
+    else:
+        fields[member] = value
+    return json.dumps(at)
+
+
+ID, NUMBER, FLAG = "a UUID is wanted", "a whole number is wanted", "true or false is wanted"
+
+
+def up_to(most, least=0):
+    return "a whole number from %d to %d is wanted" % (least, most)
+
+
+PRICE, BANDWIDTH, SEAT = up_to(1000000000), up_to(1000000), up_to(64, 1)
+# the fields of operations, with a value that is none of each, or without the field, and what is wanted there
+LACKING = [
+    ("J", "id", None, ID), ("J", "id", "..01", ID), ("J", "version", -1, NUMBER), ("J", "version", 2 ** 64, NUMBER), ("J", "writer", 256, SEAT),
+    ("J", "withdrawn", 0, FLAG), ("J", "wait", 2 ** 32, PRICE), ("J", "preempt", "1", PRICE),
+    ("T", "id", 17, ID), ("T", "version", None, NUMBER), ("T", "writer", None, SEAT), ("T", "withdrawn", "false", FLAG),
+    ("T", "job", None, ID),
+    ("T", "request", 0.5, BANDWIDTH), ("T", "prefer", {}, "a list of at most four objects with machine and credit is wanted"),
+    ("T", "prefer", [{"machine": "..00a"}], "a list of at most four objects with machine and credit is wanted"),
+    ("TDone", "id", "", ID), ("TDone", "attempt", 2 ** 32, up_to(MOST_ATTEMPT)), ("TDone", "phase", "over", "pending, running or done is wanted"),
+    ("A", "id", None, ID), ("A", "incarnation", "1", NUMBER), ("A", "version", 1.5, NUMBER), ("A", "writer", -1, SEAT), ("A", "up", None, FLAG),
+    ("A", "slots", None, up_to(1000, 1)), ("A", "nic", True, BANDWIDTH),
+    ("Used0", "id", [], ID), ("Used0", "incarnation", None, NUMBER), ("Used0", "number", None, NUMBER), ("Used0", "used", -1, PRICE),
+    ("OnA", "id", None, ID), ("OnA", "attempt", None, up_to(MOST_ATTEMPT)), ("OnA", "coordinator", "1", SEAT), ("OnA", "machine", None, ID),
+    ("OnA", "incarnation", None, NUMBER),
+]
+KINDS = {"J": "job", "T": "spec", "TDone": "progress", "A": "machine", "Used0": "report", "OnA": "propose"}
+# fields that are out of their ranges, with the reasons
+OUT_OF_RANGE = [
+    ("J", "writer", 0, "writer must be from 1 to 64"), ("J", "wait", 1000000001, "wait must be from 0 to 1000000000"),
+    ("J", "preempt", 1000000001, "preempt must be from 0 to 1000000000"), ("T", "writer", 65, "writer must be from 1 to 64"),
+    ("T", "request", 1000001, "request must be from 0 to 1000000"),
+    ("T", "prefer", [{"machine": "..00b", "credit": 1}, {"machine": "..00a", "credit": 1}],
+     "prefer must list machines by rising id, with credits from 0 to 1000000000"),
+    ("A", "slots", 0, "slots must be from 1 to 1000"), ("A", "nic", 1000001, "nic must be from 0 to 1000000"),
+    ("Used0", "used", 1000000001, "used must be from 0 to 1000000000"), ("OnA", "coordinator", 65, "coordinator must be from 1 to 64"),
+]
+MEMBERS, ACTS = "a step has two members, at and what happens", "beside at, a step has tell, cut, deliver, trim, round or relieve"
+KIND = "tell: one operation is wanted: job, spec, progress, machine, report or propose"
+CUT = "cut: from and to are whole numbers, and one is not without the other"
+SHARE = "round: true, or an object of writers and each, or of one of them, is wanted"
+# steps of the coordinators 1 and 2, each the only one of its script, with the reason why it is at fault
+FAULTY = [
+    ('{"at":1}', MEMBERS), ("{}", MEMBERS), ("1", MEMBERS), ("null", MEMBERS), ("[]", MEMBERS),
+    ('{"at":1,"trim":0,"cut":{"name":"a"}}', MEMBERS),
+    ('{"at":256,"trim":0}', "at: a whole number from 0 to 255 is wanted"), ('{"at":"1","trim":0}', "at: a whole number from 0 to 255 is wanted"),
+    ('{"trim":0,"round":true}', "at: a whole number from 0 to 255 is wanted"), ('{"at":1,"Trim":0}', ACTS), ('{"at":1,"news":true}', ACTS),
+    ('{"at":1,"cut":{}}', "cut: a name is wanted, as a text"), ('{"at":1,"cut":{"name":1}}', "cut: a name is wanted, as a text"),
+    ('{"at":1,"cut":"a"}', "cut: a name is wanted, as a text"), ('{"at":1,"cut":{"name":"a","from":1}}', CUT),
+    ('{"at":1,"cut":{"name":"a","to":1}}', CUT), ('{"at":1,"cut":{"name":"a","from":0,"to":"1"}}', CUT),
+    ('{"at":1,"tell":{}}', KIND), ('{"at":1,"tell":{"jobs":{}}}', KIND), ('{"at":1,"tell":{"job":{},"spec":{}}}', KIND),
+    ('{"at":1,"tell":[]}', KIND),
+    ('{"at":1,"tell":{"job":1}}', "tell: job: id: " + ID), ('{"at":1,"tell":{"propose":{}}}', "tell: propose: id: " + ID),
+    ('{"at":1,"deliver":1}', "deliver: a text is wanted"), ('{"at":1,"trim":-1}', "trim: a whole number is wanted"),
+    ('{"at":1,"round":false}', SHARE), ('{"at":1,"round":{"each":0}}', SHARE), ('{"at":1,"round":{"writers":[1],"more":1}}', SHARE),
+    ('{"at":1,"relieve":false}', "relieve: true is wanted"), ('{"at":1,"relieve":1}', "relieve: true is wanted"),
+    ('{"at":3,"trim":0}', "at: no coordinator has the number 3"), ('{"at":0,"round":true}', "at: no coordinator has the number 0"),
+    ("GetA", "deliver: no earlier step cuts a packet of this name"),
+    *((but(told, member, value), "tell: %s: %s: %s" % (KINDS[told], member, wanted)) for told, member, value, wanted in LACKING),
+    *((but(told, member, value), "tell: " + wanted) for told, member, value, wanted in OUT_OF_RANGE),
+]
+# steps of the coordinators 1 and 2, by name or as they stand, and what is said of them
+CHECKED = [
+    ("", "accepted"), ("J A T OnA CutA 2:GetA 2:Round 2:Relieve 2:CutB GetB Trim1", "accepted"),
+    # what depends on the histories is not looked for
+    ("CutBoth Trim9 Trim1 CutBackwards", "accepted"),
+    # the form of a later step comes before what an earlier one asks for
+    ("J NoSlots Strange", "step 3: " + MEMBERS), ("J GetA 9:J", "step 2: deliver: no earlier step cuts a packet of this name"),
+    ("J 9:J GetA", "step 2: at: no coordinator has the number 9"), ("J NoSlots GetA", "step 2: tell: slots must be from 1 to 1000"),
+    ("NoSlots 9:J", "step 1: tell: slots must be from 1 to 1000"), ("9:NoSlots", "step 1: at: no coordinator has the number 9"),
+    ("9:GetA", "step 1: at: no coordinator has the number 9"), ("MoreWait NoSlots", "step 1: tell: wait must be from 0 to 1000000000"),
+    # a packet is there behind its cut, and its name is given once
+    ("CutA GetA GetB", "step 3: deliver: no earlier step cuts a packet of this name"),
+    ("GetA CutA", "step 1: deliver: no earlier step cuts a packet of this name"),
+    ("CutA CutB 2:CutA", "step 3: cut: an earlier cut gave this name"), ("9:J CutA 2:CutA", "step 3: cut: an earlier cut gave this name"),
+    ("CutB CutA GetA GetB GetC", "step 5: deliver: no earlier step cuts a packet of this name"),
+    ("J " * 11 + "Strange", "step 12: " + MEMBERS),
+]
+LISTED_FAULT = "script: coordinators: at least one number, each from 1 to 64, none twice, is wanted"
+# whole texts, and what is said of them
+CHECKED_TEXTS = [
+    ("", "script: no JSON"), ("{", "script: no JSON"), ('{"coordinators":[1],"steps":[]}x', "script: no JSON"),
+    ("[]", LISTED_FAULT), ("{}", LISTED_FAULT),
+    ('{"steps":[]}', LISTED_FAULT), ('{"coordinators":[],"steps":[]}', LISTED_FAULT), ('{"coordinators":[1,2,1],"steps":[]}', LISTED_FAULT),
+    ('{"coordinators":[0],"steps":[]}', LISTED_FAULT), ('{"coordinators":[65],"steps":[1]}', LISTED_FAULT),
+    ('{"coordinators":1,"steps":[]}', LISTED_FAULT),
+    ('{"coordinators":["1"]}', LISTED_FAULT), ('{"coordinators":[1]}', "script: steps: a list is wanted"),
+    ('{"coordinators":[1],"steps":{}}', "script: steps: a list is wanted"), ('{"coordinators":[64,1],"steps":[],"more":1}', "accepted"),
+]
+# refusals that a check finds
+CHECKED_REFUSALS = {"2", "8", "9", "16"}
+
+
 def expanded(text):
     """The text with each `..` written out; an end of a range is no id."""
     return re.sub(r"\.\.(?!=)", ZEROS, text)
@@ -868,14 +969,37 @@ def step(name):
     return STEPS[name].replace('"at":1', '"at":' + at, 1) if at else STEPS[name]
 
 
+def listed(numbers, *steps):
+    """The script of the coordinators and the steps, as they stand."""
+    return expanded('{"coordinators":[%s],"steps":[%s]}\n' % (numbers, ",\n".join(steps)))
+
+
 def script(steps, numbers="1"):
     """The script of the coordinators and the steps, by name."""
-    return expanded('{"coordinators":[%s],"steps":[%s]}\n' % (numbers, ",\n".join(map(step, steps.split()))))
+    return listed(numbers, *map(step, steps.split()))
 
 
 def answer(status, out, err):
     """An answer, as it is seen."""
     return status, expanded(out).encode(), expanded(err).encode()
+
+
+def checks(seen):
+    """Checks of scripts: each reason, which of several comes first, and that a run that is refused is refused by that."""
+    for faulty, reason in FAULTY:
+        text = listed("1,2", STEPS.get(faulty, faulty))
+        yield "check: %s: %s" % (faulty, reason), seen("check", text) == answer(3, "step 1: %s\n" % reason, "")
+    for steps, line in CHECKED:
+        yield "check: %s" % steps, seen("check", script(steps, "1,2")) == answer(3 * (line != "accepted"), line + "\n", "")
+    for text, line in CHECKED_TEXTS:
+        yield "check of a text: %s" % text, seen("check", text) == answer(3 * (line != "accepted"), line + "\n", "")
+    for numbers, steps in sorted({("1", steps) for _, steps, *_ in RUNS} | {(numbers, steps) for _, numbers, steps, *_ in WORLDS}):
+        text = script(steps, numbers)
+        (status, out, _), (_, _, err) = seen("check", text), seen("agree", text)
+        refused = re.fullmatch(rb"firmament: refusal (\d+)(?: at step (\d+))?\n", err)
+        found = refused and refused[1].decode() in CHECKED_REFUSALS
+        named = b"step %s: " % refused[2] if found and refused[2] else b"script: " if found else b"accepted\n"
+        yield "check as it is run: %s at %s" % (steps, numbers), out.startswith(named) and status == (3 if found else 0)
 
 
 def runs(seen):
@@ -885,7 +1009,9 @@ def runs(seen):
         yield "%s at %s: %s" % (words, numbers, steps), seen(expanded(words), script(steps, numbers)) == answer(*wanted)
     for packet, *wanted in PACKETS:
         yield "unpack " + packet, seen("unpack", packet) == answer(*wanted)
-    for words in "--help", "help", "graph -h", "solve --help", "winners --help", "list --help", "help list", "agree --help", "pack --help":
+    yield from checks(seen)
+    for words in ("--help", "help", "graph -h", "solve --help", "winners --help", "list --help", "help list", "agree --help", "pack --help",
+                  "help check"):
         status, out, err = seen(words, script("Strange"))
         yield words, (status, err) == (0, b"") and out != b""
 

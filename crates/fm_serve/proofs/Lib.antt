@@ -3,3 +3,4 @@ pub mod Coming
 pub mod Answering
 mod Listing
 mod Numbers
+pub mod Checking

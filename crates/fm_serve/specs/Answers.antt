@@ -6,6 +6,8 @@ use Rattle.fm_world.specs.Worlds.{WorldOfSets}
 use Rattle.fm_script.specs.declared.script.ScriptStep.{ScriptStep}
 use Rattle.fm_script.specs.Script.{is_text}
 use Rattle.fm_script.specs.Texts.{IsScriptText, SpellsNone}
+use Rattle.fm_script.specs.declared.script_fault.ScriptFault.{ScriptFault}
+use Rattle.fm_script.specs.ScriptFaults.{IsFirstFault}
 use Rattle.fm_query.specs.declared.query.Query.{Query}
 use Rattle.fm_query.specs.declared.query.Query.TheVariants as query
 use Rattle.fm_query.specs.Queries.{IsText, differs_in, Lacks}
@@ -14,12 +16,13 @@ use Rattle.fm_args.specs.declared.words.ScriptQuestion.{ScriptQuestion}
 use Rattle.fm_args.specs.declared.words.ScriptQuestion.TheVariants as question
 use Rattle.fm_question.specs.declared.question.Question.TheVariants as asked
 use Rattle.fm_question.specs.declared.question.Listing.TheVariants as listing
-use Rattle.fm_args.specs.Invocation.{ArgsModel, ask, agree, pack, unpack, why}
+use Rattle.fm_args.specs.Invocation.{ArgsModel, ask, agree, check, pack, unpack, why}
 use Rattle.fm_serve.specs.declared.fault.Fault.{Fault}
 use Rattle.fm_serve.specs.declared.ending.Ending.{Ending}
 use Rattle.fm_serve.specs.declared.ending.Ending.TheVariants.{Done, Differ}
 use Rattle.fm_serve.specs.Faults.{fault_of, script_fault_of}
-use Rattle.fm_serve.specs.Endings.{coordinator_asked}
+use Rattle.fm_serve.specs.Endings.{coordinator_asked, ending_checked}
+use Rattle.fm_serve.specs.CheckTexts.{check_text}
 use Rattle.fm_script.specs.Openings.{new_world}
 use Rattle.fm_serve.specs.ScriptSteps.{Come, StopsScript, After}
 
@@ -51,6 +54,7 @@ why_about task (Err fault) = Err fault
 abbrev pub query_of : ArgsModel → List ℕ → List (List ℕ) → Result (Option Query) Fault
 query_of (ask q at) listed names = query_about q (coordinator_asked listed at)
 query_of agree listed names = Ok (Some query.Agree)
+query_of check listed names = Ok None
 query_of (pack name) listed names = Ok (option_map query.Packet (position (is_text name) names))
 query_of unpack listed names = Ok None
 query_of (why task at) listed names = why_about task (coordinator_asked listed at)
@@ -72,8 +76,16 @@ pub record IsOfScript (c : ArgsModel) (text : List ℕ) (ending : Ending) (outpu
   pub came : Come (new_world listed) steps world
   pub answered : AnswersIn query world ending output
 
--- the complete output of the command for the text, and the ending; `unpack` reads no script
+-- the line of the text's first fault as a script, or the line that there is none; no step ran
+pub record IsChecked (text : List ℕ) (ending : Ending) (output : List ℕ) : Type 0 where
+  pub fault : Option ScriptFault
+  pub found : IsFirstFault text fault
+  pub ends : ending ≡ ending_checked fault
+  pub line : output ≡ check_text fault
+
+-- the complete output of the command for the text, and the ending; `unpack` reads no script, and `check` runs none
 abbrev pub Wants : ArgsModel → List ℕ → Ending → List ℕ → Type 0
+Wants check text ending output = IsChecked text ending output
 Wants unpack text ending output = (ending ≡ Done) × IsUnpacked text output
 Wants c text ending output = IsOfScript c text ending output
 
@@ -98,5 +110,6 @@ pub record IsScriptStopped (c : ArgsModel) (text : List ℕ) (fault : Fault) : T
 
 -- why the command has no answer to the text
 abbrev pub IsCommandRefused : ArgsModel → List ℕ → Fault → Type 0
+IsCommandRefused check text fault = fault ≡ fault_of OutOfMemory
 IsCommandRefused unpack text fault = (refusal : Refusal) × (fault ≡ fault_of refusal) × IsNotUnpacked text refusal
 IsCommandRefused c text fault = (fault ≡ fault_of OutOfMemory) ⊎ (IsNoScript text fault ⊎ IsScriptStopped c text fault)

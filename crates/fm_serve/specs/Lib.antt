@@ -1,6 +1,8 @@
 pub mod Faults
 pub mod Endings
+pub mod CheckTexts
 pub mod ScriptSteps
+pub mod CheckedSteps
 pub mod Musters
 pub mod Fleets
 pub mod Refused

@@ -17,6 +17,7 @@ use crate::fault::Fault;
 use crate::progress::RunProgress;
 use crate::respond::RunResult;
 use crate::run::run;
+use crate::script_check::checked;
 use fm_args::words::{Command, ScriptQuestion};
 use fm_edit::keepers::Keeper;
 use fm_query::query::{Query, ask};
@@ -30,7 +31,7 @@ use fm_world::world::World;
 use std::alloc::Global;
 
 /// What the command answers to the text. Refused if the text, the coordinator that is asked, a step or what is asked
-/// for is at fault, the first of these, or if memory runs out.
+/// for is at fault, the first of these, or if memory runs out. A check is refused only if memory runs out.
 pub fn answer(
     alloc: Global,
     progress: &RunProgress,
@@ -41,6 +42,7 @@ pub fn answer(
     ensures err { IfErr result (λ fault. IsCommandRefused (args_model command.entry) text.now fault) }
 {
     match command {
+        Command::Check => checked(alloc, text),
         Command::Unpack => unpacked(alloc, text),
         Command::Ask { .. } | Command::Agree | Command::Pack { .. } | Command::Why { .. } => {
             answer_script(alloc, progress, command, text)
@@ -132,7 +134,7 @@ fn query_of(command: Command, script: &Script) -> Result<Option<Query>, Fault>
             Some(place) => Ok(Some(Query::Packet(place))),
             None => Ok(None),
         },
-        Command::Unpack => Ok(None),
+        Command::Check | Command::Unpack => Ok(None),
         Command::Why { task, at } => match asked(&script.coordinators, at) {
             Ok(number) => Ok(Some(Query::About(number, Question::Why(TaskId::new(task))))),
             Err(fault) => Err(fault),

@@ -13,6 +13,8 @@ pub enum Ending {
     Done,
     /// It is written that coordinators do not know the same.
     Differ,
+    /// The first fault of a script that was checked is written.
+    AtFault,
     /// The words were wrong, with what is to be said of them.
     Wrong(String),
     /// The run was stopped.
@@ -20,13 +22,15 @@ pub enum Ending {
 }
 
 impl Ending {
-    /// The status: 0 if all is done, 2 if the words were wrong, 5 if coordinators do not know the same, and else the fault's.
+    /// The status: 0 if all is done, 2 if the words were wrong, 3 if a script that was checked is at fault, 5 if
+    /// coordinators do not know the same, and else the fault's.
     pub fn status(&self) -> u8
         ensures { result ≡ ending_status self.now }
     {
         match self {
             Ending::Done => 0,
             Ending::Differ => 5,
+            Ending::AtFault => 3,
             Ending::Wrong(_) => 2,
             Ending::Stopped(fault) => fault.status(),
         }
@@ -38,7 +42,7 @@ impl fmt::Display for Ending {
 
     fn fmt<W: fmt::Write>(&self, f: &mut fmt::Formatter<W>) -> fmt::Result {
         match self {
-            Ending::Done | Ending::Differ => Ok(()),
+            Ending::Done | Ending::Differ | Ending::AtFault => Ok(()),
             Ending::Wrong(text) => write!(f, "{text}"),
             Ending::Stopped(fault) => write!(f, "{fault}"),
         }

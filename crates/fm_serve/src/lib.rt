@@ -5,11 +5,13 @@
 #![tactic(auto)]
 
 pub mod answer;
+mod check_text;
 mod counter;
 pub mod counts;
 pub mod ending;
 pub mod fault;
 pub mod fleet;
+pub mod laws;
 mod members;
 pub mod muster;
 pub mod progress;
@@ -17,4 +19,5 @@ pub mod progress_line;
 mod refusals;
 pub mod respond;
 pub mod run;
+mod script_check;
 pub mod serve;
