@@ -9,8 +9,9 @@ import time
 import types
 
 ROOT = pathlib.Path(__file__).resolve().parent.parent
-sys.path.append(str(ROOT / "bin"))
+sys.path += [str(ROOT / "bin"), str(ROOT / "tests")]
 import beside
+import bridged
 import budget
 import checked
 import lanes
@@ -108,6 +109,8 @@ def laid_out():
         made.add(*key)
     made.run(processors=1)
     yield "what mostly waits takes no processor's place", {idle} < max(made.beside, key=len) and max(len(it - lanes.IDLE) for it in made.beside) == 1
+    sides = [("tests/run", side) for side in bridged.SIDES]
+    yield "each group of bridges runs in one of those", sorted(sum(bridged.SIDES.values(), ())) == sorted(bridged.GROUPS) and set(sides) < lanes.IDLE
     made = Tasks()
     made.add("low", "proof", gives=False)
     made.add("low", "tests", lines=0)
