@@ -7,4 +7,5 @@ pub mod Requests
 pub mod Openings
 pub mod ShareJson
 pub mod RoundPlans
-pub mod Lines
+pub mod StreamLines
+pub mod inner

@@ -9,7 +9,8 @@ ghost use Rattle.serde_json.specs.View.{view};
 ghost use Rattle.fm_script.specs.Json.{bind};
 ghost use Rattle.fm_script.specs.Script.{coordinators_of, script_step_of};
 ghost use Rattle.fm_script.specs.Requests.{Asks, Does, Opens, Takes, request_model, question_named, listing_named, job_or_task_in, machine_in, question_of_one, question_of_two, cut_under, cut_asked, when_true, general_asked, alone_of, asked_at, question_asked, own_news_asked, asked_by_three, request_from, line_checked, AsksNothing, RequestsNothing};
-ghost use Rattle.fm_script.specs.Lines.{IsAskedBy, IsCheckedLine, IsLineOf, IsLine, IsPlainLine};
+ghost use Rattle.fm_script.specs.StreamLines.{IsAskedBy, IsCheckedLine, IsStreamLine, IsPlainLine};
+ghost use Rattle.fm_script.specs.inner.LineValues.{IsLineOf};
 
 use crate::names::Names;
 use crate::parse_script::{
@@ -34,7 +35,7 @@ use std::alloc::Global;
 /// `BadScript(0)` if the line is no JSON or asks for nothing known, as a cut under one of the names; `OutOfMemory` if
 /// memory runs out. It costs the reading of the line as JSON, and a look-up of a name.
 pub fn read_line(alloc: Global, line: &[u8], names: &Names) -> Result<StreamLine, Refusal>
-    ensures ok { IfOk result (λ l. IsLine names.now line.now l) }
+    ensures ok { IfOk result (λ l. IsStreamLine names.now line.now l) }
     ensures err { IfErr result (λ e. RequestsNothing names.now line.now e) }
     ensures plain { IfOk result (λ l. IsPlainLine l) }
 {

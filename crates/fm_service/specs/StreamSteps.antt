@@ -21,7 +21,7 @@ use Rattle.fm_script.specs.declared.script.ScriptAct.{ScriptAct}
 use Rattle.fm_script.specs.declared.script.ScriptAct.TheVariants as act
 use Rattle.fm_script.specs.Script.{is_named}
 use Rattle.fm_script.specs.Requests.{RequestModel, Opens, Does, Cuts, News, OwnNews, Takes, Asks, Agrees, Versions, Renews, request_from, line_checked, AsksNothing, Requests, RequestsNothing}
-use Rattle.fm_script.specs.Lines.{at_of}
+use Rattle.fm_script.specs.StreamLines.{at_of}
 use Rattle.fm_query.specs.declared.query.Query.TheVariants as query
 use Rattle.fm_query.specs.Queries.{IsText, IsUnanswered}
 use Rattle.fm_query.specs.Unpacked.{IsPacketIn, IsNoPacketIn}
@@ -221,7 +221,7 @@ abbrev pub TellsVerdict : Option Following → Data → List ℕ → Type 0
 TellsVerdict old d text = (verdict : Option Refusal) × IsVerdict (MayBeRefused old d) verdict × (text ≡ verdict_text (at_of d) verdict)
 
 -- a line asks to check another: what that would be answered is told, and nothing changes
-pub record IsChecked (old : Option Following) (line answer : List ℕ) (new : Option Following) : Type 0 where
+pub record IsLineChecked (old : Option Following) (line answer : List ℕ) (new : Option Following) : Type 0 where
   pub value : Data
   pub read : read_text line ≡ Some value
   pub inner : Data
@@ -250,7 +250,7 @@ pub record IsRefused (old : Option Following) (line answer : List ℕ) (new : Op
 
 -- a line is answered so, and makes new of old
 abbrev pub Answers : ℕ → (Packet → List Op) → Option Following → List ℕ → List ℕ → Option Following → Type 0
-Answers most behind old line answer new = IsAccepted most behind old line answer new ⊎ (IsRefused old line answer new ⊎ IsChecked old line answer new)
+Answers most behind old line answer new = IsAccepted most behind old line answer new ⊎ (IsRefused old line answer new ⊎ IsLineChecked old line answer new)
 
 -- the world, the names and the marks are those of the stream
 pub record IsStreamState (world : Kept) (named : Named) (marks own_marks : List ℕ) (k : Following) : Type 0 where

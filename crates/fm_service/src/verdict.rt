@@ -2,7 +2,7 @@
 
 ghost use Rattle.std.specs.Prelude.{[], Some, None, IfOk, IsOkUnless};
 ghost use Rattle.serde_json.specs.Data.{Data};
-ghost use Rattle.fm_script.specs.Lines.{IsAskedBy, IsCheckedLine};
+ghost use Rattle.fm_script.specs.StreamLines.{IsAskedBy, IsCheckedLine};
 ghost use Rattle.fm_service.specs.StreamSteps.{Following, IsVerdict, MayBeRefused, TellsVerdict};
 ghost use Rattle.fm_service.specs.Sessions.{SessionAt};
 

@@ -2,7 +2,7 @@ use Rattle.std.proofs.Common.{ℕ, List, Some, refl, sym, ap, ◌∙◌, subst, 
 use Rattle.fm_records.specs.declared.refusal.Refusal.{Refusal}
 use Rattle.fm_script.specs.Requests.{Requests, RequestsNothing, request_model}
 use Rattle.fm_script.specs.declared.request.StreamLine.{StreamLine}
-use Rattle.fm_script.specs.Lines.{Checks, IsLine}
+use Rattle.fm_script.specs.StreamLines.{Checks, IsStreamLine}
 use Rattle.fm_io.specs.Replies.{refusal_reply}
 use Rattle.fm_service.specs.StreamSteps.{Named, IsRefused}
 use Rattle.fm_service.proofs.Results.{if_ok, returned}
@@ -20,7 +20,7 @@ returns-in_err-request-clause-err c = λ k here.
 pub returns-in-Check-clause-ok : goal.returns-in-Check-clause-ok
 returns-in-Check-clause-ok c = λ behind stand k here.
     let names = c.names.ensures ∙ ap (λ (n : Named). n.names) here.named_is in
-    let line = subst (λ (l : StreamLine). IsLine c.names.result.now c.args.line.now l) c.in-Check.is c.in_ok-request.ensures.ok in
+    let line = subst (λ (l : StreamLine). IsStreamLine c.names.result.now c.args.line.now l) c.in-Check.is c.in_ok-request.ensures.ok in
     let asked = subst (λ (ns : List (List ℕ)). Checks ns c.args.line.now c.in-Check.checked) names line in
     if_ok c.check_line.result
     (λ text tells. (
@@ -34,7 +34,7 @@ pub returns-clause-ok : goal.returns-clause-ok
 returns-clause-ok c = λ behind stand k here.
     let names = c.names.ensures ∙ ap (λ (n : Named). n.names) here.named_is in
     let asked = request_model c.in-Request.request in
-    let line = subst (λ (l : StreamLine). IsLine c.names.result.now c.args.line.now l) c.in-Request.is c.in_ok-request.ensures.ok in
+    let line = subst (λ (l : StreamLine). IsStreamLine c.names.result.now c.args.line.now l) c.in-Request.is c.in_ok-request.ensures.ok in
     let requests = subst (λ (ns : List (List ℕ)). Requests ns c.args.line.now asked) names line in
     let went = c.in_ok-text.ensures.ok behind stand k here in
     accepts c.args.most behind c.execute.new.self c.settle.new.self k went.0 c.args.line.now c.in_ok-text.text.items asked requests went.1 went.2

@@ -2,7 +2,7 @@ use Rattle.std.proofs.Common.{ℕ, List, None, Some, refl, sym, subst, inl, inr}
 use Rattle.fm_records.specs.declared.refusal.Refusal.{Refusal}
 use Rattle.fm_script.specs.declared.request.StreamLine.{StreamLine}
 use Rattle.fm_script.specs.Requests.{Requests, RequestsNothing, request_model}
-use Rattle.fm_script.specs.Lines.{Checks, IsLine}
+use Rattle.fm_script.specs.StreamLines.{Checks, IsStreamLine}
 use Rattle.fm_io.specs.Replies.{refusal_reply}
 use Rattle.fm_service.specs.StreamSteps.{IsRefused}
 use Rattle.fm_service.specs.Sessions.{IsIn}
@@ -18,7 +18,7 @@ returns-in_err-checked-clause-err c =
 
 pub returns-in-Check-clause-ok : goal.returns-in-Check-clause-ok
 returns-in-Check-clause-ok c = λ behind.
-    let line = subst (λ (l : StreamLine). IsLine c.new.result c.args.line.now l) c.in-Check.is c.in_ok-checked.ensures.ok in
+    let line = subst (λ (l : StreamLine). IsStreamLine c.new.result c.args.line.now l) c.in-Check.is c.in_ok-checked.ensures.ok in
     let asked = subst (λ (names : List (List ℕ)). Checks names c.args.line.now c.in-Check.checked) c.new.ensures line in
     if_ok c.check_first.result
     (λ text tells. (
@@ -31,7 +31,7 @@ returns-in-Check-clause-ok c = λ behind.
 pub returns-clause-ok : goal.returns-clause-ok
 returns-clause-ok c = λ behind.
     let asked = request_model c.in-Request.request in
-    let line = subst (λ (l : StreamLine). IsLine c.new.result c.args.line.now l) c.in-Request.is c.in_ok-checked.ensures.ok in
+    let line = subst (λ (l : StreamLine). IsStreamLine c.new.result c.args.line.now l) c.in-Request.is c.in_ok-checked.ensures.ok in
     let requests = subst (λ (names : List (List ℕ)). Requests names c.args.line.now asked) c.new.ensures line in
     if_ok c.open.result
     (λ text went. (
@@ -44,6 +44,6 @@ returns-clause-ok c = λ behind.
 pub returns-clause-err : goal.returns-clause-err
 returns-clause-err c =
     let asked = request_model c.in-Request.request in
-    let line = subst (λ (l : StreamLine). IsLine c.new.result c.args.line.now l) c.in-Request.is c.in_ok-checked.ensures.ok in
+    let line = subst (λ (l : StreamLine). IsStreamLine c.new.result c.args.line.now l) c.in-Request.is c.in_ok-checked.ensures.ok in
     let requests = subst (λ (names : List (List ℕ)). Requests names c.args.line.now asked) c.new.ensures line in
     if_err c.open.result (λ e why. record { refusal = e; cause = inr (asked, requests, why); is = refl; same = refl }) c.open.ensures.err

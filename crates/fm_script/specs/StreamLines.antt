@@ -32,11 +32,6 @@ pub record ChecksLine (names : List (List ℕ)) (d : Data) (c : CheckedLine) : T
   pub checked : line_checked d ≡ Some line
   pub is : IsCheckedLine names line c
 
--- what the value of a line asks for
-abbrev pub IsLineOf : List (List ℕ) → Data → StreamLine → Type 0
-IsLineOf names d (line.Request q) = request_from names d ≡ Some (request_model q)
-IsLineOf names d (line.Check c) = ChecksLine names d c
-
 -- the line is JSON, and its value asks to check a line, which asks for that
 pub record Checks (names : List (List ℕ)) (text : List ℕ) (c : CheckedLine) : Type 0 where
   pub value : Data
@@ -44,9 +39,9 @@ pub record Checks (names : List (List ℕ)) (text : List ℕ) (c : CheckedLine) 
   pub checks : ChecksLine names value c
 
 -- what a line asks for
-abbrev pub IsLine : List (List ℕ) → List ℕ → StreamLine → Type 0
-IsLine names text (line.Request q) = Requests names text (request_model q)
-IsLine names text (line.Check c) = Checks names text c
+abbrev pub IsStreamLine : List (List ℕ) → List ℕ → StreamLine → Type 0
+IsStreamLine names text (line.Request q) = Requests names text (request_model q)
+IsStreamLine names text (line.Check c) = Checks names text c
 
 -- what a line requests is plain
 abbrev pub IsPlainLine : StreamLine → Type 0
