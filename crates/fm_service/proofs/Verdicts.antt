@@ -11,7 +11,7 @@ use Rattle.fm_coord.specs.declared.entry.Call.{Call}
 use Rattle.fm_coord.specs.declared.entry.Call.TheVariants as call
 use Rattle.fm_coord.specs.declared.entry.Range.{Range}
 use Rattle.fm_coord.specs.declared.entry.Range.TheVariants.{Interval, Full}
-use Rattle.fm_coord.specs.Causes.{Bounds, range_fault, floor_fault, call_fault, room_fault, first_some, cause, bounds_of}
+use Rattle.fm_coord.specs.Causes.{Bounds, range_fault, call_fault, room_fault, first_some, cause, bounds_of}
 use Rattle.fm_coord.specs.Events.{Replica, Event}
 use Rattle.fm_coord.specs.Events as event
 use Rattle.fm_coord.specs.Replays.{call_of}

@@ -1,4 +1,4 @@
-use Rattle.std.proofs.Common.{◌≡◌, ℕ, List, true, false, position, string_bytes, is_some, refl, sym, ap, ◌∙◌, inr}
+use Rattle.std.proofs.Common.{◌≡◌, true, false, position, string_bytes, is_some, refl, sym, ap, ◌∙◌, inr}
 use Rattle.fm_script.specs.Script.{is_text, is_named}
 use Rattle.fm_script.proofs.Naming.{is_some-position}
 use Rattle.fm_world.specs.declared.step.Act.TheVariants as act
