@@ -1,5 +1,4 @@
 use Rattle.std.proofs.Common.{◌≡◌, ◌∙◌, ℕ, ◌+◌, List, [], ◌∷◌, Some, None, ap, sym}
-use Rattle.fm_records.specs.declared.refusal.Refusal.{Refusal}
 use Rattle.fm_script.specs.declared.script.Tell.{Tell}
 use Rattle.fm_serve.specs.declared.fault.Fault.{Fault}
 use Rattle.fm_serve.specs.Musters.{tell_fault, named_or, first_refused}
