@@ -5,6 +5,8 @@
 
 ghost use Rattle.std.specs.Prelude.{◌≡◌, ◌++◌, cond, not, is_some, length, IfOk, OnOk, IsOkUnless, string_bytes};
 ghost use Rattle.std.specs.Option.{unwrap_or};
+ghost use Rattle.std.specs.Ordering.{nat_cmp};
+ghost use Rattle.fm_lattice.specs.Maps.{lookup};
 ghost use Rattle.fm_records.specs.Facts.{is_live, holder_of, is_open, used_of, spare_of};
 ghost use Rattle.fm_tally.specs.Tallies.{TallyIsFor};
 ghost use Rattle.fm_query.specs.ListText.{is_waiting};
@@ -20,6 +22,7 @@ use fm_coord::coordinator::Coordinator;
 use fm_coord::entry::Range;
 use fm_know::facts::request_in;
 use fm_know::knowledge::Knowledge;
+use fm_lattice::sorted_vec::get_hinted;
 use fm_policy::keeper::NetKeeper;
 use fm_records::ids::{MachineId, TaskId};
 use fm_records::records::TaskRec;
@@ -207,8 +210,10 @@ fn size_of_tasks(knowledge: &Knowledge, tally: &Tally) -> TaskSize
     let mut held = 0u64;
     let mut over = 0u64;
     let mut requested = 0u128;
+    let mut near = 0usize;
     for (task, known) in knowledge.tasks().iter() {
-        let one = one_task(knowledge, tally, *task, known);
+        let one = one_task(knowledge, tally, near, *task, known);
+        near = near.saturating_add(usize::from(!one.is_over));
         waiting += u64::from(one.is_waiting);
         held += u64::from(one.is_held);
         over += u64::from(one.is_over);
@@ -223,14 +228,20 @@ fn size_of_tasks(knowledge: &Knowledge, tally: &Tally) -> TaskSize
 }
 
 // Where the task of the record is, and what it requests if a machine holds it.
-fn one_task(knowledge: &Knowledge, tally: &Tally, task: TaskId, known: &TaskRec) -> OneTask
+fn one_task(
+    knowledge: &Knowledge,
+    tally: &Tally,
+    near: usize,
+    task: TaskId,
+    known: &TaskRec,
+) -> OneTask
     requires { TallyIsFor knowledge.now tally.now }
     ensures is_waiting { result.is_waiting ≡ is_waiting knowledge.now task }
     ensures is_held { result.is_held ≡ is_some (holder_of knowledge.now task) }
     ensures is_over { result.is_over ≡ not (is_live knowledge.now task) }
     ensures requested { result.requested ≡ held_request knowledge.now (task, known.now) }
 {
-    match tally.tasks.get(&task) {
+    match tallied_task(tally, near, task) {
         Some(
             LiveTask {
                 holder: Some(_),
@@ -255,6 +266,13 @@ fn one_task(knowledge: &Knowledge, tally: &Tally, task: TaskId, known: &TaskRec)
             requested: 0,
         },
     }
+}
+
+// The task of the tally, if it is live. It is looked for at the index first, where it is if so many live ones were before it.
+fn tallied_task(tally: &Tally, near: usize, task: TaskId) -> Option<LiveTask>
+    ensures { result ≡ lookup nat_cmp task tally.now.tasks }
+{
+    get_hinted(tally.tasks.pairs(), near, &task)
 }
 
 // Counts the machines, and sums what those that are open report and have left.

@@ -1,4 +1,4 @@
-use Rattle.std.proofs.Common.{◌++◌, ◌∙◌, ap, ap₂, codes, string_bytes}
+use Rattle.std.proofs.Common.{◌++◌, ◌∙◌, ap, ap₂, codes}
 use Rattle.fm_query.specs.ReasonsText.{not_live_cause}
 use Rattle.fm_query.proofs.reasons_text.not_live_text.Goals as goal
 
