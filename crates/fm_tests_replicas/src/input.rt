@@ -182,7 +182,10 @@ static READ_LINES: [(&str, &str); 26] = [
         r#"{"at":1,"ask":"solve"}"#,
         "Request(Ask { at: 1, question: Solve })",
     ),
-    (r#"{"at":1,"ask":"plan"}"#, "Request(Ask { at: 1, question: Plan })"),
+    (
+        r#"{"at":1,"ask":"plan"}"#,
+        "Request(Ask { at: 1, question: Plan })",
+    ),
     (
         r#"{"at":1,"ask":"winners"}"#,
         "Request(Ask { at: 1, question: Winners })",
