@@ -348,10 +348,9 @@ def skipped(_program):
 GROUPS = {"parts": parts, "words": words, "lines": lines, "divided": divided, **outlived.GROUPS, **operated.GROUPS, **relayed.GROUPS,
           **own_rounds.GROUPS, "journals": journals, "signals": signals, "secrets": secrets, "example": example, "skipped": skipped}
 
-# what the gate runs side by side, as groups of tests/run: they mostly wait, each some three minutes
-KILLED = ("kills", "strangers", "limits", "looked_at", "slow_readers", "unread_errors", "memory_kept", "hangs")
-LASTING = (*operated.GROUPS, *relayed.GROUPS, *own_rounds.GROUPS, "journals", "signals", "secrets", "example", "skipped")
-SIDES = {"brokered_kills": KILLED, "brokered_lasting": tuple(it for it in LASTING if it not in KILLED)}
+# what the gate runs side by side, as groups of tests/run, since they mostly wait. `kills` takes as long as the others together
+LASTING = (*relayed.GROUPS, *own_rounds.GROUPS, "journals", "signals", "secrets", "example", "skipped")
+SIDES = {"brokered_kills": ("kills",), "brokered_lasting": LASTING}
 SIDES["brokered"] = tuple(it for it in GROUPS if not any(it in side for side in SIDES.values()))
 
 
