@@ -21,8 +21,8 @@ OF_A_JOB, OF_RECKONED = 0.25, 0.8
 OF_EDITS = 1.7
 # the jobs of the first proof while other work takes longer than its chain
 FIRST = 2
-# the tasks that mostly wait: the tests with a broker take a minute and a half of a processor in ten, and those on Slurm 20 s in two
-IDLE = {("tests/run", group) for group in ("brokered", "brokered_kills", "brokered_lasting", "slurm", "slurm_standby")}
+# the tasks that mostly wait: the tests with a broker take a minute and a half of a processor in four, and those on Slurm 20 s in two
+IDLE = {("tests/run", group) for group in ("brokered", "brokered_lasting", "slurm", "slurm_standby")}
 
 
 def at_priority(lower, call, *given):

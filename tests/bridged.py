@@ -348,9 +348,8 @@ def skipped(_program):
 GROUPS = {"parts": parts, "words": words, "lines": lines, "divided": divided, **outlived.GROUPS, **operated.GROUPS, **relayed.GROUPS,
           **own_rounds.GROUPS, "journals": journals, "signals": signals, "secrets": secrets, "example": example, "skipped": skipped}
 
-# what the gate runs side by side, as groups of tests/run, since they mostly wait. `kills` takes as long as the others together
-LASTING = (*relayed.GROUPS, *own_rounds.GROUPS, "journals", "signals", "secrets", "example", "skipped")
-SIDES = {"brokered_kills": ("kills",), "brokered_lasting": LASTING}
+# what the gate runs side by side, as groups of tests/run, since they mostly wait
+SIDES = {"brokered_lasting": (*operated.GROUPS, *relayed.GROUPS, *own_rounds.GROUPS, "journals", "signals", "secrets", "example", "skipped")}
 SIDES["brokered"] = tuple(it for it in GROUPS if not any(it in side for side in SIDES.values()))
 
 

@@ -178,7 +178,8 @@ def same_number(program):
 def kills(program, count=KILLS):
     """A bridge with a journal is killed at drawn moments: nothing that was answered ok is lost, though it is never
     told again."""
-    told, chance, place, rate = list(cluster(20 * count)), random.Random("kills"), 0, []
+    # enough lines for each time, since a bridge that has nothing to answer would be waited for in vain
+    told, chance, place, rate = list(cluster(40 * count)), random.Random("kills"), 0, []
     with tempfile.TemporaryDirectory() as folder, running(program, [2]) as (broker, (other,)):
         words = [*QUICK, "--claim-wait", "0.1", "--journal", f"{folder}/journal"]
         for _ in range(count):
