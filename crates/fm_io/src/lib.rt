@@ -1,7 +1,10 @@
 //! The input and output of a program: bytes from a source and to a sink, and lines of a stream, each answered in order.
 #![tactic(auto)]
 
+pub mod committer;
 pub mod follow;
+pub mod group_commit;
+mod held_replies;
 pub mod input;
 pub mod interrupts;
 pub mod lines;

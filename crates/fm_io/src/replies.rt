@@ -1,13 +1,60 @@
 //! What is answered to a line: a text and `ok`, or the number of a refusal, from a fixed text that needs no memory.
 
-ghost use Rattle.std.specs.Prelude.{◌≡◌, IsOkUnless};
+ghost use Rattle.std.specs.Prelude.{◌≡◌, ◌++◌, cond, IsOkUnless};
 ghost use Rattle.fm_dimacs.specs.Sending.{IsSent};
 ghost use Rattle.fm_io.specs.Replies.{accepted_reply, refusal_reply};
+ghost use Rattle.fm_io.specs.inner.HeldTexts.{reply_text};
 
 use crate::sending::send;
 use crate::sink::Sink;
 use fm_dimacs::write_all::put_all;
 use fm_records::refusal::Refusal;
+
+/// What is answered to a line.
+#[derive(Drop)]
+pub(crate) enum LineReply {
+    /// A text and `ok`.
+    Accepted(Vec<u8>),
+    /// Why the line was refused.
+    Refused(Refusal),
+}
+
+/// Writes what is answered to a line.
+pub(crate) fn send_reply<W: Sink>(sink: &mut W, reply: &LineReply) -> Result<(), Refusal>
+    ensures sent { IsSent result (W.written sink.old) (W.written sink.new) (W.has_failed sink.old)
+        (W.has_failed sink.new) (reply_text reply.now) }
+    ensures cause { IsOkUnless result Refusal.WriteFault }
+{
+    match reply {
+        LineReply::Accepted(text) => send_accepted(sink, text),
+        LineReply::Refused(refusal) => send_refused(sink, *refusal),
+    }
+}
+
+/// Appends what is answered to a line, and returns whether there was memory for it. If not, nothing is appended.
+pub(crate) fn append_reply(bytes: &mut Vec<u8>, reply: &LineReply) -> bool
+    ensures { bytes.new.items ≡ cond result (bytes.old.items ++ reply_text reply.now) bytes.old.items }
+{
+    match reply {
+        LineReply::Accepted(text) => append_both(bytes, text, b"ok\n"),
+        LineReply::Refused(refusal) => append_both(bytes, line_of(*refusal).as_bytes(), b""),
+    }
+}
+
+// Appends both pieces, and returns whether there was memory for them. If not, nothing is appended.
+fn append_both(bytes: &mut Vec<u8>, first: &[u8], second: &[u8]) -> bool
+    ensures { bytes.new.items ≡ cond result (bytes.old.items ++ (first.now ++ second.now)) bytes.old.items }
+{
+    let before = bytes.len();
+    if bytes.extend_from_slice(first).is_err() {
+        return false;
+    }
+    if bytes.extend_from_slice(second).is_err() {
+        bytes.truncate(before);
+        return false;
+    }
+    true
+}
 
 /// Writes the text of an accepted line's answer, and `ok`.
 pub(crate) fn send_accepted<W: Sink>(sink: &mut W, text: &[u8]) -> Result<(), Refusal>

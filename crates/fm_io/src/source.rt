@@ -8,7 +8,7 @@ ghost use Rattle.std.specs.Io.KnownBytes.{Keeps};
 ghost use Rattle.fm_io.specs.Sources.{SourceGives};
 
 use crate::interrupts::MOST_INTERRUPTS;
-use std::io::{ErrorKind, Read};
+use std::io::{BufReader, ErrorKind, Read};
 use std::marker::Model;
 
 /// What gives bytes.
@@ -26,6 +26,13 @@ pub trait Source {
         ensures gives { MatchOption result (Keeps (remaining self.old) (remaining self.new))
             (λ n. SourceGives (remaining self.old) (remaining self.new) n piece.new) }
         ensures fails { has_failed self.new ≡ (has_failed self.old || is_none result) };
+}
+
+/// A source that knows lines which it has already.
+pub trait LineSource: Source {
+    /// Whether it has a whole line already, so that reading this line waits for nothing. No contract rests on it: it
+    /// decides only where a group of lines ends, and any answer is right there. False if it does not know.
+    fn has_line(&self) -> bool;
 }
 
 /// A source over any reader. A read that was interrupted is made again. It fails at the `MOST_INTERRUPTS`-th interrupt of
@@ -67,6 +74,14 @@ impl<R: Read> Source for Input<R> {
             self.failed = true;
         }
         count
+    }
+}
+
+/// A line is there once its line feed is in the buffer. The reader behind is read only if the buffer is empty, so it is
+/// not read for that line.
+impl<R: Read> LineSource for Input<BufReader<R>> {
+    fn has_line(&self) -> bool {
+        self.reader.buffer().contains(&b'\n')
     }
 }
 

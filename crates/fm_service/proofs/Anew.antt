@@ -24,7 +24,7 @@ abbrev pub number : Replica → ℕ
 number r = r.number
 
 -- no step changes a replica's number
-same_number : (by : ℕ) (e : Event) (r : Replica) → number (happens r by e) ≡ number r
+pub same_number : (by : ℕ) (e : Event) (r : Replica) → number (happens r by e) ≡ number r
 same_number by (event.Tell op) r = refl
 same_number by (event.Merge packet) r = refl
 same_number by (event.Cut range) r = refl
@@ -32,7 +32,7 @@ same_number by (event.Trim n) r = refl
 same_number by event.View r = refl
 same_number by (event.Commit plan) r = refl
 
-same_acted : (by : ℕ) (o : Option Event) (r : Replica) → number (after_maybe by o r) ≡ number r
+pub same_acted : (by : ℕ) (o : Option Event) (r : Replica) → number (after_maybe by o r) ≡ number r
 same_acted by None r = refl
 same_acted by (Some e) r = same_number by e r
 
@@ -126,7 +126,7 @@ all_renewed (suc n) (r ∷ rs) le = ap (λ xs. renewed_replica r ∷ xs) (all_re
 -- a world of coordinators that is renewed
 module _ {N : Type 0} (cs : List (WithKeeper N)) (old : Kept) (those : map state_of cs ≡ old.coordinators) where
   -- for whatever world of sets they stand
-  all_stand : (w : WorldOfSets) → WorldRepresents old w → AllStand (map state_of cs) w.replicas
+  pub all_stand : (w : WorldOfSets) → WorldRepresents old w → AllStand (map state_of cs) w.replicas
   all_stand w h = subst (λ ss. AllStand ss w.replicas) (sym those) h.coordinators
 
   pub are_distinct : IsReached old → AreDistinct (map number_of cs)
@@ -153,8 +153,11 @@ module _ {N : Type 0} (cs : List (WithKeeper N)) (old : Kept) (those : map state
     pub listed_distinct : IsReached old → AreDistinct numbers
     listed_distinct reached = subst AreDistinct (sym all_listed) (are_distinct reached)
 
+    pub all_numbers : (w : WorldOfSets) → WorldRepresents old w → numbers ≡ map number w.replicas
+    all_numbers w h = all_listed ∙ same_numbers cs w.replicas (all_stand w h)
+
     pub same_opening : (w : WorldOfSets) → WorldRepresents old w → new_world numbers ≡ reopened_world w
-    same_opening w h = ap new_world (all_listed ∙ same_numbers cs w.replicas (all_stand w h))
+    same_opening w h = ap new_world (all_numbers w h)
 
   -- of which the next takes in, as a packet, all that it knows
   module _ (reached : IsReached old) (i : ℕ) (c : WithKeeper N) (lt : i < length cs) (is : c ≡ get_or cs i c) (at : ℕ) (its : at ≡ c.state.number) (packet : Packet) (anew : Kept) where

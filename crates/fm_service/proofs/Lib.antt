@@ -7,3 +7,7 @@ pub mod OwnDeltas
 pub mod Sessions
 pub mod Followers
 pub mod Streams
+pub mod Members
+pub mod StoredSets
+pub mod StoredLines
+pub mod Unstored

@@ -31,8 +31,8 @@ pub seen_so : (behind : Packet → List Op) → StandBehind behind → (p : Pack
 seen_so behind stand p can = λ i. record { sender = p.sender; number = p.number; value = (sym (stand p can)) i }
 
 -- a world that is the same stands for the same
-pub stays : (d : Session) (new : Kept) (k : Following) → SessionAt d k → new ≡ d.world → IsStreamState new d.named d.marks d.own_marks k
-stays d new k here same = record { stands = subst (λ (x : Kept). WorldRepresents x k.world) (sym same) here.stands; named_is = here.named_is; marks_is = here.marks_is; own_marks_is = here.own_marks_is }
+pub stays : (d : Session) (new : Kept) (k : Following) → SessionAt d k → new ≡ d.world → IsStreamState new d.named d.marks d.own_marks d.stored_marks k
+stays d new k here same = record { stands = subst (λ (x : Kept). WorldRepresents x k.world) (sym same) here.stands; named_is = here.named_is; marks_is = here.marks_is; own_marks_is = here.own_marks_is; stored_marks_is = here.stored_marks_is }
 
 -- a step of which there is nothing to tell
 module _ (old new : Session) (r : Result (Vec ℕ) Refusal) (at : ℕ) where

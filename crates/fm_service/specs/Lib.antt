@@ -4,4 +4,5 @@ pub mod OwnNews
 pub mod VerdictText
 pub mod StreamSteps
 pub mod Sessions
+pub mod Storing
 pub mod inner

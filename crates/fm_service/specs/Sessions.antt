@@ -7,7 +7,7 @@ use Rattle.fm_service.specs.declared.stream_service.StreamService.{StreamService
 use Rattle.fm_service.specs.StreamSteps.{Following, StandBehind, Answers, IsStreamState}
 
 abbrev pub SessionAt : Session → Following → Type 0
-SessionAt d k = IsStreamState d.world d.named d.marks d.own_marks k
+SessionAt d k = IsStreamState d.world d.named d.marks d.own_marks d.stored_marks k
 
 -- where the stream is before its first line, and where coordinators are
 abbrev pub IsIn : Option Session → Option Following → Type 0

@@ -46,20 +46,21 @@ abbrev pub named_also : Named → List ℕ → ℕ → Named
 named_also p name number = record { names = p.names ++ name ∷ []; numbers = p.numbers ++ number ∷ [] }
 
 -- where a stream is: the packets that have names; for each number of a coordinator how many of its deltas went out as
--- news, and up to which delta its own went out; and the world
+-- news, up to which delta its own went out, and up to which delta they are stored; and the world
 pub record Following : Type 0 where
   pub named : Named
   pub marks : List ℕ
   pub own_marks : List ℕ
+  pub stored_marks : List ℕ
   pub world : WorldOfSets
 
--- a world of which nothing went out
+-- a world of which nothing went out, and nothing is stored
 abbrev pub fresh : WorldOfSets → Following
-fresh w = record { named = none_named; marks = replicate 256 0; own_marks = replicate 256 0; world = w }
+fresh w = record { named = none_named; marks = replicate 256 0; own_marks = replicate 256 0; stored_marks = replicate 256 0; world = w }
 
 -- the same, with another world
 abbrev pub at_world : Following → WorldOfSets → Following
-at_world k w = record { named = k.named; marks = k.marks; own_marks = k.own_marks; world = w }
+at_world k w = record { named = k.named; marks = k.marks; own_marks = k.own_marks; stored_marks = k.stored_marks; world = w }
 
 -- the names that packets have; none before the line that lists the coordinators
 abbrev pub cut_names_in : Option Following → List (List ℕ)
@@ -115,7 +116,7 @@ pub record Tells (k : Following) (at : ℕ) (text : List ℕ) (j : Following) : 
   pub there : with_number k.world.replicas at ≡ Some replica
   pub v : WorldOfSets
   pub cuts : acting.Cuts k.world at (news_since (mark_at k at) replica) text v
-  pub is : j ≡ record { named = k.named; marks = slice_set k.marks at (length replica.buffer); own_marks = k.own_marks; world = v }
+  pub is : j ≡ record { named = k.named; marks = slice_set k.marks at (length replica.buffer); own_marks = k.own_marks; stored_marks = k.stored_marks; world = v }
 
 abbrev pub own_mark_at : Following → ℕ → ℕ
 own_mark_at k at = get_or k.own_marks at 0
@@ -135,7 +136,7 @@ pub record TellsOwn (k : Following) (at : ℕ) (text : List ℕ) (j : Following)
   pub there : with_number k.world.replicas at ≡ Some replica
   pub v : WorldOfSets
   pub cuts : CutsMaybe k.world at (own_news_since (own_mark_at k at) replica) text v
-  pub is : j ≡ record { named = k.named; marks = k.marks; own_marks = slice_set k.own_marks at (own_mark_after (own_mark_at k at) replica); world = v }
+  pub is : j ≡ record { named = k.named; marks = k.marks; own_marks = slice_set k.own_marks at (own_mark_after (own_mark_at k at) replica); stored_marks = k.stored_marks; world = v }
 
 -- a packet from elsewhere is taken in, and makes j of k
 pub record ImportStep (behind : Packet → List Op) (k : Following) (at : ℕ) (digits : List ℕ) (j : Following) : Type 0 where
@@ -148,7 +149,7 @@ pub record ImportStep (behind : Packet → List Op) (k : Following) (at : ℕ) (
 abbrev pub DoesAt : (Packet → List Op) → Following → RequestModel → List ℕ → Following → Type 0
 DoesAt behind k (Opens listed) text j = ⊥
 DoesAt behind k (Does step) text j = (v : WorldOfSets) × StreamActStep k step.at step.act text v × (j ≡ at_world k v)
-DoesAt behind k (Cuts at range name) text j = (v : WorldOfSets) × acting.Cuts k.world at range text v × (j ≡ record { named = named_by k name; marks = k.marks; own_marks = k.own_marks; world = v })
+DoesAt behind k (Cuts at range name) text j = (v : WorldOfSets) × acting.Cuts k.world at range text v × (j ≡ record { named = named_by k name; marks = k.marks; own_marks = k.own_marks; stored_marks = k.stored_marks; world = v })
 DoesAt behind k (News at) text j = Tells k at text j
 DoesAt behind k (OwnNews at) text j = TellsOwn k at text j
 DoesAt behind k (Takes at digits) text j = (text ≡ []) × ImportStep behind k at digits j
@@ -253,8 +254,9 @@ abbrev pub Answers : ℕ → (Packet → List Op) → Option Following → List 
 Answers most behind old line answer new = IsAccepted most behind old line answer new ⊎ (IsRefused old line answer new ⊎ IsLineChecked old line answer new)
 
 -- the world, the names and the marks are those of the stream
-pub record IsStreamState (world : Kept) (named : Named) (marks own_marks : List ℕ) (k : Following) : Type 0 where
+pub record IsStreamState (world : Kept) (named : Named) (marks own_marks stored_marks : List ℕ) (k : Following) : Type 0 where
   pub stands : WorldRepresents world k.world
   pub named_is : named ≡ k.named
   pub marks_is : marks ≡ k.marks
   pub own_marks_is : own_marks ≡ k.own_marks
+  pub stored_marks_is : stored_marks ≡ k.stored_marks

@@ -1,3 +1,4 @@
 pub mod ReopenedWorld
 pub mod SessionSteps
 pub mod OwnRuns
+pub mod SetEnds

@@ -1,6 +1,6 @@
 //! What holds of streams, in whatever processes they are followed.
 
-ghost use Rattle.std.specs.Prelude.{◌≡◌, List};
+ghost use Rattle.std.specs.Prelude.{◌≡◌, ◌<◌, ℕ, List, map, length, Some, None};
 ghost use Rattle.fm_records.specs.declared.ops.Op.{Op};
 ghost use Rattle.fm_records.specs.Know.{table_of};
 ghost use Rattle.fm_records.specs.Sets.{HaveSameMembers};
@@ -9,8 +9,10 @@ ghost use Rattle.fm_delta.specs.declared.packet.Packet.{Packet};
 ghost use Rattle.fm_coord.specs.Events.{Replica, Sent};
 ghost use Rattle.fm_coord.specs.Replays.{seen_packet};
 ghost use Rattle.fm_query.specs.QueryTexts.{graph_of, winners_of};
-ghost use Rattle.fm_service.specs.StreamSteps.{StandBehind, but_behind};
+ghost use Rattle.fm_world.specs.Worlds.{with_number};
+ghost use Rattle.fm_service.specs.StreamSteps.{Following, StandBehind, but_behind, packet_by_ops, Answers};
 ghost use Rattle.fm_service.specs.Renewing.{renewed_replica};
+ghost use Rattle.fm_service.specs.Storing.{AreStored, HaveNothing, nothing_stored, stored_also, unstored_of, all_stored, stored_mark_at, restored};
 
 /// Coordinators that received the same operations, in any order and number of times, have one text for their networks
 /// and one for their winners, whatever processes they run in. A coordinator received what it was told, what its own
@@ -36,4 +38,28 @@ pub fn law_behind()
 pub fn law_renewed()
     ensures taken { (r : Replica) → HaveSameMembers (renewed_replica r).taken r.taken }
     ensures known { (r : Replica) → table_of (renewed_replica r).taken ≡ table_of r.taken }
+{}
+
+/// What is stored suffices: with a coordinator's deltas from its stored mark on, it is all that the coordinator took in.
+/// - `opened`: once a line lists the coordinators, they have nothing, and nothing is stored.
+/// - `line`: no line that is answered takes anything of this away.
+/// - `stored`: what is not stored is stored too; then all deltas are marked as stored.
+/// - `marked`: then the mark of each coordinator is how many deltas it has.
+/// - `restored`: coordinators that have nothing merge what was stored.
+/// - `known`: if a coordinator's mark is how many deltas it has, the table of what is stored is what it knows.
+pub fn law_stored()
+    ensures opened { (most : ℕ) (behind : Packet → List Op) (line answer : List ℕ) (k : Following)
+        → Answers most behind None line answer (Some k) → HaveNothing k × AreStored nothing_stored k }
+    ensures line { (S : ℕ → List Op) (most : ℕ) (behind : Packet → List Op) (line answer : List ℕ) (k j : Following)
+        → Answers most behind (Some k) line answer (Some j) → AreStored S k → AreStored S j }
+    ensures stored { (S : ℕ → List Op) (k : Following) → AreStored S k
+        → AreStored (stored_also S (unstored_of k)) (all_stored k) }
+    ensures marked { (k : Following) (n : ℕ) (r : Replica) → n < 256 → with_number k.world.replicas n ≡ Some r
+        → stored_mark_at (all_stored k) n ≡ length r.buffer }
+    ensures restored { (behind : Packet → List Op) (k : Following) (packets : List Packet) → HaveNothing k
+        → AreStored (stored_also nothing_stored (map (packet_by_ops behind) packets))
+        (all_stored (restored behind k packets)) }
+    ensures known { (S : ℕ → List Op) (k : Following) (n : ℕ) (r : Replica) → n < 256 → AreStored S k
+        → with_number k.world.replicas n ≡ Some r → stored_mark_at k n ≡ length r.buffer
+        → table_of (S n) ≡ table_of r.taken }
 {}

@@ -9,6 +9,7 @@ mod own_news;
 pub mod renewing;
 mod request_causes;
 mod session;
+mod storing;
 pub mod stream;
 pub mod stream_service;
 mod verdict;

@@ -40,7 +40,7 @@ use fm_world::world::World;
 use std::alloc::Global;
 
 /// Coordinators, the packets that they cut under a name, and for each number of a coordinator how many of its deltas
-/// were sent as news, and up to which delta its own were sent.
+/// were sent as news, up to which delta its own were sent, and up to which delta they are stored.
 #[derive(Drop)]
 pub(crate) struct Session {
     pub(crate) alloc: Global,
@@ -48,10 +48,11 @@ pub(crate) struct Session {
     pub(crate) named: NamedPackets,
     pub(crate) marks: [u64; 256],
     pub(crate) own_marks: [u64; 256],
+    pub(crate) stored_marks: [u64; 256],
 }
 
 impl Session {
-    /// The coordinators of the world, of which nothing was sent.
+    /// The coordinators of the world, of which nothing was sent or stored.
     pub(crate) fn new(alloc: Global, world: World<Keeper>) -> Session
         ensures { (w : WorldOfSets) → WorldRepresents world w → SessionAt result (fresh w) }
     {
@@ -61,6 +62,7 @@ impl Session {
             named: NamedPackets::new(alloc),
             marks: [0u64; 256],
             own_marks: [0u64; 256],
+            stored_marks: [0u64; 256],
         }
     }
 

@@ -1,15 +1,23 @@
 //! The responder to the lines of a stream: it has no coordinators before the line that lists the coordinators.
 
-ghost use Rattle.std.specs.Prelude.{◌≡◌, None, IfErr, OnErr};
+ghost use Rattle.std.specs.Prelude.{◌≡◌, List, map, Option, Some, None, Err, is_some, option_map, IfOk, IfErr, OnOk, OnErr};
+ghost use Rattle.fm_records.specs.declared.ops.Op.{Op};
+ghost use Rattle.fm_delta.specs.declared.packet.Packet.{Packet};
+ghost use Rattle.fm_coord.specs.Replays.{seen_packet};
 ghost use Rattle.fm_io.specs.Replies.{refusal_reply};
 ghost use Rattle.fm_script.specs.Requests.{request_model, IsPlain};
-ghost use Rattle.fm_service.specs.StreamSteps.{IsRefused, RefusesIn};
+ghost use Rattle.fm_service.specs.StreamSteps.{Following, StandBehind, IsRefused, RefusesIn};
 ghost use Rattle.fm_service.specs.Sessions.{IsIn};
+ghost use Rattle.fm_service.specs.Storing.{numbers_listed, unstored_in, all_stored, Restores, RestoresUntil};
 ghost use Rattle.fm_service.specs.inner.SessionSteps.{Begins, Opens};
 
 use crate::session::Session;
+use crate::storing::{mark_all, numbers_of, restore, unstored_packets};
 use crate::verdict::check_first;
+use fm_delta::packet::Packet;
 use fm_io::responder::Responder;
+use fm_lattice::join::OutOfMemory;
+use fm_records::ids::CoordId;
 use fm_records::refusal::Refusal;
 use fm_script::initial_world::open;
 use fm_script::names::Names;
@@ -36,6 +44,69 @@ impl StreamService {
             alloc,
             renew_after,
             session: None,
+        }
+    }
+
+    /// Whether a line has listed the coordinators.
+    pub fn is_open(&self) -> bool
+        ensures { (o : Option Following) → IsIn self.now.session o → result ≡ is_some o }
+    {
+        self.session.is_some()
+    }
+
+    /// The coordinators' numbers, in the order in which they were listed; none before that. Refused only if memory runs
+    /// out.
+    pub fn numbers(&self, alloc: Global) -> Result<Vec<CoordId>, OutOfMemory>
+        ensures { (o : Option Following) → IsIn self.now.session o
+            → IfOk result (λ numbers. numbers.items ≡ numbers_listed o) }
+    {
+        match &self.session {
+            None => Ok(Vec::new(alloc)),
+            Some(session) => numbers_of(alloc, session),
+        }
+    }
+
+    /// What is not stored of each coordinator, in the order in which they were listed: a packet for each that has deltas
+    /// from its stored mark on, with its number and the packet number 0. It says these deltas, or all that is known if
+    /// some of them were trimmed or the history is full. Nothing changes. Refused only if memory runs out. A packet
+    /// costs what a cut costs; each coordinator is looked up.
+    pub fn unstored(&self, alloc: Global) -> Result<Vec<Packet>, OutOfMemory>
+        ensures { (o : Option Following) → IsIn self.now.session o
+            → IfOk result (λ packets. packets.items ≡ map seen_packet (unstored_in o)) }
+    {
+        match &self.session {
+            None => Ok(Vec::new(alloc)),
+            Some(session) => unstored_packets(alloc, session),
+        }
+    }
+
+    /// Marks all deltas of each coordinator as stored. A renewal takes the marks back. O(n) in the coordinators; it
+    /// allocates nothing.
+    pub fn mark_stored(&mut self)
+        ensures most { self.new.renew_after ≡ self.old.renew_after }
+        ensures stored { (o : Option Following) → IsIn self.old.session o
+            → IsIn self.new.session (option_map all_stored o) }
+    {
+        if let Some(session) = &mut self.session {
+            mark_all(session);
+        }
+    }
+
+    /// Merges stored packets, each by the coordinator that is its sender, and then marks all as stored. It is for
+    /// coordinators that were just listed. Refused with NoCoordinator if none is listed yet; else as the merge of a
+    /// packet: NoCoordinator, HistoryFull, OutOfMemory. Then the packets before that one are merged, and nothing is
+    /// marked.
+    pub fn begin_with(&mut self, packets: Vec<Packet>) -> Result<(), Refusal>
+        ensures most { self.new.renew_after ≡ self.old.renew_after }
+        ensures ok { (behind : Packet → List Op) → StandBehind behind → (k : Following) → IsIn self.old.session (Some k)
+            → OnOk result ((j : Following) × Restores behind k packets.items j × IsIn self.new.session (Some j)) }
+        ensures err { (behind : Packet → List Op) → StandBehind behind → (k : Following) → IsIn self.old.session (Some k)
+            → IfErr result (λ e. (j : Following) × RestoresUntil behind k packets.items e j × IsIn self.new.session (Some j)) }
+        ensures closed { IsIn self.old.session None → (result ≡ Err Refusal.NoCoordinator) × (self.new ≡ self.old) }
+    {
+        match &mut self.session {
+            None => Err(Refusal::NoCoordinator),
+            Some(session) => restore(session, packets),
         }
     }
 

@@ -72,9 +72,9 @@ store_of_recovery : (head : HeadModel) (bytes : List ℕ) (ps : List Packet) (wh
 store_of_recovery head bytes ps whole (inl none) some = absurd (some none.0)
 store_of_recovery head bytes ps whole (inr has) some = has
 
-pub keeps_cut : (head : HeadModel) (o new : Option (List ℕ)) (bytes : List ℕ) (ps : List Packet) (whole n : ℕ) → IfSome o (λ all. bytes ≡ all) → IsRecovery head ps whole bytes → (whole ≡ 0 → ⊥) → whole ≤ n → new ≡ option_map (take n) o → KeepsStore head o new
-keeps_cut head None new bytes ps whole n is recovery some le cut = tt
-keeps_cut head (Some all) new bytes ps whole n is recovery some le cut = λ qs m has.
+pub keeps_cut : (head other : HeadModel) (o new : Option (List ℕ)) (bytes : List ℕ) (ps : List Packet) (whole n : ℕ) → IfSome o (λ all. bytes ≡ all) → IsRecovery head ps whole bytes → (whole ≡ 0 → ⊥) → whole ≤ n → new ≡ option_map (take n) o → KeepsStore other o new
+keeps_cut head other None new bytes ps whole n is recovery some le cut = tt
+keeps_cut head other (Some all) new bytes ps whole n is recovery some le cut = λ qs m has.
     let found = subst (λ (l : List ℕ). HasStoreOf head ps whole l) is (store_of_recovery head bytes ps whole recovery some) in
-    let same : m ≡ whole = (one_store head head qs ps m whole all has found).2 in
-    subst (λ (o : Option (List ℕ)). IfSome o (λ left. HasStoreOf head qs m left)) (sym cut) (has_cut head all qs m n has (omega (arith, same, le)))
+    let same : m ≡ whole = (one_store other head qs ps m whole all has found).2 in
+    subst (λ (o : Option (List ℕ)). IfSome o (λ left. HasStoreOf other qs m left)) (sym cut) (has_cut other all qs m n has (omega (arith, same, le)))

@@ -5,7 +5,7 @@ use Rattle.std.proofs.lemmas.List.{take_at, take-append-drop}
 use Rattle.std.proofs.lemmas.Bool.Decides.{Decides-eqb}
 use Rattle.std.proofs.lemmas.Slice.Eq.{starts_is}
 use Rattle.fm_store.specs.Tails.{AreZeros}
-use Rattle.fm_store.specs.Heads.{HeadModel, has_repeat, head_record}
+use Rattle.fm_store.specs.Heads.{HeadModel, IsHeadRecord, has_repeat, head_record}
 use Rattle.fm_store.specs.Stores.{magic, IsTornMagic}
 use Rattle.fm_store.proofs.Framing.{split_same, written_front}
 
@@ -15,6 +15,17 @@ head_same h g e =
     let count : length h.numbers ≡ length g.numbers = ap (λ (l : List ℕ). get_or l 0 0) e in
     let parts = split_same h.numbers g.numbers h.label g.label count (ap (drop 1) e) in
     λ i. record { label = parts.1 i; numbers = parts.0 i }
+
+-- a record of a head has these numbers and this label, if its bytes come apart so
+pub same_numbers : (h : HeadModel) (bytes ns label : List ℕ) → IsHeadRecord h bytes → bytes ≡ length ns ∷ (ns ++ label) → h.numbers ≡ ns
+same_numbers h bytes ns label is parts =
+    let same : h ≡ record { label = label; numbers = ns } = head_same h (record { label = label; numbers = ns }) (sym is.2 ∙ parts) in
+    ap (λ (g : HeadModel). g.numbers) same
+
+pub same_label : (h : HeadModel) (bytes ns label : List ℕ) → IsHeadRecord h bytes → bytes ≡ length ns ∷ (ns ++ label) → h.label ≡ label
+same_label h bytes ns label is parts =
+    let same : h ≡ record { label = label; numbers = ns } = head_same h (record { label = label; numbers = ns }) (sym is.2 ∙ parts) in
+    ap (λ (g : HeadModel). g.label) same
 
 -- ---- numbers
 

@@ -1,6 +1,7 @@
 -- Whose packets a store has (this project's profile).
-use Rattle.std.specs.Prelude.{◌≡◌, ℕ, ◌≤◌, ◌==◌, ◌||◌, Bool, false, List, [], ◌∷◌, ◌++◌, length}
-use Rattle.std.specs.List.{list_any}
+use Rattle.std.specs.Prelude.{◌≡◌, ℕ, ◌≤◌, ◌==◌, ◌||◌, Bool, false, IsTrue, List, [], ◌∷◌, ◌++◌, length}
+use Rattle.std.specs.List.{list_all, list_any}
+use Rattle.fm_records.specs.Ids.{is_coordinator}
 
 -- a cluster, by its label in UTF-8 and by its coordinators as they were first listed
 pub record HeadModel : Type 0 where
@@ -19,3 +20,7 @@ IsHead head = (length head.label ≤ 200) × (length head.numbers ≤ 64) × (ha
 -- the record of a head: in a byte how many coordinators there are, the number of each in a byte, and the label
 abbrev pub head_record : HeadModel → List ℕ
 head_record head = length head.numbers ∷ (head.numbers ++ head.label)
+
+-- the bytes are the record of the head, whose coordinators have numbers from 1 to 64
+abbrev pub IsHeadRecord : HeadModel → List ℕ → Type 0
+IsHeadRecord head bytes = IsHead head × IsTrue (list_all is_coordinator head.numbers) × (bytes ≡ head_record head)

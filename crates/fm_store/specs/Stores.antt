@@ -8,6 +8,7 @@ use Rattle.fm_store.specs.Frames.{frame, frames}
 use Rattle.fm_store.specs.Tails.{AreZeros, AreRecords, IsTail}
 use Rattle.fm_store.specs.Heads.{HeadModel, head_record}
 use Rattle.fm_store.specs.declared.frames.Tail.TheVariants.{Clean, Torn, Damaged}
+use Rattle.fm_store.specs.declared.device.DeviceFault.TheVariants as device
 use Rattle.fm_store.specs.declared.store_fault.StoreFault.{StoreFault}
 use Rattle.fm_store.specs.declared.store_fault.StoreFault.TheVariants as faults
 
@@ -99,3 +100,12 @@ values_of number packets = map (λ p. p.value) (filter (λ p. p.sender == number
 
 abbrev pub recovered : ℕ → List Packet → Table
 recovered number packets = joined_all (values_of number packets)
+
+-- the number by which the program tells a fault: that of memory, of damage, or of a store that cannot be used; 19 and 20 are free
+abbrev pub fault_number : StoreFault → ℕ
+fault_number faults.OutOfMemory = 1
+fault_number (faults.Device device.OutOfMemory) = 1
+fault_number (faults.Device device.Failed) = 22
+fault_number (faults.Device device.Locked) = 22
+fault_number (faults.Damaged place) = 21
+fault_number faults.OtherCluster = 22

@@ -4,7 +4,7 @@
 //! bytes that a read returns, and `synced`, how many of them a crash leaves. An embedder who brings a device of its own proves the
 //! contracts below, or leaves `content` unknown and is trusted.
 
-ghost use Rattle.std.specs.Prelude.{◌≡◌, ◌≤◌, ℕ, List, Option, take, length, IfOk, OnOk, OnErr, IfSome};
+ghost use Rattle.std.specs.Prelude.{◌≡◌, ◌≤◌, ℕ, List, Option, is_some, take, length, IfOk, OnOk, OnErr, IfSome};
 ghost use Rattle.std.specs.Io.KnownBytes.{Appends};
 ghost use Rattle.std.specs.Option.{option_map};
 ghost use Rattle.fm_store.specs.Devices.{AppendsFront};
@@ -18,6 +18,8 @@ pub enum DeviceFault {
     OutOfMemory,
     /// The file could not be opened, read, written or synced.
     Failed,
+    /// Another process has the file.
+    Locked,
 }
 
 impl From<AllocError> for DeviceFault {
@@ -70,4 +72,16 @@ pub trait Device {
     fn replace(&mut self, bytes: &[u8]) -> Result<(), DeviceFault>
         ensures ok { OnOk result (IfSome (content self.new) (λ all. (all ≡ bytes.now) × (synced self.new ≡ length all))) }
         ensures err { OnErr result ((content self.new ≡ content self.old) × (synced self.new ≡ synced self.old)) };
+
+    /// The bytes are known at all times, or never.
+    ghost known: { (a b : Self) → is_some (content a) ≡ is_some (content b) };
+}
+
+/// What opens devices by their paths, as the operating system does.
+pub trait OpenDevice {
+    /// The devices that it opens.
+    type Opened: Device + Drop;
+
+    /// The device at the path, or an empty one that is made there.
+    fn open_device(&self, path: &str) -> Result<Self::Opened, DeviceFault>;
 }

@@ -4,11 +4,11 @@
 //! file of the system keeps what was synced, that a file is renamed at once or not at all, and that a lock shuts out other processes that
 //! ask.
 
-ghost use Rattle.std.specs.Prelude.{None};
+ghost use Rattle.std.specs.Prelude.{None, refl};
 
-use crate::device::{Device, DeviceFault};
+use crate::device::{Device, DeviceFault, OpenDevice};
 use std::alloc::Global;
-use std::fs::{File, OpenOptions};
+use std::fs::{File, OpenOptions, TryLockError};
 use std::io::{Read, Seek, SeekFrom, Write};
 use std::{fs, io};
 
@@ -24,10 +24,14 @@ pub struct Disk {
 }
 
 impl Disk {
-    /// Opens the file at the path, or makes an empty one. Failed if it cannot be opened, and if another process has it.
+    /// Opens the file at the path, or makes an empty one. Locked if another process has it. Failed if it cannot be opened, and if
+    /// the path is that of a symbolic link, which `replace` would put a file in the place of.
     pub fn open(rt: &HostRuntime, path: &str) -> Result<Disk, DeviceFault> {
         let path = String::from_str(rt.alloc(), path)?;
-        let lock = or_failed(locked(rt, path.as_str()))?;
+        if is_link(rt, path.as_str()) {
+            return Err(DeviceFault::Failed);
+        }
+        let lock = locked(rt, path.as_str())?;
         let file = or_failed(growing(rt, path.as_str()))?;
         Ok(Disk {
             rt: rt.clone()?,
@@ -71,14 +75,23 @@ fn growing(rt: &HostRuntime, path: &str) -> io::Result<File> {
         .open(rt, path)
 }
 
-// The lock beside the path, unless another process holds it.
-fn locked(rt: &HostRuntime, path: &str) -> io::Result<File> {
-    let beside = format!(in rt.alloc(); "{path}.lock")?;
-    let lock = growing(rt, beside.as_str())?;
-    if lock.try_lock().is_err() {
-        return Err(io::ErrorKind::WouldBlock.into());
+// Whether a symbolic link is at the path.
+fn is_link(rt: &HostRuntime, path: &str) -> bool {
+    match fs::symlink_metadata(rt, path) {
+        Ok(found) => found.is_symlink(),
+        Err(_) => false,
     }
-    Ok(lock)
+}
+
+// The lock beside the path, unless another process holds it.
+fn locked(rt: &HostRuntime, path: &str) -> Result<File, DeviceFault> {
+    let beside = format!(in rt.alloc(); "{path}.lock")?;
+    let lock = or_failed(growing(rt, beside.as_str()))?;
+    match lock.try_lock() {
+        Ok(()) => Ok(lock),
+        Err(TryLockError::WouldBlock) => Err(DeviceFault::Locked),
+        Err(TryLockError::Error(_)) => Err(DeviceFault::Failed),
+    }
 }
 
 // The folder of the path.
@@ -90,10 +103,11 @@ fn folder_of(path: &str) -> &str {
     }
 }
 
-// A new file with these bytes, on the disk, in the place of the one at the path.
-fn put_anew(rt: &HostRuntime, path: &str, bytes: &[u8]) -> io::Result<File> {
+// A new file with these bytes and the permissions of the old one, on the disk, in the place of the old one at the path.
+fn put_anew(rt: &HostRuntime, path: &str, old: &File, bytes: &[u8]) -> io::Result<File> {
     let beside = format!(in rt.alloc(); "{path}.new")?;
     let mut file = growing(rt, beside.as_str())?;
+    file.set_permissions(old.metadata()?.permissions())?;
     file.set_len(0)?;
     file.write_all(bytes)?;
     file.sync_all()?;
@@ -113,6 +127,8 @@ impl Device for Disk {
     ghost content = { λ _. None };
 
     ghost synced = { λ _. 0 };
+
+    ghost known = { λ _ _. refl };
 
     fn read(&mut self, alloc: Global) -> Result<Vec<u8>, DeviceFault> {
         self.check()?;
@@ -142,8 +158,16 @@ impl Device for Disk {
 
     fn replace(&mut self, bytes: &[u8]) -> Result<(), DeviceFault> {
         self.check()?;
-        let answer = put_anew(&self.rt, self.path.as_str(), bytes);
+        let answer = put_anew(&self.rt, self.path.as_str(), &self.file, bytes);
         self.file = self.noted(answer)?;
         Ok(())
+    }
+}
+
+impl OpenDevice for HostRuntime {
+    type Opened = Disk;
+
+    fn open_device(&self, path: &str) -> Result<Disk, DeviceFault> {
+        Disk::open(self, path)
     }
 }

@@ -4,8 +4,10 @@
 //! a store therefore names its cluster, by a label that the embedder chooses and by the coordinators as they were first listed. A store
 //! is opened only by the same head.
 
-ghost use Rattle.std.specs.Prelude.{◌≡◌, ◌++◌, None, IfSome, IfOk, OnOk, string_bytes};
-ghost use Rattle.fm_store.specs.Heads.{HeadModel, IsHead, has_repeat, head_record};
+ghost use Rattle.std.specs.Prelude.{◌≡◌, ◌≤◌, ◌++◌, ◌∷◌, ℕ, List, length, None, IsTrue, IfSome, IfOk, OnOk, string_bytes};
+ghost use Rattle.std.specs.List.{list_all};
+ghost use Rattle.fm_records.specs.Ids.{is_coordinator};
+ghost use Rattle.fm_store.specs.Heads.{HeadModel, IsHead, IsHeadRecord, has_repeat, head_record};
 
 use fm_lattice::join::OutOfMemory;
 use fm_records::ids::CoordId;
@@ -67,6 +69,56 @@ impl Head {
         bytes.extend_from_slice(self.label.as_bytes())?;
         Ok(bytes)
     }
+}
+
+/// What the record of a head says: its coordinators in their order, and the bytes of its label. None if the bytes are not the
+/// record of a head; that the label is UTF-8 is not tested. O(n²) in the number of coordinators.
+pub fn head_in(alloc: Global, bytes: &[u8]) -> Result<Option<(Vec<CoordId>, &[u8])>, OutOfMemory>
+    ensures some { IfOk result (λ found. IfSome found (λ x.
+        IsHeadRecord (record { label = x.1.now; numbers = x.0.items }) bytes.now)) }
+    ensures none { IfOk result (λ found. found ≡ None → (head : HeadModel) → IsHeadRecord head bytes.now → ⊥) }
+{
+    let Some((listed, label)) = head_parts(bytes) else {
+        return Ok(None);
+    };
+    let Some(numbers) = numbers_in(alloc, listed)? else {
+        return Ok(None);
+    };
+    if label.len() > MOST_LABEL_BYTES || has_repeat(&numbers) {
+        return Ok(None);
+    }
+    Ok(Some((numbers, label)))
+}
+
+// The numbers, and the bytes behind them, if the first byte says how many there are, and these are 64 at most.
+fn head_parts(bytes: &[u8]) -> Option<(&[u8], &[u8])>
+    ensures some { IfSome result (λ x. bytes.now ≡ length x.0.now ∷ (x.0.now ++ x.1.now)) }
+    ensures few { IfSome result (λ x. length x.0.now ≤ 64) }
+    ensures none { result ≡ None → (numbers rest : List ℕ) → length numbers ≤ 64
+        → bytes.now ≡ length numbers ∷ (numbers ++ rest) → ⊥ }
+{
+    let (first, rest) = bytes.split_first()?;
+    let count = usize::from(*first);
+    if count > MOST_COORDINATORS || count > rest.len() {
+        return None;
+    }
+    Some(rest.split_at(count))
+}
+
+// The coordinators of these numbers, if each number is that of one.
+fn numbers_in(alloc: Global, bytes: &[u8]) -> Result<Option<Vec<CoordId>>, OutOfMemory>
+    ensures some { IfOk result (λ found. IfSome found (λ numbers. numbers.items ≡ bytes.now)) }
+    ensures are { IfOk result (λ found. IfSome found (λ numbers. IsTrue (list_all is_coordinator bytes.now))) }
+    ensures none { IfOk result (λ found. found ≡ None → IsTrue (list_all is_coordinator bytes.now) → ⊥) }
+{
+    let mut numbers = Vec::new(alloc);
+    for byte in bytes {
+        let Some(number) = CoordId::new(*byte) else {
+            return Ok(None);
+        };
+        numbers.push(number)?;
+    }
+    Ok(Some(numbers))
 }
 
 // Whether a coordinator is listed twice.

@@ -1,6 +1,6 @@
 //! A device in memory, for tests and for coordinators that need not outlive their process.
 
-ghost use Rattle.std.specs.Prelude.{◌≡◌, ◌≤◌, Some, length, min, [], OnOk, OnErr, take};
+ghost use Rattle.std.specs.Prelude.{◌≡◌, ◌≤◌, Some, length, min, [], OnOk, OnErr, take, refl};
 
 use crate::device::{Device, DeviceFault};
 use std::alloc::Global;
@@ -50,6 +50,8 @@ impl Device for Memory {
     ghost content = { λ m. Some m.0 };
 
     ghost synced = { λ m. m.1 };
+
+    ghost known = { λ _ _. refl };
 
     fn read(&mut self, alloc: Global) -> Result<Vec<u8>, DeviceFault> {
         Ok(self.bytes.to_vec(alloc)?)

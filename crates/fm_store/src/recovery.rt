@@ -126,8 +126,8 @@ fn behind_head<'a>(
     }
 }
 
-// What is behind the magic bytes, if the bytes begin with these.
-fn behind_magic(bytes: &[u8]) -> Option<&[u8]>
+/// What is behind the bytes `FMSTORE1`, if the bytes begin with these, as those of each store do. It allocates nothing.
+pub fn behind_magic(bytes: &[u8]) -> Option<&[u8]>
     ensures some { IfSome result (λ rest. bytes.now ≡ magic ++ rest.now) }
     ensures none { result ≡ None → (rest : List ℕ) → bytes.now ≡ magic ++ rest → ⊥ }
 {
@@ -135,8 +135,8 @@ fn behind_magic(bytes: &[u8]) -> Option<&[u8]>
     if *front == MAGIC { Some(rest) } else { None }
 }
 
-// Whether the bytes are a front of the magic bytes, and zeros.
-fn is_torn_magic(bytes: &[u8]) -> bool
+/// Whether the bytes are a front of these, and zeros, if any, as a crash leaves them. It allocates nothing. O(n).
+pub fn is_torn_magic(bytes: &[u8]) -> bool
     ensures { IsTrue result ↔ IsTornMagic bytes.now }
 {
     MAGIC.starts_with(without_zeros(bytes))

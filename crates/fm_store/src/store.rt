@@ -9,7 +9,7 @@ ghost use Rattle.std.specs.Io.KnownBytes.{Appends};
 ghost use Rattle.fm_wire.specs.Grammar.{spelling, IsPacket};
 ghost use Rattle.fm_store.specs.Frames.{frame};
 ghost use Rattle.fm_store.specs.Devices.{AppendsFront};
-ghost use Rattle.fm_store.specs.Heads.{head_record};
+ghost use Rattle.fm_store.specs.Heads.{HeadModel, head_record};
 ghost use Rattle.fm_store.specs.Stores.{IsStoreOf, AreFoundIn, KeepsStore, IsDamagedAt, HasOtherHead};
 ghost use Rattle.fm_store.specs.declared.store_fault.StoreFault.TheVariants as faults;
 
@@ -36,7 +36,7 @@ pub fn open_store<D: Device>(
     ensures found { IfOk result (λ packets. IfSome (D.content device.old) (λ all. AreFoundIn head.now packets.items all)) }
     ensures left { IfOk result (λ packets. IfSome (D.content device.new) (λ all. IsStoreOf head.now packets.items all)) }
     ensures synced { OnOk result (IfSome (D.content device.new) (λ all. D.synced device.new ≡ length all)) }
-    ensures err { OnErr result (KeepsStore head.now (D.content device.old) (D.content device.new)) }
+    ensures err { (other : HeadModel) → OnErr result (KeepsStore other (D.content device.old) (D.content device.new)) }
     ensures damaged { IfErr result (λ e. (place : ℕ) → e ≡ faults.Damaged place
         → IfSome (D.content device.old) (λ all. IsDamagedAt head.now place all)
         × (D.content device.new ≡ D.content device.old) × (D.synced device.new ≡ D.synced device.old)) }
@@ -58,8 +58,8 @@ pub fn open_store<D: Device>(
 }
 
 /// Adds the packet at the end. It is on the disk once the device is synced. Refused if memory runs out or the device
-/// fails; then a front of the packet's record may have been added, which `open_store` cuts off, and nothing more may be added
-/// before that. O(n) in the bytes of the packet.
+/// fails; then a front of the packet's record may have been added, which `open_store` cuts off if it is not whole, and nothing
+/// more may be added before that. O(n) in the bytes of the packet.
 pub fn append_packet<D: Device>(
     alloc: Global,
     device: &mut D,
@@ -67,7 +67,10 @@ pub fn append_packet<D: Device>(
 ) -> Result<(), StoreFault>
     ensures ok { OnOk result (Appends (D.content device.old) (D.content device.new) (frame (spelling packet.now))) }
     ensures packet { OnOk result (IsPacket packet.now) }
+    ensures fits { OnOk result (length (spelling packet.now) < 2 ^ 64) }
     ensures err { OnErr result (AppendsFront (D.content device.old) (D.content device.new) (frame (spelling packet.now))) }
+    ensures part { OnErr result ((D.content device.new ≡ D.content device.old)
+        ⊎ (IsPacket packet.now × (length (spelling packet.now) < 2 ^ 64))) }
     ensures synced { D.synced device.new ≡ D.synced device.old }
 {
     let mut bytes = Vec::new(alloc);

@@ -1,6 +1,7 @@
 //! Why a store cannot be used.
 
 ghost use Rattle.std.specs.Prelude.{◌≡◌};
+ghost use Rattle.fm_store.specs.Stores.{fault_number};
 ghost use Rattle.fm_store.specs.declared.store_fault.StoreFault.TheVariants as faults;
 
 use crate::device::DeviceFault;
@@ -18,6 +19,21 @@ pub enum StoreFault {
     Damaged(usize),
     /// The store is another cluster's: its head has another label, or lists other coordinators.
     OtherCluster,
+}
+
+impl StoreFault {
+    /// The number by which the program tells it: 1 if there is not enough memory, 21 if the bytes are damaged, and 22 if the
+    /// store cannot be used for another reason.
+    pub fn number(self) -> u8
+        ensures { result ≡ fault_number self }
+    {
+        match self {
+            StoreFault::OutOfMemory | StoreFault::Device(DeviceFault::OutOfMemory) => 1,
+            StoreFault::Damaged(_) => 21,
+            StoreFault::Device(DeviceFault::Failed | DeviceFault::Locked)
+            | StoreFault::OtherCluster => 22,
+        }
+    }
 }
 
 impl From<DeviceFault> for StoreFault {

@@ -1,4 +1,4 @@
-//! Tests of coordinators, of worlds, of scripts, and of gathering, by public calls alone.
+//! Tests of coordinators, of worlds, of scripts, of streams, and of gathering, by public calls alone.
 #![tactic(auto)]
 
 #[cfg(test)]
@@ -9,6 +9,8 @@ mod deferred;
 mod exchanges;
 #[cfg(test)]
 mod gather;
+#[cfg(test)]
+mod groups;
 #[cfg(test)]
 mod input;
 #[cfg(test)]

@@ -16,18 +16,18 @@ returns-in_err-packets-clause-damaged g c =
     (damaged_found head (g.D.Device.content c.args.device.now) c.in_ok-bytes.bytes.items c.in_err-packets.field-0.0 place c.in_ok-bytes.ensures.bytes cause named, c.read.ensures.same, c.read.ensures.synced))
 
 pub returns-in_err-cut-clause-err : goal.returns-in_err-cut-clause-err
-returns-in_err-cut-clause-err g c =
+returns-in_err-cut-clause-err g c = λ other.
     let head = c.args.head.now in
     let found = c.in_ok-packets.field-0 in
     let p = err_from_is_err_and c.from_residual-in_err-cut.result c.from_residual-in_err-cut.ensures.1 in
     let recovery = subst (λ (l : List ℕ). IsRecovery head found.packets.items found.whole l) c.deref.ensures.value c.in_ok-packets.ensures.ok in
     let some : found.whole ≡ 0 → ⊥ = λ zero. omega (arith, c.if-whole-eq0.false, c.in_ok-packets.whole-is, zero) in
     let left = c.in_err-cut.ensures.err in
-    rw p.1 (keeps_cut head (g.D.Device.content c.args.device.now) (g.D.Device.content c.cut.new.self) c.in_ok-bytes.bytes.items found.packets.items found.whole left.0
+    rw p.1 (keeps_cut head other (g.D.Device.content c.args.device.now) (g.D.Device.content c.cut.new.self) c.in_ok-bytes.bytes.items found.packets.items found.whole left.0
     c.in_ok-bytes.ensures.bytes recovery some left.1 (left.2 ∙ ap (option_map (take left.0)) c.read.ensures.same))
 
 pub returns-in_err-sync-clause-err : goal.returns-in_err-sync-clause-err
-returns-in_err-sync-clause-err g c =
+returns-in_err-sync-clause-err g c = λ other.
     let head = c.args.head.now in
     let found = c.in_ok-packets.field-0 in
     let old = g.D.Device.content c.args.device.now in
@@ -38,6 +38,6 @@ returns-in_err-sync-clause-err g c =
     rw p.1 (elim c.if-whole-len.branch [
       | then-whole-len+in_ok-cut w ↦
           let cut : new ≡ option_map (take found.whole) old = c.in_err-sync.ensures.same ∙ ap g.D.Device.content w.device-is ∙ w.in_ok-cut.ensures.ok ∙ ap (option_map (take found.whole)) c.read.ensures.same in
-          keeps_cut head old new c.in_ok-bytes.bytes.items found.packets.items found.whole found.whole c.in_ok-bytes.ensures.bytes recovery some (le_refl found.whole) cut
-      | else-whole-len w ↦ keeps_same head old new (c.in_err-sync.ensures.same ∙ ap g.D.Device.content w.device-is ∙ c.read.ensures.same)
+          keeps_cut head other old new c.in_ok-bytes.bytes.items found.packets.items found.whole found.whole c.in_ok-bytes.ensures.bytes recovery some (le_refl found.whole) cut
+      | else-whole-len w ↦ keeps_same other old new (c.in_err-sync.ensures.same ∙ ap g.D.Device.content w.device-is ∙ c.read.ensures.same)
     ])

@@ -11,11 +11,11 @@ returns-clause-ok c = λ behind stand k here.
     let count = c.packet_count.ensures ∙ counted c.args.self.now.world k.world here.stands in
     let new : c.in_ok-add.field-0 ≡ true = cc in
     let named = c.in_ok-add.ensures.added new ∙ (λ i. named_also (here.named_is i) c.args.name.now (count i)) in (
-      record { named = named_also k.named c.args.name.now (length k.world.packets); marks = k.marks; own_marks = k.own_marks; world = step_of k.world (step_at c.args.at (act.Cut c.args.range)) },
+      record { named = named_also k.named c.args.name.now (length k.world.packets); marks = k.marks; own_marks = k.own_marks; stored_marks = k.stored_marks; world = step_of k.world (step_at c.args.at (act.Cut c.args.range)) },
       (
         step_of k.world (step_at c.args.at (act.Cut c.args.range)),
         record { told = c.in_ok-prepared.ensures.line k.world here.stands; cut = record { accepted = c.in_default.ensures.accepted k.world here.stands; made = refl } },
         refl,
       ),
-      record { stands = c.in_default.ensures.stands k.world here.stands; named_is = named; marks_is = here.marks_is; own_marks_is = here.own_marks_is },
+      record { stands = c.in_default.ensures.stands k.world here.stands; named_is = named; marks_is = here.marks_is; own_marks_is = here.own_marks_is; stored_marks_is = here.stored_marks_is },
     )

@@ -33,7 +33,7 @@ returns-clause-ok c = λ behind stand k h.
     let end = c.end-end.ensures ∙ there.stands.end in
     let went = c.in_ok-text.ensures.ok behind stand k h in
     let at = subst (λ (j : Following). SessionAt c.cut.new.self j) went.1.2 went.2 in (
-      record { named = k.named; marks = slice_set k.marks c.args.at (length there.replica.buffer); own_marks = k.own_marks; world = went.1.0 },
+      record { named = k.named; marks = slice_set k.marks c.args.at (length there.replica.buffer); own_marks = k.own_marks; stored_marks = k.stored_marks; world = went.1.0 },
       record {
         replica = there.replica;
         there = there.at;
@@ -41,5 +41,5 @@ returns-clause-ok c = λ behind stand k h.
         cuts = subst (λ (r : Range). Cuts k.world c.args.at r c.in_ok-text.text.items went.1.0) range went.1.1;
         is = refl;
       },
-      record { stands = at.stands; named_is = at.named_is; marks_is = λ i. slice_set (at.marks_is i) (c.from-2.ensures i) (end i); own_marks_is = at.own_marks_is },
+      record { stands = at.stands; named_is = at.named_is; marks_is = λ i. slice_set (at.marks_is i) (c.from-2.ensures i) (end i); own_marks_is = at.own_marks_is; stored_marks_is = at.stored_marks_is },
     )

@@ -33,7 +33,7 @@ returns-clause-ok c = λ behind stand k h.
     let range = c.own_news_since-news.ensures.range there.replica there.stands ∙ ap (λ mark. own_news_since mark there.replica) m in
     let mark = c.own_news_since-news.ensures.mark there.replica there.stands ∙ ap (λ mark. own_mark_after mark there.replica) m in
     let went = c.in_ok-text.ensures.ok k h in (
-      record { named = k.named; marks = k.marks; own_marks = slice_set k.own_marks c.args.at (own_mark_after (own_mark_at k c.args.at) there.replica); world = went.0 },
+      record { named = k.named; marks = k.marks; own_marks = slice_set k.own_marks c.args.at (own_mark_after (own_mark_at k c.args.at) there.replica); stored_marks = k.stored_marks; world = went.0 },
       record {
         replica = there.replica;
         there = there.at;
@@ -46,5 +46,6 @@ returns-clause-ok c = λ behind stand k h.
         named_is = went.2.named_is;
         marks_is = went.2.marks_is;
         own_marks_is = λ i. slice_set (went.2.own_marks_is i) (c.from-2.ensures i) (mark i);
+        stored_marks_is = went.2.stored_marks_is;
       },
     )

@@ -12,5 +12,5 @@ returns-clause-ok c = λ behind stand k here.
     let stands = c.in_ok-take.ensures.stands k.world sent here.stands (seen_so behind stand packet c.law_can_be.ensures) in (
       at_world k (taken_in k.world c.args.at 0 sent),
       (c.new.ensures.items, record { packet = packet; spelled = subst (λ digits. IsPacketIn digits packet) c.as_bytes.ensures.value c.in_ok-packet.ensures.ok; accepted = c.in_ok-take.ensures.accepted k.world here.stands; is = refl }),
-      record { stands = stands; named_is = here.named_is; marks_is = here.marks_is; own_marks_is = here.own_marks_is },
+      record { stands = stands; named_is = here.named_is; marks_is = here.marks_is; own_marks_is = here.own_marks_is; stored_marks_is = here.stored_marks_is },
     )

@@ -1,0 +1,4 @@
+pub mod DurableSteps
+pub mod DurableServices
+pub mod DurableStreams
+pub mod inner

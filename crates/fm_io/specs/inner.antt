@@ -1,0 +1,2 @@
+pub mod HeldTexts
+pub mod GroupSteps

@@ -1,0 +1,3 @@
+pub mod Fronting
+pub mod Lines
+pub mod Knowing

@@ -1,0 +1,4 @@
+pub mod StoreFronts
+pub mod ListingText
+pub mod RecoveryText
+pub mod inner

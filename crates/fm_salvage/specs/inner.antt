@@ -1,0 +1,3 @@
+pub mod FrameReading
+pub mod Joining
+pub mod RecordLines
