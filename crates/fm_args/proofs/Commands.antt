@@ -7,8 +7,8 @@ use Rattle.fm_records.specs.Ids.{read_id}
 use Rattle.clap.specs.Words.{Row}
 use Rattle.fm_args.specs.declared.words.ScriptQuestion.{ScriptQuestion}
 use Rattle.fm_args.specs.declared.words.ScriptQuestion.TheVariants as question
-use Rattle.fm_args.specs.Invocation.{Text, agree, ask, check, fleet, follow, pack, run, unpack, why, wrong}
-use Rattle.fm_args.specs.CommandLine.{Form, asks, commands, default_renew_after, fleets, follows, telling_of_words, most_renew_after, nothing, packs, whys}
+use Rattle.fm_args.specs.Invocation.{Text, agree, ask, check, fleet, pack, records, recover, run, unpack, why, wrong}
+use Rattle.fm_args.specs.CommandLine.{Form, asks, commands, fleets, follow_by, follows, lists_records, telling_of_words, nothing, packs, recovers, whys}
 use Rattle.fm_args.specs.Parser.{told_as, told_with}
 use Rattle.fm_args.specs.inner.ParserOutcomes.{tellings}
 use Rattle.fm_args.proofs.Leaf.{built_with, helper}
@@ -19,6 +19,8 @@ use Rattle.fm_args.proofs.Named as named
 use Rattle.fm_args.proofs.Numbered.{Numbered, shape, takes_number}
 use Rattle.fm_args.proofs.Both.{Both, takes_both}
 use Rattle.fm_args.proofs.Both as both
+use Rattle.fm_args.proofs.Streamed.{Streamed, takes_options}
+use Rattle.fm_args.proofs.Streamed as streamed
 
 abbrev pub IsTold : Form → Type 0
 IsTold c = (program : Text) (rest : List Text) → tellings (program ∷ c.name ∷ rest) ≡ telling_of_words c.takes rest ∷ []
@@ -44,19 +46,11 @@ of_fleet = record {
   tells = λ rows. refl;
 }
 
-abbrev of_follow : Numbered
+abbrev of_follow : Streamed
 of_follow = record {
   called = codes "follow";
-  option_name = codes "renew-after";
-  least = 1;
-  most = most_renew_after;
-  bits = 32;
-  give = λ n. follow (unwrap_or n default_renew_after);
   tell = told_as (codes "follow");
-  itself = refl;
-  no_help = refl;
-  is_small = omega arith;
-  has_room = omega arith;
+  give = follow_by;
   tells = λ rows. refl;
 }
 
@@ -100,6 +94,22 @@ of_pack = record {
   tells = λ rows. refl;
 }
 
+abbrev of_records : Named
+of_records = record {
+  called = codes "records";
+  tell = told_as (codes "records");
+  give = λ path. records path;
+  tells = λ rows. refl;
+}
+
+abbrev of_recover : Named
+of_recover = record {
+  called = codes "recover";
+  tell = told_as (codes "recover");
+  give = λ path. recover path;
+  tells = λ rows. refl;
+}
+
 abbrev of_why : Both
 of_why = record {
   called = codes "why";
@@ -122,7 +132,7 @@ fleet_told program rest = enter program (codes "fleet") rest (shape of_fleet) re
 
 follow_told : IsTold (record { name = codes "follow"; takes = follows })
 unfolding clap_on_literals
-follow_told program rest = enter program (codes "follow") rest (shape of_follow) refl refl refl ∙ takes_number of_follow rest
+follow_told program rest = enter program (codes "follow") rest (built_with (codes "follow") streamed.rules) refl refl refl ∙ takes_options of_follow rest
 
 graph_told : IsTold (record { name = codes "graph"; takes = asks question.Graph })
 unfolding clap_on_literals
@@ -135,6 +145,14 @@ list_told program rest = enter program (codes "list") rest (shape of_list) refl 
 pack_told : IsTold (record { name = codes "pack"; takes = packs })
 unfolding clap_on_literals
 pack_told program rest = enter program (codes "pack") rest (built_with (codes "pack") named.rules) refl refl refl ∙ takes_name of_pack rest
+
+records_told : IsTold (record { name = codes "records"; takes = lists_records })
+unfolding clap_on_literals
+records_told program rest = enter program (codes "records") rest (built_with (codes "records") named.rules) refl refl refl ∙ takes_name of_records rest
+
+recover_told : IsTold (record { name = codes "recover"; takes = recovers })
+unfolding clap_on_literals
+recover_told program rest = enter program (codes "recover") rest (built_with (codes "recover") named.rules) refl refl refl ∙ takes_name of_recover rest
 
 solve_told : IsTold (record { name = codes "solve"; takes = asks question.Solve })
 unfolding clap_on_literals
@@ -157,4 +175,4 @@ unfolding clap_on_literals
 winners_told program rest = enter program (codes "winners") rest (shape of_winners) refl refl refl ∙ takes_number of_winners rest
 
 pub each_told : Each IsTold commands
-each_told = (agree_told, (check_told, (fleet_told, (follow_told, (graph_told, (list_told, (pack_told, (solve_told, (plan_told, (unpack_told, (why_told, (winners_told, tt))))))))))))
+each_told = (agree_told, (check_told, (fleet_told, (follow_told, (graph_told, (list_told, (pack_told, (records_told, (recover_told, (solve_told, (plan_told, (unpack_told, (why_told, (winners_told, tt))))))))))))))

@@ -13,10 +13,10 @@ differs name w other = go (bytes_eq name w) refl
     go false e = e
     go true e = absurd (other (sym ((bytes_eq-Decides name w).0 e)))
 
-pub no_topic : (w : Text) → w ≢ codes "agree" → w ≢ codes "check" → w ≢ codes "fleet" → w ≢ codes "follow" → w ≢ codes "graph" → w ≢ codes "list" → w ≢ codes "pack"
+pub no_topic : (w : Text) → w ≢ codes "agree" → w ≢ codes "check" → w ≢ codes "fleet" → w ≢ codes "follow" → w ≢ codes "graph" → w ≢ codes "list" → w ≢ codes "pack" → w ≢ codes "records" → w ≢ codes "recover"
     → w ≢ codes "solve" → w ≢ codes "plan" → w ≢ codes "unpack" → w ≢ codes "why" → w ≢ codes "winners" → w ≢ codes "help" → is_topic w ≡ false
-no_topic w not_agree not_check not_fleet not_follow not_graph not_list not_pack not_solve not_plan not_unpack not_why not_winners not_help =
-    rw (differs (codes "agree") w not_agree, differs (codes "check") w not_check, differs (codes "fleet") w not_fleet, differs (codes "follow") w not_follow, differs (codes "graph") w not_graph, differs (codes "list") w not_list, differs (codes "pack") w not_pack, differs (codes "solve") w not_solve, differs (codes "plan") w not_plan, differs (codes "unpack") w not_unpack, differs (codes "why") w not_why, differs (codes "winners") w not_winners, differs (codes "help") w not_help) refl
+no_topic w not_agree not_check not_fleet not_follow not_graph not_list not_pack not_records not_recover not_solve not_plan not_unpack not_why not_winners not_help =
+    rw (differs (codes "agree") w not_agree, differs (codes "check") w not_check, differs (codes "fleet") w not_fleet, differs (codes "follow") w not_follow, differs (codes "graph") w not_graph, differs (codes "list") w not_list, differs (codes "pack") w not_pack, differs (codes "records") w not_records, differs (codes "recover") w not_recover, differs (codes "solve") w not_solve, differs (codes "plan") w not_plan, differs (codes "unpack") w not_unpack, differs (codes "why") w not_why, differs (codes "winners") w not_winners, differs (codes "help") w not_help) refl
 
 module _ {A : Type 0} (text : A → Text) where
   pub few_ask_nothing : (words : List A) → length words < 2 → asks_for_help (map text words) ≡ false

@@ -8,6 +8,7 @@ pub mod Bare
 pub mod Named
 pub mod Numbered
 pub mod Both
+pub mod Streamed
 pub mod Matching
 pub mod Entering
 pub mod Commands

@@ -1,6 +1,6 @@
 -- What a command line asks for, by cases on its words alone (this project's profile).
-use Rattle.std.specs.Prelude.{◌&&◌, ◌||◌, ◌==◌, ℕ, Bool, false, not, nat_le, List, [], ◌∷◌, find, codes, bytes_eq}
-use Rattle.std.specs.Prelude.{Option, Some, None, is_some, unwrap_or, option_and_then, slice_get, if◌then◌else◌}
+use Rattle.std.specs.Prelude.{◌&&◌, ◌||◌, ◌==◌, ℕ, Bool, false, not, nat_le, List, [], ◌∷◌, length, find, codes, bytes_eq}
+use Rattle.std.specs.Prelude.{Option, Some, None, is_some, unwrap_or, option_and_then, option_map, slice_get, if◌then◌else◌}
 use Rattle.std.specs.Option.{option_map_or}
 use Rattle.std.specs.Str.{chars}
 use Rattle.std.specs.Str.Parse.{digits_value, starts_with_minus, without_leading_sign}
@@ -9,7 +9,7 @@ use Rattle.clap.specs.ValueTests.{is_numeral}
 use Rattle.fm_records.specs.Ids.{read_id}
 use Rattle.fm_args.specs.declared.words.ScriptQuestion.{ScriptQuestion}
 use Rattle.fm_args.specs.declared.words.ScriptQuestion.TheVariants as question
-use Rattle.fm_args.specs.Invocation.{Telling, Text, agree, ask, check, fleet, follow, help, pack, page, run, unpack, version, why, wrong}
+use Rattle.fm_args.specs.Invocation.{Telling, Text, agree, ask, check, fleet, follow, follow_with_store, help, pack, page, records, recover, run, unpack, version, why, wrong}
 
 -- ---- one word
 
@@ -107,25 +107,7 @@ abbrev pub with_name_and_option : Text → ℕ → ℕ → (Text → Option ℕ 
 with_name_and_option option least most give [] = wrong
 with_name_and_option option least most give (w ∷ rest) = name_or_option_at option least most give (look_of w) w rest
 
--- ---- the commands
-
--- what a command takes, and what it then asks for: nothing
--- or one name
--- or an option `--NAME N`, where N is no less than the least and no greater than the most; or no option
--- or one name, and such an option or none
-pub data ArgumentKind : Type 0 where
-  nothing : Telling → ArgumentKind
-  one_name : (Text → Telling) → ArgumentKind
-  one_number : Text → (least most : ℕ) → (Option ℕ → Telling) → ArgumentKind
-  name_and_number : Text → (least most : ℕ) → (Text → Option ℕ → Telling) → ArgumentKind
-
--- `--at N`: the question about the coordinator N, or about the first of the script
-abbrev pub asks : ScriptQuestion → ArgumentKind
-asks q = one_number (codes "at") 0 255 (λ at. run (ask q at))
-
--- `--rounds N`: a fleet for N rounds, or for none
-abbrev pub fleets : ArgumentKind
-fleets = one_number (codes "rounds") 0 1000 (λ rounds. fleet (unwrap_or rounds 0))
+-- ---- the options of a stream
 
 -- if no N is told: an entry takes about a kilobyte, so that a history takes some 100 MB
 abbrev pub default_renew_after : ℕ
@@ -135,13 +117,112 @@ default_renew_after = 100000
 abbrev pub most_renew_after : ℕ
 most_renew_after = 1000000
 
--- `--renew-after N`: coordinators that are kept running, and are renewed once a history has N entries, 1 at least
+-- how many bytes a label may have
+abbrev pub most_label_bytes : ℕ
+most_label_bytes = 200
+
+-- what the options were given
+pub record StreamOptions : Type 0 where
+  pub renew_after : Option ℕ
+  pub store : Option Text
+  pub label : Option Text
+
+abbrev pub no_options : StreamOptions
+no_options = record { renew_after = None; store = None; label = None }
+
+-- `--renew-after`, `--store` and `--store-label`
+pub data StreamOption : Type 0 where
+  of_renewal : StreamOption
+  of_store : StreamOption
+  of_label : StreamOption
+
+abbrev pub option_named : Text → Option StreamOption
+option_named n = if bytes_eq (codes "renew-after") n then Some of_renewal
+    else (if bytes_eq (codes "store") n then Some of_store else (if bytes_eq (codes "store-label") n then Some of_label else None))
+
+-- the options with one more, if it was not given before: a number from 1 to the most, or any word
+abbrev pub with_option_value : StreamOption → Text → StreamOptions → Option StreamOptions
+with_option_value of_renewal v g =
+    if is_some g.renew_after then None else option_map (λ n. record g { renew_after = Some n }) (parsed_number 1 most_renew_after v)
+with_option_value of_store v g = if is_some g.store then None else Some (record g { store = Some v })
+with_option_value of_label v g = if is_some g.label then None else Some (record g { label = Some v })
+
+-- what comes of the words that follow, by the options before them and by the one that waits for its value, if one does
+abbrev pub Onward : Type 0
+Onward = StreamOptions → Option StreamOption → Telling
+
+abbrev pub once_given : Onward → Option StreamOptions → Telling
+once_given onward None = wrong
+once_given onward (Some g) = onward g None
+
+abbrev pub stream_option : Onward → StreamOptions → StreamOption → Option Text → Telling
+stream_option onward g o (Some v) = once_given onward (with_option_value o v g)
+stream_option onward g o None = onward g (Some o)
+
+abbrev pub stream_options_at : (StreamOptions → Telling) → Onward → StreamOptions → Option StreamOption → Look → Text → List Text → Telling
+stream_options_at give onward g (Some o) plain w rest = once_given onward (with_option_value o w g)
+stream_options_at give onward g (Some o) look w rest = wrong
+stream_options_at give onward g None (long n v) w rest =
+    option_map_or (λ o. stream_option onward g o v) (option_named n) (look_telling (long n v))
+stream_options_at give onward g None look w rest = ends_after look (give g) rest
+
+-- options in any order, each once at most: its value is behind its `=`, or is the next word, which is no flag
+abbrev pub with_stream_options : (StreamOptions → Telling) → StreamOptions → Option StreamOption → List Text → Telling
+with_stream_options give g None [] = give g
+with_stream_options give g (Some o) [] = wrong
+with_stream_options give g waiting (w ∷ rest) =
+    stream_options_at give (λ h next. with_stream_options give h next rest) g waiting (look_of w) w rest
+
+-- ---- the commands
+
+-- what a command takes, and what it then asks for: nothing
+-- or one name
+-- or an option `--NAME N`, where N is no less than the least and no greater than the most; or no option
+-- or one name, and such an option or none
+-- or the options of a stream
+pub data ArgumentKind : Type 0 where
+  nothing : Telling → ArgumentKind
+  one_name : (Text → Telling) → ArgumentKind
+  one_number : Text → (least most : ℕ) → (Option ℕ → Telling) → ArgumentKind
+  name_and_number : Text → (least most : ℕ) → (Text → Option ℕ → Telling) → ArgumentKind
+  stream_options : (StreamOptions → Telling) → ArgumentKind
+
+-- `--at N`: the question about the coordinator N, or about the first of the script
+abbrev pub asks : ScriptQuestion → ArgumentKind
+asks q = one_number (codes "at") 0 255 (λ at. run (ask q at))
+
+-- `--rounds N`: a fleet for N rounds, or for none
+abbrev pub fleets : ArgumentKind
+fleets = one_number (codes "rounds") 0 1000 (λ rounds. fleet (unwrap_or rounds 0))
+
+-- a stream with a store, by its path and its label, or with none; a label has 200 bytes at most, and is given with a store alone
+abbrev pub stored_at : ℕ → Text → Text → Telling
+stored_at n path label = if nat_le (length label) most_label_bytes then follow_with_store n path label else wrong
+
+abbrev pub follow_at : ℕ → Option Text → Option Text → Telling
+follow_at n None None = follow n
+follow_at n None (Some label) = wrong
+follow_at n (Some path) label = stored_at n path (unwrap_or label [])
+
+abbrev pub follow_by : StreamOptions → Telling
+follow_by g = follow_at (unwrap_or g.renew_after default_renew_after) g.store g.label
+
+-- `--renew-after N`, `--store FILE` and `--store-label TEXT`: coordinators that are kept running, are renewed once a history has N entries, 1 at
+-- least, and have their packets in the store of the label in the file
 abbrev pub follows : ArgumentKind
-follows = one_number (codes "renew-after") 1 most_renew_after (λ n. follow (unwrap_or n default_renew_after))
+follows = stream_options follow_by
 
 -- `NAME`: the packet of the name
 abbrev pub packs : ArgumentKind
 packs = one_name (λ name. run (pack name))
+
+-- `FILE`: the records of the store in the file
+abbrev pub lists_records : ArgumentKind
+lists_records = one_name (λ path. records path)
+
+-- `FILE`: what can be recovered of it
+abbrev pub recovers : ArgumentKind
+recovers = one_name (λ path. recover path)
 
 -- `TASK` and `--at N`: why the task of the id waits or runs, asked of the coordinator N, or of the first of the script
 abbrev pub whys : ArgumentKind
@@ -160,6 +241,8 @@ commands = record { name = codes "agree"; takes = nothing (run agree) }
     ∷ record { name = codes "graph"; takes = asks question.Graph }
     ∷ record { name = codes "list"; takes = asks question.List }
     ∷ record { name = codes "pack"; takes = packs }
+    ∷ record { name = codes "records"; takes = lists_records }
+    ∷ record { name = codes "recover"; takes = recovers }
     ∷ record { name = codes "solve"; takes = asks question.Solve }
     ∷ record { name = codes "plan"; takes = asks question.Plan }
     ∷ record { name = codes "unpack"; takes = nothing (run unpack) }
@@ -175,6 +258,7 @@ telling_of_words (nothing t) = ends t
 telling_of_words (one_name give) = with_name give
 telling_of_words (one_number option least most give) = with_option option least most give
 telling_of_words (name_and_number option least most give) = with_name_and_option option least most give
+telling_of_words (stream_options give) = with_stream_options give no_options None
 
 abbrev pub command_named : Text → Option Form
 command_named w = find (λ c. bytes_eq c.name w) commands

@@ -27,6 +27,9 @@ pub data ArgsModel : Type 0 where
 -- what is asked for: the command's answer
 -- or a fleet that is run for so many rounds
 -- or coordinators that are kept running, and are renewed once a history has so many entries
+-- or the same with a store, by its path and its label
+-- or the records of the store in a file
+-- or what can be recovered of that store
 -- or a text of help
 -- or the page of refusals
 -- or the version
@@ -35,6 +38,9 @@ pub data Telling : Type 0 where
   run : ArgsModel → Telling
   fleet : ℕ → Telling
   follow : (renew_after : ℕ) → Telling
+  follow_with_store : (renew_after : ℕ) → (path label : Text) → Telling
+  records : (path : Text) → Telling
+  recover : (path : Text) → Telling
   help : Telling
   page : Telling
   version : Telling
@@ -53,6 +59,9 @@ abbrev pub told_of : Words → Telling
 told_of (words.Run command) = run (args_model command)
 told_of (words.Fleet rounds) = fleet rounds
 told_of (words.Follow renew_after) = follow renew_after
+told_of (words.FollowWithStore renew_after path label) = follow_with_store renew_after path.now label.now
+told_of (words.Records path) = records path.now
+told_of (words.Recover path) = recover path.now
 told_of (words.Help text) = help
 told_of words.Refusals = page
 told_of words.Version = version

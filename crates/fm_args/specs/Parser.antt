@@ -13,7 +13,7 @@ use Rattle.clap.specs.declared.builder.value_parser.ValueParser.TheVariants as p
 use Rattle.clap.specs.declared.error.ErrorKind.{ErrorKind}
 use Rattle.clap.specs.declared.error.ErrorKind.TheVariants as kind
 use Rattle.fm_args.specs.Invocation.{Telling, Text, help, wrong}
-use Rattle.fm_args.specs.CommandLine.{Form, ArgumentKind, nothing, one_name, one_number, name_and_number, commands, is_topic}
+use Rattle.fm_args.specs.CommandLine.{Form, ArgumentKind, most_renew_after, nothing, one_name, one_number, name_and_number, stream_options, commands, is_topic}
 
 -- ---- the commands
 
@@ -28,11 +28,16 @@ number_rule option least most = record (new_rule option) {
   parser = Some (parser.Signed (pos least) (pos most));
 }
 
+abbrev pub word_rule : Text → Rule
+word_rule option = record (new_rule option) { long = Some option; value_names = 1; action = Some Set }
+
 abbrev pub command_app : Text → ArgumentKind → App
 command_app name (nothing t) = new_app name
 command_app name (one_name give) = with_rule (new_app name) name_rule
 command_app name (one_number option least most give) = with_rule (new_app name) (number_rule option least most)
 command_app name (name_and_number option least most give) = with_rule (with_rule (new_app name) name_rule) (number_rule option least most)
+command_app name (stream_options give) = with_rule (with_rule (with_rule (new_app name)
+    (number_rule (codes "renew-after") 1 most_renew_after)) (word_rule (codes "store"))) (word_rule (codes "store-label"))
 
 abbrev pub no_commands : App
 no_commands = record {
@@ -70,6 +75,11 @@ told_with (one_name give) rows = option_map_or give (first_of (codes "name") row
 told_with (one_number option least most give) rows = give (number_read (bits_for most) option rows)
 told_with (name_and_number option least most give) rows =
     let at = number_read (bits_for most) option rows in option_map_or (λ name. give name at) (first_of (codes "name") rows) wrong
+told_with (stream_options give) rows = give (record {
+  renew_after = number_read 32 (codes "renew-after") rows;
+  store = first_of (codes "store") rows;
+  label = first_of (codes "store-label") rows;
+})
 
 abbrev pub told_as : Text → List Row → Telling
 told_as name rows = option_map_or (λ c. told_with c.takes rows) (find (λ c. bytes_eq name c.name) commands) wrong

@@ -60,6 +60,8 @@ fn is_topic(word: &str) -> bool
             | "graph"
             | "list"
             | "pack"
+            | "records"
+            | "recover"
             | "solve"
             | "plan"
             | "unpack"

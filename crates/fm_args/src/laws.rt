@@ -3,7 +3,7 @@
 ghost use Rattle.std.specs.Prelude.{◌≡◌, ◌≤◌, ◌<◌, ◌^◌, ◌∷◌, [], ℕ, List, None, Some, codes, decimal};
 ghost use Rattle.fm_args.specs.CommandLine.{telling_of, look_of, parsed_number, plain};
 ghost use Rattle.fm_records.specs.Ids.{id_text};
-ghost use Rattle.fm_args.specs.Invocation.{Text, ask, check, fleet, follow, help, pack, page, run, version, why, wrong};
+ghost use Rattle.fm_args.specs.Invocation.{Text, ask, check, fleet, follow, follow_with_store, help, pack, page, records, recover, run, version, why, wrong};
 ghost use Rattle.fm_args.specs.declared.words.ScriptQuestion.TheVariants.{Graph, Plan, Solve, Winners};
 
 /// A number in range that is written in decimal digits, as the program itself writes numbers, is read as that number.
@@ -25,6 +25,18 @@ pub fn law_examples()
     ensures default { (p : Text) → telling_of (p ∷ codes "follow" ∷ []) ≡ follow 100000 }
     ensures renewal { (p : Text) → telling_of (p ∷ codes "follow" ∷ codes "--renew-after=1" ∷ []) ≡ follow 1 }
     ensures below { (p : Text) → telling_of (p ∷ codes "follow" ∷ codes "--renew-after=0" ∷ []) ≡ wrong }
+    ensures stored { (p path : Text) → look_of path ≡ plain
+        → telling_of (p ∷ codes "follow" ∷ codes "--store" ∷ path ∷ []) ≡ follow_with_store 100000 path [] }
+    ensures labelled { (p : Text) → telling_of (p ∷ codes "follow" ∷ codes "--store-label=west" ∷ codes "--store"
+        ∷ codes "kept" ∷ codes "--renew-after=1" ∷ []) ≡ follow_with_store 1 (codes "kept") (codes "west") }
+    ensures no_store { (p : Text) → telling_of (p ∷ codes "follow" ∷ codes "--store-label=west" ∷ []) ≡ wrong }
+    ensures store_twice { (p : Text)
+        → telling_of (p ∷ codes "follow" ∷ codes "--store=a" ∷ codes "--store=b" ∷ []) ≡ wrong }
+    ensures no_path { (p : Text) → telling_of (p ∷ codes "follow" ∷ codes "--store" ∷ []) ≡ wrong }
+    ensures any_file { (p path : Text) → telling_of (p ∷ codes "records" ∷ codes "--" ∷ path ∷ []) ≡ records path }
+    ensures recovered { (p path : Text) → look_of path ≡ plain
+        → telling_of (p ∷ codes "recover" ∷ path ∷ []) ≡ recover path }
+    ensures no_file { (p : Text) → telling_of (p ∷ codes "recover" ∷ []) ≡ wrong }
     ensures any_name { (p name : Text) → telling_of (p ∷ codes "pack" ∷ codes "--" ∷ name ∷ []) ≡ run (pack name) }
     ensures any_task { (p : Text) (task : ℕ) → task < 2 ^ 128
         → telling_of (p ∷ codes "why" ∷ codes "--" ∷ id_text task ∷ []) ≡ run (why task None) }

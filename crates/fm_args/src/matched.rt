@@ -2,14 +2,14 @@
 
 ghost use Rattle.std.specs.Prelude.{◌≡◌, ◌≢◌, IfOk, codes, map, option_map, string_bytes};
 ghost use Rattle.clap.specs.Words.{first_of, found_of, kind_of, rows_of, subcommand_rows_of};
-ghost use Rattle.fm_args.specs.CommandLine.{asks, fleets, follows, packs, whys};
+ghost use Rattle.fm_args.specs.CommandLine.{asks, fleets, follows, lists_records, packs, recovers, stored_at, whys};
 ghost use Rattle.fm_records.specs.Ids.{read_id};
 ghost use Rattle.std.specs.Option.{option_map_or};
 ghost use Rattle.fm_args.specs.Parser.{number_read, told_as, told_at_error, told_of_subcommand, told_with};
 ghost use Rattle.fm_args.specs.Invocation.{run, told_of, why, wrong};
 
 use super::help::{ask_for_help, begin_with_help};
-use super::words::{Command, DEFAULT_RENEW_AFTER, ScriptQuestion, Words};
+use super::words::{Command, DEFAULT_RENEW_AFTER, MOST_LABEL_BYTES, ScriptQuestion, Words};
 use clap::error::ErrorKind;
 use clap::{ArgMatches, Error};
 use fm_lattice::join::OutOfMemory;
@@ -18,6 +18,11 @@ use std::alloc::Global;
 
 // What is said of a word that is no id.
 const NO_ID: &str = "error: a task is named by its id, a UUID\n";
+
+// What is said of a label without a store, and of one that is too long.
+const NO_STORE: &str = "error: --store-label wants --store too\n";
+
+const LONG_LABEL: &str = "error: a label has at most 200 bytes\n";
 
 /// The meaning of the matches of a command.
 pub fn named<'a>(alloc: Global, matches: &ArgMatches<'a>) -> Words<'a>
@@ -37,10 +42,12 @@ fn named_as<'a>(alloc: Global, name: &str, inner: &ArgMatches<'a>) -> Words<'a>
         "agree" => Words::Run(Command::Agree),
         "check" => Words::Run(Command::Check),
         "fleet" => runs(inner),
-        "follow" => follows(inner),
+        "follow" => follows(alloc, inner),
         "graph" => asks(ScriptQuestion::Graph, inner),
         "list" => asks(ScriptQuestion::List, inner),
         "pack" => packs(alloc, inner),
+        "records" => lists_records(alloc, inner),
+        "recover" => recovers(alloc, inner),
         "solve" => asks(ScriptQuestion::Solve, inner),
         "plan" => asks(ScriptQuestion::Plan, inner),
         "unpack" => Words::Run(Command::Unpack),
@@ -79,12 +86,54 @@ fn rounds_in<'a>(matches: &ArgMatches<'a>) -> Option<u32>
     matches.get_one::<u32>("rounds")
 }
 
-// Coordinators that are kept running, renewed after as many entries as are named.
-fn follows<'a>(matches: &ArgMatches<'a>) -> Words<'a>
+// Coordinators that are kept running, renewed after as many entries as are named, with the store that is named.
+fn follows<'a>(alloc: Global, matches: &ArgMatches<'a>) -> Words<'a>
     ensures { told_of result ≡ told_with follows (rows_of (found_of matches.now)) }
 {
     let renew_after = renew_after_in(matches).unwrap_or(DEFAULT_RENEW_AFTER);
-    Words::Follow { renew_after }
+    match (store_in(matches), label_in(matches)) {
+        (None, None) => Words::Follow { renew_after },
+        (None, Some(_)) => wrong_with(alloc, NO_STORE),
+        (Some(path), None) => stored_at(alloc, renew_after, path, ""),
+        (Some(path), Some(label)) => stored_at(alloc, renew_after, path, label),
+    }
+}
+
+// The same with a store; if the label is too long, that it is.
+fn stored_at<'a>(alloc: Global, renew_after: u32, path: &'a str, label: &'a str) -> Words<'a>
+    ensures { told_of result ≡ stored_at renew_after path.now label.now }
+{
+    if label.len() <= MOST_LABEL_BYTES {
+        Words::FollowWithStore {
+            renew_after,
+            path,
+            label,
+        }
+    } else {
+        wrong_with(alloc, LONG_LABEL)
+    }
+}
+
+// What is wrong, in this text.
+fn wrong_with<'a>(alloc: Global, text: &str) -> Words<'a>
+    ensures { told_of result ≡ wrong }
+{
+    match String::from_str(alloc, text) {
+        Ok(text) => Words::Wrong(text),
+        Err(_) => Words::Wrong(String::new(alloc)),
+    }
+}
+
+fn store_in<'a>(matches: &ArgMatches<'a>) -> Option<&'a str>
+    ensures { option_map (λ s. s.now) result ≡ first_of (codes "store") (rows_of (found_of matches.now)) }
+{
+    matches.get_str("store")
+}
+
+fn label_in<'a>(matches: &ArgMatches<'a>) -> Option<&'a str>
+    ensures { option_map (λ s. s.now) result ≡ first_of (codes "store-label") (rows_of (found_of matches.now)) }
+{
+    matches.get_str("store-label")
 }
 
 fn renew_after_in<'a>(matches: &ArgMatches<'a>) -> Option<u32>
@@ -99,6 +148,26 @@ fn packs<'a>(alloc: Global, matches: &ArgMatches<'a>) -> Words<'a>
 {
     match name_in(matches) {
         Some(name) => Words::Run(Command::Pack { name }),
+        None => Words::Wrong(String::new(alloc)),
+    }
+}
+
+// The records of the store in a file, which the command requires.
+fn lists_records<'a>(alloc: Global, matches: &ArgMatches<'a>) -> Words<'a>
+    ensures { told_of result ≡ told_with lists_records (rows_of (found_of matches.now)) }
+{
+    match name_in(matches) {
+        Some(path) => Words::Records { path },
+        None => Words::Wrong(String::new(alloc)),
+    }
+}
+
+// What can be recovered of the store in a file, which the command requires.
+fn recovers<'a>(alloc: Global, matches: &ArgMatches<'a>) -> Words<'a>
+    ensures { told_of result ≡ told_with recovers (rows_of (found_of matches.now)) }
+{
+    match name_in(matches) {
+        Some(path) => Words::Recover { path },
         None => Words::Wrong(String::new(alloc)),
     }
 }
@@ -122,10 +191,7 @@ fn why_of<'a>(alloc: Global, name: &str, at: Option<u8>) -> Words<'a>
             task: id.value(),
             at,
         }),
-        None => match String::from_str(alloc, NO_ID) {
-            Ok(text) => Words::Wrong(text),
-            Err(_) => Words::Wrong(String::new(alloc)),
-        },
+        None => wrong_with(alloc, NO_ID),
     }
 }
 

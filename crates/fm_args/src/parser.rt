@@ -3,8 +3,8 @@
 ghost use Rattle.std.specs.Prelude.{◌≡◌, IfOk, codes, false, take};
 ghost use Rattle.clap.specs.Words.{app_of, new_app, rule_of, with_rule};
 ghost use Rattle.clap.specs.declared.builder.command.Command.TheViews.{out-Command};
-ghost use Rattle.fm_args.specs.CommandLine.{asks, commands, fleets, follows, most_renew_after, nothing, packs, whys};
-ghost use Rattle.fm_args.specs.Parser.{command_app, firmament, name_rule, no_commands, number_rule, with_commands};
+ghost use Rattle.fm_args.specs.CommandLine.{asks, commands, fleets, follows, lists_records, most_renew_after, nothing, packs, recovers, whys};
+ghost use Rattle.fm_args.specs.Parser.{command_app, firmament, name_rule, no_commands, number_rule, with_commands, word_rule};
 ghost use Rattle.fm_args.specs.Invocation.{agree, check, run, unpack};
 ghost use Rattle.fm_args.specs.declared.words.ScriptQuestion.TheVariants as question;
 
@@ -17,18 +17,30 @@ use std::alloc::Global;
 pub fn parser<'a>(alloc: Global) -> Result<Command<'a>, OutOfMemory>
     ensures { IfOk result (λ c. app_of c ≡ firmament) }
 {
-    let solve = solve(alloc)?;
-    let plan = plan(alloc)?;
     let unpack = unpack(alloc);
     let why = why(alloc)?;
     let winners = winners(alloc)?;
-    let with_pack = up_to_pack(alloc)?;
-    let with_solve = with_pack.subcommand(solve)?;
-    let with_plan = with_solve.subcommand(plan)?;
+    let with_plan = up_to_plan(alloc)?;
     let with_unpack = with_plan.subcommand(unpack)?;
     let with_why = with_unpack.subcommand(why)?;
     let with_winners = with_why.subcommand(winners)?;
     Ok(with_winners)
+}
+
+// The program with the first eleven of its commands.
+fn up_to_plan<'a>(alloc: Global) -> Result<Command<'a>, OutOfMemory>
+    ensures { IfOk result (λ c. app_of c ≡ with_commands (take 11 commands)) }
+{
+    let records = records(alloc)?;
+    let recover = recover(alloc)?;
+    let solve = solve(alloc)?;
+    let plan = plan(alloc)?;
+    let with_pack = up_to_pack(alloc)?;
+    let with_records = with_pack.subcommand(records)?;
+    let with_recover = with_records.subcommand(recover)?;
+    let with_solve = with_recover.subcommand(solve)?;
+    let with_plan = with_solve.subcommand(plan)?;
+    Ok(with_plan)
 }
 
 // The program with the first seven of its commands.
@@ -115,9 +127,11 @@ fn follow<'a>(alloc: Global) -> Result<Command<'a>, OutOfMemory>
             "Keeps coordinators running: reads one JSON object a line from standard input, and answers each at once, by its text and then `ok`, or by `refusal N`, before it reads the next",
         )
         .after_help(
-            "The first line lists the coordinators: {\"coordinators\":[1,2]}\nAll lines and their answers are described in docs/formats.md.\n\nThe status is 0 at the end of the input, 3 if the input cannot be read, and 6 if the output cannot be written.\n\nExample: firmament follow < examples/day.follow",
+            "The first line lists the coordinators: {\"coordinators\":[1,2]}\nAll lines and their answers are described in docs/formats.md.\n\nThe status is 0 at the end of the input, 3 if the input cannot be read, 6 if the output cannot be written, 8 if the store is damaged, and 9 if it cannot be used.\n\nExample: firmament follow < examples/day.follow",
         );
-    Ok(command.arg(renew_after(alloc))?)
+    let renewed = command.arg(renew_after(alloc))?;
+    let stored = renewed.arg(store(alloc))?;
+    Ok(stored.arg(store_label(alloc))?)
 }
 
 fn graph<'a>(alloc: Global) -> Result<Command<'a>, OutOfMemory>
@@ -154,6 +168,34 @@ fn pack<'a>(alloc: Global) -> Result<Command<'a>, OutOfMemory>
         )
         .after_help("Example: firmament pack news < examples/gossip.json");
     Ok(command.arg(name(alloc))?)
+}
+
+fn records<'a>(alloc: Global) -> Result<Command<'a>, OutOfMemory>
+    ensures app { IfOk result (λ c. app_of c ≡ command_app (codes "records") lists_records) }
+    ensures local { IfOk result (λ c. (out-Command c).has_globals ≡ false) }
+{
+    let command = Command::new(alloc, "records")
+        .about(
+            "Prints a line for each record of the store in a file: its place, how many bytes it has, and what is in it; the last line tells where the file is torn or damaged, if it is",
+        )
+        .after_help(
+            "The status is 8 if the file is damaged or no store, and 9 if it cannot be read. It is not changed.\n\nExample: firmament records cluster.store",
+        );
+    Ok(command.arg(file(alloc))?)
+}
+
+fn recover<'a>(alloc: Global) -> Result<Command<'a>, OutOfMemory>
+    ensures app { IfOk result (λ c. app_of c ≡ command_app (codes "recover") recovers) }
+    ensures local { IfOk result (λ c. (out-Command c).has_globals ≡ false) }
+{
+    let command = Command::new(alloc, "recover")
+        .about(
+            "Prints what each coordinator knew by its packets in the store in a file, up to where the file is torn or damaged: the bytes of one packet each, in hexadecimal digits",
+        )
+        .after_help(
+            "The status is 8 if the file is damaged or no store, and 9 if it cannot be read. It is not changed.\n\nExample: firmament recover cluster.store",
+        );
+    Ok(command.arg(file(alloc))?)
 }
 
 fn solve<'a>(alloc: Global) -> Result<Command<'a>, OutOfMemory>
@@ -244,6 +286,14 @@ fn name<'a>(alloc: Global) -> Arg<'a>
     )
 }
 
+// The file of a store.
+fn file<'a>(alloc: Global) -> Arg<'a>
+    ensures rule { rule_of result ≡ name_rule }
+    ensures local { result.global ≡ false }
+{
+    word(alloc, "FILE", "The path of the file")
+}
+
 // The id of a task.
 fn task<'a>(alloc: Global) -> Arg<'a>
     ensures rule { rule_of result ≡ name_rule }
@@ -289,6 +339,34 @@ fn renew_after<'a>(alloc: Global) -> Arg<'a>
         )
         .action(ArgAction::Set)
         .value_parser(value_parser!(u32).range(1..=MOST_RENEW_AFTER))
+}
+
+// The file of a stream's store.
+fn store<'a>(alloc: Global) -> Arg<'a>
+    ensures rule { rule_of result ≡ word_rule (codes "store") }
+    ensures local { result.global ≡ false }
+{
+    Arg::new(alloc, "store")
+        .long("store")
+        .value_name("FILE")
+        .help(
+            "Keeps what is told in the store in the file, which is made if there is none: an `ok` is written once it is on the disk, and the coordinators begin with what the store has",
+        )
+        .action(ArgAction::Set)
+}
+
+// The label of that store.
+fn store_label<'a>(alloc: Global) -> Arg<'a>
+    ensures rule { rule_of result ≡ word_rule (codes "store-label") }
+    ensures local { result.global ≡ false }
+{
+    Arg::new(alloc, "store-label")
+        .long("store-label")
+        .value_name("TEXT")
+        .help(
+            "The label of the store, at most 200 bytes: a store with another label, or with other coordinators, is refused [default: none]",
+        )
+        .action(ArgAction::Set)
 }
 
 // The coordinator that is asked.

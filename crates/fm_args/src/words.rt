@@ -24,6 +24,9 @@ pub const DEFAULT_RENEW_AFTER: u32 = 100_000;
 /// The greatest number that may be given: as many entries as a history can have.
 pub const MOST_RENEW_AFTER: i64 = 1_000_000;
 
+/// How many bytes the label of a store may have.
+pub const MOST_LABEL_BYTES: usize = 200;
+
 /// What the program is asked to do.
 #[derive(Debug, Clone, Copy, PartialEq, Eq, Drop)]
 pub enum Command<'a> {
@@ -70,9 +73,27 @@ pub enum ScriptQuestion {
 pub enum Words<'a> {
     Run(Command<'a>),
     /// Run the coordinators of a script of tells in threads, each with so many rounds.
-    Fleet { rounds: u32 },
+    Fleet {
+        rounds: u32,
+    },
     /// Keep coordinators running, and renew them once one of them has so many entries in its history.
-    Follow { renew_after: u32 },
+    Follow {
+        renew_after: u32,
+    },
+    /// The same, with a store in the file at the path, under the label.
+    FollowWithStore {
+        renew_after: u32,
+        path: &'a str,
+        label: &'a str,
+    },
+    /// Print a line for each record of the store in the file at the path.
+    Records {
+        path: &'a str,
+    },
+    /// Print what can be recovered of that store, as a packet of each coordinator.
+    Recover {
+        path: &'a str,
+    },
     /// A text that was asked for.
     Help(String),
     /// The page of refusals was asked for.

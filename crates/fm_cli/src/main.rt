@@ -15,10 +15,15 @@ use std::io::{BufReader, IsTerminal};
 use std::process::ExitCode;
 use std::{env, io};
 
+// How many bytes are read ahead: a stream is read byte by byte, and lines that are there already may be answered together.
+const READ_AHEAD: usize = 1_048_576;
+
 fn main(rt: HostRuntime) -> ExitCode {
     let alloc = rt.alloc();
-    // A stream is read byte by byte, so the reader reads ahead.
-    let ending = match (given_words(&rt), BufReader::new(alloc, rt.reader())) {
+    let ending = match (
+        given_words(&rt),
+        BufReader::with_capacity(alloc, READ_AHEAD, rt.reader()),
+    ) {
         (Ok(words), Ok(reader)) => {
             let source = Input::new(reader);
             let sink = Over::new(Resuming::new(io::writer(&rt)));

@@ -7,7 +7,7 @@ use Rattle.fm_args.specs.Invocation.{ArgsModel, ask, agree, check, pack, unpack,
 use Rattle.fm_script.specs.declared.script_fault.ScriptFault.{ScriptFault}
 use Rattle.fm_serve.specs.declared.fault.Fault.{Fault}
 use Rattle.fm_serve.specs.declared.ending.Ending.{Ending}
-use Rattle.fm_serve.specs.declared.ending.Ending.TheVariants.{Done, Differ, AtFault, Wrong, Stopped}
+use Rattle.fm_serve.specs.declared.ending.Ending.TheVariants.{Done, Differ, AtFault, Wrong, Stopped, Unusable}
 use Rattle.fm_serve.specs.Answers.{AnswersIn, Wants}
 use Rattle.fm_serve.specs.Endings.{ending_checked}
 use Rattle.fm_serve.specs.Responses.{Responds}
@@ -47,4 +47,5 @@ settled c text Done output h = h
 settled c text Differ output h = h
 settled c text AtFault output h = h
 settled c text (Wrong said) output h = h
+settled c text (Unusable fault) output h = h
 settled c text (Stopped fault) output h = absurd (stopped_not fault (wants_well c text (Stopped fault) output h))

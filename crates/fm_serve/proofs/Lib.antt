@@ -1,4 +1,5 @@
 pub mod Rounds
+pub mod Stored
 pub mod Coming
 pub mod Answering
 mod Listing

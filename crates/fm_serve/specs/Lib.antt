@@ -8,4 +8,8 @@ pub mod Fleets
 pub mod Refused
 pub mod Answers
 pub mod Responses
+pub mod OutputWritten
+pub mod Salvages
+pub mod StoredStreams
 pub mod Output
+pub mod inner

@@ -1,19 +1,22 @@
 -- What a run reads and writes, and how it ends (this project's profile).
 use Rattle.std.specs.Prelude.{◌≡◌, ◌⊎◌, ℕ, List, Bool, true, false, Option, Some, None, IfSome, Result, Ok, Err}
-use Rattle.std.specs.Io.KnownBytes.{Appends}
 use Rattle.fm_records.specs.declared.ops.Op.{Op}
 use Rattle.fm_records.specs.declared.refusal.Refusal.{Refusal}
-use Rattle.fm_records.specs.declared.refusal.Refusal.TheVariants.{OutOfMemory, WriteFault}
+use Rattle.fm_records.specs.declared.refusal.Refusal.TheVariants.{OutOfMemory}
 use Rattle.fm_delta.specs.declared.packet.Packet.{Packet}
-use Rattle.fm_dimacs.specs.Sending.{AppendsPrefix}
 use Rattle.fm_io.specs.Sources.{IsUnread, Streams}
 use Rattle.fm_io.specs.Runs.{IsFollowed}
 use Rattle.fm_service.specs.StreamSteps.{Following, StandBehind, Answers}
-use Rattle.fm_args.specs.Invocation.{Telling, run, fleet, follow}
+use Rattle.fm_args.specs.Invocation.{Telling, Text, run, fleet, follow, follow_with_store, records, recover}
 use Rattle.fm_serve.specs.declared.ending.Ending.{Ending}
 use Rattle.fm_serve.specs.declared.ending.Ending.TheVariants.{Done, Stopped}
 use Rattle.fm_serve.specs.Faults.{fault_of}
 use Rattle.fm_serve.specs.Responses.{Responds}
+use Rattle.fm_serve.specs.OutputWritten.{IsOutputWritten}
+use Rattle.fm_serve.specs.Salvages.{IsSalvaged}
+use Rattle.fm_serve.specs.StoredStreams.{IsStoredStream}
+use Rattle.fm_serve.specs.declared.salvage.StoreQuestion.{StoreQuestion}
+use Rattle.fm_serve.specs.declared.salvage.StoreQuestion.TheVariants as question
 
 -- whether an input is read for what the words ask for
 abbrev pub reads : Telling → Bool
@@ -30,12 +33,6 @@ ReadsAll false Untouched given text = Untouched
 abbrev pub IsStoppedReading : Telling → Refusal → Option (List ℕ) → Option (List ℕ) → Bool → Type 0
 IsStoppedReading t refusal given left source_failed =
     (refusal ≡ OutOfMemory) ⊎ ((reads t ≡ true) × IsUnread refusal given left source_failed)
-
--- the complete output was written, and the run ends as answered; or the sink failed, and a prefix of it did
-abbrev pub IsOutputWritten : Ending → List ℕ → Ending → Option (List ℕ) → Option (List ℕ) → Bool → Bool → Type 0
-IsOutputWritten answered output ending old new had_failed has_failed =
-    ((ending ≡ answered) × Appends old new output × (has_failed ≡ had_failed))
-    ⊎ ((ending ≡ Stopped (fault_of WriteFault)) × AppendsPrefix old new output × (has_failed ≡ true))
 
 -- there was an answer to what the words ask for and to the input, and it went out
 pub record IsAnswered (t : Telling) (Untouched : Type 0) (ending : Ending) (streams : Streams) : Type 0 where
@@ -54,10 +51,19 @@ pub record IsStoppedEarly (t : Telling) (ending : Ending) (streams : Streams) : 
   pub nothing : streams.new ≡ streams.old
   pub fails_not : streams.has_failed ≡ streams.had_failed
 
--- how many entries a history may have before the coordinators are renewed, if a stream is to be followed
-abbrev pub renewal_of : Telling → Option ℕ
-renewal_of (follow renew_after) = Some renew_after
-renewal_of _ = None
+-- how a run goes: an input is read and answered, if any; or a stream is followed, which may have a store; or the file of a store is read
+pub data RunKind : Type 0 where
+  from_input : RunKind
+  from_stream : ℕ → RunKind
+  from_stored_stream : ℕ → (path label : Text) → RunKind
+  from_store : StoreQuestion → (path : Text) → RunKind
+
+abbrev pub way_of : Telling → RunKind
+way_of (follow renew_after) = from_stream renew_after
+way_of (follow_with_store renew_after path label) = from_stored_stream renew_after path label
+way_of (records path) = from_store question.Records path
+way_of (recover path) = from_store question.Recover path
+way_of _ = from_input
 
 -- how the following of a stream ends
 abbrev pub ending_of : Result (Unit {0}) Refusal → Ending
@@ -73,10 +79,12 @@ pub record IsStreamed (renew_after : ℕ) (ending : Ending) (streams : Streams) 
       → (next : Option Following) × IsFollowed (Answers renew_after behind) result None next streams
 
 -- a run that was not stopped before there was an input
-abbrev pub Runs : Option ℕ → Telling → Type 0 → Ending → Streams → Type 0
-Runs None t Untouched ending streams = IsAnswered t Untouched ending streams
-Runs (Some renew_after) t Untouched ending streams = IsStreamed renew_after ending streams
+abbrev pub Runs : RunKind → Telling → Type 0 → Ending → Streams → Type 0
+Runs from_input t Untouched ending streams = IsAnswered t Untouched ending streams
+Runs (from_stream renew_after) t Untouched ending streams = IsStreamed renew_after ending streams
+Runs (from_stored_stream renew_after path label) t Untouched ending streams = IsStoredStream renew_after label Untouched ending streams
+Runs (from_store q path) t Untouched ending streams = IsSalvaged q ending streams.old streams.new streams.had_failed streams.has_failed
 
 -- a run for what the words ask for; `Untouched` says that nothing was read
 abbrev pub IsRunServed : Telling → Type 0 → Ending → Streams → Type 0
-IsRunServed t Untouched ending streams = Runs (renewal_of t) t Untouched ending streams ⊎ IsStoppedEarly t ending streams
+IsRunServed t Untouched ending streams = Runs (way_of t) t Untouched ending streams ⊎ IsStoppedEarly t ending streams

@@ -4,19 +4,27 @@ use Rattle.fm_records.specs.declared.ops.Field.TheVariants.{Writer}
 use Rattle.fm_records.specs.declared.refusal.Refusal.{Refusal}
 use Rattle.fm_records.specs.declared.refusal.Refusal.TheVariants.{OutOfMemory, BadOp, HistoryFull, BadInterval, Trimmed, BadPacket, Uncertified, NoCoordinator, NoPacket, InboxFull, InboxEmpty, Stuck, NotMine, VersionsSpent, AttemptsSpent, BadScript, WriteFault, BadDimacs}
 use Rattle.fm_records.specs.Refusals.{refusal_number}
+use Rattle.fm_store.specs.declared.store_fault.StoreFault.{StoreFault}
+use Rattle.fm_store.specs.declared.store_fault.StoreFault.TheVariants as store
+use Rattle.fm_store.specs.Stores.{fault_number}
 use Rattle.fm_serve.specs.Faults.{status_of}
+use Rattle.fm_serve.specs.Endings.{store_status}
 
 -- a number below 10 as its digit: the digits begin at 48
 abbrev pub digit : ℕ → List ℕ
 digit n = (48 + n) ∷ []
 
--- a number below 20 in two columns
+-- a number below 30 in two columns
 abbrev pub in_two : ℕ → List ℕ
-in_two n = cond (nat_lt n 10) (codes " " ++ digit n) (codes "1" ++ digit (n - 10))
+in_two n = cond (nat_lt n 10) (codes " " ++ digit n) (cond (nat_lt n 20) (codes "1" ++ digit (n - 10)) (codes "2" ++ digit (n - 20)))
 
 -- a line: the number of a refusal, the status that the program then ends with, and the cause
 abbrev pub refusal_line : Refusal → List ℕ → List ℕ
 refusal_line r cause = in_two (refusal_number r) ++ (codes "  " ++ (digit (status_of r) ++ (codes "       " ++ (cause ++ codes "\n"))))
+
+-- the same for a fault of a store
+abbrev pub store_line : StoreFault → List ℕ → List ℕ
+store_line f cause = in_two (fault_number f) ++ (codes "  " ++ (digit (store_status f) ++ (codes "       " ++ (cause ++ codes "\n"))))
 
 -- the page: how a refusal is said, and the refusals by their numbers, whatever they carry
 abbrev pub refusals_text : List ℕ
@@ -40,3 +48,5 @@ refusals_text =
     ++ refusal_line (BadScript 0) (codes "the input is no script, or a step breaks a rule")
     ++ refusal_line WriteFault (codes "the output could not be written")
     ++ refusal_line (BadDimacs 0) (codes "the text is no network")
+    ++ store_line (store.Damaged 0) (codes "the file is no store, or damaged: the place of the damage is told, counted from 0")
+    ++ store_line store.OtherCluster (codes "a store cannot be used: its file cannot be read or written, is locked, or is another cluster's")

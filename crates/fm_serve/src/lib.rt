@@ -19,5 +19,7 @@ pub mod progress_line;
 mod refusals;
 pub mod respond;
 pub mod run;
+pub mod salvage;
 mod script_check;
 pub mod serve;
+mod stored_stream;

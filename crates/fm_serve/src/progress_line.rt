@@ -13,8 +13,10 @@ use crate::progress::RunProgress;
 use crate::serve::serve;
 use fm_dimacs::out::Out;
 use fm_io::sink::Sink;
-use fm_io::source::Source;
+use fm_io::source::LineSource;
+use fm_store::device::OpenDevice;
 use std::alloc::Global;
+use std::fs::Files;
 use std::io::Eprint;
 use std::sync::{Condvar, CondvarTimeouts, Mutex, Wait};
 use std::thread;
@@ -44,13 +46,11 @@ struct Line<'a> {
 
 /// Serves while a thread shows on standard error how far the run is, and returns the source and the sink. What is
 /// read and written is as for `serve`. If no thread can be started, there is no line.
-pub fn serve_watched<T: Threads + Wait + Clock + Eprint + Sync, S: Source + Drop, W: Sink + Drop>(
-    rt: &T,
-    alloc: Global,
-    words: &[String],
-    source: S,
-    sink: W,
-) -> (Ending, S, W)
+pub fn serve_watched<
+    T: Threads + Wait + Clock + Eprint + Files + OpenDevice + Sync,
+    S: LineSource + Drop,
+    W: Sink + Drop,
+>(rt: &T, alloc: Global, words: &[String], source: S, sink: W) -> (Ending, S, W)
     ensures { IsRunServed (telling_of (map string_bytes words.now)) (result.1 ≡ source) result.0 (record {
       given = S.remaining source;
       left = S.remaining result.1;
@@ -87,14 +87,11 @@ pub fn serve_watched<T: Threads + Wait + Clock + Eprint + Sync, S: Source + Drop
 }
 
 // Serves, and takes the line away before anything is written, and at the end. Gives the sink back.
-fn serve_beside<T: Threads + Wait + Eprint + Sync, S: Source, W: Sink + Drop>(
-    rt: &T,
-    alloc: Global,
-    line: &Line,
-    words: &[String],
-    source: &mut S,
-    sink: W,
-) -> (Ending, W)
+fn serve_beside<
+    T: Threads + Wait + Eprint + Files + OpenDevice + Sync,
+    S: LineSource,
+    W: Sink + Drop,
+>(rt: &T, alloc: Global, line: &Line, words: &[String], source: &mut S, sink: W) -> (Ending, W)
     ensures { IsRunServed (telling_of (map string_bytes words.now)) (source.new ≡ source.old) result.0 (record {
       given = S.remaining source.old;
       left = S.remaining source.new;

@@ -23,4 +23,6 @@ pub const REFUSALS: &str =
 16  3       the input is no script, or a step breaks a rule
 17  6       the output could not be written
 18  3       the text is no network
+21  8       the file is no store, or damaged: the place of the damage is told, counted from 0
+22  9       a store cannot be used: its file cannot be read or written, is locked, or is another cluster's
 ";

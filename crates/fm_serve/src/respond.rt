@@ -30,7 +30,7 @@ pub struct RunResult {
 
 impl RunResult {
     // The run was stopped: nothing goes out.
-    fn stopped(alloc: Global, fault: Fault) -> RunResult
+    pub(crate) fn stopped(alloc: Global, fault: Fault) -> RunResult
         ensures ending { result.ending ≡ ending.Stopped fault }
         ensures output { result.output.items ≡ [] }
     {
@@ -44,7 +44,7 @@ impl RunResult {
 /// The program's answer to its words and to the text of its input, which only a command or a fleet uses: the complete
 /// output, and how the run then ends. It reads and writes nothing. Faults are found in this order: the text, the
 /// coordinator that is asked, the steps in order, the name of a packet. A run that is stopped has no output. Only a
-/// fleet starts threads, and waits for them. A stream has no answer here: `serve` follows it line by line. Progress
+/// fleet starts threads, and waits for them. A stream and a store have no answer here: `serve` gives it. Progress
 /// is counted as the run goes on; no answer depends on it.
 pub fn respond<T: Threads + Wait + Sync>(
     rt: &T,
@@ -58,7 +58,10 @@ pub fn respond<T: Threads + Wait + Sync>(
     match words {
         Words::Run(command) => run_command(alloc, progress, command, text),
         Words::Fleet { rounds } => run_fleet(rt, alloc, progress, rounds, text),
-        Words::Follow { .. } => RunResult {
+        Words::Follow { .. }
+        | Words::FollowWithStore { .. }
+        | Words::Records { .. }
+        | Words::Recover { .. } => RunResult {
             ending: Ending::Done,
             output: Vec::new(alloc),
         },

@@ -20,3 +20,11 @@ returns-clause-at_task c p task below = ap (λ o. option_map_or (λ t. run (why 
 pub returns-clause-task_at : goal.returns-clause-task_at
 unfolding clap_on_literals
 returns-clause-task_at c p task is = rw is refl
+
+pub returns-clause-stored : goal.returns-clause-stored
+unfolding clap_on_literals
+returns-clause-stored c p path is = rw is refl
+
+pub returns-clause-recovered : goal.returns-clause-recovered
+unfolding clap_on_literals
+returns-clause-recovered c p path is = rw is refl

@@ -10,11 +10,7 @@ returns c =
     c.in_ok-with_winners.ensures.shape c.in_ok-winners.ensures.local ∙ ap₂ with_subcommand
     (c.in_ok-with_why.ensures.shape c.in_ok-why.ensures.local ∙ ap₂ with_subcommand
     (c.in_ok-with_unpack.ensures.shape c.unpack-unpack.ensures.local ∙ ap₂ with_subcommand
-    (c.in_ok-with_plan.ensures.shape c.in_ok-plan.ensures.local ∙ ap₂ with_subcommand
-    (c.in_ok-with_solve.ensures.shape c.in_ok-solve.ensures.local ∙ ap₂ with_subcommand
-    c.in_ok-with_pack.ensures
-    (ap top c.in_ok-solve.ensures.app))
-    (ap top c.in_ok-plan.ensures.app))
+    c.in_ok-with_plan.ensures
     (ap top c.unpack-unpack.ensures.app))
     (ap top c.in_ok-why.ensures.app))
     (ap top c.in_ok-winners.ensures.app)
