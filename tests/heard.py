@@ -6,22 +6,29 @@ import re
 BARE = ("agree", "check", "unpack")
 QUESTIONS = ("graph", "solve", "plan", "winners", "list")
 # the option of a command with its least and its most number, and the number of one that is left out
-NUMBERED = {"fleet": ("rounds", 0, 1000), "follow": ("renew-after", 1, 1000000), **dict.fromkeys(QUESTIONS, ("at", 0, 255))}
-LEFT_OUT = {"fleet": 0, "follow": 100000, **dict.fromkeys(QUESTIONS)}
-OPTIONS = tuple(dict.fromkeys("--" + option for option, _, _ in NUMBERED.values()))
-NAMED = ("pack", "why")
-TOPICS = (*BARE, *NUMBERED, *NAMED, "help")
+NUMBERED = {"fleet": ("rounds", 0, 1000), **dict.fromkeys(QUESTIONS, ("at", 0, 255))}
+LEFT_OUT = {"fleet": 0, **dict.fromkeys(QUESTIONS)}
+# the options of a stream, and how often its coordinators are renewed if that is left out
+STREAMED, RENEWED, MOST_LABEL = ("renew-after", "store", "store-label"), 100000, 200
+OPTIONS = tuple(dict.fromkeys(["--renew-after", *("--" + option for option, _, _ in NUMBERED.values())]))
+FILED = ("records", "recover")
+NAMED = ("pack", "why", *FILED)
+TOPICS = (*BARE, *NUMBERED, *NAMED, "follow", "help")
 # the task of coordinator 3, of which 7 does not know (`tells`)
 TASK = "00000000-0000-0000-0000-%012x" % 3003
 AT = "at", 0, 255
 HELP, PAGE, VERSION, WRONG = ("help",), ("refusals",), ("version",), ("wrong",)
 # words of which there are all command lines of up to two
 WORDS = (*TOPICS, "refusals", "grapf", "--", "-", "", "--help", "--help=x", "-h", "-hx", "-x", "-é", "--version", "--version=1", "-V", "-Vx", "--at", "--at=7", "--rounds",
-         "--rounds=3", "--renew-after=3", "--name", "7", "-7", "a", "a=b", "é")
+         "--rounds=3", "--renew-after=3", "--store", "--store=/", "--store-label=x", "--name", "7", "-7", "a", "a=b", "é")
 # and what may stand behind a command, and behind that
 NUMBERS = ("0", "1", "7", "007", "+7", "-0", "-7", "-+7", "255", "256", "1000", "1001", "1000000", "1000001", "1.0", "x", "", "-")
 GIVEN = ([], ["a"], [TASK], ["-"], [""], ["-x"], ["--", "a"], ["--", "-x"], ["--", "--"])
 BEHIND = ([], ["--"], ["--", "a"], ["a"], ["-h"], ["--help", "a"], ["--at", "7"], ["--rounds=3"], ["--renew-after=3"])
+# what may stand behind `follow`, several in any order; the store is a folder, which cannot be used
+BEHIND_FOLLOW = (["--renew-after=3"], ["--renew-after", "007"], ["--renew-after=0"], ["--store=/"], ["--store", "/"], ["--store="], ["--store"],
+                 ["--store-label=x"], ["--store-label", "x"], ["--store-label="], ["--store-label", "-x"], ["--store-label=" + "x" * MOST_LABEL],
+                 ["--store-label=" + "é" * 101], ["--help"], ["-hx"], ["--"], ["a"], ["--at=7"])
 
 
 def is_flag(word):
@@ -77,6 +84,27 @@ def counted(command, rest):
     return WRONG if value is None else last((command, value), rest)
 
 
+def streamed(rest):
+    """What `follow` asks for by the words behind it: its options may come in any order, each once."""
+    given = {}
+    while rest and rest[0].startswith("--") and rest[0][2:].partition("=")[0] in STREAMED:
+        name, equals, value = rest[0][2:].partition("=")
+        rest = rest[1:]
+        if not equals:
+            if not rest or is_flag(rest[0]) or rest[0] == "--":
+                return WRONG
+            value, *rest = rest
+        value = number(value, 1, 1000000) if name == "renew-after" else value
+        if name in given or value is None:
+            return WRONG
+        given[name] = value
+    asked = "follow", given.get("renew-after", RENEWED)
+    if "store" in given:
+        label = given.get("store-label", "")
+        return last(asked + (given["store"], label) if len(label.encode()) <= MOST_LABEL else WRONG, rest)
+    return last(WRONG if "store-label" in given else asked, rest)
+
+
 def reasons(rest):
     """What `why` asks for, with its option before or behind the id of a task, of which the command lines have one form."""
     is_before, at, rest = numbered(*AT, rest)
@@ -100,8 +128,10 @@ def told(words):
         return HELP if not rest or (len(rest) == 1 and rest[0] in TOPICS) else WRONG
     if first in BARE:
         return last((first,), rest)
-    if first == "pack":
-        return named(lambda name: ("pack", name), rest)
+    if first in ("pack", *FILED):
+        return named(lambda name: (first, name), rest)
+    if first == "follow":
+        return streamed(rest)
     if first == "why":
         return reasons(rest)
     return counted(first, rest) if first in NUMBERED else flag(first)
@@ -117,6 +147,9 @@ def shortest(asked):
     if command in NAMED:
         name, *at = given
         return [command, *("--at=%d" % number for number in at if number is not None), "--", name]
+    if command == "follow":
+        spelled = ["--%s=%s" % option for option in zip(STREAMED, given)]
+        return [command, *(spelled if given[0] != RENEWED else spelled[1:])]
     if given and given[0] != LEFT_OUT[command]:
         return [command, "--" + NUMBERED[command][0], str(given[0])]
     return [command]
@@ -137,6 +170,14 @@ def command_lines():
         own = "--" + NUMBERED[command][0] if command in NUMBERED else "--at" if command == "why" else None
         for given, behind in itertools.product((*GIVEN, *options(own)), BEHIND):
             yield [command, *given, *behind]
+    for count in range(3):
+        for given in itertools.product(BEHIND_FOLLOW, repeat=count):
+            yield ["follow", *itertools.chain(*given)]
+    for given in itertools.permutations((["--renew-after=3"], ["--store", "/"], ["--store-label=x"])):
+        for behind in BEHIND_FOLLOW:
+            yield ["follow", *itertools.chain(*given), *behind]
+    for spelled in NUMBERS:
+        yield from (["follow", "--renew-after", spelled], ["follow", "--renew-after=" + spelled])
     for given, behind in itertools.product(options("--at"), BEHIND):
         yield from (["why", *given, TASK, *behind], ["why", TASK, *given, *behind], ["why", *given, "--", TASK, *behind])
 
@@ -171,5 +212,6 @@ def script_for(words):
 
 
 def shows(asked):
-    """Whether what is asked for has an answer of its own on its script: a stream must be longer than the number of entries."""
-    return asked[0] != "follow" or asked[1] < DELIVERIES
+    """Whether what is asked for has an answer of its own on its script: a stream must be longer than the number of entries, and the files that
+    are named here cannot be read."""
+    return asked[0] not in FILED and (asked[0] != "follow" or (len(asked) == 2 and asked[1] < DELIVERIES))

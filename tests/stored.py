@@ -2,7 +2,7 @@
 """Reads and writes the files of a store as docs/store.md says, and knows nothing else of them: tests/stored.py
 
 Prints the file that the tests in crates/fm_tests_crdt/src/store.rt have as STORE, in rows as they stand there. The status is 1 if they have
-another one. The program does not use stores yet, so tests/run does not call this.
+another one. tests/salvaged.py reads and writes stores with this.
 """
 import hashlib
 import pathlib

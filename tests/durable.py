@@ -1,0 +1,356 @@
+"""Tests of `firmament follow --store FILE`, by name, for tests/run: whatever ends a run, what was answered `ok` is known by the next one.
+
+tests/storing.c has calls to files fail, or kills the process at one of them, and tells in which order they came.
+"""
+import contextlib
+import json
+import os
+import pathlib
+import pwd
+import random
+import signal
+import subprocess
+import tempfile
+import threading
+import time
+
+import drawn
+import lined
+import refusing
+import stored
+from followed import answers_in as split
+
+OPEN = b'{"coordinators":[1]}\n'
+LIST = b'{"at":1,"ask":"list","of":"tasks"}\n'
+GRAPH = b'{"at":1,"ask":"graph"}\n'
+JOB = drawn.unique(1)
+KILLS = 60
+NO_SPACE, BROKEN = 28, 5
+# what an operator sees if the store cannot be used
+UNUSABLE = b"firmament: refusal 22"
+
+
+def spec(n):
+    """The line that tells of task n."""
+    return lined.line({"at": 1, "tell": {"spec": {
+        "id": drawn.unique(1000 + n), "version": 1, "writer": 1, "withdrawn": False, "job": JOB, "request": n % 1000}}}) + b"\n"
+
+
+def specs(first, count):
+    return b"".join(spec(n) for n in range(first, first + count))
+
+
+def follow(program, path, text, *words, **how):
+    """The status of a run with the store at the path, and what it wrote."""
+    return lined.seen(program, text, "--store", str(path), *words, **how)
+
+
+def known(program, path):
+    """The tasks that are known by the store, in rising order."""
+    status, out, err = follow(program, path, OPEN + LIST)
+    assert (status, err) == (0, b""), (status, err)
+    ids = [line.split()[1].decode() for line in out.splitlines() if line.startswith(b"task ")]
+    return [int(it.replace("-", ""), 16) for it in ids]
+
+
+def numbers(count):
+    """The ids of as many tasks, as numbers."""
+    return [int(drawn.unique(1000 + n).replace("-", ""), 16) for n in range(count)]
+
+
+def answers_in(out):
+    """The answers, one after another."""
+    return split(out)[0]
+
+
+@contextlib.contextmanager
+def folder():
+    with tempfile.TemporaryDirectory() as made:
+        yield pathlib.Path(made)
+
+
+def alike(program):
+    """A stream with a store, which is new, is answered as one without it."""
+    for seed in range(12):
+        text = lined.woven(seed)
+        with folder() as place:
+            plain, kept = lined.seen(program, text), follow(program, place / "store", text)
+            yield "stream %d is answered alike" % seed, plain == kept
+
+
+def again(program):
+    """What several coordinators knew is known again, however the lines were divided among runs, and their packets join."""
+    for seed in range(8):
+        chance = random.Random("again %d" % seed)
+        told = [lined.line({"at": chance.choice((1, 2, 3)), "tell": drawn.operation(chance)}) + b"\n" for _ in range(120)]
+        opened, asked = b'{"coordinators":[1,2,3]}\n', b"".join(b'{"at":%d,"ask":"graph"}\n' % at for at in (1, 2, 3))
+        whole = lined.answers(program, opened + b"".join(told) + asked)[-3:]
+        with folder() as place:
+            ends = sorted(chance.sample(range(len(told)), 4))
+            for first, last in zip([0, *ends], [*ends, len(told)]):
+                words = ["--renew-after", str(chance.choice((5, 40, 100000)))]
+                status, _, err = follow(program, place / "store", opened + b"".join(told[first:last]), *words)
+                yield "part %d of %d ended" % (first, seed), (status, err) == (0, b"")
+            found = answers_in(follow(program, place / "store", opened + asked)[1])[-3:]
+            yield "all is known again, %d" % seed, found == whole
+            yield "the store is one by its page, %d" % seed, is_whole(place / "store")
+
+
+def is_whole(path):
+    """Whether the file is a store with nothing behind its records, as the reader that was written from the page says."""
+    data = path.read_bytes()
+    return stored.read(data)[1] == len(data)
+
+
+def trimmed(program):
+    """What was trimmed, and what came before a renewal, is in the store, within a group and across groups."""
+    for lines in ((specs(0, 9) + b'{"at":1,"trim":9}\n' + specs(9, 3)), (specs(0, 9) + b'{"renew":true}\n' + specs(9, 3))):
+        for slow in (False, True):
+            with folder() as place:
+                text = OPEN + lines
+                if slow:
+                    one_by_one(program, place / "store", text.splitlines(keepends=True))
+                else:
+                    follow(program, place / "store", text)
+                yield "all tasks are known, %s, %r" % (slow, lines[-60:-40]), known(program, place / "store") == numbers(12)
+
+
+def one_by_one(program, path, lines):
+    """A run whose lines come each after the answer to the one before."""
+    with subprocess.Popen([program, "follow", "--store", str(path)], stdin=subprocess.PIPE, stdout=subprocess.PIPE) as ran:
+        for line in lines:
+            ran.stdin.write(line)
+            ran.stdin.flush()
+            answered(ran.stdout)
+        ran.stdin.close()
+        return ran.wait()
+
+
+def answered(out):
+    """The last line of the next answer."""
+    while line := out.readline():
+        if line == b"ok\n" or line.startswith(b"refusal "):
+            return line
+    return b""
+
+
+def not_awaited(program):
+    """No answer waits for a line that is not whole yet: a line is answered though a part of the next is there."""
+    with folder() as place, subprocess.Popen([program, "follow", "--store", str(place / "store")], stdin=subprocess.PIPE, stdout=subprocess.PIPE) as ran:
+        text = OPEN + job() + specs(0, 40)
+        begin = 0
+        for end in range(7, len(text), 61):
+            ran.stdin.write(text[begin:end])
+            ran.stdin.flush()
+            whole = text[begin:end].count(b"\n")
+            watch = threading.Timer(20, ran.kill)
+            watch.start()
+            answers = [answered(ran.stdout) for _ in range(whole)]
+            watch.cancel()
+            if whole:
+                yield "answered up to byte %d" % end, answers == [b"ok\n"] * whole
+            begin = end
+        ran.stdin.close()
+
+
+def killed(program, kills=KILLS):
+    """Killed at random moments under load: each task that was answered `ok` is known, and none that was not sent."""
+    chance = random.Random("killed")
+    with folder() as place:
+        path, sent, sure = place / "store", 0, 0
+        follow(program, path, OPEN + job())
+        for turn in range(kills):
+            burst, count = chance.choice((1, 1, 4, 32, 400)), 3000
+            more, oks = under_load(program, path, sent, count, burst, chance.uniform(0.02, 0.4))
+            sure = max(sure, sent + oks)
+            found = known(program, path)
+            yield "kill %d: nothing lost" % turn, found[:sure] == numbers(sure)
+            yield "kill %d: nothing from nowhere" % turn, found == numbers(len(found)) and len(found) <= sent + more
+            sent = sure = len(found)
+        yield "tasks were told: %d" % sent, sent > 10 * kills
+
+
+def job():
+    return lined.line({"at": 1, "tell": {"job": {"id": JOB, "version": 1, "writer": 1, "withdrawn": False, "wait": 600, "preempt": 800}}}) + b"\n"
+
+
+def under_load(program, path, first, count, burst, seconds):
+    """A run that is told of tasks, a burst at a time, and killed after a while: how many were sent, and how many answered `ok`."""
+    ran = subprocess.Popen([program, "follow", "--store", str(path)], stdin=subprocess.PIPE, stdout=subprocess.PIPE)
+    sent, oks = 0, 0
+    killer = threading.Timer(seconds, ran.kill)
+    with ran:
+        ran.stdin.write(OPEN)
+        ran.stdin.flush()
+        answered(ran.stdout)
+        killer.start()
+        try:
+            while sent < count:
+                ran.stdin.write(specs(first + sent, burst))
+                ran.stdin.flush()
+                sent += burst
+                for _ in range(burst):
+                    oks += answered(ran.stdout) == b"ok\n"
+        except BrokenPipeError:
+            pass
+        killer.cancel()
+        ran.kill()
+        with contextlib.suppress(BrokenPipeError):
+            ran.stdin.close()
+    return sent + burst, oks
+
+
+class Storing:
+    """Runs the program with the library of tests/storing.c."""
+
+    def __init__(self, program, place):
+        self.program, self.place = program, place
+        self.library = refusing.library(str(place), "storing")
+
+    def run(self, path, text, **asked):
+        """The status of a run, what it wrote, and the letters of the calls that it made."""
+        told = self.place / "told"
+        told.unlink(missing_ok=True)
+        env = {"LD_PRELOAD": self.library, "TOLD": str(told), **{name: str(value) for name, value in asked.items()}}
+        done = follow(self.program, path, text, env=env)
+        return done, told.read_text() if told.exists() else ""
+
+
+def in_order(program):
+    """No answer goes out before what it rests on was written and synced."""
+    with folder() as place:
+        storing = Storing(program, place)
+        for lines in (specs(0, 1), specs(0, 700), GRAPH, b'{"at":1,"cut":{}}\n' + LIST):
+            _, calls = storing.run(place / ("store %d" % len(lines)), OPEN + job() + lines)
+            unsynced = False
+            fine = True
+            for call in calls:
+                unsynced = (unsynced or call in "wtr") and call != "s"
+                fine = fine and not (call == "o" and unsynced)
+            yield "synced before it is answered: %s" % calls[:60], fine and "s" in calls and "o" in calls
+        _, calls = storing.run(place / ("store %d" % len(GRAPH)), OPEN + GRAPH * 9)
+        yield "questions write nothing: %s" % calls, "w" not in calls
+
+
+def failing(program):
+    """Each call to the file fails in turn, or the process is killed there, before the call or after: what was answered `ok` is known."""
+    text = [OPEN, job(), *(spec(n) for n in range(4)), b'{"at":1,"trim":3}\n', *(spec(n) for n in range(4, 6)), b'{"renew":true}\n', spec(6)]
+    with folder() as place:
+        storing = Storing(program, place)
+        _, calls = storing.run(place / "whole", b"".join(text))
+        count = sum(call in "wstr" for call in calls)
+        yield "calls are seen: %s" % calls, count >= 4
+        ways = [{"ERROR": BROKEN}, {"ERROR": NO_SPACE, "SHORT": 1}, {"KILLS": 1}, {"KILLS": 2}]
+        for way, at, begun in ((way, at, begun) for way in ways for at in range(1, count + 1) for begun in (False, True)):
+            path = place / "failing"
+            path.unlink(missing_ok=True)
+            if begun:
+                follow(program, path, OPEN + job() + specs(100, 2))
+            (status, out, err), _ = storing.run(path, b"".join(text), AT=at, **way)
+            name = "%s at call %d, %s" % (way, at, begun)
+            fine = status == -signal.SIGKILL if "KILLS" in way else status == 9 and err.startswith(UNUSABLE)
+            oks = sum(answer == b"ok\n" for answer in answers_in(out))
+            told = [n for n, line in enumerate(text[:oks]) if b'"spec"' in line]
+            wanted = set(numbers(len(told))) | set(numbers(102)[100:] if begun else [])
+            yield name + ": ended as it should", fine or status == 0
+            yield name + ": nothing lost", wanted <= set(known(program, path))
+            yield name + ": a store by its page", is_whole(path)
+
+
+def cut_off(program):
+    """Whatever front of a store's last bytes a crash leaves, and whatever zeros behind it, the rest is known, with a word."""
+    with folder() as place:
+        path = place / "store"
+        follow(program, path, OPEN + job() + specs(0, 3))
+        sure = len(path.read_bytes())
+        follow(program, path, OPEN + specs(3, 4))
+        data = path.read_bytes()
+        chance = random.Random("cut off")
+        for end in sorted({*chance.sample(range(sure, len(data) + 1), 30), sure, len(data)}):
+            path.write_bytes(data[:end] + bytes(chance.choice((0, 0, 1, 700))))
+            found = known(program, path)
+            yield "cut at %d" % end, numbers(3) == found[:3] and found in (numbers(3), numbers(7))
+            yield "then it is whole, cut at %d" % end, is_whole(path)
+
+
+def unusable(program):
+    """A store that cannot be used ends the run with no answer, a line that says why, and the file as it was."""
+    with folder() as place:
+        path = place / "store"
+        follow(program, path, OPEN + job() + specs(0, 3))
+        data = path.read_bytes()
+        damaged = bytearray(data)
+        damaged[len(data) // 2] ^= 1
+        begins = len(stored.store("", [1], []))
+        for name, content, words, opened, status, line in (
+                ("another label", data, ["--store-label", "other"], OPEN, 9, UNUSABLE),
+                ("other coordinators", data, [], b'{"coordinators":[1,2]}\n', 9, UNUSABLE),
+                ("no store", b"{}\n", [], OPEN, 8, b"firmament: refusal 21 at byte 0"),
+                ("a newer form", b"FMSTORE2" + data[8:], [], OPEN, 8, b"firmament: refusal 21 at byte 0"),
+                ("a damaged head", data[:20] + b"\xff" + data[21:], [], OPEN, 8, b"firmament: refusal 21 at byte 8"),
+                ("a damaged record", bytes(damaged), [], OPEN, 8, b"firmament: refusal 21 at byte %d" % begins)):
+            path.write_bytes(content)
+            seen = follow(program, path, opened + spec(9), *words)
+            yield name, seen[0] == status and seen[1] == b"" and seen[2].startswith(line)
+            yield name + ": unchanged", path.read_bytes() == content
+        seen = follow(program, place, OPEN)
+        yield "a folder", seen[0] == 9 and seen[1] == b"" and seen[2].startswith(UNUSABLE)
+        seen = follow(program, place / "none" / "store", OPEN)
+        yield "a folder that is not there", seen[0] == 9 and seen[2].startswith(UNUSABLE)
+        yield from locked(program, place / "locked")
+        yield from read_only(program, place)
+
+
+def locked(program, path):
+    """A second process on the same file is refused, and the first goes on."""
+    with subprocess.Popen([program, "follow", "--store", str(path)], stdin=subprocess.PIPE, stdout=subprocess.PIPE) as first:
+        first.stdin.write(OPEN + job())
+        first.stdin.flush()
+        answered(first.stdout)
+        answered(first.stdout)
+        status, out, err = follow(program, path, OPEN)
+        yield "a second process is refused", (status, out) == (9, b"") and err.startswith(UNUSABLE)
+        first.stdin.write(specs(0, 2))
+        first.stdin.flush()
+        yield "the first goes on", [answered(first.stdout) for _ in range(2)] == [b"ok\n"] * 2
+        first.stdin.close()
+        yield "and ends well", first.wait() == 0
+    yield "then the file is free", known(program, path) == numbers(2)
+
+
+def read_only(program, place):
+    """A file that nobody may write: nobody cannot use it."""
+    if os.getuid() != 0:
+        return
+    nobody, path = pwd.getpwnam("nobody"), place / "mine"
+    path.write_bytes(stored.store("", [1], []))
+    os.chmod(place, 0o755)
+    os.chmod(path, 0o444)
+    seen = follow(program, path, OPEN, user=nobody.pw_uid)
+    yield "a file that may not be written", seen[0] == 9 and seen[1] == b"" and seen[2].startswith(UNUSABLE)
+
+
+def quick(program):
+    """Lines that wait are answered in groups, with few syncs, and so not much slower than without a store."""
+    count = 3000
+    text = OPEN + job() + specs(0, count)
+    with folder() as place:
+        storing = Storing(program, place)
+        began = time.monotonic()
+        (status, out, _), calls = storing.run(place / "store", text)
+        kept = time.monotonic() - began
+        began = time.monotonic()
+        lined.seen(program, text)
+        plain = time.monotonic() - began
+        yield "all answered", status == 0 and out.count(b"ok\n") == count + 2
+        yield "%d syncs" % calls.count("s"), calls.count("s") < count / 50
+        yield "%d lines in %.2f s, and in %.2f s without a store" % (count, kept, plain), kept < 3 * plain + 2
+
+
+GROUPS = {test.__name__: test for test in (alike, again, trimmed, not_awaited, in_order, failing, cut_off, unusable, killed, quick)}
+
+
+def all_tests(program, names=tuple(GROUPS)):
+    for name in names:
+        for what, fine in GROUPS[name](program):
+            yield "%s, %s" % (name, what), fine
