@@ -139,7 +139,7 @@ def not_awaited(program):
     with folder() as place, subprocess.Popen([program, "follow", "--store", str(place / "store")], stdin=subprocess.PIPE, stdout=subprocess.PIPE) as ran:
         text = OPEN + job() + specs(0, 40)
         begin = 0
-        for end in range(7, len(text), 61):
+        for end in (*range(7, len(text), 61), len(text)):
             ran.stdin.write(text[begin:end])
             ran.stdin.flush()
             whole = text[begin:end].count(b"\n")
