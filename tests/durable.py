@@ -8,6 +8,7 @@ import os
 import pathlib
 import pwd
 import random
+import shutil
 import signal
 import subprocess
 import tempfile
@@ -324,9 +325,12 @@ def read_only(program, place):
         return
     nobody, path = pwd.getpwnam("nobody"), place / "mine"
     path.write_bytes(stored.store("", [1], []))
+    # nobody may not reach where the program is
+    copied = shutil.copy(program, place / "firmament")
     os.chmod(place, 0o755)
+    os.chmod(copied, 0o755)
     os.chmod(path, 0o444)
-    seen = follow(program, path, OPEN, user=nobody.pw_uid)
+    seen = follow(copied, path, OPEN, user=nobody.pw_uid)
     yield "a file that may not be written", seen[0] == 9 and seen[1] == b"" and seen[2].startswith(UNUSABLE)
 
 
