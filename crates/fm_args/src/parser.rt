@@ -17,12 +17,12 @@ use std::alloc::Global;
 pub fn parser<'a>(alloc: Global) -> Result<Command<'a>, OutOfMemory>
     ensures { IfOk result (λ c. app_of c ≡ firmament) }
 {
-    let unpack = unpack(alloc);
-    let why = why(alloc)?;
-    let winners = winners(alloc)?;
     let with_plan = up_to_plan(alloc)?;
+    let unpack = unpack(alloc);
     let with_unpack = with_plan.subcommand(unpack)?;
+    let why = why(alloc)?;
     let with_why = with_unpack.subcommand(why)?;
+    let winners = winners(alloc)?;
     let with_winners = with_why.subcommand(winners)?;
     Ok(with_winners)
 }
@@ -31,14 +31,14 @@ pub fn parser<'a>(alloc: Global) -> Result<Command<'a>, OutOfMemory>
 fn up_to_plan<'a>(alloc: Global) -> Result<Command<'a>, OutOfMemory>
     ensures { IfOk result (λ c. app_of c ≡ with_commands (take 11 commands)) }
 {
-    let records = records(alloc)?;
-    let recover = recover(alloc)?;
-    let solve = solve(alloc)?;
-    let plan = plan(alloc)?;
     let with_pack = up_to_pack(alloc)?;
+    let records = records(alloc)?;
     let with_records = with_pack.subcommand(records)?;
+    let recover = recover(alloc)?;
     let with_recover = with_records.subcommand(recover)?;
+    let solve = solve(alloc)?;
     let with_solve = with_recover.subcommand(solve)?;
+    let plan = plan(alloc)?;
     let with_plan = with_solve.subcommand(plan)?;
     Ok(with_plan)
 }
@@ -47,19 +47,20 @@ fn up_to_plan<'a>(alloc: Global) -> Result<Command<'a>, OutOfMemory>
 fn up_to_pack<'a>(alloc: Global) -> Result<Command<'a>, OutOfMemory>
     ensures { IfOk result (λ c. app_of c ≡ with_commands (take 7 commands)) }
 {
+    let program = program(alloc)?;
     let agree = agree(alloc);
+    let with_agree = program.subcommand(agree)?;
     let check = check(alloc);
-    let fleet = fleet(alloc)?;
-    let follow = follow(alloc)?;
-    let graph = graph(alloc)?;
-    let list = list(alloc)?;
-    let pack = pack(alloc)?;
-    let with_agree = program(alloc)?.subcommand(agree)?;
     let with_check = with_agree.subcommand(check)?;
+    let fleet = fleet(alloc)?;
     let with_fleet = with_check.subcommand(fleet)?;
+    let follow = follow(alloc)?;
     let with_follow = with_fleet.subcommand(follow)?;
+    let graph = graph(alloc)?;
     let with_graph = with_follow.subcommand(graph)?;
+    let list = list(alloc)?;
     let with_list = with_graph.subcommand(list)?;
+    let pack = pack(alloc)?;
     let with_pack = with_list.subcommand(pack)?;
     Ok(with_pack)
 }
