@@ -6,6 +6,7 @@ import json
 import os
 import pathlib
 import re
+import shutil
 import subprocess
 import sys
 import tempfile
@@ -96,8 +97,7 @@ class Beside:
         with self.printing:
             if self.copy is None:
                 self.copy = tempfile.TemporaryDirectory(prefix=f"rt-copy-{os.getpid()}-")
-                self.rt.copy_crates(os.getcwd(), f"{self.copy.name}/repo")
-                os.mkdir(f"{self.copy.name}/repo/.git")
+                copy_sources(pathlib.Path.cwd(), pathlib.Path(self.copy.name, "repo"))
         return f"{self.copy.name}/repo"
 
     def group(self, given, group):
@@ -127,8 +127,8 @@ class Beside:
         rt = self.rt
         self.plain_run, crates_of = rt.run, rt.crates_of
 
-        def listed(root):
-            self.crates = crates_of(root)
+        def listed(*given):
+            self.crates = crates_of(*given)
             return self.crates
 
         def run(crate, tests, ending=""):
@@ -149,6 +149,14 @@ class Beside:
                 print(f"run by rt try and not proved: {what} {' '.join(names)}")
         if self.passed or self.failed:
             print(f"{self.passed} passed, {self.failed} failed", flush=True)
+
+
+def copy_sources(root, to):
+    """Copies what the toolchain reads of a repository, without what was built, to a folder that is the top of one."""
+    (to / ".git").mkdir(parents=True)
+    for file in ("crates.txt", "HANDLES"):
+        shutil.copy(root / file, to)
+    shutil.copytree(root / "crates", to / "crates", ignore=lambda _folder, names: {"out"} & set(names))
 
 
 def groups():

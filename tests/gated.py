@@ -1,12 +1,17 @@
-"""Tests of how the gate lays out its work and counts it: bin/lanes.py, bin/budget.py, bin/checked.py and bin/beside.py, on tasks that are made up."""
+"""Tests of how the gate lays out its work and counts it: bin/lanes.py, bin/budget.py, bin/checked.py, bin/beside.py and bin/ci, on
+tasks and toolchains that are made up."""
+import importlib.machinery
+import importlib.util
 import json
 import os
 import pathlib
+import subprocess
 import sys
 import tempfile
 import threading
 import time
 import types
+from unittest import mock
 
 ROOT = pathlib.Path(__file__).resolve().parent.parent
 sys.path += [str(ROOT / "bin"), str(ROOT / "tests")]
@@ -144,29 +149,48 @@ def budgets():
             budget.FILE, budget.stands_on = file, stands_on
 
 
-def archive(*files):
-    """An archive with long names."""
-    names, body = b"", b""
-    for name, text in files:
-        head = b"/%d" % len(names) if len(name) > 14 else name.encode() + b"/"
-        if len(name) > 14:
-            names += name.encode() + b"/\n"
-        body += b"%-16s%-32s%-10d`\n" % (head, b"", len(text)) + text + b"\n" * (len(text) % 2)
-    return b"!<arch>\n" + b"%-16s%-32s%-10d`\n" % (b"//", b"", len(names)) + names + b"\n" * (len(names) % 2) + body
-
-
 def kept():
+    """Modules of a process that builds statements in the crate's folder are kept, and those of no other."""
     proof = b"--@ antt-checked 81\n--@ kernel one/two\nodd"
-    with tempfile.TemporaryDirectory() as folder:
-        rlib, to = pathlib.Path(folder, "a.rlib"), pathlib.Path(folder, "kept")
-        (rlib / "toolchain").mkdir(parents=True)
-        (rlib / "toolchain/checked.a").write_bytes(archive(
-            ("a_name_of_many_letters.oantt", proof), ("short.oantt", proof + b"!"), ("other.txt", proof), ("no_proof.oantt", b"else"), ("../out.oantt", proof)))
-        checked.give(rlib, to)
-        found = {str(it.relative_to(to)): it.read_bytes() for it in to.rglob("*") if it.is_file()}
-        yield "a library gives what was checked", found == {"one_two/a_name_of_many_letters.oantt": proof, "one_two/short.oantt": proof + b"!"}
-        checked.give(pathlib.Path(folder, "none.rlib"), pathlib.Path(folder, "nothing"))
-        yield "a library that is not there gives nothing", not pathlib.Path(folder, "nothing").exists()
+    with tempfile.TemporaryDirectory() as name, mock.patch("tempfile.tempdir", name):
+        folder = pathlib.Path(name).resolve()
+        crate, other = folder / "a", folder / "b"
+        crate.mkdir()
+        other.mkdir()
+        sleeps = [sys.executable, "-c", "import time; time.sleep(60)"]
+        builds = [subprocess.Popen([*sleeps, *words], cwd=place) for place, words in ((crate, ["--statements"]), (crate, []), (other, ["--statements"]))]
+        try:
+            with checked.kept(crate):
+                for at, build in enumerate(builds):
+                    place = folder / f"rattle-logic-built-locked-{build.pid}-0"
+                    place.mkdir()
+                    for file, text in (("other.txt", proof), ("no_proof.oantt", b"else"), (f"of_{at}.oantt", proof)):
+                        (place / file).write_bytes(text)
+                until(lambda: files(crate))
+                (folder / f"rattle-logic-built-locked-{builds[0].pid}-0/later.oantt").write_bytes(proof)
+                until(lambda: len(files(crate)) > 1)
+        finally:
+            for build in builds:
+                build.kill()
+                build.wait()
+        found = {"one_two/of_0.oantt": proof, "one_two/later.oantt": proof}
+        yield "what a build of statements checked is kept", files(crate) == {"out/incremental/" + file: text for file, text in found.items()}
+        checked.give(crate, folder / "to")
+        yield "a check begins with what was kept", files(folder / "to") == found
+        checked.give(other, folder / "nothing")
+        yield "a crate of which nothing was kept gives nothing", not (folder / "nothing").exists()
+
+
+def files(folder):
+    """The files below the folder, with their bytes."""
+    return {str(it.relative_to(folder)): it.read_bytes() for it in folder.rglob("*") if it.is_file()}
+
+
+def until(holds):
+    """Waits at most ten seconds until it holds."""
+    end = time.monotonic() + 10
+    while not holds() and time.monotonic() < end:
+        time.sleep(0.01)
 
 
 def groups():
@@ -180,6 +204,45 @@ def groups():
     yield "there are groups, each once", len(beside.groups()) == len(set(beside.groups())) > 20
 
 
+def forms():
+    """Both forms of the toolchain are known, and no other; sums are worked out once, and what is left out ends at once."""
+    loader = importlib.machinery.SourceFileLoader("ci", str(ROOT / "bin/ci"))
+    ci = importlib.util.module_from_spec(importlib.util.spec_from_loader("ci", loader))
+    loader.exec_module(ci)
+
+    def made(functions, **more):
+        return types.SimpleNamespace(**{name: eval("lambda %s: None" % ", ".join(words.split())) for name, words in functions.items()}, **more)
+
+    keeps = types.SimpleNamespace(key=0, of_edit=0, tried=0, keep_tried=0, is_untouched=0)
+    yield "a toolchain that keeps what was tried", ci.with_edits_side_by_side(made({**ci.KNOWN, **ci.KEEPS_WHAT_WAS_TRIED}, Kept=keeps, SETTLED=()))
+    yield "one that tries all edits in one call", ci.with_edits_side_by_side(made({**ci.KNOWN, **ci.TRIES_ALL_IN_ONE_CALL}))
+    yield "one that is neither", not ci.with_edits_side_by_side(made(ci.KNOWN))
+    yield "one with other parameters", not ci.with_edits_side_by_side(made({**ci.KNOWN, **ci.TRIES_ALL_IN_ONE_CALL, "run": "crate"}))
+
+    class Crate:
+        sums = []
+
+        def __init__(self, folder, *deps):
+            self.folder, self.deps = folder, deps
+
+        def stamp(self):
+            Crate.sums.append(self.folder)
+            return self.folder + "".join(it.stamp() for it in self.deps)
+
+    low = Crate("a")
+    high = Crate("d", Crate("b", low), Crate("c", low))
+    before = high.stamp()
+    Crate.sums.clear()
+    ci.with_sums_once(types.SimpleNamespace(Crate=Crate))
+    yield "each sum is worked out once", high.stamp() == before and sorted(Crate.sums) == ["a", "b", "c", "d"]
+    yield "and again when it is asked for again", high.stamp() == before and len(Crate.sums) == 8
+    task = [], 1, 1, lambda _given, _jobs: "done"
+    left = ci.only({"a"}, {"proof"}, "no edits")({(name, kind): task for name in "ab" for kind in ("proof", "tests", "edits")})
+    yield "tasks that are left out end at once", {key: (it[1], it[3](None, 1)) for key, it in left.items()} == {
+        ("a", "proof"): (1, "done"), ("a", "tests"): (0, True), ("a", "edits"): (0, "no edits"),
+        ("b", "proof"): (0, True), ("b", "tests"): (0, True), ("b", "edits"): (0, "no edits")}
+
+
 def all_tests():
-    for tests in (laid_out, budgets, kept, groups):
+    for tests in (laid_out, budgets, kept, groups, forms):
         yield from tests()
