@@ -13,7 +13,6 @@ import tempfile
 import threading
 import time
 import budget
-from lanes import IDLE
 
 ROOT = pathlib.Path(__file__).resolve().parent.parent
 # a build of a crate's tests, and a group of tests, in bytes of memory
@@ -49,12 +48,8 @@ class Beside:
                 added[crate.name, "run"] = [(crate.name, "proof")], 1, GROUP, lambda given, _jobs, crate=crate: self.run_program(given, crate)
         programs = [(name, "proof") for name in TESTED]
         if all(key in given for key in programs) and os.getcwd() == str(ROOT):
-            # one after another, since some measure the time of processors; those that mostly wait are beside them
-            before = programs
             for group in groups():
-                task = "tests/run", group
-                added[task] = programs if task in IDLE else before, 1, GROUP, lambda given, _jobs, group=group: self.group(given, group)
-                before = before if task in IDLE else [*programs, task]
+                added["tests/run", group] = programs, 1, GROUP, lambda given, _jobs, group=group: self.group(given, group)
         return added
 
     def timed(self, task, command, **how):

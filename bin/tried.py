@@ -4,8 +4,6 @@
 A program has to write what the file `stdout` has. The check that `rt try` starts beside is left out: it only hints at names that a
 proof would refuse, and takes as long as the build.
 """
-import importlib.machinery
-import importlib.util
 import os
 import pathlib
 import shutil
@@ -15,18 +13,10 @@ import tempfile
 sys.dont_write_bytecode = True
 sys.path.insert(0, str(pathlib.Path(__file__).resolve().parent))
 import building
+import toolchain
 
 # how long a program may run, with checks on a processor that others use too
 SECONDS = "900"
-
-
-def toolchain():
-    """The toolchain's command as a module."""
-    path = pathlib.Path(shutil.which("rt") or "rt").resolve()
-    loader = importlib.machinery.SourceFileLoader("rt", str(path))
-    made = importlib.util.module_from_spec(importlib.util.spec_from_loader("rt", loader))
-    loader.exec_module(made)
-    return made
 
 
 def program(rt):
@@ -49,7 +39,7 @@ def program(rt):
 
 def main():
     building.end_with_parent()
-    rt = toolchain()
+    rt = toolchain.load()
     if hasattr(rt.rtlib, "RATTLE"):
         rt.rtlib.RATTLE = shutil.which("true")
     return program(rt) if os.path.isfile("src/main.rt") else rt.main(["try", "--test"])

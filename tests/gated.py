@@ -20,6 +20,7 @@ import bridged
 import budget
 import checked
 import lanes
+import toolchain
 
 # the lowest priority that a system has
 LOWEST = 19
@@ -233,7 +234,7 @@ def forms():
     high = Crate("d", Crate("b", low), Crate("c", low))
     before = high.stamp()
     Crate.sums.clear()
-    ci.with_sums_once(types.SimpleNamespace(Crate=Crate))
+    toolchain.with_sums_once(types.SimpleNamespace(Crate=Crate))
     yield "each sum is worked out once", high.stamp() == before and sorted(Crate.sums) == ["a", "b", "c", "d"]
     yield "and again when it is asked for again", high.stamp() == before and len(Crate.sums) == 8
     task = [], 1, 1, lambda _given, _jobs: "done"

@@ -1,0 +1,90 @@
+"""Wrong bodies tried over what the proof of their crate checked.
+
+Those that change different functions are laid into one copy of the crate, and one check is asked for these functions. An edit counts as
+refused if the check says of a place inside the function that the edit changes that it is not proved, or refuses an answer of that
+function's proof. Any other is tried as the toolchain does, alone and from nothing.
+"""
+import os
+import pathlib
+import re
+import shutil
+import subprocess
+import tempfile
+
+import bodies
+import checked
+
+# from how many seconds on a function is told of which a wrong body is tried
+SLOW = 5
+
+
+def asked(rt, crate, names, texts, kept):
+    """What a check of the functions named says with these texts in place of the crate's own; nothing if it is no answer. Functions that take
+    long are told."""
+    only = [word for name in sorted(names) for word in ("--only", name)]
+    with tempfile.TemporaryDirectory(prefix=f"rt-edit-{os.getpid()}-") as room:
+        for part in rt.rtlib.PARTS:
+            if os.path.isdir(f"{crate.folder}/{part}"):
+                shutil.copytree(f"{crate.folder}/{part}", f"{room}/{part}")
+        for file, text in texts.items():
+            pathlib.Path(room, file).write_text(text)
+        words = [rt.rtlib.RATTLE, "check", *crate.words(["--jobs", "1", "--progress", *only], keeps=False), "--incremental", kept]
+        how = {"cwd": room, "stdin": subprocess.DEVNULL, "stdout": subprocess.PIPE, "stderr": subprocess.STDOUT, "text": True, "errors": "replace"}
+        with subprocess.Popen([*rt.rtlib.guarded(), *words], **how) as ran:
+            said, slow = read_timed(ran)
+    if slow:
+        print(f"{crate.name}: seconds of its wrong bodies: {', '.join(slow)}", flush=True)
+    ended = re.search(r"^only=\d+ proved=\d+\n*\Z", said, re.MULTILINE)
+    is_answer = ended and ran.returncode in (0, 1) and not any(rt.unread(line, texts) for line in said.split("\n"))
+    return said if is_answer else ""
+
+
+def read_timed(ran):
+    """What a check says, and the functions that took it long, with how many seconds of a processor since it was done with the one before."""
+    said, slow, last = [], [], None
+    for line in ran.stdout:
+        said.append(line)
+        found = re.match(r"checked (\S+), \d+ of \d+", line)
+        if not found:
+            continue
+        now = worked(ran.pid)
+        if last is not None and now - last >= SLOW:
+            slow.append("%.0f %s" % (now - last, found[1]))
+        last = now
+    return "".join(said), slow
+
+
+def worked(process):
+    """The seconds that processors worked for the process, and for those that it started and that ended."""
+    try:
+        fields = pathlib.Path(f"/proc/{process}/stat").read_text().rpartition(")")[2].split()
+    except OSError:
+        return 0.0
+    return sum(map(int, fields[11:15])) / os.sysconf("SC_CLK_TCK")
+
+
+def refused_together(rt, crate, edits):
+    """Those of the edits that are seen to be refused beside others, each with what the check says of it."""
+    texts = bodies.texts_of(pathlib.Path(crate.folder))
+    groups, _ = bodies.rounds(edits, texts)
+    found = {}
+    with tempfile.TemporaryDirectory(prefix=f"rt-edits-{os.getpid()}-") as kept:
+        checked.give(pathlib.Path(crate.folder), kept)
+        for group in groups:
+            names = {bodies.name_of(place, texts) for _, places in group for place in places}
+            changed = {file: text for file, text in bodies.laid(group, texts).items() if text != texts[file]}
+            # what a round proves is kept for the next one
+            said = asked(rt, crate, names, changed, kept)
+            told = {edit.name: bodies.complaint_of(places, texts, said) for edit, places in group}
+            found.update({name: text for name, text in told.items() if text})
+    return found
+
+
+def outcomes(rt, crate, edits):
+    """What the try of each edit comes to and what to say of it, as the toolchain's own function answers."""
+    flags = ["--jobs", "1"]
+    together = refused_together(rt, crate, [bodies.Edit(pathlib.Path(it)) for it in edits]) if edits else {}
+    label = lambda edit: f"must-fail {crate.name}/{pathlib.Path(edit).name}"
+    seen = lambda edit: together.get(pathlib.Path(edit).stem)
+    refused = getattr(rt, "REFUSED", True)
+    return [(refused, f"{label(it)}: refused, as it must be: {seen(it)[:160]}") if seen(it) else rt.must_fail(crate, it, flags) for it in edits]
