@@ -15,10 +15,9 @@ from concurrent.futures import FIRST_COMPLETED, ThreadPoolExecutor, wait
 LATER, CALM = 5, 10
 # minutes of a line that budget.json does not know, and the share of its minutes that a proof takes with all processors
 OF_A_LINE, WITH_ALL = 0.0025, 0.6
-# what a further job takes of the memory of the first, and what tasks take at most of the memory that the toolchain reckons, as measured
-OF_A_JOB, OF_RECKONED = 0.25, 0.8
-# and what a check of many wrong bodies takes more than a proof
-OF_EDITS = 1.7
+# what a further job takes of the memory of the first, and what tasks take at most of the memory that the toolchain reckons, as measured: half
+# of it and less over libraries of statements
+OF_A_JOB, OF_RECKONED = 0.25, 0.6
 # the jobs of the first proof while other work takes longer than its chain
 FIRST = 2
 # the tasks that mostly wait: the tests with a broker take a minute and a half of a processor in four, and those on Slurm 20 s in two
@@ -86,7 +85,6 @@ class Lanes:
                 self.left.remove(key)
                 self.given[key] = call(self.given, 1)
                 return True
-            needs *= OF_EDITS if key[1] == "edits" else 1
             room = self.memory - sum(held for _, held in self.running.values())
             if lacks or not self.is_free(key):
                 continue

@@ -78,11 +78,6 @@ def laid_out():
     made.run()
     yield "tasks are beside each other as memory allows", max(len(it) for it in made.beside) == 2
     made = Tasks()
-    for number in range(9):
-        made.add(f"crate{number}", "edits", memory=40 / lanes.OF_RECKONED)
-    made.run()
-    yield "and fewer checks of wrong bodies, which need more", max(len(it) for it in made.beside) == 1
-    made = Tasks()
     made.add("alone", "proof", memory=200)
     yield "a task that needs more than there is runs alone", made.run() == {("alone", "proof"): True}
     made = Tasks()
