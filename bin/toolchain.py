@@ -17,8 +17,8 @@ def load():
 
 def with_sums_once(rt):
     """Has the toolchain sum up a crate's sources once for each sum that they are a part of, and not once for each way down to the crate.
-    For the highest crates that takes a minute, and a command asks for the sums of all crates below, twice."""
-    plain, of_thread = rt.Crate.stamp, threading.local()
+    For the highest crates that takes a minute, and a command asks for the sums of all crates below, three times."""
+    plain, of_thread = rt.rtlib.Crate.stamp, threading.local()
 
     def stamp(crate):
         outer = getattr(of_thread, "known", None)
@@ -31,4 +31,4 @@ def with_sums_once(rt):
                 of_thread.known = outer
         return known[crate.folder]
 
-    rt.Crate.stamp = stamp
+    rt.rtlib.Crate.stamp = stamp

@@ -86,9 +86,17 @@ def laid_out():
     yield "a proof that is alone gets all processors", made.jobs["alone", "proof"] == 4
     made.add("tests", "tests")
     made.run(minutes={("alone", "proof"): 1, ("tests", "tests"): 9})
-    yield "and two if other work takes longer", made.jobs["alone", "proof"] == 2
-    made.run(minutes={("alone", "proof"): 9, ("tests", "tests"): 1})
-    yield "and all if it takes longest itself", made.jobs["alone", "proof"] == 4
+    yield "and still does beside what no proof waits for", made.jobs["alone", "proof"] == 4
+    made.add("other", "proof")
+    minutes = {("alone", "proof"): 5, ("tests", "tests"): 90}
+    made.run(minutes=minutes)
+    yield "and one less for each other proof", made.jobs["alone", "proof"] == 3
+    for number in range(5):
+        made.add(f"crate{number}", "proof")
+    made.run(minutes=minutes)
+    yield "but two at least", made.jobs["alone", "proof"] == 2
+    made.run(minutes={**minutes, ("alone", "proof"): 900})
+    yield "and all if its chain takes longest", made.jobs["alone", "proof"] == 4
     made = Tasks()
     for number in range(4):
         made.add(f"crate{number}", "proof")
@@ -229,7 +237,7 @@ def forms():
     high = Crate("d", Crate("b", low), Crate("c", low))
     before = high.stamp()
     Crate.sums.clear()
-    toolchain.with_sums_once(types.SimpleNamespace(Crate=Crate))
+    toolchain.with_sums_once(types.SimpleNamespace(rtlib=types.SimpleNamespace(Crate=Crate)))
     yield "each sum is worked out once", high.stamp() == before and sorted(Crate.sums) == ["a", "b", "c", "d"]
     yield "and again when it is asked for again", high.stamp() == before and len(Crate.sums) == 8
     task = [], 1, 1, lambda _given, _jobs: "done"
