@@ -20,6 +20,7 @@ import bridged
 import budget
 import checked
 import lanes
+import slurm_locks
 import toolchain
 
 # the lowest priority that a system has
@@ -120,6 +121,8 @@ def laid_out():
     yield "what mostly waits takes no processor's place", {idle} < max(made.beside, key=len) and max(len(it - lanes.IDLE) for it in made.beside) == 1
     sides = [("tests/run", side) for side in bridged.SIDES]
     yield "each group of bridges runs in one of those", sorted(sum(bridged.SIDES.values(), ())) == sorted(bridged.GROUPS) and set(sides) < lanes.IDLE
+    sides = [("tests/run", side) for side in slurm_locks.SIDES]
+    yield "and each of adapters with a lock", sorted(sum(slurm_locks.SIDES.values(), ())) == sorted(slurm_locks.GROUPS) and set(sides) < lanes.IDLE
     made = Tasks()
     made.add("low", "proof", gives=False)
     made.add("low", "tests", lines=0)

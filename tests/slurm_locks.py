@@ -378,6 +378,8 @@ def alone(program):
 
 
 GROUPS = {"standing_by": standing_by, "parted": parted, "let_in": let_in, "nobody": nobody, "alone": alone}
+# two groups of tests/run, which take as long as each other
+SIDES = {"slurm_parted": ("parted",), "slurm_standby": tuple(it for it in GROUPS if it != "parted")}
 
 
 def all_tests(program, names=tuple(GROUPS)):
