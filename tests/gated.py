@@ -1,5 +1,6 @@
 """Tests of how the gate lays out its work and counts it: bin/lanes.py, bin/budget.py, bin/checked.py, bin/beside.py and bin/ci, on
 tasks and toolchains that are made up."""
+import contextlib
 import importlib.machinery
 import importlib.util
 import json
@@ -243,6 +244,23 @@ def forms():
     toolchain.with_sums_once(types.SimpleNamespace(rtlib=types.SimpleNamespace(Crate=Crate)))
     yield "each sum is worked out once", high.stamp() == before and sorted(Crate.sums) == ["a", "b", "c", "d"]
     yield "and again when it is asked for again", high.stamp() == before and len(Crate.sums) == 8
+    compiled = []
+
+    class Program:
+        def __init__(self, name):
+            self.name = name
+
+        def compile_by(self, backend, words, to):
+            compiled.append((self.name, backend))
+            return {"llvm": 0, "rattle": 7}[backend]
+
+    with contextlib.redirect_stdout(None):
+        ci.with_compilers_side_by_side(types.SimpleNamespace(Crate=Program))
+        program, probe = Program("program"), Program(ci.PROBES[0])
+        given = [made.compile_by(backend, [], "") for made in (program, probe) for backend in ("llvm", "rattle")]
+        alone = program.compile_by("rattle", [], "")
+    yield "each compiler is asked once, and its own status is given", (given, alone) == ([0, 7, 0, 0], 7) and sorted(compiled) == sorted(
+        [("program", "llvm"), ("program", "rattle"), (probe.name, "llvm"), ("program", "rattle")])
     task = [], 1, 1, lambda _given, _jobs: "done"
     left = ci.only({"a"}, {"proof"}, "no edits")({(name, kind): task for name in "ab" for kind in ("proof", "tests", "edits")})
     yield "tasks that are left out end at once", {key: (it[1], it[3](None, 1)) for key, it in left.items()} == {
