@@ -2,7 +2,7 @@
 
 Those that change different functions are laid into one copy of the crate, and one check is asked for these functions. An edit counts as
 refused if the check says of a place inside the function that the edit changes that it is not proved, or refuses an answer of that
-function's proof. Any other is tried as the toolchain does, alone and from nothing.
+function's proof. Any other is tried as the toolchain does, alone, and if it is not refused then, from nothing.
 """
 import os
 import pathlib
@@ -16,6 +16,7 @@ import checked
 
 # from how many seconds on a function is told of which a wrong body is tried
 SLOW = 5
+ALONE = ["--jobs", "1"]
 
 
 def asked(rt, crate, names, texts, kept):
@@ -80,11 +81,22 @@ def refused_together(rt, crate, edits):
     return found
 
 
+def tried_alone(rt, crate, edit):
+    """What the try of one edit comes to: over what the crate's proof checked, and if it is not refused so, from nothing."""
+    with tempfile.TemporaryDirectory(prefix=f"rt-edits-{os.getpid()}-") as kept:
+        checked.give(pathlib.Path(crate.folder), kept)
+        found = rt.must_fail(crate, edit, ALONE, kept)
+    return found if is_refused(rt, found[0]) else rt.must_fail(crate, edit, ALONE)
+
+
+def is_refused(rt, kind):
+    return kind == getattr(rt, "REFUSED", True)
+
+
 def outcomes(rt, crate, edits):
     """What the try of each edit comes to and what to say of it, as the toolchain's own function answers."""
-    flags = ["--jobs", "1"]
     together = refused_together(rt, crate, [bodies.Edit(pathlib.Path(it)) for it in edits]) if edits else {}
     label = lambda edit: f"must-fail {crate.name}/{pathlib.Path(edit).name}"
     seen = lambda edit: together.get(pathlib.Path(edit).stem)
     refused = getattr(rt, "REFUSED", True)
-    return [(refused, f"{label(it)}: refused, as it must be: {seen(it)[:160]}") if seen(it) else rt.must_fail(crate, it, flags) for it in edits]
+    return [(refused, f"{label(it)}: refused, as it must be: {seen(it)[:160]}") if seen(it) else tried_alone(rt, crate, it) for it in edits]
