@@ -1,24 +1,27 @@
 """What the proofs of libraries checked, kept in each crate's out/incremental, where later checks of the same crate begin.
 
 The gate builds libraries of statements: they are small and quickly loaded, and hold no checked module. But while such a build runs, each
-module that it checked is a file of its own among its temporary files. That file gets a second name (a hard link) in the crate's folder.
-Where it lies is a detail of the toolchain: a module that is not found, or not on the same disk, is checked again by who needs it.
+module that it checked is a file of its own among its temporary files. That file gets a second name (a hard link) in the crate's folder, or
+is copied there if that is on another disk. Where it lies is a detail of the toolchain: a module that is not found is checked again by who
+needs it.
 """
 import contextlib
+import errno
 import os
 import pathlib
 import re
 import shutil
 import tempfile
 import threading
+import time
 
 # the temporary files of a build, by its process, and how a checked module begins
 FOLDERS, FOLDER = "rattle-logic-built-locked-*", re.compile(r"rattle-logic-built-locked-(\d+)-\d+")
 HEAD = re.compile(rb"--@ antt-checked \d+\n--@ kernel (\S+)\n")
 # the word of a command that builds a library of statements
 STATEMENTS = b"--statements"
-# how long a build is left alone between two looks, in seconds
-PAUSE = 0.2
+# how long a build is left alone between two looks, and after how long a file is taken for written, in seconds
+PAUSE, WRITTEN = 0.2, 1.0
 
 
 @contextlib.contextmanager
@@ -66,9 +69,25 @@ def link(folder, to, known):
                 continue
             place = to / head[1].decode().replace("/", "_")
             place.mkdir(parents=True, exist_ok=True)
-            with contextlib.suppress(FileExistsError):
-                os.link(folder / name, place / name)
-            known.add(name)
+            if keep(folder / name, place / name):
+                known.add(name)
+
+
+def keep(file, to):
+    """Gives a file a second name, or copies it to another disk once nothing was written to it for a while. Whether it is there then."""
+    try:
+        os.link(file, to)
+    except FileExistsError:
+        pass
+    except OSError as why:
+        if why.errno != errno.EXDEV:
+            raise
+        if time.time() - file.stat().st_mtime < WRITTEN:
+            return False
+        part = to.with_name(to.name + ".part")
+        shutil.copyfile(file, part)
+        part.rename(to)
+    return True
 
 
 def give(crate, to):

@@ -1,6 +1,7 @@
 """Tests of how the gate lays out its work and counts it: bin/lanes.py, bin/budget.py, bin/checked.py, bin/beside.py and bin/ci, on
 tasks and toolchains that are made up."""
 import contextlib
+import errno
 import importlib.machinery
 import importlib.util
 import json
@@ -158,6 +159,13 @@ def budgets():
 
 
 def kept():
+    for how, link in (("by links", os.link), ("by copies", mock.Mock(side_effect=OSError(errno.EXDEV, "another disk")))):
+        with mock.patch("os.link", link):
+            for name, fine in kept_by():
+                yield "%s, %s" % (name, how), fine
+
+
+def kept_by():
     """Modules of a process that builds statements in the crate's folder are kept, and those of no other."""
     proof = b"--@ antt-checked 81\n--@ kernel one/two\nodd"
     with tempfile.TemporaryDirectory() as name, mock.patch("tempfile.tempdir", name):
