@@ -203,8 +203,8 @@ def files(folder):
 
 
 def until(holds):
-    """Waits at most ten seconds until it holds."""
-    end = time.monotonic() + 10
+    """Waits at most a minute until it holds."""
+    end = time.monotonic() + 60
     while not holds() and time.monotonic() < end:
         time.sleep(0.01)
 
