@@ -65,10 +65,9 @@ def worked(process):
 
 
 def refused_together(rt, crate, edits):
-    """Those of the edits that are seen to be refused beside others, each with what the check says of it."""
+    """Those of the edits that are seen to be refused beside others, each once it is, with what the check says of it."""
     texts = bodies.texts_of(pathlib.Path(crate.folder))
     groups, _ = bodies.rounds(edits, texts)
-    found = {}
     with tempfile.TemporaryDirectory(prefix=f"rt-edits-{os.getpid()}-") as kept:
         checked.give(pathlib.Path(crate.folder), kept)
         for group in groups:
@@ -76,9 +75,9 @@ def refused_together(rt, crate, edits):
             changed = {file: text for file, text in bodies.laid(group, texts).items() if text != texts[file]}
             # what a round proves is kept for the next one
             said = asked(rt, crate, names, changed, kept)
-            told = {edit.name: bodies.complaint_of(places, texts, said) for edit, places in group}
-            found.update({name: text for name, text in told.items() if text})
-    return found
+            for edit, places in group:
+                if text := bodies.complaint_of(places, texts, said):
+                    yield edit, text
 
 
 def tried_alone(rt, crate, edit):
@@ -93,10 +92,17 @@ def is_refused(rt, kind):
     return kind == getattr(rt, "REFUSED", True)
 
 
-def outcomes(rt, crate, edits):
-    """What the try of each edit comes to and what to say of it, as the toolchain's own function answers."""
-    together = refused_together(rt, crate, [bodies.Edit(pathlib.Path(it)) for it in edits]) if edits else {}
-    label = lambda edit: f"must-fail {crate.name}/{pathlib.Path(edit).name}"
-    seen = lambda edit: together.get(pathlib.Path(edit).stem)
-    refused = getattr(rt, "REFUSED", True)
-    return [(refused, f"{label(it)}: refused, as it must be: {seen(it)[:160]}") if seen(it) else tried_alone(rt, crate, it) for it in edits]
+def outcomes(rt, crate, edits, tell=lambda edit, outcome: None):
+    """What the try of each edit comes to and what to say of it, as the toolchain's own function answers. Each is told once it is known."""
+    found, of_paths = {}, {pathlib.Path(it): it for it in edits}
+
+    def settle(edit, outcome):
+        found[edit] = outcome
+        tell(edit, outcome)
+
+    for made, text in refused_together(rt, crate, [bodies.Edit(it) for it in of_paths]) if edits else ():
+        settle(of_paths[made.path], (getattr(rt, "REFUSED", True), f"must-fail {crate.name}/{made.path.name}: refused, as it must be: {text[:160]}"))
+    for edit in edits:
+        if edit not in found:
+            settle(edit, tried_alone(rt, crate, edit))
+    return [found[it] for it in edits]

@@ -22,6 +22,7 @@ import bridged
 import budget
 import checked
 import lanes
+import refusals
 import slurm_locks
 import toolchain
 
@@ -276,6 +277,38 @@ def forms():
         ("b", "proof"): (0, True), ("b", "tests"): (0, True), ("b", "edits"): (0, "no edits")}
 
 
+def refused():
+    """Wrong bodies are tried together, then alone over what was kept, then from nothing; each is told once."""
+    with tempfile.TemporaryDirectory() as name:
+        folder = pathlib.Path(name)
+        (folder / "src").mkdir()
+        (folder / "src/lib.rt").write_text("".join("fn %s() -> u8 {\n    %d\n}\n" % (word, at) for at, word in enumerate(("one", "two", "three"))))
+        edits = []
+        for at in range(3):
+            edits.append(str(folder / ("e%d.edit" % at)))
+            pathlib.Path(edits[-1]).write_text("file: src/lib.rt\nold:     %d\nnew:     9\n" % at)
+        asked, alone, told = [], [], []
+
+        def must_fail(crate, edit, flags, kept=None):
+            alone.append((edit, kept is not None))
+            return edit == edits[1] or kept is None and edit == edits[2], "said of " + edit
+
+        def ask(rt, crate, names, texts, kept):
+            asked.append((sorted(names), texts["src/lib.rt"].count("9")))
+            return "src/lib.rt:2:5: error: it is not proved that\n"
+
+        crate = types.SimpleNamespace(name="crate", folder=name)
+        with mock.patch.object(refusals, "asked", ask):
+            found = refusals.outcomes(types.SimpleNamespace(must_fail=must_fail), crate, edits, lambda *it: told.append(it))
+        yield "one check for edits of different functions", asked == [(["one", "three", "two"], 3)]
+        yield "what is not refused there is tried alone, and then from nothing", alone == [(edits[1], True), (edits[2], True), (edits[2], False)]
+        yield "all are refused, in order", [kind for kind, _ in found] == [True] * 3 and found[0][1].startswith("must-fail crate/e0.edit: refused")
+        yield "each is told once it is known", told == list(zip(edits, found))
+        with mock.patch.object(refusals, "asked", lambda *_given: ""):
+            found = refusals.outcomes(types.SimpleNamespace(must_fail=lambda *_given: (False, "proved")), crate, edits)
+        yield "what no try refuses is not refused", found == [(False, "proved")] * 3
+
+
 def all_tests():
-    for tests in (laid_out, budgets, kept, groups, forms):
+    for tests in (laid_out, budgets, kept, groups, forms, refused):
         yield from tests()
