@@ -2,7 +2,8 @@
 
 Those that change different functions are laid into one copy of the crate, and one check is asked for these functions. An edit counts as
 refused if the check says of a place inside the function that the edit changes that it is not proved, or refuses an answer of that
-function's proof. Any other is tried as the toolchain does, alone, and if it is not refused then, from nothing.
+function's proof. Any other is tried as the toolchain does, alone and from nothing: there any complaint counts, and over kept work that
+does not fit there would be one.
 """
 import os
 import pathlib
@@ -80,14 +81,6 @@ def refused_together(rt, crate, edits):
                     yield edit, text
 
 
-def tried_alone(rt, crate, edit):
-    """What the try of one edit comes to: over what the crate's proof checked, and if it is not refused so, from nothing."""
-    with tempfile.TemporaryDirectory(prefix=f"rt-edits-{os.getpid()}-") as kept:
-        checked.give(pathlib.Path(crate.folder), kept)
-        found = rt.must_fail(crate, edit, ALONE, kept)
-    return found if is_refused(rt, found[0]) else rt.must_fail(crate, edit, ALONE)
-
-
 def is_refused(rt, kind):
     return kind == getattr(rt, "REFUSED", True)
 
@@ -104,5 +97,5 @@ def outcomes(rt, crate, edits, tell=lambda edit, outcome: None):
         settle(of_paths[made.path], (getattr(rt, "REFUSED", True), f"must-fail {crate.name}/{made.path.name}: refused, as it must be: {text[:160]}"))
     for edit in edits:
         if edit not in found:
-            settle(edit, tried_alone(rt, crate, edit))
+            settle(edit, rt.must_fail(crate, edit, ALONE))
     return [found[it] for it in edits]

@@ -278,7 +278,7 @@ def forms():
 
 
 def refused():
-    """Wrong bodies are tried together, then alone over what was kept, then from nothing; each is told once."""
+    """Wrong bodies are tried together, and else alone and from nothing; each is told once."""
     with tempfile.TemporaryDirectory() as name:
         folder = pathlib.Path(name)
         (folder / "src").mkdir()
@@ -291,7 +291,7 @@ def refused():
 
         def must_fail(crate, edit, flags, kept=None):
             alone.append((edit, kept is not None))
-            return edit == edits[1] or kept is None and edit == edits[2], "said of " + edit
+            return edit == edits[1], "said of " + edit
 
         def ask(rt, crate, names, texts, kept):
             asked.append((sorted(names), texts["src/lib.rt"].count("9")))
@@ -301,8 +301,8 @@ def refused():
         with mock.patch.object(refusals, "asked", ask):
             found = refusals.outcomes(types.SimpleNamespace(must_fail=must_fail), crate, edits, lambda *it: told.append(it))
         yield "one check for edits of different functions", asked == [(["one", "three", "two"], 3)]
-        yield "what is not refused there is tried alone, and then from nothing", alone == [(edits[1], True), (edits[2], True), (edits[2], False)]
-        yield "all are refused, in order", [kind for kind, _ in found] == [True] * 3 and found[0][1].startswith("must-fail crate/e0.edit: refused")
+        yield "what is not refused there is tried alone and from nothing", alone == [(edits[1], False), (edits[2], False)]
+        yield "each has its own outcome", [kind for kind, _ in found] == [True, True, False] and found[0][1].startswith("must-fail crate/e0.edit: refused")
         yield "each is told once it is known", told == list(zip(edits, found))
         with mock.patch.object(refusals, "asked", lambda *_given: ""):
             found = refusals.outcomes(types.SimpleNamespace(must_fail=lambda *_given: (False, "proved")), crate, edits)
