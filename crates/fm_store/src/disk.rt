@@ -24,11 +24,11 @@ pub struct Disk {
 }
 
 impl Disk {
-    /// Opens the file at the path, or makes an empty one. Locked if another process has it. Failed if it cannot be opened, and if
-    /// the path is that of a symbolic link, which `replace` would put a file in the place of.
+    /// Opens the file at the path, or makes an empty one. Locked if another process has it. Failed if it cannot be opened, or is no
+    /// regular file: of a device or a pipe there may be no end, and of a symbolic link `replace` would put a file in the place.
     pub fn open(rt: &HostRuntime, path: &str) -> Result<Disk, DeviceFault> {
         let path = String::from_str(rt.alloc(), path)?;
-        if is_link(rt, path.as_str()) {
+        if is_other(rt, path.as_str()) {
             return Err(DeviceFault::Failed);
         }
         let lock = locked(rt, path.as_str())?;
@@ -75,10 +75,10 @@ fn growing(rt: &HostRuntime, path: &str) -> io::Result<File> {
         .open(rt, path)
 }
 
-// Whether a symbolic link is at the path.
-fn is_link(rt: &HostRuntime, path: &str) -> bool {
+// Whether something is at the path that is no regular file.
+fn is_other(rt: &HostRuntime, path: &str) -> bool {
     match fs::symlink_metadata(rt, path) {
-        Ok(found) => found.is_symlink(),
+        Ok(found) => !found.is_file(),
         Err(_) => false,
     }
 }
