@@ -4,6 +4,7 @@
 pub mod agree;
 pub mod end_text;
 pub mod field_ranges;
+mod id_text;
 pub mod list_text;
 pub mod next_text;
 pub mod over_text;

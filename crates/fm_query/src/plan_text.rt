@@ -3,6 +3,7 @@
 ghost use Rattle.std.specs.Prelude.{◌≡◌, IfOk, IsOkUnless, string_bytes};
 ghost use Rattle.fm_query.specs.PlanText.{plan_text};
 
+use crate::id_text::hyphenated;
 use crate::text_lines::{LineText, write_lines};
 use fm_records::refusal::Refusal;
 use fm_round::plan::{Place, Plan, Preempt};
@@ -25,9 +26,9 @@ impl LineText for Place {
 
     ghost line_text = { place_text };
 
-    fn write_text(&self, alloc: Global, lines: &mut String) -> Result<(), Refusal> {
-        let task = self.task.text(alloc)?;
-        let machine = self.machine.text(alloc)?;
+    fn write_text(&self, _alloc: Global, lines: &mut String) -> Result<(), Refusal> {
+        let task = hyphenated(self.task.value());
+        let machine = hyphenated(self.machine.value());
         let incarnation = self.incarnation;
         write!(lines, "place {task} {machine} {incarnation}")?;
         Ok(())
@@ -39,8 +40,8 @@ impl LineText for Preempt {
 
     ghost line_text = { preempt_text };
 
-    fn write_text(&self, alloc: Global, lines: &mut String) -> Result<(), Refusal> {
-        let task = self.task.text(alloc)?;
+    fn write_text(&self, _alloc: Global, lines: &mut String) -> Result<(), Refusal> {
+        let task = hyphenated(self.task.value());
         let attempt = self.attempt;
         write!(lines, "preempt {task} {attempt}")?;
         Ok(())
