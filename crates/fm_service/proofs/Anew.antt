@@ -40,7 +40,7 @@ same_one : (b : Bool) (r s : Replica) (rs ss : List Replica) → number s ≡ nu
 same_one true r s rs ss e h = ap (λ n. n ∷ map number rs) e
 same_one false r s rs ss e h = ap (λ ns. number r ∷ ns) h
 
-same_changed : (n : ℕ) (change : Replica → Replica) → ((r : Replica) → number (change r) ≡ number r) → (rs : List Replica) → map number (changed_at n change rs) ≡ map number rs
+pub same_changed : (n : ℕ) (change : Replica → Replica) → ((r : Replica) → number (change r) ≡ number r) → (rs : List Replica) → map number (changed_at n change rs) ≡ map number rs
 same_changed n change same [] = refl
 same_changed n change same (r ∷ rs) = same_one (r.number == n) r (change r) rs (changed_at n change rs) (same r) (same_changed n change same rs)
 

@@ -9,5 +9,6 @@ pub mod Followers
 pub mod Streams
 pub mod Members
 pub mod StoredSets
+pub mod Lines
 pub mod StoredLines
 pub mod Unstored

@@ -1,71 +1,47 @@
--- No line of a stream takes anything away of what is stored and what was taken in since.
-use Rattle.std.proofs.Common.{◌≡◌, ℕ, List, Option, Some, None, sym, subst, inl, inr}
+-- No line of a stream takes anything away of what is stored and what was taken in since, or changes which coordinators are listed.
+use Rattle.std.proofs.Common.{◌≡◌, ℕ, List, [], ◌∷◌, Option, Some, None, map, refl, sym, ap, ◌∙◌, subst, inl, inr}
 use Rattle.fm_records.specs.declared.ops.Op.{Op}
 use Rattle.fm_delta.specs.declared.packet.Packet.{Packet}
-use Rattle.fm_coord.specs.declared.entry.Range.{Range}
+use Rattle.fm_coord.specs.Events.{Sent, Replica, happens}
+use Rattle.fm_coord.specs.Events as event
 use Rattle.fm_world.specs.declared.step.Step.{Step}
-use Rattle.fm_world.specs.Worlds.{WorldOfSets}
-use Rattle.fm_script.specs.declared.script.ScriptAct.{ScriptAct}
-use Rattle.fm_script.specs.declared.script.ScriptAct.TheVariants as act
+use Rattle.fm_world.specs.Worlds.{WorldOfSets, event_asked, after_maybe, step_of, taken_in}
 use Rattle.fm_script.specs.Requests.{RequestModel, Opens, Does, Cuts, News, OwnNews, Takes, Asks, Agrees, Versions, Renews}
 use Rattle.fm_script.specs.Openings.{new_world}
-use Rattle.fm_service.specs.WorldSteps as acting
-use Rattle.fm_service.specs.WorldSteps.{WorldStep}
-use Rattle.fm_service.specs.Renewing.{renewed_world}
-use Rattle.fm_service.specs.StreamSteps.{Following, fresh, at_world, packet_by_ops, StreamActStep, CutsMaybe, DoesAt, DoesIn, Settles, Answers}
-use Rattle.fm_service.specs.Storing.{AreStored, HaveNothing, nothing_stored}
-use Rattle.fm_service.proofs.StoredSets.{step_stored, taken_stored, anew_stored, new_stored, new_nothing, renewed_nothing}
-
-some_is : {A : Type 0} (a b : A) → Some a ≡ Some b → a ≡ b
-some_is a b e = cc
+use Rattle.fm_service.specs.Renewing.{renewed_replica, renewed_world}
+use Rattle.fm_service.specs.StreamSteps.{Following, fresh, DoesIn, Settles, Answers}
+use Rattle.fm_service.specs.Storing.{numbers_listed, AreStored, HaveNothing, nothing_stored}
+use Rattle.fm_service.proofs.Anew.{number, same_number, same_acted, same_changed}
+use Rattle.fm_service.proofs.Lines.{some_is, stays_so}
+use Rattle.fm_service.proofs.StoredSets.{Stored, step_stored, taken_stored, anew_stored, new_stored, new_nothing, renewed_nothing}
 
 no_some : {A P : Type 0} (a : A) → Some a ≡ None → P
 no_some a e = absurd (let no : ⊥ = cc in no)
 
-module _ (S : ℕ → List Op) (k : Following) (h : AreStored S k) where
-  -- a world that a step makes
-  by_step : (s : Step) (v : WorldOfSets) → WorldStep k.world s v → AreStored S (at_world k v)
-  by_step s v made = subst (λ (u : WorldOfSets). AreStored S (at_world k u)) (sym made.made) (step_stored S k.stored_marks k.world s h)
+pub answered : (S : ℕ → List Op) (most : ℕ) (behind : Packet → List Op) (k j : Following) → AreStored S k → (line answer : List ℕ) → Answers most behind (Some k) line answer (Some j) → AreStored S j
+answered S most behind k j h line answer a =
+    stays_so (Stored S) (step_stored S) (taken_stored S) (anew_stored S) most behind k j h line answer a
 
-  by_cut : (at : ℕ) (range : Range) (text : List ℕ) (v : WorldOfSets) → acting.Cuts k.world at range text v → AreStored S (at_world k v)
-  by_cut at range text v cuts = by_step _ v cuts.cut
+-- the coordinators that are listed
 
-  by_maybe : (at : ℕ) (range : Option Range) (text : List ℕ) (v : WorldOfSets) → CutsMaybe k.world at range text v → AreStored S (at_world k v)
-  by_maybe at None text v is = subst (λ (u : WorldOfSets). AreStored S (at_world k u)) (sym is.1) h
-  by_maybe at (Some range) text v cuts = by_cut at range text v cuts
+abbrev Listed : List ℕ → List ℕ → List Replica → Type 0
+Listed ns marks rs = map number rs ≡ ns
 
-  by_act : (at : ℕ) (a : ScriptAct) (text : List ℕ) (v : WorldOfSets) → StreamActStep k at a text v → AreStored S (at_world k v)
-  by_act at (act.Tell op) text v s = by_step _ v s.1
-  by_act at (act.Cut range) text v s = by_cut at range text v s
-  by_act at (act.Deliver place) text v s = by_step _ v s.1
-  by_act at (act.Trim n) text v s = by_step _ v s.1
-  by_act at (act.Round kind) text v s = by_step _ v s.commit
+step_listed : (ns marks : List ℕ) (w : WorldOfSets) (s : Step) → Listed ns marks w.replicas → Listed ns marks (step_of w s).replicas
+step_listed ns marks w s is =
+    same_changed s.at (after_maybe s.by (event_asked w.packets s.act)) (same_acted s.by (event_asked w.packets s.act)) w.replicas ∙ is
 
-  done : (behind : Packet → List Op) (asked : RequestModel) (text : List ℕ) (j : Following) → DoesAt behind k asked text j → AreStored S j
-  done behind (Opens listed) text j d = absurd d
-  done behind (Does step) text j d = subst (AreStored S) (sym d.2) (by_act step.at step.act text d.0 d.1)
-  done behind (Cuts at range name) text j d = subst (AreStored S) (sym d.2) (by_cut at range text d.0 d.1)
-  done behind (News at) text j d = subst (AreStored S) (sym d.is) (by_cut at _ text d.v d.cuts)
-  done behind (OwnNews at) text j d = subst (AreStored S) (sym d.is) (by_maybe at _ text d.v d.cuts)
-  done behind (Takes at digits) text j d = subst (AreStored S) (sym d.1.is) (taken_stored S k.stored_marks k.world at (packet_by_ops behind d.1.packet) h)
-  done behind (Asks at question) text j d = subst (AreStored S) (sym d.1) h
-  done behind Agrees text j d = subst (AreStored S) (sym d.1) h
-  done behind Versions text j d = subst (AreStored S) (sym d.1) h
-  done behind Renews text j d = subst (AreStored S) (sym d.1) (anew_stored S k h)
+taken_listed : (ns marks : List ℕ) (w : WorldOfSets) (at : ℕ) (packet : Sent) → Listed ns marks w.replicas → Listed ns marks (taken_in w at 0 packet).replicas
+taken_listed ns marks w at packet is = same_changed at (λ r. happens r 0 (event.Merge packet)) (same_number 0 (event.Merge packet)) w.replicas ∙ is
 
-settled : (S : ℕ → List Op) (most : ℕ) (i j : Following) → Settles most (Some i) (Some j) → AreStored S i → AreStored S j
-settled S most i j (inl same) h = subst (AreStored S) (sym (some_is j i same)) h
-settled S most i j (inr (k, is, due, anew)) h = subst (AreStored S) (sym (some_is j _ anew)) (anew_stored S k (subst (AreStored S) (some_is i k is) h))
+renewed_listed : (rs : List Replica) → map number (map renewed_replica rs) ≡ map number rs
+renewed_listed [] = refl
+renewed_listed (r ∷ rs) = ap (λ ns. r.number ∷ ns) (renewed_listed rs)
 
-module _ (S : ℕ → List Op) (most : ℕ) (behind : Packet → List Op) (k j : Following) (h : AreStored S k) where
-  accepted : (asked : RequestModel) (text : List ℕ) (made : Option Following) → DoesIn behind (Some k) asked text made → Settles most made (Some j) → AreStored S j
-  accepted asked text made does settles =
-      settled S most does.0 j (subst (λ o. Settles most o (Some j)) does.2 settles) (done S k h behind asked text does.0 does.1)
-
-  pub answered : (line answer : List ℕ) → Answers most behind (Some k) line answer (Some j) → AreStored S j
-  answered line answer (inl a) = accepted a.asked a.text a.made a.does a.settles
-  answered line answer (inr (inl r)) = subst (AreStored S) (sym (some_is j k r.same)) h
-  answered line answer (inr (inr c)) = subst (AreStored S) (sym (some_is j k c.same)) h
+pub stay_listed : (most : ℕ) (behind : Packet → List Op) (k j : Following) (line answer : List ℕ) → Answers most behind (Some k) line answer (Some j) → numbers_listed (Some j) ≡ numbers_listed (Some k)
+stay_listed most behind k j line answer a =
+    let ns = numbers_listed (Some k) in
+    stays_so (Listed ns) (step_listed ns) (taken_listed ns) (λ i is. renewed_listed i.world.replicas ∙ is) most behind k j refl line answer a
 
 -- coordinators that a line lists
 

@@ -1,5 +1,5 @@
 -- What is stored of coordinators, and what they took in since, is all that they took in.
-use Rattle.std.proofs.Common.{◌≡◌, ◌⊎◌, ◌<◌, ◌≤◌, ◌==◌, ℕ, Bool, true, false, cond, nat_le, nat_lt, List, [], ◌∷◌, ◌++◌, Option, Some, None, map, filter, length, drop, get_or, replicate, refl, sym, ap, ◌∙◌, subst, inl, inr, arith, append_assoc, eqb-true, ltb-false}
+use Rattle.std.proofs.Common.{◌≡◌, ◌⊎◌, ◌<◌, ◌≤◌, ◌==◌, ℕ, Bool, true, false, cond, nat_le, nat_lt, List, [], ◌∷◌, ◌++◌, Option, Some, None, option_map, map, filter, length, drop, get_or, replicate, refl, sym, ap, ◌∙◌, subst, inl, inr, arith, append_assoc, eqb-true, ltb-false}
 use Rattle.std.specs.List.{filter_map, cons_option}
 use Rattle.std.proofs.lemmas.Bool.{ne_eqb, eq-eqb, eqb-false}
 use Rattle.std.proofs.lemmas.List.{append-nil, drop_all, drop-append-le, length-append, get_or-replicate}
@@ -16,9 +16,9 @@ use Rattle.fm_coord.specs.Events as event
 use Rattle.fm_world.specs.declared.step.Step.{Step}
 use Rattle.fm_world.specs.Worlds.{WorldOfSets, with_number, changed_at, event_asked, after_maybe, step_of, taken_in}
 use Rattle.fm_script.specs.Openings.{history_limit, new_world}
-use Rattle.fm_service.specs.Renewing.{renewed_replica, renewed_world}
+use Rattle.fm_service.specs.Renewing.{whole_of, renewed_replica, renewed_world}
 use Rattle.fm_service.specs.StreamSteps.{Following, fresh, packet_by_ops}
-use Rattle.fm_service.specs.Storing.{stored_mark_at, unstored_range, unstored_packet, unstored_by, unstored_at, unstored_of, end_in, ends_of, all_stored, restored_world, restored, IsStoredUpTo, AreStored, nothing_stored, sets_from, stored_also, HaveNothing}
+use Rattle.fm_service.specs.Storing.{stored_mark_at, unstored_range, unstored_packet, unstored_by, unstored_at, unstored_of, full_packet_at, full_packets_of, end_in, ends_of, all_stored, restored_world, restored, IsStoredUpTo, AreStored, nothing_stored, sets_from, stored_also, HaveNothing}
 use Rattle.fm_service.proofs.Anew.{number, same_acted, same_number}
 use Rattle.fm_service.proofs.Members.{from_both, same_with, held, union_last, to_the_end}
 
@@ -95,7 +95,7 @@ module _ (at n : ℕ) (change : Replica → Replica) (keeps : (r : Replica) → 
   was (r ∷ rs) now e = one (r.number == at) (r.number == n) r now rs (changed_at at change rs) refl refl e (was rs now)
 
 -- the replicas and the marks of a stream whose operations S are stored
-abbrev Stored : (ℕ → List Op) → List ℕ → List Replica → Type 0
+abbrev pub Stored : (ℕ → List Op) → List ℕ → List Replica → Type 0
 Stored S marks rs = (n : ℕ) (r : Replica) → n < 256 → with_number rs n ≡ Some r → IsStoredUpTo (S n) (get_or marks n 0) r
 
 module _ (S : ℕ → List Op) (marks : List ℕ) where
@@ -303,6 +303,23 @@ module _ (S : ℕ → List Op) (k : Following) (h : AreStored S k) (n : ℕ) (r 
   known_stored is =
       know_same (S n) r.taken
       (subst (λ xs. HaveSameMembers xs r.taken) (append-nil (S n)) (subst (λ xss. HaveSameMembers (S n ++ union xss) r.taken) (drop_all mark r.buffer (omega (arith, is))) old.together))
+
+-- all that each knows is stored
+
+full_own : (o : Option Replica) (n : ℕ) (p : Sent) → ((r : Replica) → o ≡ Some r → r.number ≡ n) → option_map whole_of o ≡ Some p → p.sender ≡ n
+full_own None n p its e = no_some p e
+full_own (Some r) n p its e = ap (λ (q : Sent). q.sender) (sym (some_is (whole_of r) p e)) ∙ its r refl
+
+pub full_stored : (k : Following) → AreStored (stored_also nothing_stored (full_packets_of k)) (all_stored k)
+full_stored k n r lt there =
+    let own : (m : ℕ) (p : Sent) → full_packet_at k m ≡ Some p → p.sender ≡ m = λ m p e. full_own (with_number k.world.replicas m) m p (numbered k.world.replicas m) e in
+    let is : full_packet_at k n ≡ Some (whole_of r) = ap (option_map whole_of) there in
+    all_within [] (union (sets_from n (full_packets_of k))) r (stored_mark_at (all_stored k) n) (marked k.world.replicas n r lt there) (
+      λ x m.
+          let from = came_from (full_packet_at k) own n x (map number k.world.replicas) m in
+          subst (λ (p : Sent). IsMember x p.set) (sym (some_is (whole_of r) from.0 (sym is ∙ from.1))) from.2,
+      λ x m. went_to (full_packet_at k) own n x (whole_of r) is m (map number k.world.replicas) (is_listed k.world.replicas n r there),
+    )
 
 -- stored packets are merged
 

@@ -14,11 +14,21 @@ use Rattle.fm_world.specs.declared.step.Act.TheVariants.{Take}
 use Rattle.fm_world.specs.Worlds.{WorldOfSets, with_number, cause_of, taken_in}
 use Rattle.fm_world.specs.Represents.{number_of}
 use Rattle.fm_service.specs.declared.session.Session.{Session}
+use Rattle.fm_service.specs.declared.storing.Extent.{Extent}
+use Rattle.fm_service.specs.declared.storing.Extent.TheVariants.{Unstored, Full}
+use Rattle.fm_service.specs.Renewing.{whole_of}
 use Rattle.fm_service.specs.WorldSteps.{step_at}
 use Rattle.fm_service.specs.StreamSteps.{Following, packet_by_ops}
 use Rattle.fm_service.specs.Sessions.{SessionAt, IsIn}
-use Rattle.fm_service.specs.Storing.{end_in, ends_of, restored_world, AreRestorable}
+use Rattle.fm_service.specs.Storing.{stored_mark_at, unstored_by, end_in, ends_of, restored_world, AreRestorable}
+use Rattle.fm_service.specs.inner.Extents.{packet_by}
 use Rattle.fm_service.specs.inner.SetEnds.{ends_set}
+
+-- which packets are made of whom
+
+pub nobody : (e : Extent) (k : Following) (n : ℕ) → with_number k.world.replicas n ≡ None → option_map seen_packet (packet_by e k n) ≡ None
+nobody Unstored k n none = ap (λ o. option_map seen_packet (unstored_by (stored_mark_at k n) o)) none
+nobody Full k n none = ap (λ o. option_map seen_packet (option_map whole_of o)) none
 
 -- packets one after another
 

@@ -1,6 +1,6 @@
 -- What of a stream is stored, and what is not stored yet (this project's profile). Packets are stored; what a coordinator took in since is in its
 -- deltas from its stored mark on.
-use Rattle.std.specs.Prelude.{◌≡◌, ℕ, ◌≤◌, ◌<◌, ◌==◌, ◌++◌, cond, nat_le, nat_lt, List, [], ◌∷◌, length, drop, map, filter, get_or, Option, Some, None}
+use Rattle.std.specs.Prelude.{◌≡◌, ℕ, ◌≤◌, ◌<◌, ◌==◌, ◌++◌, cond, nat_le, nat_lt, List, [], ◌∷◌, length, drop, map, filter, get_or, Option, Some, None, option_map}
 use Rattle.std.specs.List.{filter_map, range_with_len}
 use Rattle.fm_records.specs.declared.ops.Op.{Op}
 use Rattle.fm_records.specs.declared.refusal.Refusal.{Refusal}
@@ -12,6 +12,7 @@ use Rattle.fm_coord.specs.declared.entry.Range.TheVariants.{Full}
 use Rattle.fm_coord.specs.Events.{Sent, Replica, set_of}
 use Rattle.fm_world.specs.declared.step.Act.TheVariants.{Take}
 use Rattle.fm_world.specs.Worlds.{WorldOfSets, with_number, cause_of, refusal_of, taken_in}
+use Rattle.fm_service.specs.Renewing.{whole_of}
 use Rattle.fm_service.specs.WorldSteps.{step_at}
 use Rattle.fm_service.specs.StreamSteps.{Following, at_world, news_since, packet_by_ops}
 
@@ -49,6 +50,19 @@ unstored_of k = filter_map (unstored_at k) (numbers_listed (Some k))
 abbrev pub unstored_in : Option Following → List Sent
 unstored_in None = []
 unstored_in (Some k) = unstored_of k
+
+-- all that the coordinator with the number took in, as one packet, if there is one
+abbrev pub full_packet_at : Following → ℕ → Option Sent
+full_packet_at k n = option_map whole_of (with_number k.world.replicas n)
+
+-- the same of each coordinator, in the order in which they were listed
+abbrev pub full_packets_of : Following → List Sent
+full_packets_of k = filter_map (full_packet_at k) (numbers_listed (Some k))
+
+-- the same of any stream: nothing before the coordinators are listed
+abbrev pub full_packets_in : Option Following → List Sent
+full_packets_in None = []
+full_packets_in (Some k) = full_packets_of k
 
 -- how many deltas a replica has, if there is one
 abbrev pub end_in : Option Replica → ℕ

@@ -2,3 +2,4 @@ pub mod ReopenedWorld
 pub mod SessionSteps
 pub mod OwnRuns
 pub mod SetEnds
+pub mod Extents

@@ -12,7 +12,7 @@ ghost use Rattle.fm_query.specs.QueryTexts.{graph_of, winners_of};
 ghost use Rattle.fm_world.specs.Worlds.{with_number};
 ghost use Rattle.fm_service.specs.StreamSteps.{Following, StandBehind, but_behind, packet_by_ops, Answers};
 ghost use Rattle.fm_service.specs.Renewing.{renewed_replica};
-ghost use Rattle.fm_service.specs.Storing.{AreStored, HaveNothing, nothing_stored, stored_also, unstored_of, all_stored, stored_mark_at, restored};
+ghost use Rattle.fm_service.specs.Storing.{numbers_listed, AreStored, HaveNothing, nothing_stored, stored_also, unstored_of, full_packets_of, all_stored, stored_mark_at, restored};
 
 /// Coordinators that received the same operations, in any order and number of times, have one text for their networks
 /// and one for their winners, whatever processes they run in. A coordinator received what it was told, what its own
@@ -44,8 +44,10 @@ pub fn law_renewed()
 /// - `opened`: once a line lists the coordinators, they have nothing, and nothing is stored.
 /// - `line`: no line that is answered takes anything of this away.
 /// - `stored`: what is not stored is stored too; then all deltas are marked as stored.
+/// - `full`: all that each knows is stored, in place of what was stored; then all deltas are marked as stored.
 /// - `marked`: then the mark of each coordinator is how many deltas it has.
 /// - `restored`: coordinators that have nothing merge what was stored.
+/// - `listed`: no line changes which coordinators are listed, or their order.
 /// - `known`: if a coordinator's mark is how many deltas it has, the table of what is stored is what it knows.
 pub fn law_stored()
     ensures opened { (most : ℕ) (behind : Packet → List Op) (line answer : List ℕ) (k : Following)
@@ -54,11 +56,14 @@ pub fn law_stored()
         → Answers most behind (Some k) line answer (Some j) → AreStored S k → AreStored S j }
     ensures stored { (S : ℕ → List Op) (k : Following) → AreStored S k
         → AreStored (stored_also S (unstored_of k)) (all_stored k) }
+    ensures full { (k : Following) → AreStored (stored_also nothing_stored (full_packets_of k)) (all_stored k) }
     ensures marked { (k : Following) (n : ℕ) (r : Replica) → n < 256 → with_number k.world.replicas n ≡ Some r
         → stored_mark_at (all_stored k) n ≡ length r.buffer }
     ensures restored { (behind : Packet → List Op) (k : Following) (packets : List Packet) → HaveNothing k
         → AreStored (stored_also nothing_stored (map (packet_by_ops behind) packets))
         (all_stored (restored behind k packets)) }
+    ensures listed { (most : ℕ) (behind : Packet → List Op) (line answer : List ℕ) (k j : Following)
+        → Answers most behind (Some k) line answer (Some j) → numbers_listed (Some j) ≡ numbers_listed (Some k) }
     ensures known { (S : ℕ → List Op) (k : Following) (n : ℕ) (r : Replica) → n < 256 → AreStored S k
         → with_number k.world.replicas n ≡ Some r → stored_mark_at k n ≡ length r.buffer
         → table_of (S n) ≡ table_of r.taken }

@@ -40,8 +40,8 @@ pub fn renewed(alloc: Global, world: &World<Keeper>) -> Result<World<Keeper>, Re
     Ok(anew)
 }
 
-// All that the coordinator knows, as a packet of its own.
-fn whole_of(coordinator: &Coordinator<Keeper>) -> Result<Packet, OutOfMemory>
+/// All that the coordinator knows, as a packet of its own.
+pub(crate) fn whole_of(coordinator: &Coordinator<Keeper>) -> Result<Packet, OutOfMemory>
     ensures { (r : Replica) → Represents coordinator.now.state r
         → IfOk result (λ packet. packet ≡ seen_packet (whole_of r)) }
 {

@@ -1,9 +1,10 @@
 //! What of a stream is stored, and what is not stored yet: each coordinator's deltas from its stored mark on.
 //!
-//! A caller appends what is not stored to a file, and then marks all as stored. Later it merges what the file has, each packet by the
-//! coordinator that is its sender. That this suffices is `law_stored`.
+//! A caller appends what is not stored to a file, or puts all that is known in the place of what the file has, and then marks all as
+//! stored. Later it merges what the file has, each packet by the coordinator that is its sender. That this suffices is `law_stored`.
 
 ghost use Rattle.std.specs.Prelude.{◌≡◌, ◌∷◌, [], List, Some, None, map, option_map, IfOk, IfErr, OnErr, OnOk};
+ghost use Rattle.std.specs.List.{filter_map};
 ghost use Rattle.fm_records.specs.declared.ops.Op.{Op};
 ghost use Rattle.fm_records.specs.Know.{table_of};
 ghost use Rattle.fm_delta.specs.declared.packet.Packet.{Packet};
@@ -17,9 +18,11 @@ ghost use Rattle.fm_service.specs.WorldSteps.{step_at};
 ghost use Rattle.fm_service.specs.StreamSteps.{Following, StandBehind};
 ghost use Rattle.fm_service.specs.Sessions.{SessionAt};
 ghost use Rattle.fm_service.specs.Storing as stored;
-ghost use Rattle.fm_service.specs.Storing.{numbers_listed, unstored_of, all_stored, restored, Restores, RestoresUntil};
+ghost use Rattle.fm_service.specs.Storing.{numbers_listed, unstored_of, full_packets_of, all_stored, restored, Restores, RestoresUntil};
+ghost use Rattle.fm_service.specs.inner.Extents.{packet_by};
 ghost use Rattle.fm_service.specs.inner.SetEnds.{ends_set};
 
+use crate::renewing::whole_of;
 use crate::session::{Session, news_between};
 use fm_coord::coordinator::Coordinator;
 use fm_coord::entry::Range;
@@ -44,29 +47,57 @@ pub(crate) fn numbers_of(alloc: Global, session: &Session) -> Result<Vec<CoordId
     Ok(numbers)
 }
 
+// Which packets are made of coordinators.
+#[derive(Clone, Copy, Drop)]
+pub(crate) enum Extent {
+    // Of what is not stored.
+    Unstored,
+    // Of all that they know.
+    Full,
+}
+
 /// What is not stored of each coordinator, in the order in which they were listed: a packet for each that has deltas
 /// from its stored mark on.
 pub(crate) fn unstored_packets(alloc: Global, session: &Session) -> Result<Vec<Packet>, OutOfMemory>
     ensures { (k : Following) → SessionAt session.now k
         → IfOk result (λ packets. packets.items ≡ map seen_packet (unstored_of k)) }
 {
+    packets_of(alloc, session, Extent::Unstored)
+}
+
+/// All that each coordinator knows as a packet, in the order in which they were listed.
+pub(crate) fn full_packets(alloc: Global, session: &Session) -> Result<Vec<Packet>, OutOfMemory>
+    ensures { (k : Following) → SessionAt session.now k
+        → IfOk result (λ packets. packets.items ≡ map seen_packet (full_packets_of k)) }
+{
+    packets_of(alloc, session, Extent::Full)
+}
+
+// The packets of the coordinators, in the order in which they were listed.
+fn packets_of(alloc: Global, session: &Session, extent: Extent) -> Result<Vec<Packet>, OutOfMemory>
+    ensures { (k : Following) → SessionAt session.now k → IfOk result (λ packets. packets.items
+        ≡ map seen_packet (filter_map (packet_by extent k) (numbers_listed (Some k)))) }
+{
     let mut packets = Vec::new(alloc);
     for coordinator in session.world.coordinators() {
-        if let Some(packet) = unstored_at(session, coordinator.number().value())? {
+        if let Some(packet) = packet_at(session, coordinator.number().value(), extent)? {
             packets.push(packet)?;
         }
     }
     Ok(packets)
 }
 
-// What is not stored of the coordinator with the number, if there is one.
-fn unstored_at(session: &Session, at: u8) -> Result<Option<Packet>, OutOfMemory>
+// The packet of the coordinator with the number, if there is one.
+fn packet_at(session: &Session, at: u8, extent: Extent) -> Result<Option<Packet>, OutOfMemory>
     ensures { (k : Following) → SessionAt session.now k
-        → IfOk result (λ made. made ≡ option_map seen_packet (stored.unstored_at k at)) }
+        → IfOk result (λ made. made ≡ option_map seen_packet (packet_by extent k at)) }
 {
-    match session.world.numbered(at) {
-        None => Ok(None),
-        Some(coordinator) => unstored_packet(coordinator, session.stored_marks[usize::from(at)]),
+    let Some(coordinator) = session.world.numbered(at) else {
+        return Ok(None);
+    };
+    match extent {
+        Extent::Unstored => unstored_packet(coordinator, session.stored_marks[usize::from(at)]),
+        Extent::Full => Ok(Some(whole_of(coordinator)?)),
     }
 }
 

@@ -8,11 +8,11 @@ ghost use Rattle.fm_io.specs.Replies.{refusal_reply};
 ghost use Rattle.fm_script.specs.Requests.{request_model, IsPlain};
 ghost use Rattle.fm_service.specs.StreamSteps.{Following, StandBehind, IsRefused, RefusesIn};
 ghost use Rattle.fm_service.specs.Sessions.{IsIn};
-ghost use Rattle.fm_service.specs.Storing.{numbers_listed, unstored_in, all_stored, Restores, RestoresUntil};
+ghost use Rattle.fm_service.specs.Storing.{numbers_listed, unstored_in, full_packets_in, all_stored, Restores, RestoresUntil};
 ghost use Rattle.fm_service.specs.inner.SessionSteps.{Begins, Opens};
 
 use crate::session::Session;
-use crate::storing::{mark_all, numbers_of, restore, unstored_packets};
+use crate::storing::{full_packets, mark_all, numbers_of, restore, unstored_packets};
 use crate::verdict::check_first;
 use fm_delta::packet::Packet;
 use fm_io::responder::Responder;
@@ -77,6 +77,19 @@ impl StreamService {
         match &self.session {
             None => Ok(Vec::new(alloc)),
             Some(session) => unstored_packets(alloc, session),
+        }
+    }
+
+    /// All that each coordinator knows, in the order in which they were listed: a packet for each, with its number and the
+    /// packet number 0. Nothing changes. Refused only if memory runs out. It copies the records that are in no shared
+    /// block.
+    pub fn full_packets(&self, alloc: Global) -> Result<Vec<Packet>, OutOfMemory>
+        ensures { (o : Option Following) → IsIn self.now.session o
+            → IfOk result (λ packets. packets.items ≡ map seen_packet (full_packets_in o)) }
+    {
+        match &self.session {
+            None => Ok(Vec::new(alloc)),
+            Some(session) => full_packets(alloc, session),
         }
     }
 
