@@ -1,6 +1,7 @@
 -- After each commit each coordinator would know again, by its packets in the store, what it knows.
 use Rattle.std.proofs.Common.{◌≡◌, ◌==◌, ◌||◌, ◌<◌, ℕ, zero, suc, Bool, true, false, cond, List, [], ◌∷◌, ◌++◌, All, Option, Some, None, map, length, refl, sym, ap, ◌∙◌, subst, inl, inr, arith, eqb-true}
 use Rattle.std.specs.List.{list_any}
+use Rattle.std.proofs.lemmas.Bool.{eqb-false}
 use Rattle.fm_records.specs.declared.ops.Op.{Op}
 use Rattle.fm_records.specs.Sets.{IsMember}
 use Rattle.fm_records.specs.Know.{table_of}
@@ -11,29 +12,20 @@ use Rattle.fm_delta.specs.declared.packet.Packet.{Packet}
 use Rattle.fm_coord.specs.Events.{Replica, happens}
 use Rattle.fm_coord.specs.Events as event
 use Rattle.fm_coord.specs.Replays.{seen_packet}
-use Rattle.fm_world.specs.Worlds.{WorldOfSets, with_number, changed_at, taken_in}
+use Rattle.fm_world.specs.Worlds.{WorldOfSets, with_number, taken_in}
 use Rattle.fm_store.specs.Stores.{recovered}
 use Rattle.fm_io.specs.Runs.{IsTaken, Run}
 use Rattle.fm_io.specs.Groups.{LineGroup, Groups}
 use Rattle.fm_service.specs.StreamSteps.{Following, StandBehind, Answers, packet_by_ops}
-use Rattle.fm_service.specs.Storing.{numbers_listed, stored_mark_at, unstored_of, all_stored, restored_world, restored, AreStored, nothing_stored, stored_also, HaveNothing}
-use Rattle.fm_durable.specs.DurableSteps.{Durable, not_opened, known_packets, GoesOn, DurableAnswers, with_unstored, DurableCommits, AreRecoverable}
+use Rattle.fm_service.specs.Storing.{numbers_listed, stored_mark_at, unstored_of, full_packets_of, all_stored, restored_world, restored, AreStored, nothing_stored, stored_also, HaveNothing}
+use Rattle.fm_service.proofs.Anew.{number, same_changed}
+use Rattle.fm_durable.specs.DurableSteps.{Durable, not_opened, known_packets, GoesOn, DurableAnswers, with_unstored, with_full, DurableCommits, AreRecoverable}
+use Rattle.fm_durable.specs.DurableServices.{AreKnownAlike}
 use Rattle.fm_durable.proofs.Recovering.{recovered_more, recovered_can_be, known_again, table_behind}
 
 -- ---- the coordinators that are listed
 
-abbrev number : Replica → ℕ
-number r = r.number
-
-same_one : (b : Bool) (r s : Replica) (rs ss : List Replica) → number s ≡ number r → map number ss ≡ map number rs → map number (cond b (s ∷ rs) (r ∷ ss)) ≡ number r ∷ map number rs
-same_one true r s rs ss e h = ap (λ n. n ∷ map number rs) e
-same_one false r s rs ss e h = ap (λ ns. number r ∷ ns) h
-
-same_changed : (n : ℕ) (change : Replica → Replica) → ((r : Replica) → number (change r) ≡ number r) → (rs : List Replica) → map number (changed_at n change rs) ≡ map number rs
-same_changed n change same [] = refl
-same_changed n change same (r ∷ rs) = same_one (r.number == n) r (change r) rs (changed_at n change rs) (same r) (same_changed n change same rs)
-
-same_restored : (behind : Packet → List Op) (w : WorldOfSets) (ps : List Packet) → map number (restored_world behind w ps).replicas ≡ map number w.replicas
+pub same_restored : (behind : Packet → List Op) (w : WorldOfSets) (ps : List Packet) → map number (restored_world behind w ps).replicas ≡ map number w.replicas
 same_restored behind w [] = refl
 same_restored behind w (p ∷ ps) =
     same_restored behind (taken_in w p.sender 0 (packet_by_ops behind p)) ps
@@ -58,6 +50,17 @@ is_member : (ns : List ℕ) (n : ℕ) → is_listed n ns ≡ true → IsMember n
 is_member [] n e = absurd (let no : ⊥ = cc in no)
 is_member (m ∷ ns) n e = member_one (m == n) (is_listed n ns) m n ns refl e (is_member ns n)
 
+there_one : (b : Bool) (r : Replica) (rs : List Replica) (n : ℕ) → (r.number == n) ≡ b → IsMember n (r.number ∷ map number rs) → (IsMember n (map number rs) → (s : Replica) × (with_number rs n ≡ Some s))
+    → (s : Replica) × (cond b (Some r) (with_number rs n) ≡ Some s)
+there_one true r rs n is m later = (r, refl)
+there_one false r rs n is (inl same) later = absurd (eqb-false r.number n is same)
+there_one false r rs n is (inr m) later = later m
+
+-- a replica has a number that is listed
+there : (rs : List Replica) (n : ℕ) → IsMember n (map number rs) → (s : Replica) × (with_number rs n ≡ Some s)
+there [] n m = absurd m
+there (r ∷ rs) n m = there_one (r.number == n) r rs n refl m (there rs n)
+
 -- ---- one packet of all that each knew
 
 abbrev Possible : List Packet → Type 0
@@ -80,12 +83,12 @@ possible_known (m ∷ ns) ps h =
 -- ---- what is kept
 
 -- of what coordinators know these operations are stored, and these are what each would know again by its packets
-record Kept (k : Following) (ps : List Packet) : Type 0 where
-  set : ℕ → List Op
-  stored : AreStored set k
-  knows : (n : ℕ) → recovered n ps ≡ table_of (set n)
+pub record Kept (k : Following) (ps : List Packet) : Type 0 where
+  pub set : ℕ → List Op
+  pub stored : AreStored set k
+  pub knows : (n : ℕ) → recovered n ps ≡ table_of (set n)
 
-abbrev Holds : Durable → Type 0
+abbrev pub Holds : Durable → Type 0
 Holds t = (k : Following) → t.following ≡ Some k → Kept k t.packets
 
 some_is : {A : Type 0} (a b : A) → Some a ≡ Some b → a ≡ b
@@ -94,13 +97,19 @@ some_is a b e = cc
 no_some : {A P : Type 0} (a : A) → None ≡ Some a → P
 no_some a e = absurd (let no : ⊥ = cc in no)
 
-module _ (most : ℕ) (behind : Packet → List Op) (stand : StandBehind behind)
-    (opened : (line answer : List ℕ) (k : Following) → Answers most behind None line answer (Some k) → HaveNothing k × AreStored nothing_stored k)
-    (on_line : (S : ℕ → List Op) (line answer : List ℕ) (k j : Following) → Answers most behind (Some k) line answer (Some j) → AreStored S k → AreStored S j)
-    (on_commit : (S : ℕ → List Op) (k : Following) → AreStored S k → AreStored (stored_also S (unstored_of k)) (all_stored k))
-    (marked : (k : Following) (n : ℕ) (r : Replica) → n < 256 → with_number k.world.replicas n ≡ Some r → stored_mark_at (all_stored k) n ≡ length r.buffer)
-    (on_restore : (k : Following) (packets : List Packet) → HaveNothing k → AreStored (stored_also nothing_stored (map (packet_by_ops behind) packets)) (all_stored (restored behind k packets)))
-    (known : (S : ℕ → List Op) (k : Following) (n : ℕ) (r : Replica) → n < 256 → AreStored S k → with_number k.world.replicas n ≡ Some r → stored_mark_at k n ≡ length r.buffer → table_of (S n) ≡ table_of r.taken) where
+-- what lines and commits do to what is stored
+pub record StoredLaws (most : ℕ) (behind : Packet → List Op) : Type 0 where
+  pub opened : (line answer : List ℕ) (k : Following) → Answers most behind None line answer (Some k) → HaveNothing k × AreStored nothing_stored k
+  pub line : (S : ℕ → List Op) (line answer : List ℕ) (k j : Following) → Answers most behind (Some k) line answer (Some j) → AreStored S k → AreStored S j
+  pub stored : (S : ℕ → List Op) (k : Following) → AreStored S k → AreStored (stored_also S (unstored_of k)) (all_stored k)
+  pub full : (k : Following) → AreStored (stored_also nothing_stored (full_packets_of k)) (all_stored k)
+  pub marked : (k : Following) (n : ℕ) (r : Replica) → n < 256 → with_number k.world.replicas n ≡ Some r → stored_mark_at (all_stored k) n ≡ length r.buffer
+  pub restored_so : (k : Following) (packets : List Packet) → HaveNothing k → AreStored (stored_also nothing_stored (map (packet_by_ops behind) packets)) (all_stored (restored behind k packets))
+  pub listed_so : (line answer : List ℕ) (k j : Following) → Answers most behind (Some k) line answer (Some j) → numbers_listed (Some j) ≡ numbers_listed (Some k)
+  pub known : (S : ℕ → List Op) (k : Following) (n : ℕ) (r : Replica) → n < 256 → AreStored S k → with_number k.world.replicas n ≡ Some r → stored_mark_at k n ≡ length r.buffer
+      → table_of (S n) ≡ table_of r.taken
+
+module _ (most : ℕ) (behind : Packet → List Op) (stand : StandBehind behind) (laws : StoredLaws most behind) where
   -- at the opening
 
   module _ (k : Following) (ps : List Packet) (possible : Possible ps) where
@@ -126,28 +135,28 @@ module _ (most : ℕ) (behind : Packet → List Op) (stand : StandBehind behind)
       stored = λ n r lt there.
           let is : is_listed n (numbers_listed (Some k)) ≡ true =
           ap (is_listed n) (sym (same_restored behind k.world begun_with)) ∙ listed (restored_world behind k.world begun_with).replicas n r there in
-          rw is (on_restore k begun_with nothing n r lt there);
+          rw is (laws.restored_so k begun_with nothing n r lt there);
       knows = λ n. chosen_knows n (is_listed n (numbers_listed (Some k))) refl;
     }
 
   -- at a line
 
   module _ (label : List ℕ) (content : Option (List ℕ)) where
-    after_line : (old mid : Option Following) (s t : Durable) (line answer : List ℕ) → ((k : Following) → old ≡ Some k → Kept k s.packets)
+    pub holds_after_line : (old mid : Option Following) (s t : Durable) (line answer : List ℕ) → ((k : Following) → old ≡ Some k → Kept k s.packets)
         → Answers most behind old line answer mid → GoesOn behind label content s old mid t → Holds t
-    after_line None None s t line answer h a on = λ j e. no_some j (sym (ap (λ (x : Durable). x.following) on) ∙ e)
-    after_line None (Some k) s t line answer h a on = λ j e.
-        let begun = begins k t.packets on.can_be (opened line answer k a).0 in
+    holds_after_line None None s t line answer h a on = λ j e. no_some j (sym (ap (λ (x : Durable). x.following) on) ∙ e)
+    holds_after_line None (Some k) s t line answer h a on = λ j e.
+        let begun = begins k t.packets on.can_be (laws.opened line answer k a).0 in
         let is : j ≡ all_stored (restored behind k (begun_with k t.packets on.can_be)) = sym (some_is on.begun j (sym on.is ∙ e)) ∙ on.restores.is in
         subst (λ (i : Following). Kept i t.packets) (sym is) begun
-    after_line (Some k) None s t line answer h a on = λ j e. no_some j (sym (ap (λ (x : Durable). x.following) on) ∙ e)
-    after_line (Some k) (Some i) s t line answer h a on = λ j e.
+    holds_after_line (Some k) None s t line answer h a on = λ j e. no_some j (sym (ap (λ (x : Durable). x.following) on) ∙ e)
+    holds_after_line (Some k) (Some i) s t line answer h a on = λ j e.
         let kept = h k refl in
         let is : j ≡ i = sym (some_is i j (sym (ap (λ (x : Durable). x.following) on) ∙ e)) in
         let packets : t.packets ≡ s.packets = ap (λ (x : Durable). x.packets) on in
         record {
           set = kept.set;
-          stored = subst (AreStored kept.set) (sym is) (on_line kept.set line answer k i a kept.stored);
+          stored = subst (AreStored kept.set) (sym is) (laws.line kept.set line answer k i a kept.stored);
           knows = λ n. ap (recovered n) packets ∙ kept.knows n;
         }
 
@@ -156,7 +165,7 @@ module _ (most : ℕ) (behind : Packet → List Op) (stand : StandBehind behind)
 
     after_taken : (s t : Durable) (line answer : List ℕ) → Holds s → IsTaken Step s line answer t → Holds t
     after_taken s t line answer h (inl skipped) = subst Holds (sym skipped.1) h
-    after_taken s t line answer h (inr a) = after_line s.following a.mid s t line answer h a.answered a.goes_on
+    after_taken s t line answer h (inr a) = holds_after_line s.following a.mid s t line answer h a.answered a.goes_on
 
     after_run : (s t : Durable) (lines : List (List ℕ)) (text : List ℕ) → Holds s → Run Step s lines text t → Holds t
     after_run s t [] text h r = subst Holds (sym r.1) h
@@ -164,21 +173,46 @@ module _ (most : ℕ) (behind : Packet → List Op) (stand : StandBehind behind)
 
     -- at a commit
 
-    commits : (o : Option Following) (s : Durable) → ((k : Following) → o ≡ Some k → Kept k s.packets) → Holds (with_unstored s o) × AreRecoverable (with_unstored s o)
-    commits None s h = (λ j e. no_some j e, λ j n r lt e there. no_some j e)
-    commits (Some k) s h =
-        let kept = h k refl in
-        let S = stored_also kept.set (unstored_of k) in
-        let stored = on_commit kept.set k kept.stored in
-        let knows : (n : ℕ) → recovered n (s.packets ++ map seen_packet (unstored_of k)) ≡ table_of (S n) = λ n. recovered_more n s.packets (unstored_of k) (kept.set n) (kept.knows n) in (
-          λ j e. subst (λ (i : Following). Kept i (s.packets ++ map seen_packet (unstored_of k))) (some_is (all_stored k) j e) (record { set = S; stored = stored; knows = knows }),
-          λ j n r lt e there.
-              let here : with_number k.world.replicas n ≡ Some r = ap (λ (i : Following). with_number i.world.replicas n) (some_is (all_stored k) j e) ∙ there in
-              knows n ∙ known S (all_stored k) n r lt stored here (marked k n r lt here),
-        )
+    -- all is stored, by these packets
+    all_known : (k : Following) (ps : List Packet) (S : ℕ → List Op) → AreStored S (all_stored k) → ((n : ℕ) → recovered n ps ≡ table_of (S n))
+        → (n : ℕ) (r : Replica) → n < 256 → with_number k.world.replicas n ≡ Some r → recovered n ps ≡ table_of r.taken
+    all_known k ps S stored knows n r lt here = knows n ∙ laws.known S (all_stored k) n r lt stored here (laws.marked k n r lt here)
 
-    after_commit : (s t : Durable) → Holds s → DurableCommits s t → Holds t × AreRecoverable t
-    after_commit s t h c = subst (λ (x : Durable). Holds x × AreRecoverable x) (sym c) (commits s.following s h)
+    recoverable : (k : Following) (t : Durable) (S : ℕ → List Op) → t.following ≡ Some (all_stored k) → AreStored S (all_stored k) → ((n : ℕ) → recovered n t.packets ≡ table_of (S n))
+        → Holds t × AreRecoverable t
+    recoverable k t S following stored knows = (
+      λ j e. subst (λ (i : Following). Kept i t.packets) (some_is (all_stored k) j (sym following ∙ e)) (record { set = S; stored = stored; knows = knows }),
+      λ j n r lt e there.
+          let here : with_number k.world.replicas n ≡ Some r = ap (λ (i : Following). with_number i.world.replicas n) (some_is (all_stored k) j (sym following ∙ e)) ∙ there in
+          all_known k t.packets S stored knows n r lt here,
+    )
+
+    -- what is added, and what would be put in the place of all
+    more_known : (k : Following) (ps : List Packet) (kept : Kept k ps) (n : ℕ) → recovered n (ps ++ map seen_packet (unstored_of k)) ≡ table_of (stored_also kept.set (unstored_of k) n)
+    more_known k ps kept n = recovered_more n ps (unstored_of k) (kept.set n) (kept.knows n)
+
+    full_known : (k : Following) (n : ℕ) → recovered n (map seen_packet (full_packets_of k)) ≡ table_of (stored_also nothing_stored (full_packets_of k) n)
+    full_known k n = recovered_more n [] (full_packets_of k) [] refl
+
+    pub known_alike : (k : Following) (ps : List Packet) → Kept k ps → AreKnownAlike (numbers_listed (Some k)) (map seen_packet (full_packets_of k)) (ps ++ map seen_packet (unstored_of k))
+    known_alike k ps kept n lt m =
+        let its = there k.world.replicas n m in
+        all_known k (map seen_packet (full_packets_of k)) (stored_also nothing_stored (full_packets_of k)) (laws.full k) (full_known k) n its.0 lt its.1
+        ∙ sym (all_known k (ps ++ map seen_packet (unstored_of k)) (stored_also kept.set (unstored_of k)) (laws.stored kept.set k kept.stored) (more_known k ps kept) n its.0 lt its.1)
+
+    adds : (o : Option Following) (s : Durable) → ((k : Following) → o ≡ Some k → Kept k s.packets) → Holds (with_unstored s o) × AreRecoverable (with_unstored s o)
+    adds None s h = (λ j e. no_some j e, λ j n r lt e there. no_some j e)
+    adds (Some k) s h =
+        let kept = h k refl in
+        recoverable k (with_unstored s (Some k)) (stored_also kept.set (unstored_of k)) refl (laws.stored kept.set k kept.stored) (more_known k s.packets kept)
+
+    puts : (o : Option Following) (s : Durable) → Holds (with_full s o) × AreRecoverable (with_full s o)
+    puts None s = (λ j e. no_some j e, λ j n r lt e there. no_some j e)
+    puts (Some k) s = recoverable k (with_full s (Some k)) (stored_also nothing_stored (full_packets_of k)) refl (laws.full k) (full_known k)
+
+    pub after_commit : (s t : Durable) → Holds s → DurableCommits s t → Holds t × AreRecoverable t
+    after_commit s t h (inl c) = subst (λ (x : Durable). Holds x × AreRecoverable x) (sym c) (adds s.following s h)
+    after_commit s t h (inr c) = subst (λ (x : Durable). Holds x × AreRecoverable x) (sym c) (puts s.following s)
 
     after_groups : (s t : Durable) (groups : List LineGroup) → Holds s → AreRecoverable s → Groups Step DurableCommits s groups t → AreRecoverable t
     after_groups s t [] h kept e = subst AreRecoverable (sym e) kept

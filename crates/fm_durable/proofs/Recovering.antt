@@ -52,11 +52,18 @@ values_seen n [] = refl
 values_seen n (u ∷ us) =
     seen_one (u.sender == n) u (filter (λ (q : Packet). q.sender == n) (map seen_packet us)) (filter (λ (q : Sent). q.sender == n) us) (values_seen n us)
 
+-- what was known by the first packets, and by the others as well
+recovered_append : (n : ℕ) (ps qs : List Packet) → recovered n (ps ++ qs) ≡ joined_from (recovered n ps) (values_of n qs)
+recovered_append n ps qs = ap joined_all (values_append n ps qs) ∙ from_append (table_of []) (values_of n ps) (values_of n qs)
+
+-- packets by which the same was known, and the same packets more
+pub recovered_alike : (n : ℕ) (ps qs more : List Packet) → recovered n ps ≡ recovered n qs → recovered n (ps ++ more) ≡ recovered n (qs ++ more)
+recovered_alike n ps qs more is = recovered_append n ps more ∙ ap (λ k. joined_from k (values_of n more)) is ∙ sym (recovered_append n qs more)
+
 -- by packets that are added as well, a coordinator knew these sets as well
 pub recovered_more : (n : ℕ) (ps : List Packet) (us : List Sent) (S : List Op) → recovered n ps ≡ table_of S → recovered n (ps ++ map seen_packet us) ≡ table_of (S ++ union (sets_from n us))
 recovered_more n ps us S is =
-    ap joined_all (values_append n ps (map seen_packet us))
-    ∙ from_append (table_of []) (values_of n ps) (values_of n (map seen_packet us))
+    recovered_append n ps (map seen_packet us)
     ∙ ap (λ k. joined_from k (values_of n (map seen_packet us))) is
     ∙ ap (joined_from (table_of S)) (values_seen n us)
     ∙ union_from S (sets_from n us)

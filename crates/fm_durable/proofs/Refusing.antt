@@ -21,7 +21,7 @@ acts_not label device service (Some k) (Some j) h i = (refl, refl)
 module _ {T : Type 0} (model : T → DeviceModel) where
   -- the same, with another service
   abbrev pub with_service : DurableService T → StreamService → DurableService T
-  with_service old service = record { alloc = old.alloc; service = service; label = old.label; device = old.device; fault = old.fault }
+  with_service old service = record { alloc = old.alloc; service = service; label = old.label; device = old.device; fault = old.fault; growth = old.growth }
 
   refused_same : (old : DurableService T) (line answer : List ℕ) → AnswersSo old.service line answer old.service → AnswersDurably model old line answer old
   refused_same old line answer so = record {

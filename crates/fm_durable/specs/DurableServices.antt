@@ -1,10 +1,11 @@
 -- The responder to the lines of a stream that has a store: what it does at a line and at a commit.
-use Rattle.std.specs.Prelude.{◌≡◌, ◌≤◌, ◌++◌, ℕ, List, length, All, Option, Some, None, IfSome, string_bytes}
+use Rattle.std.specs.Prelude.{◌≡◌, ◌≤◌, ◌<◌, ◌++◌, ℕ, List, length, All, Option, Some, None, IfSome, string_bytes}
 use Rattle.fm_records.specs.declared.ops.Op.{Op}
 use Rattle.fm_records.specs.Ranges.{CanBe}
+use Rattle.fm_records.specs.Sets.{IsMember}
 use Rattle.fm_delta.specs.declared.packet.Packet.{Packet}
 use Rattle.fm_store.specs.Heads.{HeadModel}
-use Rattle.fm_store.specs.Stores.{IsStoreOf, HasStoreOf, AreFoundIn}
+use Rattle.fm_store.specs.Stores.{IsStoreOf, HasStoreOf, AreFoundIn, recovered}
 use Rattle.fm_service.specs.declared.stream_service.StreamService.{StreamService}
 use Rattle.fm_service.specs.StreamSteps.{Following, StandBehind}
 use Rattle.fm_service.specs.Sessions.{IsIn, AnswersSo}
@@ -42,6 +43,22 @@ HoldsFront device head packets = IfSome device.content (HasStoreFront head packe
 -- these packets are found in the bytes, and maybe more
 abbrev pub HasStoreWith : HeadModel → List Packet → List ℕ → Type 0
 HasStoreWith head packets all = (added : List Packet) × (len : ℕ) × HasStoreOf head (packets ++ added) len all
+
+-- each of these coordinators, whose number is a byte, would know the same by either packets
+abbrev pub AreKnownAlike : List ℕ → List Packet → List Packet → Type 0
+AreKnownAlike numbers ps qs = (n : ℕ) → n < 256 → IsMember n numbers → recovered n ps ≡ recovered n qs
+
+-- packets are found in the bytes by which each coordinator of the head would know what it would by these, and maybe more
+pub record HasStoreAlike (head : HeadModel) (packets : List Packet) (all : List ℕ) : Type 0 where
+  pub found : List Packet
+  pub added : List Packet
+  pub len : ℕ
+  pub has : HasStoreOf head found len all
+  pub alike : AreKnownAlike head.numbers found (packets ++ added)
+
+-- whatever each coordinator of a store would know by what it held, it would know by what it holds, and maybe more
+abbrev pub KeepsKnown : DeviceModel → DeviceModel → Type 0
+KeepsKnown old new = (head : HeadModel) (packets : List Packet) (len : ℕ) → IfSome old.content (HasStoreOf head packets len) → IfSome new.content (HasStoreAlike head packets)
 
 -- whatever packets were found in what it held, they are found in what it holds, and maybe more
 abbrev pub KeepsStores : DeviceModel → DeviceModel → Type 0

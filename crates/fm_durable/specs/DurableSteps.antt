@@ -1,6 +1,6 @@
 -- A stream whose coordinators' knowledge is in a store (this project's profile): its lines are answered as those of any stream, and answers go
 -- out once what they rest on is in the store.
-use Rattle.std.specs.Prelude.{◌≡◌, ◌<◌, ℕ, ◌++◌, ◌∷◌, List, [], map, ◌==◌, cond, All, Option, Some, None, IfSome}
+use Rattle.std.specs.Prelude.{◌≡◌, ◌⊎◌, ◌<◌, ℕ, ◌++◌, ◌∷◌, List, [], map, ◌==◌, cond, All, Option, Some, None, IfSome}
 use Rattle.std.specs.List.{flat_map, list_any}
 use Rattle.fm_records.specs.declared.ops.Op.{Op}
 use Rattle.fm_records.specs.Know.{table_of}
@@ -12,7 +12,7 @@ use Rattle.fm_world.specs.Worlds.{with_number}
 use Rattle.fm_store.specs.Heads.{HeadModel}
 use Rattle.fm_store.specs.Stores.{AreFoundIn, recovered}
 use Rattle.fm_service.specs.StreamSteps.{Following, Answers}
-use Rattle.fm_service.specs.Storing.{numbers_listed, unstored_of, all_stored, Restores}
+use Rattle.fm_service.specs.Storing.{numbers_listed, unstored_of, full_packets_of, all_stored, Restores}
 
 -- where such a stream is: where its lines led, and whose store it has, with which packets
 pub record Durable : Type 0 where
@@ -61,8 +61,13 @@ abbrev pub with_unstored : Durable → Option Following → Durable
 with_unstored s None = record { following = None; head = s.head; packets = s.packets }
 with_unstored s (Some k) = record { following = Some (all_stored k); head = s.head; packets = s.packets ++ map seen_packet (unstored_of k) }
 
+-- with all that each coordinator knows in the place of what the store has: compaction
+abbrev pub with_full : Durable → Option Following → Durable
+with_full s None = record { following = None; head = s.head; packets = s.packets }
+with_full s (Some k) = record { following = Some (all_stored k); head = s.head; packets = map seen_packet (full_packets_of k) }
+
 abbrev pub DurableCommits : Durable → Durable → Type 0
-DurableCommits s t = t ≡ with_unstored s s.following
+DurableCommits s t = (t ≡ with_unstored s s.following) ⊎ (t ≡ with_full s s.following)
 
 -- each coordinator, whose number is a byte, would know again, by its packets in the store, what it knows
 abbrev pub AreRecoverable : Durable → Type 0

@@ -14,7 +14,7 @@ use Rattle.fm_service.specs.StreamSteps.{Following}
 use Rattle.fm_durable.specs.declared.durable_stream.DurableFault.{DurableFault}
 use Rattle.fm_durable.specs.declared.durable_stream.DurableFault.TheVariants.{Refused, Store}
 use Rattle.fm_durable.specs.DurableSteps.{Durable, not_opened, DurableAnswers, DurableCommits, AreRecoverable}
-use Rattle.fm_durable.specs.DurableServices.{DeviceModel, HoldsStore, HoldsFront, KeepsStores}
+use Rattle.fm_durable.specs.DurableServices.{DeviceModel, HoldsStore, HoldsFront, KeepsKnown}
 
 -- what is returned of a stream whose groups ended so
 abbrev pub EndsAs : {T : Type 0} → Result T StreamFault → Result T DurableFault → Type 0
@@ -39,7 +39,8 @@ HoldsAtEnd ended old new kept = HoldsCommitted old new kept.following kept.head 
 
 -- a stream was followed: what was read of it, and how its groups ended; the groups that were committed, where this led, and that each
 -- coordinator would know again what it knows; the lines that were run after that, if their commit failed; and the answers of the committed
--- groups, of which as much went out as is said, and none of the others. However it ended, what was found on the device before is found there
+-- groups, of which as much went out as is said, and none of the others. However it ended, what coordinators would know by the device before,
+-- they would know by it
 pub record IsFollowedDurably {T : Type 0} (most : ℕ) (behind : Packet → List Op) (label : List ℕ) (result : Result T DurableFault) (old new : DeviceModel) (streams : Streams) : Type 0 where
   pub text : List ℕ
   pub read : Consumes streams.given streams.left text
@@ -53,4 +54,4 @@ pub record IsFollowedDurably {T : Type 0} (most : ℕ) (behind : Packet → List
   pub followed : AreRun ended text (lines_in groups ++ last) streams
   pub went : AreSent ended (answers_in groups) streams
   pub holds : HoldsAtEnd ended old new kept
-  pub keeps : KeepsStores old new
+  pub keeps : KeepsKnown old new

@@ -1,7 +1,9 @@
 //! The responder to the lines of a stream that has a store.
 //!
 //! The first line that is accepted lists the coordinators, and with that it is known whose store it must be: then it is opened, and the
-//! coordinators begin with what it has. A store that cannot be used ends the stream: the commit fails, and so no answer goes out.
+//! coordinators begin with what it has. A commit adds what is not in the store yet. Once the store has grown enough (`growth`), it puts
+//! all that is known in the place of what the store has. A store that cannot be used ends the stream: the commit fails, and so no answer
+//! goes out.
 
 ghost use Rattle.std.specs.Prelude.{◌≡◌, ◌++◌, List, [], true, false, Option, Some, None, IfOk, OnOk, OnErr, string_bytes};
 ghost use Rattle.fm_delta.specs.declared.packet.Packet.{Packet};
@@ -10,8 +12,9 @@ ghost use Rattle.fm_service.specs.StreamSteps.{Following};
 ghost use Rattle.fm_service.specs.Sessions.{IsIn};
 ghost use Rattle.fm_durable.specs.DurableSteps.{store_head};
 ghost use Rattle.fm_durable.specs.DurableServices.{HoldsStore, HoldsFront, KeepsStores, Reopens, model_of};
-ghost use Rattle.fm_durable.specs.inner.CommitSteps.{CommitsSo};
+ghost use Rattle.fm_durable.specs.inner.CommitSteps.{CommitsSo, StoresSo};
 
+use crate::growth::Growth;
 use crate::known_packets::{known_packets, law_possible};
 use fm_delta::packet::Packet;
 use fm_io::committer::{Committer, NotCommitted};
@@ -20,7 +23,7 @@ use fm_records::refusal::Refusal;
 use fm_service::stream_service::StreamService;
 use fm_store::device::Device;
 use fm_store::head::Head;
-use fm_store::store::{append_packet, open_store};
+use fm_store::store::{append_packet, open_store, rewrite_store};
 use fm_store::store_fault::StoreFault;
 use std::alloc::Global;
 
@@ -32,6 +35,7 @@ pub struct DurableService<D> {
     pub(crate) label: String,
     pub(crate) device: D,
     pub(crate) fault: Option<StoreFault>,
+    pub(crate) growth: Growth,
 }
 
 impl<D: Device> DurableService<D> {
@@ -55,6 +59,7 @@ impl<D: Device> DurableService<D> {
             label,
             device,
             fault: None,
+            growth: Growth::none(),
         }
     }
 
@@ -94,6 +99,7 @@ impl<D: Device> DurableService<D> {
         law_possible(&packets);
         let numbers = self.service.numbers(self.alloc)?;
         let known = known_packets(self.alloc, &numbers, &packets)?;
+        self.growth = Growth::of(&packets, &known);
         match self.service.begin_with(known) {
             Ok(()) => Ok(()),
             Err(_) => Err(StoreFault::OutOfMemory),
@@ -113,8 +119,8 @@ impl<D: Device> DurableService<D> {
         }
     }
 
-    // Adds to the store what is not in it yet, and brings it onto the disk.
-    fn add_unstored(&mut self) -> Result<(), StoreFault>
+    // Brings what is not in the store yet into it, on the disk too.
+    fn store_unstored(&mut self) -> Result<(), StoreFault>
         ensures ok { OnOk result (CommitsSo (model_of D.content D.synced) self.old self.new) }
         ensures err { (head : HeadModel) (ps : List Packet)
             → HoldsStore (model_of D.content D.synced self.old.device) head ps
@@ -126,8 +132,56 @@ impl<D: Device> DurableService<D> {
             return Err(fault);
         }
         let packets = self.service.unstored(self.alloc)?;
-        append_all(self.alloc, &mut self.device, &packets)?;
+        if self.growth.is_due(&packets) {
+            return self.compact(&packets);
+        }
+        self.add(&packets)
+    }
+
+    // Compacts the store, or adds the packets if there is no memory for that.
+    fn compact(&mut self, packets: &[Packet]) -> Result<(), StoreFault>
+        ensures ok { OnOk result (StoresSo (model_of D.content D.synced) packets.now self.old self.new) }
+        ensures err { (head : HeadModel) (ps : List Packet)
+            → HoldsStore (model_of D.content D.synced self.old.device) head ps
+            → OnErr result (HoldsFront (model_of D.content D.synced self.new.device) head ps) }
+    {
+        match self.put_full() {
+            Err(StoreFault::OutOfMemory) => {
+                self.growth.put_off();
+                self.add(packets)
+            }
+            done => done,
+        }
+    }
+
+    // Puts all that is known in the place of what the store has.
+    fn put_full(&mut self) -> Result<(), StoreFault>
+        ensures ok { (packets : List Packet)
+            → OnOk result (StoresSo (model_of D.content D.synced) packets self.old self.new) }
+        ensures device { OnErr result
+            (model_of D.content D.synced self.new.device ≡ model_of D.content D.synced self.old.device) }
+        ensures rest { OnErr result ((self.new.service ≡ self.old.service) × (self.new.label ≡ self.old.label)
+            × (self.new.fault ≡ self.old.fault)) }
+    {
+        let head = self.head()?;
+        let packets = self.service.full_packets(self.alloc)?;
+        rewrite_store(self.alloc, &mut self.device, &head, &packets)?;
         self.service.mark_stored();
+        self.growth = Growth::of(&packets, &packets);
+        Ok(())
+    }
+
+    // Adds the packets to what the store has.
+    fn add(&mut self, packets: &[Packet]) -> Result<(), StoreFault>
+        ensures ok { OnOk result (StoresSo (model_of D.content D.synced) packets.now self.old self.new) }
+        ensures none { packets.now ≡ [] → self.new.device ≡ self.old.device }
+        ensures err { (head : HeadModel) (ps : List Packet)
+            → HoldsStore (model_of D.content D.synced self.old.device) head ps
+            → OnErr result (HoldsFront (model_of D.content D.synced self.new.device) head ps) }
+    {
+        append_all(self.alloc, &mut self.device, packets)?;
+        self.service.mark_stored();
+        self.growth.add(packets);
         Ok(())
     }
 }
@@ -177,7 +231,7 @@ impl<D: Device> Committer for DurableService<D> {
     ghost fails = { λ old new. FailsSo (model_of D.content D.synced) old new };
 
     fn commit(&mut self) -> Result<(), NotCommitted> {
-        match self.add_unstored() {
+        match self.store_unstored() {
             Ok(()) => Ok(()),
             Err(fault) => {
                 self.fault = Some(fault);

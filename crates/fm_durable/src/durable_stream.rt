@@ -8,11 +8,11 @@ ghost use Rattle.fm_durable.specs.DurableServices.{model_of};
 ghost use Rattle.fm_durable.specs.DurableStreams.{EndsAs, IsFollowedDurably};
 
 use crate::durable_service::DurableService;
-use crate::laws::law_kept;
 use fm_io::group_commit::{StreamFault, follow_in_groups};
 use fm_io::sink::Sink;
 use fm_io::source::LineSource;
 use fm_records::refusal::Refusal;
+use fm_service::laws::law_stored;
 use fm_store::device::Device;
 use fm_store::store_fault::StoreFault;
 use std::alloc::Global;
@@ -30,9 +30,10 @@ pub enum DurableFault {
 /// `follow_in_groups` says, a line as `follow_stream` says. What a group changed is in the store on the device, on the disk,
 /// before its answers go out; so by the store each coordinator would know again what it knows. The store is opened once the
 /// coordinators are listed, and these begin with what it has. Its head has this label, and the coordinators as they were
-/// listed. The device is returned: however following ended, the packets that were found on it before are found on it. Refused
-/// with BadScript(0) if the source fails, with WriteFault if the sink does, and Store if the store cannot be used or added
-/// to: then no answer of that group goes out. After each of these no further line is read.
+/// listed. A store that has grown enough is compacted: one packet of all that each coordinator knows takes the place of all.
+/// The device is returned: however following ended, what each listed coordinator would have known by it before, it would
+/// know by it. Refused with BadScript(0) if the source fails, with WriteFault if the sink does, and Store if the store cannot
+/// be used or added to: then no answer of that group goes out. After each of these no further line is read.
 pub fn follow_durable<D: Device, S: LineSource, W: Sink>(
     alloc: Global,
     renew_after: usize,
@@ -53,7 +54,7 @@ pub fn follow_durable<D: Device, S: LineSource, W: Sink>(
           has_failed = W.has_failed sink.new;
         }) }
 {
-    law_kept();
+    law_stored();
     let mut service = DurableService::new(alloc, renew_after, label, device);
     let followed = follow_in_groups(alloc, &mut service, source, sink);
     let DurableService { device, fault, .. } = service;

@@ -10,8 +10,8 @@ ghost use Rattle.fm_durable.specs.DurableSteps.{Durable, not_opened, DurableAnsw
 use fm_service::laws::law_stored;
 
 /// What was committed is kept. Coordinators are listed by a stream's first lines and begin with what is found in the content of a
-/// device. Then, after each commit, each would know again by its packets in the store exactly what it knows: the packets that were found,
-/// and those that were added.
+/// device. Then, after each commit, each would know again by its packets in the store exactly what it knows: whether a commit adds packets
+/// to those that were found, or puts one of all that each coordinator knows in their place.
 pub fn law_kept()
     ensures { (most : ℕ) (behind : Packet → List Op) (label : List ℕ) (content : Option (List ℕ)) (groups : List LineGroup)
         (t : Durable) → StandBehind behind

@@ -1,7 +1,7 @@
 use Rattle.std.proofs.lemmas.Result.{err_from_is_err_and}
 use Rattle.fm_durable.specs.DurableServices.{model_of}
 use Rattle.fm_durable.proofs.Appending.{front_none}
-use Rattle.fm_durable.proofs.durable_service.DurableService.add_unstored.Goals as goal
+use Rattle.fm_durable.proofs.durable_service.DurableService.store_unstored.Goals as goal
 
 pub returns-in-Some-clause-err : goal.returns-in-Some-clause-err
 returns-in-Some-clause-err g c = front_none (model_of g.D.Device.content g.D.Device.synced c.args.self.now.device)
