@@ -2,8 +2,8 @@
 
 Those that change different functions are laid into one copy of the crate, and one check is asked for these functions. An edit counts as
 refused if the check says of a place inside the function that the edit changes that it is not proved, or refuses an answer of that
-function's proof. Any other is tried as the toolchain does, alone and from nothing: there any complaint counts, and over kept work that
-does not fit there would be one.
+function's proof. Any other is tried as the toolchain does, alone: there any complaint counts. So it is tried over what was kept only if the
+crate as it stands is proved over that, and from nothing if it is not refused there.
 """
 import os
 import pathlib
@@ -72,13 +72,24 @@ def refused_together(rt, crate, edits):
     with tempfile.TemporaryDirectory(prefix=f"rt-edits-{os.getpid()}-") as kept:
         checked.give(pathlib.Path(crate.folder), kept)
         for group in groups:
-            names = {bodies.name_of(place, texts) for _, places in group for place in places}
-            changed = {file: text for file, text in bodies.laid(group, texts).items() if text != texts[file]}
-            # what a round proves is kept for the next one
-            said = asked(rt, crate, names, changed, kept)
-            for edit, places in group:
-                if text := bodies.complaint_of(places, texts, said):
-                    yield edit, text
+            yield from refused_of(rt, crate, group, texts, kept)
+
+
+def refused_of(rt, crate, group, texts, kept):
+    """The same of edits of different functions, in one check. If that is no answer, as if one of them cannot be read, each half is asked for
+    alone."""
+    names = {bodies.name_of(place, texts) for _, places in group for place in places}
+    changed = {file: text for file, text in bodies.laid(group, texts).items() if text != texts[file]}
+    # what a check proves is kept for the next one
+    said = asked(rt, crate, names, changed, kept)
+    if not said and len(group) > 1:
+        middle = len(group) // 2
+        yield from refused_of(rt, crate, group[:middle], texts, kept)
+        yield from refused_of(rt, crate, group[middle:], texts, kept)
+        return
+    for edit, places in group:
+        if text := bodies.complaint_of(places, texts, said):
+            yield edit, text
 
 
 def is_refused(rt, kind):
@@ -95,7 +106,26 @@ def outcomes(rt, crate, edits, tell=lambda edit, outcome: None):
 
     for made, text in refused_together(rt, crate, [bodies.Edit(it) for it in of_paths]) if edits else ():
         settle(of_paths[made.path], (getattr(rt, "REFUSED", True), f"must-fail {crate.name}/{made.path.name}: refused, as it must be: {text[:160]}"))
-    for edit in edits:
-        if edit not in found:
-            settle(edit, rt.must_fail(crate, edit, ALONE))
+    left = [it for it in edits if it not in found]
+    for edit, outcome in tried_alone(rt, crate, left) if left else ():
+        settle(edit, outcome)
     return [found[it] for it in edits]
+
+
+def tried_alone(rt, crate, edits):
+    """The edits, each with what its try alone comes to."""
+    with tempfile.TemporaryDirectory(prefix=f"rt-edits-{os.getpid()}-") as room:
+        seed = pathlib.Path(room, "seed")
+        seed.mkdir()
+        checked.give(pathlib.Path(crate.folder), seed)
+        is_sound = any(seed.iterdir()) and rt.checked(crate, {}, ALONE, str(seed)).returncode == 0
+        for edit in edits:
+            outcome = over_seed(rt, crate, edit, seed) if is_sound else None
+            yield edit, outcome if outcome and is_refused(rt, outcome[0]) else rt.must_fail(crate, edit, ALONE)
+
+
+def over_seed(rt, crate, edit, seed):
+    """What the try of an edit over the seed comes to. The check gets a copy, since it adds to it."""
+    with tempfile.TemporaryDirectory(prefix=f"rt-edits-{os.getpid()}-") as over:
+        shutil.copytree(seed, over, copy_function=checked.same, dirs_exist_ok=True)
+        return rt.must_fail(crate, edit, ALONE, over)

@@ -7,6 +7,7 @@ import importlib.util
 import json
 import os
 import pathlib
+import shutil
 import subprocess
 import sys
 import tempfile
@@ -293,17 +294,39 @@ def refused():
             alone.append((edit, kept is not None))
             return edit == edits[1], "said of " + edit
 
+        def over(seed_status):
+            """A toolchain by whose check the crate as it stands is proved over what was kept, or is not."""
+            return types.SimpleNamespace(must_fail=must_fail, checked=lambda *_given: types.SimpleNamespace(returncode=seed_status))
+
         def ask(rt, crate, names, texts, kept):
             asked.append((sorted(names), texts["src/lib.rt"].count("9")))
             return "src/lib.rt:2:5: error: it is not proved that\n"
 
         crate = types.SimpleNamespace(name="crate", folder=name)
         with mock.patch.object(refusals, "asked", ask):
-            found = refusals.outcomes(types.SimpleNamespace(must_fail=must_fail), crate, edits, lambda *it: told.append(it))
+            found = refusals.outcomes(over(0), crate, edits, lambda *it: told.append(it))
         yield "one check for edits of different functions", asked == [(["one", "three", "two"], 3)]
         yield "what is not refused there is tried alone and from nothing", alone == [(edits[1], False), (edits[2], False)]
         yield "each has its own outcome", [kind for kind, _ in found] == [True, True, False] and found[0][1].startswith("must-fail crate/e0.edit: refused")
         yield "each is told once it is known", told == list(zip(edits, found))
+        for status, wanted in ((0, [(edits[1], True), (edits[2], True), (edits[2], False)]), (1, [(edits[1], False), (edits[2], False)])):
+            alone.clear()
+            (folder / "out/incremental/it").mkdir(parents=True, exist_ok=True)
+            with mock.patch.object(refusals, "asked", ask):
+                again = refusals.outcomes(over(status), crate, edits)
+            yield "over what was kept, if the crate is proved over that: %d" % status, (alone, again) == (wanted, found)
+        shutil.rmtree(folder / "out")
+        asked.clear()
+        alone.clear()
+
+        def ask_readable(rt, crate, names, texts, kept):
+            asked.append(sorted(names))
+            return "".join("src/lib.rt:%d:5: error: it is not proved that\n" % (3 * at + 2) for at in range(3)) if "three" not in names else ""
+
+        with mock.patch.object(refusals, "asked", ask_readable):
+            refusals.outcomes(over(0), crate, edits)
+        yield "without an answer each half is asked for", asked == [["one", "three", "two"], ["one"], ["three", "two"], ["two"], ["three"]]
+        yield "what cannot be read is tried alone", alone == [(edits[2], False)]
         with mock.patch.object(refusals, "asked", lambda *_given: ""):
             found = refusals.outcomes(types.SimpleNamespace(must_fail=lambda *_given: (False, "proved")), crate, edits)
         yield "what no try refuses is not refused", found == [(False, "proved")] * 3
