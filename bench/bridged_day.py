@@ -43,17 +43,17 @@ def lines(tasks):
 
 
 class Day:
-    """The day with a program and so many tasks, with a journal or without."""
+    """The day with a program and so many tasks, with a store or without."""
 
-    def __init__(self, program, tasks, journal):
-        self.program, self.lines, self.journal = program, list(lines(tasks)), journal
+    def __init__(self, program, tasks, has_store):
+        self.program, self.lines, self.has_store = program, list(lines(tasks)), has_store
 
     def run(self):
         """Tells the day. Answers how many seconds it took, how many lines were answered, the states, and how the bridges ended."""
         with contextlib.ExitStack() as stack:
             folder = stack.enter_context(tempfile.TemporaryDirectory())
             broker = stack.enter_context(brokers.Broker(folder, ("allow_anonymous true",)))
-            words = ["--trace", "--end-wait", "120", *(["--journal", f"{folder}/journal"] if self.journal else [])]
+            words = ["--trace", "--end-wait", "120", *(["--store", f"{folder}/store"] if self.has_store else [])]
             bridge = stack.enter_context(brokers.Bridge(broker.port, 1, *words, program=self.program))
             other = stack.enter_context(brokers.Bridge(broker.port, 2, "--end-wait", "120", program=self.program))
             began = time.monotonic()
@@ -77,10 +77,10 @@ class Day:
             yield some
 
 
-def measured(program, tasks, journal):
+def measured(program, tasks, has_store):
     """Prints the figures of a day. Ends with status 1 if a line was not answered, or a state took too long."""
     os.environ["BENCH_BRIDGE_DAY"] = "yes"
-    day = Day(program, tasks, journal)
+    day = Day(program, tasks, has_store)
     took, answered, states, ended = day.run()
     large = [(1e9 * seconds / size, 1e9 * processor / size) for size, seconds, processor in states if size >= LEAST]
     print(f"{len(day.lines)} lines, {answered} answered ok in {took:.0f} s; ended {ended}")

@@ -1,8 +1,8 @@
 #!/usr/bin/env python3
 """Tests of bin/bridge on a real broker, by name, for tests/run: its words, its lines, its parts by themselves,
-journals, signals and TLS. Those of what it outlives are in tests/outlived.py, those of a day's use in
-tests/operated.py, those of what it relays in tests/relayed.py, and those of rounds that it runs by itself in
-tests/own_rounds.py.
+signals and TLS. Those of what it outlives are in tests/outlived.py, those of a day's use in tests/operated.py, those of
+its store and of old journals in tests/bridge_stores.py, those of what it relays in tests/relayed.py, and those of rounds
+that it runs by itself in tests/own_rounds.py.
 
     tests/bridged.py [--program FILE] [--kills N] [GROUP..]
 
@@ -15,7 +15,6 @@ import os
 import pathlib
 import shutil
 import signal
-import stat
 import subprocess
 import sys
 import tempfile
@@ -24,6 +23,7 @@ import time
 
 ROOT = pathlib.Path(__file__).resolve().parent.parent
 sys.path[:0] = [str(ROOT / "bench"), str(ROOT / "tests"), str(ROOT / "bin")]
+import bridge_stores
 import brokers
 import hostile
 import operated
@@ -140,9 +140,9 @@ def lines(program):
         bridge.write(b"\xff\n" + tell(1, {"job": hostile.OPERATIONS["job"]}) + b'{"at":1,"ask":"graph"}')
         end = b"refusal 16\nok\nc 1 S\np min 1 0\nok\n"
         yield "the end of lines without a line feed", bridge.end() == 0 and bridge.heard.endswith(end)
-    with running(program, [1], "--journal", "/dev/null/x") as (_, (bridge,)):
+    with running(program, [1], "--store", "/dev/null/x") as (_, (bridge,)):
         said = bridge.run.wait(timeout=30), [said["event"] for said in bridge.events()]
-        yield "a journal that cannot be", said == (16, ["failed"])
+        yield "a store that cannot be", said == (16, ["failed"])
 
 
 def divided(program):
@@ -243,39 +243,7 @@ def split(text, wanted):
         yield "lines that are read", found == wanted
 
 
-# journals, signals, and secrets
-
-def journals(program):
-    """A journal is cut where a line was not written whole, is rewritten as one packet, has a head, and one owner."""
-    told = list(cluster(3000))
-    with tempfile.TemporaryDirectory() as folder, running(program, []) as (broker, _):
-        file = pathlib.Path(folder) / "journal"
-        words = [*QUICK, "--claim-wait", "0", "--journal", str(file)]
-        with Bridge(broker.port, 1, *words, program=program) as bridge:
-            yield "told", told_to([bridge], told)
-            held = refused(broker.port, "--number", "2", "--claim-wait", "0", "--journal", str(file), program=program)
-            yield "a journal in use", is_refused(held, 16, b"in use")
-            bridge.kill()
-        found, lines_told = file.stat(), len(b"".join(tell(1, op) for op in told))
-        yield "it was written anew: %d bytes" % found.st_size, found.st_size < lines_told
-        yield "nobody else may read it", stat.S_IMODE(found.st_mode) == 0o600
-        with file.open("ab") as more:
-            more.write(tell(1, told[0])[:-20])
-        broker.kill()
-        broker.forget()
-        broker.start()
-        with Bridge(broker.port, 1, *words, program=program) as bridge:
-            yield "a line that was not written whole is dropped", agree([bridge], told) and told_to([bridge], told[:2])
-            bridge.kill()
-        with Bridge(broker.port, 1, *words, program=program) as bridge:
-            yield "and the next ones are whole", agree([bridge], told) and ended([bridge])
-        other = refused(broker.port, "--number", "2", "--claim-wait", "0", "--journal", str(file), program=program)
-        yield "a journal of another number", is_refused(other, 16, b"no journal of this")
-        with file.open("ab") as more:
-            more.write(b"garbage\n")
-        broken = refused(broker.port, "--number", "1", "--claim-wait", "0", "--journal", str(file), program=program)
-        yield "a line that is broken", is_refused(broken, 16, b"of the journal is answered by refusal 16")
-
+# signals, and secrets
 
 def signals(program):
     """SIGTERM ends a bridge once it sent what it has; with --stay it goes on at the end of its lines."""
@@ -346,10 +314,11 @@ def skipped(_program):
 
 
 GROUPS = {"parts": parts, "words": words, "lines": lines, "divided": divided, **outlived.GROUPS, **operated.GROUPS, **relayed.GROUPS,
-          **own_rounds.GROUPS, "journals": journals, "signals": signals, "secrets": secrets, "example": example, "skipped": skipped}
+          **own_rounds.GROUPS, **bridge_stores.GROUPS, "signals": signals, "secrets": secrets, "example": example, "skipped": skipped}
 
 # what the gate runs side by side, as groups of tests/run, since they mostly wait
-SIDES = {"brokered_lasting": (*operated.GROUPS, *relayed.GROUPS, *own_rounds.GROUPS, "journals", "signals", "secrets", "example", "skipped")}
+SIDES = {"brokered_lasting": (*operated.GROUPS, *relayed.GROUPS, *own_rounds.GROUPS, *bridge_stores.GROUPS, "signals", "secrets", "example",
+                              "skipped")}
 SIDES["brokered"] = tuple(it for it in GROUPS if not any(it in side for side in SIDES.values()))
 
 

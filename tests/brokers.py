@@ -185,11 +185,19 @@ class Bridge:
         """What it counted, if it said so."""
         return next((said["counts"] for said in reversed(self.events()) if "counts" in said), {})
 
+    def children(self):
+        """The processes that it started and that run."""
+        numbers = [int(place.name) for place in pathlib.Path("/proc").glob("[0-9]*")]
+        return [number for number in numbers if started_by(number) == self.run.pid]
+
     def kill(self):
+        """Kills it, and waits until its follower saw the end of its lines, so that a store is free."""
+        followers = self.children() if self.run.poll() is None else []
         if self.run.poll() is None:
             self.run.kill()
         self.run.wait(timeout=PATIENCE)
         self.reader.join(PATIENCE)
+        until(lambda: not any(map(started_by, followers)), 20)
 
     def end(self, patience=PATIENCE):
         """The status if there are no more lines."""
@@ -197,6 +205,16 @@ class Bridge:
         status = self.run.wait(timeout=patience)
         self.reader.join(patience)
         return status
+
+
+def started_by(process):
+    """Which process started one that runs, or 0 if it runs no more."""
+    try:
+        # behind the name, which may have any characters
+        state, parent = pathlib.Path(f"/proc/{process}/stat").read_text().rpartition(")")[2].split()[:2]
+    except OSError:
+        return 0
+    return int(parent) if state != "Z" else 0
 
 
 def have_one_graph(bridges, patience=PATIENCE):

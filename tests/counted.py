@@ -101,7 +101,7 @@ def once(allocator, program):
     """That a stream decides a round once, and joins a cut once: by what these took when it made them twice."""
     known = cluster(100)
     made = allocations(allocator, program, [*known, {"at": 1, "round": True}])
-    yield "a round of a stream that places 100 tasks makes %d allocations, where it made %d" % (made, ROUND_TWICE), 0 < 4 * made <= 3 * ROUND_TWICE
+    yield "a round of a stream that places 100 tasks makes %d allocations, where it made %d" % (made, ROUND_TWICE), 0 < 3 * made <= 2 * ROUND_TWICE
     made = allocations(allocator, program, [*known, {"at": 1, "news": True}])
     yield "news of a stream of 111 deltas make %d allocations, where they made %d" % (made, NEWS_TWICE), 0 < 3 * made <= 2 * NEWS_TWICE
 

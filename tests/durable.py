@@ -8,6 +8,7 @@ import os
 import pathlib
 import pwd
 import random
+import resource
 import shutil
 import signal
 import subprocess
@@ -29,6 +30,8 @@ KILLS = 60
 NO_SPACE, BROKEN = 28, 5
 # what an operator sees if the store cannot be used
 UNUSABLE = b"firmament: refusal 22"
+# a store with fewer bytes is not compacted
+LEAST = 1 << 20
 
 
 def spec(n):
@@ -258,6 +261,139 @@ def failing(program):
             yield name + ": a store by its page", is_whole(path)
 
 
+def versions(first, count, tasks):
+    """The lines that tell so many versions of each of so many tasks."""
+    def one(version, n):
+        fields = {"id": drawn.unique(1000 + n), "version": version, "writer": 1, "withdrawn": False, "job": JOB, "request": version % 1000}
+        return lined.line({"at": 1, "tell": {"spec": fields}}) + b"\n"
+
+    return b"".join(one(version, n) for version in range(first, first + count) for n in range(tasks))
+
+
+def compacted(program):
+    """A store in which most is superseded is compacted once it has twice the bytes, and says the same then."""
+    with folder() as place:
+        storing = Storing(program, place)
+        tasks, count = 1000, 44
+        text = OPEN + job() + versions(1, count, tasks)
+        (status, out, err), calls = storing.run(place / "store", text)
+        plain = lined.seen(program, text + GRAPH)
+        size = (place / "store").stat().st_size
+        yield "all answered", (status, err, out.count(b"ok\n")) == (0, b"", count * tasks + 2)
+        # if each line came alone, they would add six times as many bytes as a store must have
+        yield "it was compacted %d times" % calls.count("r"), 1 <= calls.count("r") <= 8
+        yield "it has %d bytes" % size, size < LEAST + (1 << 16)
+        yield "it is a store by its page", is_whole(place / "store")
+        yield "all is known again", answers_in(follow(program, place / "store", OPEN + GRAPH)[1])[-1] == answers_in(plain[1])[-1]
+    yield from compacted_at_once(program)
+    yield from compacted_after_renewals(program)
+
+
+def superseded(path, numbers=(1,)):
+    """A store in which the first packet is repeated, so that it is compacted at the first commit; answers how many bytes it has."""
+    records, _ = stored.read(path.read_bytes())
+    times = LEAST // (len(records[1]) + 49) + 1
+    path.write_bytes(stored.store("", list(numbers), records[1:] + [records[1]] * times))
+    return path.stat().st_size
+
+
+def compacted_at_once(program):
+    """A store that was found with twice the bytes is compacted by the first line that changes something, with its mode, under its lock."""
+    with folder() as place:
+        path = place / "store"
+        follow(program, path, OPEN + job() + specs(0, 100))
+        path.chmod(0o640)
+        before = superseded(path)
+        asked = follow(program, path, OPEN + GRAPH)
+        yield "questions leave it as it is", asked[0] == 0 and path.stat().st_size == before
+        with subprocess.Popen([program, "follow", "--store", str(path)], stdin=subprocess.PIPE, stdout=subprocess.PIPE) as first:
+            first.stdin.write(OPEN + specs(100, 1))
+            first.stdin.flush()
+            yield "the line is answered", [answered(first.stdout) for _ in range(2)] == [b"ok\n"] * 2
+            after = path.stat()
+            yield "it has %d bytes, and had %d" % (after.st_size, before), after.st_size < before / 20
+            yield "its mode stays", after.st_mode & 0o777 == 0o640
+            status, _, err = follow(program, path, OPEN)
+            yield "a second process is refused after that, too", status == 9 and err.startswith(UNUSABLE)
+            first.stdin.write(specs(101, 1))
+            first.stdin.flush()
+            yield "the next line is answered", answered(first.stdout) == b"ok\n"
+            first.stdin.close()
+        yield "all is known", known(program, path) == numbers(102)
+        yield "one packet of all, and those after it", len(stored.read(path.read_bytes())[0]) in (2, 3)
+
+
+def compacted_after_renewals(program):
+    """Renewals of several coordinators, each of which puts all that is known into the store, do not have it grow without end."""
+    opened = b'{"coordinators":[1,2]}\n'
+    with folder() as place:
+        path = place / "store"
+        both = b"".join(line + line.replace(b'"at":1', b'"at":2') for line in specs(0, 400).splitlines(keepends=True))
+        lines = [opened, job(), both, *[b'{"renew":true}\n'] * 60]
+        one_by_one(program, path, b"".join(lines).splitlines(keepends=True))
+        size = path.stat().st_size
+        yield "it has %d bytes" % size, size < LEAST + (1 << 17)
+        status, out, _ = follow(program, path, opened + b'{"ask":"agree"}\n' + LIST)
+        yield "both know all again", status == 0 and out.count(b"task ") == 400
+
+
+def compaction_fails(program):
+    """Each call of a compaction fails in turn, or the process is killed there: what was answered `ok` is known."""
+    text = [OPEN, *(spec(n) for n in range(100, 104))]
+    with folder() as place:
+        storing, path = Storing(program, place), place / "store"
+        follow(program, path, OPEN + job() + specs(0, 100))
+        superseded(path)
+        data = path.read_bytes()
+        _, calls = storing.run(path, b"".join(text))
+        count = sum(call in "wstr" for call in calls)
+        yield "a compaction is seen: %s" % calls, "r" in calls
+        ways = [{"ERROR": BROKEN}, {"ERROR": NO_SPACE, "SHORT": 1}, {"KILLS": 1}, {"KILLS": 2}]
+        for way, at in ((way, at) for way in ways for at in range(1, count + 1)):
+            path.write_bytes(data)
+            (status, out, err), _ = storing.run(path, b"".join(text), AT=at, **way)
+            name = "%s at call %d" % (way, at)
+            fine = status == -signal.SIGKILL if "KILLS" in way else status == 9 and err.startswith(UNUSABLE)
+            oks = sum(answer == b"ok\n" for answer in answers_in(out))
+            found = known(program, path)
+            yield name + ": ended as it should", fine
+            yield name + ": nothing lost", found[:100 + max(0, oks - 1)] == numbers(100 + max(0, oks - 1))
+            yield name + ": nothing from nowhere", found == numbers(len(found))
+            yield name + ": a store by its page", is_whole(path)
+
+
+def full(program):
+    """A disk that is full: no answer goes out that the store does not back, and once there is room all that was answered is known."""
+    text = OPEN + job() + specs(0, 40)
+    for name, room in rooms():
+        with room as (place, limit, more):
+            path = place / "store"
+            oks = 0
+            for turn in range(200):
+                status, out, err = follow(program, path, OPEN + specs(oks, 40), preexec_fn=limit, restore_signals=False)
+                if status:
+                    break
+                oks += 40
+            yield "%s: it is full after %d tasks" % (name, oks), status == 9 and out in (b"", b"ok\n") and err.startswith(UNUSABLE) and oks > 0
+            more()
+            yield "%s: nothing lost" % name, known(program, path)[:oks] == numbers(oks)
+            follow(program, path, text)
+            yield "%s: with more room it goes on" % name, known(program, path)[:max(oks, 40)] == numbers(max(oks, 40)) and is_whole(path)
+
+
+def rooms():
+    """Folders in which a file cannot grow for long, what a run there must be limited by, and what gives room."""
+    with folder() as place:
+        yield "a limit for files", contextlib.nullcontext((place, lambda: resource.setrlimit(resource.RLIMIT_FSIZE, (20000, 20000)), lambda: None))
+    with folder() as place:
+        if subprocess.run(["mount", "-t", "tmpfs", "-o", "size=64k", "tmpfs", place], stderr=subprocess.DEVNULL).returncode == 0:
+            try:
+                (place / "ballast").write_bytes(bytes(20000))
+                yield "a small disk", contextlib.nullcontext((place, None, (place / "ballast").unlink))
+            finally:
+                subprocess.run(["umount", place], check=True)
+
+
 def cut_off(program):
     """Whatever front of a store's last bytes a crash leaves, and whatever zeros behind it, the rest is known, with a word."""
     with folder() as place:
@@ -296,6 +432,11 @@ def unusable(program):
             yield name + ": unchanged", path.read_bytes() == content
         seen = follow(program, place, OPEN)
         yield "a folder", seen[0] == 9 and seen[1] == b"" and seen[2].startswith(UNUSABLE)
+        os.mkfifo(place / "pipe")
+        (place / "link").symlink_to(path)
+        for name, other in (("a pipe", place / "pipe"), ("a device without an end", "/dev/full"), ("a symbolic link", place / "link")):
+            status, out, err = follow(program, other, OPEN)
+            yield name, (status, out) == (9, b"") and err.startswith(UNUSABLE)
         seen = follow(program, place / "none" / "store", OPEN)
         yield "a folder that is not there", seen[0] == 9 and seen[2].startswith(UNUSABLE)
         yield from locked(program, place / "locked")
@@ -351,7 +492,8 @@ def quick(program):
         yield "%d lines in %.2f s, and in %.2f s without a store" % (count, kept, plain), kept < 3 * plain + 2
 
 
-GROUPS = {test.__name__: test for test in (alike, again, trimmed, not_awaited, in_order, failing, cut_off, unusable, killed, quick)}
+GROUPS = {test.__name__: test for test in (
+    alike, again, trimmed, not_awaited, in_order, failing, compacted, compaction_fails, full, cut_off, unusable, killed, quick)}
 
 
 def all_tests(program, names=tuple(GROUPS)):

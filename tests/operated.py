@@ -1,5 +1,5 @@
 """Tests of bin/bridge as an operator uses it for a day, by name, for tests/bridged.py: long lines, slow readers, followers that hang,
-damaged journals, and many clients."""
+and many clients."""
 import contextlib
 import fcntl
 import os
@@ -329,8 +329,8 @@ def unknown_kinds(program):
     told = list(cluster(11))
     with tempfile.TemporaryDirectory() as folder, running(program, [2]) as (broker, (other,)):
         newer = made(folder, "newer", UNKNOWN_KINDS.format(program=str(program)))
-        journal = ["--journal", f"{folder}/journal"]
-        with Bridge(broker.port, 1, *QUICK, *journal, program=newer) as bridge:
+        store = ["--store", f"{folder}/store"]
+        with Bridge(broker.port, 1, *QUICK, *store, program=newer) as bridge:
             yield "one that changes nothing", bridge.ask('{"at":1,"quiet":true}') == b"as you like\nok\n"
             yield "one that cuts a packet", bridge.ask('{"at":1,"packet":{}}').endswith(b"\nok\n")
             bridge.heard.clear()
@@ -344,85 +344,8 @@ def unknown_kinds(program):
         broker.kill()
         broker.forget()
         broker.start()
-        with Bridge(broker.port, 1, *QUICK, *journal, "--cut-interval", "3600", program=program) as bridge:
-            yield "all is in the journal", agree([bridge], told, 20)
-
-
-# journals
-
-PAGE = 4096
-
-
-def salvaged(program):
-    """A journal with a page of zeros is refused, and with --salvage what stands before the page is told, and the damaged file is kept."""
-    told = list(cluster(90))
-    lines = [tell(1, op) for op in told]
-    with tempfile.TemporaryDirectory() as folder, running(program, []) as (broker, _):
-        file = pathlib.Path(folder) / "journal"
-        words = [*QUICK, "--claim-wait", "0", "--journal", str(file)]
-        with Bridge(broker.port, 1, *words, program=program) as bridge:
-            yield "told", told_to([bridge], told)
-            bridge.kill()
-        broker.kill()
-        broker.forget()
-        broker.start()
-        whole = file.read_bytes()
-        for name, page in (("its head", 0), ("a page of its middle", len(whole) // 2 // PAGE)):
-            damaged = whole[:page * PAGE] + bytes(PAGE) + whole[(page + 1) * PAGE:]
-            before = damaged[:page * PAGE].count(b"\n") - 1 if page else 0
-            file.write_bytes(damaged)
-            found = refused(broker.port, "--number", "1", *words, program=program)
-            yield "%s is zero: %r" % (name, found[2]), is_refused(found, 16, b"--salvage")
-            with Bridge(broker.port, 1, *words, "--salvage", program=program) as bridge:
-                yield "%s is zero: the %d lines before it are told" % (name, before), agree([bridge], told[:before], 10)
-                yield "%s is zero: told again" % name, told_to([bridge], told[before:before + 2])
-                bridge.kill()
-            kept = sorted(pathlib.Path(folder).glob("journal.damaged-*"))
-            yield "%s is zero: the damaged file is kept" % name, bool(kept) and kept[-1].read_bytes() == damaged
-            goes_on = file.read_bytes().partition(b"\n")[2] == b"".join(lines[:before + 2])
-            yield "%s is zero: and the journal goes on" % name, goes_on
-            broker.kill()
-            broker.forget()
-            broker.start()
-        yield from kept_apart(broker, program, file, words)
-
-
-def kept_apart(broker, program, file, words):
-    """What is no damage of this journal is not salvaged."""
-    file.write_bytes(b'{"fetohamu": "journal", "cluster": "test", "number": 2}\n' + tell(2, next(cluster(0))))
-    before = file.read_bytes()
-    found = refused(broker.port, "--number", "1", *words, "--salvage", program=program)
-    yield "a journal of another number is not salvaged", is_refused(found, 16, b"no journal of this") and file.read_bytes() == before
-    found = refused(broker.port, "--number", "1", "--salvage", program=program)
-    yield "--salvage without a journal", is_refused(found, 2, b"--salvage")
-
-
-def full_disks(program):
-    """A journal that cannot be rewritten since the disk is full is rewritten later, and one that is a symbolic link stays one."""
-    # of members that it does not know a line may have many
-    told = [{kind: {**fields, "note": "x" * 8000} for kind, fields in op.items()} for op in cluster(90)]
-    with tempfile.TemporaryDirectory() as folder, running(program, []) as (broker, _):
-        place, link = pathlib.Path(folder) / "elsewhere", pathlib.Path(folder) / "journal"
-        place.mkdir()
-        link.symlink_to(place / "real")
-        # a device that is full stands where the file is to be written, by both names
-        for name in folder + "/journal.new", f"{place}/real.new":
-            os.symlink("/dev/full", name)
-        with Bridge(broker.port, 1, *QUICK, "--journal", str(link), program=program) as bridge:
-            yield "told on", all([told_to([bridge], told[first:first + 10]) for first in range(0, len(told), 10)])
-            texts = [said["text"] for said in bridge.events() if said["event"] == "journal"]
-            yield "that the disk was full is said: %s" % texts, len(texts) == 1 and "No space left" in texts[0]
-            bridge.kill()
-        size, lines_told = (place / "real").stat().st_size, sum(len(tell(1, op)) for op in told)
-        yield "it was rewritten later: %d bytes for %d" % (size, lines_told), size < lines_told
-        yield "the link is still a link", link.is_symlink()
-        broker.kill()
-        broker.forget()
-        broker.start()
-        with Bridge(broker.port, 1, *QUICK, "--journal", str(place / "real"), program=program) as bridge:
-            yield "nothing is lost", agree([bridge], told)
-            held = refused(broker.port, "--number", "2", "--claim-wait", "0", "--journal", str(link), program=program)
-            yield "it is in use by both names", is_refused(held, 16, b"in use")
+        with Bridge(broker.port, 1, *QUICK, *store, "--cut-interval", "3600", program=program) as bridge:
+            yield "all is in the store", agree([bridge], told, 20)
 
 
 # clients of a socket
@@ -558,9 +481,9 @@ def deaf_clients(_program):
             until(lambda: os.path.exists(path))
             with Talk(path) as deaf, Talk(path) as reader:
                 deaf.write(ASK * 300)
-                reader.write(ASK * 60)
-                found = reader.rest()
-                yield "one that reads has %d answers of 60" % found.count(b"ok\n"), found.count(b"ok\n") == 60
+                # each answer is read before the next line, since on a busy machine 60 at once may lie behind the bound unread
+                found = [len(reader.ask(ASK)) for _ in range(60)]
+                yield "one that reads has %d answers of 60" % found.count(1_000_004), found == [1_000_004] * 60
                 got = deaf.rest()
                 yield "one that does not read has %d bytes of 300 MB" % len(got), len(got) < 20 << 20
             yield "it took %d MB" % peak(run), peak(run) < MOST_MEGABYTES
@@ -572,5 +495,5 @@ def deaf_clients(_program):
 
 
 GROUPS = {"looked_at": looked_at, "slow_readers": slow_readers, "unread_errors": unread_errors, "memory_kept": memory_kept, "hangs": hangs,
-          "unknown_kinds": unknown_kinds, "salvaged": salvaged, "full_disks": full_disks, "clients": clients, "unfinished": unfinished,
+          "unknown_kinds": unknown_kinds, "clients": clients, "unfinished": unfinished,
           "deaf_clients": deaf_clients}

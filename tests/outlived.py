@@ -1,10 +1,14 @@
 """Tests of bin/bridge whatever happens to packets, bridges and the broker, by name, for tests/bridged.py: all
-coordinators come to one graph, that of the operations, and nothing is lost that was answered `ok` with a journal or
+coordinators come to one graph, that of the operations, and nothing is lost that was answered `ok` with a store or
 confirmed."""
 import contextlib
 import itertools
+import os
 import pathlib
 import random
+import shutil
+import signal
+import subprocess
 import tempfile
 import time
 
@@ -54,14 +58,14 @@ def rounds(program):
     outlasts a kill."""
     told = list(cluster(30))
     with tempfile.TemporaryDirectory() as folder, running(program, [2, 3], "--refresh", "3600") as (broker, bridges):
-        journal = ["--journal", f"{folder}/journal", "--state-interval", "3600"]
-        with Bridge(broker.port, 1, *QUICK, *journal, program=program) as bridge:
+        store = ["--store", f"{folder}/store"]
+        with Bridge(broker.port, 1, *QUICK, *store, "--state-interval", "3600", program=program) as bridge:
             yield "told", told_to([bridge], told)
             placed = bridge.ask({"at": 1, "round": True})
             won = bridge.ask({"at": 1, "ask": "winners"})
             yield "a round places", placed.count(b" accepted\n") > 9 and won.count(b" held\n") == placed.count(b" accepted\n")
             bridge.kill()
-        with Bridge(broker.port, 1, *QUICK, "--journal", f"{folder}/journal", program=program) as bridge:
+        with Bridge(broker.port, 1, *QUICK, *store, program=program) as bridge:
             yield "the same won after a kill", bridge.ask({"at": 1, "ask": "winners"}) == won
             yield "a round elsewhere", bridges[0].ask({"at": 2, "round": True}).endswith(b"ok\n")
             every = [bridge, *bridges]
@@ -72,11 +76,11 @@ def rounds(program):
 
 
 def rounds_alone(program):
-    """What a round placed on machines that others told of is in the journal, and not only that there was a round."""
+    """What a round placed is in the store, with the machines that others told of: both are known if nobody else says them again."""
     told = list(cluster(20))
     with tempfile.TemporaryDirectory() as folder, running(program, [2]) as (broker, (other,)):
-        journal = ["--journal", f"{folder}/journal"]
-        with Bridge(broker.port, 1, *QUICK, *journal, program=program) as bridge:
+        store = ["--store", f"{folder}/store"]
+        with Bridge(broker.port, 1, *QUICK, *store, program=program) as bridge:
             yield "told of tasks and of machines", told_to([bridge], told[:1] + told[11:]) and told_to([other], told[1:11])
             yield "one graph of both", agree([bridge, other], told)
             placed = bridge.ask({"at": 1, "round": True}).count(b" accepted\n")
@@ -85,16 +89,16 @@ def rounds_alone(program):
         broker.kill()
         broker.forget()
         broker.start()
-        with Bridge(broker.port, 1, *QUICK, *journal, program=program) as bridge:
-            yield "the places are known without the machines", placed > 9 and bridge.ask(
-                {"at": 1, "ask": "winners"}).count(b" free\n") == placed
+        with Bridge(broker.port, 1, *QUICK, *store, program=program) as bridge:
+            yield "the places are known, on machines that are", placed > 9 and bridge.ask(
+                {"at": 1, "ask": "winners"}).count(b" held\n") == placed
 
 
 def sent_later(program):
-    """What a journal has that was not sent comes to who was there, though that one does not ask for states again."""
+    """What a store has that was not sent comes to who was there, though that one does not ask for states again."""
     told = list(cluster(30))
     with tempfile.TemporaryDirectory() as folder, running(program, [2], "--refresh", "3600") as (broker, (other,)):
-        words = [*QUICK, "--journal", f"{folder}/journal"]
+        words = [*QUICK, "--store", f"{folder}/store"]
         with Bridge(broker.port, 1, *words, program=program) as bridge:
             yield "told and sent", told_to([bridge], told[:20]) and agree([bridge, other], told[:20])
             time.sleep(1)
@@ -176,34 +180,64 @@ def same_number(program):
 
 
 def kills(program, count=KILLS):
-    """A bridge with a journal is killed at drawn moments: nothing that was answered ok is lost, though it is never
-    told again."""
+    """A bridge with a store is killed at drawn moments, and its follower, and each of them alone: nothing that was answered ok is lost,
+    though it is never told again."""
     # enough lines for each time, since a bridge that has nothing to answer would be waited for in vain
     told, chance, place, rate = list(cluster(40 * count)), random.Random("kills"), 0, []
     with tempfile.TemporaryDirectory() as folder, running(program, [2]) as (broker, (other,)):
-        words = [*QUICK, "--claim-wait", "0.1", "--journal", f"{folder}/journal"]
-        for _ in range(count):
+        # the follower of one that was killed alone may have the store for a while
+        words = [*QUICK, "--claim-wait", "0.1", "--connect-wait", str(brokers.PATIENCE), "--store", f"{folder}/store"]
+        for turn in range(count):
             with Bridge(broker.port, 1, *words, program=program) as bridge:
                 bridge.write(b"".join(tell(1, op) for op in told[place:place + 40]))
                 # half of the kills come behind an answer, however slow the machine is, and the others at any moment
                 until(lambda: bridge.count() > 0, brokers.PATIENCE if chance.random() < 0.5 else chance.uniform(0, 1.5), pause=0.005)
                 time.sleep(chance.uniform(0, 0.1))
-                bridge.kill()
+                status = killed(bridge, turn % 3)
+                yield "kill %d: ended with %s" % (turn, status), status in ((-signal.SIGKILL, 15) if turn % 3 == 2 else (-signal.SIGKILL,))
                 place, rate = place + bridge.count(), rate + [bridge.count()]
                 if b"refusal" in bridge.heard:
                     yield "a line is refused", False
         yield "killed %d times: %s lines were answered" % (count, rate), sum(rate) >= 20
+        wanted, kept = [op["spec"]["id"].encode() for op in told[:place] if "spec" in op], listed(program, f"{folder}/store")
+        yield "nothing is lost, by the store alone", all(task in kept for task in wanted)
         with Bridge(broker.port, 1, *words, program=program) as bridge:
-            wanted = told[:place]
             graph = bridge.graph()
-            yield "nothing is lost", all(op["spec"]["id"].encode() in graph for op in wanted if "spec" in op)
+            yield "nothing is lost", all(task in graph for task in wanted)
             yield "told to the end", told_to([bridge], told[place:])
             yield "one graph", agree([bridge, other], told)
             yield "ended", ended([bridge, other])
 
 
+def listed(program, store):
+    """The tasks that a follower lists which begins with a copy of the store."""
+    copied = shutil.copy(store, store + ".copy")
+    lines = b'{"coordinators":[1]}\n{"at":1,"ask":"list","of":"tasks"}\n'
+    command = [program, "follow", "--store", copied, "--store-label", "test"]
+    return subprocess.run(command, input=lines, stdout=subprocess.PIPE, check=True).stdout
+
+
+def killed(bridge, way):
+    """Kills a bridge alone, with its follower, or its follower alone, behind which the bridge ends by itself. Its status."""
+    followers = bridge.children()
+    if way < 2:
+        bridge.run.kill()
+    for process in followers if way else []:
+        with contextlib.suppress(ProcessLookupError):
+            os.kill(process, signal.SIGKILL)
+    if followers:
+        # it notices when it has something to ask
+        bridge.write(b'{"ask":"agree"}\n')
+    else:
+        # it had not come so far
+        bridge.kill()
+    status = bridge.run.wait(timeout=brokers.PATIENCE)
+    bridge.reader.join(brokers.PATIENCE)
+    return status
+
+
 def confirmed(program, count=6):
-    """A bridge without a journal that answers what the broker confirmed is killed: nothing that was answered ok is
+    """A bridge without a store that answers what the broker confirmed is killed: nothing that was answered ok is
     lost."""
     told, chance, place = list(cluster(100)), random.Random("confirmed"), 0
     with running(program, []) as (broker, _):

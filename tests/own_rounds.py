@@ -223,18 +223,18 @@ def outcomes():
 
 
 def news(program):
-    """A round that accepts nothing is no news, unless other news waits; one that accepts something is, and is said again by a line."""
+    """A round that accepts nothing is no news, unless other news waits; one that accepts something is."""
     one, line = coordinator.Coordinator(program, 2, 1000, follower.Waits(30, 30, lambda: float("inf"))), b'{"at":2,"round":{"writers":[1]}}'
     told = [tell(2, op)[:-1] for op in (*tasks(3, [1]), *machines())]
     with contextlib.closing(one):
-        yield "a round of nothing", (one.run_round(line), one.own_news(), one.deltas) == ((NOTHING, []), 0, 1)
+        yield "a round of nothing", (one.run_round(line), one.own_news(), one.deltas) == ((NOTHING, False), 0, 1)
         one.tell(told)
-        answer, again = one.run_round(line)
-        yield "a round that places", rounds_of.outcome_of(answer) == rounds_of.Outcome(3, 0, 0) and len(again) == 1
+        answer, has_added = one.run_round(line)
+        yield "a round that places", rounds_of.outcome_of(answer) == rounds_of.Outcome(3, 0, 0) and has_added
         yield "is news", one.own_news() == len(told) + 1
-        yield "with it one of nothing is", (one.run_round(line), one.own_news()) == ((NOTHING, []), len(told) + 2)
+        yield "with it one of nothing is", (one.run_round(line), one.own_news()) == ((NOTHING, False), len(told) + 2)
         one.cut_news(with_state=False)
-        yield "and alone it is not", (one.run_round(line), one.own_news()) == ((NOTHING, []), 0)
+        yield "and alone it is not", (one.run_round(line), one.own_news()) == ((NOTHING, False), 0)
 
 
 def long_series(program):
@@ -344,7 +344,7 @@ def confirmed(program):
 
 
 def rounds_kept(program):
-    """What rounds accepted is sent in the end, and is in the journal before others hear of it."""
+    """What rounds accepted is sent in the end, and is in the store before others hear of it."""
     alone = ["--rounds", "0.1", "--cut-interval", "3600", "--state-interval", "3600", "--refresh", "3600"]
     told = list(tasks(10, [1, 3]))
     with running(program, NUMBERS, each={1: alone, 3: alone}) as (_, (one, two, three)):
@@ -360,11 +360,11 @@ def rounds_kept(program):
 
 
 def killed(program):
-    """A bridge is killed as soon as another one hears of its rounds; the broker forgets all. It knows from its journal what was heard."""
+    """A bridge is killed as soon as another one hears of its rounds; the broker forgets all. It knows by its store what was heard."""
     told = list(tasks(40, [1]))
     with tempfile.TemporaryDirectory() as folder, running(program, [2]) as (broker, (other,)):
-        journal = ["--journal", f"{folder}/journal"]
-        with Bridge(broker.port, 1, *QUICK, *journal, "--rounds", "0.3", "--each", "1", program=program) as bridge:
+        store = ["--store", f"{folder}/store"]
+        with Bridge(broker.port, 1, *QUICK, *store, "--rounds", "0.3", "--each", "1", program=program) as bridge:
             yield "told", told_to([bridge], [*told, *machines()])
             yield "heard of", bool(until(lambda: b" held\n" in asked([other], "winners")[0], pause=0.01))
             bridge.kill()
@@ -374,9 +374,9 @@ def killed(program):
             broker.kill()
             broker.forget()
             broker.start()
-            with Bridge(broker.port, 1, *QUICK, *journal, *words, program=program) as bridge:
+            with Bridge(broker.port, 1, *QUICK, *store, *words, program=program) as bridge:
                 if words:
-                    yield "what the journal says is a change: all are placed", come_to([bridge], 40, 1)
+                    yield "what the store has is a change: all are placed", come_to([bridge], 40, 1)
                 (known,) = asked([bridge], "winners")
                 lost = set(heard.splitlines()) - set(known.splitlines())
                 yield "%d places were heard, and %d of them are lost" % (heard.count(b" held\n"), len(lost)), not lost

@@ -12,25 +12,24 @@ import kept
 from bridging.answers import Answers
 from bridging.broker import Broker
 from bridging.claims import Claim
-from bridging.coordinator import Coordinator, most_packet, take_line
+from bridging.coordinator import AT_ONCE, Coordinator, most_packet
 from bridging.conversations import Conversations
-from bridging.endings import BROKER_REFUSES, JOURNAL_FAILED, NOT_ALL_SENT, NUMBER_TAKEN, OUTPUT_FAILED, WELL, Failure
+from bridging.endings import BROKER_REFUSES, NOT_ALL_SENT, NUMBER_TAKEN, OUTPUT_FAILED, WELL, Failure
 from bridging.follower import Waits, is_accepted, usual_program
 from bridging.inbox import Inbox
-from bridging.journal import Journal
 from bridging.listening import Listener
 from bridging.mailbox import Mailbox
+from bridging.old_journal import take_over
 from bridging.outbox import Outbox
-from bridging.packets import number_of
+from bridging.packets import content_of, number_of
 from bridging.rounds import NEVER, Rounds
 from bridging.settings import Settings, read_settings
+from bridging.stores import InUse, Store
 from bridging.telling import Clocks, Counts, Telling
 
-# so many lines are told at once
-AT_ONCE = 512
 LONGEST_SLEEP = 1.0
-# how a line of a journal is answered that is not what was written: no JSON, no packet, or a field out of its range
-DAMAGED = (b"refusal 16\n", b"refusal 6\n", b"refusal 2\n")
+# a store that another process has is asked for again after so many seconds
+PAUSE = 0.1
 # a claim that did not come back is made again after so many seconds
 ASKED_AGAIN = 2.0
 # how many others may begin to send their states at the same time is spread over so many seconds
@@ -53,7 +52,6 @@ class Bridge:
         self._rounds = Rounds(settings, self._counts, self._telling)
         self._conversations, self._answers = Conversations(self._wake), Answers()
         self._listener: Optional[Listener] = None
-        self._journal: Optional[Journal] = None
         self._are_read: Optional[bool] = None
         self._connection = self._turn = self._accepted = 0
         self._has_begun = self._is_new_connection = False
@@ -70,7 +68,7 @@ class Bridge:
             if self._settings.listen is not None:
                 self._listener = Listener(self._settings.listen)
                 ending.callback(self._listener.close)
-            self._coordinator = self._made_coordinator()
+            self._coordinator = self._kept_coordinator()
             ending.callback(self._close)
             self._begin()
             self._has_begun = True
@@ -92,10 +90,27 @@ class Bridge:
         if self._has_begun:
             self._telling.count("ended", self._counts)
 
-    def _made_coordinator(self) -> Coordinator:
+    def _kept_coordinator(self) -> Coordinator:
+        """A coordinator, with a store if one is asked for. A bridge that was killed may have left a follower that has the store until it
+        sees the end of its lines, which is waited for."""
+        asked, end = self._settings, time.monotonic() + self._settings.connect_wait
+        store = None if asked.store is None else Store(asked.store, asked.cluster, self._pass_on)
+        while True:
+            try:
+                return self._made_coordinator(store)
+            except InUse:
+                if self._stopping or time.monotonic() >= end:
+                    raise
+            time.sleep(PAUSE)
+
+    def _made_coordinator(self, store: Optional[Store] = None) -> Coordinator:
         asked = self._settings
         waits = Waits(asked.connect_wait, asked.follower_wait, lambda: self._stops_at)
-        return Coordinator(self._program, asked.number, asked.renew_after, waits)
+        return Coordinator(self._program, asked.number, asked.renew_after, waits, store)
+
+    def _pass_on(self, line: str) -> None:
+        """Says what the follower wrote to standard error."""
+        self._telling.say("follower", f"the follower says: {line}", line=line)
 
     def stop(self, *_signal: object) -> None:
         """Ends the bridge once it sent what it has. In a handler of signals: the lock may be held by the thread that
@@ -106,16 +121,17 @@ class Bridge:
             self._wake.notify_all()
 
     def _begin(self) -> None:
-        """Connects, claims the number, tells the journal, and takes in the states that the broker keeps."""
+        """Connects, claims the number, takes an old journal over, and takes in the states that the broker keeps."""
         self._broker.connect(self._settings.connect_wait)
         self._connection = self._broker.connection
         self._claim_number()
-        lines, asked = 0, self._settings
-        if asked.journal is not None:
-            self._journal = Journal(asked.journal, asked.cluster, asked.number, asked.salvages)
-            lines = self._tell_again(self._journal)
+        self._take_over()
+        is_known = self._coordinator.deltas > 0
         place = f"{self._settings.access.place}, cluster {self._settings.cluster}"
-        self._telling.say("connected", f"connected to {place}; {lines} lines of a journal told", lines=lines)
+        self._telling.say("connected", f"connected to {place}" + ("; something is known by the store" if is_known else ""), known=is_known)
+        if is_known:
+            # states that say the same are neither fetched nor added to the store again
+            self._inbox.know(content_of(self._coordinator.cut_state()))
         self._exchange()
         self._fetch_states()
         self._inbox.is_foreign = False
@@ -123,9 +139,18 @@ class Bridge:
         if self._coordinator.deltas:
             self._outbox.is_stale = True
             self._outbox.want_state(0)
-        if self._journal is not None and self._journal.is_long():
-            self._shorten(self._journal)
         self._rounds.begin(self._coordinator.deltas > 0)
+
+    def _take_over(self) -> None:
+        """Has the store keep what a journal of an earlier version says. Others hear of it by the next state."""
+        taken = take_over(self._settings, self._made_coordinator, self._coordinator)
+        if taken is None:
+            return
+        self._coordinator.own = self._coordinator.deltas
+        how = f"{taken.lines} lines of the journal are in the store now, and its file is {taken.file}"
+        if taken.damage:
+            how = f"{taken.damage}: the lines before that are taken; {how}"
+        self._telling.say("salvaged" if taken.damage else "taken_over", how, lines=taken.lines, file=str(taken.file))
 
     def _claim_number(self) -> None:
         """Waits for a bridge that has the number to say so, and for the claim to come back behind the states that the
@@ -159,38 +184,6 @@ class Bridge:
 
     def _taken(self) -> str:
         return f"the number {self._settings.number} of cluster {self._settings.cluster} is taken by another bridge"
-
-    def _tell_again(self, journal: Journal) -> int:
-        """Tells the lines of a journal, which are sent with the next state: those before the first that is refused if the
-        journal is to be salvaged. Answers how many."""
-        lines = journal.lines
-        told, answer = self._tell_accepted(lines)
-        if answer is not None:
-            why = f"line {told + 2} of the journal is answered by {answer.decode().strip()}"
-            if answer not in DAMAGED:
-                raise Failure(JOURNAL_FAILED, why)
-            journal.salvage(lines[:told], why)
-            # the lines behind the damage may have been told with it
-            self._coordinator.close()
-            self._coordinator = self._made_coordinator()
-            self._tell_accepted(lines[:told])
-        if journal.aside is not None:
-            self._telling.say("salvaged", f"the journal is damaged: the {told} lines before the damage were told, and the damaged file "
-                                          f"is {journal.aside}", lines=told, aside=str(journal.aside))
-        journal.lines = []
-        self._coordinator.own = self._coordinator.deltas
-        return told
-
-    def _tell_accepted(self, lines: Sequence[bytes]) -> tuple[int, Optional[bytes]]:
-        """Tells lines until one is not accepted. Answers how many were, and how the next one was answered, if there is one."""
-        told = 0
-        while told < len(lines):
-            answers, _ = self._coordinator.tell(lines[told:told + AT_ONCE])
-            for answer in answers:
-                if not is_accepted(answer):
-                    return told, answer
-                told += 1
-        return told, None
 
     def _end(self) -> int:
         """Sends what is left, as long as the broker takes it in time. It is sent also if the number turned out to be
@@ -268,7 +261,7 @@ class Bridge:
         self._look_at_times()
 
     def _tell(self) -> None:
-        """Tells lines that wait. What they come to is in the journal before an answer goes out."""
+        """Tells lines that wait. What they come to is in the store, if there is one, before the follower answers."""
         if self._conversations.operator.writer.is_broken or self._claim.is_lost:
             self._stopping = True
         if self._stopping or not self._answers.has_room():
@@ -278,9 +271,9 @@ class Bridge:
         if not taken:
             return
         before = self._begin_news()
-        answers, again = self._coordinator.tell([line for _, line in taken])
+        answers, has_added = self._coordinator.tell([line for _, line in taken])
         self._conversations.put_back(taken[len(answers):])
-        self._keep(again, before)
+        self._count_added(has_added, before)
         told = sum(map(is_accepted, answers))
         self._counts.told += told
         self._counts.refused_lines += len(answers) - told
@@ -293,13 +286,12 @@ class Bridge:
         return NEVER if is_ending else self._rounds.next_time()
 
     def _run_round(self) -> None:
-        """Runs a round of its own if one is due: one in a step, so that lines which wait are told before the next. What it comes to is in
-        the journal before anybody hears of it."""
+        """Runs a round of its own if one is due: one in a step, so that lines which wait are told before the next."""
         if self._next_round() <= time.monotonic():
             before = self._begin_news()
-            answer, again = self._coordinator.run_round(self._rounds.line)
-            if again:
-                self._keep(again, before)
+            answer, has_added = self._coordinator.run_round(self._rounds.line)
+            if has_added:
+                self._count_added(has_added, before)
             self._rounds.ran(answer)
 
     def _begin_news(self) -> int:
@@ -308,16 +300,11 @@ class Bridge:
             self._oldest = time.monotonic()
         return self._coordinator.deltas
 
-    def _keep(self, again: Sequence[bytes], before: int) -> None:
-        """Keeps lines that say what the deltas say behind the first `before`, and counts these deltas."""
-        if again:
+    def _count_added(self, has_added: bool, before: int) -> None:
+        """Counts the deltas behind the first `before`, which say something or not."""
+        if has_added:
             self._rounds.note_change()
-        if self._journal is not None and again:
-            self._journal.add(again)
-            self._counts.journaled += len(again)
         self._count_accepted(self._coordinator.deltas - before)
-        if self._journal is not None and self._journal.is_long():
-            self._shorten(self._journal)
 
     def _count_accepted(self, added: int) -> None:
         """So many deltas were added, and perhaps something else was changed by a line of an unknown kind."""
@@ -329,16 +316,6 @@ class Bridge:
         self._accepted += added
         if self._settings.is_traced:
             self._answered.append((time.time(), added))
-
-    def _shorten(self, journal: Journal) -> None:
-        """Rewrites the journal as one packet of all that is known, if a line can hand that over."""
-        packet = self._coordinator.cut_state()
-        if len(packet) <= most_packet(self._settings.number):
-            why = journal.replace(take_line(self._settings.number, packet))
-            if why is not None:
-                self._telling.say("journal", f"the journal cannot be rewritten, which is put off: {why}")
-        else:
-            journal.put_off()
 
     # exchanges
 

@@ -16,7 +16,10 @@ from bridging.endings import FOLLOWER_ENDED, Failure
 from bridging.follower import MOST_LINE, NO_LINE, Follower, Waits, is_accepted
 from bridging.lines import Kind, kind_of
 from bridging.packets import number_of
+from bridging.stores import Store
 
+# so many lines are told at once
+AT_ONCE = 512
 # so many bytes of answers are worked out at once
 MOST_AT_ONCE = 1 << 22
 # lines that are passed over at once have about so many bytes
@@ -37,12 +40,13 @@ def most_packet(number: int) -> int:
 
 
 class Coordinator:
-    """Deltas are numbered as in a stream, and entries counted as there, so that it is renewed before its history is full."""
+    """Deltas are numbered as in a stream, and entries counted as there, so that it is renewed before its history is full. What
+    it knows by its store is one delta, which is not news: a state has it."""
 
-    def __init__(self, program: str, number: int, renew_after: int, waits: Waits) -> None:
+    def __init__(self, program: str, number: int, renew_after: int, waits: Waits, store: Optional[Store] = None) -> None:
         self.number, self._renew_after, self._renews_at = number, renew_after, renew_after
-        self._follower = Follower(program, number, FULL_HISTORY, waits)
-        self.deltas = self.own = self._entries = 0
+        self._follower = Follower(program, number, FULL_HISTORY, waits, store)
+        self.deltas = self.own = self._entries = self._end()
         # a line that the bridge does not know was accepted, so what is known may be something else
         self.may_have_changed = False
 
@@ -50,67 +54,61 @@ class Coordinator:
         """How many deltas of its own were not cut yet: all from `own` on."""
         return self.deltas - self.own
 
-    def tell(self, lines: Sequence[bytes], most: int = MOST_AT_ONCE) -> tuple[list[bytes], list[bytes]]:
-        """The answers to an operator's lines, in order, and the lines that say again what the accepted ones did. Once
-        the answers have `most` bytes, or before a round, which may take long, no more lines are told, and there are
-        fewer answers than lines."""
+    def tell(self, lines: Sequence[bytes], most: int = MOST_AT_ONCE) -> tuple[list[bytes], bool]:
+        """The answers to an operator's lines, in order, and whether the accepted ones added something. Once the answers have
+        `most` bytes, or before a round, which may take long, no more lines are told, and there are fewer answers than
+        lines."""
         answers: list[bytes] = []
-        again: list[bytes] = []
+        has_added = False
         kinds, size = [kind_of(line) for line in lines], 0
         for first, end in parts(kinds):
             if size >= most or (answers and kinds[first] is Kind.ROUND):
                 break
-            some = self._tell(lines[first:end], kinds[first:end], again)
+            some, is_more = self._tell(lines[first:end], kinds[first:end])
             answers += some
+            has_added = has_added or is_more
             size += sum(map(len, some))
-        return answers, again
+        return answers, has_added
 
-    def run_round(self, line: bytes) -> tuple[bytes, list[bytes]]:
-        """The answer to a line that asks for a round, and the lines that say again what it did. If it accepted nothing, the delta that it
-        adds says nothing, and is no news: others would answer it by a round, and this one theirs, without end."""
+    def run_round(self, line: bytes) -> tuple[bytes, bool]:
+        """The answer to a line that asks for a round, and whether it accepted something. If not, the delta that it adds says
+        nothing, and is no news: others would answer it by a round, and this one theirs, without end."""
         has_news = self.own_news() > 0
-        (answer,), again = self.tell([line])
-        if not (again or has_news):
+        (answer,), has_added = self.tell([line])
+        if not (has_added or has_news):
             self.own = self.deltas
-        return answer, again
+        return answer, has_added
 
-    def _tell(self, lines: Sequence[bytes], kinds: Sequence[Kind], again: list[bytes]) -> list[bytes]:
-        """The answers to lines of which only the last may be other than what is told. A line that asks for what the bridge
-        does itself is refused here, as one of no kind, and a check of it is answered as one of a line of no kind."""
+    def _tell(self, lines: Sequence[bytes], kinds: Sequence[Kind]) -> tuple[list[bytes], bool]:
+        """The answers to lines of which only the last may be other than what is told, and whether they added something. A line
+        that asks for what the bridge does itself is refused here, as one of no kind, and a check of it is answered as one of
+        a line of no kind."""
         asked = [CHECK_OF_NO_KIND if kind is Kind.CHECK_OF_OURS else line for line, kind in zip(lines, kinds) if kind is not Kind.OURS]
         heard = iter(self._follower.ask(asked))
         answers = [NO_LINE if kind is Kind.OURS else next(heard) for kind in kinds]
         # questions add no entry, but it does no harm to count them
         self._entries += sum(map(is_accepted, answers))
-        told = [line for line, kind, answer in zip(lines, kinds, answers) if kind is Kind.TELL and is_accepted(answer)]
-        again += told
-        last = kinds[-1] if is_accepted(answers[-1]) else Kind.QUESTION
+        told = sum(kind is Kind.TELL and is_accepted(answer) for kind, answer in zip(kinds, answers))
+        last, has_more = kinds[-1] if is_accepted(answers[-1]) else Kind.QUESTION, False
         if told or last in (Kind.ROUND, Kind.STRANGE):
-            again += self._count(self.deltas + len(told), last, answers[-1])
+            has_more = self._count(self.deltas + told, last, answers[-1])
         if last is Kind.CUT:
             self._skip()
         elif last is Kind.STRANGE:
             self._make_even()
-        return answers
+        return answers, told > 0 or has_more
 
-    def _count(self, told: int, last: Kind, answer: bytes) -> list[bytes]:
+    def _count(self, told: int, last: Kind, answer: bytes) -> bool:
         """Counts deltas, as the follower says, after accepted lines, with which the lines that were told would come to so many. Answers
-        lines that say what else was added. If there are fewer the coordinator is renewed."""
+        whether something else was added. If there are fewer the coordinator is renewed."""
         self.deltas = self._end()
         if last is Kind.STRANGE:
             self.may_have_changed = True
         if self.deltas < told:
             self._renew_now()
-            return [take_line(self.number, self.cut_state())]
+            return True
         is_empty = last is Kind.ROUND and b" accepted\n" not in answer
-        return [] if self.deltas == told or is_empty else self._deltas_again(told)
-
-    def _deltas_again(self, first: int) -> list[bytes]:
-        """A line that says what the deltas from that one on have: a round that is done again may come to something
-        else."""
-        line = take_line(self.number, self._cut({"from": first, "to": self.deltas}))
-        self._skip()
-        return [line]
+        return self.deltas > told and not is_empty
 
     def _make_even(self) -> None:
         """Has the next packet of news get an odd number again, after a line that may have cut some."""

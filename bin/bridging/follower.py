@@ -10,6 +10,7 @@ from typing import Optional
 
 import kept
 from bridging.endings import FOLLOWER_ENDED, NO_PROGRAM, Failure
+from bridging.stores import LastWords, Store
 
 # the program answers a line that is longer by refusal 16
 MOST_LINE = 67108864
@@ -22,6 +23,8 @@ PIECE = 1 << 16
 TICK = 0.2
 # once the bridge has to end, a follower that is silent for so many seconds is not waited for
 SHORT = 1.0
+# what others may not do with a file of a store
+PRIVATE = 0o077
 OK = b"ok\n"
 NO_LINE = b"refusal 16\n"
 
@@ -86,25 +89,33 @@ class Splitter:
 
 
 class Follower:
-    """The process, with one coordinator of the number. Its memory, histories and renewals are those of
-    docs/formats.md."""
+    """The process, with one coordinator of the number, and with a store if one is given. Its memory, histories and renewals
+    are those of docs/formats.md."""
 
-    def __init__(self, program: str, number: int, renew_after: int, waits: Waits) -> None:
+    def __init__(self, program: str, number: int, renew_after: int, waits: Waits, store: Optional[Store] = None) -> None:
         command = [program, "follow", "--renew-after", str(renew_after)]
-        pipe = subprocess.PIPE
+        command += store.words() if store is not None else []
+        self._store, pipe = store, subprocess.PIPE
         try:
             # in a session of its own, so that an interrupt typed at a terminal ends the bridge and not the follower
-            # under it
-            self._run = subprocess.Popen(command, stdin=pipe, stdout=pipe, bufsize=0, start_new_session=True)
+            # under it; and the file of a store is for the owner alone
+            self._run = subprocess.Popen(command, stdin=pipe, stdout=pipe, stderr=pipe if store is not None else None, bufsize=0,
+                                         start_new_session=True, umask=PRIVATE if store is not None else -1)
         except OSError as why:
             raise Failure(NO_PROGRAM, f"no program at {program}, which bin/build makes ({why.strerror})") from None
         assert self._run.stdin is not None and self._run.stdout is not None
-        self._into, self._from = self._run.stdin, self._run.stdout
+        self._into, self._from, self._errors = self._run.stdin, self._run.stdout, self._run.stderr
         self._splitter, self._waits = Splitter(), waits
         for end in self._into, self._from:
             os.set_blocking(end.fileno(), False)
+        self._last_words = LastWords(self._errors.fileno(), store.pass_on) if store is not None and self._errors is not None else None
+        self._begin(program, number)
+
+    def _begin(self, program: str, number: int) -> None:
+        """Lists the coordinator. With a store that is answered once the store was read, which may take long."""
+        patience = self._waits.beginning if self._store is None else self._waits.answer
         try:
-            begun = self.ask([b'{"coordinators":[%d]}' % number], waits.beginning) == [OK]
+            begun = self.ask([b'{"coordinators":[%d]}' % number], patience) == [OK]
         except Silent:
             begun = False
         if not begun:
@@ -120,6 +131,8 @@ class Follower:
         patience, last = patience or self._waits.answer, time.monotonic()
         with selectors.DefaultSelector() as ready:
             ready.register(self._from, selectors.EVENT_READ)
+            if self._errors is not None:
+                ready.register(self._errors, selectors.EVENT_READ)
             if left:
                 ready.register(self._into, selectors.EVENT_WRITE)
             while len(answers) < len(lines):
@@ -129,11 +142,17 @@ class Follower:
                 for key, _ in events:
                     if key.fileobj is self._from:
                         answers += self._read()
-                        continue
-                    left = left[self._write(left[:PIECE]):]
-                    if not left:
-                        ready.unregister(self._into)
+                    elif key.fileobj is self._into:
+                        left = left[self._write(left[:PIECE]):]
+                        if not left:
+                            ready.unregister(self._into)
+                    elif not self._hear_errors():
+                        ready.unregister(key.fileobj)
         return answers
+
+    def _hear_errors(self) -> bool:
+        """Reads what the follower wrote to standard error. Whether more may come."""
+        return self._last_words is not None and self._last_words.read()
 
     def _look_at_time(self, silent: float, patience: float) -> None:
         """Ends the process if it was silent for too long."""
@@ -159,8 +178,16 @@ class Follower:
         return self._splitter.feed(piece)
 
     def _ended(self) -> Failure:
-        self._run.kill()
-        return Failure(FOLLOWER_ENDED, f"the follower ended (status {self._run.wait()})")
+        """Why the follower ended, which closed a pipe."""
+        try:
+            status = self._run.wait(timeout=SHORT)
+        except subprocess.TimeoutExpired:
+            self._run.kill()
+            status = self._run.wait()
+        self._hear_errors()
+        why = self._last_words.why if self._last_words is not None else ""
+        failure = self._store.failure(status, why) if self._store is not None else None
+        return failure or Failure(FOLLOWER_ENDED, f"the follower ended (status {status})" + (f": {why}" if why else ""))
 
     def close(self) -> None:
         """Ends the process, which ends by itself at the end of its input."""
@@ -170,4 +197,7 @@ class Follower:
         except (OSError, subprocess.TimeoutExpired):
             self._run.kill()
             self._run.wait()
+        self._hear_errors()
         self._from.close()
+        if self._errors is not None:
+            self._errors.close()

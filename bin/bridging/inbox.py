@@ -26,6 +26,10 @@ class Inbox:
         """The broker is asked again for what it keeps on the coordinator's own topics."""
         self.own_state = self.own_digest = None
 
+    def know(self, content: bytes) -> None:
+        """What a state of this content says is known, as by a store."""
+        self._seen.add(content)
+
     def wanted(self, parcels: Sequence[Parcel]) -> list[Parcel]:
         """Those of the packets that are to be taken in."""
         return [parcel for parcel in parcels if self._is_wanted(parcel)]

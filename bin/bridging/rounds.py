@@ -54,7 +54,7 @@ class Rounds:
         self._has_changed, self._in_series, self._next_at = False, 0, NEVER
 
     def begin(self, is_something_known: bool) -> None:
-        """The bridge begins, with what a journal and the states of others say. The first series waits like any other, so that what others
+        """The bridge begins, with what a store and the states of others say. The first series waits like any other, so that what others
         send to one that comes back is known before."""
         self._has_changed = self._has_changed or is_something_known
         self._put_off()

@@ -4,10 +4,11 @@ import dataclasses
 import os
 import pathlib
 from collections.abc import Callable, Sequence
-from typing import NoReturn, Optional
+from typing import Any, NoReturn, Optional
 
 from bridging.access import Access, NoAccess, access_of, add_broker, cluster_name, whole
 from bridging.endings import WRONG_WORDS
+from bridging.stores import MOST_LABEL
 
 # a path of a socket has at most so many bytes
 MOST_PATH = 107
@@ -22,6 +23,7 @@ class Settings:
     cluster: str
     number: int
     access: Access
+    store: Optional[pathlib.Path]
     journal: Optional[pathlib.Path]
     salvages: bool
     is_confirmed: bool
@@ -91,7 +93,7 @@ question, or a cut of all that is known. The bridge does the rest itself, and re
 """
 STATUSES = """\
 Statuses: 0 all was sent; 2 wrong words; 10 no paho-mqtt; 11 no program; 12 no broker; 13 the broker refuses;
-14 the number is taken; 15 the follower ended, or does not answer; 16 the journal failed; 17 not all is known to be sent;
+14 the number is taken; 15 the follower ended, or does not answer; 16 the store, or an old journal, failed; 17 not all is known to be sent;
 18 answers could not be written, or were not read; 19 no socket for clients. docs/several-machines.md says what `ok` guarantees, and
 what the topics are.
 
@@ -108,7 +110,7 @@ TIMES: tuple[tuple[str, Callable[[str], float], float, str], ...] = (
     ("--state-interval", seconds(0), 5, "sends all that is known once there is news and the last state is so old"),
     ("--refresh", seconds(0.1), 60, "asks the broker after so long which states it keeps, and fetches what is new"),
     ("--queue", whole(1, 30000), 1000, "so many packets wait at most, in and out each"),
-    ("--connect-wait", seconds(0.1), 10, "so long for the first connection, and for the follower to begin"),
+    ("--connect-wait", seconds(0.1), 10, "so long for the first connection, for the follower to begin, and for the store to be free"),
     ("--claim-wait", seconds(0), 1, "so long for another bridge with the number to answer"),
     ("--ack-wait", seconds(0.1), 20, "so long for the broker to acknowledge"),
     ("--follower-wait", seconds(0.1), 600, "so long for the follower to answer a line; behind a signal, --end-wait"),
@@ -124,10 +126,12 @@ def parser() -> argparse.ArgumentParser:
     words.add_argument("--number", required=True, type=whole(1, 64), metavar="N", help="the coordinator, from 1 to 64")
     add_broker(words.add_argument_group("the broker"))
     kept = words.add_argument_group("what is kept")
-    kept.add_argument("--journal", type=pathlib.Path, metavar="FILE",
-                      help="answers ok once a line is in this file on the disk; started with it, goes on from there")
+    kept.add_argument("--store", type=pathlib.Path, metavar="FILE",
+                      help="answers ok once what a line changed is in this file on the disk; started with it, goes on from there")
+    kept.add_argument("--journal", type=pathlib.Path, metavar="OLD",
+                      help="takes the journal of an earlier version over into the store, once, and renames it to OLD.taken")
     kept.add_argument("--salvage", action="store_true", dest="salvages",
-                      help="takes what stands before the damage of a damaged journal, and keeps the damaged file aside")
+                      help="takes what stands before the damage of a damaged journal, and renames it to OLD.damaged")
     kept.add_argument("--confirmed", action="store_true", dest="is_confirmed",
                       help="answers ok once a state with the line came back from the broker, which was seen to keep one")
     times = words.add_argument_group("times, in seconds, and counts")
@@ -156,6 +160,17 @@ def add_rounds(words: argparse._ArgumentGroup) -> None:
                        help="these rounds are of the tasks whose writers are listed, as in 1,3, in place of N alone")
 
 
+def wrong_store(asked: dict[str, Any]) -> str:
+    """What is wrong with the words about what is kept, or nothing."""
+    if asked["salvages"] and asked["journal"] is None:
+        return "--salvage is of a journal, which --journal names"
+    if asked["journal"] is not None and asked["store"] is None:
+        return "--journal names a journal of an earlier version, which is taken over into a store: give --store FILE too"
+    if asked["store"] is not None and len(asked["cluster"].encode()) > MOST_LABEL:
+        return f"--store wants a name of the cluster of at most {MOST_LABEL} bytes, since it is the store's label"
+    return ""
+
+
 def read_settings(given: Sequence[str]) -> Settings:
     """The settings that the words ask for. Wrong words end the process with status 2 and a line."""
     words = parser()
@@ -164,8 +179,8 @@ def read_settings(given: Sequence[str]) -> Settings:
         access = access_of(asked, "--")
     except NoAccess as why:
         words.error(str(why))
-    if asked["salvages"] and not asked["journal"]:
-        words.error("--salvage is of a journal, which --journal names")
+    if wrong := wrong_store(asked):
+        words.error(wrong)
     if asked["rounds"] is None and (asked["each"] is not None or asked["writers"] is not None):
         words.error("--each and --writers are of rounds, which --rounds asks for")
     if asked["listen"] is not None and not 0 < len(os.fsencode(asked["listen"])) <= MOST_PATH:

@@ -36,7 +36,6 @@ class Counts:
     unacknowledged: int = 0
     lost_connections: int = 0
     renewals: int = 0
-    journaled: int = 0
     cut_off: int = 0
     rounds: int = 0
     places: int = 0
