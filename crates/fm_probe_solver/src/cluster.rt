@@ -2,13 +2,14 @@
 
 use crate::draw::Draw;
 use fm_know::knowledge::Knowledge;
-use fm_lattice::join::Join;
+use fm_lattice::join::{Join, OutOfMemory};
 use fm_records::ids::{CoordId, JobId, MachineId, TaskId};
 use fm_records::ops::{Op, Phase};
 use fm_records::prefer::Prefer;
 use fm_records::refusal::Refusal;
 use fm_round::admission::admit;
 use fm_round::plan::Plan;
+use fm_tally::sorted::Sorted;
 use std::alloc::Global;
 
 /// How large a cluster is, and how dear waiting may be in it.
@@ -49,24 +50,13 @@ const LINK: u32 = 1000;
 
 const CREDIT: u32 = LINK - 1;
 
-// The preference of a machine, and for one more of another.
-fn liked(near: u32, far: u32) -> Prefer {
-    preferring((near, CREDIT), (far, CREDIT - 1))
-}
-
-/// The preference of two machines, each by its number and with its credit; of one machine twice, that of the first.
-pub(crate) fn preferring(near: (u32, u32), far: (u32, u32)) -> Prefer {
-    let near = (MachineId::new(scattered(near.0)), near.1);
-    let far = (MachineId::new(scattered(far.0)), far.1);
-    if near.0 == far.0 {
-        return Prefer::new(&[near]).unwrap_or_default();
+/// The preference of machines, each by its number and with its credit; of one machine twice, the last. None of more than four.
+pub(crate) fn preferring(alloc: Global, choices: &[(u32, u32)]) -> Result<Prefer, OutOfMemory> {
+    let mut entries = Sorted::new(alloc);
+    for (machine, credit) in choices {
+        entries.put(MachineId::new(scattered(*machine)), *credit)?;
     }
-    let entries = if near.0 < far.0 {
-        [near, far]
-    } else {
-        [far, near]
-    };
-    Prefer::new(&entries).unwrap_or_default()
+    Ok(Prefer::new(entries.pairs()).unwrap_or_default())
 }
 
 // The number of the task's last attempt.
@@ -102,7 +92,8 @@ impl Cluster {
         for number in 0..sizes.machines {
             cluster.tell_machine(number, true, 1, LINK)?;
             let near = number.saturating_sub(1);
-            cluster.tell_task(0, LINK, liked(near, near.saturating_add(1)))?;
+            let choices = [(near, CREDIT), (near.saturating_add(1), CREDIT - 1)];
+            cluster.tell_task(0, LINK, preferring(alloc, &choices)?)?;
         }
         Ok(cluster)
     }
@@ -192,6 +183,11 @@ impl Cluster {
         })
     }
 
+    /// Of a hundred tasks that are drawn from now on, so many prefer machines.
+    pub(crate) fn prefer_in(&mut self, preferring: u32) {
+        self.sizes.preferring = preferring;
+    }
+
     fn add_job(&mut self, draw: &mut Draw, number: u32) -> Result<(), Refusal> {
         let wait = one_of(draw, self.sizes.wait);
         let preempt = wait.saturating_add(draw.below(5000));
@@ -209,19 +205,19 @@ impl Cluster {
         let job = one_of(draw, self.sizes.jobs);
         let step = 1000 / self.sizes.requests.max(1);
         let request = one_of(draw, self.sizes.requests).saturating_mul(step);
-        let prefer = self.prefer(draw);
+        let prefer = self.prefer(draw)?;
         self.tell_task(job, request, prefer)
     }
 
     // The preference of a drawn task: for two machines or one, or for none.
-    fn prefer(&self, draw: &mut Draw) -> Prefer {
+    fn prefer(&self, draw: &mut Draw) -> Result<Prefer, OutOfMemory> {
         let percent = self.sizes.preferring;
         if percent == 0 || draw.below(100) >= percent {
-            return Prefer::default();
+            return Ok(Prefer::default());
         }
         let near = (one_of(draw, self.sizes.machines), draw.below(4000));
         let far = (one_of(draw, self.sizes.machines), draw.below(4000));
-        preferring(near, far)
+        preferring(self.alloc, &[near, far])
     }
 
     /// Proposes a machine for the task's first attempt.

@@ -1,8 +1,9 @@
-//! Small clusters with the corners of rounds: requests of 0, costs that tie, more tasks held than slots, loads beyond the bandwidth,
+//! Clusters with the corners of rounds: requests of 0, costs that tie, more tasks held than slots, loads beyond the bandwidth,
 //! machines that are down, costs and slots that change, and preferences.
 
 use crate::cluster::{Cluster, Sizes, one_of, preferring};
 use crate::draw::Draw;
+use fm_lattice::join::OutOfMemory;
 use fm_records::prefer::Prefer;
 use fm_records::refusal::Refusal;
 use fm_round::plan::Plan;
@@ -20,9 +21,18 @@ struct Bounds {
     preferring: u32,
 }
 
+/// How many machines and tasks clusters of a kind have at most, and whether tasks may prefer machines.
+#[derive(Clone, Copy, Drop)]
+pub(crate) struct Kind {
+    pub(crate) machines: u32,
+    pub(crate) tasks: u32,
+    pub(crate) is_preferring: bool,
+}
+
 /// Such a cluster.
 #[derive(Drop)]
 pub(crate) struct Corners {
+    alloc: Global,
     pub(crate) cluster: Cluster,
     bounds: Bounds,
     jobs: u32,
@@ -53,23 +63,20 @@ fn drawn_bounds(draw: &mut Draw, is_preferring: bool) -> Bounds {
 }
 
 impl Corners {
-    /// The cluster of a seed, in which tasks may prefer machines or none does.
-    pub(crate) fn new(
-        alloc: Global,
-        draw: &mut Draw,
-        is_preferring: bool,
-    ) -> Result<Corners, Refusal> {
+    /// A cluster of the kind.
+    pub(crate) fn new(alloc: Global, draw: &mut Draw, kind: Kind) -> Result<Corners, Refusal> {
         let sizes = Sizes {
             jobs: draw.between(1, 4),
-            machines: draw.between(1, 7),
-            tasks: draw.below(25),
+            machines: one_of(draw, kind.machines).saturating_add(1),
+            tasks: one_of(draw, kind.tasks),
             requests: 0,
             wait: 0,
             preferring: 0,
         };
         let mut corners = Corners {
+            alloc,
             cluster: Cluster::empty(alloc, sizes),
-            bounds: drawn_bounds(draw, is_preferring),
+            bounds: drawn_bounds(draw, kind.is_preferring),
             jobs: sizes.jobs,
             machines: sizes.machines,
             tasks: 0,
@@ -118,20 +125,22 @@ impl Corners {
     fn add_task(&mut self, draw: &mut Draw) -> Result<(), Refusal> {
         let job = one_of(draw, self.jobs);
         let request = one_of(draw, self.bounds.requests).saturating_mul(self.bounds.unit);
-        let prefer = self.prefer(draw);
+        let prefer = self.prefer(draw)?;
         self.tasks = self.tasks.saturating_add(1);
         self.cluster.tell_task(job, request, prefer)
     }
 
-    // Two machines, which may be one, or none.
-    fn prefer(&self, draw: &mut Draw) -> Prefer {
+    // Up to four machines, of which some may be one, or none.
+    fn prefer(&self, draw: &mut Draw) -> Result<Prefer, OutOfMemory> {
         if !happens(draw, self.bounds.preferring) {
-            return Prefer::default();
+            return Ok(Prefer::default());
         }
         let most = self.bounds.costs.saturating_mul(2);
-        let near = (one_of(draw, self.machines), one_of(draw, most));
-        let far = (one_of(draw, self.machines), one_of(draw, most));
-        preferring(near, far)
+        let mut choices = Vec::new(self.alloc);
+        for _ in 0..draw.between(1, 4) {
+            choices.push((one_of(draw, self.machines), one_of(draw, most)))?;
+        }
+        preferring(self.alloc, &choices)
     }
 
     fn hold_any(&mut self, draw: &mut Draw) -> Result<(), Refusal> {

@@ -15,6 +15,11 @@ use std::time::Instant;
 
 const ROUNDS: u32 = 6;
 
+// How many tasks of a burst come at once, and how many bursts there are.
+const BURST: u32 = 10_000;
+
+const BURSTS: u32 = 3;
+
 // How many tasks change between two rounds.
 const CHANGES: u32 = 100;
 
@@ -118,6 +123,34 @@ fn print_rounds(rt: &HostRuntime, tasks: u32, preferring: u32) -> Result<(), any
     for number in 0..=ROUNDS {
         print_round(rt, number, &mut cluster)?;
         cluster.change(&mut draw, CHANGES)?;
+    }
+    Ok(())
+}
+
+// Rounds of a cluster in which so many tasks without preferences were placed, and then many come at once.
+fn print_bursts_of(rt: &HostRuntime, tasks: u32, preferring: u32) -> Result<(), anyhow::Error> {
+    let mut draw = Draw::new(u64::from(tasks));
+    let sizes = sizes_of(tasks, 0);
+    let machines = sizes.machines;
+    let mut cluster = Cluster::new(rt.alloc(), &mut draw, sizes)?;
+    println!(rt;
+        "{BURST} tasks come to {tasks} on {machines} machines, {preferring} in a hundred prefer some"
+    )?;
+    print_round(rt, 0, &mut cluster)?;
+    cluster.prefer_in(preferring);
+    for number in 1..=BURSTS {
+        for _ in 0..BURST {
+            cluster.add_task(&mut draw)?;
+        }
+        print_round(rt, number, &mut cluster)?;
+    }
+    Ok(())
+}
+
+/// Prints how long rounds take in which many tasks wait: if none of these prefers machines, if one in five does, and if all do.
+pub(crate) fn print_bursts(rt: &HostRuntime, tasks: u32) -> Result<(), anyhow::Error> {
+    for preferring in [0, 20, 100] {
+        print_bursts_of(rt, tasks, preferring)?;
     }
     Ok(())
 }

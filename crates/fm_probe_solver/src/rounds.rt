@@ -1,7 +1,7 @@
 //! Rounds of drawn clusters: what is planned costs what a least flow does.
 
 use crate::cluster::{Cluster, Sizes};
-use crate::corners::Corners;
+use crate::corners::{Corners, Kind};
 use crate::draw::Draw;
 use crate::solving::{anew, network_of};
 use fm_know::knowledge::Knowledge;
@@ -16,6 +16,8 @@ use fm_tally::tally::{LiveTask, Tally};
 use std::alloc::Global;
 
 const CLUSTERS: u32 = 500;
+
+const LARGE_CLUSTERS: u32 = 25;
 
 const ROUNDS: u32 = 3;
 
@@ -128,14 +130,9 @@ impl Counts {
 }
 
 // Rounds of the cluster of a seed, with changes in between.
-fn round_cluster(
-    alloc: Global,
-    seed: u32,
-    is_preferring: bool,
-    counts: &mut Counts,
-) -> Result<(), Refusal> {
+fn round_cluster(alloc: Global, seed: u32, kind: Kind, counts: &mut Counts) -> Result<(), Refusal> {
     let mut draw = Draw::new(u64::from(seed));
-    let mut corners = Corners::new(alloc, &mut draw, is_preferring)?;
+    let mut corners = Corners::new(alloc, &mut draw, kind)?;
     for _ in 0..ROUNDS {
         let (planned, is_least) = planned(alloc, &corners.cluster.known)?;
         counts.count(planned.source, is_least);
@@ -145,13 +142,33 @@ fn round_cluster(
     Ok(())
 }
 
-// The same of many clusters.
-fn counted(alloc: Global, is_preferring: bool) -> Result<Counts, Refusal> {
+// The same of so many clusters.
+fn counted(alloc: Global, clusters: u32, kind: Kind) -> Result<Counts, Refusal> {
     let mut counts = Counts::none();
-    for seed in 0..CLUSTERS {
-        round_cluster(alloc, seed, is_preferring, &mut counts)?;
+    for seed in 0..clusters {
+        round_cluster(alloc, seed, kind, &mut counts)?;
     }
     Ok(counts)
+}
+
+// Of small clusters.
+fn of_small(alloc: Global, is_preferring: bool) -> Result<Counts, Refusal> {
+    let kind = Kind {
+        machines: 7,
+        tasks: 25,
+        is_preferring,
+    };
+    counted(alloc, CLUSTERS, kind)
+}
+
+// Of larger ones, in which tasks may prefer machines.
+fn of_large(alloc: Global) -> Result<Counts, Refusal> {
+    let kind = Kind {
+        machines: 60,
+        tasks: 250,
+        is_preferring: true,
+    };
+    counted(alloc, LARGE_CLUSTERS, kind)
 }
 
 // So many machines without bandwidth, and as many tasks that wait, each of another size: so the network has few arcs, but there are too
@@ -208,8 +225,9 @@ fn say(rt: &HostRuntime, kind: &str, counts: Counts) -> Result<(), anyhow::Error
 
 /// How many rounds there were, and what is wrong with them.
 pub(crate) fn print(rt: &HostRuntime, alloc: Global) -> Result<(), anyhow::Error> {
-    say(rt, "without preferences", counted(alloc, false)?)?;
-    say(rt, "with preferences", counted(alloc, true)?)?;
+    say(rt, "without preferences", of_small(alloc, false)?)?;
+    say(rt, "with preferences", of_small(alloc, true)?)?;
+    say(rt, "of larger clusters", of_large(alloc)?)?;
     say(rt, "of a chain", of_chain(alloc, CHAINED)?)
 }
 

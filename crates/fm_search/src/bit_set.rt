@@ -1,6 +1,6 @@
 //! Sets of numbers as bits, so that two sets are compared 64 numbers at a time.
 
-use fm_lattice::join::OutOfMemory;
+use crate::Tried;
 use std::alloc::Global;
 
 /// Rows of as many bits, 64 in a word.
@@ -16,13 +16,6 @@ fn bit_of(number: usize) -> u64 {
     1 << (number % 64)
 }
 
-/// Sets the bit of a number in a row.
-pub(crate) fn set_bit(words: &mut [u64], number: usize) {
-    if let Some(word) = words.get_mut(number / 64) {
-        *word |= bit_of(number);
-    }
-}
-
 /// How many words a row of so many bits has.
 pub(crate) fn width_of(count: usize) -> usize {
     (count / 64).saturating_add(1)
@@ -30,7 +23,7 @@ pub(crate) fn width_of(count: usize) -> usize {
 
 impl Bits {
     /// So many rows of so many bits, none of which is set. O(rows * bits / 64).
-    pub(crate) fn of(alloc: Global, rows: usize, count: usize) -> Result<Bits, OutOfMemory> {
+    pub(crate) fn of(alloc: Global, rows: usize, count: usize) -> Tried<Bits> {
         let width = width_of(count);
         Ok(Bits {
             words: vec![in alloc; 0; width.saturating_mul(rows)]?,
@@ -50,28 +43,38 @@ impl Bits {
         }
     }
 
-    /// Whether the bit is set.
-    pub(crate) fn has(&self, row: usize, number: usize) -> bool {
-        self.word(row, number / 64) & bit_of(number) != 0
+    /// The first so many words of a row.
+    pub(crate) fn row(&self, row: usize, count: usize) -> &[u64] {
+        let first = row.saturating_mul(self.width);
+        let end = first.saturating_add(count.min(self.width));
+        self.words.get(first..end).unwrap_or(&[])
     }
 
-    /// A word of a row.
-    pub(crate) fn word(&self, row: usize, number: usize) -> u64 {
-        let at = row.saturating_mul(self.width).saturating_add(number);
-        self.words.get(at).copied().unwrap_or(0)
-    }
-
-    /// The least number of which the bit is set in both rows.
-    pub(crate) fn meets(&self, row: usize, other: &[u64]) -> Option<usize> {
-        for (at, word) in other.iter().enumerate() {
-            let both = *word & self.word(row, at);
+    /// The least number of which the bit is set in the row and among some words, each with its number.
+    pub(crate) fn meets(&self, row: usize, others: &[(usize, u64)]) -> Option<usize> {
+        let words = self.row(row, self.width);
+        for (number, other) in others {
+            let both = words.get(*number).copied().unwrap_or(0) & *other;
             if both != 0 {
-                return Some(
-                    at.saturating_mul(64)
-                        .saturating_add(both.trailing_zeros() as usize),
-                );
+                return Some(first_of(*number, both));
             }
         }
         None
     }
+}
+
+/// The number of the first bit that is set in the word of that number.
+pub(crate) fn first_of(word: usize, bits: u64) -> usize {
+    word.saturating_mul(64)
+        .saturating_add(bits.trailing_zeros() as usize)
+}
+
+/// The word without that bit.
+pub(crate) fn without_first(bits: u64) -> u64 {
+    bits & bits.wrapping_sub(1)
+}
+
+/// Whether the bit of a number is set.
+pub(crate) fn has_bit(words: &[u64], number: usize) -> bool {
+    words.get(number / 64).copied().unwrap_or(0) & bit_of(number) != 0
 }

@@ -1,357 +1,227 @@
-//! The machines of a tally while tasks are placed on them, by number, the least load first.
+//! What is placed so far: which slots are taken, and by how many tasks of which request.
 //!
-//! It keeps what the search asks at each step: free slots, what the next slot costs, which full machines have room for
-//! a request, and which have tasks of it. A slot of a full machine costs its load and the cheapest preemption there.
-//! Nothing is claimed of what is done here: a claim is checked.
+//! The search asks at each step how many slots of a machine are free and what the next one costs. A slot of a machine
+//! without a free one costs its load and the cheapest preemption there. Prices only rise: a free slot that is taken
+//! stays taken.
 
-use crate::bit_set::Bits;
-use crate::exits::Sought;
-use crate::machine_index::Numbers;
-use crate::segment_tree::{LEAST, Tree};
-use fm_lattice::join::OutOfMemory;
-use fm_records::ids::MachineId;
+use crate::Tried;
+use crate::costs::{FAR, NONE, put};
+use crate::exits::Exits;
+use crate::full_machines::Full;
+use crate::instance::Instance;
+use crate::movable::Movable;
+use crate::segment_tree::LEAST;
 
-/// A price beyond that of any slot.
-pub(crate) const FAR: i64 = 1 << 44;
-
-/// No number.
-pub(crate) const NONE: usize = usize::MAX;
-
-/// An open machine.
+/// The slots of a machine.
 #[derive(Clone, Copy, Drop)]
-pub(crate) struct Place {
-    pub(crate) machine: MachineId,
-    pub(crate) load: i64,
-    /// Less than any request if the load is beyond the bandwidth.
-    pub(crate) spare: i64,
-    pub(crate) slots: u32,
-    pub(crate) free: u32,
-    /// The held tasks that stay, among those of all machines: cheapest first.
-    pub(crate) next: usize,
-    pub(crate) end: usize,
+pub(crate) struct Slots {
+    pub(crate) free: i64,
+    /// What the next one costs.
+    pub(crate) price: i64,
+    /// How many of its held tasks, the cheapest, are preempted.
+    pub(crate) gone: usize,
     /// Its number among the machines by falling spare.
     pub(crate) rank: usize,
-    /// The first of its streams.
-    pub(crate) first: usize,
     /// Its number among the full machines with tasks that were placed there.
     pub(crate) full: usize,
 }
 
-/// A task that a machine holds, by its number in the tally. Those of one machine are sorted by these fields.
-#[derive(Clone, Copy, PartialEq, Eq, PartialOrd, Ord, Drop)]
-pub(crate) struct Held {
-    pub(crate) price: u32,
-    pub(crate) task: usize,
-}
+// The slots of no machine.
+const NO_SLOTS: Slots = Slots {
+    free: 0,
+    price: FAR,
+    gone: 0,
+    rank: NONE,
+    full: NONE,
+};
 
-/// Tasks of a request that go to a machine.
+/// How many tasks of a request go to a machine.
 #[derive(Clone, Copy, Drop)]
-pub(crate) struct Stream {
+pub(crate) struct Share {
     pub(crate) request: usize,
-    pub(crate) place: usize,
-    pub(crate) units: u32,
-    /// The next stream to the same machine.
-    pub(crate) after: usize,
+    pub(crate) units: i64,
 }
 
-/// Machines and requests by number, and what goes where.
+const NO_SHARE: Share = Share {
+    request: 0,
+    units: 0,
+};
+
+/// What is to be planned, and what is placed so far.
 #[derive(Drop)]
 pub(crate) struct Board {
-    pub(crate) places: Vec<Place>,
-    pub(crate) numbers: Numbers,
-    pub(crate) held: Vec<Held>,
-    /// Of each task of the tally, where its machine stands among the open ones, if it is held.
-    pub(crate) holders: Vec<usize>,
-    /// The tasks that wait, by their numbers in the tally.
-    pub(crate) idle: Vec<usize>,
-    /// The requests of waiting tasks, rising.
-    pub(crate) requests: Vec<u32>,
-    pub(crate) streams: Vec<Stream>,
-    /// The tasks that were preempted, by their numbers in the tally.
-    pub(crate) gone: Vec<usize>,
-    /// The full machines with tasks that were placed there.
-    pub(crate) full: Vec<usize>,
-    /// How many of these each request has seen.
-    pub(crate) seen: Vec<usize>,
-    /// Of each request, which of the full machines that it has seen have room for one more task, and which have tasks of it.
-    pub(crate) room: Bits,
-    pub(crate) units: Bits,
-    /// The requests with tasks on full machines.
-    pub(crate) active: Vec<usize>,
-    pub(crate) sought: Vec<Sought>,
-    /// The machines by falling spare, and the spares.
-    pub(crate) ranked: Vec<usize>,
-    pub(crate) spares: Vec<i64>,
-    /// By load, the spare of each machine with a free slot.
-    pub(crate) open: Tree,
-    /// By falling spare, the price of the next slot of each machine without a free one, negated.
-    pub(crate) kept: Tree,
-    /// The ranks that are left out of the latter.
-    pub(crate) left_out: Vec<usize>,
-}
-
-/// What the tree of machines with free slots has of the machine.
-pub(crate) fn open_spare(place: &Place) -> i64 {
-    if place.free > 0 { place.spare } else { LEAST }
+    pub(crate) instance: Instance,
+    pub(crate) slots: Vec<Slots>,
+    /// Of each machine, the requests whose tasks go there.
+    pub(crate) shares: Vec<Vec<Share>>,
+    /// Of each request, how many of its tasks without preferences are placed: the dearest.
+    pub(crate) placed: Vec<usize>,
+    pub(crate) exits: Exits,
+    pub(crate) full: Full,
+    pub(crate) movable: Movable,
+    /// What a unit of each request, and at each machine, costs at least.
+    pub(crate) request_labels: Vec<i64>,
+    pub(crate) machine_labels: Vec<i64>,
 }
 
 impl Board {
-    /// Preempts the cheapest task that the machine holds.
-    pub(crate) fn preempt(&mut self, number: usize) -> Result<(), OutOfMemory> {
-        let Some(place) = self.places.get_mut(number) else {
-            return Ok(());
-        };
-        let Some(held) = self.held.get(place.next) else {
-            return Ok(());
-        };
-        if place.next < place.end {
-            place.next = place.next.saturating_add(1);
-            self.gone.push(held.task)?;
-        }
-        Ok(())
+    /// The slots of the machine.
+    pub(crate) fn slots_of(&self, machine: usize) -> Slots {
+        self.slots.get(machine).copied().unwrap_or(NO_SLOTS)
     }
 
-    /// What the tree of machines without free slots has of the machine.
-    pub(crate) fn kept_price(&self, number: usize) -> i64 {
-        match self.places.get(number) {
-            Some(place) if place.free == 0 => self.next_price(place).saturating_neg(),
-            _ => FAR.saturating_neg(),
-        }
+    /// What the next slot of the machine costs.
+    pub(crate) fn price(&self, machine: usize) -> i64 {
+        self.slots_of(machine).price
     }
 
-    /// The number of the machine with room for the request, if it is open.
-    pub(crate) fn roomy(&self, machine: MachineId, request: u32) -> Option<usize> {
-        let (_, number) = self.numbers.find(machine)?;
-        let place = self.places.get(number)?;
-        if i64::from(request) <= place.spare {
-            Some(number)
-        } else {
-            None
-        }
+    /// The number of the machine among the full ones with tasks that were placed there.
+    pub(crate) fn full_number(&self, machine: usize) -> usize {
+        self.slots_of(machine).full
     }
 
-    /// The load of a machine.
-    pub(crate) fn load_at(&self, number: usize) -> i64 {
-        match self.places.get(number) {
-            Some(place) => place.load,
+    /// What the next slot of the machine costs if none is free.
+    pub(crate) fn held_price(&self, machine: usize) -> i64 {
+        let gone = self.slots_of(machine).gone;
+        let machine = self.instance.machine(machine);
+        match self.instance.held_by(&machine).get(gone) {
+            Some(price) => machine.load.saturating_add(*price),
             None => FAR,
         }
     }
 
-    /// What the next slot of a machine costs.
-    pub(crate) fn price_at(&self, number: usize) -> i64 {
-        match self.places.get(number) {
-            Some(place) => self.next_price(place),
-            None => FAR,
+    /// The requests whose tasks go to the machine.
+    pub(crate) fn shares_of(&self, machine: usize) -> &[Share] {
+        match self.shares.get(machine) {
+            Some(shares) => shares.as_slice(),
+            None => &[],
         }
     }
 
-    // What the next slot of the machine costs.
-    fn next_price(&self, place: &Place) -> i64 {
-        if place.free > 0 {
-            return place.load;
-        }
-        match self.held.get(place.next) {
-            Some(held) if place.next < place.end => {
-                place.load.saturating_add(i64::from(held.price))
-            }
-            _ => FAR,
-        }
+    /// One of these, by its place among them.
+    pub(crate) fn share(&self, machine: usize, place: usize) -> Share {
+        self.shares_of(machine)
+            .get(place)
+            .copied()
+            .unwrap_or(NO_SHARE)
     }
 
-    /// Whether the machine has no free slot.
-    pub(crate) fn is_full(&self, number: usize) -> bool {
-        match self.places.get(number) {
-            Some(place) => place.free == 0,
-            None => false,
-        }
-    }
-
-    /// The number of the machine among the full ones with tasks that were placed there, if it is one of these.
-    pub(crate) fn full_number(&self, number: usize) -> usize {
-        match self.places.get(number) {
-            Some(place) => place.full,
-            None => NONE,
-        }
-    }
-
-    /// The first stream to the machine.
-    pub(crate) fn first_stream(&self, number: usize) -> usize {
-        match self.places.get(number) {
-            Some(place) => place.first,
-            None => NONE,
-        }
-    }
-
-    // The stream of the request to the machine.
-    fn stream(&self, request: usize, place: &Place) -> usize {
-        let mut number = place.first;
-        for _ in 0..self.streams.len() {
-            match self.streams.get(number) {
-                Some(stream) if stream.request != request => number = stream.after,
-                _ => break,
+    /// How many tasks of the request go to the machine.
+    pub(crate) fn units(&self, request: usize, machine: usize) -> i64 {
+        for share in self.shares_of(machine) {
+            if share.request == request {
+                return share.units;
             }
         }
-        number
+        0
     }
 
-    /// Whether one more task of the request fits on the machine, by its bandwidth.
-    pub(crate) fn has_room(&self, request: usize, number: usize) -> bool {
-        let (Some(size), Some(place)) = (self.requests.get(request), self.places.get(number)) else {
-            return false;
-        };
-        let size = i64::from(*size);
-        if size > place.spare {
+    /// How many more tasks of the request the machine has bandwidth for, if all its slots were free for them.
+    pub(crate) fn room(&self, request: usize, machine: usize) -> i64 {
+        self.instance
+            .fitting(request, machine)
+            .saturating_sub(self.units(request, machine))
+    }
+
+    /// Whether it has bandwidth for one more.
+    pub(crate) fn has_room(&self, request: usize, machine: usize) -> bool {
+        let size = self.instance.request(request).size;
+        let there = self.instance.machine(machine);
+        if there.spare < size {
             return false;
         }
-        let units = self.units_at(request, number);
-        let with_one = i64::from(units).saturating_add(1);
-        units < place.slots && with_one.saturating_mul(size) <= place.spare
+        let units = self.units(request, machine);
+        units < there.slots && units.saturating_add(1).saturating_mul(size) <= there.spare
     }
 
-    /// Takes the next slot of the machine.
-    pub(crate) fn take(&mut self, number: usize) -> Result<(), OutOfMemory> {
-        let Some(place) = self.places.get_mut(number) else {
+    /// The worth of the last task of the request that is placed and has no preferences.
+    pub(crate) fn last_worth(&self, request: usize) -> Option<i64> {
+        let placed = self.placed.get(request).copied()?;
+        let last = placed.checked_sub(1)?;
+        self.instance.worths_of(request).get(last).copied()
+    }
+
+    /// So many more tasks of the request are placed.
+    pub(crate) fn place(&mut self, request: usize, count: i64) {
+        if let Some(placed) = self.placed.get_mut(request) {
+            *placed = placed.saturating_add(usize::try_from(count).unwrap_or(0));
+        }
+    }
+
+    /// The last task of the request that was placed waits again.
+    pub(crate) fn unplace(&mut self, request: usize) {
+        if let Some(placed) = self.placed.get_mut(request) {
+            *placed = placed.saturating_sub(1);
+        }
+    }
+
+    /// Takes so many free slots of the machine, or, if none is free, that of its cheapest held task.
+    pub(crate) fn take(&mut self, machine: usize, count: i64) -> Tried<()> {
+        if !self.use_up(machine, count) {
             return Ok(());
+        }
+        let price = self.held_price(machine);
+        self.set_price(machine, price);
+        self.fill(machine)?;
+        if self.full_number(machine) == NONE {
+            put(&mut self.machine_labels, machine, price);
+        }
+        Ok(())
+    }
+
+    // Takes the slots. Answers whether none is free any more.
+    fn use_up(&mut self, machine: usize, count: i64) -> bool {
+        let Some(slots) = self.slots.get_mut(machine) else {
+            return false;
         };
-        if place.free > 0 {
-            place.free = place.free.saturating_sub(1);
+        if slots.free > 0 {
+            slots.free = slots.free.saturating_sub(count);
+            if slots.free > 0 {
+                return false;
+            }
+            self.exits.free.set(machine, LEAST);
         } else {
-            self.preempt(number)?;
+            slots.gone = slots.gone.saturating_add(1);
         }
-        self.note(number)
+        true
     }
 
-    /// Brings what is known of a machine up to date, after a slot was taken.
-    fn note(&mut self, number: usize) -> Result<(), OutOfMemory> {
-        let Some(place) = self.places.get(number).copied() else {
-            return Ok(());
+    // The next slot of the machine, of which none is free, costs so much.
+    fn set_price(&mut self, machine: usize, price: i64) {
+        let Some(slots) = self.slots.get_mut(machine) else {
+            return;
         };
-        self.open.set(number, open_spare(&place));
-        if place.rank != NONE {
-            let price = self.kept_price(number);
-            self.kept.set(place.rank, price);
-        }
-        if place.free == 0 && place.full == NONE {
-            self.fill(number)?;
-        }
-        Ok(())
-    }
-
-    // Numbers a machine that has no free slot any more.
-    fn fill(&mut self, number: usize) -> Result<(), OutOfMemory> {
-        let full = self.full.len();
-        self.full.push(number)?;
-        if let Some(place) = self.places.get_mut(number) {
-            place.full = full;
-        }
-        let mut at = self.first_stream(number);
-        for _ in 0..self.streams.len() {
-            let Some(stream) = self.streams.get(at).copied() else {
-                break;
-            };
-            self.mark(stream.request, number)?;
-            at = stream.after;
-        }
-        Ok(())
-    }
-
-    // How many full machines the request has seen.
-    fn seen(&self, request: usize) -> usize {
-        self.seen.get(request).copied().unwrap_or(0)
-    }
-
-    /// Brings the request's room up to the full machines that there are.
-    pub(crate) fn look(&mut self, request: usize) {
-        for full in self.seen(request)..self.full.len() {
-            let number = self.full.get(full).copied().unwrap_or(NONE);
-            let has_room = self.has_room(request, number);
-            self.room.set(request, full, has_room);
-        }
-        if let Some(seen) = self.seen.get_mut(request) {
-            *seen = self.full.len();
+        slots.price = price;
+        if slots.rank != NONE {
+            self.exits.kept.set(slots.rank, price.saturating_neg());
         }
     }
 
-    // Brings the request's bits of the machine up to date, if it is full.
-    fn mark(&mut self, request: usize, number: usize) -> Result<(), OutOfMemory> {
-        let full = self.full_number(number);
-        if full == NONE {
-            return Ok(());
+    /// So many more tasks of the request go to the machine, or fewer if that is below 0.
+    pub(crate) fn add_units(&mut self, request: usize, machine: usize, count: i64) -> Tried<()> {
+        if count < 0 {
+            self.forget_exit(request, machine);
         }
-        let has_units = self.units_at(request, number) > 0;
-        self.units.set(request, full, has_units);
-        if has_units && !self.active.contains(&request) {
-            self.active.push(request)?;
-        }
-        if full < self.seen(request) {
-            let has_room = self.has_room(request, number);
-            self.room.set(request, full, has_room);
-        }
-        Ok(())
-    }
-
-    // How many tasks of the request go to the machine.
-    fn units_at(&self, request: usize, number: usize) -> u32 {
-        let Some(place) = self.places.get(number) else {
-            return 0;
-        };
-        match self.streams.get(self.stream(request, place)) {
-            Some(stream) => stream.units,
-            None => 0,
-        }
-    }
-
-    /// One more task of the request goes to the machine.
-    pub(crate) fn add(&mut self, request: usize, number: usize) -> Result<(), OutOfMemory> {
-        let Some(place) = self.places.get(number).copied() else {
-            return Ok(());
-        };
-        let at = self.stream(request, &place);
-        if let Some(stream) = self.streams.get_mut(at) {
-            stream.units = stream.units.saturating_add(1);
+        self.add_to_share(request, machine, count)?;
+        if self.full_number(machine) == NONE {
+            self.fill(machine)
         } else {
-            self.add_stream(request, number, place.first)?;
+            self.mark(request, machine)
         }
-        self.mark(request, number)
     }
 
-    // A stream of one task, before the others to the machine.
-    fn add_stream(
-        &mut self,
-        request: usize,
-        number: usize,
-        after: usize,
-    ) -> Result<(), OutOfMemory> {
-        let new = self.streams.len();
-        self.streams.push(Stream {
-            request,
-            place: number,
-            units: 1,
-            after,
-        })?;
-        if let Some(place) = self.places.get_mut(number) {
-            place.first = new;
-        }
-        Ok(())
-    }
-
-    /// One task of the request less goes to the machine.
-    pub(crate) fn remove(&mut self, request: usize, number: usize) -> Result<(), OutOfMemory> {
-        let Some(place) = self.places.get(number).copied() else {
+    // Adds to the units of the request at the machine.
+    fn add_to_share(&mut self, request: usize, machine: usize, units: i64) -> Tried<()> {
+        let Some(shares) = self.shares.get_mut(machine) else {
             return Ok(());
         };
-        let at = self.stream(request, &place);
-        if let Some(stream) = self.streams.get_mut(at) {
-            stream.units = stream.units.saturating_sub(1);
-        }
-        self.mark(request, number)?;
-        let price = self.price_at(number);
-        if let Some(sought) = self.sought.get_mut(request) {
-            if price < sought.exit.price {
-                sought.is_known = false;
+        for share in shares.iter_mut() {
+            if share.request == request {
+                share.units = share.units.saturating_add(units);
+                return Ok(());
             }
         }
+        shares.push(Share { request, units })?;
         Ok(())
     }
 }

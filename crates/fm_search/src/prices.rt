@@ -1,169 +1,159 @@
 //! The prices of what was placed: what one more task would cost at each machine and at each request.
 //!
-//! They are what a check needs beside the moves, as potentials are with a flow. They begin as what the next slot costs,
-//! and fall as long as a task that goes elsewhere makes room for less. That is relaxing (Ford, 1956; Bellman, 1958),
-//! 256 times at most. Prices that could still fall do not pass the check.
+//! They are what a check needs beside the moves, as potentials are with a flow. Those of requests are the labels. That of
+//! a machine is the least of its next slot, of the labels of requests with tasks there, and of what it costs to move on
+//! the tasks there that prefer machines. The last of these depends on prices of other machines. So prices are lowered as
+//! long as one is too high (labels corrected in turn: Ford, 1956), nearest to the kept labels first: then few fall twice.
 
-use crate::board::{Board, FAR};
-use crate::waiting::{Spot, Waiting, Wisher};
-use fm_lattice::join::OutOfMemory;
-use fm_records::ids::MachineId;
-use fm_tally::sorted::Sorted;
+use crate::Tried;
+use crate::board::Board;
+use crate::costs::{cost_at, put};
+use crate::movable::Spot;
 use std::alloc::Global;
+use std::collections::BinaryHeap;
 
-// How often prices are lowered at most: after that, the check refuses them.
-const MOST_TURNS: usize = 256;
+// How many falls are followed, for each machine and each choice of a task: after that, the check refuses the prices.
+const MOST_TURNS: usize = 64;
 
-/// What one more task costs at each machine and at each request, and, for a task with wishes that was placed, elsewhere.
+// A task at a machine may move on to another one, which costs so much more there. Sorted by these fields.
+#[derive(Clone, Copy, PartialEq, Eq, PartialOrd, Ord, Drop)]
+struct Move {
+    to: usize,
+    from: usize,
+    cost: i64,
+}
+
+// A price that fell. The greatest is followed first: that which is the least above its label.
+#[derive(Clone, Copy, PartialEq, Eq, PartialOrd, Ord, Drop)]
+struct Fall {
+    // How far the price is above the label, and the price, negated.
+    below: i64,
+    price_below: i64,
+    machine: usize,
+}
+
+// Prices of machines, which fall, and the moves to each machine.
 #[derive(Drop)]
-pub(crate) struct Prices {
-    places: Vec<i64>,
-    requests: Vec<i64>,
-    elsewhere: Vec<i64>,
+struct Prices {
+    costs: Vec<i64>,
+    moves: Vec<Move>,
+    falls: BinaryHeap<Fall>,
 }
 
-// Lowers a number to another. Answers whether it fell.
-fn lower(numbers: &mut [i64], at: usize, to: i64) -> bool {
-    match numbers.get_mut(at) {
-        Some(number) if to < *number => {
-            *number = to;
-            true
-        }
-        _ => false,
+/// What one more task costs at each machine. That of a request is its label.
+pub(crate) fn prices_of(alloc: Global, board: &Board) -> Tried<Vec<i64>> {
+    let mut costs = Vec::with_capacity(alloc, board.slots.len())?;
+    for machine in 0..board.slots.len() {
+        costs.push(price_by_requests(board, machine))?;
     }
+    if board.instance.preferring.is_empty() {
+        return Ok(costs);
+    }
+    lowered(alloc, board, costs)
 }
 
-// The number there, or one beyond all prices.
-fn at(numbers: &[i64], at: usize) -> i64 {
-    numbers.get(at).copied().unwrap_or(FAR)
+// The least of the machine's next slot and the labels of requests with tasks there.
+fn price_by_requests(board: &Board, machine: usize) -> i64 {
+    let slots = board.slots_of(machine);
+    let mut price = slots.price;
+    if slots.free > 0 {
+        return price;
+    }
+    for share in board.shares_of(machine) {
+        if share.units > 0 {
+            price = price.min(board.request_label(share.request));
+        }
+    }
+    price
+}
+
+// These prices, lowered by what it costs to move on tasks that prefer machines.
+fn lowered(alloc: Global, board: &Board, costs: Vec<i64>) -> Tried<Vec<i64>> {
+    let mut prices = Prices {
+        costs,
+        moves: Vec::with_capacity(alloc, board.instance.choices.len())?,
+        falls: BinaryHeap::new(alloc),
+    };
+    prices.begin(board)?;
+    prices.moves.sort_unstable();
+    prices.follow(board)?;
+    Ok(prices.costs)
 }
 
 impl Prices {
-    /// The prices of what was placed. O(n), and some walks over requests, full machines and tasks with wishes: at most 256.
-    pub(crate) fn of(
-        alloc: Global,
-        board: &mut Board,
-        waiting: &Waiting,
-    ) -> Result<Prices, OutOfMemory> {
-        let mut places = Vec::new(alloc);
-        for number in 0..board.places.len() {
-            places.push(board.price_at(number))?;
-        }
-        let mut requests = Vec::new(alloc);
-        for request in 0..board.requests.len() {
-            let exit = board.exit(request)?.price;
-            requests.push(exit.min(waiting.last_worth(request).unwrap_or(FAR)))?;
-            board.look(request);
-        }
-        let mut elsewhere = Vec::new(alloc);
-        for wisher in &waiting.wishers {
-            elsewhere.push(wisher.worth)?;
-        }
-        let mut prices = Prices {
-            places,
-            requests,
-            elsewhere,
-        };
-        prices.fall(board, waiting);
-        Ok(prices)
-    }
-
-    // Lowers prices, as long as a task that goes elsewhere makes room for less.
-    fn fall(&mut self, board: &Board, waiting: &Waiting) {
-        for _ in 0..MOST_TURNS {
-            let by_wishers = self.fall_by_wishers(waiting);
-            let by_room = self.fall_by_room(board);
-            let by_streams = self.fall_by_streams(board);
-            if !by_wishers && !by_room && !by_streams {
-                break;
+    // Lists the moves, and lowers each price to what it costs to move on a task there.
+    fn begin(&mut self, board: &Board) -> Tried<()> {
+        for task in 0..board.instance.preferring.len() {
+            if let Spot::Straight(machine) = board.movable.spot(task) {
+                self.begin_with(board, task, machine)?;
             }
         }
+        Ok(())
     }
 
-    // A task with wishes that was placed goes elsewhere.
-    fn fall_by_wishers(&mut self, waiting: &Waiting) -> bool {
-        let mut fell = false;
-        for (number, wisher) in waiting.wishers.iter().enumerate() {
-            if wisher.spot != Spot::Nowhere {
-                fell = self.fall_by_wisher(waiting, number, wisher) || fell;
-            }
-        }
-        fell
-    }
-
-    fn fall_by_wisher(&mut self, waiting: &Waiting, number: usize, wisher: &Wisher) -> bool {
-        let mut least = at(&self.elsewhere, number);
-        if wisher.spot != Spot::ByRequest {
-            least = least.min(at(&self.requests, wisher.request));
-        }
-        for wish in waiting.wishes_of(wisher) {
-            if wisher.spot != Spot::Straight(wish.place) {
-                let there = at(&self.places, wish.place).saturating_sub(wish.gain);
+    // The same of a task at the machine.
+    fn begin_with(&mut self, board: &Board, task: usize, machine: usize) -> Tried<()> {
+        let preferring = board.instance.task(task);
+        let gain = board.instance.gain(task, machine);
+        let mut least = preferring
+            .worth
+            .min(board.request_label(preferring.request));
+        for choice in board.instance.choices_of(&preferring) {
+            let there = cost_at(&self.costs, choice.machine).saturating_sub(choice.gain);
+            if choice.machine != machine {
                 least = least.min(there);
             }
+            self.moves.push(Move {
+                to: choice.machine,
+                from: machine,
+                cost: gain.saturating_sub(choice.gain),
+            })?;
         }
-        let fell = lower(&mut self.elsewhere, number, least);
-        match wisher.spot {
-            Spot::Nowhere => fell,
-            Spot::ByRequest => lower(&mut self.requests, wisher.request, least) || fell,
-            Spot::Straight(place) => {
-                let there = least.saturating_add(waiting.gain(wisher, place));
-                lower(&mut self.places, place, there) || fell
+        self.lower(board, machine, gain.saturating_add(least))
+    }
+
+    // Lowers the price of a machine, if it is more.
+    fn lower(&mut self, board: &Board, machine: usize, price: i64) -> Tried<()> {
+        if price >= cost_at(&self.costs, machine) {
+            return Ok(());
+        }
+        put(&mut self.costs, machine, price);
+        let above = price.saturating_sub(board.machine_label(machine));
+        self.falls.push(Fall {
+            below: above.saturating_neg(),
+            price_below: price.saturating_neg(),
+            machine,
+        })?;
+        Ok(())
+    }
+
+    // Follows each fall to the machines whose tasks may move to where it was.
+    fn follow(&mut self, board: &Board) -> Tried<()> {
+        let turns = self.costs.len().saturating_add(self.moves.len());
+        for _ in 0..turns.saturating_mul(MOST_TURNS) {
+            let Some(fall) = self.falls.pop() else {
+                break;
+            };
+            let price = fall.price_below.saturating_neg();
+            if price <= cost_at(&self.costs, fall.machine) {
+                self.follow_one(board, fall.machine, price)?;
             }
         }
+        Ok(())
     }
 
-    // A task of a request goes to a full machine with room for it.
-    fn fall_by_room(&mut self, board: &Board) -> bool {
-        let mut fell = false;
-        for (full, number) in board.full.iter().enumerate() {
-            let price = at(&self.places, *number);
-            for (request, offer) in self.requests.iter_mut().enumerate() {
-                if price < *offer && board.room.has(request, full) {
-                    *offer = price;
-                    fell = true;
-                }
+    // Lowers the prices of machines whose tasks may move to one, which now costs so much.
+    fn follow_one(&mut self, board: &Board, machine: usize, price: i64) -> Tried<()> {
+        let first = self.moves.partition_point(|there| there.to < machine);
+        for number in first..self.moves.len() {
+            let Some(there) = self.moves.get(number).copied() else {
+                break;
+            };
+            if there.to != machine {
+                break;
             }
+            self.lower(board, there.from, price.saturating_add(there.cost))?;
         }
-        fell
-    }
-
-    // A task of a stream goes elsewhere over its request.
-    fn fall_by_streams(&mut self, board: &Board) -> bool {
-        let mut fell = false;
-        for stream in &board.streams {
-            if stream.units > 0 && board.is_full(stream.place) {
-                let offer = at(&self.requests, stream.request);
-                fell = lower(&mut self.places, stream.place, offer) || fell;
-            }
-        }
-        fell
-    }
-
-    /// By how much the prices of machines are above their loads.
-    pub(crate) fn rises(
-        &self,
-        alloc: Global,
-        board: &Board,
-    ) -> Result<Sorted<MachineId, u64>, OutOfMemory> {
-        let mut rises = Sorted::new(alloc);
-        for (machine, number) in board.numbers.pairs() {
-            let above = at(&self.places, *number).saturating_sub(board.load_at(*number));
-            rises.put(*machine, u64::try_from(above).unwrap_or(0))?;
-        }
-        Ok(rises)
-    }
-
-    /// What one more task costs, by request.
-    pub(crate) fn by_request(
-        &self,
-        alloc: Global,
-        board: &Board,
-    ) -> Result<Sorted<u32, u64>, OutOfMemory> {
-        let mut sorted = Sorted::new(alloc);
-        for (request, offer) in board.requests.iter().zip(self.requests.iter()) {
-            sorted.put(*request, u64::try_from(*offer).unwrap_or(0))?;
-        }
-        Ok(sorted)
+        Ok(())
     }
 }

@@ -1,15 +1,19 @@
-//! The search for a plan: waiting tasks are placed by falling worth, each over the cheapest path.
+//! The search for a plan: waiting tasks are placed one after another, each over a cheapest path.
 //!
-//! It works on tasks and machines, without an arc for each request and machine. It is after successive shortest paths
-//! (Jewell, 1958). Nearly all costs sit at the two ends of a path. So a task needs a walk over others only if its
-//! cheapest slot may be one that others make free. Nothing is claimed of its result: a claim is checked (`fm_planner`).
+//! It works on tasks and machines, without an arc for each request and machine, by successive shortest paths (Ford and
+//! Fulkerson, 1962; Jewell, 1958), with labels that are kept from search to search (Jonker and Volgenant, 1987). Nearly all
+//! costs sit at the two ends of a path. So most tasks need no walk over others: their next slot costs no more than the
+//! label. Nothing is claimed of its result: a claim is checked (`fm_planner`).
 
+use crate::Tried;
 use crate::board::Board;
 use crate::claim::Claim;
-use crate::exits::Exit;
-use crate::paths::Paths;
-use crate::prices::Prices;
-use crate::waiting::{Spot, Waiting};
+use crate::costs::{above, cost_at};
+use crate::movable::Spot;
+use crate::path_search::Paths;
+use crate::placing::place_all;
+use crate::prices::prices_of;
+use crate::setup::{Names, instance_of};
 use fm_know::knowledge::Knowledge;
 use fm_lattice::join::OutOfMemory;
 use fm_records::ids::{MachineId, TaskId};
@@ -19,184 +23,118 @@ use fm_tally::way::Way;
 use std::alloc::Global;
 
 /// A claim of a plan of the tally. None if the searches take too many steps, or for too many requests and machines.
-/// O(n log n) in the tasks and machines. For each task that no free slot is left for, a search over requests and full machines.
+/// O(n log n) in the tasks and machines, and a search over requests and full machines for about each machine that fills up.
 pub fn search(
     alloc: Global,
     knowledge: &Knowledge,
     tally: &Tally,
 ) -> Result<Option<Claim>, OutOfMemory> {
-    let Some(mut board) = Board::of(alloc, tally)? else {
+    let (instance, names) = instance_of(alloc, knowledge, tally)?;
+    let Some(board) = Board::of(alloc, instance)? else {
         return Ok(None);
     };
-    let mut waiting = Waiting::of(alloc, knowledge, tally, &mut board)?;
-    let mut paths = Paths::of(alloc, &board, &waiting)?;
-    if !place_all(alloc, &mut board, &mut waiting, &mut paths)? {
+    let mut paths = Paths::of(alloc, board)?;
+    if !place_all(alloc, &mut paths)? {
         return Ok(None);
     }
-    let prices = Prices::of(alloc, &mut board, &waiting)?;
-    let rises = prices.rises(alloc, &board)?;
-    let offers = prices.by_request(alloc, &board)?;
-    let moves = moves_of(alloc, tally, &board, &waiting)?;
-    Ok(Some(Claim {
+    let claim = claim_of(alloc, tally, &paths.board, names)?;
+    Ok(Some(claim))
+}
+
+// What was placed, and its prices.
+fn claim_of(alloc: Global, tally: &Tally, board: &Board, names: Names) -> Tried<Claim> {
+    let moves = moves_of(alloc, tally, board, &names)?;
+    let rises = rises_of(alloc, board, &names)?;
+    let offers = offers_of(alloc, board, &names)?;
+    Ok(Claim {
         moves,
         rises,
         offers,
-        holders: board.holders,
-    }))
+        holders: names.holders,
+    })
 }
 
-// Places the tasks in their order, each if a path costs less than its worth. Answers whether each search came to its end.
-fn place_all(
-    alloc: Global,
-    board: &mut Board,
-    waiting: &mut Waiting,
-    paths: &mut Paths,
-) -> Result<bool, OutOfMemory> {
-    for turn in &waiting.turns(alloc)? {
-        let worth = turn.below.saturating_neg();
-        let is_done = match turn.number.checked_sub(waiting.groups.len()) {
-            Some(wisher) => place_wisher(board, waiting, paths, wisher)?,
-            None => place(board, waiting, paths, turn.number, worth)?,
-        };
-        if !is_done {
-            return Ok(false);
-        }
+// By how much the prices of machines are above their loads.
+fn rises_of(alloc: Global, board: &Board, names: &Names) -> Tried<Sorted<MachineId, u64>> {
+    let prices = prices_of(alloc, board)?;
+    let mut rises = Sorted::new(alloc);
+    for (machine, number) in names.numbers.pairs() {
+        let load = board.instance.machine(*number).load;
+        rises.put(*machine, above(cost_at(&prices, *number), load))?;
     }
-    Ok(true)
+    Ok(rises)
 }
 
-// Places the next task of a request, if it is worth the place.
-fn place(
-    board: &mut Board,
-    waiting: &mut Waiting,
-    paths: &mut Paths,
-    request: usize,
-    worth: i64,
-) -> Result<bool, OutOfMemory> {
-    let least = waiting.least(request);
-    if least >= worth {
-        return Ok(true);
+// What one more task costs, by request.
+fn offers_of(alloc: Global, board: &Board, names: &Names) -> Tried<Sorted<u32, u64>> {
+    let mut offers = Sorted::new(alloc);
+    for (number, request) in names.requests.iter().enumerate() {
+        offers.put(*request, above(board.request_label(number), 0))?;
     }
-    let exit = board.exit(request)?;
-    if exit.price <= least || board.full.is_empty() {
-        place_at(board, waiting, request, worth, exit)?;
-        return Ok(true);
-    }
-    if !paths.search(board, waiting, request, least)? {
-        return Ok(false);
-    }
-    if paths.cost < worth {
-        paths.send(board, waiting)?;
-        waiting.place_next(request);
-    }
-    Ok(true)
-}
-
-// Places the next task of a request at the exit.
-fn place_at(
-    board: &mut Board,
-    waiting: &mut Waiting,
-    request: usize,
-    worth: i64,
-    exit: Exit,
-) -> Result<(), OutOfMemory> {
-    waiting.raise(request, exit.price);
-    if exit.price < worth {
-        board.add(request, exit.place)?;
-        board.take(exit.place)?;
-        waiting.place_next(request);
-    }
-    Ok(())
-}
-
-// Places a task with wishes, if it is worth the place.
-fn place_wisher(
-    board: &mut Board,
-    waiting: &mut Waiting,
-    paths: &mut Paths,
-    number: usize,
-) -> Result<bool, OutOfMemory> {
-    if !is_worth(board, waiting, number) {
-        return Ok(true);
-    }
-    let source = paths.wisher_node(number);
-    if !paths.search(board, waiting, source, i64::MIN)? {
-        return Ok(false);
-    }
-    paths.send(board, waiting)?;
-    Ok(true)
-}
-
-// Whether the task with wishes may be worth a place.
-fn is_worth(board: &Board, waiting: &Waiting, number: usize) -> bool {
-    let Some(wisher) = waiting.wishers.get(number) else {
-        return false;
-    };
-    let mut least = waiting.least(wisher.request);
-    for wish in waiting.wishes_of(wisher) {
-        let price = if board.full_number(wish.place) < board.full.len() {
-            board.load_at(wish.place)
-        } else {
-            board.price_at(wish.place)
-        };
-        least = least.min(price.saturating_sub(wish.gain));
-    }
-    least < wisher.worth
+    Ok(offers)
 }
 
 // The moves: of each request, the machines to which its tasks go by rising id, to its placed tasks by rising id; the tasks that go
-// straight; and the tasks that were preempted.
+// straight; and the tasks that are preempted.
 fn moves_of(
     alloc: Global,
     tally: &Tally,
     board: &Board,
-    waiting: &Waiting,
-) -> Result<Sorted<TaskId, Way>, OutOfMemory> {
-    let mut moves = straight_moves(alloc, board, waiting)?;
-    let tasks = tasks_of(alloc, waiting)?;
-    let seats = seats_of(alloc, board)?;
-    for ((request, task), (_, machine)) in tasks.iter().zip(seats.iter()) {
-        let request = board.requests.get(*request).copied().unwrap_or(0);
-        moves.push((*task, Way::ByRequest(request, *machine)))?;
+    names: &Names,
+) -> Tried<Sorted<TaskId, Way>> {
+    let mut moves = straight_moves(alloc, board, names)?;
+    add_by_request(alloc, &mut moves, board, names)?;
+    add_preempted(&mut moves, tally, board, names)?;
+    moves.sort_unstable_by_key(|pair| pair.0);
+    let mut sorted = Sorted::new(alloc);
+    for (task, way) in &moves {
+        sorted.put(*task, *way)?;
     }
-    for number in &board.gone {
-        if let Some((task, live)) = tally.tasks.pairs().get(*number) {
-            moves.push((*task, Way::ToJob(live.job)))?;
-        }
-    }
-    in_order(alloc, moves)
+    Ok(sorted)
 }
 
 // The moves of the tasks that go straight.
-fn straight_moves(
-    alloc: Global,
-    board: &Board,
-    waiting: &Waiting,
-) -> Result<Vec<(TaskId, Way)>, OutOfMemory> {
+fn straight_moves(alloc: Global, board: &Board, names: &Names) -> Tried<Vec<(TaskId, Way)>> {
     let mut moves = Vec::new(alloc);
-    for wisher in &waiting.wishers {
-        let Spot::Straight(number) = wisher.spot else {
-            continue;
-        };
-        if let Some(place) = board.places.get(number) {
-            moves.push((wisher.task, Way::Straight(place.machine)))?;
+    for (number, task) in names.preferring.iter().enumerate() {
+        if let Spot::Straight(machine) = board.movable.spot(number) {
+            if let Some(machine) = names.machines.get(machine) {
+                moves.push((*task, Way::Straight(*machine)))?;
+            }
         }
     }
     Ok(moves)
 }
 
+// Adds the moves of the tasks that go over their requests.
+fn add_by_request(
+    alloc: Global,
+    moves: &mut Vec<(TaskId, Way)>,
+    board: &Board,
+    names: &Names,
+) -> Tried<()> {
+    let tasks = tasks_of(alloc, board, names)?;
+    let seats = seats_of(alloc, board, names)?;
+    for ((request, task), (_, machine)) in tasks.iter().zip(seats.iter()) {
+        let request = names.requests.get(*request).copied().unwrap_or(0);
+        moves.push((*task, Way::ByRequest(request, *machine)))?;
+    }
+    Ok(())
+}
+
 // The tasks that go over their requests, by request and task.
-fn tasks_of(alloc: Global, waiting: &Waiting) -> Result<Vec<(usize, TaskId)>, OutOfMemory> {
+fn tasks_of(alloc: Global, board: &Board, names: &Names) -> Tried<Vec<(usize, TaskId)>> {
     let mut tasks = Vec::new(alloc);
-    for (request, group) in waiting.groups.iter().enumerate() {
-        let end = group.first.saturating_add(group.placed);
-        for waiter in waiting.waiters.get(group.first..end).unwrap_or(&[]) {
-            tasks.push((request, waiter.task))?;
+    for (number, request) in board.instance.requests.iter().enumerate() {
+        let placed = board.placed.get(number).copied().unwrap_or(0);
+        let end = request.first.saturating_add(placed);
+        for task in names.waiting.get(request.first..end).unwrap_or(&[]) {
+            tasks.push((number, *task))?;
         }
     }
-    for wisher in &waiting.wishers {
-        if wisher.spot == Spot::ByRequest {
-            tasks.push((wisher.request, wisher.task))?;
+    for (number, task) in names.preferring.iter().enumerate() {
+        if board.movable.spot(number) == Spot::ByRequest {
+            tasks.push((board.instance.task(number).request, *task))?;
         }
     }
     tasks.sort_unstable();
@@ -204,27 +142,33 @@ fn tasks_of(alloc: Global, waiting: &Waiting) -> Result<Vec<(usize, TaskId)>, Ou
 }
 
 // A machine for each task that goes to it over a request, by request and machine.
-fn seats_of(alloc: Global, board: &Board) -> Result<Vec<(usize, MachineId)>, OutOfMemory> {
+fn seats_of(alloc: Global, board: &Board, names: &Names) -> Tried<Vec<(usize, MachineId)>> {
     let mut seats = Vec::new(alloc);
-    for stream in &board.streams {
-        let Some(place) = board.places.get(stream.place) else {
-            continue;
-        };
-        for _ in 0..stream.units {
-            seats.push((stream.request, place.machine))?;
+    for (number, machine) in names.machines.iter().enumerate() {
+        for share in board.shares_of(number) {
+            for _ in 0..share.units {
+                seats.push((share.request, *machine))?;
+            }
         }
     }
     seats.sort_unstable();
     Ok(seats)
 }
 
-// The moves by task.
-fn in_order(alloc: Global, moves: Vec<(TaskId, Way)>) -> Result<Sorted<TaskId, Way>, OutOfMemory> {
-    let mut moves = moves;
-    moves.sort_unstable_by_key(|pair| pair.0);
-    let mut sorted = Sorted::new(alloc);
-    for (task, way) in &moves {
-        sorted.put(*task, *way)?;
+// Adds the moves of the held tasks that are preempted: the cheapest of each machine.
+fn add_preempted(
+    moves: &mut Vec<(TaskId, Way)>,
+    tally: &Tally,
+    board: &Board,
+    names: &Names,
+) -> Tried<()> {
+    for (machine, slots) in board.instance.machines.iter().zip(board.slots.iter()) {
+        let end = machine.first.saturating_add(slots.gone).min(machine.end);
+        for number in names.held.get(machine.first..end).unwrap_or(&[]) {
+            if let Some((task, live)) = tally.tasks.pairs().get(*number) {
+                moves.push((*task, Way::ToJob(live.job)))?;
+            }
+        }
     }
-    Ok(sorted)
+    Ok(())
 }

@@ -1,9 +1,9 @@
-//! A segment tree over a row of numbers: the first that is great enough, and the greatest of the first so many.
+//! A segment tree over a row of numbers, of which each node has the greatest number below it.
 //!
-//! So the first machine with enough spare bandwidth, and the cheapest of those with enough, are found in O(log n), and
-//! a change of a number costs the same.
+//! So the first machine with enough spare bandwidth is found in O(log n), and a search for the cheapest slot leaves out
+//! the branches that are too dear. A change of a number costs O(log n).
 
-use fm_lattice::join::OutOfMemory;
+use crate::Tried;
 use std::alloc::Global;
 
 /// Below every number that is kept in a tree.
@@ -49,7 +49,7 @@ fn next_right(node: usize) -> usize {
 
 impl Tree {
     /// The numbers in their row. O(n).
-    pub(crate) fn of(alloc: Global, numbers: &[i64]) -> Result<Tree, OutOfMemory> {
+    pub(crate) fn of(alloc: Global, numbers: &[i64]) -> Tried<Tree> {
         let leaves = power_for(numbers.len());
         let nodes = vec![in alloc; LEAST; leaves.saturating_mul(2)]?;
         let mut tree = Tree { nodes, leaves };
@@ -64,9 +64,14 @@ impl Tree {
         Ok(tree)
     }
 
-    // The number of a node.
-    fn at(&self, node: usize) -> i64 {
+    /// The number of a node.
+    pub(crate) fn at(&self, node: usize) -> i64 {
         self.nodes.get(node).copied().unwrap_or(LEAST)
+    }
+
+    /// How many leaves the tree has: a power of two.
+    pub(crate) fn width(&self) -> usize {
+        self.leaves
     }
 
     fn write(&mut self, node: usize, number: i64) {
@@ -79,11 +84,6 @@ impl Tree {
     fn below(&self, node: usize) -> i64 {
         let left = node.saturating_mul(2);
         self.at(left).max(self.at(left.saturating_add(1)))
-    }
-
-    /// The greatest number of all.
-    pub(crate) fn greatest(&self) -> i64 {
-        self.at(1)
     }
 
     /// Puts a number in place of another. O(log n), as each query.
@@ -136,30 +136,5 @@ impl Tree {
             }
         }
         None
-    }
-
-    // The node with the greatest number of the first so many, if one is above the least.
-    fn greatest_node(&self, end: usize) -> Option<usize> {
-        if end >= self.leaves {
-            return Some(1);
-        }
-        let mut right = self.leaves.saturating_add(end);
-        let mut found = None;
-        let mut most = LEAST;
-        for _ in 0..LEVELS {
-            let left = right.saturating_sub(1);
-            if right % 2 == 1 && self.at(left) > most {
-                most = self.at(left);
-                found = Some(left);
-            }
-            right /= 2;
-        }
-        found
-    }
-
-    /// The place of the greatest of the first so many numbers.
-    pub(crate) fn greatest_before(&self, end: usize) -> Option<usize> {
-        let node = self.greatest_node(end)?;
-        Some(self.first_below(node, self.at(node)))
     }
 }

@@ -1,50 +1,84 @@
-//! The board of a tally, on which nothing is placed yet.
+//! From a tally to what is to be planned, by number.
 //!
-//! Machines are numbered by load, so that of those with a free slot the first that has room is the cheapest. A machine
-//! that holds more tasks than it has slots preempts the cheapest. For more than 2^26 pairs of a request and a machine
-//! there is no board.
+//! Machines are numbered by load, so that of those with a free slot the first that has room is the cheapest. Requests are
+//! those of waiting tasks, by size. What the numbers stand for is kept beside it.
 
-use crate::bit_set::Bits;
-use crate::board::{Board, Held, NONE, Place, open_spare};
-use crate::exits::NOT_SOUGHT;
+use crate::Tried;
+use crate::costs::NONE;
+use crate::instance::{Choice, Instance, Machine, Preferring, Request};
 use crate::machine_index::Numbers;
-use crate::segment_tree::Tree;
-use fm_lattice::join::OutOfMemory;
-use fm_records::ids::MachineId;
+use fm_know::knowledge::Knowledge;
+use fm_records::ids::{MachineId, TaskId};
 use fm_tally::tally::{LiveTask, OpenMachine, Tally};
 use std::alloc::Global;
+use std::mem;
 
-// For more pairs of a request and a machine, a network is built.
-const MOST_PAIRS: usize = 1 << 26;
+/// What the numbers stand for.
+#[derive(Drop)]
+pub(crate) struct Names {
+    /// The machines by id, and by number.
+    pub(crate) numbers: Numbers,
+    pub(crate) machines: Vec<MachineId>,
+    pub(crate) requests: Vec<u32>,
+    /// Of each held task, its number in the tally.
+    pub(crate) held: Vec<usize>,
+    /// The waiting tasks without preferences, and those with.
+    pub(crate) waiting: Vec<TaskId>,
+    pub(crate) preferring: Vec<TaskId>,
+    /// Of each task of the tally, where its machine stands among those by id, if it is held.
+    pub(crate) holders: Vec<usize>,
+}
+
+// A task that a machine holds, by its number in the tally. Those of one machine are sorted by these fields.
+#[derive(Clone, Copy, PartialEq, Eq, PartialOrd, Ord, Drop)]
+struct Held {
+    price: u32,
+    task: usize,
+}
 
 const NOT_HELD: Held = Held {
     price: 0,
     task: NONE,
 };
 
-// The machine as nothing is placed on it.
-fn place_of(machine: MachineId, open: &OpenMachine) -> Place {
-    let held = open.held.min(u64::from(u32::MAX)) as u32;
-    let spare = match open.spare {
-        Some(spare) => i64::from(spare),
-        None => -1,
-    };
-    Place {
-        machine,
-        load: open.load.min(1 << 44) as i64,
-        spare,
-        slots: open.slots,
-        free: open.slots.saturating_sub(held),
-        next: 0,
-        end: 0,
-        rank: NONE,
-        first: NONE,
-        full: NONE,
-    }
+// A waiting task without preferences, its worth negated. They are sorted by these fields.
+#[derive(Clone, Copy, PartialEq, Eq, PartialOrd, Ord, Drop)]
+struct Waiter {
+    request: usize,
+    below: i64,
+    task: TaskId,
+}
+
+// An instance while it is made, with the tasks that are held, each with the number of its machine, and those that wait: at first by their
+// numbers in the tally.
+#[derive(Drop)]
+struct Draft {
+    instance: Instance,
+    names: Names,
+    held: Vec<(usize, Held)>,
+    idle: Vec<usize>,
+    waiters: Vec<Waiter>,
+}
+
+/// What is to be planned by a tally, and what the numbers stand for. O(n log n) in machines and tasks.
+pub(crate) fn instance_of(
+    alloc: Global,
+    knowledge: &Knowledge,
+    tally: &Tally,
+) -> Tried<(Instance, Names)> {
+    let order = order_of(alloc, tally)?;
+    let numbers = numbers_of(alloc, tally, &order)?;
+    let mut draft = Draft::of(alloc, numbers);
+    draft.add_machines(tally, &order)?;
+    draft.call_roll(tally)?;
+    draft.hold(alloc)?;
+    draft.add_requests()?;
+    draft.add_waiting(alloc, knowledge, tally)?;
+    Ok((draft.instance, draft.names))
 }
 
 // The machines' places in the tally, by load.
-fn order_of(alloc: Global, tally: &Tally) -> Result<Vec<(u128, usize)>, OutOfMemory> {
+fn order_of(alloc: Global, tally: &Tally) -> Tried<Vec<(u128, usize)>> {
     let machines = tally.machines.pairs();
     let mut order = Vec::with_capacity(alloc, machines.len())?;
     for (at, (_, open)) in machines.iter().enumerate() {
@@ -54,27 +88,8 @@ fn order_of(alloc: Global, tally: &Tally) -> Result<Vec<(u128, usize)>, OutOfMem
     Ok(order)
 }
 
-// The machines in this order.
-fn places_of(
-    alloc: Global,
-    tally: &Tally,
-    order: &[(u128, usize)],
-) -> Result<Vec<Place>, OutOfMemory> {
-    let mut places = Vec::with_capacity(alloc, order.len())?;
-    for (_, at) in order {
-        if let Some((machine, open)) = tally.machines.pairs().get(*at) {
-            places.push(place_of(*machine, open))?;
-        }
-    }
-    Ok(places)
-}
-
 // The numbers of the machines in this order.
-fn numbers_of(
-    alloc: Global,
-    tally: &Tally,
-    order: &[(u128, usize)],
-) -> Result<Numbers, OutOfMemory> {
+fn numbers_of(alloc: Global, tally: &Tally, order: &[(u128, usize)]) -> Tried<Numbers> {
     let machines = tally.machines.pairs();
     let mut pairs = Vec::with_capacity(alloc, machines.len())?;
     for (machine, _) in machines {
@@ -85,189 +100,209 @@ fn numbers_of(
             pair.1 = number;
         }
     }
-    Numbers::of(alloc, pairs)
+    Ok(Numbers::of(alloc, pairs)?)
 }
 
-// The tasks of a tally: where the machine of each one stands; those that are held, each with the number of its machine; and the numbers
-// of those that wait, with their requests.
-#[derive(Drop)]
-struct Roll {
-    holders: Vec<usize>,
-    held: Vec<(usize, Held)>,
-    idle: Vec<usize>,
-    requests: Vec<u32>,
+// The machine as nothing is placed on it, and without held tasks.
+fn machine_of(open: &OpenMachine) -> Machine {
+    let spare = match open.spare {
+        Some(spare) => i64::from(spare),
+        None => -1,
+    };
+    Machine {
+        load: open.load.min(1 << 44) as i64,
+        spare,
+        slots: i64::from(open.slots),
+        first: 0,
+        end: 0,
+    }
 }
 
-impl Roll {
-    // One walk over the tasks.
-    fn of(alloc: Global, tally: &Tally, numbers: &Numbers) -> Result<Roll, OutOfMemory> {
-        let most = tally.tasks.pairs().len();
-        let mut roll = Roll {
-            holders: Vec::with_capacity(alloc, most)?,
-            held: Vec::with_capacity(alloc, most)?,
-            idle: Vec::new(alloc),
-            requests: Vec::new(alloc),
-        };
-        for (task, (_, live)) in tally.tasks.pairs().iter().enumerate() {
-            roll.take_in(numbers, task, live)?;
+// Puts each held task behind the others of its machine.
+fn share_out(machines: &mut [Machine], held: &[(usize, Held)], tasks: &mut [Held]) {
+    for (number, task) in held {
+        if let Some(machine) = machines.get_mut(*number) {
+            if let Some(there) = tasks.get_mut(machine.end) {
+                *there = *task;
+            }
+            machine.end = machine.end.saturating_add(1);
         }
-        roll.requests.sort_unstable();
-        roll.requests.dedup();
-        Ok(roll)
+    }
+}
+
+impl Draft {
+    // Nothing but the numbers of machines.
+    fn of(alloc: Global, numbers: Numbers) -> Draft {
+        Draft {
+            instance: Instance {
+                machines: Vec::new(alloc),
+                held: Vec::new(alloc),
+                requests: Vec::new(alloc),
+                worths: Vec::new(alloc),
+                preferring: Vec::new(alloc),
+                choices: Vec::new(alloc),
+            },
+            names: Names {
+                numbers,
+                machines: Vec::new(alloc),
+                requests: Vec::new(alloc),
+                held: Vec::new(alloc),
+                waiting: Vec::new(alloc),
+                preferring: Vec::new(alloc),
+                holders: Vec::new(alloc),
+            },
+            held: Vec::new(alloc),
+            idle: Vec::new(alloc),
+            waiters: Vec::new(alloc),
+        }
     }
 
-    // Takes in a task.
-    fn take_in(
-        &mut self,
-        numbers: &Numbers,
-        task: usize,
-        live: &LiveTask,
-    ) -> Result<(), OutOfMemory> {
-        let Some(machine) = live.holder else {
-            self.idle.push(task)?;
-            self.requests.push(live.request)?;
-            self.holders.push(NONE)?;
-            return Ok(());
-        };
-        let (holder, number) = numbers.find(machine).unwrap_or((NONE, NONE));
-        let price = live.price;
-        self.held.push((number, Held { price, task }))?;
-        self.holders.push(holder)?;
+    // Adds the machines in this order.
+    fn add_machines(&mut self, tally: &Tally, order: &[(u128, usize)]) -> Tried<()> {
+        for (_, at) in order {
+            if let Some((machine, open)) = tally.machines.pairs().get(*at) {
+                self.instance.machines.push(machine_of(open))?;
+                self.names.machines.push(*machine)?;
+            }
+        }
         Ok(())
     }
-}
 
-// The machines with a spare by falling spare, each with this.
-fn ranked_of(alloc: Global, places: &[Place]) -> Result<Vec<(i64, usize)>, OutOfMemory> {
-    let mut ranked = Vec::new(alloc);
-    for (number, place) in places.iter().enumerate() {
-        if place.spare >= 0 {
-            ranked.push((place.spare.saturating_neg(), number))?;
+    // Tells held tasks from those that wait, and collects the requests of the latter.
+    fn call_roll(&mut self, tally: &Tally) -> Tried<()> {
+        for (task, (_, live)) in tally.tasks.pairs().iter().enumerate() {
+            if let Some(machine) = live.holder {
+                let (holder, number) = self.names.numbers.find(machine).unwrap_or((NONE, NONE));
+                let price = live.price;
+                self.held.push((number, Held { price, task }))?;
+                self.names.holders.push(holder)?;
+            } else {
+                self.idle.push(task)?;
+                self.names.requests.push(live.request)?;
+                self.names.holders.push(NONE)?;
+            }
         }
-    }
-    ranked.sort_unstable();
-    Ok(ranked)
-}
-
-impl Board {
-    /// The board of a tally: waiting tasks wait, and machines that hold more tasks than they have slots preempt the cheapest. None for
-    /// too many requests and machines. O(n log n) in machines and tasks, and two bits for each machine and request.
-    pub(crate) fn of(alloc: Global, tally: &Tally) -> Result<Option<Board>, OutOfMemory> {
-        let order = order_of(alloc, tally)?;
-        let places = places_of(alloc, tally, &order)?;
-        let numbers = numbers_of(alloc, tally, &order)?;
-        let roll = Roll::of(alloc, tally, &numbers)?;
-        let requests = roll.requests.len();
-        if requests.saturating_mul(places.len()) > MOST_PAIRS {
-            return Ok(None);
-        }
-        let mut board = Board {
-            seen: vec![in alloc; 0; requests]?,
-            room: Bits::of(alloc, requests, places.len())?,
-            units: Bits::of(alloc, requests, places.len())?,
-            active: Vec::new(alloc),
-            sought: vec![in alloc; NOT_SOUGHT; requests]?,
-            places,
-            numbers,
-            held: vec![in alloc; NOT_HELD; roll.held.len()]?,
-            holders: roll.holders,
-            idle: roll.idle,
-            requests: roll.requests,
-            streams: Vec::new(alloc),
-            gone: Vec::new(alloc),
-            full: Vec::new(alloc),
-            ranked: Vec::new(alloc),
-            spares: Vec::new(alloc),
-            open: Tree::of(alloc, &[])?,
-            kept: Tree::of(alloc, &[])?,
-            left_out: Vec::new(alloc),
-        };
-        board.hold(&roll.held);
-        board.preempt_over()?;
-        board.rank(alloc)?;
-        board.plant(alloc)?;
-        Ok(Some(board))
+        self.names.requests.sort_unstable();
+        self.names.requests.dedup();
+        Ok(())
     }
 
-    // Gives each machine its held tasks, by price.
-    fn hold(&mut self, held: &[(usize, Held)]) {
-        for (number, _) in held {
-            if let Some(place) = self.places.get_mut(*number) {
-                place.end = place.end.saturating_add(1);
+    // Counts the held tasks of each machine, and says where they begin.
+    fn count_held(&mut self) {
+        for (number, _) in &self.held {
+            if let Some(machine) = self.instance.machines.get_mut(*number) {
+                machine.end = machine.end.saturating_add(1);
             }
         }
         let mut end = 0usize;
-        for place in self.places.iter_mut() {
+        for machine in self.instance.machines.iter_mut() {
             let first = end;
-            end = first.saturating_add(place.end);
-            place.next = first;
-            place.end = first;
-        }
-        self.share_out(held);
-        for place in &self.places {
-            if let Some(held) = self.held.as_mut_slice().get_mut(place.next..place.end) {
-                held.sort_unstable();
-            }
+            end = first.saturating_add(machine.end);
+            machine.first = first;
+            machine.end = first;
         }
     }
 
-    // Puts each held task behind the others of its machine.
-    fn share_out(&mut self, held: &[(usize, Held)]) {
-        for (number, task) in held {
-            if let Some(place) = self.places.get_mut(*number) {
-                if let Some(held) = self.held.get_mut(place.end) {
-                    *held = *task;
+    // Gives each machine its held tasks, by price.
+    fn hold(&mut self, alloc: Global) -> Tried<()> {
+        self.count_held();
+        let mut tasks = vec![in alloc; NOT_HELD; self.held.len()]?;
+        share_out(&mut self.instance.machines, &self.held, &mut tasks);
+        for machine in &self.instance.machines {
+            if let Some(tasks) = tasks.as_mut_slice().get_mut(machine.first..machine.end) {
+                tasks.sort_unstable();
+            }
+        }
+        for held in &tasks {
+            self.instance.held.push(i64::from(held.price))?;
+            self.names.held.push(held.task)?;
+        }
+        Ok(())
+    }
+
+    // Adds the requests.
+    fn add_requests(&mut self) -> Tried<()> {
+        for request in &self.names.requests {
+            self.instance.requests.push(Request {
+                size: i64::from(*request),
+                first: 0,
+                end: 0,
+            })?;
+        }
+        Ok(())
+    }
+
+    // Adds the waiting tasks.
+    fn add_waiting(&mut self, alloc: Global, knowledge: &Knowledge, tally: &Tally) -> Tried<()> {
+        let idle = mem::replace(&mut self.idle, Vec::new(alloc));
+        for number in &idle {
+            if let Some((task, live)) = tally.tasks.pairs().get(*number) {
+                self.add_task(knowledge, *task, live)?;
+            }
+        }
+        self.waiters.sort_unstable();
+        self.queue()
+    }
+
+    // Adds a waiting task: as one that prefers machines, if it has choices.
+    fn add_task(&mut self, knowledge: &Knowledge, task: TaskId, live: &LiveTask) -> Tried<()> {
+        let Ok(request) = self.names.requests.binary_search(&live.request) else {
+            return Ok(());
+        };
+        let worth = i64::from(live.price).saturating_sub(i64::from(live.request));
+        let first = self.instance.choices.len();
+        if live.prefers {
+            self.choose(knowledge, task, live.request)?;
+        }
+        let end = self.instance.choices.len();
+        if first < end {
+            self.names.preferring.push(task)?;
+            self.instance.preferring.push(Preferring {
+                request,
+                worth,
+                first,
+                end,
+            })?;
+        } else {
+            self.waiters.push(Waiter {
+                request,
+                below: worth.saturating_neg(),
+                task,
+            })?;
+        }
+        Ok(())
+    }
+
+    // Adds the choices of the task: the open machines that it prefers and that have room.
+    fn choose(&mut self, knowledge: &Knowledge, task: TaskId, request: u32) -> Tried<()> {
+        let Some(spec) = knowledge.live_spec(task) else {
+            return Ok(());
+        };
+        let size = i64::from(request);
+        for (machine, credit) in spec.prefer.entries() {
+            if let Some((_, machine)) = self.names.numbers.find(*machine) {
+                let there = self.instance.machine(machine);
+                if size <= there.spare {
+                    let gain = i64::from(*credit).min(size.saturating_add(there.load));
+                    self.instance.choices.push(Choice { machine, gain })?;
                 }
-                place.end = place.end.saturating_add(1);
-            }
-        }
-    }
-
-    // Preempts the cheapest tasks of machines that hold more than they have slots.
-    fn preempt_over(&mut self) -> Result<(), OutOfMemory> {
-        for number in 0..self.places.len() {
-            for _ in 0..self.held_over(number) {
-                self.preempt(number)?;
             }
         }
         Ok(())
     }
 
-    // How many more tasks a machine holds than it has slots.
-    fn held_over(&self, number: usize) -> usize {
-        match self.places.get(number) {
-            Some(place) => place
-                .end
-                .saturating_sub(place.next)
-                .saturating_sub(place.slots as usize),
-            None => 0,
-        }
-    }
-
-    // Numbers the machines by falling spare.
-    fn rank(&mut self, alloc: Global) -> Result<(), OutOfMemory> {
-        for (rank, (below, number)) in ranked_of(alloc, &self.places)?.iter().enumerate() {
-            self.ranked.push(*number)?;
-            self.spares.push(*below)?;
-            if let Some(place) = self.places.get_mut(*number) {
-                place.rank = rank;
+    // Gives each request its tasks without preferences, by falling worth.
+    fn queue(&mut self) -> Tried<()> {
+        for (number, waiter) in self.waiters.iter().enumerate() {
+            self.instance.worths.push(waiter.below.saturating_neg())?;
+            self.names.waiting.push(waiter.task)?;
+            if let Some(request) = self.instance.requests.get_mut(waiter.request) {
+                if request.end == 0 {
+                    request.first = number;
+                }
+                request.end = number.saturating_add(1);
             }
         }
-        Ok(())
-    }
-
-    // Makes the trees.
-    fn plant(&mut self, alloc: Global) -> Result<(), OutOfMemory> {
-        let mut spares = Vec::new(alloc);
-        for place in &self.places {
-            spares.push(open_spare(place))?;
-        }
-        self.open = Tree::of(alloc, &spares)?;
-        let mut prices = Vec::new(alloc);
-        for number in &self.ranked {
-            prices.push(self.kept_price(*number))?;
-        }
-        self.kept = Tree::of(alloc, &prices)?;
         Ok(())
     }
 }

@@ -1,0 +1,41 @@
+//! Costs in rows, by number.
+
+/// No number.
+pub(crate) const NONE: usize = usize::MAX;
+
+/// A cost beyond all others.
+pub(crate) const FAR: i64 = 1 << 50;
+
+/// The cost of that number.
+pub(crate) fn cost_at(costs: &[i64], number: usize) -> i64 {
+    costs.get(number).copied().unwrap_or(FAR)
+}
+
+/// Raises a cost to another, if that is more.
+pub(crate) fn raise(costs: &mut [i64], number: usize, to: i64) {
+    if let Some(cost) = costs.get_mut(number) {
+        *cost = (*cost).max(to);
+    }
+}
+
+/// Lowers a cost to another, if that is less.
+pub(crate) fn lower(costs: &mut [i64], number: usize, to: i64) {
+    if let Some(cost) = costs.get_mut(number) {
+        *cost = (*cost).min(to);
+    }
+}
+
+/// Puts a cost in place of another.
+pub(crate) fn put(costs: &mut [i64], number: usize, to: i64) {
+    if let Some(cost) = costs.get_mut(number) {
+        *cost = to;
+    }
+}
+
+/// The difference of two costs as the price of a claim, which is at least 0 and at most the greatest that a check takes.
+pub(crate) fn above(cost: i64, base: i64) -> u64 {
+    let most = 1u64 << 40;
+    u64::try_from(cost.saturating_sub(base))
+        .unwrap_or(0)
+        .min(most)
+}

@@ -1,0 +1,85 @@
+//! Labels: lower bounds of what a unit costs from a request or a machine to a slot.
+//!
+//! Prices only rise while tasks are placed. So a label that was worked out once holds from then on, and searches become
+//! narrower: what Hungarian labels are for the assignment problem.
+
+use crate::Tried;
+use crate::board::Board;
+use crate::costs::{NONE, cost_at, lower};
+use crate::movable::{Entry, Spot};
+
+impl Board {
+    /// What a unit of the request costs at least.
+    pub(crate) fn request_label(&self, request: usize) -> i64 {
+        cost_at(&self.request_labels, request)
+    }
+
+    /// What a unit at the machine costs at least.
+    pub(crate) fn machine_label(&self, machine: usize) -> i64 {
+        cost_at(&self.machine_labels, machine)
+    }
+
+    /// What the machine's next unit costs at least: its next slot, or sending on what was placed there.
+    pub(crate) fn floor(&self, machine: usize) -> i64 {
+        let slots = self.slots_of(machine);
+        if slots.full == NONE {
+            return slots.price;
+        }
+        let mut least = slots.price.min(cost_at(&self.movable.lows, slots.full));
+        for share in self.shares_of(machine) {
+            if share.units > 0 {
+                least = least.min(self.request_label(share.request));
+            }
+        }
+        least
+    }
+
+    /// What it costs at least to send the task, which prefers machines, elsewhere than where it is.
+    pub(crate) fn elsewhere(&self, task: usize) -> i64 {
+        let preferring = self.instance.task(task);
+        let spot = self.movable.spot(task);
+        let mut least = preferring.worth;
+        if spot != Spot::ByRequest {
+            least = least.min(self.request_label(preferring.request));
+        }
+        for choice in self.instance.choices_of(&preferring) {
+            if spot != Spot::Straight(choice.machine) {
+                least = least.min(
+                    self.machine_label(choice.machine)
+                        .saturating_sub(choice.gain),
+                );
+            }
+        }
+        least
+    }
+
+    /// Moves a task that prefers machines to the spot.
+    pub(crate) fn move_task(&mut self, task: usize, spot: Spot) -> Tried<()> {
+        let request = self.instance.task(task).request;
+        self.movable.take_out(task, request);
+        self.movable.set_spot(task, spot);
+        let gain = match spot {
+            Spot::Straight(machine) => self.instance.gain(task, machine),
+            _ => 0,
+        };
+        let key = gain.saturating_add(self.elsewhere(task));
+        self.movable.put_in(request, Entry { key, gain, task })?;
+        match spot {
+            Spot::Nowhere => (),
+            Spot::ByRequest => lower(&mut self.movable.by_request, request, key),
+            Spot::Straight(machine) => self.come_to(machine, key)?,
+        }
+        Ok(())
+    }
+
+    // A task with the key came to the machine.
+    fn come_to(&mut self, machine: usize, key: i64) -> Tried<()> {
+        let full = self.full_number(machine);
+        if full == NONE {
+            return self.fill(machine);
+        }
+        lower(&mut self.movable.lows, full, key);
+        lower(&mut self.movable.blocks, full / 64, key);
+        Ok(())
+    }
+}

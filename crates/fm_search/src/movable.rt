@@ -1,0 +1,185 @@
+//! The tasks that prefer machines: where each one is placed, and what it costs to move it on.
+//!
+//! Such a task is in a list of its machine, or of its request. Beside it stands its key, which is no more than
+//! what a unit costs that takes its place and sends it elsewhere. The least key of a list, and the least ones
+//! of 64 lists, are kept too, so that a search does not look at tasks that it has no reason to move.
+
+use crate::Tried;
+use crate::costs::{FAR, NONE, lower, put};
+use std::alloc::Global;
+
+/// Where a task that prefers machines goes.
+#[derive(Clone, Copy, PartialEq, Eq, Drop)]
+pub(crate) enum Spot {
+    Nowhere,
+    ByRequest,
+    Straight(usize),
+}
+
+/// A task in a list, with its key and what it saves there.
+#[derive(Clone, Copy, Drop)]
+pub(crate) struct Entry {
+    pub(crate) key: i64,
+    pub(crate) gain: i64,
+    pub(crate) task: usize,
+}
+
+/// The tasks that prefer machines. There are no lists if there are no such tasks.
+#[derive(Drop)]
+pub(crate) struct Movable {
+    // Of each task, where it is, and its place in the list there.
+    spots: Vec<Spot>,
+    places: Vec<usize>,
+    machines: usize,
+    // At each machine, and then at each request.
+    lists: Vec<Vec<Entry>>,
+    /// Of each full machine, each 64 of these, and each request: no key there is less.
+    pub(crate) lows: Vec<i64>,
+    pub(crate) blocks: Vec<i64>,
+    pub(crate) by_request: Vec<i64>,
+}
+
+// So many lists without tasks.
+fn no_entries(alloc: Global, count: usize) -> Tried<Vec<Vec<Entry>>> {
+    let mut lists = Vec::with_capacity(alloc, count)?;
+    for _ in 0..count {
+        lists.push(Vec::new(alloc))?;
+    }
+    Ok(lists)
+}
+
+// The least key in a list.
+fn least_key(entries: &[Entry]) -> i64 {
+    let mut least = FAR;
+    for entry in entries {
+        least = least.min(entry.key);
+    }
+    least
+}
+
+impl Movable {
+    /// So many tasks that are nowhere, and lists of so many machines and requests.
+    pub(crate) fn of(
+        alloc: Global,
+        tasks: usize,
+        machines: usize,
+        requests: usize,
+    ) -> Tried<Movable> {
+        let lists = if tasks == 0 {
+            0
+        } else {
+            machines.saturating_add(requests)
+        };
+        Ok(Movable {
+            spots: vec![in alloc; Spot::Nowhere; tasks]?,
+            places: vec![in alloc; NONE; tasks]?,
+            machines,
+            lists: no_entries(alloc, lists)?,
+            lows: Vec::new(alloc),
+            blocks: Vec::new(alloc),
+            by_request: vec![in alloc; FAR; requests]?,
+        })
+    }
+
+    /// Where the task is.
+    pub(crate) fn spot(&self, task: usize) -> Spot {
+        self.spots.get(task).copied().unwrap_or(Spot::Nowhere)
+    }
+
+    /// The list of a request.
+    pub(crate) fn request_list(&self, request: usize) -> usize {
+        self.machines.saturating_add(request)
+    }
+
+    // The list of the spot, for a task of the request.
+    fn list_of(&self, spot: Spot, request: usize) -> usize {
+        match spot {
+            Spot::Nowhere => NONE,
+            Spot::ByRequest => self.request_list(request),
+            Spot::Straight(machine) => machine,
+        }
+    }
+
+    /// The tasks in a list.
+    pub(crate) fn entries(&self, list: usize) -> &[Entry] {
+        match self.lists.get(list) {
+            Some(entries) => entries.as_slice(),
+            None => &[],
+        }
+    }
+
+    /// Whether there are tasks in the list.
+    pub(crate) fn has_any(&self, list: usize) -> bool {
+        !self.entries(list).is_empty()
+    }
+
+    /// Raises the key of the task at the place of a list.
+    pub(crate) fn raise_key(&mut self, list: usize, place: usize, key: i64) {
+        let Some(entries) = self.lists.get_mut(list) else {
+            return;
+        };
+        if let Some(entry) = entries.get_mut(place) {
+            entry.key = entry.key.max(key);
+        }
+    }
+
+    /// A machine is numbered among the full ones.
+    pub(crate) fn add_full(&mut self, machine: usize, full: usize) -> Tried<()> {
+        let least = least_key(self.entries(machine));
+        self.lows.push(least)?;
+        if full % 64 == 0 {
+            self.blocks.push(FAR)?;
+        }
+        lower(&mut self.blocks, full / 64, least);
+        Ok(())
+    }
+
+    /// Brings the least key at 64 full machines up to date.
+    pub(crate) fn renew_block(&mut self, word: usize) {
+        let first = word.saturating_mul(64);
+        let end = first.saturating_add(64).min(self.lows.len());
+        let mut least = FAR;
+        for low in self.lows.get(first..end).unwrap_or(&[]) {
+            least = least.min(*low);
+        }
+        put(&mut self.blocks, word, least);
+    }
+
+    /// Takes a task of the request out of its list.
+    pub(crate) fn take_out(&mut self, task: usize, request: usize) {
+        let list = self.list_of(self.spot(task), request);
+        let place = self.places.get(task).copied().unwrap_or(NONE);
+        let Some(entries) = self.lists.get_mut(list) else {
+            return;
+        };
+        let Some(last) = entries.pop() else {
+            return;
+        };
+        if let Some(entry) = entries.get_mut(place) {
+            *entry = last;
+            if let Some(moved) = self.places.get_mut(last.task) {
+                *moved = place;
+            }
+        }
+    }
+
+    /// The task is at the spot, and not in the list there yet.
+    pub(crate) fn set_spot(&mut self, task: usize, spot: Spot) {
+        if let Some(there) = self.spots.get_mut(task) {
+            *there = spot;
+        }
+    }
+
+    /// Puts a task of the request into the list where it is.
+    pub(crate) fn put_in(&mut self, request: usize, entry: Entry) -> Tried<()> {
+        let list = self.list_of(self.spot(entry.task), request);
+        let Some(entries) = self.lists.get_mut(list) else {
+            return Ok(());
+        };
+        if let Some(place) = self.places.get_mut(entry.task) {
+            *place = entries.len();
+        }
+        entries.push(entry)?;
+        Ok(())
+    }
+}

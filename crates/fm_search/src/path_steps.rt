@@ -1,0 +1,233 @@
+//! Where a unit goes on to, from a request, a full machine, or a task that prefers machines.
+//!
+//! A request leads to each full machine with room for it, and so to the requests with tasks there, and to the tasks
+//! there that prefer machines. It reaches nothing new over a machine to which another request led at no more cost. So
+//! only new words of its row of bits are looked at, and only requests that are not reached yet.
+
+use crate::Tried;
+use crate::bit_set::{first_of, has_bit, without_first};
+use crate::costs::{FAR, NONE, cost_at, put};
+use crate::movable::Spot;
+use crate::path_search::{End, Paths, Step};
+
+// A step from the node over a machine, where that is not the next node itself.
+fn step_over(from: usize, over: usize) -> Step {
+    Step {
+        from,
+        over,
+        task: NONE,
+    }
+}
+
+impl Paths {
+    /// Goes on from a request.
+    pub(crate) fn leave_request(&mut self, request: usize, cost: i64) -> Tried<()> {
+        self.board.look(request);
+        let is_cheaper = cost < self.near_cost;
+        if is_cheaper {
+            self.rest.clear();
+            self.rest.extend_from_slice(&self.board.full.active)?;
+        }
+        let count = self.find_fresh(request, is_cheaper)?;
+        self.near_cost = self.near_cost.max(cost);
+        if count > 0 {
+            self.go_to_requests(request, cost, count)?;
+            self.go_to_movable(request, cost)?;
+        }
+        if cost.saturating_add(cost_at(&self.board.movable.by_request, request)) < self.best {
+            let list = self.board.movable.request_list(request);
+            let low = self.leave_list(list, cost, request)?;
+            put(&mut self.board.movable.by_request, request, low);
+        }
+        Ok(())
+    }
+
+    // Finds the full machines with room for the request: those to which no request led before, or all of them if it leads there for less.
+    // Answers how many there are.
+    fn find_fresh(&mut self, request: usize, is_cheaper: bool) -> Tried<usize> {
+        let mut count = 0usize;
+        self.fresh.clear();
+        let row = self.board.full.room.row(request, self.near.len());
+        for (word, room) in row.iter().enumerate() {
+            let Some(near) = self.near.get_mut(word) else {
+                break;
+            };
+            let bits = if is_cheaper { *room } else { *room & !*near };
+            *near |= *room;
+            if bits != 0 {
+                count = count.saturating_add(bits.count_ones() as usize);
+                self.fresh.push((word, bits))?;
+            }
+        }
+        Ok(count)
+    }
+
+    // Goes on to the requests with tasks on the fresh machines, of which there are so many: by a look at each request of the rest, or at
+    // each machine if these are fewer.
+    fn go_to_requests(&mut self, request: usize, cost: i64, count: usize) -> Tried<()> {
+        if count < self.rest.len() {
+            return self.go_by_machines(request, cost);
+        }
+        let mut at = 0usize;
+        for _ in 0..self.rest.len() {
+            let Some(other) = self.rest.get(at).copied() else {
+                break;
+            };
+            if other == request || self.go_to_request(request, other, cost)? {
+                self.leave_out(at);
+            } else {
+                at = at.saturating_add(1);
+            }
+        }
+        Ok(())
+    }
+
+    // Goes on to a request, if it has tasks on a fresh machine. Answers whether it needs no further look.
+    fn go_to_request(&mut self, request: usize, other: usize, cost: i64) -> Tried<bool> {
+        if self.is_too_dear(other, cost) {
+            return Ok(true);
+        }
+        let Some(full) = self.board.full.units.meets(other, &self.fresh) else {
+            return Ok(false);
+        };
+        let step = step_over(request, self.board.full.machine(full));
+        self.reach_request(other, cost, step)?;
+        Ok(true)
+    }
+
+    // Leaves a request out of the rest.
+    fn leave_out(&mut self, at: usize) {
+        let Some(last) = self.rest.pop() else {
+            return;
+        };
+        if let Some(request) = self.rest.get_mut(at) {
+            *request = last;
+        }
+    }
+
+    // Goes on over each fresh machine to the requests with tasks there.
+    fn go_by_machines(&mut self, request: usize, cost: i64) -> Tried<()> {
+        for place in 0..self.fresh.len() {
+            let (word, mut bits) = self.fresh.get(place).copied().unwrap_or((0, 0));
+            for _ in 0..bits.count_ones() {
+                let machine = self.board.full.machine(first_of(word, bits));
+                bits = without_first(bits);
+                self.go_over(machine, cost, request, machine)?;
+            }
+        }
+        Ok(())
+    }
+
+    // Goes on over a machine to the requests with tasks there, from a node.
+    fn go_over(&mut self, machine: usize, cost: i64, from: usize, over: usize) -> Tried<()> {
+        for place in 0..self.board.shares_of(machine).len() {
+            let share = self.board.share(machine, place);
+            if share.units > 0 && share.request != from {
+                let step = step_over(from, over);
+                self.reach_request(share.request, cost, step)?;
+            }
+        }
+        Ok(())
+    }
+
+    // Goes on to the fresh machines from which tasks that prefer machines may move on.
+    fn go_to_movable(&mut self, request: usize, cost: i64) -> Tried<()> {
+        for place in 0..self.fresh.len() {
+            let (word, bits) = self.fresh.get(place).copied().unwrap_or((0, 0));
+            if cost.saturating_add(cost_at(&self.board.movable.blocks, word)) < self.best {
+                self.go_to_word(request, cost, word, bits)?;
+                self.board.movable.renew_block(word);
+            }
+        }
+        Ok(())
+    }
+
+    // The same of the machines of a word.
+    fn go_to_word(&mut self, request: usize, cost: i64, word: usize, bits: u64) -> Tried<()> {
+        let mut bits = bits;
+        for _ in 0..bits.count_ones() {
+            let full = first_of(word, bits);
+            bits = without_first(bits);
+            if cost.saturating_add(cost_at(&self.board.movable.lows, full)) < self.best {
+                let machine = self.board.full.machine(full);
+                self.reach_machine(machine, cost, step_over(request, NONE))?;
+            }
+        }
+        Ok(())
+    }
+
+    /// Goes on from a full machine.
+    pub(crate) fn leave_machine(&mut self, machine: usize, cost: i64) -> Tried<()> {
+        let node = self.machine_node(machine);
+        self.go_over(machine, cost, node, NONE)?;
+        let full = self.board.full_number(machine);
+        if cost.saturating_add(cost_at(&self.board.movable.lows, full)) < self.best {
+            let low = self.leave_list(machine, cost, node)?;
+            put(&mut self.board.movable.lows, full, low);
+        }
+        Ok(())
+    }
+
+    // Goes on from the tasks of a list, which prefer machines. Answers the least key there.
+    fn leave_list(&mut self, list: usize, cost: i64, from: usize) -> Tried<i64> {
+        let mut low = FAR;
+        for place in 0..self.board.movable.entries(list).len() {
+            let Some(entry) = self.board.movable.entries(list).get(place).copied() else {
+                break;
+            };
+            let mut key = entry.key;
+            if cost.saturating_add(key) < self.best {
+                let there = cost.saturating_add(entry.gain);
+                let least = self.leave_task(entry.task, there, from)?;
+                key = key.max(entry.gain.saturating_add(least));
+                self.board.movable.raise_key(list, place, key);
+            }
+            low = low.min(key);
+        }
+        Ok(low)
+    }
+
+    /// Goes on from a task that prefers machines, or begins with it. Answers what it costs at least to send it elsewhere.
+    pub(crate) fn leave_task(&mut self, task: usize, cost: i64, from: usize) -> Tried<i64> {
+        let preferring = self.board.instance.task(task);
+        let mut least = preferring.worth;
+        if from != NONE {
+            self.take_end(cost.saturating_add(least), from, End::Leave(task));
+        }
+        let step = Step {
+            from,
+            over: NONE,
+            task,
+        };
+        if self.board.movable.spot(task) != Spot::ByRequest {
+            least = least.min(self.board.request_label(preferring.request));
+            self.reach_request(preferring.request, cost, step)?;
+        }
+        for number in preferring.first..preferring.end {
+            least = least.min(self.go_straight(number, cost, step)?);
+        }
+        Ok(least)
+    }
+
+    // Sends the task of the step to a machine of its choice, unless it is there. Answers what that costs at least.
+    fn go_straight(&mut self, choice: usize, cost: i64, step: Step) -> Tried<i64> {
+        let Some(choice) = self.board.instance.choices.get(choice).copied() else {
+            return Ok(FAR);
+        };
+        let machine = choice.machine;
+        if self.board.movable.spot(step.task) == Spot::Straight(machine) {
+            return Ok(FAR);
+        }
+        let label = self
+            .board
+            .machine_label(machine)
+            .saturating_sub(choice.gain);
+        let there = cost.saturating_sub(choice.gain);
+        let is_led_to = there >= self.near_cost
+            && has_bit(&self.near, self.board.full_number(machine));
+        if cost.saturating_add(label) < self.best && !is_led_to {
+            self.reach_machine(machine, there, step)?;
+        }
+        Ok(label)
+    }
+}
