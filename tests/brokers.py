@@ -87,7 +87,7 @@ class Broker:
     def start(self):
         self.run = subprocess.Popen([mosquitto(), "-c", self.file], stdin=subprocess.DEVNULL, stdout=subprocess.DEVNULL,
                                     stderr=subprocess.DEVNULL)
-        if not until(self.is_there, 20):
+        if not until(self.is_there):
             self.kill()
             raise RuntimeError("the broker does not start")
 
@@ -197,7 +197,7 @@ class Bridge:
             self.run.kill()
         self.run.wait(timeout=PATIENCE)
         self.reader.join(PATIENCE)
-        until(lambda: not any(map(started_by, followers)), 20)
+        until(lambda: not any(map(started_by, followers)))
 
     def end(self, patience=PATIENCE):
         """The status if there are no more lines."""

@@ -233,7 +233,7 @@ def unread_errors(program):
         threading.Thread(target=run.stdin.write, args=[b"".join(tell(1, op) for op in told)], daemon=True).start()
         heard = bytearray()
         threading.Thread(target=read_slowly, args=[run.stdout.fileno(), 0, heard], daemon=True).start()
-        is_answered = until(lambda: heard.count(b"ok\n") >= len(told), 30)
+        is_answered = until(lambda: heard.count(b"ok\n") >= len(told))
         yield "%d of %d answers while nobody reads standard error" % (heard.count(b"ok\n"), len(told)), bool(is_answered)
         run.send_signal(signal.SIGTERM)
         yield "and it ends", run.wait(timeout=60) == 0
@@ -337,7 +337,7 @@ def unknown_kinds(program):
             for first in range(0, len(told), 2):
                 known, unknown = (tell(1, op) for op in told[first:first + 2])
                 bridge.write(known + unknown.replace(b'"tell"', b'"also"'))
-                yield "told by both kinds", bool(until(lambda: bridge.heard.endswith(b"ok\nok\n"), 10))
+                yield "told by both kinds", bool(until(lambda: bridge.heard.endswith(b"ok\nok\n")))
                 bridge.heard.clear()
             yield "all is known to both", agree([bridge, other], told, 20)
             bridge.kill()
@@ -456,19 +456,19 @@ def unfinished(_program):
                 clients.append((source, stack.enter_context(os.fdopen(writer, "wb", 0))))
             (one, into_one), (two, into_two) = clients
             into_one.write(b"1" * 60)
-            yield "the first part of a line is counted", bool(until(lambda: room.unfinished == 60, 10))
+            yield "the first part of a line is counted", bool(until(lambda: room.unfinished == 60))
             into_two.write(b"2" * 60)
             time.sleep(0.1)
             into_two.write(b"2\nnext\n")
             found = []
-            until(lambda: found.extend(two.take(9)) or len(found) == 2, 10)
+            until(lambda: found.extend(two.take(9)) or len(found) == 2)
             yield "one line too many is empty", found == [b"", b"next"]
             into_one.write(b"1\n")
-            yield "the other is whole", bool(until(lambda: one.is_waiting(), 10)) and one.take(9) == [b"1" * 61]
+            yield "the other is whole", bool(until(lambda: one.is_waiting())) and one.take(9) == [b"1" * 61]
             yield "and nothing is left", (room.unfinished, room.waiting) == (0, 0)
             for _, into in clients:
                 into.close()
-            yield "both end", bool(until(lambda: one.is_ended() and two.is_ended(), 10))
+            yield "both end", bool(until(lambda: one.is_ended() and two.is_ended()))
     finally:
         lines_of.MOST_LINE = most
 

@@ -98,7 +98,7 @@ def retained(program):
         words = [*QUICK, "--ack-wait", "1", "--confirmed"]
         bridge = stack.enter_context(Bridge(proxy.port, 1, *words, program=program))
         bridge.write(b"".join(tell(1, op) for op in told[:5]))
-        yield "that nothing is kept is said", bool(until(lambda: bridge.has_said("unkept"), 20))
+        yield "that nothing is kept is said", bool(until(lambda: bridge.has_said("unkept")))
         yield "what is relayed and not kept is not confirmed: %d answers" % bridge.count(), bridge.count() == 0
         proxy.keeps_nothing = False
         yield "what is kept is confirmed", bridge.wait_for(5, 20)
@@ -109,7 +109,7 @@ def retained(program):
             client.publish("fetohamu/test/state/1", b"", retain=True)
         # until a refresh found that the state is gone, from which on each is asked for again
         said = len([None for said in bridge.events() if said["event"] == "unkept"])
-        yield "that it is gone is found", bool(until(lambda: len([None for it in bridge.events() if it["event"] == "unkept"]) > said, 20))
+        yield "that it is gone is found", bool(until(lambda: len([None for it in bridge.events() if it["event"] == "unkept"]) > said))
         bridge.write(b"".join(tell(1, op) for op in told[5:]))
         yield "what is told then is not confirmed", not bridge.wait_for(6, 3)
         proxy.keeps_nothing = False
@@ -133,7 +133,7 @@ def digests(program):
         yield "told", told_to(bridges, told) and agree(bridges, told)
         proxy.cut()
         proxy.mend()
-        yield "all sent their states", bool(until(lambda: len(kept(broker, "state")) == MANY, 20))
+        yield "all sent their states", bool(until(lambda: len(kept(broker, "state")) == MANY))
         time.sleep(3)
         largest = max(map(len, kept(broker, "state").values()))
         # each has its own state for a connection and for a refresh
@@ -197,7 +197,7 @@ def old_bridges(program):
         proxy = stack.enter_context(mqtt.Proxy(broker.port))
         bridges = [stack.enter_context(Bridge(proxy.port, number, *QUICK, program=program)) for number in (1, 2)]
         yield "told", told_to(bridges, told) and agree(bridges, told)
-        known = until(lambda: kept(broker, "digest").get(1), 20) or b"{}"
+        known = until(lambda: kept(broker, "digest").get(1)) or b"{}"
         yield "a digest of a state: %r" % known, set(json.loads(known)) == {"digest", "number"}
         proxy.cut()
         with mqtt.Client(broker.port) as client:
@@ -228,7 +228,7 @@ def strange_digests(broker, bridges, known):
         client.publish("fetohamu/test/digest/1", b"", retain=True)
         client.publish("fetohamu/test/digest/2", known.replace(b"number", b"other"), retain=True)
     is_there = lambda found: all(b"number" in found.get(number, b"") for number in (1, 2))
-    yield "digests are published again", bool(until(lambda: is_there(kept(broker, "digest")), 20))
+    yield "digests are published again", bool(until(lambda: is_there(kept(broker, "digest"))))
     yield "and all ends well", ended(bridges)
     yield "what is no digest is counted", all(bridge.counts()["strange"] >= 6 for bridge in bridges)
 
