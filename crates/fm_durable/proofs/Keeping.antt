@@ -19,7 +19,8 @@ use Rattle.fm_io.specs.Groups.{LineGroup, Groups}
 use Rattle.fm_service.specs.StreamSteps.{Following, StandBehind, Answers, packet_by_ops}
 use Rattle.fm_service.specs.Storing.{numbers_listed, stored_mark_at, unstored_of, full_packets_of, all_stored, restored_world, restored, AreStored, nothing_stored, stored_also, HaveNothing}
 use Rattle.fm_service.proofs.Anew.{number, same_changed}
-use Rattle.fm_durable.specs.DurableSteps.{Durable, not_opened, known_packets, GoesOn, DurableAnswers, with_unstored, with_full, DurableCommits, AreRecoverable}
+use Rattle.fm_store.specs.KnownPackets.{known_packets}
+use Rattle.fm_durable.specs.DurableSteps.{Durable, not_opened, GoesOn, DurableAnswers, with_unstored, with_full, DurableCommits, AreRecoverable}
 use Rattle.fm_durable.specs.DurableServices.{AreKnownAlike}
 use Rattle.fm_durable.proofs.Recovering.{recovered_more, recovered_can_be, known_again, table_behind}
 

@@ -20,7 +20,7 @@ use Rattle.fm_coord.specs.Replays.{seen_packet}
 use Rattle.fm_store.specs.Stores.{values_of, recovered}
 use Rattle.fm_service.specs.StreamSteps.{StandBehind, packet_by_ops}
 use Rattle.fm_service.specs.Storing.{sets_from}
-use Rattle.fm_durable.specs.DurableSteps.{known_packets}
+use Rattle.fm_store.specs.KnownPackets.{known_packets}
 
 -- ---- packets are added
 

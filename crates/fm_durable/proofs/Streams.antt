@@ -17,7 +17,8 @@ use Rattle.fm_service.specs.Sessions.{IsIn}
 use Rattle.fm_service.specs.Storing.{numbers_listed, unstored_of, full_packets_of}
 use Rattle.fm_durable.specs.declared.durable_service.DurableService.{DurableService}
 use Rattle.fm_durable.specs.declared.durable_stream.DurableFault.{DurableFault}
-use Rattle.fm_durable.specs.DurableSteps.{Durable, store_head, not_opened, known_packets, OpensStore, GoesOn, DurableAnswers, with_unstored, with_full, DurableCommits}
+use Rattle.fm_store.specs.KnownPackets.{known_packets}
+use Rattle.fm_durable.specs.DurableSteps.{Durable, store_head, not_opened, OpensStore, GoesOn, DurableAnswers, with_unstored, with_full, DurableCommits}
 use Rattle.fm_durable.specs.DurableServices.{DeviceModel, HoldsStore, AreKnownAlike, KeepsStores, KeepsKnown, ActsOnStore, AnswersDurably}
 use Rattle.fm_durable.specs.inner.CommitSteps.{AddsPackets, PutsFull, CommitsSo, FailsSo}
 use Rattle.fm_durable.specs.DurableStreams.{EndsAs, HoldsCommitted, HoldsAfterFault, HoldsAtEnd, IsFollowedDurably}

@@ -11,7 +11,8 @@ use Rattle.fm_service.specs.StreamSteps.{Following, StandBehind}
 use Rattle.fm_service.specs.Sessions.{IsIn, AnswersSo}
 use Rattle.fm_service.specs.Storing.{numbers_listed, Restores}
 use Rattle.fm_durable.specs.declared.durable_service.DurableService.{DurableService}
-use Rattle.fm_durable.specs.DurableSteps.{store_head, known_packets}
+use Rattle.fm_store.specs.KnownPackets.{known_packets}
+use Rattle.fm_durable.specs.DurableSteps.{store_head}
 
 -- a device: the bytes that it holds, if they are known, and how many of them are on the disk
 pub record DeviceModel : Type 0 where

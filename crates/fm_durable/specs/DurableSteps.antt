@@ -1,7 +1,6 @@
 -- A stream whose coordinators' knowledge is in a store (this project's profile): its lines are answered as those of any stream, and answers go
 -- out once what they rest on is in the store.
-use Rattle.std.specs.Prelude.{◌≡◌, ◌⊎◌, ◌<◌, ℕ, ◌++◌, ◌∷◌, List, [], map, ◌==◌, cond, All, Option, Some, None, IfSome}
-use Rattle.std.specs.List.{flat_map, list_any}
+use Rattle.std.specs.Prelude.{◌≡◌, ◌⊎◌, ◌<◌, ℕ, ◌++◌, List, [], map, All, Option, Some, None, IfSome}
 use Rattle.fm_records.specs.declared.ops.Op.{Op}
 use Rattle.fm_records.specs.Know.{table_of}
 use Rattle.fm_records.specs.Ranges.{CanBe}
@@ -11,6 +10,7 @@ use Rattle.fm_coord.specs.Replays.{seen_packet}
 use Rattle.fm_world.specs.Worlds.{with_number}
 use Rattle.fm_store.specs.Heads.{HeadModel}
 use Rattle.fm_store.specs.Stores.{AreFoundIn, recovered}
+use Rattle.fm_store.specs.KnownPackets.{known_packets}
 use Rattle.fm_service.specs.StreamSteps.{Following, Answers}
 use Rattle.fm_service.specs.Storing.{numbers_listed, unstored_of, full_packets_of, all_stored, Restores}
 
@@ -27,14 +27,6 @@ store_head label following = record { label = label; numbers = numbers_listed fo
 -- before the first line
 abbrev pub not_opened : List ℕ → Durable
 not_opened label = record { following = None; head = store_head label None; packets = [] }
-
--- all that a coordinator knew by its packets, as one packet of its own; none if it has no packets
-abbrev pub known_packet : List Packet → ℕ → List Packet
-known_packet packets n = cond (list_any (λ p. p.sender == n) packets) (record { sender = n; number = 0; value = recovered n packets } ∷ []) []
-
--- the same of each of these coordinators
-abbrev pub known_packets : List ℕ → List Packet → List Packet
-known_packets numbers packets = flat_map (known_packet packets) numbers
 
 -- coordinators that were just listed begin with what they knew by the packets that are found in the content of the device
 pub record OpensStore (behind : Packet → List Op) (label : List ℕ) (content : Option (List ℕ)) (k : Following) (t : Durable) : Type 0 where

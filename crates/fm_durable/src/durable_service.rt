@@ -14,8 +14,8 @@ ghost use Rattle.fm_durable.specs.DurableSteps.{store_head};
 ghost use Rattle.fm_durable.specs.DurableServices.{HoldsStore, HoldsFront, KeepsStores, Reopens, model_of};
 ghost use Rattle.fm_durable.specs.inner.CommitSteps.{CommitsSo, StoresSo};
 
+use crate::found::Found;
 use crate::growth::Growth;
-use crate::known_packets::{known_packets, law_possible};
 use fm_delta::packet::Packet;
 use fm_io::committer::{Committer, NotCommitted};
 use fm_io::responder::Responder;
@@ -23,7 +23,7 @@ use fm_records::refusal::Refusal;
 use fm_service::stream_service::StreamService;
 use fm_store::device::Device;
 use fm_store::head::Head;
-use fm_store::store::{append_packet, open_store, rewrite_store};
+use fm_store::store::{append_packet, read_store, rewrite_store};
 use fm_store::store_fault::StoreFault;
 use std::alloc::Global;
 
@@ -95,11 +95,12 @@ impl<D: Device> DurableService<D> {
             self.old.service (model_of D.content D.synced self.new.device) self.new.service) }
     {
         let head = self.head()?;
-        let packets = open_store(self.alloc, &mut self.device, &head)?;
-        law_possible(&packets);
         let numbers = self.service.numbers(self.alloc)?;
-        let known = known_packets(self.alloc, &numbers, &packets)?;
-        self.growth = Growth::of(&packets, &known);
+        let mut found = Found::none(self.alloc, &numbers)?;
+        read_store(self.alloc, &mut self.device, &head, &mut found)?;
+        let Found { all, size } = found;
+        let known = all.packets()?;
+        self.growth = Growth::found(size, &known);
         match self.service.begin_with(known) {
             Ok(()) => Ok(()),
             Err(_) => Err(StoreFault::OutOfMemory),
@@ -167,7 +168,7 @@ impl<D: Device> DurableService<D> {
         let packets = self.service.full_packets(self.alloc)?;
         rewrite_store(self.alloc, &mut self.device, &head, &packets)?;
         self.service.mark_stored();
-        self.growth = Growth::of(&packets, &packets);
+        self.growth = Growth::compacted(&packets);
         Ok(())
     }
 

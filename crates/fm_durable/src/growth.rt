@@ -27,12 +27,17 @@ impl Growth {
         Growth { now: 0, compact: 0 }
     }
 
-    /// A store that was found with the packets, in whose place the others would say the same.
-    pub(crate) fn of(packets: &[Packet], compact: &[Packet]) -> Growth {
+    /// A store that was found with so many bytes, in whose place these packets would say the same.
+    pub(crate) fn found(size: u128, compact: &[Packet]) -> Growth {
         Growth {
-            now: size_of(packets),
+            now: size,
             compact: size_of(compact),
         }
+    }
+
+    /// A store that was just compacted to these packets.
+    pub(crate) fn compacted(packets: &[Packet]) -> Growth {
+        Growth::found(size_of(packets), packets)
     }
 
     /// Whether the store is to be compacted rather than get these packets more. It is not if there are none.
@@ -54,13 +59,16 @@ impl Growth {
     }
 }
 
+/// How many bytes the frame of the packet has.
+pub(crate) fn frame_size(packet: &Packet) -> u128 {
+    packet_size(&packet.value).saturating_add(FRAME)
+}
+
 // How many bytes the frames of the packets have.
 fn size_of(packets: &[Packet]) -> u128 {
     let mut size = 0u128;
     for packet in packets {
-        size = size
-            .saturating_add(packet_size(&packet.value))
-            .saturating_add(FRAME);
+        size = size.saturating_add(frame_size(packet));
     }
     size
 }

@@ -6,6 +6,6 @@
 
 pub mod durable_service;
 pub mod durable_stream;
+mod found;
 mod growth;
-mod known_packets;
 pub mod laws;

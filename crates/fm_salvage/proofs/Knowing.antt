@@ -1,75 +1,39 @@
 -- What coordinators knew, from packet to packet.
-use Rattle.std.proofs.Common.{◌≡◌, ℕ, ◌-◌, ◌==◌, Bool, true, false, List, [], ◌∷◌, ◌++◌, length, map, refl, sym, ap, ◌∙◌, Option, Some, None}
-use Rattle.std.specs.Prelude.{fold}
+use Rattle.std.proofs.Common.{◌≡◌, ℕ, ◌-◌, List, [], ◌∷◌, ◌++◌, length, map, refl, ap, ◌∙◌, Option, Some, None}
 use Rattle.std.specs.List.{flat_map}
+use Rattle.std.proofs.lemmas.List.{append-nil}
+use Rattle.std.proofs.lemmas.List.Concat.{flat_map-append}
 use Rattle.fm_records.specs.Table.{Table}
-use Rattle.fm_records.specs.Know.{table_of}
-use Rattle.fm_records.specs.Joined.{table_join}
 use Rattle.fm_delta.specs.declared.packet.Packet.{Packet}
-use Rattle.fm_delta.specs.Deltas.{joined_from}
+use Rattle.fm_query.specs.QueryTexts.{line_of}
 use Rattle.fm_store.specs.Heads.{HeadModel}
 use Rattle.fm_store.specs.Stores.{values_of}
+use Rattle.fm_store.specs.KnownPackets.{HasTaken, with_values, packet_with, packets_with, unknown, with_packets}
+use Rattle.fm_store.specs.laws.NoneTaken.{none_taken}
 use Rattle.fm_store.specs.declared.frames.Tail.{Tail}
-use Rattle.fm_salvage.specs.declared.recovering.Known.{Known}
+use Rattle.fm_store.specs.declared.known.Known.{Known}
 use Rattle.fm_salvage.specs.StoreFronts.{IsEnd, damage_of}
 use Rattle.fm_salvage.specs.inner.FrameReading.{AreRead, HasHead, HasPacket}
-use Rattle.fm_salvage.specs.RecoveryText.{IsFrontRecovered, known_by, known_line, known_lines}
-use Rattle.fm_salvage.specs.inner.Joining.{AreJoined, with_packet, with_packets}
+use Rattle.fm_salvage.specs.RecoveryText.{IsFrontRecovered, joined_some, known_line, known_lines}
+use Rattle.fm_salvage.specs.inner.Joining.{AreJoined}
 use Rattle.fm_salvage.proofs.Fronting.{none_read, one_read, front_of}
 
--- ---- one coordinator
+-- ---- the lines
 
-abbrev of_one : Known → List Packet → Known
-of_one = fold (λ one p. with_packet p one)
+same_joined : (vs : List Table) → with_values None vs ≡ joined_some vs
+same_joined [] = refl
+same_joined (v ∷ vs) = refl
 
--- a coordinator that knew something
-some_joined : (n : ℕ) (k : Table) (ps : List Packet) → of_one (record { number = n; value = Some k }) ps ≡ record { number = n; value = Some (joined_from k (values_of n ps)) }
-some_joined n k [] = refl
-some_joined n k (p ∷ ps) = go (p.sender == n) refl (some_joined n k ps) (some_joined n (table_join k p.value) ps)
-  where
-    go : (b : Bool) → (p.sender == n) ≡ b → of_one (record { number = n; value = Some k }) ps ≡ record { number = n; value = Some (joined_from k (values_of n ps)) }
-        → of_one (record { number = n; value = Some (table_join k p.value) }) ps ≡ record { number = n; value = Some (joined_from (table_join k p.value) (values_of n ps)) }
-        → of_one (record { number = n; value = Some k }) (p ∷ ps) ≡ record { number = n; value = Some (joined_from k (values_of n (p ∷ ps))) }
-    go true e other own = rw e own
-    go false e other own = rw e other
+line_is : (n : ℕ) (o : Option Table) → flat_map line_of (packet_with n o) ≡ known_line n o
+line_is n None = refl
+line_is n (Some k) = append-nil (line_of (record { sender = n; number = 0; value = k }))
 
--- a coordinator of which no packet was read
-none_joined : (n : ℕ) (ps : List Packet) → of_one (record { number = n; value = None }) ps ≡ record { number = n; value = known_by ps n }
-none_joined n [] = refl
-none_joined n (p ∷ ps) = go (p.sender == n) refl (none_joined n ps) (some_joined n (table_join (table_of []) p.value) ps)
-  where
-    go : (b : Bool) → (p.sender == n) ≡ b → of_one (record { number = n; value = None }) ps ≡ record { number = n; value = known_by ps n }
-        → of_one (record { number = n; value = Some (table_join (table_of []) p.value) }) ps ≡ record { number = n; value = Some (joined_from (table_join (table_of []) p.value) (values_of n ps)) }
-        → of_one (record { number = n; value = None }) (p ∷ ps) ≡ record { number = n; value = known_by (p ∷ ps) n }
-    go true e other own = rw e own
-    go false e other own = rw e other
-
--- ---- all of them
-
-each_alone : (all : List Known) (ps : List Packet) → with_packets all ps ≡ map (λ one. of_one one ps) all
-each_alone all [] = same all
-  where
-    same : (xs : List Known) → xs ≡ map (λ one. one) xs
-    same [] = refl
-    same (x ∷ xs) = ap (λ ys. x ∷ ys) (same xs)
-each_alone all (p ∷ ps) = each_alone (map (with_packet p) all) ps ∙ twice all
-  where
-    twice : (xs : List Known) → map (λ one. of_one one ps) (map (with_packet p) xs) ≡ map (λ one. of_one one (p ∷ ps)) xs
-    twice [] = refl
-    twice (x ∷ xs) = ap (λ ys. of_one (with_packet p x) ps ∷ ys) (twice xs)
-
-abbrev pub unknown : List ℕ → List Known
-unknown = map (λ n. record { number = n; value = None })
-
-abbrev lines : List Known → List ℕ
-lines = flat_map (λ one. known_line one.number one.value)
-
-lines_alone : (ns : List ℕ) (ps : List Packet) → lines (map (λ one. of_one one ps) (unknown ns)) ≡ known_lines ns ps
-lines_alone [] ps = refl
-lines_alone (n ∷ ns) ps = λ i. known_line (none_joined n ps i).number (none_joined n ps i).value ++ lines_alone ns ps i
-
-pub lines_are : (ns : List ℕ) (ps : List Packet) → lines (with_packets (unknown ns) ps) ≡ known_lines ns ps
-lines_are ns ps = ap lines (each_alone (unknown ns) ps) ∙ lines_alone ns ps
+lines_are : (ns : List ℕ) (ps : List Packet) → flat_map line_of (packets_with (map (with_packets ps) (map unknown ns))) ≡ known_lines ns ps
+lines_are [] ps = refl
+lines_are (n ∷ ns) ps =
+    let one = with_values None (values_of n ps) in
+    flat_map-append line_of (packet_with n one) (packets_with (map (with_packets ps) (map unknown ns)))
+    ∙ (λ i. (line_is n one ∙ ap (known_line n) (same_joined (values_of n ps))) i ++ lines_are ns ps i)
 
 -- ---- packet by packet
 
@@ -77,21 +41,17 @@ pub record SoFar (bytes rest : List ℕ) (old known : List Known) : Type 0 where
   pub records : List (List ℕ)
   pub packets : List Packet
   pub read : AreRead records packets rest bytes
-  pub known_is : known ≡ with_packets old packets
+  pub known_is : HasTaken old packets known
 
 pub none_known : (bytes : List ℕ) (old : List Known) → SoFar bytes bytes old old
-none_known bytes old = record { records = []; packets = []; read = none_read bytes; known_is = refl }
+none_known bytes old = record { records = []; packets = []; read = none_read bytes; known_is = none_taken old }
 
-with_one_more : (old : List Known) (ps : List Packet) (p : Packet) → with_packets old (ps ++ p ∷ []) ≡ map (with_packet p) (with_packets old ps)
-with_one_more old [] p = refl
-with_one_more old (q ∷ ps) p = with_one_more (map (with_packet q) old) ps p
-
-pub one_known : (bytes rest after : List ℕ) (old known new : List Known) (p : Packet) (size : ℕ) → SoFar bytes rest old known → HasPacket p size after rest → new ≡ map (with_packet p) known → SoFar bytes after old new
-one_known bytes rest after old known new p size so_far h is = record {
+pub one_known : (bytes rest after : List ℕ) (old known new : List Known) (p : Packet) (size : ℕ) (so_far : SoFar bytes rest old known) → HasPacket p size after rest → HasTaken old (so_far.packets ++ p ∷ []) new → SoFar bytes after old new
+one_known bytes rest after old known new p size so_far h taken = record {
   records = so_far.records ++ h.read ∷ [];
   packets = so_far.packets ++ p ∷ [];
   read = one_read so_far.records so_far.packets rest bytes after p size so_far.read h;
-  known_is = is ∙ ap (map (with_packet p)) so_far.known_is ∙ sym (with_one_more old so_far.packets p);
+  known_is = taken;
 }
 
 pub all_known : (total : ℕ) (bytes rest : List ℕ) (old known : List Known) (tail : Tail) (damage : Option ℕ) → SoFar bytes rest old known → IsEnd rest tail → damage ≡ damage_of tail (total - length rest) → AreJoined total bytes old known damage
@@ -106,7 +66,8 @@ all_known total bytes rest old known tail damage so_far ends told = record {
   damage_is = told;
 }
 
-pub front_known : (head : HeadModel) (bytes behind text : List ℕ) (known : List Known) (damage : Option ℕ) → HasHead head behind bytes → AreJoined (length bytes) behind (unknown head.numbers) known damage → text ≡ lines known → IsFrontRecovered bytes text damage
+pub front_known : (head : HeadModel) (bytes behind text : List ℕ) (known : List Known) (damage : Option ℕ) → HasHead head behind bytes → AreJoined (length bytes) behind (map unknown head.numbers) known damage
+    → text ≡ flat_map line_of (packets_with known) → IsFrontRecovered bytes text damage
 front_known head bytes behind text known damage has joined is =
     let place : ℕ = length bytes - length joined.rest in
     record {
@@ -116,6 +77,6 @@ front_known head bytes behind text known damage has joined is =
       place = place;
       tail = joined.tail;
       front = front_of head bytes behind joined.rest joined.records joined.packets place joined.tail has joined.read joined.ends refl;
-      text_is = is ∙ ap lines joined.known_is ∙ lines_are head.numbers joined.packets;
+      text_is = is ∙ ap (λ (ks : List Known). flat_map line_of (packets_with ks)) joined.known_is.0 ∙ lines_are head.numbers joined.packets;
       damage_is = joined.damage_is;
     }

@@ -13,7 +13,7 @@ use Rattle.fm_delta.specs.declared.packet.Packet.{Packet}
 use Rattle.fm_delta.specs.Deltas.{joined_from, joined_all}
 use Rattle.fm_store.specs.Stores.{values_of, recovered}
 
-joined_push : (k : Table) (ds : List Table) (d : Table) → joined_from k (ds ++ d ∷ []) ≡ table_join (joined_from k ds) d
+pub joined_push : (k : Table) (ds : List Table) (d : Table) → joined_from k (ds ++ d ∷ []) ≡ table_join (joined_from k ds) d
 joined_push k [] d = refl
 joined_push k (e ∷ ds) d = joined_push (table_join k e) ds d
 
@@ -25,7 +25,7 @@ pub same_recovered : (number : ℕ) (ps qs : List Packet) (Ss Ts : List (List Op
 same_recovered number ps qs Ss Ts are these same =
     ap joined_all are ∙ joined_union Ss ∙ know_same (union Ss) (union Ts) same ∙ sym (joined_union Ts) ∙ sym (ap joined_all these)
 
-of_one : (b : Bool) (p : Packet) → b ≡ true → map (λ (q : Packet). q.value) (cond b (p ∷ []) []) ≡ p.value ∷ []
+pub of_one : (b : Bool) (p : Packet) → b ≡ true → map (λ (q : Packet). q.value) (cond b (p ∷ []) []) ≡ p.value ∷ []
 of_one true p is = refl
 of_one false p is = absurd cc
 
@@ -42,11 +42,11 @@ one_more_value : (b : Bool) (q : Packet) (xs ys : List Packet) (vs : List Table)
 one_more_value true q xs ys vs is = ap (λ (ks : List Table). q.value ∷ ks) is
 one_more_value false q xs ys vs is = is
 
-values_append : (number : ℕ) (qs : List Packet) (p : Packet) → values_of number (qs ++ p ∷ []) ≡ values_of number qs ++ values_of number (p ∷ [])
+pub values_append : (number : ℕ) (qs : List Packet) (p : Packet) → values_of number (qs ++ p ∷ []) ≡ values_of number qs ++ values_of number (p ∷ [])
 values_append number [] p = refl
 values_append number (q ∷ qs) p = one_more_value (q.sender == number) q (filter (λ (x : Packet). x.sender == number) (qs ++ p ∷ [])) (filter (λ (x : Packet). x.sender == number) qs) (values_of number (p ∷ [])) (values_append number qs p)
 
-of_none : (b : Bool) (p : Packet) → b ≡ false → map (λ (q : Packet). q.value) (cond b (p ∷ []) []) ≡ []
+pub of_none : (b : Bool) (p : Packet) → b ≡ false → map (λ (q : Packet). q.value) (cond b (p ∷ []) []) ≡ []
 of_none true p is = absurd cc
 of_none false p is = refl
 

@@ -7,3 +7,4 @@ pub mod Opening
 pub mod HeadLaws
 pub mod OneStore
 pub mod Finding
+pub mod KnownStep

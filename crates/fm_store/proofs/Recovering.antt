@@ -18,6 +18,16 @@ pub record SoFar (head : HeadModel) (bytes rest : List ℕ) (packets : List Pack
   pub are : bytes ≡ magic ++ (frames (head_record head ∷ records) ++ rest)
   pub packets_are : SpellEach records packets
 
+-- ---- none yet
+
+pub none_so_far : (head : HeadModel) (bytes rest : List ℕ) → bytes ≡ magic ++ (frame (head_record head) ++ rest) → length (head_record head) < 2 ^ 64 → SoFar head bytes rest []
+none_so_far head bytes rest is fits = record {
+  records = [];
+  fit = (fits, tt);
+  are = is ∙ ap (λ (l : List ℕ). magic ++ (l ++ rest)) (sym (append-nil (frame (head_record head))));
+  packets_are = tt;
+}
+
 -- ---- one more
 
 frames_push : (rs : List (List ℕ)) (r rest : List ℕ) → frames (rs ++ r ∷ []) ++ rest ≡ frames rs ++ (frame r ++ rest)

@@ -54,6 +54,12 @@ IsUnfinished bytes = IsTornMagic bytes ⊎ ((rest : List ℕ) × (bytes ≡ magi
 abbrev pub AreFoundIn : HeadModel → List Packet → List ℕ → Type 0
 AreFoundIn head packets bytes = ((packets ≡ []) × IsUnfinished bytes) ⊎ ((whole : ℕ) × HasStoreOf head packets whole bytes)
 
+-- a store was opened: these packets were found in the old content, and the new one is a store of them, all of which is on the disk
+pub record IsOpened (head : HeadModel) (packets : List Packet) (old new : Option (List ℕ)) (synced : ℕ) : Type 0 where
+  pub found : IfSome old (AreFoundIn head packets)
+  pub left : IfSome new (IsStoreOf head packets)
+  pub on_disk : IfSome new (λ all. synced ≡ length all)
+
 -- the same, with how many bytes the store has
 abbrev pub IsRecovery : HeadModel → List Packet → ℕ → List ℕ → Type 0
 IsRecovery head packets whole bytes = ((whole ≡ 0) × (packets ≡ []) × IsUnfinished bytes) ⊎ HasStoreOf head packets whole bytes

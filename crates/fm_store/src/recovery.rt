@@ -5,6 +5,7 @@
 //! what is behind it is not looked for, since a packet that is left out could not be missed.
 
 ghost use Rattle.std.specs.Prelude.{◌≡◌, ◌⊎◌, ◌↔◌, ◌<◌, ◌^◌, ◌++◌, ℕ, length, None, List, map, IsTrue, IfOk, IfErr, IfSome};
+ghost use Rattle.fm_delta.specs.declared.packet.Packet.{Packet};
 ghost use Rattle.fm_records.specs.declared.ops.Op.{Op};
 ghost use Rattle.fm_records.specs.Know.{table_of};
 ghost use Rattle.fm_records.specs.Sets.{union};
@@ -16,6 +17,7 @@ ghost use Rattle.fm_store.specs.declared.store_fault.StoreFault.TheVariants as f
 
 use crate::frames::{Tail, record_at, without_zeros};
 use crate::head::Head;
+use crate::packet_sink::PacketSink;
 use crate::store_fault::StoreFault;
 use fm_delta::packet::Packet;
 use fm_know::knowledge::Knowledge;
@@ -44,8 +46,23 @@ pub fn recover(alloc: Global, head: &Head, bytes: &[u8]) -> Result<Recovered, St
     ensures err { IfErr result (λ e. IsCauseOf head.now e bytes.now) }
 {
     let mut packets = Vec::new(alloc);
+    let whole = recover_into(alloc, head, bytes, &mut packets)?;
+    Ok(Recovered { packets, whole })
+}
+
+// The same, but the packets go to the sink one by one: how many bytes the store has.
+pub(crate) fn recover_into<S: PacketSink>(
+    alloc: Global,
+    head: &Head,
+    bytes: &[u8],
+    sink: &mut S,
+) -> Result<usize, StoreFault>
+    ensures ok { IfOk result (λ whole. (packets : List Packet)
+        × S.took sink.old packets sink.new × IsRecovery head.now packets whole bytes.now) }
+    ensures err { IfErr result (λ e. IsCauseOf head.now e bytes.now) }
+{
     let Some(frames) = behind_head(alloc, head, bytes)? else {
-        return Ok(Recovered { packets, whole: 0 });
+        return Ok(0);
     };
     let mut rest = frames;
     while !rest.is_empty() {
@@ -53,24 +70,16 @@ pub fn recover(alloc: Global, head: &Head, bytes: &[u8]) -> Result<Recovered, St
         match record_at(rest) {
             Ok((record, after)) => match packet_of(alloc, record, place) {
                 Ok(packet) => {
-                    packets.push(packet)?;
+                    sink.take(packet)?;
                     rest = after;
                 }
                 Err(fault) => return Err(fault),
             },
             Err(Tail::Damaged) => return Err(StoreFault::Damaged(place)),
-            Err(_) => {
-                return Ok(Recovered {
-                    packets,
-                    whole: place,
-                });
-            }
+            Err(_) => return Ok(place),
         }
     }
-    Ok(Recovered {
-        packets,
-        whole: bytes.len(),
-    })
+    Ok(bytes.len())
 }
 
 /// What a coordinator knew by its packets among these: the join of their values. If each value is the table of a set of

@@ -6,17 +6,19 @@
 
 ghost use Rattle.std.specs.Prelude.{◌≡◌, ◌⊎◌, ◌++◌, ◌<◌, ◌^◌, ℕ, length, List, Some, IfOk, IfErr, OnOk, OnErr, IfSome};
 ghost use Rattle.std.specs.Io.KnownBytes.{Appends};
+ghost use Rattle.fm_delta.specs.declared.packet.Packet.{Packet};
 ghost use Rattle.fm_wire.specs.Grammar.{spelling, IsPacket};
 ghost use Rattle.fm_store.specs.Frames.{frame};
 ghost use Rattle.fm_store.specs.Devices.{AppendsFront};
 ghost use Rattle.fm_store.specs.Heads.{HeadModel, head_record};
-ghost use Rattle.fm_store.specs.Stores.{IsStoreOf, AreFoundIn, KeepsStore, IsDamagedAt, HasOtherHead};
+ghost use Rattle.fm_store.specs.Stores.{IsStoreOf, AreFoundIn, IsOpened, KeepsStore, IsDamagedAt, HasOtherHead};
 ghost use Rattle.fm_store.specs.declared.store_fault.StoreFault.TheVariants as faults;
 
 use crate::device::Device;
 use crate::frames::put_frame;
 use crate::head::Head;
-use crate::recovery::{MAGIC, Recovered, recover};
+use crate::packet_sink::PacketSink;
+use crate::recovery::{MAGIC, recover_into};
 use crate::store_fault::StoreFault;
 use fm_delta::packet::Packet;
 use fm_lattice::join::OutOfMemory;
@@ -43,18 +45,41 @@ pub fn open_store<D: Device>(
     ensures other { IfErr result (λ e. e ≡ faults.OtherCluster → IfSome (D.content device.old) (λ all. HasOtherHead head.now all)
         × (D.content device.new ≡ D.content device.old) × (D.synced device.new ≡ D.synced device.old)) }
 {
+    let mut packets = Vec::new(alloc);
+    read_store(alloc, device, head, &mut packets)?;
+    Ok(packets)
+}
+
+/// Opens the store as `open_store` does, but gives the packets to the sink one by one, so that one of them is in memory at a time,
+/// beside the bytes of the store and what the sink keeps. Refused as `open_store`; then the sink may have taken some packets.
+/// O(n log n), and what the sink costs.
+pub fn read_store<D: Device, S: PacketSink>(
+    alloc: Global,
+    device: &mut D,
+    head: &Head,
+    sink: &mut S,
+) -> Result<(), StoreFault>
+    ensures ok { OnOk result ((packets : List Packet) × S.took sink.old packets sink.new
+        × IsOpened head.now packets (D.content device.old) (D.content device.new) (D.synced device.new)) }
+    ensures err { (other : HeadModel) → OnErr result (KeepsStore other (D.content device.old) (D.content device.new)) }
+    ensures damaged { IfErr result (λ e. (place : ℕ) → e ≡ faults.Damaged place
+        → IfSome (D.content device.old) (λ all. IsDamagedAt head.now place all)
+        × (D.content device.new ≡ D.content device.old) × (D.synced device.new ≡ D.synced device.old)) }
+    ensures other { IfErr result (λ e. e ≡ faults.OtherCluster → IfSome (D.content device.old) (λ all. HasOtherHead head.now all)
+        × (D.content device.new ≡ D.content device.old) × (D.synced device.new ≡ D.synced device.old)) }
+{
     let bytes = device.read(alloc)?;
-    let Recovered { packets, whole } = recover(alloc, head, &bytes)?;
+    let whole = recover_into(alloc, head, &bytes, sink)?;
     if whole == 0 {
-        let anew = store_of(alloc, head, &packets)?;
+        let anew = store_of(alloc, head, &[])?;
         device.replace(&anew)?;
-        return Ok(packets);
+        return Ok(());
     }
     if whole < bytes.len() {
         device.cut(whole)?;
     }
     device.sync()?;
-    Ok(packets)
+    Ok(())
 }
 
 /// Adds the packet at the end. It is on the disk once the device is synced. Refused if memory runs out or the device

@@ -8,9 +8,10 @@ use fm_store::device::Device;
 use fm_store::disk::Disk;
 use fm_store::frames::put_frame;
 use fm_store::head::Head;
+use fm_store::known::AllKnown;
 use fm_store::memory::Memory;
 use fm_store::recovery::{knowledge_of, recover};
-use fm_store::store::{append_packet, open_store, rewrite_store};
+use fm_store::store::{append_packet, open_store, read_store, rewrite_store};
 use fm_store::store_fault::StoreFault;
 use std::alloc::Global;
 use std::fs;
@@ -255,6 +256,25 @@ fn one_packet_takes_the_place_of_all(rt: HostRuntime) -> Result<(), Fail> {
     rewrite_store(alloc, &mut device, &head, &whole)?;
     assert!(rt; device.bytes() == &STORE[..192]);
     assert_eq!(rt; device.synced(), 192);
+    Ok(())
+}
+
+#[test]
+fn a_store_is_read_into_what_is_known(rt: HostRuntime) -> Result<(), Fail> {
+    let alloc = rt.alloc();
+    let head = west(alloc)?;
+    let sender = CoordId::new(1).ok_or("no coordinator 1")?;
+    let other = CoordId::new(2).ok_or("no coordinator 2")?;
+    let mut device = memory(alloc, &STORE)?;
+    let packets = open_store(alloc, &mut device, &head)?;
+    let mut all = AllKnown::none(alloc, &[sender, other])?;
+    read_store(alloc, &mut device, &head, &mut all)?;
+    // coordinator 2 has no packets
+    let known = all.packets()?;
+    assert_eq!(rt; known.len(), 1);
+    let first = known.first().ok_or("nothing is known")?;
+    assert_eq!(rt; first.sender, sender);
+    assert!(rt; first.value == knowledge_of(alloc, &packets, sender)?);
     Ok(())
 }
 

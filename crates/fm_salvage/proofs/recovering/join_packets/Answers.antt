@@ -5,7 +5,7 @@ use Rattle.fm_salvage.proofs.Knowing.{none_known, one_known, all_known}
 use Rattle.fm_salvage.proofs.recovering.join_packets.Goals as goal
 
 pub loop-found-init : goal.loop-found-init
-loop-found-init c = none_known c.args.frames.now c.args.known.items
+loop-found-init c = none_known c.args.frames.now c.args.all.known.items
 
 pub loop-found-smaller : goal.loop-found-smaller
 loop-found-smaller c =
@@ -14,12 +14,14 @@ loop-found-smaller c =
 
 pub loop-found-preserved : goal.loop-found-preserved
 loop-found-preserved c =
-    one_known c.args.frames.now c.loop-found.rest.now c.in-Ok.found.after.now c.args.known.items c.loop-found.known.items c.in_ok-known-in-Ok.known.items c.in-Ok.found.packet c.in-Ok.found.size
-    c.loop-found.invariant c.in-Ok.ensures.ok c.in_ok-known-in-Ok.ensures.ok
+    let so_far = c.loop-found.invariant in
+    let taken = c.in_ok-take-in-Ok.ensures c.args.all so_far.packets so_far.known_is in
+    one_known c.args.frames.now c.loop-found.rest.now c.in-Ok.found.after.now c.args.all.known.items c.loop-found.all.known.items c.take.new.self.known.items c.in-Ok.found.packet c.in-Ok.found.size
+    so_far c.in-Ok.ensures.ok taken
 
 pub returns-in-Err-End-clause-ok : goal.returns-in-Err-End-clause-ok
 returns-in-Err-End-clause-ok c =
     let e = c.in-Err-End in
     let end = e.ensures.err e.tail e.place e.field-0-is in
     let told : c.damage_of.result ≡ damage_of e.tail e.place = search rules in
-    all_known c.args.total c.args.frames.now c.loop-found.rest.now c.args.known.items c.loop-found.known.items e.tail c.damage_of.result c.loop-found.invariant end.1 (told ∙ ap (damage_of e.tail) end.0)
+    all_known c.args.total c.args.frames.now c.loop-found.rest.now c.args.all.known.items c.loop-found.all.known.items e.tail c.damage_of.result c.loop-found.invariant end.1 (told ∙ ap (damage_of e.tail) end.0)

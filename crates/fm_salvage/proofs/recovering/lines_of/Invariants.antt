@@ -1,7 +1,7 @@
-use Rattle.std.proofs.Common.{◌≡◌, ◌++◌}
+use Rattle.std.proofs.Common.{◌≡◌, take}
 use Rattle.std.specs.List.{flat_map}
-use Rattle.fm_salvage.specs.RecoveryText.{known_line}
+use Rattle.fm_query.specs.QueryTexts.{line_of}
 use Rattle.fm_salvage.proofs.recovering.lines_of.Given as goal
 
-abbrev pub invariant-loop-one : goal.invariant-loop-one
-invariant-loop-one l = flat_map (λ one. known_line one.number one.value) l.fn.known.items ≡ l.text.items ++ flat_map (λ one. known_line one.number one.value) l.one-iterator.rest.items
+abbrev pub invariant-loop-packet : goal.invariant-loop-packet
+invariant-loop-packet l = l.text.items ≡ flat_map line_of (take l.packet-index l.packets)
