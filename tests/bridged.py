@@ -317,8 +317,8 @@ GROUPS = {"parts": parts, "words": words, "lines": lines, "divided": divided, **
           **own_rounds.GROUPS, **bridge_stores.GROUPS, "signals": signals, "secrets": secrets, "example": example, "skipped": skipped}
 
 # what the gate runs side by side, as groups of tests/run, since they mostly wait
-SIDES = {"brokered_lasting": (*operated.GROUPS, "signals", "secrets", "example", "skipped"),
-         "brokered_rounds": (*relayed.GROUPS, *own_rounds.GROUPS, *bridge_stores.GROUPS)}
+SIDES = {"brokered_lasting": (*operated.GROUPS, *relayed.GROUPS, "kills", "signals", "secrets", "example", "skipped"),
+         "brokered_rounds": (*own_rounds.GROUPS, *bridge_stores.GROUPS)}
 SIDES["brokered"] = tuple(it for it in GROUPS if not any(it in side for side in SIDES.values()))
 
 

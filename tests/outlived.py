@@ -239,7 +239,8 @@ def killed(bridge, way):
 def confirmed(program, count=6):
     """A bridge without a store that answers what the broker confirmed is killed: nothing that was answered ok is
     lost."""
-    told, chance, place = list(cluster(100)), random.Random("confirmed"), 0
+    # a turn takes at most 30 lines
+    told, chance, place = list(cluster(30 * count + 1)), random.Random("confirmed"), 0
     with running(program, []) as (broker, _):
         words = [*QUICK, "--claim-wait", "0.1", "--confirmed"]
         for _ in range(count):
