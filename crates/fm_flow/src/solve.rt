@@ -13,7 +13,7 @@ use fm_certificate::flow::Flow;
 use fm_certificate::laws::law_least;
 use fm_certificate::potentials::Potentials;
 use fm_heuristics::first::first_flow;
-use fm_heuristics::worth_first::resumed;
+use fm_heuristics::resumed::resumed;
 use fm_indexed::improved::improved;
 use fm_indexed::indexed_network::IndexedNetwork;
 use fm_indexed::to_named::certified;

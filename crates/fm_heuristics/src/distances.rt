@@ -10,7 +10,7 @@ ghost use Rattle.fm_cycles.specs.Walks.{AreBounded};
 ghost use Rattle.fm_cycles.specs.Found.{costs_in};
 
 use crate::lenient::part;
-use crate::request_arcs::first_from;
+use crate::node_arcs::first_from;
 use fm_cycles::indexed_arcs::IndexedArc;
 use fm_cycles::lookup::value_or;
 use fm_indexed::indexed_network::IndexedNetwork;

@@ -1,35 +1,27 @@
-//! The first flow, by the start that suits the network.
+//! The first flow: by the search, or, if it gives up, by the network simplex.
 //!
-//! If no task prefers machines, each has one place, and placing by falling worth is fast and mostly least
-//! (`worth_first`). Tasks that prefer machines have several places, and the network simplex weighs them all
-//! (`simplex`).
+//! The search (`searched`) takes a small part of the time of a network simplex, except where most tasks wait, prefer machines,
+//! and find no slot there. It gives up if that takes too many steps, and then the simplex (`simplex`) takes over.
 
-ghost use Rattle.std.specs.Prelude.{◌≡◌, ◌^◌, length, IfOk};
+ghost use Rattle.std.specs.Prelude.{◌≡◌, ◌^◌, length, IfOk, IfSome};
 ghost use Rattle.fm_cycles.specs.Walks.{AreBounded};
 ghost use Rattle.fm_cycles.specs.Found.{costs_in};
 ghost use Rattle.fm_indexed.specs.Feasible.{IsFlowOf};
 ghost use Rattle.fm_indexed.specs.Unscheduled.{all_unscheduled};
 
 use crate::distances::{potentials_from, potentials_over};
-use crate::request_arcs::first_from;
+use crate::searched::searched;
 use crate::simplex::simplex;
-use crate::worth_first::start;
 use fm_indexed::indexed_network::IndexedNetwork;
+use fm_indexed::unscheduled::unscheduled;
 use fm_lattice::join::OutOfMemory;
 use std::alloc::Global;
 
-// Whether tasks have more arcs than one to their job and one to a place. O(log arcs).
-fn has_preferences(numbered: &IndexedNetwork) -> bool {
-    let tasks = numbered.places.end.saturating_sub(numbered.places.tasks);
-    let first = first_from(numbered, numbered.places.tasks);
-    numbered.arcs.len().saturating_sub(first) > tasks.saturating_mul(2)
-}
-
-/// A flow, and a number for each node, none beyond 2^64 in size: by the network simplex if tasks prefer machines,
-/// else, or if that finds none, with tasks placed by falling worth. In most cases the flow is least and the numbers
-/// are its potentials: no clause says so, but the search for cycles then finds none. The caller must pass a network
-/// in which all tasks can be unscheduled. Refused if memory runs out, and for nothing else. Costs what the start
-/// takes that it chooses.
+/// A flow, and a number for each node, none beyond 2^64 in size: by the search for a cheapest way to place tasks; if that
+/// gives up, by the network simplex; and with all tasks unscheduled if that finds none. In most cases the flow is least and
+/// the numbers are its potentials: no clause says so, but the search for cycles then finds none. The caller must pass a
+/// network in which all tasks can be unscheduled. Refused if memory runs out, and for nothing else. O(arcs), and what the
+/// search takes, or the simplex.
 pub fn first_flow(
     alloc: Global,
     numbered: &IndexedNetwork,
@@ -40,13 +32,25 @@ pub fn first_flow(
     ensures sized { IfOk result (λ r. length r.1.items ≡ numbered.now.places.end) }
     ensures small { IfOk result (λ r. AreBounded (2 ^ 64) (costs_in r.1.items)) }
 {
-    if has_preferences(numbered) {
-        if let Some((units, costs)) = simplex(alloc, numbered)? {
-            let potentials = potentials_over(alloc, numbered, &units, costs)?;
-            return Ok((units, potentials));
-        }
+    if let Some((units, costs)) = heuristic(alloc, numbered)? {
+        let potentials = potentials_over(alloc, numbered, &units, costs)?;
+        return Ok((units, potentials));
     }
-    let units = start(alloc, numbered)?;
+    let units = unscheduled(alloc, numbered)?;
     let potentials = potentials_from(alloc, numbered, &units)?;
     Ok((units, potentials))
+}
+
+// The units of a flow, and what a unit costs from each node that is no task, if a heuristic finds any.
+fn heuristic(
+    alloc: Global,
+    numbered: &IndexedNetwork,
+) -> Result<Option<(Vec<u64>, Vec<i64>)>, OutOfMemory>
+    ensures { IfOk result (λ found. IfSome found
+        (λ r. IsFlowOf numbered.now.places numbered.now.arcs.items r.0.items)) }
+{
+    match searched(alloc, numbered)? {
+        Some(found) => Ok(Some(found)),
+        None => simplex(alloc, numbered),
+    }
 }

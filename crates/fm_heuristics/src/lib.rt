@@ -5,8 +5,7 @@
 //! changed freely.
 #![tactic(auto)]
 
-mod augmenting_path;
-mod bit_rows;
+mod assignment_units;
 mod classes;
 mod contracted;
 mod distances;
@@ -17,13 +16,13 @@ mod kept;
 mod knot;
 mod lenient;
 mod link;
-mod loading;
+mod network_instance;
+mod node_arcs;
 mod pivots;
 mod pricing;
-mod request_arcs;
+pub mod resumed;
+pub mod searched;
 pub mod simplex;
-mod sorting;
 mod spanning_tree;
 mod spread;
 mod task_classes;
-pub mod worth_first;

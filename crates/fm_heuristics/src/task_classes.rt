@@ -2,7 +2,7 @@
 
 use crate::classes::{Choice, Class, classes_of, saving};
 use crate::lenient::part;
-use crate::request_arcs::first_from;
+use crate::node_arcs::first_from;
 use fm_cycles::indexed_arcs::IndexedArc;
 use fm_indexed::indexed_network::IndexedNetwork;
 use fm_indexed::node_ranges::NodeKind;

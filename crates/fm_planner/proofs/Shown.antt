@@ -30,9 +30,9 @@ use Rattle.fm_paths.specs.Moves.{way_at_rest, rest, ways_with, AreMoves, FitMove
 use Rattle.fm_paths.proofs.Moves.{asked_count, slot_count}
 use Rattle.fm_paths.proofs.Stands.{live_job}
 use Rattle.fm_paths.proofs.Fair.{waits_spec, not_held}
-use Rattle.fm_search.specs.declared.claim.Claim.{Claim}
+use Rattle.fm_planner.specs.declared.claim.Claim.{Claim}
 use Rattle.fm_planner.specs.declared.move_counts.Counts.{Counts}
-use Rattle.fm_search.specs.Claims.{rise_of, offer_of}
+use Rattle.fm_planner.specs.inner.Claims.{rise_of, offer_of}
 use Rattle.fm_planner.specs.inner.Counts.{AreCounts}
 use Rattle.fm_planner.specs.inner.Slackness.{IsFairAtRest, IsFairTask, load_in, straight_cost, own_cost, IsNoCheaper, Leaves, Asks, GoesStraight, IsFairMove, IsFairOffer, IsFairMachine, Passes, fitting_tasks}
 use Rattle.fm_planner.proofs.Lists.{all_at, counted_member}

@@ -8,15 +8,15 @@
 ghost use Rattle.std.specs.Prelude.{◌≡◌, ◌≤◌, ◌<◌, ◌+◌, ◌↔◌, ℕ, None, IsTrue, IfOk, IfSome, OnOk};
 ghost use Rattle.std.specs.Ordering.{nat_cmp};
 ghost use Rattle.std.specs.BTreeMap.{get};
-ghost use Rattle.fm_search.specs.Claims.{rise_of, offer_of};
+ghost use Rattle.fm_planner.specs.inner.Claims.{rise_of, offer_of};
 ghost use Rattle.fm_planner.specs.inner.Slackness.{AllOf, IsFairTask, IsFairMove, IsFairMachine, IsFairOffer, IsTop, IsFairAtRest, IsPreferredFairly, IsNoCheaper, HasRoom, GoesStraight, own_cost, straight_cost, load_in, HasFairSlots, HasMoreRoom, Leaves, Asks, GoInTurn, IsNext, after_move, fitting_tasks, Passes};
 
+use crate::claim::Claim;
 use crate::move_counts::Counts;
 use fm_know::knowledge::Knowledge;
 use fm_lattice::join::OutOfMemory;
 use fm_records::ids::{JobId, MachineId, TaskId};
 use fm_records::prefer::Prefer;
-use fm_search::claim::Claim;
 use fm_tally::tally::{LiveTask, OpenMachine, Tally};
 use fm_tally::way::Way;
 use std::alloc::Global;

@@ -8,8 +8,11 @@ ghost use Rattle.fm_round.specs.Schedules.{IsPlanOf};
 ghost use Rattle.fm_tally.specs.Tallies.{TallyIsFor};
 
 use crate::checking::passes;
+use crate::claim::Claim;
+use crate::claim_of_assignment::claim_of;
 use crate::move_counts::Counts;
 use crate::plan_of_moves::plan_of;
+use crate::tally_instance::instance_of;
 use fm_know::knowledge::Knowledge;
 use fm_know::laws::law_can_be;
 use fm_lattice::join::OutOfMemory;
@@ -37,7 +40,7 @@ pub fn plan_of_tally(
     law_moves();
     // The tasks are in memory, so there are fewer than 2^63: the check counts them.
     let _few = knowledge.tasks().len();
-    let Some(claim) = search(alloc, knowledge, tally)? else {
+    let Some(claim) = claim_for(alloc, tally, knowledge)? else {
         return Ok(None);
     };
     let moves = claim.moves.pairs();
@@ -47,4 +50,18 @@ pub fn plan_of_tally(
     }
     let plan = plan_of(alloc, knowledge, moves)?;
     Ok(Some(plan))
+}
+
+// The claim that a search finds. None if it gives up.
+fn claim_for(
+    alloc: Global,
+    tally: &Tally,
+    knowledge: &Knowledge,
+) -> Result<Option<Claim>, OutOfMemory> {
+    let (instance, names) = instance_of(alloc, knowledge, tally)?;
+    let Some(assignment) = search(alloc, instance)? else {
+        return Ok(None);
+    };
+    let claim = claim_of(alloc, tally, &assignment, names)?;
+    Ok(Some(claim))
 }

@@ -4,7 +4,7 @@ ghost use Rattle.fm_certificate.specs.PolicyNetwork.{IsBuilt};
 
 use crate::cluster::{Cluster, Sizes};
 use crate::draw::Draw;
-use crate::solving::{anew, cost_from, cycles_after_start, network_of};
+use crate::solving::{anew, cost_from, cycles_after_first, network_of};
 use fm_flow::flow::Flow;
 use fm_net::network::Network;
 use fm_records::refusal::Refusal;
@@ -38,7 +38,7 @@ fn compared_on(alloc: Global, network: &Network, earlier: &Flow) -> Result<(bool
 {
     let (_, cost) = anew(alloc, network)?;
     let same = cost_from(alloc, network, earlier)?;
-    let cycles = cycles_after_start(alloc, network)?;
+    let cycles = cycles_after_first(alloc, network)?;
     Ok((cost == same, cycles))
 }
 

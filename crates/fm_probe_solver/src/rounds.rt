@@ -3,7 +3,7 @@
 use crate::cluster::{Cluster, Sizes};
 use crate::corners::{Corners, Kind};
 use crate::draw::Draw;
-use crate::solving::{anew, network_of};
+use crate::solving::{anew, network_of, searched_cost};
 use fm_know::knowledge::Knowledge;
 use fm_lattice::join::OutOfMemory;
 use fm_planner::plan_source::{PlanSource, Planned, plan_for};
@@ -27,13 +27,22 @@ const CHAINED: u32 = 400;
 // As many sizes of requests, and machines, as make too many pairs for a plan from the tally: more than 2^26.
 const MANY_SIZES: u32 = 8193;
 
-// What rounds came to: how many there were, how many plans were made from the network, and how many cost more or less than a least
-// flow.
+// What rounds came to: how many there were, how many plans were made from the network, how many cost more or less than a least flow, and of
+// how many networks the solver's search found no least flow.
 #[derive(Clone, Copy, Drop)]
 struct Counts {
     rounds: u32,
     from_network: u32,
     wrong: u32,
+    missed: u32,
+}
+
+// How a plan was made, whether it costs what a least flow does, and whether the solver's search found no least flow of the network.
+#[derive(Clone, Copy, Drop)]
+struct Outcome {
+    source: PlanSource,
+    is_least: bool,
+    is_missed: bool,
 }
 
 // What a task costs that is placed on the machine.
@@ -96,20 +105,26 @@ fn cost_of(
     Ok(cost)
 }
 
-// What a least flow of the network of what is known costs.
-fn least(alloc: Global, known: &Knowledge) -> Result<u128, Refusal> {
+// What a least flow of the network of what is known costs, and whether the search finds none.
+fn least(alloc: Global, known: &Knowledge) -> Result<(u128, bool), Refusal> {
     let network = network_of(alloc, known)?;
     let (_, cost) = anew(alloc, &network)?;
-    Ok(cost)
+    let found = searched_cost(alloc, &network)?;
+    Ok((cost, found != Some(cost)))
 }
 
-// The plan of what is known, and whether it costs what a least flow does.
-fn planned(alloc: Global, known: &Knowledge) -> Result<(Planned, bool), Refusal> {
+// The plan of what is known, and what it comes to.
+fn planned(alloc: Global, known: &Knowledge) -> Result<(Planned, Outcome), Refusal> {
     let tally = Tally::of(alloc, known)?;
     let planned = plan_for(alloc, &tally, known)?;
-    let cost = cost_of(alloc, known, &tally, &planned.plan)?;
-    let is_least = cost == least(alloc, known)?;
-    Ok((planned, is_least))
+    let own = cost_of(alloc, known, &tally, &planned.plan)?;
+    let (cost, is_missed) = least(alloc, known)?;
+    let outcome = Outcome {
+        source: planned.source,
+        is_least: own == cost,
+        is_missed,
+    };
+    Ok((planned, outcome))
 }
 
 impl Counts {
@@ -118,14 +133,16 @@ impl Counts {
             rounds: 0,
             from_network: 0,
             wrong: 0,
+            missed: 0,
         }
     }
 
-    fn count(&mut self, source: PlanSource, is_least: bool) {
+    fn count(&mut self, outcome: Outcome) {
         self.rounds = self.rounds.saturating_add(1);
-        let is_network = source == PlanSource::Network;
+        let is_network = outcome.source == PlanSource::Network;
         self.from_network = self.from_network.saturating_add(u32::from(is_network));
-        self.wrong = self.wrong.saturating_add(u32::from(!is_least));
+        self.wrong = self.wrong.saturating_add(u32::from(!outcome.is_least));
+        self.missed = self.missed.saturating_add(u32::from(outcome.is_missed));
     }
 }
 
@@ -134,8 +151,8 @@ fn round_cluster(alloc: Global, seed: u32, kind: Kind, counts: &mut Counts) -> R
     let mut draw = Draw::new(u64::from(seed));
     let mut corners = Corners::new(alloc, &mut draw, kind)?;
     for _ in 0..ROUNDS {
-        let (planned, is_least) = planned(alloc, &corners.cluster.known)?;
-        counts.count(planned.source, is_least);
+        let (planned, outcome) = planned(alloc, &corners.cluster.known)?;
+        counts.count(outcome);
         corners.commit(&planned.plan)?;
         corners.change(&mut draw)?;
     }
@@ -194,8 +211,8 @@ fn scattered_sizes(alloc: Global, count: u32) -> Result<Cluster, Refusal> {
 // What a round of the cluster comes to.
 fn round_once(alloc: Global, cluster: &Cluster) -> Result<Counts, Refusal> {
     let mut counts = Counts::none();
-    let (planned, is_least) = planned(alloc, &cluster.known)?;
-    counts.count(planned.source, is_least);
+    let (_planned, outcome) = planned(alloc, &cluster.known)?;
+    counts.count(outcome);
     Ok(counts)
 }
 
@@ -216,9 +233,10 @@ fn say(rt: &HostRuntime, kind: &str, counts: Counts) -> Result<(), anyhow::Error
         rounds,
         from_network,
         wrong,
+        missed,
     } = counts;
     println!(rt;
-        "rounds {kind}: {rounds}, of which {wrong} cost more or less than a least flow, and {from_network} planned from the network"
+        "rounds {kind}: {rounds}; {wrong} cost more or less than a least flow, {from_network} planned from the network, {missed} missed by the solver"
     )?;
     Ok(())
 }

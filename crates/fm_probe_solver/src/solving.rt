@@ -13,8 +13,9 @@ use fm_cycles::indexed_arcs::IndexedArc;
 use fm_flow::cost::cost;
 use fm_flow::flow::Flow;
 use fm_flow::solve::{solve, solve_from};
+use fm_heuristics::first::first_flow;
+use fm_heuristics::searched::searched;
 use fm_heuristics::simplex::simplex;
-use fm_heuristics::worth_first::start;
 use fm_indexed::indexed_network::IndexedNetwork;
 use fm_indexed::unscheduled::law_unscheduled;
 use fm_know::knowledge::Knowledge;
@@ -69,14 +70,28 @@ pub(crate) fn cost_from(alloc: Global, network: &Network, earlier: &Flow) -> Res
     Ok(cost)
 }
 
-/// How many cycles are cancelled after the start, at most 1,000.
-pub(crate) fn cycles_after_start(alloc: Global, network: &Network) -> Result<usize, Refusal>
+/// What the flow costs that the search finds, if it finds any.
+pub(crate) fn searched_cost(alloc: Global, network: &Network) -> Result<Option<u128>, Refusal> {
+    let numbered = IndexedNetwork::of(alloc, network)?;
+    let Some((units, _costs)) = searched(alloc, &numbered)? else {
+        return Ok(None);
+    };
+    let mut cost = 0u128;
+    for (arc, sent) in numbered.arcs.iter().zip(units.iter()) {
+        let part = u128::from(arc.cost).saturating_mul(u128::from(*sent));
+        cost = cost.saturating_add(part);
+    }
+    Ok(Some(cost))
+}
+
+/// How many cycles are cancelled after the first flow, at most 1,000.
+pub(crate) fn cycles_after_first(alloc: Global, network: &Network) -> Result<usize, Refusal>
     requires { IsBuilt network.now }
 {
     network.known();
     law_unscheduled();
     let numbered = IndexedNetwork::of(alloc, network)?;
-    let units = start(alloc, &numbered)?;
+    let (units, _) = first_flow(alloc, &numbered)?;
     let count = cycles(alloc, numbered.places.end, &numbered.arcs, units)?;
     Ok(count)
 }

@@ -5,7 +5,7 @@ ghost use Rattle.fm_certificate.specs.PolicyNetwork.{IsBuilt};
 
 use crate::cluster::{Cluster, Sizes};
 use crate::draw::Draw;
-use crate::solving::{anew, cost_from, cycles_after_start, network_of};
+use crate::solving::{anew, cost_from, cycles_after_first, network_of};
 use fm_flow::flow::Flow;
 use fm_net::network::Network;
 use std::time::Instant;
@@ -72,7 +72,7 @@ fn timed(rt: &HostRuntime, network: &Network, earlier: &Flow) -> Result<Times, a
     requires { IsBuilt network.now }
 {
     let (same, resumed) = resumed(rt, network, earlier)?;
-    let cycles = cycles_after_start(rt.alloc(), network)?;
+    let cycles = cycles_after_first(rt.alloc(), network)?;
     let (flow, cost, solved) = solved(rt, network)?;
     Ok(Times {
         resumed,

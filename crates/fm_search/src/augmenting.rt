@@ -4,8 +4,8 @@
 //! are half written.
 
 use crate::Tried;
+use crate::assignment::Destination;
 use crate::costs::NONE;
-use crate::movable::Spot;
 use crate::path_search::{End, Paths, Step};
 
 impl Paths {
@@ -61,7 +61,7 @@ impl Paths {
             }
             End::Here => return Ok(self.machine_at(self.last).unwrap_or(NONE)),
             End::Unplace => self.board.unplace(self.last),
-            End::Leave(task) => self.board.move_task(task, Spot::Nowhere)?,
+            End::Leave(task) => self.board.move_task(task, Destination::Nowhere)?,
             End::Stay => (),
         }
         Ok(NONE)
@@ -71,11 +71,11 @@ impl Paths {
     fn send_step(&mut self, step: Step, node: usize, count: i64) -> Tried<()> {
         let machine = self.machine_at(node);
         if step.task != NONE {
-            let spot = match machine {
-                Some(machine) => Spot::Straight(machine),
-                None => Spot::ByRequest,
+            let destination = match machine {
+                Some(machine) => Destination::Straight(machine),
+                None => Destination::ByRequest,
             };
-            return self.board.move_task(step.task, spot);
+            return self.board.move_task(step.task, destination);
         }
         if step.from == NONE {
             return Ok(());

@@ -5,6 +5,7 @@
 //! stays taken.
 
 use crate::Tried;
+use crate::assignment::RequestUnits;
 use crate::costs::{FAR, NONE, put};
 use crate::exits::Exits;
 use crate::full_machines::Full;
@@ -35,14 +36,8 @@ const NO_SLOTS: Slots = Slots {
     full: NONE,
 };
 
-/// How many tasks of a request go to a machine.
-#[derive(Clone, Copy, Drop)]
-pub(crate) struct Share {
-    pub(crate) request: usize,
-    pub(crate) units: i64,
-}
-
-const NO_SHARE: Share = Share {
+// No task of any request.
+const NO_UNITS: RequestUnits = RequestUnits {
     request: 0,
     units: 0,
 };
@@ -53,7 +48,7 @@ pub(crate) struct Board {
     pub(crate) instance: Instance,
     pub(crate) slots: Vec<Slots>,
     /// Of each machine, the requests whose tasks go there.
-    pub(crate) shares: Vec<Vec<Share>>,
+    pub(crate) shares: Vec<Vec<RequestUnits>>,
     /// Of each request, how many of its tasks without preferences are placed: the dearest.
     pub(crate) placed: Vec<usize>,
     pub(crate) exits: Exits,
@@ -91,7 +86,7 @@ impl Board {
     }
 
     /// The requests whose tasks go to the machine.
-    pub(crate) fn shares_of(&self, machine: usize) -> &[Share] {
+    pub(crate) fn shares_of(&self, machine: usize) -> &[RequestUnits] {
         match self.shares.get(machine) {
             Some(shares) => shares.as_slice(),
             None => &[],
@@ -99,11 +94,11 @@ impl Board {
     }
 
     /// One of these, by its place among them.
-    pub(crate) fn share(&self, machine: usize, place: usize) -> Share {
+    pub(crate) fn share(&self, machine: usize, place: usize) -> RequestUnits {
         self.shares_of(machine)
             .get(place)
             .copied()
-            .unwrap_or(NO_SHARE)
+            .unwrap_or(NO_UNITS)
     }
 
     /// How many tasks of the request go to the machine.
@@ -221,7 +216,7 @@ impl Board {
                 return Ok(());
             }
         }
-        shares.push(Share { request, units })?;
+        shares.push(RequestUnits { request, units })?;
         Ok(())
     }
 }

@@ -31,11 +31,3 @@ pub(crate) fn put(costs: &mut [i64], number: usize, to: i64) {
         *cost = to;
     }
 }
-
-/// The difference of two costs as the price of a claim, which is at least 0 and at most the greatest that a check takes.
-pub(crate) fn above(cost: i64, base: i64) -> u64 {
-    let most = 1u64 << 40;
-    u64::try_from(cost.saturating_sub(base))
-        .unwrap_or(0)
-        .min(most)
-}

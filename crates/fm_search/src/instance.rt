@@ -1,4 +1,4 @@
-//! What is to be planned: machines, requests and tasks by number, with no trace of where they come from.
+//! What is to be placed: machines, requests and tasks by number, with no trace of where they come from.
 //!
 //! All costs sit at two ends. A waiting task is worth what it costs to let it wait, less its request. A slot costs its
 //! machine's load, whoever takes it, and a slot that a held task gives up costs the price of preempting that task too. By
@@ -9,13 +9,13 @@ use crate::costs::FAR;
 
 /// An open machine, and which of the held tasks it holds.
 #[derive(Clone, Copy, Drop)]
-pub(crate) struct Machine {
-    pub(crate) load: i64,
+pub struct Machine {
+    pub load: i64,
     /// Less than any request if the load is beyond the bandwidth.
-    pub(crate) spare: i64,
-    pub(crate) slots: i64,
-    pub(crate) first: usize,
-    pub(crate) end: usize,
+    pub spare: i64,
+    pub slots: i64,
+    pub first: usize,
+    pub end: usize,
 }
 
 // A machine of which nothing can be had.
@@ -29,14 +29,14 @@ const NO_MACHINE: Machine = Machine {
 
 /// A request, and which of the waiting tasks without preferences ask for it.
 #[derive(Clone, Copy, Drop)]
-pub(crate) struct Request {
-    pub(crate) size: i64,
-    pub(crate) first: usize,
-    pub(crate) end: usize,
+pub struct RequestTasks {
+    pub size: i64,
+    pub first: usize,
+    pub end: usize,
 }
 
 // A request that no machine has room for.
-const NO_REQUEST: Request = Request {
+const NO_REQUEST: RequestTasks = RequestTasks {
     size: FAR,
     first: 0,
     end: 0,
@@ -44,11 +44,11 @@ const NO_REQUEST: Request = Request {
 
 /// A waiting task that prefers machines, and which of the choices are its own.
 #[derive(Clone, Copy, Drop)]
-pub(crate) struct Preferring {
-    pub(crate) request: usize,
-    pub(crate) worth: i64,
-    pub(crate) first: usize,
-    pub(crate) end: usize,
+pub struct Preferring {
+    pub request: usize,
+    pub worth: i64,
+    pub first: usize,
+    pub end: usize,
 }
 
 // A task that is worth nothing.
@@ -61,22 +61,22 @@ const NO_TASK: Preferring = Preferring {
 
 /// A machine that a task prefers and that has room for it, and what the task saves there.
 #[derive(Clone, Copy, Drop)]
-pub(crate) struct Choice {
-    pub(crate) machine: usize,
-    pub(crate) gain: i64,
+pub struct PreferredMachine {
+    pub machine: usize,
+    pub gain: i64,
 }
 
 /// Machines by rising load, requests by rising size, and tasks.
 #[derive(Drop)]
-pub(crate) struct Instance {
-    pub(crate) machines: Vec<Machine>,
+pub struct Instance {
+    pub machines: Vec<Machine>,
     /// What it costs to preempt each held task, machine after machine, rising.
-    pub(crate) held: Vec<i64>,
-    pub(crate) requests: Vec<Request>,
+    pub held: Vec<i64>,
+    pub requests: Vec<RequestTasks>,
     /// What each waiting task without preferences is worth, request after request, falling.
-    pub(crate) worths: Vec<i64>,
-    pub(crate) preferring: Vec<Preferring>,
-    pub(crate) choices: Vec<Choice>,
+    pub worths: Vec<i64>,
+    pub preferring: Vec<Preferring>,
+    pub choices: Vec<PreferredMachine>,
 }
 
 impl Instance {
@@ -86,7 +86,7 @@ impl Instance {
     }
 
     /// The request of the number.
-    pub(crate) fn request(&self, request: usize) -> Request {
+    pub(crate) fn request(&self, request: usize) -> RequestTasks {
         self.requests.get(request).copied().unwrap_or(NO_REQUEST)
     }
 
@@ -102,12 +102,12 @@ impl Instance {
 
     /// What the tasks of the request without preferences are worth, falling.
     pub(crate) fn worths_of(&self, request: usize) -> &[i64] {
-        let Request { first, end, .. } = self.request(request);
+        let RequestTasks { first, end, .. } = self.request(request);
         self.worths.get(first..end).unwrap_or(&[])
     }
 
     /// The choices of a task that prefers machines.
-    pub(crate) fn choices_of(&self, task: &Preferring) -> &[Choice] {
+    pub(crate) fn choices_of(&self, task: &Preferring) -> &[PreferredMachine] {
         self.choices.get(task.first..task.end).unwrap_or(&[])
     }
 

@@ -4,9 +4,10 @@
 //! narrower: what Hungarian labels are for the assignment problem.
 
 use crate::Tried;
+use crate::assignment::Destination;
 use crate::board::Board;
 use crate::costs::{NONE, cost_at, lower};
-use crate::movable::{Entry, Spot};
+use crate::movable::Entry;
 
 impl Board {
     /// What a unit of the request costs at least.
@@ -37,13 +38,13 @@ impl Board {
     /// What it costs at least to send the task, which prefers machines, elsewhere than where it is.
     pub(crate) fn elsewhere(&self, task: usize) -> i64 {
         let preferring = self.instance.task(task);
-        let spot = self.movable.spot(task);
+        let destination = self.movable.destination(task);
         let mut least = preferring.worth;
-        if spot != Spot::ByRequest {
+        if destination != Destination::ByRequest {
             least = least.min(self.request_label(preferring.request));
         }
         for choice in self.instance.choices_of(&preferring) {
-            if spot != Spot::Straight(choice.machine) {
+            if destination != Destination::Straight(choice.machine) {
                 least = least.min(
                     self.machine_label(choice.machine)
                         .saturating_sub(choice.gain),
@@ -53,21 +54,21 @@ impl Board {
         least
     }
 
-    /// Moves a task that prefers machines to the spot.
-    pub(crate) fn move_task(&mut self, task: usize, spot: Spot) -> Tried<()> {
+    /// Moves a task that prefers machines to the destination.
+    pub(crate) fn move_task(&mut self, task: usize, destination: Destination) -> Tried<()> {
         let request = self.instance.task(task).request;
         self.movable.take_out(task, request);
-        self.movable.set_spot(task, spot);
-        let gain = match spot {
-            Spot::Straight(machine) => self.instance.gain(task, machine),
+        self.movable.set_destination(task, destination);
+        let gain = match destination {
+            Destination::Straight(machine) => self.instance.gain(task, machine),
             _ => 0,
         };
         let key = gain.saturating_add(self.elsewhere(task));
         self.movable.put_in(request, Entry { key, gain, task })?;
-        match spot {
-            Spot::Nowhere => (),
-            Spot::ByRequest => lower(&mut self.movable.by_request, request, key),
-            Spot::Straight(machine) => self.come_to(machine, key)?,
+        match destination {
+            Destination::Nowhere => (),
+            Destination::ByRequest => lower(&mut self.movable.by_request, request, key),
+            Destination::Straight(machine) => self.come_to(machine, key)?,
         }
         Ok(())
     }

@@ -5,16 +5,9 @@
 //! of 64 lists, are kept too, so that a search does not look at tasks that it has no reason to move.
 
 use crate::Tried;
+use crate::assignment::Destination;
 use crate::costs::{FAR, NONE, lower, put};
 use std::alloc::Global;
-
-/// Where a task that prefers machines goes.
-#[derive(Clone, Copy, PartialEq, Eq, Drop)]
-pub(crate) enum Spot {
-    Nowhere,
-    ByRequest,
-    Straight(usize),
-}
 
 /// A task in a list, with its key and what it saves there.
 #[derive(Clone, Copy, Drop)]
@@ -27,8 +20,9 @@ pub(crate) struct Entry {
 /// The tasks that prefer machines. There are no lists if there are no such tasks.
 #[derive(Drop)]
 pub(crate) struct Movable {
-    // Of each task, where it is, and its place in the list there.
-    spots: Vec<Spot>,
+    /// Of each task, where it is.
+    pub(crate) destinations: Vec<Destination>,
+    // And its place in the list there.
     places: Vec<usize>,
     machines: usize,
     // At each machine, and then at each request.
@@ -71,7 +65,7 @@ impl Movable {
             machines.saturating_add(requests)
         };
         Ok(Movable {
-            spots: vec![in alloc; Spot::Nowhere; tasks]?,
+            destinations: vec![in alloc; Destination::Nowhere; tasks]?,
             places: vec![in alloc; NONE; tasks]?,
             machines,
             lists: no_entries(alloc, lists)?,
@@ -82,8 +76,11 @@ impl Movable {
     }
 
     /// Where the task is.
-    pub(crate) fn spot(&self, task: usize) -> Spot {
-        self.spots.get(task).copied().unwrap_or(Spot::Nowhere)
+    pub(crate) fn destination(&self, task: usize) -> Destination {
+        self.destinations
+            .get(task)
+            .copied()
+            .unwrap_or(Destination::Nowhere)
     }
 
     /// The list of a request.
@@ -91,12 +88,12 @@ impl Movable {
         self.machines.saturating_add(request)
     }
 
-    // The list of the spot, for a task of the request.
-    fn list_of(&self, spot: Spot, request: usize) -> usize {
-        match spot {
-            Spot::Nowhere => NONE,
-            Spot::ByRequest => self.request_list(request),
-            Spot::Straight(machine) => machine,
+    // The list of the destination, for a task of the request.
+    fn list_of(&self, destination: Destination, request: usize) -> usize {
+        match destination {
+            Destination::Nowhere => NONE,
+            Destination::ByRequest => self.request_list(request),
+            Destination::Straight(machine) => machine,
         }
     }
 
@@ -147,7 +144,7 @@ impl Movable {
 
     /// Takes a task of the request out of its list.
     pub(crate) fn take_out(&mut self, task: usize, request: usize) {
-        let list = self.list_of(self.spot(task), request);
+        let list = self.list_of(self.destination(task), request);
         let place = self.places.get(task).copied().unwrap_or(NONE);
         let Some(entries) = self.lists.get_mut(list) else {
             return;
@@ -163,16 +160,16 @@ impl Movable {
         }
     }
 
-    /// The task is at the spot, and not in the list there yet.
-    pub(crate) fn set_spot(&mut self, task: usize, spot: Spot) {
-        if let Some(there) = self.spots.get_mut(task) {
-            *there = spot;
+    /// The task is at the destination, and not in the list there yet.
+    pub(crate) fn set_destination(&mut self, task: usize, destination: Destination) {
+        if let Some(there) = self.destinations.get_mut(task) {
+            *there = destination;
         }
     }
 
     /// Puts a task of the request into the list where it is.
     pub(crate) fn put_in(&mut self, request: usize, entry: Entry) -> Tried<()> {
-        let list = self.list_of(self.spot(entry.task), request);
+        let list = self.list_of(self.destination(entry.task), request);
         let Some(entries) = self.lists.get_mut(list) else {
             return Ok(());
         };

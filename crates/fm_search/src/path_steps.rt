@@ -5,9 +5,9 @@
 //! only new words of its row of bits are looked at, and only requests that are not reached yet.
 
 use crate::Tried;
+use crate::assignment::Destination;
 use crate::bit_set::{first_of, has_bit, without_first};
 use crate::costs::{FAR, NONE, cost_at, put};
-use crate::movable::Spot;
 use crate::path_search::{End, Paths, Step};
 
 // A step from the node over a machine, where that is not the next node itself.
@@ -199,7 +199,7 @@ impl Paths {
             over: NONE,
             task,
         };
-        if self.board.movable.spot(task) != Spot::ByRequest {
+        if self.board.movable.destination(task) != Destination::ByRequest {
             least = least.min(self.board.request_label(preferring.request));
             self.reach_request(preferring.request, cost, step)?;
         }
@@ -215,7 +215,7 @@ impl Paths {
             return Ok(FAR);
         };
         let machine = choice.machine;
-        if self.board.movable.spot(step.task) == Spot::Straight(machine) {
+        if self.board.movable.destination(step.task) == Destination::Straight(machine) {
             return Ok(FAR);
         }
         let label = self

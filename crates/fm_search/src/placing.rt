@@ -6,9 +6,9 @@
 //! searches may move.
 
 use crate::Tried;
+use crate::assignment::Destination;
 use crate::board::Board;
 use crate::costs::{NONE, cost_at, raise};
-use crate::movable::Spot;
 use crate::path_search::{End, Paths};
 use std::alloc::Global;
 
@@ -137,13 +137,13 @@ fn place_task(paths: &mut Paths, task: usize) -> Tried<()> {
     }
     let machine = slot_at(&paths.board, task, least);
     if machine != NONE {
-        paths.board.move_task(task, Spot::Straight(machine))?;
+        paths.board.move_task(task, Destination::Straight(machine))?;
         return paths.board.take(machine, 1);
     }
     if paths.board.request_label(preferring.request) == least {
         let exit = paths.board.exit(preferring.request)?;
         if exit.price == least {
-            paths.board.move_task(task, Spot::ByRequest)?;
+            paths.board.move_task(task, Destination::ByRequest)?;
             paths.board.add_units(preferring.request, exit.machine, 1)?;
             return paths.board.take(exit.machine, 1);
         }

@@ -6,9 +6,9 @@
 //! long as one is too high (labels corrected in turn: Ford, 1956), nearest to the kept labels first: then few fall twice.
 
 use crate::Tried;
+use crate::assignment::Destination;
 use crate::board::Board;
 use crate::costs::{cost_at, put};
-use crate::movable::Spot;
 use std::alloc::Global;
 use std::collections::BinaryHeap;
 
@@ -84,7 +84,7 @@ impl Prices {
     // Lists the moves, and lowers each price to what it costs to move on a task there.
     fn begin(&mut self, board: &Board) -> Tried<()> {
         for task in 0..board.instance.preferring.len() {
-            if let Spot::Straight(machine) = board.movable.spot(task) {
+            if let Destination::Straight(machine) = board.movable.destination(task) {
                 self.begin_with(board, task, machine)?;
             }
         }

@@ -1,5 +1,5 @@
-//! Small networks, and drawn ones: the first flow of either start is least, and cancelling from all tasks unscheduled
-//! ends at its cost.
+//! Small networks, and drawn ones: the first flow is least, that of the search as that of the simplex, and cancelling from all tasks
+//! unscheduled ends at its cost.
 
 ghost use Rattle.std.specs.Prelude.{IsTrue, IfOk};
 ghost use Rattle.fm_indexed.specs.Feasible.{IsFlowOf};
@@ -10,8 +10,10 @@ use crate::round::{job as known_job, knowing, machine as known_machine, spec};
 use fm_certificate::cost::cost;
 use fm_cycles::cycle_search::search;
 use fm_flow::solve::{solve, solve_from};
+use fm_heuristics::first::first_flow;
+use fm_heuristics::resumed::resume;
+use fm_heuristics::searched::searched;
 use fm_heuristics::simplex::{simplex, simplex_within};
-use fm_heuristics::worth_first::{resume, start};
 use fm_indexed::feasible_units::is_feasible;
 use fm_indexed::improved::improved;
 use fm_indexed::indexed_network::IndexedNetwork;
@@ -104,7 +106,7 @@ fn started(alloc: Global, network: &Network) -> Result<Option<u128>, OutOfMemory
     if !can_wait(alloc, &numbered)? {
         return Ok(None);
     }
-    let units = start(alloc, &numbered)?;
+    let (units, _potentials) = first_flow(alloc, &numbered)?;
     let is_least = is_least(alloc, &numbered, &units)?;
     Ok(is_least.then_some(total(&numbered, &units)))
 }
@@ -278,11 +280,147 @@ fn drawn_networks_are_solved(rt: HostRuntime) -> Result<(), Fail> {
 }
 
 #[test]
-fn the_search_finds_no_cycle_after_the_start(rt: HostRuntime) -> Result<(), Fail> {
+fn no_cycle_is_found_after_the_first_flow(rt: HostRuntime) -> Result<(), Fail> {
     for seed in 1..=3u64 {
         let network = drawn(rt.alloc(), seed, 60, 400)?;
         assert!(rt; started(rt.alloc(), &network)?.is_some());
     }
+    Ok(())
+}
+
+// What a machine of a network of the policy has: its load, its slots, and its spare bandwidth, if that is not below 0.
+fn machine_drawn(first: u64, number: u64) -> (u16, u64, Option<u16>) {
+    let mut seed = first.wrapping_mul(1_000_003).wrapping_add(number);
+    let _ = draw(&mut seed);
+    let slots = u64::from(draw(&mut seed) % 4 + 1);
+    let load = draw(&mut seed) / 4;
+    let spare = draw(&mut seed);
+    (load, slots, (spare % 10 > 0).then_some(spare))
+}
+
+// Its arcs, from three requests as far as it has room for them.
+fn lay_machine(network: &mut Network, first: u64, number: u64) -> Result<(), OutOfMemory> {
+    let (load, slots, spare) = machine_drawn(first, number);
+    lay(network, &machine(u128::from(number), slots))?;
+    for request in [0u16, 20, 50] {
+        if spare.is_some_and(|spare| spare >= request) {
+            let most = spare.unwrap_or(0).checked_div(request);
+            let fits = most.map_or(slots, u64::from).min(slots);
+            lay(network, &room(request, u128::from(number), fits, load))?;
+        }
+    }
+    Ok(())
+}
+
+// A task that waits for the request, and may prefer up to three machines.
+fn lay_waiting(
+    network: &mut Network,
+    first: u64,
+    machines: u64,
+    number: u128,
+    seed: &mut u64,
+) -> Result<(), OutOfMemory> {
+    let request = [0u16, 20, 50, 50][usize::from(draw(seed) % 4)];
+    lay(
+        network,
+        &waits(
+            number,
+            u128::from(draw(seed) % 3),
+            draw(seed).wrapping_mul(2),
+        ),
+    )?;
+    lay(network, &asks(number, request))?;
+    for _ in 0..draw(seed) % 4 {
+        let machine = u64::from(draw(seed)) % machines.max(1);
+        let (load, _, spare) = machine_drawn(first, machine);
+        if spare.is_some_and(|spare| spare >= request) {
+            let whole = request.saturating_add(load);
+            let cost = whole.saturating_sub(draw(seed));
+            lay(network, &goes(number, u128::from(machine), cost))?;
+        }
+    }
+    Ok(())
+}
+
+// A network as the policy builds it, with held and waiting tasks.
+fn drawn_of_policy(
+    alloc: Global,
+    first: u64,
+    machines: u64,
+    tasks: u64,
+) -> Result<Network, OutOfMemory> {
+    let mut network = Network::new(alloc)?;
+    let mut seed = first;
+    for number in 0..3u64 {
+        lay(&mut network, &job(u128::from(number), tasks))?;
+    }
+    for number in 0..machines {
+        lay_machine(&mut network, first, number)?;
+    }
+    for number in 0..tasks {
+        let task = u128::from(number);
+        if draw(&mut seed) < 30 {
+            let machine = u128::from(u64::from(draw(&mut seed)) % machines.max(1));
+            lay(
+                &mut network,
+                &waits(task, u128::from(draw(&mut seed) % 3), draw(&mut seed)),
+            )?;
+            lay(&mut network, &held(task, machine))?;
+        } else {
+            lay_waiting(&mut network, first, machines, task, &mut seed)?;
+        }
+    }
+    Ok(network)
+}
+
+// What the flow costs that the search ends at, if there is one and it is a least flow.
+fn found(alloc: Global, network: &Network) -> Result<Option<u128>, OutOfMemory> {
+    let numbered = IndexedNetwork::of(alloc, network)?;
+    let Some((units, _costs)) = searched(alloc, &numbered)? else {
+        return Ok(None);
+    };
+    let is_least = is_least(alloc, &numbered, &units)?;
+    Ok(is_least.then_some(total(&numbered, &units)))
+}
+
+// Whether the search ends at a least flow of a drawn network of the policy, which costs what cancelling comes to.
+fn is_found(alloc: Global, seed: u64) -> Result<bool, OutOfMemory> {
+    let network = drawn_of_policy(alloc, seed, 1 + seed % 9, 40)?;
+    let cost = found(alloc, &network)?;
+    Ok(cost.is_some() && cost == cancelled(alloc, &network)?)
+}
+
+#[test]
+fn the_search_ends_at_a_least_flow(rt: HostRuntime) -> Result<(), Fail> {
+    for seed in 1..=60u64 {
+        assert_eq!(rt; is_found(rt.alloc(), seed), Ok(true));
+    }
+    let chain = chained(rt.alloc(), 40)?;
+    assert_eq!(rt; found(rt.alloc(), &chain), Ok(Some(81)));
+    let contended = network_of(rt.alloc(), &contended())?;
+    assert_eq!(rt; found(rt.alloc(), &contended), Ok(Some(180)));
+    Ok(())
+}
+
+// A machine at another load for the greater request.
+fn of_two_loads() -> [Laid; 8] {
+    [
+        job(1, 2),
+        machine(10, 2),
+        waits(17, 1, 700),
+        asks(17, 20),
+        waits(18, 1, 700),
+        asks(18, 50),
+        room(20, 10, 2, 5),
+        room(50, 10, 1, 6),
+    ]
+}
+
+#[test]
+fn a_network_that_no_policy_builds_is_left_to_the_simplex(rt: HostRuntime) -> Result<(), Fail> {
+    let network = network_of(rt.alloc(), &of_two_loads())?;
+    assert_eq!(rt; found(rt.alloc(), &network), Ok(None));
+    assert_eq!(rt; both_cost(rt.alloc(), &network, Some(81)), Ok(true));
     Ok(())
 }
 
@@ -401,7 +539,7 @@ fn is_taken_over(alloc: Global, network: &Network) -> Result<bool, OutOfMemory> 
     if !can_wait(alloc, &numbered)? {
         return Ok(false);
     }
-    let first = start(alloc, &numbered)?;
+    let (first, _potentials) = first_flow(alloc, &numbered)?;
     let strange = vec![in alloc; 1u64; numbered.arcs.len()]?;
     if let Some((other, _)) = resume(alloc, &numbered, &strange)? {
         if total(&numbered, &other) != total(&numbered, &first) {

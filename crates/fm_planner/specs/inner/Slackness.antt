@@ -11,9 +11,9 @@ use Rattle.fm_tally.specs.declared.tally.OpenMachine.{OpenMachine}
 use Rattle.fm_tally.specs.declared.tally.Tally.{Tally}
 use Rattle.fm_tally.specs.declared.way.Way.{Way}
 use Rattle.fm_tally.specs.declared.way.Way.TheVariants.{ToJob, ByRequest, Straight}
-use Rattle.fm_search.specs.declared.claim.Claim.{Claim}
+use Rattle.fm_planner.specs.declared.claim.Claim.{Claim}
 use Rattle.fm_planner.specs.declared.move_counts.Counts.{Counts}
-use Rattle.fm_search.specs.Claims.{rise_of, offer_of}
+use Rattle.fm_planner.specs.inner.Claims.{rise_of, offer_of}
 use Rattle.fm_planner.specs.inner.Counts.{pairs_in, arriving_in, leaving_in}
 
 -- all of the list are such

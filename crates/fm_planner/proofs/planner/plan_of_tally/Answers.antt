@@ -4,7 +4,7 @@ use Rattle.fm_lattice.specs.Maps.{IsRising}
 use Rattle.fm_net.proofs.BoundLaws.{net_can_be}
 use Rattle.fm_round.specs.Schedules.{IsPlanOf}
 use Rattle.fm_paths.specs.Moves.{plan_of_moves}
-use Rattle.fm_search.specs.Claims.{offer_of}
+use Rattle.fm_planner.specs.inner.Claims.{offer_of}
 use Rattle.fm_planner.specs.inner.Counts.{AreCounts}
 use Rattle.fm_planner.proofs.Shown.{price_of, are_moves, fit_moves, are_fair, go_in_turn}
 use Rattle.fm_planner.proofs.planner.plan_of_tally.Goals as goal

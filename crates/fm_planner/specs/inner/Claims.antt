@@ -3,7 +3,7 @@ use Rattle.std.specs.Prelude.{ℕ}
 use Rattle.std.specs.Ordering.{nat_cmp}
 use Rattle.fm_lattice.specs.Maps.{lookup}
 use Rattle.fm_records.specs.Options.{or_else}
-use Rattle.fm_search.specs.declared.claim.Claim.{Claim}
+use Rattle.fm_planner.specs.declared.claim.Claim.{Claim}
 
 -- by how much the price of a machine is above its load
 abbrev pub rise_of : Claim → ℕ → ℕ

@@ -5,6 +5,9 @@ use fm_records::ids::MachineId;
 use fm_tally::guide::{Guide, upper};
 use std::alloc::Global;
 
+/// No number.
+pub(crate) const NONE: usize = usize::MAX;
+
 /// Machines by id, each with a number.
 #[derive(Drop)]
 pub(crate) struct Numbers {

@@ -1,0 +1,40 @@
+//! A flow by the search for a cheapest way to place tasks (`fm_search`), which rounds are planned by, too.
+//!
+//! The search knows nothing of arcs: costs sit at tasks and machines. So a network becomes an instance of it
+//! (`network_instance`), and its assignment the units of arcs (`assignment_units`).
+
+ghost use Rattle.std.specs.Prelude.{IfOk, IfSome};
+ghost use Rattle.fm_indexed.specs.Feasible.{IsFlowOf};
+
+use crate::assignment_units::{costs_of, units_of};
+use crate::network_instance::instance_of;
+use fm_indexed::feasible_units::is_feasible;
+use fm_indexed::indexed_network::IndexedNetwork;
+use fm_lattice::join::OutOfMemory;
+use fm_search::search::search;
+use std::alloc::Global;
+
+/// The units of a flow of the network, and the cost of a unit from each node that is no task to the sink. None if the
+/// search gives up, or if the network is not one of the policy. The flow is least, and the negated costs are its
+/// potentials: no clause says so, but the search for cycles then finds none. Refused if memory runs out, and for nothing
+/// else. O(arcs), and what `fm_search` takes.
+pub fn searched(
+    alloc: Global,
+    numbered: &IndexedNetwork,
+) -> Result<Option<(Vec<u64>, Vec<i64>)>, OutOfMemory>
+    ensures { IfOk result (λ found. IfSome found
+        (λ r. IsFlowOf numbered.now.places numbered.now.arcs.items r.0.items)) }
+{
+    let Some((instance, numbers)) = instance_of(alloc, numbered)? else {
+        return Ok(None);
+    };
+    let Some(assignment) = search(alloc, instance)? else {
+        return Ok(None);
+    };
+    let units = units_of(alloc, numbered, &assignment, &numbers)?;
+    if !is_feasible(alloc, numbered, &units)? {
+        return Ok(None);
+    }
+    let costs = costs_of(alloc, numbered, &assignment, &numbers)?;
+    Ok(Some((units, costs)))
+}
