@@ -10,6 +10,7 @@ import tempfile
 import reference
 import stored
 
+MOST_IN_LINE = 33_554_422
 UNUSABLE = b"firmament: refusal 22, since the file of the store cannot be used\n"
 MOST_LABEL, MOST_LISTED = 200, 64
 
@@ -179,6 +180,25 @@ def told_again(program, data):
     return done.returncode == 0 and done.stdout == b"ok\n" * (1 + len(lines)) + "".join(reference.listing(known)).encode() + b"ok\n"
 
 
+def of_jobs(first, behind):
+    """The bytes of packet 0 of coordinator 1 that has a job for each number of the range."""
+    fields = bytes(7) + b"\1\1\0" + (500).to_bytes(4, "big") + (800).to_bytes(4, "big")
+    jobs = b"".join(number.to_bytes(16, "big") + fields for number in range(first, behind))
+    return b"FDG2\1" + bytes(8) + (behind - first).to_bytes(8, "big") + jobs + bytes(24)
+
+
+def halved(program, path):
+    """Of two packets the longer one has one job too many for a line of a stream, and is printed as its halves."""
+    count = (MOST_IN_LINE - 45) // 34
+    for name, ends in (("a packet for a whole line", (1, count + 1)), ("a packet for two lines", (1, 1 + (count + 1) // 2, count + 2))):
+        pieces = [of_jobs(first, behind) for first, behind in zip(ends, ends[1:])]
+        yield "%s: at most so many bytes" % name, max(map(len, pieces)) <= MOST_IN_LINE < len(of_jobs(1, count + 2))
+        path.write_bytes(stored.store("west", [1, 2], [of_jobs(ends[0], ends[-1])]))
+        done = subprocess.run([program, "recover", path], stdin=subprocess.DEVNULL, capture_output=True, timeout=120)
+        text = b"".join(piece.hex().encode() + b"\n" for piece in pieces)
+        yield name, (done.returncode, done.stdout, done.stderr) == (0, text, b"")
+
+
 def as_nobody():
     """A process that may read only what everyone may."""
     if os.getuid() == 0:
@@ -217,5 +237,6 @@ def all_tests(program):
             (folder / "-x").write_bytes(small)
             done = subprocess.run([program, command, "--", "-x"], cwd=folder, capture_output=True, timeout=120)
             yield command + " of a name like a flag", (done.returncode, done.stdout, done.stderr) == wanted(command, small)
+        yield from halved(program, folder / "store")
         yield from unusable(program, folder)
     yield "what is recovered can be told again", told_again(program, stored.store("west", [1, 2], PACKETS))

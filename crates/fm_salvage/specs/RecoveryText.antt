@@ -1,32 +1,23 @@
 -- What coordinators knew by the packets of a store's file, as packets in digits (this project's profile).
-use Rattle.std.specs.Prelude.{◌≡◌, ◌⊎◌, ℕ, List, [], ◌∷◌, Option, Some, None}
+use Rattle.std.specs.Prelude.{◌≡◌, ◌⊎◌, ℕ, List, [], Option}
 use Rattle.std.specs.List.{flat_map}
-use Rattle.fm_records.specs.Table.{Table}
 use Rattle.fm_delta.specs.declared.packet.Packet.{Packet}
-use Rattle.fm_delta.specs.Deltas.{joined_all}
 use Rattle.fm_query.specs.QueryTexts.{line_of}
 use Rattle.fm_store.specs.Heads.{HeadModel}
-use Rattle.fm_store.specs.Stores.{values_of}
+use Rattle.fm_store.specs.KnownPackets.{known_packets}
+use Rattle.fm_store.specs.Pieces.{ArePiecesOfEach}
 use Rattle.fm_store.specs.declared.frames.Tail.{Tail}
 use Rattle.fm_salvage.specs.StoreFronts.{IsFront, HasNoHead, damage_of}
 
--- the join of the values, if there are any
-abbrev pub joined_some : List Table → Option Table
-joined_some [] = None
-joined_some (k ∷ ks) = Some (joined_all (k ∷ ks))
+-- how many bytes a packet has at most whose digits a line of a stream can have
+abbrev pub most_in_line : ℕ
+most_in_line = 33554422
 
--- what a coordinator knew by its packets, if it has any
-abbrev pub known_by : List Packet → ℕ → Option Table
-known_by packets number = joined_some (values_of number packets)
-
--- a line with one packet of all that a coordinator knew, under number 0
-abbrev pub known_line : ℕ → Option Table → List ℕ
-known_line number None = []
-known_line number (Some k) = line_of (record { sender = number; number = 0; value = k })
-
--- a line for each coordinator that has packets, in the order of the head
-abbrev pub known_lines : List ℕ → List Packet → List ℕ
-known_lines numbers packets = flat_map (λ n. known_line n (known_by packets n)) numbers
+-- a packet of all that a coordinator knew, under number 0, for each that has packets, in the order of the head; each of these in pieces that
+-- lines can have, and a line for each piece
+abbrev pub AreKnownLines : List ℕ → List Packet → List ℕ → Type 0
+AreKnownLines numbers packets text =
+    (pieces : List Packet) × ArePiecesOfEach most_in_line (known_packets numbers packets) pieces × (text ≡ flat_map line_of pieces)
 
 -- the text of a file with this front
 pub record IsFrontRecovered (bytes text : List ℕ) (damage : Option ℕ) : Type 0 where
@@ -36,7 +27,7 @@ pub record IsFrontRecovered (bytes text : List ℕ) (damage : Option ℕ) : Type
   pub place : ℕ
   pub tail : Tail
   pub front : IsFront head records packets place tail bytes
-  pub text_is : text ≡ known_lines head.numbers packets
+  pub lines : AreKnownLines head.numbers packets text
   pub damage_is : damage ≡ damage_of tail place
 
 -- and of a file that has no head

@@ -1,4 +1,4 @@
-//! What coordinators knew by the packets of a file, up to where it ends or is damaged, as one packet each.
+//! What coordinators knew by the packets of a file, up to where it ends or is damaged, as packets that lines can have.
 
 ghost use Rattle.std.specs.Prelude.{◌≡◌, ◌≤◌, length, IfOk, IsOkUnless};
 ghost use Rattle.std.specs.List.{flat_map};
@@ -14,7 +14,11 @@ use fm_query::packet_text::packet_line;
 use fm_records::refusal::Refusal;
 use fm_store::known::AllKnown;
 use fm_store::packet_sink::PacketSink;
+use fm_store::pieces::split_packets;
 use std::alloc::Global;
+
+// How many bytes a packet has at most whose digits fit in a line of a stream, of 64 MiB: `{"at":64,"take":"DIGITS"}`.
+const MOST_IN_LINE: usize = 33_554_422;
 
 // What the coordinators knew, and where the bytes are damaged, if they are.
 #[derive(Drop)]
@@ -23,10 +27,11 @@ pub(crate) struct Joined {
     pub(crate) damage: Option<usize>,
 }
 
-/// What each coordinator of the head knew by its packets before the end or the damage of a file of these bytes: a line each with
-/// the digits of one packet, as a stream takes them in, in the order of the head; and the place of the damage, if there is any.
-/// Coordinators without packets have no line. Refused only if memory runs out. It has one packet in memory at a time,
-/// beside what is known. O(n log n), and what `Knowledge::join_into` costs.
+/// What each coordinator of the head knew by its packets before the end or the damage of a file of these bytes: a line with the digits of
+/// one packet, as a stream takes them in, in the order of the head; and the place of the damage, if there is any. What takes more
+/// than 33,554,422 bytes has several lines, whose packets say it together. Coordinators without packets have no line.
+/// Refused only if memory runs out. It has one packet of the file in memory at a time, beside what is known. O(n log n), and what
+/// `Knowledge::join_into` and `split_packets` cost.
 pub fn recover_packets(alloc: Global, bytes: &[u8]) -> Result<Salvaged, Refusal>
     ensures ok { IfOk result (λ s. IsRecoveredText bytes.now s.text.items s.damage) }
     ensures err { IsOkUnless result Refusal.OutOfMemory }
@@ -36,8 +41,9 @@ pub fn recover_packets(alloc: Global, bytes: &[u8]) -> Result<Salvaged, Refusal>
             let none = AllKnown::none(alloc, &head.numbers)?;
             let joined = join_packets(alloc, none, bytes.len(), head.frames)?;
             let packets = joined.all.packets()?;
+            let pieces = split_packets(packets, MOST_IN_LINE)?;
             Ok(Salvaged {
-                text: lines_of(alloc, &packets)?,
+                text: lines_of(alloc, &pieces)?,
                 damage: joined.damage,
             })
         }

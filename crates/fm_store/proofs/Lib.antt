@@ -8,3 +8,6 @@ pub mod HeadLaws
 pub mod OneStore
 pub mod Finding
 pub mod KnownStep
+pub mod Halving
+pub mod PieceSizes
+pub mod Piecing

@@ -4,5 +4,6 @@ pub mod Devices
 pub mod Heads
 pub mod Stores
 pub mod KnownPackets
+pub mod Pieces
 pub mod inner
 pub mod laws

@@ -13,6 +13,7 @@ pub mod known;
 pub mod laws;
 pub mod memory;
 pub mod packet_sink;
+pub mod pieces;
 pub mod recovery;
 pub mod store;
 pub mod store_fault;

@@ -10,6 +10,7 @@ use fm_store::frames::put_frame;
 use fm_store::head::Head;
 use fm_store::known::AllKnown;
 use fm_store::memory::Memory;
+use fm_store::pieces::split_packets;
 use fm_store::recovery::{knowledge_of, recover};
 use fm_store::store::{append_packet, open_store, read_store, rewrite_store};
 use fm_store::store_fault::StoreFault;
@@ -275,6 +276,46 @@ fn a_store_is_read_into_what_is_known(rt: HostRuntime) -> Result<(), Fail> {
     let first = known.first().ok_or("nothing is known")?;
     assert_eq!(rt; first.sender, sender);
     assert!(rt; first.value == knowledge_of(alloc, &packets, sender)?);
+    Ok(())
+}
+
+// A packet of so many jobs.
+fn packet_of_jobs(alloc: Global, count: u128) -> Result<Packet, Fail> {
+    let mut all = Vec::new(alloc);
+    for id in 1..count + 1 {
+        all.push(Op::Job {
+            id: JobId::new(id),
+            version: 2,
+            writer: 1,
+            withdrawn: false,
+            wait: 600,
+            preempt: 800,
+        })?;
+    }
+    packet(alloc, 5, &all)
+}
+
+// The pieces of the packet.
+fn split(alloc: Global, packet: Packet, most: usize) -> Result<Vec<Packet>, Fail> {
+    let mut packets = Vec::new(alloc);
+    packets.push(packet)?;
+    Ok(split_packets(packets, most)?)
+}
+
+#[test]
+fn a_packet_is_halved_until_it_fits(rt: HostRuntime) -> Result<(), Fail> {
+    let alloc = rt.alloc();
+    // 300 jobs have 45 + 300 * 34 = 10,245 bytes, 150 have 5,145, and 75 have 2,595
+    for (most, count) in [(10245, 1), (10244, 2), (5145, 2), (5144, 4), (0, 4)] {
+        let pieces = split(alloc, packet_of_jobs(alloc, 300)?, most)?;
+        assert_eq!(rt; pieces.len(), count);
+        for piece in &pieces {
+            assert_eq!(rt; piece.value.jobs().len(), 300 / count);
+            assert_eq!(rt; piece.number, 5);
+        }
+        let whole = packet_of_jobs(alloc, 300)?;
+        assert!(rt; knowledge_of(alloc, &pieces, whole.sender)? == whole.value);
+    }
     Ok(())
 }
 
