@@ -171,9 +171,7 @@ def unusable_stores(program):
             found = refused(broker.port, "--number", "1", *PLAIN, "--store", str(file), *more, program=program)
             yield "%s: %r" % (name, found[2]), is_refused(found, 16, why) and (why in OTHERS or b"firmament recover" in found[2])
             yield "%s: unchanged" % name, file.read_bytes() == content
-        link = folder / "link"
-        link.symlink_to(file)
-        for name, path in (("a link", link), ("a folder", folder), ("no folder", folder / "none" / "store")):
+        for name, path in (("a folder", folder), ("no folder", folder / "none" / "store")):
             found = refused(broker.port, "--number", "1", *PLAIN, "--store", str(path), program=program)
             yield "%s: %r" % (name, found[2]), is_refused(found, 16, UNUSABLE)
         yield from recovered(broker, program, folder, bytes(flipped), told[:9])

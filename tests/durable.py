@@ -433,14 +433,41 @@ def unusable(program):
         seen = follow(program, place, OPEN)
         yield "a folder", seen[0] == 9 and seen[1] == b"" and seen[2].startswith(UNUSABLE)
         os.mkfifo(place / "pipe")
-        (place / "link").symlink_to(path)
-        for name, other in (("a pipe", place / "pipe"), ("a device without an end", "/dev/full"), ("a symbolic link", place / "link")):
+        for name, aim in (("folder", place), ("pipe", place / "pipe"), ("none", place / "none" / "store"), ("itself", place / "link to itself")):
+            (place / ("link to " + name)).symlink_to(aim)
+        for name, other in (("a pipe", place / "pipe"), ("a device without an end", "/dev/full"), ("a link to a folder", place / "link to folder"),
+                            ("a link to a pipe", place / "link to pipe"), ("a link into no folder", place / "link to none"),
+                            ("a link to itself", place / "link to itself")):
             status, out, err = follow(program, other, OPEN)
             yield name, (status, out) == (9, b"") and err.startswith(UNUSABLE)
         seen = follow(program, place / "none" / "store", OPEN)
         yield "a folder that is not there", seen[0] == 9 and seen[2].startswith(UNUSABLE)
         yield from locked(program, place / "locked")
         yield from read_only(program, place)
+
+
+def linked(program):
+    """Of a symbolic link the file that it names is the store, is made if it is not there, and is compacted in its own place."""
+    with folder() as place:
+        file, link = place / "far" / "store", place / "link"
+        file.parent.mkdir()
+        (place / "next").symlink_to("far/store")
+        link.symlink_to(place / "next")
+        seen = follow(program, link, OPEN + job() + specs(0, 3))
+        yield "no file yet", seen[0] == 0 and is_whole(file) and known(program, file) == numbers(3)
+        size = superseded(file)
+        seen = follow(program, link, OPEN + specs(3, 2))
+        yield "it is compacted", seen[0] == 0 and file.stat().st_size < size and known(program, file) == known(program, link) == numbers(5)
+        yield "both links stay", link.is_symlink() and (place / "next").is_symlink() and not file.is_symlink()
+        yield "all else is beside the file", {it.name for it in place.iterdir()} == {"far", "next", "link"} and (file.parent / "store.lock").exists()
+        with subprocess.Popen([program, "follow", "--store", str(file)], stdin=subprocess.PIPE, stdout=subprocess.PIPE) as first:
+            first.stdin.write(OPEN)
+            first.stdin.flush()
+            answered(first.stdout)
+            seen = follow(program, link, OPEN)
+            yield "the file is locked", seen[:2] == (9, b"") and seen[2].startswith(UNUSABLE)
+            first.stdin.close()
+            yield "by one that ends well", first.wait() == 0
 
 
 def locked(program, path):
@@ -493,7 +520,7 @@ def quick(program):
 
 
 GROUPS = {test.__name__: test for test in (
-    alike, again, trimmed, not_awaited, in_order, failing, compacted, compaction_fails, full, cut_off, unusable, killed, quick)}
+    alike, again, trimmed, not_awaited, in_order, failing, compacted, compaction_fails, full, cut_off, unusable, linked, killed, quick)}
 
 
 def all_tests(program, names=tuple(GROUPS)):

@@ -24,10 +24,11 @@ pub struct Disk {
 }
 
 impl Disk {
-    /// Opens the file at the path, or makes an empty one. Locked if another process has it. Failed if it cannot be opened, or is no
-    /// regular file: of a device or a pipe there may be no end, and of a symbolic link `replace` would put a file in the place.
+    /// Opens the file at the path, or makes an empty one; of a symbolic link the file that it names, so that `replace` puts no file in the
+    /// link's place. Locked if another process has it. Failed if it cannot be opened, or is no regular file: a device or a pipe may have no
+    /// end.
     pub fn open(rt: &HostRuntime, path: &str) -> Result<Disk, DeviceFault> {
-        let path = String::from_str(rt.alloc(), path)?;
+        let path = resolved(rt, path)?;
         if is_other(rt, path.as_str()) {
             return Err(DeviceFault::Failed);
         }
@@ -73,6 +74,29 @@ fn growing(rt: &HostRuntime, path: &str) -> io::Result<File> {
         .append(true)
         .create(true)
         .open(rt, path)
+}
+
+// The path of the file: if that is a symbolic link, the path of what it names, where a file is made if there is none.
+fn resolved(rt: &HostRuntime, path: &str) -> Result<String, DeviceFault> {
+    if !is_link(rt, path) {
+        return Ok(String::from_str(rt.alloc(), path)?);
+    }
+    let named = match fs::canonicalize(rt, path) {
+        Err(error) if error.kind() == io::ErrorKind::NotFound => {
+            or_failed(growing(rt, path))?;
+            fs::canonicalize(rt, path)
+        }
+        found => found,
+    };
+    Ok(or_failed(named)?.into_string())
+}
+
+// Whether a symbolic link is at the path.
+fn is_link(rt: &HostRuntime, path: &str) -> bool {
+    match fs::symlink_metadata(rt, path) {
+        Ok(found) => found.is_symlink(),
+        Err(_) => false,
+    }
 }
 
 // Whether something is at the path that is no regular file.
