@@ -8,6 +8,7 @@ import os
 import pathlib
 import pwd
 import random
+import re
 import resource
 import shutil
 import signal
@@ -220,20 +221,44 @@ class Storing:
         return done, told.read_text() if told.exists() else ""
 
 
+def waits_for_syncs(calls):
+    """Whether each answer comes behind a sync of all that was done to files before it, and there are both."""
+    unsynced = False
+    for call in calls:
+        if call == "o" and unsynced:
+            return False
+        unsynced = (unsynced or call in "wtr") and call != "s"
+    return "s" in calls and "o" in calls
+
+
 def in_order(program):
     """No answer goes out before what it rests on was written and synced."""
     with folder() as place:
         storing = Storing(program, place)
         for lines in (specs(0, 1), specs(0, 700), GRAPH, b'{"at":1,"cut":{}}\n' + LIST):
             _, calls = storing.run(place / ("store %d" % len(lines)), OPEN + job() + lines)
-            unsynced = False
-            fine = True
-            for call in calls:
-                unsynced = (unsynced or call in "wtr") and call != "s"
-                fine = fine and not (call == "o" and unsynced)
-            yield "synced before it is answered: %s" % calls[:60], fine and "s" in calls and "o" in calls
+            yield "synced before it is answered: %s" % calls[:60], waits_for_syncs(calls)
         _, calls = storing.run(place / ("store %d" % len(GRAPH)), OPEN + GRAPH * 9)
         yield "questions write nothing: %s" % calls, "w" not in calls
+
+
+# what strace says of a call to a file that came back well, and the letter that tests/storing.c has for it
+TRACED = (("w", r"p?writev?(64|2)?\((?![012]\b)"), ("o", r"writev?\(1\b"), ("s", r"f(data)?sync\("), ("t", r"ftruncate(64)?\("), ("r", r"rename(at2?)?\("))
+
+
+def in_order_by_system(program):
+    """The same as the system sees it, which strace tells. Says so if there is no strace that may trace a process."""
+    with folder() as place:
+        tracing = ["strace", "-f", "-qq", "-e", "signal=none", "-e", "trace=" + ",".join("?" + name for name in (
+            "write", "writev", "pwrite64", "pwritev", "pwritev2", "fsync", "fdatasync", "ftruncate", "rename", "renameat", "renameat2")), "-o", place / "said"]
+        if not shutil.which("strace") or subprocess.run([*tracing, "true"], stderr=subprocess.DEVNULL).returncode:
+            print("durable: the order of system calls is not traced, since there is no strace (Debian's package)")
+            return
+        for count in (1, 700):
+            subprocess.run([*tracing, program, "follow", "--store", place / ("store %d" % count)], input=OPEN + job() + specs(0, count), stdout=subprocess.DEVNULL)
+            lines = [re.sub(r"^\d+ +", "", line) for line in (place / "said").read_text().splitlines()]
+            calls = "".join(letter for line in lines for letter, form in TRACED if re.match(form, line))
+            yield "synced before it is answered, by strace: %s" % calls[:60], waits_for_syncs(calls) and "w" in calls
 
 
 def failing(program):
@@ -520,7 +545,7 @@ def quick(program):
 
 
 GROUPS = {test.__name__: test for test in (
-    alike, again, trimmed, not_awaited, in_order, failing, compacted, compaction_fails, full, cut_off, unusable, linked, killed, quick)}
+    alike, again, trimmed, not_awaited, in_order, in_order_by_system, failing, compacted, compaction_fails, full, cut_off, unusable, linked, killed, quick)}
 
 
 def all_tests(program, names=tuple(GROUPS)):
