@@ -38,7 +38,15 @@ def asked(rt, crate, names, texts, kept):
         print(f"{crate.name}: seconds of its wrong bodies: {', '.join(slow)}", flush=True)
     ended = re.search(r"^only=\d+ proved=\d+\n*\Z", said, re.MULTILINE)
     is_answer = ended and ran.returncode in (0, 1) and not any(rt.unread(line, texts) for line in said.split("\n"))
+    if not is_answer:
+        print(f"{crate.name}: a check of {len(names)} of its functions was no answer: {cause_in(said)[:200]}", flush=True)
     return said if is_answer else ""
+
+
+def cause_in(said):
+    """The first line of what a check says that tells an error, or else its last line."""
+    lines = [line.strip() for line in said.split("\n") if line.strip()]
+    return next((line for line in lines if "error" in line), lines[-1] if lines else "it said nothing")
 
 
 def read_timed(ran):

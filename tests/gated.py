@@ -330,6 +330,8 @@ def refused():
         with mock.patch.object(refusals, "asked", lambda *_given: ""):
             found = refusals.outcomes(types.SimpleNamespace(must_fail=lambda *_given: (False, "proved")), crate, edits)
         yield "what no try refuses is not refused", found == [(False, "proved")] * 3
+        causes = [refusals.cause_in(said) for said in ("read\nrattle: error[unusable]: why\nlast\n", "one\nlast\n\n", "")]
+        yield "why a check is no answer is its first error, or its last line", causes == ["rattle: error[unusable]: why", "last", "it said nothing"]
 
 
 def all_tests():
