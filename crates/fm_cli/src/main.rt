@@ -3,7 +3,7 @@
 
 use fm_dimacs::out::Over;
 use fm_io::interrupts::Resuming;
-use fm_io::source::Input;
+use fm_io::read_ahead::ReadAhead;
 use fm_records::refusal::Refusal;
 use fm_serve::ending::Ending;
 use fm_serve::fault::Fault;
@@ -15,7 +15,7 @@ use std::io::{BufReader, IsTerminal};
 use std::process::ExitCode;
 use std::{env, io};
 
-// How many bytes are read ahead: a stream is read byte by byte, and lines that are there already may be answered together.
+// How many bytes are read at a time: lines that are there already may be answered together.
 const READ_AHEAD: usize = 1_048_576;
 
 fn main(rt: HostRuntime) -> ExitCode {
@@ -25,7 +25,7 @@ fn main(rt: HostRuntime) -> ExitCode {
         BufReader::with_capacity(alloc, READ_AHEAD, rt.reader()),
     ) {
         (Ok(words), Ok(reader)) => {
-            let source = Input::new(reader);
+            let source = ReadAhead::new(reader);
             let sink = Over::new(Resuming::new(io::writer(&rt)));
             if rt.stderr().is_terminal() {
                 serve_watched(&rt, alloc, &words, source, sink).0

@@ -1,7 +1,8 @@
 -- The lines of a text that is made of lines.
-use Rattle.std.proofs.Common.{◌≡◌, ℕ, ◌==◌, List, [], ◌∷◌, ◌++◌, Bool, true, false, cond, not, refl, sym, ap, ◌∙◌, append_assoc, append-nil}
+use Rattle.std.proofs.Common.{◌≡◌, ℕ, ◌==◌, ◌&&◌, List, [], ◌∷◌, ◌++◌, Bool, true, false, cond, not, refl, ap, ◌∙◌, append_assoc, append-nil}
 use Rattle.std.specs.List.{list_all, flat_map}
 use Rattle.std.proofs.lemmas.List.Concat.{flat_map-append}
+use Rattle.std.proofs.lemmas.List.Folds.{list_all-append}
 use Rattle.fm_records.proofs.LookupLaws.{both_true}
 use Rattle.fm_io.specs.Lines.{onto_first, lines_of, IsLine, with_line_feed}
 
@@ -21,6 +22,10 @@ last_line b [] h = onto (b == 10) b [] (both_true (not (b == 10)) true h).0
 last_line b (c ∷ line) h =
     let parts = both_true (not (b == 10)) (list_all (λ d. not (d == 10)) (c ∷ line)) h in
     onto (b == 10) b (lines_of (c ∷ line)) parts.0 ∙ ap (onto_first b) (last_line c line parts.1)
+
+-- two parts of one line
+pub joined_line : (front back : List ℕ) → IsLine front → IsLine back → IsLine (front ++ back)
+joined_line front back h e = list_all-append (λ b. not (b == 10)) front back ∙ (λ i. h i && e i)
 
 -- each of them is a line
 abbrev pub AreLines : List (List ℕ) → Type 0

@@ -8,6 +8,7 @@ mod held_replies;
 pub mod input;
 pub mod interrupts;
 pub mod lines;
+pub mod read_ahead;
 mod replies;
 pub mod responder;
 pub mod sending;

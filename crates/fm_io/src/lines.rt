@@ -1,7 +1,8 @@
 //! Reading a stream line by line, each with a bound, so that one line can neither take all memory nor end the stream.
 //!
 //! A line that is too long, or for which memory runs out, is read to its end and not kept. So the next line begins
-//! where it begins in the stream. Bytes are asked for one by one, and a source of its own should read ahead.
+//! where it begins in the stream. What the source has already of a line is moved at once, and other bytes are asked for one
+//! by one, so a source should read ahead (`read_ahead`).
 
 ghost use Rattle.std.specs.Prelude.{◌≡◌, ◌⊎◌, ◌≤◌, ℕ, List, [], ◌∷◌, ◌++◌, None, true, false, length, ◌<◌, IfOk, OnErr, IsOkUnless};
 ghost use Rattle.std.specs.Option.{option_to_list};
@@ -40,7 +41,7 @@ pub enum Next {
 
 /// Reads the next line, up to its line feed, and keeps it without that. A line that is too long, or for which memory
 /// runs out, is also read to its end. BadScript(0) if the source fails, and only then, short of 2^64 bytes of one
-/// line. It asks the source for one byte at a time, so a source of its own should read ahead. O(n).
+/// line. O(n), with a call of the source for each byte that it does not have already.
 pub fn next_line<S: Source>(source: &mut S, line: &mut Vec<u8>) -> Result<Next, Refusal>
     ensures next { IfOk result (λ next. (bytes : List ℕ)
         × Consumes (S.remaining source.old) (S.remaining source.new) bytes
@@ -54,8 +55,9 @@ pub fn next_line<S: Source>(source: &mut S, line: &mut Vec<u8>) -> Result<Next, 
     line.clear();
     let mut kept = Line::Whole;
     for count in 0..u64::MAX {
+        keep_ahead(source, kept, line);
         match next_byte(source)? {
-            None => return Ok(end_of(kept, count == 0)),
+            None => return Ok(end_of(kept, line)),
             Some(b'\n') => return Ok(Next::Line(kept)),
             Some(byte) => kept = keep(kept, line, byte),
         }
@@ -63,17 +65,33 @@ pub fn next_line<S: Source>(source: &mut S, line: &mut Vec<u8>) -> Result<Next, 
     Err(Refusal::BadScript(0))
 }
 
-// What is at the end of the stream.
-fn end_of(kept: Line, is_empty: bool) -> Next
+// What is at the end of the stream, after what was kept of the bytes before that.
+fn end_of(kept: Line, line: &[u8]) -> Next
     ensures last { is_last result ≡ true }
-    ensures next { (bytes line : List ℕ) → IsLine bytes → (is_empty ≡ true → bytes ≡ [])
-        → (is_empty ≡ false → 0 < length bytes)
-        → IsKeptLine kept bytes line → IsNextLine result bytes line }
+    ensures next { (bytes : List ℕ) → IsLine bytes → (kept ≡ Line.Whole) ⊎ (0 < length bytes)
+        → IsKeptLine kept bytes line.now → IsNextLine result bytes line.now }
 {
-    if is_empty {
-        Next::End
-    } else {
-        Next::Last(kept)
+    match kept {
+        Line::Whole => {
+            if line.is_empty() {
+                Next::End
+            } else {
+                Next::Last(kept)
+            }
+        }
+        Line::TooLong | Line::OutOfMemory => Next::Last(kept),
+    }
+}
+
+// Keeps what the source has already of the line, while that is not too long.
+fn keep_ahead<S: Source>(source: &mut S, kept: Line, line: &mut Vec<u8>)
+    ensures ahead { (bytes : List ℕ) → IsKeptLine kept bytes line.old.items → (more : List ℕ)
+        × Consumes (S.remaining source.old) (S.remaining source.new) more × IsLine more
+        × IsKeptLine kept (bytes ++ more) line.new.items }
+{
+    match kept {
+        Line::Whole => source.take_ahead(line, MOST_LINE.saturating_sub(line.len())),
+        Line::TooLong | Line::OutOfMemory => {}
     }
 }
 

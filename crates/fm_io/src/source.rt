@@ -1,14 +1,14 @@
 //! Sources of bytes, which may give a part of what they are asked for, end, or fail.
 //!
 //! `Input` makes a source of any reader. A read that was interrupted is made again, since that is no failure; one that
-//! is interrupted for ever fails.
+//! is interrupted for ever fails. `ReadAhead` is one that also knows which bytes it has already.
 
 ghost use Rattle.std.specs.Prelude.{◌≡◌, ◌≤◌, ◌||◌, ℕ, List, Bool, Option, false, is_none, length, IfSome, MatchOption};
 ghost use Rattle.std.specs.Io.KnownBytes.{Keeps};
-ghost use Rattle.fm_io.specs.Sources.{SourceGives};
+ghost use Rattle.fm_io.specs.Sources.{SourceGives, MovesAhead};
 
 use crate::interrupts::MOST_INTERRUPTS;
-use std::io::{BufReader, ErrorKind, Read};
+use std::io::{ErrorKind, Read};
 use std::marker::Model;
 
 /// What gives bytes.
@@ -26,6 +26,14 @@ pub trait Source {
         ensures gives { MatchOption result (Keeps (remaining self.old) (remaining self.new))
             (λ n. SourceGives (remaining self.old) (remaining self.new) n piece.new) }
         ensures fails { has_failed self.new ≡ (has_failed self.old || is_none result) };
+
+    /// Moves what it has already of the bytes before the next line feed to the end of the line, at most so many. It waits
+    /// for nothing. None are moved if memory runs out, or if it does not know what it has: so it is unless a source says
+    /// otherwise.
+    fn take_ahead(&mut self, line: &mut Vec<u8>, most: usize)
+        ensures moves { MovesAhead (remaining self.old) (remaining self.new) line.old.items line.new.items most }
+        ensures same { has_failed self.new ≡ has_failed self.old }
+    {}
 }
 
 /// A source that knows lines which it has already.
@@ -39,7 +47,7 @@ pub trait LineSource: Source {
 /// one `get`.
 #[derive(Debug, Drop)]
 pub struct Input<R> {
-    reader: R,
+    pub(crate) reader: R,
     failed: bool,
 }
 
@@ -74,14 +82,6 @@ impl<R: Read> Source for Input<R> {
             self.failed = true;
         }
         count
-    }
-}
-
-/// A line is there once its line feed is in the buffer. The reader behind is read only if the buffer is empty, so it is
-/// not read for that line.
-impl<R: Read> LineSource for Input<BufReader<R>> {
-    fn has_line(&self) -> bool {
-        self.reader.buffer().contains(&b'\n')
     }
 }
 

@@ -5,8 +5,8 @@ ghost use Rattle.std.specs.Prelude.{⊤};
 use fm_dimacs::out::Over;
 use fm_io::committer::{Committer, NotCommitted};
 use fm_io::group_commit::{MOST_LINES, StreamFault, follow_in_groups};
+use fm_io::read_ahead::ReadAhead;
 use fm_io::responder::Responder;
-use fm_io::source::Input;
 use fm_records::refusal::Refusal;
 use std::alloc::Global;
 use std::cell::Cell;
@@ -117,7 +117,7 @@ fn followed(
         bytes,
         most,
     };
-    let mut source = Input::new(BufReader::new(alloc, reader)?);
+    let mut source = ReadAhead::new(BufReader::new(alloc, reader)?);
     let mut sink = Over::new(Keeper {
         events,
         bytes: Vec::new(alloc),

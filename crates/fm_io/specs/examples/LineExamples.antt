@@ -1,5 +1,5 @@
 -- Small texts and their lines, computed.
-use Rattle.std.specs.Prelude.{◌≡◌, List, [], ◌∷◌, codes}
+use Rattle.std.specs.Prelude.{◌≡◌, [], ◌∷◌, codes}
 use Rattle.std.proofs.Common.{refl}
 use Rattle.fm_io.specs.Lines.{lines_of}
 

@@ -1,4 +1,4 @@
-use Rattle.std.proofs.Common.{ℕ, refl, subst, inl, inr}
+use Rattle.std.proofs.Common.{refl, subst, inl, inr}
 use Rattle.fm_records.specs.declared.refusal.Refusal.TheVariants as refusal
 use Rattle.fm_io.specs.declared.lines.Line.{Line}
 use Rattle.fm_io.specs.LineReads.{IsKeptLine}
