@@ -60,11 +60,14 @@ def stores(program):
             bridge.kill()
         yield "nobody else may read it", stat.S_IMODE(file.stat().st_mode) == 0o600
         # what a crash leaves of a record that was not written whole
+        whole = file.stat().st_size
         with file.open("ab") as more:
             more.write(stored.frame(stored.JOB)[:-20])
         anew(broker)
         with Bridge(broker.port, 1, *words, program=program) as bridge:
             yield "a record that was not written whole is dropped", agree([bridge], told) and told_to([bridge], told[:2])
+            said = [it["line"] for it in said_of(bridge, "follower")]
+            yield "and the bridge says so: %r" % said, said == [f"firmament: the store was torn at byte {whole}, and is cut off there"]
             bridge.kill()
         anew(broker)
         with Bridge(broker.port, 1, *words, program=program) as bridge:

@@ -50,10 +50,18 @@ def follow(program, path, text, *words, **how):
     return lined.seen(program, text, "--store", str(path), *words, **how)
 
 
+def torn_line(path):
+    """What the next run has to say of the store at the path on standard error: where it cuts off a torn end, if there is one."""
+    data = path.read_bytes()
+    whole = stored.read(data)[1]
+    return b"firmament: the store was torn at byte %d, and is cut off there\n" % whole if 0 < whole < len(data) else b""
+
+
 def known(program, path):
     """The tasks that are known by the store, in rising order."""
+    told = torn_line(path)
     status, out, err = follow(program, path, OPEN + LIST)
-    assert (status, err) == (0, b""), (status, err)
+    assert (status, err) == (0, told), (status, err, told)
     ids = [line.split()[1].decode() for line in out.splitlines() if line.startswith(b"task ")]
     return [int(it.replace("-", ""), 16) for it in ids]
 
@@ -426,13 +434,16 @@ def cut_off(program):
         follow(program, path, OPEN + job() + specs(0, 3))
         sure = len(path.read_bytes())
         follow(program, path, OPEN + specs(3, 4))
-        data = path.read_bytes()
+        data, ends = path.read_bytes(), 0
         chance = random.Random("cut off")
         for end in sorted({*chance.sample(range(sure, len(data) + 1), 30), sure, len(data)}):
             path.write_bytes(data[:end] + bytes(chance.choice((0, 0, 1, 700))))
+            ends += bool(torn_line(path))
             found = known(program, path)
             yield "cut at %d" % end, numbers(3) == found[:3] and found in (numbers(3), numbers(7))
             yield "then it is whole, cut at %d" % end, is_whole(path)
+            yield "and is told of no more, cut at %d" % end, torn_line(path) == b"" and known(program, path) == found
+        yield "torn ends were told of", ends > 10
 
 
 def unusable(program):

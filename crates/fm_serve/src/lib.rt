@@ -23,3 +23,4 @@ pub mod salvage;
 mod script_check;
 pub mod serve;
 mod stored_stream;
+mod telling_device;

@@ -26,6 +26,7 @@ use fm_service::stream::follow_stream;
 use fm_store::device::OpenDevice;
 use std::alloc::Global;
 use std::fs::Files;
+use std::io::Eprint;
 use std::sync::Wait;
 use std::thread::Threads;
 
@@ -46,7 +47,7 @@ pub enum RunWay<'a> {
 /// and writes what `respond` answers; or follows a stream, line by line; or reads the file of a store. Faults are found in this order: the words,
 /// the input, those that `respond` finds, the sink. The output is complete before it is written: all of it is
 /// written, or nothing, or what the sink accepted before it failed.
-pub fn serve<T: Threads + Wait + Files + OpenDevice + Sync, S: LineSource, W: Sink>(
+pub fn serve<T: Threads + Wait + Eprint + Files + OpenDevice + Sync, S: LineSource, W: Sink>(
     rt: &T,
     alloc: Global,
     progress: &RunProgress,

@@ -6,12 +6,14 @@ ghost use Rattle.fm_serve.specs.StoredStreams.{IsStoredStream, ending_durable};
 use crate::ending::Ending;
 use crate::fault::Fault;
 use crate::progress::RunProgress;
+use crate::telling_device::TellingDevice;
 use fm_durable::durable_stream::{DurableFault, follow_durable};
 use fm_io::sink::Sink;
 use fm_io::source::LineSource;
 use fm_store::device::OpenDevice;
 use fm_store::store_fault::StoreFault;
 use std::alloc::Global;
+use std::io::Eprint;
 
 /// A stream that is asked for with a store: after how many entries in a history the coordinators are renewed, the path of the store's file,
 /// and its label.
@@ -22,9 +24,9 @@ pub struct StoredStream<'a> {
     pub label: &'a str,
 }
 
-// Follows the stream of the source's lines to its end, with the store.
-pub(crate) fn follow_with_store<O: OpenDevice, S: LineSource, W: Sink>(
-    opener: &O,
+// Follows the stream of the source's lines to its end, with the store. Where a torn end of that is cut off is said on standard error.
+pub(crate) fn follow_with_store<T: OpenDevice + Eprint, S: LineSource, W: Sink>(
+    rt: &T,
     alloc: Global,
     progress: &RunProgress,
     asked: StoredStream<'_>,
@@ -44,7 +46,7 @@ pub(crate) fn follow_with_store<O: OpenDevice, S: LineSource, W: Sink>(
     let Ok(label) = String::from_str(alloc, asked.label) else {
         return Ending::Unusable(StoreFault::OutOfMemory);
     };
-    let device = match opener.open_device(asked.path) {
+    let device = match rt.open_device(asked.path) {
         Ok(device) => device,
         Err(fault) => return Ending::Unusable(StoreFault::Device(fault)),
     };
@@ -53,7 +55,7 @@ pub(crate) fn follow_with_store<O: OpenDevice, S: LineSource, W: Sink>(
         alloc,
         asked.renew_after as usize,
         label,
-        device,
+        TellingDevice { rt, device },
         source,
         sink,
     );
