@@ -1,10 +1,10 @@
 //! The commands that the parser knows, with their texts of help.
 
-ghost use Rattle.std.specs.Prelude.{◌≡◌, IfOk, codes, false, take};
-ghost use Rattle.clap.specs.Words.{app_of, new_app, rule_of, with_rule};
+ghost use Rattle.std.specs.Prelude.{◌≡◌, IfOk, codes, false};
+ghost use Rattle.clap.specs.Words.{App, app_of, new_app, rule_of, with_rule, with_subcommand};
 ghost use Rattle.clap.specs.declared.builder.command.Command.TheViews.{out-Command};
-ghost use Rattle.fm_args.specs.CommandLine.{asks, commands, fleets, follows, lists_records, most_renew_after, nothing, packs, recovers, whys};
-ghost use Rattle.fm_args.specs.Parser.{command_app, firmament, name_rule, no_commands, number_rule, with_commands, word_rule};
+ghost use Rattle.fm_args.specs.CommandLine.{asks, fleets, follows, lists_records, most_renew_after, nothing, packs, recovers, whys};
+ghost use Rattle.fm_args.specs.Parser.{command_app, firmament, name_rule, no_commands, number_rule, word_rule};
 ghost use Rattle.fm_args.specs.Invocation.{agree, check, run, unpack};
 ghost use Rattle.fm_args.specs.declared.words.ScriptQuestion.TheVariants as question;
 
@@ -17,52 +17,35 @@ use std::alloc::Global;
 pub fn parser<'a>(alloc: Global) -> Result<Command<'a>, OutOfMemory>
     ensures { IfOk result (λ c. app_of c ≡ firmament) }
 {
-    let with_plan = up_to_plan(alloc)?;
-    let unpack = unpack(alloc);
-    let with_unpack = with_plan.subcommand(unpack)?;
-    let why = why(alloc)?;
-    let with_why = with_unpack.subcommand(why)?;
-    let winners = winners(alloc)?;
-    let with_winners = with_why.subcommand(winners)?;
-    Ok(with_winners)
+    let to_agree = with(program(alloc), Ok(agree(alloc)));
+    let to_check = with(to_agree, Ok(check(alloc)));
+    let to_fleet = with(to_check, fleet(alloc));
+    let to_follow = with(to_fleet, follow(alloc));
+    let to_graph = with(to_follow, graph(alloc));
+    let to_list = with(to_graph, list(alloc));
+    let to_pack = with(to_list, pack(alloc));
+    let to_records = with(to_pack, records(alloc));
+    let to_recover = with(to_records, recover(alloc));
+    let to_solve = with(to_recover, solve(alloc));
+    let to_plan = with(to_solve, plan(alloc));
+    let to_unpack = with(to_plan, Ok(unpack(alloc)));
+    let to_why = with(to_unpack, why(alloc));
+    with(to_why, winners(alloc))
 }
 
-// The program with the first eleven of its commands.
-fn up_to_plan<'a>(alloc: Global) -> Result<Command<'a>, OutOfMemory>
-    ensures { IfOk result (λ c. app_of c ≡ with_commands (take 11 commands)) }
+// The program with one command more, unless either could not be made. Without a way out of `parser` before its end, no command made before has
+// to be proved to be dropped there.
+fn with<'a>(
+    program: Result<Command<'a>, OutOfMemory>,
+    command: Result<Command<'a>, OutOfMemory>,
+) -> Result<Command<'a>, OutOfMemory>
+    ensures { (before added : App) → IfOk program.entry (λ c. app_of c ≡ before)
+        → IfOk command.entry (λ c. app_of c ≡ added)
+        → IfOk command.entry (λ c. (out-Command c).has_globals ≡ false)
+        → IfOk result (λ c. app_of c ≡ with_subcommand before added.top) }
 {
-    let with_pack = up_to_pack(alloc)?;
-    let records = records(alloc)?;
-    let with_records = with_pack.subcommand(records)?;
-    let recover = recover(alloc)?;
-    let with_recover = with_records.subcommand(recover)?;
-    let solve = solve(alloc)?;
-    let with_solve = with_recover.subcommand(solve)?;
-    let plan = plan(alloc)?;
-    let with_plan = with_solve.subcommand(plan)?;
-    Ok(with_plan)
-}
-
-// The program with the first seven of its commands.
-fn up_to_pack<'a>(alloc: Global) -> Result<Command<'a>, OutOfMemory>
-    ensures { IfOk result (λ c. app_of c ≡ with_commands (take 7 commands)) }
-{
-    let program = program(alloc)?;
-    let agree = agree(alloc);
-    let with_agree = program.subcommand(agree)?;
-    let check = check(alloc);
-    let with_check = with_agree.subcommand(check)?;
-    let fleet = fleet(alloc)?;
-    let with_fleet = with_check.subcommand(fleet)?;
-    let follow = follow(alloc)?;
-    let with_follow = with_fleet.subcommand(follow)?;
-    let graph = graph(alloc)?;
-    let with_graph = with_follow.subcommand(graph)?;
-    let list = list(alloc)?;
-    let with_list = with_graph.subcommand(list)?;
-    let pack = pack(alloc)?;
-    let with_pack = with_list.subcommand(pack)?;
-    Ok(with_pack)
+    let program = program?;
+    Ok(program.subcommand(command?)?)
 }
 
 fn program<'a>(alloc: Global) -> Result<Command<'a>, OutOfMemory>
@@ -191,7 +174,7 @@ fn recover<'a>(alloc: Global) -> Result<Command<'a>, OutOfMemory>
 {
     let command = Command::new(alloc, "recover")
         .about(
-            "Prints what each coordinator knew by its packets in the store in a file, up to where the file is torn or damaged: the bytes of one packet each, in hexadecimal digits",
+            "Prints what each coordinator knew by its packets in the store in a file, up to where the file is torn or damaged: the bytes of one packet each, or of several if a line cannot have all, in hexadecimal digits",
         )
         .after_help(
             "The status is 8 if the file is damaged or no store, and 9 if it cannot be read. It is not changed.\n\nExample: firmament recover cluster.store",

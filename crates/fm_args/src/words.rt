@@ -90,7 +90,7 @@ pub enum Words<'a> {
     Records {
         path: &'a str,
     },
-    /// Print what can be recovered of that store, as a packet of each coordinator.
+    /// Print what can be recovered of that store, as packets of each coordinator.
     Recover {
         path: &'a str,
     },
