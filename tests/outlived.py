@@ -288,8 +288,9 @@ def brokers_killed(program):
 SLOW = """#!/usr/bin/env python3
 import subprocess, sys, time
 run = subprocess.Popen([{program!r}, *sys.argv[1:]], stdin=subprocess.PIPE, bufsize=0)
+naps = iter((1, 1, 1))
 for line in sys.stdin.buffer:
-    time.sleep(0.03 if b'"take"' in line else 0)
+    time.sleep(next(naps, 0.03) if b'"take"' in line else 0)
     run.stdin.write(line)
 run.stdin.close()
 run.wait()
@@ -328,7 +329,7 @@ def short_queues(program):
 
 
 def followers(program):
-    """A follower that is slower than the rest, with a queue of three packets, and one that ends."""
+    """A follower that is slower than the rest, at first by far, with a queue of three packets, and one that ends."""
     told = list(cluster(300))
     with tempfile.TemporaryDirectory() as folder:
         slow = made(folder, "slow", SLOW.format(program=str(program)))
