@@ -61,9 +61,27 @@ def name_of(place, texts):
     if not lines[first].startswith(" "):
         return "::".join([part for part in file[len("src/") : -len(".rt")].split("/") if part not in ("lib", "main")] + [name])
     head = next((line for line in reversed(lines[:first]) if re.match(r"(pub )?(impl|trait)\b", line)), "")
-    bare = re.sub(r"<[^<>]*>", "", re.sub(r"<[^<>]*>", "", head.replace("->", "")))
-    words = re.sub(r"^(pub )?(impl|trait)\b|\b(where|\{).*", "", bare).strip(" {").split(" for ")
-    return "".join(word.split("::")[-1].strip() for word in reversed(words)) + "::" + name
+    return owner_of(head) + "::" + name
+
+
+def owner_of(head):
+    """The name that a check gives to the block of this head: its type and then its trait, each with the types that stand for its parameters,
+    as `VecPacketPacketSink` for `impl PacketSink for Vec<Packet> {`."""
+    block = re.sub(r"\b(where|\{).*", "", re.sub(r"^(pub )?(impl|trait)\b", "", head)).strip()
+    parameters = set()
+    if head.startswith("impl<"):
+        end = next(at for at in range(len(block)) if block[: at + 1].count("<") == block[: at + 1].count(">"))
+        parameters, block = set(re.findall(r"[<,]\s*(\w+)", block[: end + 1])), block[end + 1 :]
+    elif not head.startswith("impl"):
+        block = re.split(r"[<:]", block)[0]
+    return "".join(type_name(words, parameters) for words in reversed(block.split(" for ")))
+
+
+def type_name(text, parameters):
+    """The names in a type one after another, but for parameters and lifetimes. `Tuple2` stands before those in a pair."""
+    flat = re.sub(r"\(([^()]*)\)", lambda found: f" Tuple{found[1].count(',') + 1} {found[1]} ", text)
+    names = [path.split("::")[-1] for path in re.findall(r"(?<!')\b[A-Za-z_][\w:]*", flat)]
+    return "".join(name[0].upper() + name[1:] for name in names if name not in parameters)
 
 
 def texts_of(folder):

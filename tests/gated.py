@@ -19,6 +19,7 @@ from unittest import mock
 ROOT = pathlib.Path(__file__).resolve().parent.parent
 sys.path += [str(ROOT / "bin"), str(ROOT / "tests")]
 import beside
+import bodies
 import bridged
 import budget
 import checked
@@ -278,6 +279,23 @@ def forms():
         ("b", "proof"): (0, True), ("b", "tests"): (0, True), ("b", "edits"): (0, "no edits")}
 
 
+def named():
+    """A method has the name that a check gives to it, with the types that stand for parameters of its type and its trait."""
+    heads = {
+        "pub trait Device: Drop {": "Device",
+        "impl<K: Chain, V: Join> Join for JoinMap<K, V> {": "JoinMapJoin",
+        "impl PacketSink for Vec<Packet> {": "VecPacketPacketSink",
+        "impl<R: Read> Source for ReadAhead<BufReader<R>> {": "ReadAheadBufReaderSource",
+        "impl<T: Drop> From<AllocFailed<T>> for Refusal {": "RefusalFromAllocFailed",
+        "impl EntryText<(TaskId, u32)> for JoinMap<CoordId, Min<Spot>> {": "JoinMapCoordIdMinSpotEntryTextTuple2TaskIdU32",
+        "impl<R: Eprint, D: Device> Device for TellingDevice<'_, R, D> {": "TellingDeviceDevice",
+        "impl fmt::Display for Ending {": "EndingDisplay",
+    }
+    for head, owner in heads.items():
+        found = bodies.name_of(("src/a.rt", 1, 2), {"src/a.rt": f"{head}\n    fn take(&self) {{\n    }}\n}}\n"})
+        yield f"a method below {head}", found == f"{owner}::take"
+
+
 def refused():
     """Wrong bodies are tried together, and else alone and from nothing; each is told once."""
     with tempfile.TemporaryDirectory() as name:
@@ -335,5 +353,5 @@ def refused():
 
 
 def all_tests():
-    for tests in (laid_out, budgets, kept, groups, forms, refused):
+    for tests in (laid_out, budgets, kept, groups, forms, named, refused):
         yield from tests()
