@@ -7,6 +7,7 @@ use fm_io::committer::{Committer, NotCommitted};
 use fm_io::group_commit::{MOST_LINES, StreamFault, follow_in_groups};
 use fm_io::read_ahead::ReadAhead;
 use fm_io::responder::Responder;
+use fm_io::source::{Input, Source};
 use fm_records::refusal::Refusal;
 use std::alloc::Global;
 use std::cell::Cell;
@@ -164,4 +165,32 @@ fn a_group_has_a_most_of_lines(rt: HostRuntime) -> Result<(), Fail> {
     assert_eq!(rt; commits, 3);
     assert_eq!(rt; sent.len(), 4 * (MOST_LINES + 1));
     Ok(())
+}
+
+#[test]
+fn what_was_read_ahead_of_a_line_is_moved_at_once(rt: HostRuntime) -> Result<(), Fail> {
+    let mut source = ReadAhead::new(BufReader::new(rt.alloc(), STREAM)?);
+    let mut first = [0u8; 1];
+    let mut line = Vec::new(rt.alloc());
+    source.take_ahead(&mut line, 9);
+    assert!(rt; line.is_empty());
+    for _ in 0..5 {
+        assert_eq!(rt; source.get(&mut first), Some(1));
+    }
+    source.take_ahead(&mut line, 0);
+    assert!(rt; line.is_empty());
+    source.take_ahead(&mut line, 9);
+    source.take_ahead(&mut line, 9);
+    assert_eq!(rt; line.as_slice(), b"d".as_slice());
+    assert_eq!(rt; source.get(&mut first), Some(1));
+    assert_eq!(rt; first, *b"\n");
+    Ok(())
+}
+
+#[test]
+fn nothing_is_ahead_of_a_plain_reader(rt: HostRuntime) {
+    let mut source = Input::new(STREAM);
+    let mut line = Vec::new(rt.alloc());
+    source.take_ahead(&mut line, 9);
+    assert!(rt; line.is_empty());
 }
