@@ -5,7 +5,7 @@
 //! so that a refusal changes nothing but whether the network is fresh. The history has each accepted call, and all else
 //! follows from it.
 
-ghost use Rattle.std.specs.Prelude.{◌≡◌, ◌≤◌, ◌<◌, ◌+◌, ◌^◌, ◌↔◌, ◌∷◌, ◌++◌, [], length, is_none, IsTrue, Some, None, IsOk, IsOkUnless, IfOk, IfSome, IfErr, OnOk, OnErr};
+ghost use Rattle.std.specs.Prelude.{◌≡◌, ◌≤◌, ◌<◌, ◌+◌, ◌^◌, ◌↔◌, ◌∷◌, ◌++◌, [], length, vec_len, vec_capacity, is_none, IsTrue, Some, None, IsOk, IsOkUnless, IfOk, IfSome, IfErr, OnOk, OnErr};
 ghost use Rattle.std.specs.List.{list_all};
 ghost use Rattle.fm_records.specs.Ops.{op_fault};
 ghost use Rattle.fm_records.specs.Know.{table_of};
@@ -730,10 +730,27 @@ fn add_delta(
     ensures same_deltas { OnErr result (buffer.new.deltas ≡ buffer.old.deltas) }
     ensures same_history { OnErr result (history.new.items ≡ history.old.items) }
 {
-    history.reserve(1)?;
-    buffer.reserve(1)?;
-    knowledge.join_into(&delta)?;
+    join_with_room(knowledge, buffer, history, &delta)?;
     buffer.push(delta).unwrap();
     history.push(entry).unwrap();
     Ok(())
+}
+
+// Merges the delta, and makes room to keep it and to add an entry, or changes nothing that is known.
+fn join_with_room(
+    knowledge: &mut Knowledge,
+    buffer: &mut Buffer,
+    history: &mut Vec<Entry>,
+    delta: &Knowledge,
+) -> Result<(), OutOfMemory>
+    ensures knowledge { OnOk result (knowledge.new ≡ table_join knowledge.old delta.now) }
+    ensures same_knowledge { OnErr result (knowledge.new ≡ knowledge.old) }
+    ensures room { OnOk result (1 ≤ buffer.new.room) }
+    ensures same_deltas { buffer.new.deltas ≡ buffer.old.deltas }
+    ensures history { OnOk result (vec_len history.new < vec_capacity history.new) }
+    ensures same_history { history.new.items ≡ history.old.items }
+{
+    history.reserve(1)?;
+    buffer.reserve(1)?;
+    knowledge.join_into(delta)
 }

@@ -47,9 +47,20 @@ impl Editor {
         ensures nothing { IfOk result (λ e. IsFor e (table_of [])) }
         ensures edits { IfOk result (λ e. e.edits ≡ 0) }
     {
+        let network = Network::new(alloc)?;
+        Editor::with(alloc, EditorState::new(alloc), network)
+    }
+
+    // Fresh, if the memory is of what the network was built of.
+    fn with(alloc: Global, memory: EditorState, network: Network) -> Result<Editor, OutOfMemory>
+        ensures fresh { IfOk result (λ e. IsTrue (is_fresh_editor e)) }
+        ensures memory { IfOk result (λ e. e.memory ≡ memory) }
+        ensures network { IfOk result (λ e. e.network ≡ network) }
+        ensures edits { IfOk result (λ e. e.edits ≡ 0) }
+    {
         Ok(Editor {
-            memory: EditorState::new(alloc),
-            network: Shared::new(alloc, Network::new(alloc)?)?,
+            memory,
+            network: Shared::new(alloc, network)?,
             fresh: true,
             edits: 0,
         })
@@ -70,10 +81,8 @@ impl Editor {
         law_can_be(now);
         let all = changed_of(alloc, now)?;
         let mut look = KnowLook::new(alloc, now);
-        let mut editor = Editor::new(alloc)?;
-        editor.memory = EditorState::of(alloc, &mut look, &all)?;
-        editor.network = Shared::new(alloc, network)?;
-        Ok(editor)
+        let memory = EditorState::of(alloc, &mut look, &all)?;
+        Editor::with(alloc, memory, network)
     }
 
     /// How many deltas it followed by an edit since its network was built, at most 2^64 - 1.

@@ -1,4 +1,5 @@
 pub mod Logs
 pub mod May
+pub mod Noted
 pub mod Seating
 pub mod Wholes

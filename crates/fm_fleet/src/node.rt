@@ -3,8 +3,9 @@
 //! Calls of one coordinator must come one after another, so a lock is held for each call alone, and never while a plan
 //! is made. What a seat keeps of a call, its copy and the place in its list, is allocated before the lock is taken. So
 //! once the coordinator accepted a call, nothing can fail, and history and list agree.
-ghost use Rattle.std.specs.Prelude.{◌≡◌, ◌<◌, ◌≤◌, ◌+◌, [], length, vec_len, vec_capacity, IfOk, IfErr, OnOk, OnErr};
+ghost use Rattle.std.specs.Prelude.{◌≡◌, ◌<◌, ◌≤◌, ◌+◌, ◌++◌, ◌∷◌, [], length, vec_len, vec_capacity, IfOk, IfErr, OnOk, OnErr};
 ghost use Rattle.fm_net.specs.Network.{net_of};
+ghost use Rattle.fm_coord.specs.States.{history_entry};
 ghost use Rattle.fm_coord.specs.Outputs.{reply_to};
 ghost use Rattle.fm_tally.specs.Tallies.{TallyIsFor};
 ghost use Rattle.fm_fleet.specs.Seats.{after_call, MayRefuse, IsPossibleAnswer, AreNew};
@@ -19,6 +20,7 @@ use fm_coord::output::CallOutput;
 use fm_coord::shared::Shared;
 use fm_coord::view::{TallyView, View};
 use fm_delta::packet::Packet;
+use fm_lattice::join::OutOfMemory;
 use fm_policy::keeper::NetKeeper;
 use fm_records::ops::Op;
 use fm_records::refusal::Refusal;
@@ -137,23 +139,11 @@ impl<N: NetKeeper, L: NodeName> Node<N, L> {
         ensures cause { IfErr result (λ refusal. MayRefuse call refusal) }
         ensures err { OnErr result (seat.new ≡ seat.old) }
     {
-        if seat.log.reserve(1).is_err() {
-            return Err(Refusal::OutOfMemory);
-        }
-        let Ok(made) = call.share() else {
-            return Err(Refusal::OutOfMemory);
-        };
+        let made = reserved(&mut seat.log, &mut call)?;
         let Seat { number, log, share } = seat;
-        let answer = match self.desk.lock(rt).call(*number, call, share) {
-            Ok(answer) => answer,
-            Err(refusal) => return Err(refusal),
-        };
-        log.push_reserved(Entry {
-            by: *number,
-            call: made,
-            reply: listed(rt, &answer),
-        });
-        Ok(answer)
+        let answer = self.desk.lock(rt).call(*number, call, share);
+        note(rt, log, *number, made, &answer);
+        answer
     }
 
     /// Tells an operation, as the coordinator's `tell`. Refused as that, and with OutOfMemory; then the seat is
@@ -280,5 +270,38 @@ impl<N: NetKeeper, L: NodeName> Node<N, L> {
             Ok(_) => Ok(()),
             Err(refusal) => Err(refusal),
         }
+    }
+}
+
+// Room in the list for one entry, and the call's copy for it. If memory runs out, neither has changed.
+fn reserved(log: &mut Vec<Entry>, call: &mut Call) -> Result<Call, OutOfMemory>
+    ensures made { IfOk result (λ made. made ≡ call.old) }
+    ensures room { OnOk result (vec_len log.new < vec_capacity log.new) }
+    ensures same_log { log.new.items ≡ log.old.items }
+    ensures same_call { call.new ≡ call.old }
+{
+    log.reserve(1)?;
+    call.share()
+}
+
+// Lists the call with what answered it, unless it was refused.
+fn note<R: Wait>(
+    rt: &R,
+    log: &mut Vec<Entry>,
+    seat: u32,
+    made: Call,
+    answer: &Result<CallOutput, Refusal>,
+)
+    requires room { vec_len log.old < vec_capacity log.old }
+    ensures ok { IfOk answer.now (λ answer. log.new.items
+        ≡ log.old.items ++ history_entry seat made (reply_to answer) ∷ []) }
+    ensures err { OnErr answer.now (log.new.items ≡ log.old.items) }
+{
+    if let Ok(answer) = answer {
+        log.push_reserved(Entry {
+            by: seat,
+            call: made,
+            reply: listed(rt, answer),
+        });
     }
 }

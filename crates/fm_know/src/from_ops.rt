@@ -3,7 +3,7 @@
 //! A delta is a state like any other, so one join serves for operations, packets and complete states (delta-state
 //! CRDTs: Almeida, Shoker and Baquero, 2018).
 
-ghost use Rattle.std.specs.Prelude.{◌≡◌, ◌<◌, ◌^◌, ◌∷◌, [], List, None, IsTrue, is_none, IfOk};
+ghost use Rattle.std.specs.Prelude.{◌≡◌, ◌<◌, ◌^◌, ◌∷◌, ◌++◌, [], List, None, IsTrue, is_none, IfOk, OnOk};
 ghost use Rattle.std.specs.List.{list_all};
 ghost use Rattle.fm_records.specs.Ops.{op_fault};
 ghost use Rattle.fm_records.specs.Know.{table_of};
@@ -42,12 +42,30 @@ impl Knowledge {
         ensures { IfOk result (λ k. k ≡ table_of ops.now) }
     {
         let mut all = Knowledge::empty(alloc);
-        for op in ops {
-            let delta = Knowledge::delta_of(alloc, op)?;
-            all.join_into(&delta)?;
-        }
+        tell_all(&mut all, alloc, ops)?;
         Ok(all)
     }
+}
+
+// Takes all operations in. Before, nothing is known.
+fn tell_all(all: &mut Knowledge, alloc: Global, ops: &[Op]) -> Result<(), OutOfMemory>
+    requires nothing { all.old ≡ table_of [] }
+    requires ops { IsTrue (list_all (λ op. is_none (op_fault op)) ops.now) }
+    ensures { OnOk result (all.new ≡ table_of ops.now) }
+{
+    for op in ops {
+        tell(all, alloc, op)?;
+    }
+    Ok(())
+}
+
+// Takes the operation in.
+fn tell(all: &mut Knowledge, alloc: Global, op: &Op) -> Result<(), OutOfMemory>
+    requires { op_fault op.now ≡ None }
+    ensures { (S : List Op) → all.old ≡ table_of S → OnOk result (all.new ≡ table_of (S ++ op.now ∷ [])) }
+{
+    let delta = Knowledge::delta_of(alloc, op)?;
+    all.join_into(&delta)
 }
 
 // The map of the one pair.

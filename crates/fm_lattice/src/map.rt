@@ -211,23 +211,40 @@ pub fn join_four<
     ensures err { OnErr result ((first.new ≡ first.old) × (second.new ≡ second.old) × (third.new ≡ third.old)
         × (fourth.new ≡ fourth.old)) }
 {
-    let plan1 = plan_join(&mut first.blocks, first.len, &to_first.blocks, to_first.len)?;
-    let plan2 = plan_join(
-        &mut second.blocks,
-        second.len,
-        &to_second.blocks,
-        to_second.len,
-    )?;
-    let plan3 = plan_join(&mut third.blocks, third.len, &to_third.blocks, to_third.len)?;
-    let plan4 = plan_join(
-        &mut fourth.blocks,
-        fourth.len,
-        &to_fourth.blocks,
-        to_fourth.len,
+    let (plan1, plan2, plan3, plan4) = all_four(
+        plan_join(&mut first.blocks, first.len, &to_first.blocks, to_first.len),
+        plan_join(
+            &mut second.blocks,
+            second.len,
+            &to_second.blocks,
+            to_second.len,
+        ),
+        plan_join(&mut third.blocks, third.len, &to_third.blocks, to_third.len),
+        plan_join(
+            &mut fourth.blocks,
+            fourth.len,
+            &to_fourth.blocks,
+            to_fourth.len,
+        ),
     )?;
     first.len = carry_out(&mut first.blocks, first.len, plan1);
     second.len = carry_out(&mut second.blocks, second.len, plan2);
     third.len = carry_out(&mut third.blocks, third.len, plan3);
     fourth.len = carry_out(&mut fourth.blocks, fourth.len, plan4);
     Ok(())
+}
+
+// The four values, if none is lacking.
+fn all_four<A: Drop, B: Drop, C: Drop, D: Drop>(
+    first: Result<A, OutOfMemory>,
+    second: Result<B, OutOfMemory>,
+    third: Result<C, OutOfMemory>,
+    fourth: Result<D, OutOfMemory>,
+) -> Result<(A, B, C, D), OutOfMemory>
+    ensures first { IfOk result (λ r. first ≡ Ok r.0) }
+    ensures second { IfOk result (λ r. second ≡ Ok r.1) }
+    ensures third { IfOk result (λ r. third ≡ Ok r.2) }
+    ensures fourth { IfOk result (λ r. fourth ≡ Ok r.3) }
+{
+    Ok((first?, second?, third?, fourth?))
 }

@@ -3,10 +3,11 @@
 //! A slab has the pairs, and takes a cell that was emptied for the next new pair. A B-tree has the keys, each with the
 //! place of its cell. A get, a put and a remove are each a search in the tree, O(log n).
 
-ghost use Rattle.std.specs.Prelude.{◌≡◌, ◌<◌, ◌^◌, [], length, is_some, option_map, IfOk, OnOk, OnErr};
+ghost use Rattle.std.specs.Prelude.{◌≡◌, ◌<◌, ◌+◌, ◌^◌, if◌then◌else◌, [], length, is_some, option_map, IfOk, OnOk, OnErr};
 ghost use Rattle.std.specs.Iterator.{YieldsFirst, item_count};
 ghost use Rattle.std.specs.Map.{remove_entry};
-ghost use Rattle.std.specs.BTreeMap.{is_at};
+ghost use Rattle.std.specs.BTreeMap.{is_at, insert_entry};
+ghost use Rattle.std.specs.Option.{unwrap_or};
 ghost use Rattle.fm_lattice.specs.Chains.{TellsApart};
 ghost use Rattle.fm_lattice.specs.Maps.{lookup, put, keep_new, IsRising};
 ghost use Rattle.fm_net.specs.inner.IndexedCells.{IsPlainClone};
@@ -76,7 +77,7 @@ impl<K: Ord + Copy, V: Copy> SlabMap<K, V> {
     {
         self.cells.reserve(1)?;
         let next = self.cells.vacant_key();
-        let place = *self.places.entry(key)?.or_insert(next);
+        let place = place_at(&mut self.places, key, next)?;
         let former = self.cells.try_remove(place);
         self.cells.insert_reserved((key, value));
         Ok(value_of(former))
@@ -157,6 +158,23 @@ impl<'a, K: Copy, V: Copy> Iterator for Pairs<'a, K, V> {
             None => None,
         }
     }
+}
+
+// The place that the key has, or else the next one, which it has from then on. If memory runs out, nothing has changed.
+fn place_at<K: Ord + Copy>(
+    places: &mut BTreeMap<K, usize>,
+    key: K,
+    next: usize,
+) -> Result<usize, OutOfMemory>
+    ensures place { IfOk result (λ place. place ≡ unwrap_or (lookup K.cmp key places.old.entries) next) }
+    ensures entries { IfOk result (λ place. places.new.entries
+        ≡ insert_entry K.cmp places.old.entries key place) }
+    ensures rising { OnOk result (IsRising K.cmp places.new.entries) }
+    ensures len { OnOk result (length places.new.entries
+        ≡ length places.old.entries + (if is_some (lookup K.cmp key places.old.entries) then 0 else 1)) }
+    ensures err { OnErr result (places.new.entries ≡ places.old.entries) }
+{
+    Ok(*places.entry(key)?.or_insert(next))
 }
 
 // The value of the pair, if there is one.

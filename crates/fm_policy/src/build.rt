@@ -4,8 +4,10 @@
 //! nothing. What is asked about tasks and machines is looked up before, in one walk over each (`inputs`). The policy is
 //! Firmament's network-aware one (Gog et al., 2016), with the unscheduled aggregators of Quincy (Isard et al., 2009).
 
-ghost use Rattle.std.specs.Prelude.{◌≡◌, IfOk};
+ghost use Rattle.std.specs.Prelude.{◌≡◌, IfOk, OnOk};
+ghost use Rattle.fm_net.specs.Net.{sink_alone};
 ghost use Rattle.fm_net.specs.Network.{net_of};
+ghost use Rattle.fm_policy.specs.inner.Surveys.{IsSurvey};
 
 use crate::inputs::NetworkInputs;
 use crate::nodes::put_nodes;
@@ -24,11 +26,25 @@ pub fn build(alloc: Global, knowledge: &Knowledge) -> Result<Network, OutOfMemor
 {
     let survey = NetworkInputs::of(alloc, knowledge)?;
     let mut network = Network::new(alloc)?;
-    put_nodes(&mut network, knowledge, &survey)?;
-    put_arcs::put_jobs(&mut network, knowledge, &survey)?;
-    put_arcs::put_requests(&mut network, knowledge, &survey)?;
-    put_arcs::put_machines(&mut network, knowledge, &survey)?;
-    put_arcs::put_tasks(&mut network, knowledge, &survey)?;
-    network.known();
+    put_all(&mut network, knowledge, &survey)?;
     Ok(network)
+}
+
+// Puts all nodes and arcs into the network of nothing.
+fn put_all(
+    network: &mut Network,
+    knowledge: &Knowledge,
+    survey: &NetworkInputs,
+) -> Result<(), OutOfMemory>
+    requires survey { IsSurvey knowledge.now survey.now }
+    requires empty { network.old ≡ sink_alone }
+    ensures { OnOk result (network.new ≡ net_of knowledge.now) }
+{
+    put_nodes(network, knowledge, survey)?;
+    put_arcs::put_jobs(network, knowledge, survey)?;
+    put_arcs::put_requests(network, knowledge, survey)?;
+    put_arcs::put_machines(network, knowledge, survey)?;
+    put_arcs::put_tasks(network, knowledge, survey)?;
+    network.known();
+    Ok(())
 }

@@ -9,6 +9,7 @@ use crate::Tried;
 use crate::board::Board;
 use crate::costs::{FAR, NONE};
 use crate::segment_tree::Tree;
+use std::alloc::Global;
 
 /// The cheapest slot to which a request leads by itself.
 #[derive(Clone, Copy, Drop)]
@@ -57,6 +58,17 @@ pub(crate) struct Exits {
 }
 
 impl Exits {
+    /// None is known of so many requests.
+    pub(crate) fn none(alloc: Global, requests: usize) -> Tried<Exits> {
+        Ok(Exits {
+            sought: Vec::with_capacity(alloc, requests)?,
+            free: Tree::of(alloc, &[])?,
+            ranked: Vec::new(alloc),
+            kept: Tree::of(alloc, &[])?,
+            branches: Vec::new(alloc),
+        })
+    }
+
     // Searches the branch later, if it has leaves among the first so many and may be cheaper.
     fn put_off(&mut self, branch: Branch, roomy: usize, below: i64) -> Tried<()> {
         let is_cheaper = self.kept.at(branch.node) > below.saturating_neg();

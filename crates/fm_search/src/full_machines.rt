@@ -7,6 +7,7 @@ use crate::Tried;
 use crate::bit_set::Bits;
 use crate::board::Board;
 use crate::costs::NONE;
+use std::alloc::Global;
 
 /// The full machines with tasks that were placed there, by number.
 #[derive(Drop)]
@@ -24,6 +25,18 @@ pub(crate) struct Full {
 }
 
 impl Full {
+    /// No machine is full, for so many requests and machines.
+    pub(crate) fn none(alloc: Global, requests: usize, machines: usize) -> Tried<Full> {
+        Ok(Full {
+            machines: Vec::new(alloc),
+            looked: vec![in alloc; 0; requests]?,
+            room: Bits::of(alloc, requests, machines)?,
+            units: Bits::of(alloc, requests, machines)?,
+            active: Vec::new(alloc),
+            is_active: vec![in alloc; false; requests]?,
+        })
+    }
+
     /// The machine of the number among the full ones.
     pub(crate) fn machine(&self, full: usize) -> usize {
         self.machines.get(full).copied().unwrap_or(NONE)

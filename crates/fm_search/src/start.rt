@@ -1,7 +1,6 @@
 //! The board of an instance, on which nothing is placed yet.
 
 use crate::Tried;
-use crate::bit_set::Bits;
 use crate::board::{Board, Slots};
 use crate::costs::{FAR, NONE};
 use crate::exits::{Exits, NO_EXIT, Sought};
@@ -57,33 +56,30 @@ impl Board {
         if requests.saturating_mul(machines) > MOST_PAIRS {
             return Ok(None);
         }
-        let mut board = Board {
+        let mut board = Board::empty(alloc, instance)?;
+        board.begin(alloc)?;
+        Ok(Some(board))
+    }
+
+    // The board of an instance of which nothing is known yet.
+    fn empty(alloc: Global, instance: Instance) -> Tried<Board> {
+        let (requests, machines) = (instance.requests.len(), instance.machines.len());
+        Ok(Board {
             slots: Vec::with_capacity(alloc, machines)?,
             shares: Vec::with_capacity(alloc, machines)?,
             placed: vec![in alloc; 0; requests]?,
-            exits: Exits {
-                sought: Vec::with_capacity(alloc, requests)?,
-                free: Tree::of(alloc, &[])?,
-                ranked: Vec::new(alloc),
-                kept: Tree::of(alloc, &[])?,
-                branches: Vec::new(alloc),
-            },
-            full: Full {
-                machines: Vec::new(alloc),
-                looked: vec![in alloc; 0; requests]?,
-                room: Bits::of(alloc, requests, machines)?,
-                units: Bits::of(alloc, requests, machines)?,
-                active: Vec::new(alloc),
-                is_active: vec![in alloc; false; requests]?,
-            },
-            movable: Movable::of(alloc, instance.preferring.len(), machines, requests)?,
             request_labels: vec![in alloc; 0; requests]?,
             machine_labels: Vec::with_capacity(alloc, machines)?,
+            exits: Exits::none(alloc, requests)?,
+            full: Full::none(alloc, requests, machines)?,
+            movable: Movable::of(alloc, instance.preferring.len(), machines, requests)?,
             instance,
-        };
-        board.open(alloc)?;
-        board.rank(alloc)?;
-        Ok(Some(board))
+        })
+    }
+
+    fn begin(&mut self, alloc: Global) -> Tried<()> {
+        self.open(alloc)?;
+        self.rank(alloc)
     }
 
     // Frees the slots of machines that no held task has. The label of a machine is the price of its next slot.

@@ -40,34 +40,39 @@ fn put_pieces(pieces: &mut Vec<Packet>, packet: Packet, most: usize) -> Result<(
     requires { 4096 ≤ most }
     ensures { OnOk result ((own : List PacketValue) × ArePieces most packet own × (pieces.new.items ≡ pieces.old.items ++ own)) }
 {
-    let Packet {
-        sender,
-        number,
-        value,
-    } = packet;
-    law_can_be(&value);
-    if packet_size(&value) <= most as u128 {
-        pieces.push(Packet {
-            sender,
-            number,
-            value,
-        })?;
+    law_can_be(&packet.value);
+    if packet_size(&packet.value) <= most as u128 {
+        pieces.push(packet)?;
         return Ok(());
     }
-    let (front, behind) = halves(*pieces.allocator(), &value)?;
-    let front = Packet {
-        sender,
-        number,
-        value: front,
-    };
-    let behind = Packet {
-        sender,
-        number,
-        value: behind,
-    };
+    let (front, behind) = halved(*pieces.allocator(), packet)?;
     put_pieces(pieces, front, most)?;
     put_pieces(pieces, behind, most)?;
     Ok(())
+}
+
+// The packet as two of its sender and number, with the halves of what it says.
+fn halved(alloc: Global, packet: Packet) -> Result<(Packet, Packet), OutOfMemory>
+    requires { 2 ≤ longest_of packet.value }
+    ensures both { IfOk result (λ x. behind_each_other x.0.value x.1.value ≡ packet.value) }
+    ensures shorter { IfOk result (λ x. (longest_of x.0.value < longest_of packet.value)
+        × (longest_of x.1.value < longest_of packet.value)) }
+    ensures front { IfOk result (λ x. (x.0.sender ≡ packet.sender) × (x.0.number ≡ packet.number)) }
+    ensures behind { IfOk result (λ x. (x.1.sender ≡ packet.sender) × (x.1.number ≡ packet.number)) }
+{
+    let (front, behind) = halves(alloc, &packet.value)?;
+    Ok((of_half(&packet, front), of_half(&packet, behind)))
+}
+
+// A packet of the sender and number of this one, with a half of what it says.
+fn of_half(packet: &Packet, value: Knowledge) -> Packet
+    ensures { result ≡ record { sender = packet.now.sender; number = packet.now.number; value = value } }
+{
+    Packet {
+        sender: packet.sender,
+        number: packet.number,
+        value,
+    }
 }
 
 // The first half of each list of records, and the second.

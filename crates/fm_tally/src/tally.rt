@@ -145,19 +145,28 @@ impl Guides {
         jobs: &Sorted<JobId, JobReg>,
         holdings: &Holdings,
     ) -> Result<Guides, OutOfMemory> {
-        let mut of_jobs = Vec::with_capacity(alloc, jobs.pairs().len())?;
-        for (job, _) in jobs.pairs() {
-            of_jobs.push(upper(job.value()))?;
-        }
-        let machines = holdings.by_machine.pairs();
-        let mut of_machines = Vec::with_capacity(alloc, machines.len())?;
-        for (machine, _) in machines {
-            of_machines.push(upper(machine.value()))?;
-        }
+        let of_machines = Guides::of_machines(alloc, holdings)?;
         Ok(Guides {
-            jobs: Guide::of(alloc, of_jobs)?,
-            machines: Guide::of(alloc, of_machines)?,
+            jobs: Guides::of_jobs(alloc, jobs)?,
+            machines: of_machines,
         })
+    }
+
+    fn of_jobs(alloc: Global, jobs: &Sorted<JobId, JobReg>) -> Result<Guide, OutOfMemory> {
+        let mut parts = Vec::with_capacity(alloc, jobs.pairs().len())?;
+        for (job, _) in jobs.pairs() {
+            parts.push(upper(job.value()))?;
+        }
+        Guide::of(alloc, parts)
+    }
+
+    fn of_machines(alloc: Global, holdings: &Holdings) -> Result<Guide, OutOfMemory> {
+        let machines = holdings.by_machine.pairs();
+        let mut parts = Vec::with_capacity(alloc, machines.len())?;
+        for (machine, _) in machines {
+            parts.push(upper(machine.value()))?;
+        }
+        Guide::of(alloc, parts)
     }
 
     fn near(&self, task: &UnfinishedTask) -> Near {

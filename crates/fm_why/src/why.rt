@@ -83,14 +83,35 @@ fn choices(
 {
     law_can_be(knowledge);
     let network = build(alloc, knowledge)?;
-    network.known();
     let schedule = schedule_of(alloc, knowledge, &network, task, &spec)?;
-    let machines = choices_of(alloc, knowledge, &network, &schedule, task, spec.request)?;
+    choices_beside(alloc, knowledge, &network, &schedule, task, spec, job)
+}
+
+// What there is to choose for the task beside a least schedule of the network.
+fn choices_beside(
+    alloc: Global,
+    knowledge: &Knowledge,
+    network: &Network,
+    schedule: &CertifiedFlow,
+    task: TaskId,
+    spec: SpecReg,
+    job: JobReg,
+) -> Result<Choices, OutOfMemory>
+    requires live { live_spec knowledge.now task ≡ Some spec }
+    requires job { job_of knowledge.now spec.job ≡ Some job }
+    requires free { holder_of knowledge.now task ≡ None }
+    requires network { network.now ≡ net_of knowledge.now }
+    requires schedule { IsSchedule network.now schedule.now }
+    ensures { IfOk result (AreChoices knowledge.now task spec) }
+{
+    law_can_be(knowledge);
+    network.known();
+    let machines = choices_of(alloc, knowledge, network, schedule, task, spec.request)?;
     let (from, to) = (Node::Task(task), Node::Unscheduled(spec.job));
     let listed = machines.as_slice();
     let price = price_of(job.wait, listed);
     let shown = first_of(listed);
-    let examples = examples_on(alloc, &network, &schedule, task, spec.request, shown)?;
+    let examples = examples_on(alloc, network, schedule, task, spec.request, shown)?;
     let waits = has_units(&schedule.flow, &from, &to);
     let remedies = remedies(alloc, knowledge, task, spec.request, listed, waits)?;
     Ok(Choices {
@@ -98,7 +119,7 @@ fn choices(
         wait: job.wait,
         least: schedule.least,
         waits,
-        waiting: more_over(&network, &schedule, &from, &to),
+        waiting: more_over(network, schedule, &from, &to),
         machines,
         known: knowledge.machines().len(),
         price,

@@ -5,13 +5,13 @@ use Rattle.fm_policy.specs.inner.NetworkSoFar.{IsPart}
 use Rattle.fm_policy.proofs.Adds.{adds_then}
 use Rattle.fm_policy.proofs.Covered.{nodes_still, job_still, machine_still, place_still}
 use Rattle.fm_policy.proofs.Finished.{sink_part, is_network}
-use Rattle.fm_policy.proofs.build.build.Goals as goal
+use Rattle.fm_policy.proofs.build.put_all.Goals as goal
 
 pub returns : goal.returns
 returns c =
     let k = c.args.knowledge.now in
     let net = c.put_tasks.new.network in
-    let start : IsPart k c.in_ok-network.network = subst (IsPart k) (sym c.in_ok-network.ensures) (sink_part k) in
+    let start : IsPart k c.args.network.now = subst (IsPart k) (sym c.requires.empty) (sink_part k) in
     let last = c.in_ok-put_tasks.ensures.adds in
     let from_machines = adds_then k _ _ _ c.in_ok-put_machines.ensures.adds last in
     let from_requests = adds_then k _ _ _ c.in_ok-put_requests.ensures.adds from_machines in

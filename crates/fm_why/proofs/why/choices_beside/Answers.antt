@@ -20,23 +20,23 @@ use Rattle.fm_why.specs.Bounds.{gap_at, IsBound}
 use Rattle.fm_why.proofs.Roomy.{only_request, ways_are_roomy}
 use Rattle.fm_why.proofs.Shown.{zip_take}
 use Rattle.fm_why.proofs.Pricing.{each_roomy, first_within, fits_all, stays_least}
-use Rattle.fm_why.proofs.why.choices.Goals as goal
+use Rattle.fm_why.proofs.why.choices_beside.Goals as goal
 
 pub choices_of-requires-clause-only : goal.choices_of-requires-clause-only
 choices_of-requires-clause-only c =
-    subst (λ (n : Net). IsOnlyRequest n c.args.task c.args.spec.request) (sym c.in_ok-network.ensures) (only_request c.args.knowledge.now c.args.task c.args.spec c.requires.live c.requires.free)
+    subst (λ (n : Net). IsOnlyRequest n c.args.task c.args.spec.request) (sym c.requires.network) (only_request c.args.knowledge.now c.args.task c.args.spec c.requires.live c.requires.free)
 
 pub returns : goal.returns
 returns c =
     let k = c.args.knowledge.now in
-    let is : c.in_ok-network.network ≡ net_of k = c.in_ok-network.ensures in
-    let schedule = c.in_ok-schedule.schedule in
+    let is : c.args.network.now ≡ net_of k = c.requires.network in
+    let schedule = c.args.schedule.now in
     let spec = c.args.spec in
     let price : c.price_of-price.result ≡ option_map (λ (e : Choice). c.args.job.wait + e.dearer) (slice_get c.in_ok-machines.machines.items 0) =
     c.price_of-price.ensures ∙ ap (λ (es : List Choice). option_map (λ (e : Choice). c.args.job.wait + e.dearer) (slice_get es 0)) c.as_slice-listed.ensures.value in
     let items = c.in_ok-machines.machines.items in
     let first : c.first_of-shown.result.now ≡ take SHOWN items = c.first_of-shown.ensures ∙ ap (λ (es : List Choice). take SHOWN es) c.as_slice-listed.ensures.value in
-    let each : All (IsChoice c.in_ok-network.network schedule.least c.args.task spec.request) items = λ i d lt. (c.in_ok-machines.ensures.each i d lt).holds in
+    let each : All (IsChoice c.args.network.now schedule.least c.args.task spec.request) items = λ i d lt. (c.in_ok-machines.ensures.each i d lt).holds in
     let shown : length c.in_ok-examples.examples.items ≡ min SHOWN (length items) = c.in_ok-examples.ensures.all ∙ ap length first ∙ length-take SHOWN items in
     record {
       request = refl;
@@ -44,11 +44,11 @@ returns c =
       found = record {
         flow = schedule.flow;
         potentials = schedule.potentials;
-        certified = subst (λ (n : Net). IsCertified n schedule.flow schedule.potentials) is c.in_ok-schedule.ensures.certified;
+        certified = subst (λ (n : Net). IsCertified n schedule.flow schedule.potentials) is c.requires.schedule.certified;
         sends = refl;
         units = units_in schedule.flow;
-        least = subst (λ (n : Net). IsLeast n (units_in schedule.flow)) is c.in_ok-schedule.ensures.least;
-        cost = subst (λ (n : Net). schedule.least ≡ cost_of n (units_in schedule.flow)) is c.in_ok-schedule.ensures.cost;
+        least = subst (λ (n : Net). IsLeast n (units_in schedule.flow)) is c.requires.schedule.least;
+        cost = subst (λ (n : Net). schedule.least ≡ cost_of n (units_in schedule.flow)) is c.requires.schedule.cost;
         waits = c.has_units-waits.ensures;
       };
       waiting = subst (λ (n : Net). IsDearerOver n schedule.least (Task c.args.task) (Unscheduled spec.job) c.more_over.result) is c.more_over.ensures.dearer;
@@ -78,13 +78,13 @@ returns c =
           let ways = subst (λ (n : Net). IsPermutation (machine_ways k n c.args.task spec.request) (map (λ (e : Choice). e.machine) items)) is c.in_ok-machines.ensures.all in
           let all = subst (λ (ms : List ℕ). IsPermutation ms (map (λ (e : Choice). e.machine) items)) (ways_are_roomy k c.args.task spec c.requires.live c.requires.free) ways in
           stays_least k can c.args.task spec c.args.job c.requires.live c.requires.job c.requires.free (units_in schedule.flow) schedule.least more
-          (subst (λ (n : Net). IsLeast n (units_in schedule.flow)) is c.in_ok-schedule.ensures.least)
-          (subst (λ (n : Net). schedule.least ≡ cost_of n (units_in schedule.flow)) is c.in_ok-schedule.ensures.cost)
+          (subst (λ (n : Net). IsLeast n (units_in schedule.flow)) is c.requires.schedule.least)
+          (subst (λ (n : Net). schedule.least ≡ cost_of n (units_in schedule.flow)) is c.requires.schedule.cost)
           (each_roomy k (net_of k) schedule.least c.args.task spec.request more items each all c.in_ok-machines.ensures.cheapest_first first);
     }
 
 pub price_of-price-requires : goal.price_of-price-requires
-price_of-price-requires c = subst (All (λ (e : Choice). e.dearer < 2 ^ 111)) (sym c.as_slice-listed.ensures.value) (fits_all c.in_ok-network.network c.in_ok-schedule.schedule.least c.args.task c.args.spec.request c.in_ok-machines.machines.items (λ i d lt. (c.in_ok-machines.ensures.each i d lt).holds))
+price_of-price-requires c = subst (All (λ (e : Choice). e.dearer < 2 ^ 111)) (sym c.as_slice-listed.ensures.value) (fits_all c.args.network.now c.args.schedule.now.least c.args.task c.args.spec.request c.in_ok-machines.machines.items (λ i d lt. (c.in_ok-machines.ensures.each i d lt).holds))
 
 pub examples_on-requires : goal.examples_on-requires
-examples_on-requires c = (c.args.knowledge.now, c.law_can_be.ensures, c.in_ok-network.ensures)
+examples_on-requires c = (c.args.knowledge.now, c.law_can_be.ensures, c.requires.network)
