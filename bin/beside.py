@@ -35,7 +35,7 @@ class Beside:
 
     def tasks(self, given):
         """The toolchain's tasks with these. The tests of a crate, and the programs of budget.TRIED, are tried, in place of their proof: one
-        crate after another, since the build is in a session of its own, and so has no lower priority than the proofs."""
+        crate after another, since the build is in a session of its own, whose share of the processors bin/tried.py makes small."""
         added, before = dict(given), []
         for crate in self.crates:
             is_tried = crate.name in budget.TRIED and not self.proves_tests

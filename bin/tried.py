@@ -3,10 +3,15 @@
 
 A program has to write what the file `stdout` has. The check that `rt try` starts beside is left out: it only hints at names that a
 proof would refuse, and takes as long as the build.
+
+`rt try` builds in a session of its own, and Linux may share processors out by session (autogroups), whatever the priorities are within. So
+the proofs would get half of them, and these tests, which nothing waits for, the other half.
 """
+import contextlib
 import os
 import pathlib
 import shutil
+import subprocess
 import sys
 import tempfile
 
@@ -17,6 +22,18 @@ import toolchain
 
 # how long a program may run, with checks on a processor that others use too
 SECONDS = "900"
+# the nice value of its sessions: each gets a third of what one of 0 gets
+CALM = "5"
+
+
+class CalmSession(subprocess.Popen):
+    """A process. If it has a session of its own, that gets the nice value CALM, where sessions have one."""
+
+    def __init__(self, *words, **how):
+        super().__init__(*words, **how)
+        if how.get("start_new_session"):
+            with contextlib.suppress(OSError):
+                pathlib.Path(f"/proc/{self.pid}/autogroup").write_text(CALM)
 
 
 def program(rt):
@@ -39,6 +56,7 @@ def program(rt):
 
 def main():
     building.end_with_parent()
+    subprocess.Popen = CalmSession
     rt = toolchain.load()
     if hasattr(rt.rtlib, "RATTLE"):
         rt.rtlib.RATTLE = shutil.which("true")

@@ -1,5 +1,5 @@
-"""Tests of how the gate lays out its work and counts it: bin/lanes.py, bin/budget.py, bin/checked.py, bin/beside.py and bin/ci, on
-tasks and toolchains that are made up."""
+"""Tests of how the gate lays out its work and counts it: bin/lanes.py, bin/budget.py, bin/checked.py, bin/beside.py, bin/tried.py and bin/ci,
+on tasks and toolchains that are made up."""
 import contextlib
 import errno
 import importlib.machinery
@@ -27,6 +27,7 @@ import lanes
 import refusals
 import slurm_locks
 import toolchain
+import tried
 
 # the lowest priority that a system has
 LOWEST = 19
@@ -352,6 +353,15 @@ def refused():
         yield "why a check is no answer is its first error, or its last line", causes == ["rattle: error[unusable]: why", "last", "it said nothing"]
 
 
+def calm():
+    """The session in which the tests of a crate are built has less of the processors than others, where Linux weighs sessions."""
+    with tried.CalmSession(["sleep", "60"], start_new_session=True) as ran:
+        file = pathlib.Path(f"/proc/{ran.pid}/autogroup")
+        said = file.read_text() if file.exists() else ""
+        ran.kill()
+    yield "the session of a try is a calm one", not said or said.split()[-1] == tried.CALM
+
+
 def all_tests():
-    for tests in (laid_out, budgets, kept, groups, forms, named, refused):
+    for tests in (laid_out, budgets, kept, groups, forms, named, refused, calm):
         yield from tests()
