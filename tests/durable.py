@@ -404,10 +404,13 @@ def full(program):
             oks = 0
             for turn in range(200):
                 status, out, err = follow(program, path, OPEN + specs(oks, 40), preexec_fn=limit, restore_signals=False)
+                # a pipe may bring the lines in two parts, and so in two groups, the first of which is committed and answered
+                answered = out.count(b"ok\n")
+                oks += max(0, answered - 1)
                 if status:
                     break
-                oks += 40
-            yield "%s: it is full after %d tasks" % (name, oks), status == 9 and out in (b"", b"ok\n") and err.startswith(UNUSABLE) and oks > 0
+            fails = status == 9 and err.startswith(UNUSABLE) and out == b"ok\n" * answered and answered <= 40
+            yield "%s: it is full after %d tasks" % (name, oks), fails and oks > 0
             more()
             yield "%s: nothing lost" % name, known(program, path)[:oks] == numbers(oks)
             follow(program, path, text)
