@@ -37,7 +37,7 @@ use fm_know::knowledge::Knowledge;
 use fm_lattice::join::{Join, OutOfMemory};
 use fm_lattice::shared::Shared;
 use fm_net::network::Network;
-use fm_policy::changed::changed_of;
+use fm_policy::changed::{Changed, changed_of};
 use fm_policy::keeper::NetKeeper;
 use fm_records::ids::CoordId;
 use fm_records::ops::Op;
@@ -238,10 +238,10 @@ impl<N: NetKeeper> Coordinator<N> {
         ensures keeper { OnOk result (N.absorbs self.old.keeper (changed_keys delta) self.new.keeper) }
         ensures err { OnErr result (self.new ≡ self.old) }
     {
-        let changed = changed_of(self.alloc, &delta)?;
         self.knowledge.known();
         delta.known();
-        add_delta(
+        let changed = add_delta(
+            self.alloc,
             &mut self.knowledge,
             &mut self.buffer,
             &mut self.history,
@@ -661,16 +661,7 @@ impl<N: NetKeeper> Coordinator<N> {
     {
         self.known();
         self.check_room()?;
-        let Decision {
-            plan,
-            admitted,
-            delta,
-        } = decision;
-        let committed = Entry {
-            by,
-            call: Call::Commit(plan),
-            reply: Reply::Admitted(admitted.share()?),
-        };
+        let (admitted, delta, committed) = carried_out(by, decision)?;
         self.take_in(delta, committed)?;
         Ok(admitted)
     }
@@ -714,15 +705,40 @@ impl<N: NetKeeper> Coordinator<N> {
     }
 }
 
-// Merges the delta, keeps it and adds the entry, or does none of it.
+// What was admitted, the delta and the entry of a decision that is carried out.
+fn carried_out(
+    by: u32,
+    decision: Decision,
+) -> Result<(Shared<Admitted>, Knowledge, Entry), OutOfMemory>
+    ensures admitted { IfOk result (λ parts. parts.0 ≡ decision.admitted) }
+    ensures delta { IfOk result (λ parts. parts.1 ≡ decision.delta) }
+    ensures entry { IfOk result (λ parts. parts.2
+        ≡ history_entry by (Call.Commit decision.plan) (Reply.Admitted decision.admitted)) }
+{
+    let Decision {
+        plan,
+        admitted,
+        delta,
+    } = decision;
+    let committed = Entry {
+        by,
+        call: Call::Commit(plan),
+        reply: Reply::Admitted(admitted.share()?),
+    };
+    Ok((admitted, delta, committed))
+}
+
+// Merges the delta, keeps it and adds the entry, and answers the keys that changed; or does none of it.
 fn add_delta(
+    alloc: Global,
     knowledge: &mut Knowledge,
     buffer: &mut Buffer,
     history: &mut Vec<Entry>,
     delta: Knowledge,
     entry: Entry,
-) -> Result<(), OutOfMemory>
+) -> Result<Changed, OutOfMemory>
     requires { end_of buffer.old.deltas + 1 < 2 ^ 64 }
+    ensures changed { IfOk result (λ changed. changed ≡ changed_keys delta) }
     ensures knowledge { OnOk result (knowledge.new ≡ table_join knowledge.old delta) }
     ensures deltas { OnOk result (buffer.new.deltas ≡ with_delta buffer.old.deltas delta) }
     ensures history { OnOk result (history.new.items ≡ history.old.items ++ entry ∷ []) }
@@ -730,10 +746,31 @@ fn add_delta(
     ensures same_deltas { OnErr result (buffer.new.deltas ≡ buffer.old.deltas) }
     ensures same_history { OnErr result (history.new.items ≡ history.old.items) }
 {
-    join_with_room(knowledge, buffer, history, &delta)?;
+    let changed = joined_in(alloc, knowledge, buffer, history, &delta)?;
     buffer.push(delta).unwrap();
     history.push(entry).unwrap();
-    Ok(())
+    Ok(changed)
+}
+
+// Merges the delta with room made as below, and answers the keys that changed, or changes nothing that is known.
+fn joined_in(
+    alloc: Global,
+    knowledge: &mut Knowledge,
+    buffer: &mut Buffer,
+    history: &mut Vec<Entry>,
+    delta: &Knowledge,
+) -> Result<Changed, OutOfMemory>
+    ensures changed { IfOk result (λ changed. changed ≡ changed_keys delta.now) }
+    ensures knowledge { OnOk result (knowledge.new ≡ table_join knowledge.old delta.now) }
+    ensures same_knowledge { OnErr result (knowledge.new ≡ knowledge.old) }
+    ensures room { OnOk result (1 ≤ buffer.new.room) }
+    ensures same_deltas { buffer.new.deltas ≡ buffer.old.deltas }
+    ensures history { OnOk result (vec_len history.new < vec_capacity history.new) }
+    ensures same_history { history.new.items ≡ history.old.items }
+{
+    let changed = changed_of(alloc, delta)?;
+    join_with_room(knowledge, buffer, history, delta)?;
+    Ok(changed)
 }
 
 // Merges the delta, and makes room to keep it and to add an entry, or changes nothing that is known.

@@ -3,7 +3,7 @@ use Rattle.fm_coord.proofs.coordinator.Coordinator.take_in.Goals as goal
 
 pub invariant_of-self-2 : goal.invariant_of-self-2
 invariant_of-self-2 g c =
-    let joined = c.in_ok-add_delta.ensures.knowledge in
+    let joined = c.in_ok-changed.ensures.knowledge in
     record {
       coordinator = search rules;
       keeper = search rules;
@@ -15,7 +15,7 @@ invariant_of-self-2 g c =
             delta_can_be = c.known-2.ensures;
             for_before = λ _. c.self.invariant.kept_up said;
             joined = joined;
-            keys = c.in_ok-changed.ensures;
+            keys = c.in_ok-changed.ensures.changed;
           });
       tallied = c.absorb-2.ensures _ (record {
         before = c.self.inside.knowledge;
@@ -24,6 +24,6 @@ invariant_of-self-2 g c =
         delta_can_be = c.known-2.ensures;
         for_before = λ _. c.self.invariant.tallied;
         joined = joined;
-        keys = c.in_ok-changed.ensures;
+        keys = c.in_ok-changed.ensures.changed;
       });
     }
