@@ -382,15 +382,23 @@ impl<N: NetKeeper> Coordinator<N> {
         ensures ok { IfOk result (λ packet. packet ≡ cut_packet self.now.state range) }
         ensures err { IsOkUnless result Refusal.OutOfMemory }
     {
-        let mut value = self.value_of(range)?;
-        let number = self.cuts + 1;
-        // Copies of the packet share its records.
+        let value = self.shared_value_of(range)?;
         let packet = Packet {
             sender: self.number,
-            number,
-            value: value.share()?,
+            number: self.cuts + 1,
+            value,
         };
         Ok(Shared::new(self.alloc, packet)?)
+    }
+
+    // The knowledge of the range, whose records copies share.
+    fn shared_value_of(&self, range: Range) -> Result<Knowledge, Refusal>
+        requires range { range_fault (bounds self.now.state) range ≡ None }
+        ensures ok { IfOk result (λ value. value ≡ range_value self.now.state range) }
+        ensures err { IsOkUnless result Refusal.OutOfMemory }
+    {
+        let mut value = self.value_of(range)?;
+        Ok(value.share()?)
     }
 
     // The knowledge of the range.
@@ -631,15 +639,27 @@ impl<N: NetKeeper> Coordinator<N> {
         ensures within { IsOk result → cause (bounds self.now.state) (Call.Commit plan) ≡ None }
         ensures err { IfErr result (λ refusal. refusal ≡ refusal_for (bounds self.now.state) (Call.Commit plan)) }
     {
-        self.check_room()?;
-        let made = self.admission(&plan)?;
-        let delta = Knowledge::told(self.alloc, made.ops.as_slice())?;
-        let admitted = Shared::new(self.alloc, made)?;
+        let (admitted, delta) = self.decided(&plan)?;
         Ok(Decision {
             plan,
             admitted,
             delta,
         })
+    }
+
+    // What of the plan is admitted, if there is room for an entry, and the delta of it.
+    fn decided(&self, plan: &Plan) -> Result<(Shared<Admitted>, Knowledge), Refusal>
+        ensures admitted { IfOk result
+            (λ made. made.0 ≡ admission self.now.state.knowledge self.now.state.number plan.now) }
+        ensures delta { IfOk result (λ made. made.1 ≡ table_of made.0.ops) }
+        ensures within { IsOk result → cause (bounds self.now.state) (Call.Commit plan.now) ≡ None }
+        ensures err { IfErr result
+            (λ refusal. refusal ≡ refusal_for (bounds self.now.state) (Call.Commit plan.now)) }
+    {
+        self.check_room()?;
+        let made = self.admission(plan)?;
+        let delta = Knowledge::told(self.alloc, made.ops.as_slice())?;
+        Ok((Shared::new(self.alloc, made)?, delta))
     }
 
     /// Carries a decision out: merges its delta, and returns what was admitted, which the history shares. Nothing is admitted again, so the

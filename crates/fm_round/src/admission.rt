@@ -166,8 +166,7 @@ impl AdmissionState {
         ensures ops { OnOk result (self.new.ops.items ≡ self.old.ops.items ++ op ∷ []) }
         ensures answers { self.new.answers.items ≡ self.old.answers.items }
     {
-        let delta = Knowledge::delta_of(self.alloc, &op)?;
-        self.now.join_into(&delta)?;
+        tell_op(self.alloc, &mut self.now, &op)?;
         self.ops.push(op)?;
         Ok(())
     }
@@ -293,6 +292,15 @@ fn is_accepted(answer: Answer) -> bool
         | Answer::NoRoom => false,
         Answer::Accepted => true,
     }
+}
+
+// Takes the operation, which is in range, into what is known.
+fn tell_op(alloc: Global, now: &mut Knowledge, op: &Op) -> Result<(), OutOfMemory>
+    requires { IsTrue (in_range op.now) }
+    ensures now { OnOk result (now.new ≡ told now.old (op.now ∷ [])) }
+{
+    let delta = Knowledge::delta_of(alloc, op)?;
+    now.join_into(&delta)
 }
 
 // The limits of an open machine's state, which a clause does not see by itself.
