@@ -81,7 +81,6 @@ fn choices(
     requires free { holder_of knowledge.now task ≡ None }
     ensures { IfOk result (AreChoices knowledge.now task spec) }
 {
-    law_can_be(knowledge);
     let network = build(alloc, knowledge)?;
     let schedule = schedule_of(alloc, knowledge, &network, task, &spec)?;
     choices_beside(alloc, knowledge, &network, &schedule, task, spec, job)
