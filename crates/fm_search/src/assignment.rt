@@ -43,15 +43,25 @@ pub struct Assignment {
     pub request_prices: Vec<i64>,
 }
 
-/// What was placed on the board, and its prices. O(n log n) in the tasks and machines.
-pub(crate) fn assignment_of(alloc: Global, board: Board) -> Tried<Assignment> {
-    let machine_prices = prices_of(alloc, &board)?;
+// Of each machine, how many of its held tasks are preempted.
+fn gone_of(alloc: Global, board: &Board) -> Tried<Vec<usize>> {
     let mut gone = Vec::with_capacity(alloc, board.slots.len())?;
     for slots in &board.slots {
         gone.push(slots.gone)?;
     }
+    Ok(gone)
+}
+
+// The prices of machines, and how many held tasks are preempted at each.
+fn found_of(alloc: Global, board: &Board) -> Tried<(Vec<i64>, Vec<usize>)> {
+    let machine_prices = prices_of(alloc, board)?;
+    Ok((machine_prices, gone_of(alloc, board)?))
+}
+
+// What was placed on the board, with these.
+fn with_found(board: Board, machine_prices: Vec<i64>, gone: Vec<usize>) -> Assignment {
     let movable = board.movable;
-    Ok(Assignment {
+    Assignment {
         instance: board.instance,
         gone,
         shares: board.shares,
@@ -59,5 +69,11 @@ pub(crate) fn assignment_of(alloc: Global, board: Board) -> Tried<Assignment> {
         destinations: movable.destinations,
         machine_prices,
         request_prices: board.request_labels,
-    })
+    }
+}
+
+/// What was placed on the board, and its prices. O(n log n) in the tasks and machines.
+pub(crate) fn assignment_of(alloc: Global, board: Board) -> Tried<Assignment> {
+    let (machine_prices, gone) = found_of(alloc, &board)?;
+    Ok(with_found(board, machine_prices, gone))
 }

@@ -6,7 +6,7 @@
 
 use crate::Tried;
 use crate::assignment::Destination;
-use crate::costs::{FAR, NONE, lower, put};
+use crate::costs::{FAR, NONE, cost_at, lower, put};
 use std::alloc::Global;
 
 /// A task in a list, with its key and what it saves there.
@@ -49,6 +49,20 @@ fn least_key(entries: &[Entry]) -> i64 {
         least = least.min(entry.key);
     }
     least
+}
+
+// Takes an entry out of its list, where the last one takes its place. Answers the task of the last one, or none.
+fn take_entry(entries: &mut Vec<Entry>, place: usize) -> usize {
+    let Some(last) = entries.pop() else {
+        return NONE;
+    };
+    match entries.get_mut(place) {
+        Some(entry) => {
+            *entry = last;
+            last.task
+        }
+        None => NONE,
+    }
 }
 
 impl Movable {
@@ -131,6 +145,26 @@ impl Movable {
         Ok(())
     }
 
+    /// No key of a task in the request's list is less.
+    pub(crate) fn request_low(&self, request: usize) -> i64 {
+        cost_at(&self.by_request, request)
+    }
+
+    /// Sets it.
+    pub(crate) fn set_request_low(&mut self, request: usize, low: i64) {
+        put(&mut self.by_request, request, low);
+    }
+
+    /// The same of the full machine of the number.
+    pub(crate) fn low(&self, full: usize) -> i64 {
+        cost_at(&self.lows, full)
+    }
+
+    /// Sets it.
+    pub(crate) fn set_low(&mut self, full: usize, low: i64) {
+        put(&mut self.lows, full, low);
+    }
+
     /// Brings the least key at 64 full machines up to date.
     pub(crate) fn renew_block(&mut self, word: usize) {
         let first = word.saturating_mul(64);
@@ -149,14 +183,9 @@ impl Movable {
         let Some(entries) = self.lists.get_mut(list) else {
             return;
         };
-        let Some(last) = entries.pop() else {
-            return;
-        };
-        if let Some(entry) = entries.get_mut(place) {
-            *entry = last;
-            if let Some(moved) = self.places.get_mut(last.task) {
-                *moved = place;
-            }
+        let moved = take_entry(entries, place);
+        if let Some(there) = self.places.get_mut(moved) {
+            *there = place;
         }
     }
 

@@ -127,6 +127,11 @@ impl Paths {
         })
     }
 
+    /// The board, with what was placed on it.
+    pub(crate) fn into_board(self) -> Board {
+        self.board
+    }
+
     /// The node of a machine.
     pub(crate) fn machine_node(&self, machine: usize) -> usize {
         self.requests.saturating_add(machine)
@@ -159,11 +164,17 @@ impl Paths {
         self.near
             .resize(self.board.full.machines.len().div_ceil(64), 0)?;
         self.near_cost = i64::MIN;
-        self.rest.clear();
-        self.rest.extend_from_slice(&self.board.full.active)?;
+        self.renew_rest()?;
         self.best = bound;
         self.last = NONE;
         self.end = End::Stay;
+        Ok(())
+    }
+
+    /// All requests with tasks on full machines are yet to be reached.
+    pub(crate) fn renew_rest(&mut self) -> Tried<()> {
+        self.rest.clear();
+        self.rest.extend_from_slice(&self.board.full.active)?;
         Ok(())
     }
 

@@ -7,7 +7,7 @@
 use crate::Tried;
 use crate::assignment::Destination;
 use crate::bit_set::{first_of, has_bit, without_first};
-use crate::costs::{FAR, NONE, cost_at, put};
+use crate::costs::{FAR, NONE, cost_at};
 use crate::path_search::{End, Paths, Step};
 
 // A step from the node over a machine, where that is not the next node itself.
@@ -19,47 +19,84 @@ fn step_over(from: usize, over: usize) -> Step {
     }
 }
 
+// The bits of a word to which none led before, or all of them if they are led to for less. From now on all are near.
+fn fresh_bits(near: &mut u64, room: u64, is_cheaper: bool) -> u64 {
+    let bits = if is_cheaper { room } else { room & !*near };
+    *near |= room;
+    bits
+}
+
+// Adds those of the words of a row, each with its number. Answers how many bits are set there.
+fn add_fresh(
+    fresh: &mut Vec<(usize, u64)>,
+    near: &mut [u64],
+    row: &[u64],
+    is_cheaper: bool,
+) -> Tried<usize> {
+    let mut count = 0usize;
+    for (word, room) in row.iter().enumerate() {
+        let Some(near) = near.get_mut(word) else {
+            break;
+        };
+        let bits = fresh_bits(near, *room, is_cheaper);
+        if bits != 0 {
+            count = count.saturating_add(bits.count_ones() as usize);
+            fresh.push((word, bits))?;
+        }
+    }
+    Ok(count)
+}
+
+// Leaves a request out of the rest.
+fn leave_out(rest: &mut Vec<usize>, at: usize) {
+    let Some(last) = rest.pop() else {
+        return;
+    };
+    if let Some(request) = rest.get_mut(at) {
+        *request = last;
+    }
+}
+
 impl Paths {
     /// Goes on from a request.
     pub(crate) fn leave_request(&mut self, request: usize, cost: i64) -> Tried<()> {
         self.board.look(request);
         let is_cheaper = cost < self.near_cost;
         if is_cheaper {
-            self.rest.clear();
-            self.rest.extend_from_slice(&self.board.full.active)?;
+            self.renew_rest()?;
         }
         let count = self.find_fresh(request, is_cheaper)?;
         self.near_cost = self.near_cost.max(cost);
+        self.leave_for(request, cost, count)
+    }
+
+    // Goes on from a request that leads to so many fresh machines.
+    fn leave_for(&mut self, request: usize, cost: i64, count: usize) -> Tried<()> {
         if count > 0 {
             self.go_to_requests(request, cost, count)?;
             self.go_to_movable(request, cost)?;
         }
-        if cost.saturating_add(cost_at(&self.board.movable.by_request, request)) < self.best {
-            let list = self.board.movable.request_list(request);
-            let low = self.leave_list(list, cost, request)?;
-            put(&mut self.board.movable.by_request, request, low);
+        self.leave_placed(request, cost)
+    }
+
+    // Goes on from the tasks of a request that prefer machines and went where it sends them.
+    fn leave_placed(&mut self, request: usize, cost: i64) -> Tried<()> {
+        let movable = &self.board.movable;
+        if cost.saturating_add(movable.request_low(request)) >= self.best {
+            return Ok(());
         }
+        let list = movable.request_list(request);
+        let low = self.leave_list(list, cost, request)?;
+        self.board.movable.set_request_low(request, low);
         Ok(())
     }
 
     // Finds the full machines with room for the request: those to which no request led before, or all of them if it leads there for less.
     // Answers how many there are.
     fn find_fresh(&mut self, request: usize, is_cheaper: bool) -> Tried<usize> {
-        let mut count = 0usize;
         self.fresh.clear();
         let row = self.board.full.room.row(request, self.near.len());
-        for (word, room) in row.iter().enumerate() {
-            let Some(near) = self.near.get_mut(word) else {
-                break;
-            };
-            let bits = if is_cheaper { *room } else { *room & !*near };
-            *near |= *room;
-            if bits != 0 {
-                count = count.saturating_add(bits.count_ones() as usize);
-                self.fresh.push((word, bits))?;
-            }
-        }
-        Ok(count)
+        add_fresh(&mut self.fresh, &mut self.near, row, is_cheaper)
     }
 
     // Goes on to the requests with tasks on the fresh machines, of which there are so many: by a look at each request of the rest, or at
@@ -74,7 +111,7 @@ impl Paths {
                 break;
             };
             if other == request || self.go_to_request(request, other, cost)? {
-                self.leave_out(at);
+                leave_out(&mut self.rest, at);
             } else {
                 at = at.saturating_add(1);
             }
@@ -93,16 +130,6 @@ impl Paths {
         let step = step_over(request, self.board.full.machine(full));
         self.reach_request(other, cost, step)?;
         Ok(true)
-    }
-
-    // Leaves a request out of the rest.
-    fn leave_out(&mut self, at: usize) {
-        let Some(last) = self.rest.pop() else {
-            return;
-        };
-        if let Some(request) = self.rest.get_mut(at) {
-            *request = last;
-        }
     }
 
     // Goes on over each fresh machine to the requests with tasks there.
@@ -148,7 +175,7 @@ impl Paths {
         for _ in 0..bits.count_ones() {
             let full = first_of(word, bits);
             bits = without_first(bits);
-            if cost.saturating_add(cost_at(&self.board.movable.lows, full)) < self.best {
+            if cost.saturating_add(self.board.movable.low(full)) < self.best {
                 let machine = self.board.full.machine(full);
                 self.reach_machine(machine, cost, step_over(request, NONE))?;
             }
@@ -160,11 +187,17 @@ impl Paths {
     pub(crate) fn leave_machine(&mut self, machine: usize, cost: i64) -> Tried<()> {
         let node = self.machine_node(machine);
         self.go_over(machine, cost, node, NONE)?;
+        self.leave_straight(machine, cost, node)
+    }
+
+    // Goes on from the tasks at a full machine that prefer it.
+    fn leave_straight(&mut self, machine: usize, cost: i64, node: usize) -> Tried<()> {
         let full = self.board.full_number(machine);
-        if cost.saturating_add(cost_at(&self.board.movable.lows, full)) < self.best {
-            let low = self.leave_list(machine, cost, node)?;
-            put(&mut self.board.movable.lows, full, low);
+        if cost.saturating_add(self.board.movable.low(full)) >= self.best {
+            return Ok(());
         }
+        let low = self.leave_list(machine, cost, node)?;
+        self.board.movable.set_low(full, low);
         Ok(())
     }
 

@@ -111,20 +111,33 @@ fn place_some(paths: &mut Paths, request: usize, worth: i64, most: i64) -> Tried
         && cost_at(&paths.board.movable.by_request, request) >= exit.price;
     if exit.price > paths.board.request_label(request) && !is_alone {
         paths.search_for(request, worth)?;
-        if paths.end == End::Stay || !paths.may_go_on() {
-            return Ok(0);
-        }
-        return paths.send(most);
+        return send_over(paths, most);
     }
-    let board = &mut paths.board;
-    raise(&mut board.request_labels, request, exit.price.min(worth));
+    raise(
+        &mut paths.board.request_labels,
+        request,
+        exit.price.min(worth),
+    );
     if exit.price >= worth {
         return Ok(0);
     }
-    let free = board.slots_of(exit.machine).free.max(1);
-    let count = most.min(free).min(board.room(request, exit.machine));
-    board.add_units(request, exit.machine, count)?;
-    board.take(exit.machine, count)?;
+    send_to(&mut paths.board, request, exit.machine, most)
+}
+
+// Sends as many units as the path that was found has room for, of so many. Answers how many: none if there is no such path.
+fn send_over(paths: &mut Paths, most: i64) -> Tried<i64> {
+    if paths.end == End::Stay || !paths.may_go_on() {
+        return Ok(0);
+    }
+    paths.send(most)
+}
+
+// Sends as many tasks of a request to a machine as it has room for, of so many. Answers how many.
+fn send_to(board: &mut Board, request: usize, machine: usize, most: i64) -> Tried<i64> {
+    let free = board.slots_of(machine).free.max(1);
+    let count = most.min(free).min(board.room(request, machine));
+    board.add_units(request, machine, count)?;
+    board.take(machine, count)?;
     Ok(count)
 }
 
@@ -135,24 +148,39 @@ fn place_task(paths: &mut Paths, task: usize) -> Tried<()> {
     if least >= preferring.worth || !paths.may_go_on() {
         return Ok(());
     }
-    let machine = slot_at(&paths.board, task, least);
-    if machine != NONE {
-        paths.board.move_task(task, Destination::Straight(machine))?;
-        return paths.board.take(machine, 1);
-    }
-    if paths.board.request_label(preferring.request) == least {
-        let exit = paths.board.exit(preferring.request)?;
-        if exit.price == least {
-            paths.board.move_task(task, Destination::ByRequest)?;
-            paths.board.add_units(preferring.request, exit.machine, 1)?;
-            return paths.board.take(exit.machine, 1);
-        }
+    if place_at(&mut paths.board, task, least)? {
+        return Ok(());
     }
     paths.search_for_task(task, preferring.worth)?;
-    if paths.end != End::Stay && paths.may_go_on() {
-        paths.send(1)?;
-    }
+    send_over(paths, 1)?;
     Ok(())
+}
+
+// Places a task that prefers machines at a next slot, if one costs it no more than that. Answers whether it did.
+fn place_at(board: &mut Board, task: usize, least: i64) -> Tried<bool> {
+    let machine = slot_at(board, task, least);
+    if machine != NONE {
+        board.move_task(task, Destination::Straight(machine))?;
+        board.take(machine, 1)?;
+        return Ok(true);
+    }
+    let request = board.instance.task(task).request;
+    if board.request_label(request) != least {
+        return Ok(false);
+    }
+    place_by_request(board, task, request, least)
+}
+
+// Places it where its request sends it, if that costs no more than that. Answers whether it did.
+fn place_by_request(board: &mut Board, task: usize, request: usize, least: i64) -> Tried<bool> {
+    let exit = board.exit(request)?;
+    if exit.price != least {
+        return Ok(false);
+    }
+    board.move_task(task, Destination::ByRequest)?;
+    board.add_units(request, exit.machine, 1)?;
+    board.take(exit.machine, 1)?;
+    Ok(true)
 }
 
 // The machine of its choice whose next slot costs the task no more than that.

@@ -22,10 +22,14 @@ pub fn search(alloc: Global, instance: Instance) -> Result<Option<Assignment>, O
     let Some(board) = Board::of(alloc, instance)? else {
         return Ok(None);
     };
-    let mut paths = Paths::of(alloc, board)?;
+    answer_of(alloc, Paths::of(alloc, board)?)
+}
+
+// Where the tasks go by searches for paths, if these come to their ends.
+fn answer_of(alloc: Global, mut paths: Paths) -> Result<Option<Assignment>, OutOfMemory> {
     if !place_all(alloc, &mut paths)? {
         return Ok(None);
     }
-    let answer = assignment_of(alloc, paths.board)?;
+    let answer = assignment_of(alloc, paths.into_board())?;
     Ok(Some(answer))
 }

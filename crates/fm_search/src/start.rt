@@ -1,6 +1,7 @@
 //! The board of an instance, on which nothing is placed yet.
 
 use crate::Tried;
+use crate::assignment::RequestUnits;
 use crate::board::{Board, Slots};
 use crate::costs::{FAR, NONE};
 use crate::exits::{Exits, NO_EXIT, Sought};
@@ -48,6 +49,46 @@ fn ranked_of(alloc: Global, instance: &Instance) -> Tried<Vec<(i64, usize)>> {
     Ok(ranked)
 }
 
+// What the rows of so many machines are kept in: their slots, the tasks there, and their labels.
+type MachineRows = (Vec<Slots>, Vec<Vec<RequestUnits>>, Vec<i64>);
+
+// The three values, if none is lacking.
+fn all_three<A: Drop, B: Drop, C: Drop>(
+    first: Tried<A>,
+    second: Tried<B>,
+    third: Tried<C>,
+) -> Tried<(A, B, C)> {
+    Ok((first?, second?, third?))
+}
+
+// Room for so many machines.
+fn machine_rows(alloc: Global, machines: usize) -> Tried<MachineRows> {
+    let slots = Vec::with_capacity(alloc, machines)?;
+    let shares = Vec::with_capacity(alloc, machines)?;
+    let labels = Vec::with_capacity(alloc, machines)?;
+    Ok((slots, shares, labels))
+}
+
+// Of so many requests, how many tasks are placed, their labels, and what is known of their exits.
+fn request_rows(alloc: Global, requests: usize) -> Tried<(Vec<usize>, Vec<i64>, Exits)> {
+    let placed = vec![in alloc; 0; requests]?;
+    let labels = vec![in alloc; 0; requests]?;
+    let exits = Exits::none(alloc, requests)?;
+    Ok((placed, labels, exits))
+}
+
+// No full machines, and no placed tasks that prefer machines.
+fn both_of(
+    alloc: Global,
+    tasks: usize,
+    machines: usize,
+    requests: usize,
+) -> Tried<(Full, Movable)> {
+    let full = Full::none(alloc, requests, machines)?;
+    let movable = Movable::of(alloc, tasks, machines, requests)?;
+    Ok((full, movable))
+}
+
 impl Board {
     /// The board of an instance, on which waiting tasks wait. None for too many requests and machines. O(n log n) in machines, and two
     /// bits for each machine and request.
@@ -64,16 +105,24 @@ impl Board {
     // The board of an instance of which nothing is known yet.
     fn empty(alloc: Global, instance: Instance) -> Tried<Board> {
         let (requests, machines) = (instance.requests.len(), instance.machines.len());
+        let tasks = instance.preferring.len();
+        let (by_machine, by_request, (full, movable)) = all_three(
+            machine_rows(alloc, machines),
+            request_rows(alloc, requests),
+            both_of(alloc, tasks, machines, requests),
+        )?;
+        let (slots, shares, machine_labels) = by_machine;
+        let (placed, request_labels, exits) = by_request;
         Ok(Board {
-            slots: Vec::with_capacity(alloc, machines)?,
-            shares: Vec::with_capacity(alloc, machines)?,
-            placed: vec![in alloc; 0; requests]?,
-            request_labels: vec![in alloc; 0; requests]?,
-            machine_labels: Vec::with_capacity(alloc, machines)?,
-            exits: Exits::none(alloc, requests)?,
-            full: Full::none(alloc, requests, machines)?,
-            movable: Movable::of(alloc, instance.preferring.len(), machines, requests)?,
             instance,
+            slots,
+            shares,
+            placed,
+            exits,
+            full,
+            movable,
+            request_labels,
+            machine_labels,
         })
     }
 
@@ -84,18 +133,28 @@ impl Board {
 
     // Frees the slots of machines that no held task has. The label of a machine is the price of its next slot.
     fn open(&mut self, alloc: Global) -> Tried<()> {
-        let mut spares = Vec::with_capacity(alloc, self.instance.machines.len())?;
-        for number in 0..self.instance.machines.len() {
-            let machine = self.instance.machine(number);
-            let slots = slots_of(&self.instance, &machine);
-            self.slots.push(slots)?;
-            self.shares.push(Vec::new(alloc))?;
-            self.machine_labels.push(slots.price)?;
-            let spare = if slots.free > 0 { machine.spare } else { LEAST };
-            spares.push(spare)?;
-        }
+        let spares = self.opened(alloc)?;
         self.exits.free = Tree::of(alloc, &spares)?;
         Ok(())
+    }
+
+    // The same. Answers of each machine its spare, if it has a free slot.
+    fn opened(&mut self, alloc: Global) -> Tried<Vec<i64>> {
+        let mut spares = Vec::with_capacity(alloc, self.instance.machines.len())?;
+        for number in 0..self.instance.machines.len() {
+            spares.push(self.open_machine(alloc, number)?)?;
+        }
+        Ok(spares)
+    }
+
+    // The same of one machine.
+    fn open_machine(&mut self, alloc: Global, number: usize) -> Tried<i64> {
+        let machine = self.instance.machine(number);
+        let slots = slots_of(&self.instance, &machine);
+        self.slots.push(slots)?;
+        self.shares.push(Vec::new(alloc))?;
+        self.machine_labels.push(slots.price)?;
+        Ok(if slots.free > 0 { machine.spare } else { LEAST })
     }
 
     // Ranks the machines by falling spare. Of each request it is known how many of them have bandwidth for it.
