@@ -7,7 +7,9 @@ ghost use Rattle.std.specs.Prelude.{◌≡◌, ◌≤◌, ◌+◌, ℕ, Some, No
 ghost use Rattle.std.specs.List.{All};
 ghost use Rattle.fm_records.specs.Ops.{op_fault};
 ghost use Rattle.fm_records.specs.Table.{Table};
-ghost use Rattle.fm_certificate.specs.Flows.{units_in};
+ghost use Rattle.fm_records.specs.Joined.{table_join};
+ghost use Rattle.fm_certificate.specs.Flows.{units_in, IsLeast};
+ghost use Rattle.fm_net.specs.Network.{net_of};
 ghost use Rattle.fm_why.specs.Running.{RunsOn};
 ghost use Rattle.fm_why.specs.Remedies.{more_slots, more_bandwidth, change_op, with_op, RunsAt, IsTight, IsRemedy};
 ghost use Rattle.fm_why.specs.Remedies.{AreOneOfEach};
@@ -132,10 +134,25 @@ fn remedy_of(
         return Ok(None);
     };
     let known = with_op(alloc, knowledge, &op)?;
-    if !is_tight(&known, aim, change) {
+    remedy_in(alloc, &known, aim, change)
+}
+
+// The change of the aim's machine, if it is tight by what is known after it, and a least schedule runs the task then.
+fn remedy_in(
+    alloc: Global,
+    known: &Knowledge,
+    aim: &Target,
+    change: Change,
+) -> Result<Option<Remedy>, OutOfMemory>
+    ensures runs { IfOk result (λ found. IfSome found (λ e. RunsAt known.now aim.now.task e.place e.cost)) }
+    ensures tight { IfOk result (λ found. IfSome found (λ e. IsTight known.now e.machine aim.now.request e.change)) }
+    ensures machine { IfOk result (λ found. IfSome found (λ e. e.machine ≡ aim.now.machine)) }
+    ensures kind { IfOk result (λ found. IfSome found (λ e. e.change ≡ change)) }
+{
+    if !is_tight(known, aim, change) {
         return Ok(None);
     }
-    let Some(run) = run_of(alloc, &known, aim)? else {
+    let Some(run) = run_of(alloc, known, aim)? else {
         return Ok(None);
     };
     Ok(Some(Remedy {
@@ -187,9 +204,16 @@ fn with_op(alloc: Global, knowledge: &Knowledge, op: &Op) -> Result<Knowledge, O
     requires { op_fault op.now ≡ None }
     ensures { IfOk result (λ known. known ≡ with_op knowledge.now op.now) }
 {
-    let mut known = knowledge.copy()?;
     let delta = Knowledge::delta_of(alloc, op)?;
-    known.join_into(&delta)?;
+    with_delta(knowledge, &delta)
+}
+
+// What is known once the delta is known too.
+fn with_delta(knowledge: &Knowledge, delta: &Knowledge) -> Result<Knowledge, OutOfMemory>
+    ensures { IfOk result (λ known. known ≡ table_join knowledge.now delta.now) }
+{
+    let mut known = knowledge.copy()?;
+    known.join_into(delta)?;
     Ok(known)
 }
 
@@ -216,16 +240,38 @@ fn run_of(alloc: Global, known: &Knowledge, aim: &Target) -> Result<Option<Run>,
 {
     law_can_be(known);
     let network = build(alloc, known)?;
-    let Ok((flow, _)) = solve(alloc, &network) else {
-        return Err(OutOfMemory);
-    };
-    let Some(place) = place_of(known, &network, &flow, aim) else {
-        return Ok(None);
-    };
-    Ok(Some(Run {
+    run_on(alloc, known, &network, aim)
+}
+
+// As above, by the network of what is known.
+fn run_on(
+    alloc: Global,
+    known: &Knowledge,
+    network: &Network,
+    aim: &Target,
+) -> Result<Option<Run>, OutOfMemory>
+    requires { network.now ≡ net_of known.now }
+    ensures { IfOk result (λ found. IfSome found (λ run. RunsAt known.now aim.now.task run.place run.cost)) }
+{
+    law_can_be(known);
+    match solve(alloc, network) {
+        Ok(found) => Ok(run_by(known, network, &found.0, aim)),
+        Err(_) => Err(OutOfMemory),
+    }
+}
+
+// Where the least flow runs the task, if it does.
+fn run_by(known: &Knowledge, network: &Network, flow: &Flow, aim: &Target) -> Option<Run>
+    requires network { network.now ≡ net_of known.now }
+    requires least { IsLeast network.now (units_in flow.now) }
+    ensures { IfSome result (λ run. RunsAt known.now aim.now.task run.place run.cost) }
+{
+    law_can_be(known);
+    let place = place_of(known, network, flow, aim)?;
+    Some(Run {
         place,
-        cost: cost(&network, &flow),
-    }))
+        cost: cost(network, flow),
+    })
 }
 
 // A machine on which the flow runs the task, if there is one: the aim's, or else the first by id.

@@ -81,10 +81,27 @@ fn choices(
     requires free { holder_of knowledge.now task ≡ None }
     ensures { IfOk result (AreChoices knowledge.now task spec) }
 {
-    law_can_be(knowledge);
     let network = build(alloc, knowledge)?;
-    let schedule = schedule_of(alloc, knowledge, &network, task, &spec)?;
-    choices_beside(alloc, knowledge, &network, &schedule, task, spec, job)
+    choices_in(alloc, knowledge, &network, task, spec, job)
+}
+
+// What there is to choose for the task in the network.
+fn choices_in(
+    alloc: Global,
+    knowledge: &Knowledge,
+    network: &Network,
+    task: TaskId,
+    spec: SpecReg,
+    job: JobReg,
+) -> Result<Choices, OutOfMemory>
+    requires live { live_spec knowledge.now task ≡ Some spec }
+    requires job { job_of knowledge.now spec.job ≡ Some job }
+    requires free { holder_of knowledge.now task ≡ None }
+    requires network { network.now ≡ net_of knowledge.now }
+    ensures { IfOk result (AreChoices knowledge.now task spec) }
+{
+    let schedule = schedule_of(alloc, knowledge, network, task, &spec)?;
+    choices_beside(alloc, knowledge, network, &schedule, task, spec, job)
 }
 
 // What there is to choose for the task beside a least schedule of the network.
