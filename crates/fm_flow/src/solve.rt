@@ -58,15 +58,29 @@ pub fn solve_from(
     ensures least { IfOk result (λ found. IsLeast network.now (units_in found.0)) }
     ensures cause { IfErr result (λ refusal. refusal ≡ Refusal.OutOfMemory) }
 {
+    let numbered = IndexedNetwork::of(alloc, network)?;
+    let found = resumed_or_anew(alloc, network, &numbered, flow)?;
+    Ok(found)
+}
+
+// The least flow that the given one's task paths make, and potentials that certify it; if they make none, those of `anew`.
+fn resumed_or_anew(
+    alloc: Global,
+    network: &Network,
+    numbered: &IndexedNetwork,
+    flow: &Flow,
+) -> Result<(Flow, Potentials), OutOfMemory>
+    requires built { IsBuilt network.now }
+    requires numbered { IsNumbered network.now numbered.now.places numbered.now.arcs.items }
+    ensures certified { IfOk result (λ found. IsCertified network.now found.0 found.1) }
+    ensures least { IfOk result (λ found. IsLeast network.now (units_in found.0)) }
+{
     network.known();
     law_least();
-    let numbered = IndexedNetwork::of(alloc, network)?;
-    if let Some((units, values)) = resumed(alloc, network, &numbered, flow)? {
-        let found = certified(alloc, network, &numbered, &units, &values)?;
-        return Ok(found);
+    match resumed(alloc, network, numbered, flow)? {
+        Some((units, values)) => certified(alloc, network, numbered, &units, &values),
+        None => anew(alloc, network, numbered),
     }
-    let found = anew(alloc, network, &numbered)?;
-    Ok(found)
 }
 
 // The least flow that cancelling makes of the start's, and potentials that certify it. The search for cycles starts
