@@ -1,10 +1,10 @@
 //! The commands that the parser knows, with their texts of help.
 
-ghost use Rattle.std.specs.Prelude.{◌≡◌, IfOk, codes, false};
+ghost use Rattle.std.specs.Prelude.{◌≡◌, IfOk, Ok, codes, false, take};
 ghost use Rattle.clap.specs.Words.{App, app_of, new_app, rule_of, with_rule, with_subcommand};
 ghost use Rattle.clap.specs.declared.builder.command.Command.TheViews.{out-Command};
-ghost use Rattle.fm_args.specs.CommandLine.{asks, fleets, follows, lists_records, most_renew_after, nothing, packs, recovers, whys};
-ghost use Rattle.fm_args.specs.Parser.{command_app, firmament, name_rule, no_commands, number_rule, word_rule};
+ghost use Rattle.fm_args.specs.CommandLine.{asks, commands, fleets, follows, lists_records, most_renew_after, nothing, packs, recovers, whys};
+ghost use Rattle.fm_args.specs.Parser.{command_app, firmament, name_rule, no_commands, number_rule, with_commands, word_rule};
 ghost use Rattle.fm_args.specs.Invocation.{agree, check, run, unpack};
 ghost use Rattle.fm_args.specs.declared.words.ScriptQuestion.TheVariants as question;
 
@@ -17,20 +17,34 @@ use std::alloc::Global;
 pub fn parser<'a>(alloc: Global) -> Result<Command<'a>, OutOfMemory>
     ensures { IfOk result (λ c. app_of c ≡ firmament) }
 {
-    let to_agree = with(program(alloc), Ok(agree(alloc)));
-    let to_check = with(to_agree, Ok(check(alloc)));
-    let to_fleet = with(to_check, fleet(alloc));
-    let to_follow = with(to_fleet, follow(alloc));
-    let to_graph = with(to_follow, graph(alloc));
-    let to_list = with(to_graph, list(alloc));
-    let to_pack = with(to_list, pack(alloc));
-    let to_records = with(to_pack, records(alloc));
-    let to_recover = with(to_records, recover(alloc));
+    let to_recover = up_to_recover(alloc);
     let to_solve = with(to_recover, solve(alloc));
     let to_plan = with(to_solve, plan(alloc));
     let to_unpack = with(to_plan, Ok(unpack(alloc)));
     let to_why = with(to_unpack, why(alloc));
     with(to_why, winners(alloc))
+}
+
+// The program with its commands up to `recover`.
+fn up_to_recover<'a>(alloc: Global) -> Result<Command<'a>, OutOfMemory>
+    ensures { IfOk result (λ c. app_of c ≡ with_commands (take 9 commands)) }
+{
+    let to_follow = up_to_follow(alloc);
+    let to_graph = with(to_follow, graph(alloc));
+    let to_list = with(to_graph, list(alloc));
+    let to_pack = with(to_list, pack(alloc));
+    let to_records = with(to_pack, records(alloc));
+    with(to_records, recover(alloc))
+}
+
+// The program with its commands up to `follow`.
+fn up_to_follow<'a>(alloc: Global) -> Result<Command<'a>, OutOfMemory>
+    ensures { IfOk result (λ c. app_of c ≡ with_commands (take 4 commands)) }
+{
+    let to_agree = with(program(alloc), Ok(agree(alloc)));
+    let to_check = with(to_agree, Ok(check(alloc)));
+    let to_fleet = with(to_check, fleet(alloc));
+    with(to_fleet, follow(alloc))
 }
 
 // The program with one command more, unless either could not be made. Without a way out of `parser` before its end, no command made before has
@@ -44,8 +58,19 @@ fn with<'a>(
         → IfOk command.entry (λ c. (out-Command c).has_globals ≡ false)
         → IfOk result (λ c. app_of c ≡ with_subcommand before added.top) }
 {
-    let program = program?;
-    Ok(program.subcommand(command?)?)
+    let (program, command) = both(program, command)?;
+    Ok(program.subcommand(command)?)
+}
+
+// Both values, if neither is lacking.
+fn both<A: Drop, B: Drop>(
+    first: Result<A, OutOfMemory>,
+    second: Result<B, OutOfMemory>,
+) -> Result<(A, B), OutOfMemory>
+    ensures first { IfOk result (λ r. first ≡ Ok r.0) }
+    ensures second { IfOk result (λ r. second ≡ Ok r.1) }
+{
+    Ok((first?, second?))
 }
 
 fn program<'a>(alloc: Global) -> Result<Command<'a>, OutOfMemory>
@@ -114,7 +139,17 @@ fn follow<'a>(alloc: Global) -> Result<Command<'a>, OutOfMemory>
             "The first line lists the coordinators: {\"coordinators\":[1,2]}\nAll lines and their answers are described in docs/formats.md.\n\nThe status is 0 at the end of the input, 3 if the input cannot be read, 6 if the output cannot be written, 8 if the store is damaged, and 9 if it cannot be used.\n\nExample: firmament follow < examples/day.follow",
         );
     let renewed = command.arg(renew_after(alloc))?;
-    let stored = renewed.arg(store(alloc))?;
+    stored(alloc, renewed)
+}
+
+// The command with the options of a store too.
+fn stored<'a>(alloc: Global, command: Command<'a>) -> Result<Command<'a>, OutOfMemory>
+    requires { (out-Command command).has_globals ≡ false }
+    ensures app { IfOk result (λ c. app_of c
+        ≡ with_rule (with_rule (app_of command.entry) (word_rule (codes "store"))) (word_rule (codes "store-label"))) }
+    ensures local { IfOk result (λ c. (out-Command c).has_globals ≡ false) }
+{
+    let stored = command.arg(store(alloc))?;
     Ok(stored.arg(store_label(alloc))?)
 }
 
