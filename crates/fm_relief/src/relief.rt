@@ -4,10 +4,13 @@
 //! its bandwidth. Admission preempts nothing for that, since each of them had room for its own places. So the tasks are
 //! preempted that cost least, and no more of them than must be.
 
-ghost use Rattle.std.specs.Prelude.{◌≡◌, ◌++◌, map, sum_by, IfOk, OnOk};
+ghost use Rattle.std.specs.Prelude.{◌≡◌, ◌++◌, ℕ, Some, map, sum_by, IfOk, OnOk};
 ghost use Rattle.std.specs.Ordering.{nat_cmp};
 ghost use Rattle.fm_records.specs.Rising.{Rises};
-ghost use Rattle.fm_relief.specs.Relief.{preempted, relief_of, as_preempt, plan_of_relief};
+ghost use Rattle.fm_tally.specs.Tallies.{TallyIsFor};
+ghost use Rattle.fm_relief.specs.Relief.{tasks_on, preempted, relief_of, as_preempt, plan_of_relief};
+ghost use Rattle.fm_relief.specs.declared.excess.Excess.{Excess as ExcessOf};
+ghost use Rattle.fm_relief.specs.inner.Excesses.{excess_at, all_excesses};
 ghost use Rattle.fm_relief.specs.inner.HeldLists.{held_on};
 
 use crate::excess::{Excess, excesses_of};
@@ -19,6 +22,7 @@ use fm_lattice::join::{Join, OutOfMemory};
 use fm_records::ids::MachineId;
 use fm_round::listed::Listed;
 use fm_round::plan::{Plan, Preempt};
+use fm_tally::sorted::Sorted;
 use fm_tally::tally::Tally;
 use std::alloc::Global;
 
@@ -46,12 +50,40 @@ pub fn relief_of(
 {
     knowledge.known();
     let tally = Tally::of(alloc, knowledge)?;
-    let machines = excesses_of(alloc, knowledge, &tally)?;
-    let held = HeldTasks::on(alloc, knowledge, &tally, &machines)?;
+    relief_by(alloc, knowledge, &tally)
+}
+
+// The relief by the tally of what is known.
+fn relief_by(
+    alloc: Global,
+    knowledge: &Knowledge,
+    tally: &Tally,
+) -> Result<Listed<OverfullMachine>, OutOfMemory>
+    requires { TallyIsFor knowledge.now tally.now }
+    ensures { IfOk result (λ relief. relief ≡ relief_of knowledge.now) }
+{
+    let machines = excesses_of(alloc, knowledge, tally)?;
+    let held = HeldTasks::on(alloc, knowledge, tally, &machines)?;
+    overfull_machines(alloc, knowledge, &machines, &held)
+}
+
+// Each of the machines with the tasks to preempt.
+fn overfull_machines(
+    alloc: Global,
+    knowledge: &Knowledge,
+    machines: &Sorted<MachineId, Excess>,
+    held: &HeldTasks,
+) -> Result<Listed<OverfullMachine>, OutOfMemory>
+    requires machines { machines.now ≡ all_excesses knowledge.now }
+    requires held { (m : ℕ) (x : ExcessOf) → excess_at knowledge.now m ≡ Some x
+        → held_on held.now m ≡ tasks_on knowledge.now m }
+    ensures { IfOk result (λ relief. relief ≡ relief_of knowledge.now) }
+{
+    knowledge.known();
     let pairs = machines.pairs();
     let mut found = Vec::new(alloc);
     for (machine, excess) in pairs {
-        found.push(overfull_machine(alloc, &held, *machine, *excess)?)?;
+        found.push(overfull_machine(alloc, held, *machine, *excess)?)?;
     }
     Ok(Listed::new(found))
 }

@@ -8,7 +8,7 @@ use Rattle.fm_relief.specs.inner.HeldLists.{held_on}
 use Rattle.fm_relief.proofs.Fronts.{all_requests}
 use Rattle.fm_relief.proofs.Held.{on_rises, sum_on}
 use Rattle.fm_relief.proofs.Listing.{row_met, excess_held, overfull_by, relief_is}
-use Rattle.fm_relief.proofs.relief.relief_of.Goals as goal
+use Rattle.fm_relief.proofs.relief.overfull_machines.Goals as goal
 
 pub overfull_machine-requires-clause-by_id : goal.overfull_machine-requires-clause-by_id
 overfull_machine-requires-clause-by_id c =
@@ -17,9 +17,9 @@ overfull_machine-requires-clause-by_id c =
     let i = c.loop-machine.machine-index in
     let e = c.loop-machine-item.result in
     let rest : drop i xs ≡ e ∷ drop (i + 1) xs = drop_more xs i e c.loop-machine-test.true ∙ ap (λ z. z ∷ drop (i + 1) xs) (sym c.loop-machine-item.is) in
-    let split = sym (c.pairs-pairs.ensures.pairs ∙ c.in_ok-machines.ensures) ∙ sym (take-append-drop i xs) ∙ ap (λ zs. take i xs ++ zs) rest in
+    let split = sym (c.pairs-pairs.ensures.pairs ∙ c.requires.machines) ∙ sym (take-append-drop i xs) ∙ ap (λ zs. take i xs ++ zs) rest in
     let found = row_met (excess_at k) k.machines (take i xs) (drop (i + 1) xs) e split in
-    subst (λ hs. Rises nat_cmp (map (λ h. h.task) hs)) (sym (c.in_ok-held.ensures e.0 e.1 found)) (on_rises k e.0 c.known.ensures.table.tasks.rising)
+    subst (λ hs. Rises nat_cmp (map (λ h. h.task) hs)) (sym (c.requires.held e.0 e.1 found)) (on_rises k e.0 c.known.ensures.table.tasks.rising)
 
 pub overfull_machine-requires-clause-all : goal.overfull_machine-requires-clause-all
 overfull_machine-requires-clause-all c =
@@ -28,9 +28,9 @@ overfull_machine-requires-clause-all c =
     let i = c.loop-machine.machine-index in
     let e = c.loop-machine-item.result in
     let rest : drop i xs ≡ e ∷ drop (i + 1) xs = drop_more xs i e c.loop-machine-test.true ∙ ap (λ z. z ∷ drop (i + 1) xs) (sym c.loop-machine-item.is) in
-    let split = sym (c.pairs-pairs.ensures.pairs ∙ c.in_ok-machines.ensures) ∙ sym (take-append-drop i xs) ∙ ap (λ zs. take i xs ++ zs) rest in
+    let split = sym (c.pairs-pairs.ensures.pairs ∙ c.requires.machines) ∙ sym (take-append-drop i xs) ∙ ap (λ zs. take i xs ++ zs) rest in
     let found = row_met (excess_at k) k.machines (take i xs) (drop (i + 1) xs) e split in
-    excess_held k e.0 e.1 found ∙ sum_on k e.0 c.known.ensures.table.tasks.rising ∙ ap all_requests (sym (c.in_ok-held.ensures e.0 e.1 found))
+    excess_held k e.0 e.1 found ∙ sum_on k e.0 c.known.ensures.table.tasks.rising ∙ ap all_requests (sym (c.requires.held e.0 e.1 found))
 
 pub loop-machine-preserved : goal.loop-machine-preserved
 loop-machine-preserved c =
@@ -39,9 +39,9 @@ loop-machine-preserved c =
     let i = c.loop-machine.machine-index in
     let e = c.loop-machine-item.result in
     let rest : drop i xs ≡ e ∷ drop (i + 1) xs = drop_more xs i e c.loop-machine-test.true ∙ ap (λ z. z ∷ drop (i + 1) xs) (sym c.loop-machine-item.is) in
-    let split = sym (c.pairs-pairs.ensures.pairs ∙ c.in_ok-machines.ensures) ∙ sym (take-append-drop i xs) ∙ ap (λ zs. take i xs ++ zs) rest in
+    let split = sym (c.pairs-pairs.ensures.pairs ∙ c.requires.machines) ∙ sym (take-append-drop i xs) ∙ ap (λ zs. take i xs ++ zs) rest in
     let found = row_met (excess_at k) k.machines (take i xs) (drop (i + 1) xs) e split in
-    let held : held_on c.in_ok-held.held e.0 ≡ tasks_on k e.0 = c.in_ok-held.ensures e.0 e.1 found in
+    let held : held_on c.args.held.now e.0 ≡ tasks_on k e.0 = c.requires.held e.0 e.1 found in
     let made : c.in_ok-overfull_machine.field-0 ≡ overfull_by k e = c.in_ok-overfull_machine.ensures ∙ (λ j. record { machine = e.0; held = e.1.held; nic = e.1.nic; preempts = preempted (held j) e.1.nic }) in
     let later = map (overfull_by k) (drop (i + 1) xs) in
     ap (λ zs. zs ++ later) c.in_ok-push.ensures.items
@@ -60,5 +60,5 @@ returns c =
     ∙ sym (append-nil c.loop-machine.found.items)
     ∙ ap (λ zs. c.loop-machine.found.items ++ map (overfull_by k) zs) (sym past)
     ∙ c.loop-machine.invariant
-    ∙ ap (map (overfull_by k)) (c.pairs-pairs.ensures.pairs ∙ c.in_ok-machines.ensures)
+    ∙ ap (map (overfull_by k)) (c.pairs-pairs.ensures.pairs ∙ c.requires.machines)
     ∙ relief_is k
