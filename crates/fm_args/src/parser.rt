@@ -146,7 +146,7 @@ fn follow<'a>(alloc: Global) -> Result<Command<'a>, OutOfMemory>
 fn stored<'a>(alloc: Global, command: Command<'a>) -> Result<Command<'a>, OutOfMemory>
     requires { (out-Command command).has_globals ≡ false }
     ensures app { IfOk result (λ c. app_of c
-        ≡ with_rule (with_rule (app_of command) (word_rule (codes "store"))) (word_rule (codes "store-label"))) }
+        ≡ with_rule (with_rule (app_of command.entry) (word_rule (codes "store"))) (word_rule (codes "store-label"))) }
     ensures local { IfOk result (λ c. (out-Command c).has_globals ≡ false) }
 {
     let stored = command.arg(store(alloc))?;

@@ -1,10 +1,10 @@
 //! The values of records: registers, progress, states, reports and spots. The versions differ in what ends a spec.
 
-ghost use Rattle.std.specs.Prelude.{◌≡◌, ◌++◌, Option, OnOk, cond};
+ghost use Rattle.std.specs.Prelude.{◌≡◌, ◌++◌, Option, Some, OnOk, cond, true};
 ghost use Rattle.fm_wire.specs.Grammar.{job, spec, optional_spec, has_of, task, phase, flag, state, report, parts, parts_of, machine, spot};
 ghost use Rattle.fm_wire.specs.declared.version.Version.TheVariants.{Fdg2};
 ghost use Rattle.fm_wire.specs.inner.Decoding.{DecodesTo};
-ghost use Rattle.fm_wire.specs.Formats.{bytes_of};
+ghost use Rattle.fm_wire.specs.Formats.{◌⨾◌, bytes_of, part};
 ghost use Rattle.std.specs.Int.{w8};
 
 use crate::codec::VersionedCodec;
@@ -202,12 +202,23 @@ fn put_parts(out: &mut Vec<u8>, known: &Parts) -> Result<(), OutOfMemory>
             put_u8(out, 2)?;
             put_report(out, &report.0)
         }
-        (Some(state), Some(report)) => {
-            put_u8(out, 3)?;
-            put_state(out, &state.0)?;
-            put_report(out, &report.0)
-        }
+        (Some(state), Some(report)) => put_both(out, &state.0, &report.0),
     }
+}
+
+// Adds the byte that says that both are there, and both.
+#[tactic(auto, unfolding(crate::specs::Grammar::parts))]
+fn put_both(
+    out: &mut Vec<u8>,
+    state_register: &MachineReg,
+    report_register: &Report,
+) -> Result<(), OutOfMemory>
+    ensures { OnOk result (out.new.items ≡ out.old.items
+        ++ parts.spell (Some state_register.now, Some report_register.now)) }
+{
+    put_u8(out, 3)?;
+    put_state(out, state_register)?;
+    put_report(out, report_register)
 }
 
 // The state, the report, or both, after a byte that says which follow.
@@ -225,12 +236,18 @@ fn parts_at(bytes: &[u8]) -> Result<(Parts, &[u8]), usize>
             let (report, rest) = report_at(rest)?;
             Ok((Both(Opt(None), Opt(Some(Max(report)))), rest))
         }
-        _ => {
-            let (state, rest) = state_at(rest)?;
-            let (report, rest) = report_at(rest)?;
-            Ok((Both(Opt(Some(Max(state))), Opt(Some(Max(report)))), rest))
-        }
+        _ => both_at(rest),
     }
+}
+
+// The state and the report.
+#[tactic(auto, unfolding(crate::specs::Grammar::parts))]
+fn both_at(bytes: &[u8]) -> Result<(Parts, &[u8]), usize>
+    ensures { DecodesTo (λ x. (x.0, x.1.now)) result ((part true state ⨾ part true report).read bytes.now) }
+{
+    let (state, rest) = state_at(bytes)?;
+    let (report, rest) = report_at(rest)?;
+    Ok((Both(Opt(Some(Max(state))), Opt(Some(Max(report)))), rest))
 }
 
 // Adds the spelling of the state.

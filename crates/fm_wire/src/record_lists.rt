@@ -3,7 +3,7 @@
 //! Keys that fall or repeat are a fault at the key. One reader of a record serves to check all of them, without
 //! allocating, and then to build the map of them.
 
-ghost use Rattle.std.specs.Prelude.{◌≡◌, ◌<◌, ◌^◌, ◌++◌, length, None, OnOk};
+ghost use Rattle.std.specs.Prelude.{◌≡◌, ◌<◌, ◌^◌, ◌++◌, [], length, None, OnOk};
 ghost use Rattle.fm_wire.specs.declared.version.Version.TheVariants.{Fdg2};
 ghost use Rattle.fm_wire.specs.Formats.{comes_after, key_at, record_at, records_at, records};
 ghost use Rattle.fm_wire.specs.inner.Decoding.{DecodesTo, Builds, rest_of};
@@ -123,6 +123,21 @@ fn records_at<K: Chain + Codec, V: Join + VersionedCodec>(
     ensures { Builds (λ x. (x.0, x.1.now)) result (records_at K.cmp K.format (V.format version) count None bytes.now) }
 {
     let mut map = JoinMap::new(alloc);
+    let rest = read_records(&mut map, version, count, bytes)?;
+    Ok((map, rest))
+}
+
+// Reads the given number of records into the map, which is empty, and gives the bytes after them.
+fn read_records<'a, K: Chain + Codec, V: Join + VersionedCodec>(
+    map: &mut JoinMap<K, V>,
+    version: Version,
+    count: u64,
+    bytes: &'a [u8],
+) -> Result<&'a [u8], DecodeError>
+    requires { map.old ≡ [] }
+    ensures { Builds (λ rest. (map.new, rest.now)) result
+        (records_at K.cmp K.format (V.format version) count None bytes.now) }
+{
     let mut last: Option<K> = None;
     let mut rest = bytes;
     for _ in 0..count {
@@ -131,5 +146,5 @@ fn records_at<K: Chain + Codec, V: Join + VersionedCodec>(
         last = Some(key);
         rest = after;
     }
-    Ok((map, rest))
+    Ok(rest)
 }

@@ -2,12 +2,12 @@ use Rattle.std.proofs.Common.{◌≡◌, ◌∷◌, ◌++◌, [], None, ◌∙�
 use Rattle.std.proofs.lemmas.Result.{err_from_is_err_and}
 use Rattle.fm_wire.specs.Formats.{records_at}
 use Rattle.fm_wire.proofs.Walks.{read_goes_on, read_ends, read_begins, read_done, end_begins, end_next, key_after, put_above}
-use Rattle.fm_wire.proofs.record_lists.records_at.Goals as goal
+use Rattle.fm_wire.proofs.record_lists.read_records.Goals as goal
 
 pub loop-init : goal.loop-init
 loop-init g c = record {
-  so_far = read_begins g.K.Ord.cmp g.K.Codec.format (g.V.VersionedCodec.format c.args.version) c.new-map.result c.args.count None c.args.bytes.now c.new-map.ensures;
-  end = end_begins g.K.Ord.cmp g.met.K.Ord.total None c.new-map.result c.new-map.ensures;
+  so_far = read_begins g.K.Ord.cmp g.K.Codec.format (g.V.VersionedCodec.format c.args.version) c.args.map.now c.args.count None c.args.bytes.now c.requires;
+  end = end_begins g.K.Ord.cmp g.met.K.Ord.total None c.args.map.now c.requires;
 }
 
 pub returns-in_err-key : goal.returns-in_err-key

@@ -1,7 +1,7 @@
 use Rattle.std.proofs.Common.{◌≡◌, ◌-◌, None}
 use Rattle.fm_wire.specs.Formats.{records_at}
 use Rattle.fm_wire.proofs.Walks.{with_front, IsEnd}
-use Rattle.fm_wire.proofs.record_lists.records_at.Given as goal
+use Rattle.fm_wire.proofs.record_lists.read_records.Given as goal
 
 abbrev pub invariant-loop : goal.invariant-loop
 invariant-loop g l =
