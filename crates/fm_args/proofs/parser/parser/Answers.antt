@@ -13,11 +13,7 @@ first n = with_commands (take n commands)
 
 pub returns : goal.returns
 returns c =
-<<<<<<< HEAD
-    let to_solve = c.with-to_solve.ensures (first 9) (command_app (codes "solve") (asks question.Solve)) c.up_to_recover.ensures c.solve.ensures.app c.solve.ensures.local in
-=======
     let to_solve = c.with-to_solve.ensures (first 9) (command_app (codes "solve") (asks question.Solve)) c.up_to_recover-to_recover.ensures c.solve.ensures.app c.solve.ensures.local in
->>>>>>> ddde9ff7aef06fd4b2768f8a0dba8a7d2b44c739
     let to_plan = c.with-to_plan.ensures (first 10) (command_app (codes "plan") (asks question.Plan)) to_solve c.plan.ensures.app c.plan.ensures.local in
     let to_unpack = c.with-to_unpack.ensures (first 11) (command_app (codes "unpack") (nothing (run unpack))) to_plan c.unpack.ensures.app c.unpack.ensures.local in
     let to_why = c.with-to_why.ensures (first 12) (command_app (codes "why") whys) to_unpack c.why.ensures.app c.why.ensures.local in
