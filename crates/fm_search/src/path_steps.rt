@@ -105,11 +105,6 @@ impl Paths {
         if count < self.rest.len() {
             return self.go_by_machines(request, cost);
         }
-        self.go_by_requests(request, cost)
-    }
-
-    // Goes on to each request of the rest that has tasks on a fresh machine.
-    fn go_by_requests(&mut self, request: usize, cost: i64) -> Tried<()> {
         let mut at = 0usize;
         for _ in 0..self.rest.len() {
             let Some(other) = self.rest.get(at).copied() else {
