@@ -246,20 +246,57 @@ pub(crate) fn instance_of(
     alloc: Global,
     numbered: &IndexedNetwork,
 ) -> Result<Option<(Instance, Numbers)>, OutOfMemory> {
-    let Some(outlines) = outlines_of(alloc, numbered)? else {
-        return Ok(None);
-    };
-    let order = order_of(alloc, &outlines)?;
-    let mut reading = Reading::of(alloc, numbered, &outlines, &order)?;
-    if !reading.add_tasks()? {
-        return Ok(None);
+    match outlines_of(alloc, numbered)? {
+        Some(outlines) => instance_by(alloc, numbered, &outlines),
+        None => Ok(None),
     }
-    let (instance, tasks) = reading.draft.finish(alloc)?;
+}
+
+// The same by what the arcs of machines say of each.
+fn instance_by(
+    alloc: Global,
+    numbered: &IndexedNetwork,
+    outlines: &[Outline],
+) -> Result<Option<(Instance, Numbers)>, OutOfMemory> {
+    let order = order_of(alloc, outlines)?;
+    match draft_of(alloc, numbered, outlines, &order)? {
+        Some(draft) => with_numbers(
+            draft.finish(alloc),
+            machines_of(alloc, &order),
+            rows_of(alloc, numbered),
+        ),
+        None => Ok(None),
+    }
+}
+
+// Machines, requests and tasks, as a draft. None if a task does not have the arcs of one of the policy.
+fn draft_of(
+    alloc: Global,
+    numbered: &IndexedNetwork,
+    outlines: &[Outline],
+    order: &[(i64, usize)],
+) -> Result<Option<Draft>, OutOfMemory> {
+    let mut reading = Reading::of(alloc, numbered, outlines, order)?;
+    let is_well = reading.add_tasks()?;
+    Ok(is_well.then_some(reading.draft))
+}
+
+// The machines in this order.
+fn machines_of(alloc: Global, order: &[(i64, usize)]) -> Result<Vec<usize>, OutOfMemory> {
     let mut machines = Vec::with_capacity(alloc, order.len())?;
-    for (_, machine) in &order {
+    for (_, machine) in order {
         machines.push(*machine)?;
     }
-    let rows = rows_of(alloc, numbered)?;
+    Ok(machines)
+}
+
+// The instance, with what its numbers stand for, if nothing is lacking.
+fn with_numbers(
+    finished: Result<(Instance, TaskNumbers), OutOfMemory>,
+    machines: Result<Vec<usize>, OutOfMemory>,
+    rows: Result<Vec<usize>, OutOfMemory>,
+) -> Result<Option<(Instance, Numbers)>, OutOfMemory> {
+    let (machines, rows, (instance, tasks)) = (machines?, rows?, finished?);
     let numbers = Numbers {
         machines,
         rows,

@@ -7,10 +7,11 @@ ghost use Rattle.std.specs.Prelude.{IfOk, IfSome};
 ghost use Rattle.fm_indexed.specs.Feasible.{IsFlowOf};
 
 use crate::assignment_units::{costs_of, units_of};
-use crate::network_instance::instance_of;
+use crate::network_instance::{Numbers, instance_of};
 use fm_indexed::feasible_units::is_feasible;
 use fm_indexed::indexed_network::IndexedNetwork;
 use fm_lattice::join::OutOfMemory;
+use fm_search::assignment::Assignment;
 use fm_search::search::search;
 use std::alloc::Global;
 
@@ -25,16 +26,49 @@ pub fn searched(
     ensures { IfOk result (λ found. IfSome found
         (λ r. IsFlowOf numbered.now.places numbered.now.arcs.items r.0.items)) }
 {
-    let Some((instance, numbers)) = instance_of(alloc, numbered)? else {
-        return Ok(None);
-    };
-    let Some(assignment) = search(alloc, instance)? else {
-        return Ok(None);
-    };
-    let units = units_of(alloc, numbered, &assignment, &numbers)?;
+    match assigned(alloc, numbered)? {
+        Some((assignment, numbers)) => flow_by(alloc, numbered, &assignment, &numbers),
+        None => Ok(None),
+    }
+}
+
+// Where the search sends the tasks of the network, and what its numbers stand for. None if it gives up, or if the network is not
+// one of the policy.
+fn assigned(
+    alloc: Global,
+    numbered: &IndexedNetwork,
+) -> Result<Option<(Assignment, Numbers)>, OutOfMemory> {
+    match instance_of(alloc, numbered)? {
+        Some((instance, numbers)) => with_numbers(search(alloc, instance), numbers),
+        None => Ok(None),
+    }
+}
+
+// What the search found, with what the numbers stand for, if it found something.
+fn with_numbers(
+    found: Result<Option<Assignment>, OutOfMemory>,
+    numbers: Numbers,
+) -> Result<Option<(Assignment, Numbers)>, OutOfMemory> {
+    match found? {
+        Some(assignment) => Ok(Some((assignment, numbers))),
+        None => Ok(None),
+    }
+}
+
+// The units of the flow that the assignment makes, with the costs. None if it makes none.
+fn flow_by(
+    alloc: Global,
+    numbered: &IndexedNetwork,
+    assignment: &Assignment,
+    numbers: &Numbers,
+) -> Result<Option<(Vec<u64>, Vec<i64>)>, OutOfMemory>
+    ensures { IfOk result (λ found. IfSome found
+        (λ r. IsFlowOf numbered.now.places numbered.now.arcs.items r.0.items)) }
+{
+    let units = units_of(alloc, numbered, assignment, numbers)?;
     if !is_feasible(alloc, numbered, &units)? {
         return Ok(None);
     }
-    let costs = costs_of(alloc, numbered, &assignment, &numbers)?;
+    let costs = costs_of(alloc, numbered, assignment, numbers)?;
     Ok(Some((units, costs)))
 }

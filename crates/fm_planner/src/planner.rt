@@ -12,12 +12,13 @@ use crate::claim::Claim;
 use crate::claim_of_assignment::claim_of;
 use crate::move_counts::Counts;
 use crate::plan_of_moves::plan_of;
-use crate::tally_instance::instance_of;
+use crate::tally_instance::{Names, instance_of};
 use fm_know::knowledge::Knowledge;
 use fm_know::laws::law_can_be;
 use fm_lattice::join::OutOfMemory;
 use fm_paths::laws::law_moves;
 use fm_round::plan::Plan;
+use fm_search::assignment::Assignment;
 use fm_search::search::search;
 use fm_tally::tally::Tally;
 use std::alloc::Global;
@@ -36,16 +37,29 @@ pub fn plan_of_tally(
     requires { TallyIsFor knowledge.now tally.now }
     ensures { IfOk result (λ found. IfSome found (IsPlanOf knowledge.now)) }
 {
+    match claim_for(alloc, tally, knowledge)? {
+        Some(claim) => plan_by(alloc, tally, knowledge, &claim),
+        None => Ok(None),
+    }
+}
+
+// The plan of the moves of the claim. None if it does not pass the check.
+fn plan_by(
+    alloc: Global,
+    tally: &Tally,
+    knowledge: &Knowledge,
+    claim: &Claim,
+) -> Result<Option<Plan>, OutOfMemory>
+    requires { TallyIsFor knowledge.now tally.now }
+    ensures { IfOk result (λ found. IfSome found (IsPlanOf knowledge.now)) }
+{
     law_can_be(knowledge);
     law_moves();
     // The tasks are in memory, so there are fewer than 2^63: the check counts them.
     let _few = knowledge.tasks().len();
-    let Some(claim) = claim_for(alloc, tally, knowledge)? else {
-        return Ok(None);
-    };
     let moves = claim.moves.pairs();
     let counts = Counts::of(alloc, knowledge, moves)?;
-    if !passes(alloc, knowledge, tally, &claim, &counts)? {
+    if !passes(alloc, knowledge, tally, claim, &counts)? {
         return Ok(None);
     }
     let plan = plan_of(alloc, knowledge, moves)?;
@@ -59,7 +73,17 @@ fn claim_for(
     knowledge: &Knowledge,
 ) -> Result<Option<Claim>, OutOfMemory> {
     let (instance, names) = instance_of(alloc, knowledge, tally)?;
-    let Some(assignment) = search(alloc, instance)? else {
+    claim_found(alloc, tally, search(alloc, instance), names)
+}
+
+// The claim of what the search found, if it found something.
+fn claim_found(
+    alloc: Global,
+    tally: &Tally,
+    found: Result<Option<Assignment>, OutOfMemory>,
+    names: Names,
+) -> Result<Option<Claim>, OutOfMemory> {
+    let Some(assignment) = found? else {
         return Ok(None);
     };
     let claim = claim_of(alloc, tally, &assignment, names)?;

@@ -47,18 +47,8 @@ pub(crate) fn instance_of(
 ) -> Result<(Instance, Names), OutOfMemory> {
     let order = order_of(alloc, tally)?;
     let mut listing = Listing::of(alloc, numbers_of(alloc, tally, &order)?);
-    let machines = listing.add_machines(alloc, tally, &order)?;
-    listing.call_roll(tally)?;
-    listing.add_waiting(knowledge, tally)?;
-    let (instance, tasks) = listing.draft.finish(alloc)?;
-    let names = Names {
-        numbers: listing.numbers,
-        machines,
-        requests: listing.requests,
-        tasks,
-        holders: listing.holders,
-    };
-    Ok((instance, names))
+    let machines = listing.add_all(alloc, knowledge, tally, &order)?;
+    listing.finish(alloc, machines)
 }
 
 // The machines' places in the tally, by load.
@@ -109,6 +99,37 @@ impl Listing {
             holders: Vec::new(alloc),
             idle: Vec::new(alloc),
         }
+    }
+
+    // Adds machines, requests and tasks. Answers the machines by number.
+    fn add_all(
+        &mut self,
+        alloc: Global,
+        knowledge: &Knowledge,
+        tally: &Tally,
+        order: &[(u128, usize)],
+    ) -> Result<Vec<MachineId>, OutOfMemory> {
+        let machines = self.add_machines(alloc, tally, order)?;
+        self.call_roll(tally)?;
+        self.add_waiting(knowledge, tally)?;
+        Ok(machines)
+    }
+
+    // The instance of what was added, and what its numbers stand for.
+    fn finish(
+        self,
+        alloc: Global,
+        machines: Vec<MachineId>,
+    ) -> Result<(Instance, Names), OutOfMemory> {
+        let (instance, tasks) = self.draft.finish(alloc)?;
+        let names = Names {
+            numbers: self.numbers,
+            machines,
+            requests: self.requests,
+            tasks,
+            holders: self.holders,
+        };
+        Ok((instance, names))
     }
 
     // Adds the machines in this order, and answers them by number.

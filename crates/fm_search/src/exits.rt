@@ -69,17 +69,6 @@ impl Exits {
         })
     }
 
-    // Begins a search of the whole tree, which has so many leaves.
-    fn begin(&mut self, width: usize, roomy: usize, below: i64) -> Tried<()> {
-        let root = Branch {
-            node: 1,
-            first: 0,
-            width,
-        };
-        self.branches.clear();
-        self.put_off(root, roomy, below)
-    }
-
     // Searches the branch later, if it has leaves among the first so many and may be cheaper.
     fn put_off(&mut self, branch: Branch, roomy: usize, below: i64) -> Tried<()> {
         let is_cheaper = self.kept.at(branch.node) > below.saturating_neg();
@@ -170,30 +159,24 @@ impl Board {
     // and the cheapest next slot.
     fn kept_exit(&mut self, request: usize, roomy: usize, free: Exit) -> Tried<Exit> {
         let mut exit = free;
-        let width = self.exits.kept.width();
-        self.exits.begin(width, roomy, exit.price)?;
-        for _ in 0..width.saturating_mul(2) {
+        let root = Branch {
+            node: 1,
+            first: 0,
+            width: self.exits.kept.width(),
+        };
+        self.exits.branches.clear();
+        self.exits.put_off(root, roomy, exit.price)?;
+        for _ in 0..root.width.saturating_mul(2) {
             let Some(branch) = self.exits.branches.pop() else {
                 break;
             };
-            exit = self.search_branch(request, branch, roomy, exit)?;
+            if branch.width > 1 {
+                self.exits.divide(branch, roomy, exit.price)?;
+            } else {
+                exit = self.cheaper_exit(request, branch, exit);
+            }
         }
         Ok(exit)
-    }
-
-    // The cheaper of the exit and the machine at the branch, if that is a leaf. If it is none, its halves are searched later.
-    fn search_branch(
-        &mut self,
-        request: usize,
-        branch: Branch,
-        roomy: usize,
-        exit: Exit,
-    ) -> Tried<Exit> {
-        if branch.width > 1 {
-            self.exits.divide(branch, roomy, exit.price)?;
-            return Ok(exit);
-        }
-        Ok(self.cheaper_exit(request, branch, exit))
     }
 
     // The cheaper of the exit and the machine at the leaf, if that has room for the request.

@@ -68,28 +68,15 @@ impl Board {
             return Ok(());
         }
         let full = self.full.machines.len();
-        if !self.set_full(machine, full) {
+        let Some(slots) = self.slots.get_mut(machine) else {
+            return Ok(());
+        };
+        if slots.free > 0 || slots.full != NONE {
             return Ok(());
         }
+        slots.full = full;
         self.full.machines.push(machine)?;
         self.movable.add_full(machine, full)?;
-        self.mark_all(machine, count)
-    }
-
-    // Gives the machine its number among the full ones. Answers whether it is full, and had none.
-    fn set_full(&mut self, machine: usize, full: usize) -> bool {
-        let Some(slots) = self.slots.get_mut(machine) else {
-            return false;
-        };
-        let is_new = slots.free <= 0 && slots.full == NONE;
-        if is_new {
-            slots.full = full;
-        }
-        is_new
-    }
-
-    // Brings the bits of a full machine up to date for each request with tasks there, of which there are so many.
-    fn mark_all(&mut self, machine: usize, count: usize) -> Tried<()> {
         for place in 0..count {
             self.mark(self.share(machine, place).request, machine)?;
         }

@@ -148,39 +148,24 @@ fn place_task(paths: &mut Paths, task: usize) -> Tried<()> {
     if least >= preferring.worth || !paths.may_go_on() {
         return Ok(());
     }
-    if place_at(&mut paths.board, task, least)? {
-        return Ok(());
+    let machine = slot_at(&paths.board, task, least);
+    if machine != NONE {
+        paths.board.move_task(task, Destination::Straight(machine))?;
+        return paths.board.take(machine, 1);
+    }
+    if paths.board.request_label(preferring.request) == least {
+        let exit = paths.board.exit(preferring.request)?;
+        if exit.price == least {
+            paths.board.move_task(task, Destination::ByRequest)?;
+            paths.board.add_units(preferring.request, exit.machine, 1)?;
+            return paths.board.take(exit.machine, 1);
+        }
     }
     paths.search_for_task(task, preferring.worth)?;
-    send_over(paths, 1)?;
+    if paths.end != End::Stay && paths.may_go_on() {
+        paths.send(1)?;
+    }
     Ok(())
-}
-
-// Places a task that prefers machines at a next slot, if one costs it no more than that. Answers whether it did.
-fn place_at(board: &mut Board, task: usize, least: i64) -> Tried<bool> {
-    let machine = slot_at(board, task, least);
-    if machine != NONE {
-        board.move_task(task, Destination::Straight(machine))?;
-        board.take(machine, 1)?;
-        return Ok(true);
-    }
-    let request = board.instance.task(task).request;
-    if board.request_label(request) != least {
-        return Ok(false);
-    }
-    place_by_request(board, task, request, least)
-}
-
-// Places it where its request sends it, if that costs no more than that. Answers whether it did.
-fn place_by_request(board: &mut Board, task: usize, request: usize, least: i64) -> Tried<bool> {
-    let exit = board.exit(request)?;
-    if exit.price != least {
-        return Ok(false);
-    }
-    board.move_task(task, Destination::ByRequest)?;
-    board.add_units(request, exit.machine, 1)?;
-    board.take(exit.machine, 1)?;
-    Ok(true)
 }
 
 // The machine of its choice whose next slot costs the task no more than that.

@@ -27,9 +27,19 @@ pub fn search(alloc: Global, instance: Instance) -> Result<Option<Assignment>, O
 
 // Where the tasks go by searches for paths, if these come to their ends.
 fn answer_of(alloc: Global, mut paths: Paths) -> Result<Option<Assignment>, OutOfMemory> {
-    if !place_all(alloc, &mut paths)? {
+    let is_done = place_all(alloc, &mut paths);
+    answer_if(alloc, is_done, paths.into_board())
+}
+
+// What was placed on the board, if the searches came to their ends.
+fn answer_if(
+    alloc: Global,
+    is_done: Result<bool, OutOfMemory>,
+    board: Board,
+) -> Result<Option<Assignment>, OutOfMemory> {
+    if !is_done? {
         return Ok(None);
     }
-    let answer = assignment_of(alloc, paths.into_board())?;
+    let answer = assignment_of(alloc, board)?;
     Ok(Some(answer))
 }

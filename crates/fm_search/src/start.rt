@@ -133,28 +133,18 @@ impl Board {
 
     // Frees the slots of machines that no held task has. The label of a machine is the price of its next slot.
     fn open(&mut self, alloc: Global) -> Tried<()> {
-        let spares = self.opened(alloc)?;
-        self.exits.free = Tree::of(alloc, &spares)?;
-        Ok(())
-    }
-
-    // The same. Answers of each machine its spare, if it has a free slot.
-    fn opened(&mut self, alloc: Global) -> Tried<Vec<i64>> {
         let mut spares = Vec::with_capacity(alloc, self.instance.machines.len())?;
         for number in 0..self.instance.machines.len() {
-            spares.push(self.open_machine(alloc, number)?)?;
+            let machine = self.instance.machine(number);
+            let slots = slots_of(&self.instance, &machine);
+            self.slots.push(slots)?;
+            self.shares.push(Vec::new(alloc))?;
+            self.machine_labels.push(slots.price)?;
+            let spare = if slots.free > 0 { machine.spare } else { LEAST };
+            spares.push(spare)?;
         }
-        Ok(spares)
-    }
-
-    // The same of one machine.
-    fn open_machine(&mut self, alloc: Global, number: usize) -> Tried<i64> {
-        let machine = self.instance.machine(number);
-        let slots = slots_of(&self.instance, &machine);
-        self.slots.push(slots)?;
-        self.shares.push(Vec::new(alloc))?;
-        self.machine_labels.push(slots.price)?;
-        Ok(if slots.free > 0 { machine.spare } else { LEAST })
+        self.exits.free = Tree::of(alloc, &spares)?;
+        Ok(())
     }
 
     // Ranks the machines by falling spare. Of each request it is known how many of them have bandwidth for it.

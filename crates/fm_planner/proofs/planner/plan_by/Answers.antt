@@ -7,13 +7,13 @@ use Rattle.fm_paths.specs.Moves.{plan_of_moves}
 use Rattle.fm_planner.specs.inner.Claims.{offer_of}
 use Rattle.fm_planner.specs.inner.Counts.{AreCounts}
 use Rattle.fm_planner.proofs.Shown.{price_of, are_moves, fit_moves, are_fair, go_in_turn}
-use Rattle.fm_planner.proofs.planner.plan_of_tally.Goals as goal
+use Rattle.fm_planner.proofs.planner.plan_by.Goals as goal
 
 pub returns : goal.returns
 returns c =
     let k = c.args.knowledge.now in
     let tally = c.args.tally.now in
-    let claim = c.in-Some.claim in
+    let claim = c.args.claim.now in
     let counts = c.in_ok-counts.counts in
     let same = c.pairs-moves.ensures.pairs in
     let rises = subst (IsRising nat_cmp) same c.pairs-moves.ensures.rising in
