@@ -1,10 +1,11 @@
 """How the gate's tasks are laid out over processors and memory.
 
-Proofs come first, and of these the one with the most minutes of others behind it. Each further job of a proof costs a fifth more work, so it
-gets two, and more only if fewer other proofs could run than there are processors, or if its chain takes longer than the processors take for
-all that is left. The other proofs share what is left, at a lower priority, so they do not hold the first one up. Wrong bodies and tests run
-at a still lower one in what the proofs leave free. What mostly waits runs beside these, and takes no processor's place. A task without work
-ends at once. Minutes are those of budget.json, or estimated by lines.
+Proofs come first, and of these the one with the most minutes of others behind it. Each further job of a proof costs a fifth more work. So the
+first proof gets a second one only if its chain, with one job for each proof, takes longer than the processors take for all that is left, and
+all processors if the chain takes longer even so. It gets more, too, if fewer other proofs could run than there are processors. The other
+proofs share what is left, at a lower priority, so they do not hold the first one up. Wrong bodies and tests run at a still lower one in what
+the proofs leave free. What mostly waits runs beside these, and takes no processor's place. A task without work ends at once. Minutes are those
+of budget.json, or estimated by lines.
 """
 import contextlib
 import os
@@ -18,7 +19,7 @@ OF_A_LINE, WITH_ALL = 0.0025, 0.6
 # what a further job takes of the memory of the first, and what tasks take at most of the memory that the toolchain reckons, as measured: half
 # of it and less over libraries of statements
 OF_A_JOB, OF_RECKONED = 0.25, 0.6
-# the jobs of the first proof while other proofs keep the processors busy
+# the jobs of the first proof if its chain would take longest with one, while other proofs keep the processors busy
 FIRST = 2
 # the tasks that mostly wait: the tests with a broker take a minute and a half of a processor in four, and those on Slurm 20 s in two
 IDLE = {("tests/run", group) for group in ("brokered", "brokered_lasting", "brokered_rounds", "slurm", "slurm_standby", "slurm_parted")}
@@ -58,16 +59,17 @@ class Lanes:
         """Whether a proof has a longer chain behind it than all others that run or are ready."""
         return all(self.behind[key] > self.behind[it] for it in (*self.running, *ready) if is_proof(it) and it != key)
 
-    def is_last(self, key):
-        """Whether the chain of a proof takes longer than the processors take for all work that is left."""
-        return self.behind[key] * self.processors >= sum(self.own[it] for it in (*self.left, *self.running))
+    def is_last(self, key, share=1.0):
+        """Whether the chain of a proof, in such a share of the minutes, takes longer than the processors take for all work that is left."""
+        return self.behind[key] * share * self.processors >= sum(self.own[it] for it in (*self.left, *self.running))
 
     def jobs(self, key, ready, room):
-        """How many jobs a proof gets: two or more if it is the first, as above, and else its share."""
+        """How many jobs a proof gets: as above if it is the first, and else its share."""
         others = [it for it in (*self.running, *ready) if is_proof(it) and it != key]
         wanted = self.processors // (1 + len(others))
         if self.is_first(key, ready):
-            wanted = self.processors if self.is_last(key) else max(FIRST, self.processors - len(others))
+            least = FIRST if self.is_last(key, 1 / WITH_ALL) else 1
+            wanted = self.processors if self.is_last(key) else max(least, self.processors - len(others))
         most = 1 + int((room / self.tasks[key][2] - 1) / OF_A_JOB)
         return max(1, min(wanted, most, 4))
 

@@ -101,7 +101,9 @@ def laid_out():
     for number in range(5):
         made.add(f"crate{number}", "proof")
     made.run(minutes=minutes)
-    yield "but two at least", made.jobs["alone", "proof"] == 2
+    yield "but one at least", made.jobs["alone", "proof"] == 1
+    made.run(minutes={**minutes, ("tests", "tests"): 9})
+    yield "and two if its chain would take longest with one", made.jobs["alone", "proof"] == 2
     made.run(minutes={**minutes, ("alone", "proof"): 900})
     yield "and all if its chain takes longest", made.jobs["alone", "proof"] == 4
     made = Tasks()
