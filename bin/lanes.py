@@ -64,8 +64,8 @@ class Lanes:
         return self.behind[key] * share * self.processors >= sum(self.own[it] for it in (*self.left, *self.running))
 
     def jobs(self, key, ready, room):
-        """How many jobs a proof gets: as above if it is the first, and else its share."""
-        others = [it for it in (*self.running, *ready) if is_proof(it) and it != key]
+        """How many jobs a proof gets: as above if it is the first, and else its share. Proofs without work end at once, and take none."""
+        others = [it for it in (*self.running, *ready) if is_proof(it) and it != key and self.tasks[it][1]]
         wanted = self.processors // (1 + len(others))
         if self.is_first(key, ready):
             least = FIRST if self.is_last(key, 1 / WITH_ALL) else 1

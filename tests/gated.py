@@ -107,6 +107,13 @@ def laid_out():
     made.run(minutes={**minutes, ("alone", "proof"): 900})
     yield "and all if its chain takes longest", made.jobs["alone", "proof"] == 4
     made = Tasks()
+    made.add("alone", "proof")
+    made.add("tests", "tests")
+    for number in range(5):
+        made.add(f"crate{number}", "proof", lines=0)
+    made.run(minutes={("alone", "proof"): 5, ("tests", "tests"): 90})
+    yield "proofs without work are no others", made.jobs["alone", "proof"] == 4
+    made = Tasks()
     for number in range(4):
         made.add(f"crate{number}", "proof")
     made.run(minutes={("crate2", "proof"): 5})
