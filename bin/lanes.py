@@ -59,9 +59,10 @@ class Lanes:
         """Whether a proof has a longer chain behind it than all others that run or are ready."""
         return all(self.behind[key] > self.behind[it] for it in (*self.running, *ready) if is_proof(it) and it != key)
 
-    def is_last(self, key, share=1.0):
-        """Whether the chain of a proof, in such a share of the minutes, takes longer than the processors take for all work that is left."""
-        return self.behind[key] * share * self.processors >= sum(self.own[it] for it in (*self.left, *self.running))
+    def is_last(self, key, times=1.0):
+        """Whether the chain of a proof, if it took so many times its minutes, would take longer than the processors take for all that is
+        left."""
+        return self.behind[key] * times * self.processors >= sum(self.own[it] for it in (*self.left, *self.running))
 
     def jobs(self, key, ready, room):
         """How many jobs a proof gets: as above if it is the first, and else its share. Proofs without work end at once, and take none."""
