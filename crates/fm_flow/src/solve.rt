@@ -26,9 +26,8 @@ use std::alloc::Global;
 /// A least flow of the network, and potentials that certify it. The caller must pass a network that the policy can
 /// build. Refused if memory runs out, and for nothing else.
 ///
-/// A heuristic places the tasks; then cycles of negative cost are cancelled until none is left (Klein, 1967). O(arcs
-/// log arcs), and the cost of the heuristic: some searches between requests for each class of tasks, or the pivots of
-/// a network simplex if tasks prefer machines. If its flow is not least, each search for cycles takes O(nodes * arcs)
+/// A search places the tasks (`fm_search`); then cycles of negative cost are cancelled until none is left (Klein, 1967).
+/// O(arcs log arcs), and what the search takes. If its flow is not least, each search for cycles takes O(nodes * arcs)
 /// at worst. Memory O(nodes + arcs).
 pub fn solve(alloc: Global, network: &Network) -> Result<(Flow, Potentials), Refusal>
     requires built { IsBuilt network.now }

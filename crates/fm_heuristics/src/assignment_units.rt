@@ -1,6 +1,6 @@
 //! From the assignment of a search to the units of a network's arcs, and to what a unit costs from each node.
 
-use crate::classes::drain;
+use crate::drain::drain;
 use crate::lenient::{part, put};
 use crate::network_instance::Numbers;
 use fm_cycles::lookup::value_or;

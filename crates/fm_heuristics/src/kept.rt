@@ -3,7 +3,7 @@
 //! A flow does not say which of the units that a request sends on is whose. So a task with a unit on its arc to a
 //! request takes up any unit there that no task has taken up yet. A cursor of each request passes each arc once.
 
-use crate::classes::drain;
+use crate::drain::drain;
 use crate::lenient::put;
 use crate::node_arcs::{arcs_between, arcs_of_node, first_from};
 use fm_cycles::indexed_arcs::IndexedArc;

@@ -6,23 +6,13 @@
 #![tactic(auto)]
 
 mod assignment_units;
-mod classes;
-mod contracted;
 mod distances;
+mod drain;
 pub mod first;
 mod given;
-mod groups;
 mod kept;
-mod knot;
 mod lenient;
-mod link;
 mod network_instance;
 mod node_arcs;
-mod pivots;
-mod pricing;
 pub mod resumed;
 pub mod searched;
-pub mod simplex;
-mod spanning_tree;
-mod spread;
-mod task_classes;

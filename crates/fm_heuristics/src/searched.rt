@@ -12,7 +12,7 @@ use fm_indexed::feasible_units::is_feasible;
 use fm_indexed::indexed_network::IndexedNetwork;
 use fm_lattice::join::OutOfMemory;
 use fm_search::assignment::Assignment;
-use fm_search::search::search;
+use fm_search::search::{MOST_LOOKS, search_within};
 use std::alloc::Global;
 
 /// The units of a flow of the network, and the cost of a unit from each node that is no task to the sink. None if the
@@ -26,7 +26,19 @@ pub fn searched(
     ensures { IfOk result (λ found. IfSome found
         (λ r. IsFlowOf numbered.now.places numbered.now.arcs.items r.0.items)) }
 {
-    match assigned(alloc, numbered)? {
+    searched_within(alloc, numbered, MOST_LOOKS)
+}
+
+/// As `searched`, and gives up if the search would look at more than so many nodes for each task, machine and request.
+pub fn searched_within(
+    alloc: Global,
+    numbered: &IndexedNetwork,
+    most: usize,
+) -> Result<Option<(Vec<u64>, Vec<i64>)>, OutOfMemory>
+    ensures { IfOk result (λ found. IfSome found
+        (λ r. IsFlowOf numbered.now.places numbered.now.arcs.items r.0.items)) }
+{
+    match assigned(alloc, numbered, most)? {
         Some((assignment, numbers)) => flow_by(alloc, numbered, &assignment, &numbers),
         None => Ok(None),
     }
@@ -37,9 +49,10 @@ pub fn searched(
 fn assigned(
     alloc: Global,
     numbered: &IndexedNetwork,
+    most: usize,
 ) -> Result<Option<(Assignment, Numbers)>, OutOfMemory> {
     match instance_of(alloc, numbered)? {
-        Some((instance, numbers)) => with_numbers(search(alloc, instance), numbers),
+        Some((instance, numbers)) => with_numbers(search_within(alloc, instance, most), numbers),
         None => Ok(None),
     }
 }

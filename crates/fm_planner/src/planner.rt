@@ -25,7 +25,7 @@ use std::alloc::Global;
 
 /// A plan of a least flow of the network of what is known, which is not built. The caller must pass the tally of what is known.
 /// A search comes to moves and prices, and a check decides whether these make a least flow, by complementary slackness. There is
-/// no plan if the check decides that they do not, or if the search gives up: if it would look at more than 128 nodes for each task,
+/// no plan if the check decides that they do not, or if the search gives up: if it would look at more than 4,096 nodes for each task,
 /// machine and request, or if there are more than 2^26 pairs of a request and a machine. Then a plan of the network is for the caller
 /// to make. Only memory is refused. O(n log n) in the tasks and machines, a bit for each machine and request, and a search over
 /// requests and full machines for about each machine that fills up.

@@ -15,7 +15,6 @@ use fm_flow::flow::Flow;
 use fm_flow::solve::{solve, solve_from};
 use fm_heuristics::first::first_flow;
 use fm_heuristics::searched::searched;
-use fm_heuristics::simplex::simplex;
 use fm_indexed::indexed_network::IndexedNetwork;
 use fm_indexed::unscheduled::law_unscheduled;
 use fm_know::knowledge::Knowledge;
@@ -92,19 +91,6 @@ pub(crate) fn cycles_after_first(alloc: Global, network: &Network) -> Result<usi
     law_unscheduled();
     let numbered = IndexedNetwork::of(alloc, network)?;
     let (units, _) = first_flow(alloc, &numbered)?;
-    let count = cycles(alloc, numbered.places.end, &numbered.arcs, units)?;
-    Ok(count)
-}
-
-/// The result of the simplex on a network: how many cycles are cancelled after it, at most 1,000.
-pub(crate) fn cycles_after_simplex(alloc: Global, network: &Network) -> Result<usize, Refusal>
-    requires { IsBuilt network.now }
-{
-    network.known();
-    let numbered = IndexedNetwork::of(alloc, network)?;
-    let Some((units, _costs)) = simplex(alloc, &numbered)? else {
-        return Ok(MANY);
-    };
     let count = cycles(alloc, numbered.places.end, &numbered.arcs, units)?;
     Ok(count)
 }

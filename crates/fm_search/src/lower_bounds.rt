@@ -7,7 +7,7 @@ use crate::Tried;
 use crate::assignment::Destination;
 use crate::board::Board;
 use crate::costs::{NONE, cost_at, lower};
-use crate::movable::Entry;
+use crate::movable::{Entry, Successor};
 
 impl Board {
     /// What a unit of the request costs at least.
@@ -18,6 +18,19 @@ impl Board {
     /// What a unit at the machine costs at least.
     pub(crate) fn machine_label(&self, machine: usize) -> i64 {
         cost_at(&self.machine_labels, machine)
+    }
+
+    /// The node to which a step of such a cost leads. Requests are the first nodes, and machines come behind them.
+    pub(crate) fn successor(&self, node: usize, cost: i64) -> Successor {
+        let label = match node.checked_sub(self.instance.requests.len()) {
+            Some(machine) => self.machine_label(machine),
+            None => self.request_label(node),
+        };
+        Successor {
+            node,
+            cost,
+            least: cost.saturating_add(label),
+        }
     }
 
     /// What the machine's next unit costs at least: its next slot, or sending on what was placed there.
@@ -54,6 +67,25 @@ impl Board {
         least
     }
 
+    /// The entry of a task that prefers machines, and saves so much where it is.
+    pub(crate) fn entry_of(&self, task: usize, gain: i64) -> Entry {
+        let preferring = self.instance.task(task);
+        let destination = self.movable.destination(task);
+        let mut entry = Entry::new(task, gain, gain.saturating_add(preferring.worth));
+        if destination != Destination::ByRequest {
+            entry.add(self.successor(preferring.request, gain));
+        }
+        let requests = self.instance.requests.len();
+        for choice in self.instance.choices_of(&preferring) {
+            if destination != Destination::Straight(choice.machine) {
+                let node = requests.saturating_add(choice.machine);
+                entry.add(self.successor(node, gain.saturating_sub(choice.gain)));
+            }
+        }
+        entry.renew_key();
+        entry
+    }
+
     /// Moves a task that prefers machines to the destination.
     pub(crate) fn move_task(&mut self, task: usize, destination: Destination) -> Tried<()> {
         let request = self.instance.task(task).request;
@@ -63,8 +95,9 @@ impl Board {
             Destination::Straight(machine) => self.instance.gain(task, machine),
             _ => 0,
         };
-        let key = gain.saturating_add(self.elsewhere(task));
-        self.movable.put_in(request, Entry { key, gain, task })?;
+        let entry = self.entry_of(task, gain);
+        let key = entry.key;
+        self.movable.put_in(request, entry)?;
         match destination {
             Destination::Nowhere => (),
             Destination::ByRequest => lower(&mut self.movable.by_request, request, key),

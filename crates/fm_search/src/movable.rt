@@ -2,19 +2,72 @@
 //!
 //! Such a task is in a list of its machine, or of its request. Beside it stands its key, which is no more than
 //! what a unit costs that takes its place and sends it elsewhere. The least key of a list, and the least ones
-//! of 64 lists, are kept too, so that a search does not look at tasks that it has no reason to move.
+//! of 64 lists, are kept too, so that a search does not look at tasks that it has no reason to move. The two cheapest
+//! nodes to which the task may go on stand there as well, since in most searches no other one is of use.
 
 use crate::Tried;
 use crate::assignment::Destination;
 use crate::costs::{FAR, NONE, cost_at, lower, put};
 use std::alloc::Global;
 
-/// A task in a list, with its key and what it saves there.
+/// A node to which a task may go on, what the step there costs, and what that with all that follows costs at least.
+#[derive(Clone, Copy, Drop)]
+pub(crate) struct Successor {
+    pub(crate) node: usize,
+    pub(crate) cost: i64,
+    pub(crate) least: i64,
+}
+
+// No node.
+const NO_SUCCESSOR: Successor = Successor {
+    node: NONE,
+    cost: FAR,
+    least: FAR,
+};
+
+/// A task in a list, with its key and what it saves there, its two cheapest successors, and what all else costs at least.
 #[derive(Clone, Copy, Drop)]
 pub(crate) struct Entry {
     pub(crate) key: i64,
     pub(crate) gain: i64,
     pub(crate) task: usize,
+    pub(crate) first: Successor,
+    pub(crate) second: Successor,
+    pub(crate) rest: i64,
+}
+
+impl Entry {
+    /// The task that saves so much there and has no successors: to wait again costs so much.
+    pub(crate) fn new(task: usize, gain: i64, rest: i64) -> Entry {
+        Entry {
+            key: rest,
+            gain,
+            task,
+            first: NO_SUCCESSOR,
+            second: NO_SUCCESSOR,
+            rest,
+        }
+    }
+
+    /// Adds a successor.
+    pub(crate) fn add(&mut self, added: Successor) {
+        if added.least >= self.second.least {
+            self.rest = self.rest.min(added.least);
+            return;
+        }
+        self.rest = self.rest.min(self.second.least);
+        if added.least < self.first.least {
+            self.second = self.first;
+            self.first = added;
+        } else {
+            self.second = added;
+        }
+    }
+
+    /// Has the key say what the cheapest of all costs at least.
+    pub(crate) fn renew_key(&mut self) {
+        self.key = self.rest.min(self.first.least).min(self.second.least);
+    }
 }
 
 /// The tasks that prefer machines. There are no lists if there are no such tasks.
@@ -124,13 +177,13 @@ impl Movable {
         !self.entries(list).is_empty()
     }
 
-    /// Raises the key of the task at the place of a list.
-    pub(crate) fn raise_key(&mut self, list: usize, place: usize, key: i64) {
+    /// Puts the entry of the same task in place of that at the place of a list.
+    pub(crate) fn set_entry(&mut self, list: usize, place: usize, entry: Entry) {
         let Some(entries) = self.lists.get_mut(list) else {
             return;
         };
-        if let Some(entry) = entries.get_mut(place) {
-            entry.key = entry.key.max(key);
+        if let Some(there) = entries.get_mut(place) {
+            *there = entry;
         }
     }
 

@@ -15,9 +15,6 @@ use crate::costs::{NONE, raise};
 use std::alloc::Global;
 use std::collections::BinaryHeap;
 
-// How many nodes all searches together look at, for each task, machine and request, at most.
-const MOST_LOOKS: usize = 128;
-
 /// How a path ends.
 #[derive(Clone, Copy, PartialEq, Eq, Drop)]
 pub(crate) enum End {
@@ -98,8 +95,8 @@ pub(crate) struct Paths {
 }
 
 impl Paths {
-    /// No search yet.
-    pub(crate) fn of(alloc: Global, board: Board) -> Tried<Paths> {
+    /// No search yet. All together look at so many nodes at most for each task, machine and request, and for one more.
+    pub(crate) fn of(alloc: Global, board: Board, most: usize) -> Tried<Paths> {
         let instance = &board.instance;
         let requests = instance.requests.len();
         let nodes = requests.saturating_add(instance.machines.len());
@@ -108,7 +105,10 @@ impl Paths {
             .len()
             .saturating_add(instance.worths.len())
             .saturating_add(instance.preferring.len());
-        let looks = nodes.saturating_add(tasks).saturating_mul(MOST_LOOKS);
+        let looks = nodes
+            .saturating_add(tasks)
+            .saturating_add(1)
+            .saturating_mul(most);
         Ok(Paths {
             board,
             requests,
@@ -116,7 +116,7 @@ impl Paths {
             now: 0,
             seen: Vec::new(alloc),
             queue: BinaryHeap::new(alloc),
-            looks: looks.saturating_add(1024),
+            looks,
             near: Vec::new(alloc),
             near_cost: i64::MIN,
             fresh: Vec::new(alloc),

@@ -8,6 +8,7 @@ use crate::Tried;
 use crate::assignment::Destination;
 use crate::bit_set::{first_of, has_bit, without_first};
 use crate::costs::{FAR, NONE, cost_at};
+use crate::movable::Successor;
 use crate::path_search::{End, Paths, Step};
 
 // A step from the node over a machine, where that is not the next node itself.
@@ -205,27 +206,66 @@ impl Paths {
     fn leave_list(&mut self, list: usize, cost: i64, from: usize) -> Tried<i64> {
         let mut low = FAR;
         for place in 0..self.board.movable.entries(list).len() {
-            let Some(entry) = self.board.movable.entries(list).get(place).copied() else {
-                break;
+            let mut key = match self.board.movable.entries(list).get(place) {
+                Some(entry) => entry.key,
+                None => FAR,
             };
-            let mut key = entry.key;
             if cost.saturating_add(key) < self.best {
-                let there = cost.saturating_add(entry.gain);
-                let least = self.leave_task(entry.task, there, from)?;
-                key = key.max(entry.gain.saturating_add(least));
-                self.board.movable.raise_key(list, place, key);
+                key = self.leave_entry(list, place, cost, from)?;
             }
             low = low.min(key);
         }
         Ok(low)
     }
 
-    /// Goes on from a task that prefers machines, or begins with it. Answers what it costs at least to send it elsewhere.
-    pub(crate) fn leave_task(&mut self, task: usize, cost: i64, from: usize) -> Tried<i64> {
+    // Goes on from a task of a list: to its two cheapest successors alone, if no other one is of use. Answers its key.
+    fn leave_entry(&mut self, list: usize, place: usize, cost: i64, from: usize) -> Tried<i64> {
+        let Some(entry) = self.board.movable.entries(list).get(place).copied() else {
+            return Ok(FAR);
+        };
+        let mut entry = entry;
+        if cost.saturating_add(entry.rest) < self.best {
+            self.leave_task(entry.task, cost.saturating_add(entry.gain), from)?;
+            entry = self.board.entry_of(entry.task, entry.gain);
+        } else {
+            entry.first = self.go_to_successor(entry.first, entry.task, cost, from)?;
+            entry.second = self.go_to_successor(entry.second, entry.task, cost, from)?;
+            entry.renew_key();
+        }
+        self.board.movable.set_entry(list, place, entry);
+        Ok(entry.key)
+    }
+
+    // Sends the task on to the successor, if that is of use. Answers the successor with what it costs at least now.
+    fn go_to_successor(
+        &mut self,
+        next: Successor,
+        task: usize,
+        cost: i64,
+        from: usize,
+    ) -> Tried<Successor> {
+        if cost.saturating_add(next.least) >= self.best {
+            return Ok(next);
+        }
+        let there = cost.saturating_add(next.cost);
+        let step = Step {
+            from,
+            over: NONE,
+            task,
+        };
+        match self.machine_at(next.node) {
+            Some(machine) => self.go_to_machine(machine, there, step)?,
+            None => self.reach_request(next.node, there, step)?,
+        }
+        Ok(self.board.successor(next.node, next.cost))
+    }
+
+    /// Goes on from a task that prefers machines, or begins with it.
+    pub(crate) fn leave_task(&mut self, task: usize, cost: i64, from: usize) -> Tried<()> {
         let preferring = self.board.instance.task(task);
-        let mut least = preferring.worth;
         if from != NONE {
-            self.take_end(cost.saturating_add(least), from, End::Leave(task));
+            let end = cost.saturating_add(preferring.worth);
+            self.take_end(end, from, End::Leave(task));
         }
         let step = Step {
             from,
@@ -233,34 +273,33 @@ impl Paths {
             task,
         };
         if self.board.movable.destination(task) != Destination::ByRequest {
-            least = least.min(self.board.request_label(preferring.request));
             self.reach_request(preferring.request, cost, step)?;
         }
         for number in preferring.first..preferring.end {
-            least = least.min(self.go_straight(number, cost, step)?);
+            self.go_straight(number, cost, step)?;
         }
-        Ok(least)
+        Ok(())
     }
 
-    // Sends the task of the step to a machine of its choice, unless it is there. Answers what that costs at least.
-    fn go_straight(&mut self, choice: usize, cost: i64, step: Step) -> Tried<i64> {
+    // Sends the task of the step to a machine of its choice, unless it is there.
+    fn go_straight(&mut self, choice: usize, cost: i64, step: Step) -> Tried<()> {
         let Some(choice) = self.board.instance.choices.get(choice).copied() else {
-            return Ok(FAR);
+            return Ok(());
         };
-        let machine = choice.machine;
-        if self.board.movable.destination(step.task) == Destination::Straight(machine) {
-            return Ok(FAR);
+        if self.board.movable.destination(step.task) == Destination::Straight(choice.machine) {
+            return Ok(());
         }
-        let label = self
-            .board
-            .machine_label(machine)
-            .saturating_sub(choice.gain);
-        let there = cost.saturating_sub(choice.gain);
-        let is_led_to = there >= self.near_cost
+        self.go_to_machine(choice.machine, cost.saturating_sub(choice.gain), step)
+    }
+
+    // Sends the task of the step to a machine, unless a request leads there at no more cost.
+    fn go_to_machine(&mut self, machine: usize, cost: i64, step: Step) -> Tried<()> {
+        let least = cost.saturating_add(self.board.machine_label(machine));
+        let is_led_to = cost >= self.near_cost
             && has_bit(&self.near, self.board.full_number(machine));
-        if cost.saturating_add(label) < self.best && !is_led_to {
-            self.reach_machine(machine, there, step)?;
+        if least >= self.best || is_led_to {
+            return Ok(());
         }
-        Ok(label)
+        self.reach_machine(machine, cost, step)
     }
 }

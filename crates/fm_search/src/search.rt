@@ -14,15 +14,27 @@ use crate::placing::place_all;
 use fm_lattice::join::OutOfMemory;
 use std::alloc::Global;
 
+/// How many nodes all searches together look at, for each task, machine and request, at most. No more than 130 were seen.
+pub const MOST_LOOKS: usize = 4096;
+
 /// Where the tasks of the instance go at the least cost, with prices that show it. None if the searches would look at more
-/// than 128 nodes for each task, machine and request, or if there are more than 2^26 pairs of a request and a machine.
+/// than 4,096 nodes for each task, machine and request, or if there are more than 2^26 pairs of a request and a machine.
 /// Refused if memory runs out, and for nothing else. O(n log n) in the tasks and machines, and a search over requests
 /// and full machines for about each machine that fills up. Memory O(n), and two bits for each request and machine.
 pub fn search(alloc: Global, instance: Instance) -> Result<Option<Assignment>, OutOfMemory> {
+    search_within(alloc, instance, MOST_LOOKS)
+}
+
+/// As `search`, and looks at so many nodes at most for each task, machine and request.
+pub fn search_within(
+    alloc: Global,
+    instance: Instance,
+    most: usize,
+) -> Result<Option<Assignment>, OutOfMemory> {
     let Some(board) = Board::of(alloc, instance)? else {
         return Ok(None);
     };
-    answer_of(alloc, Paths::of(alloc, board)?)
+    answer_of(alloc, Paths::of(alloc, board, most)?)
 }
 
 // Where the tasks go by searches for paths, if these come to their ends.

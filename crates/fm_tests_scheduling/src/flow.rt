@@ -1,5 +1,4 @@
-//! Small networks, and drawn ones: the first flow is least, that of the search as that of the simplex, and cancelling from all tasks
-//! unscheduled ends at its cost.
+//! Small networks, and drawn ones: the first flow is least, and cancelling from all tasks unscheduled ends at its cost.
 
 ghost use Rattle.std.specs.Prelude.{IsTrue, IfOk};
 ghost use Rattle.fm_indexed.specs.Feasible.{IsFlowOf};
@@ -12,8 +11,7 @@ use fm_cycles::cycle_search::search;
 use fm_flow::solve::{solve, solve_from};
 use fm_heuristics::first::first_flow;
 use fm_heuristics::resumed::resume;
-use fm_heuristics::searched::searched;
-use fm_heuristics::simplex::{simplex, simplex_within};
+use fm_heuristics::searched::{searched, searched_within};
 use fm_indexed::feasible_units::is_feasible;
 use fm_indexed::improved::improved;
 use fm_indexed::indexed_network::IndexedNetwork;
@@ -123,11 +121,21 @@ fn cancelled(alloc: Global, network: &Network) -> Result<Option<u128>, OutOfMemo
     Ok(Some(total(&numbered, &units)))
 }
 
-// Whether both ways end at this cost, or at any one if none is given.
-fn both_cost(alloc: Global, network: &Network, want: Option<u128>) -> Result<bool, OutOfMemory> {
+// What the flow costs that cancelling makes of the first one.
+fn improved_first(alloc: Global, network: &Network) -> Result<Option<u128>, OutOfMemory> {
+    let numbered = IndexedNetwork::of(alloc, network)?;
+    if !can_wait(alloc, &numbered)? {
+        return Ok(None);
+    }
+    let (units, costs) = first_flow(alloc, &numbered)?;
+    let (units, _) = improved(alloc, &numbered, units, costs)?;
+    Ok(Some(total(&numbered, &units)))
+}
+
+// Whether the first flow is least, and costs so much, as what cancelling makes of all tasks unscheduled does.
+fn both_cost(alloc: Global, network: &Network, want: u128) -> Result<bool, OutOfMemory> {
     let first = started(alloc, network)?;
-    let last = cancelled(alloc, network)?;
-    Ok(first.is_some() && first == last && (want.is_none() || first == want))
+    Ok(first == Some(want) && first == cancelled(alloc, network)?)
 }
 
 // One waiting task that asks for so much, and one machine with room for it, or none: a load, or no room.
@@ -245,7 +253,7 @@ fn drawn(alloc: Global, first: u64, machines: u64, tasks: u64) -> Result<Network
 // Whether both ways end at this cost.
 fn is_solved(alloc: Global, arcs: &[Laid], want: u128) -> Result<bool, OutOfMemory> {
     let network = network_of(alloc, arcs)?;
-    both_cost(alloc, &network, Some(want))
+    both_cost(alloc, &network, want)
 }
 
 #[test]
@@ -270,22 +278,18 @@ fn contended_slots_are_solved(rt: HostRuntime) {
     assert_eq!(rt; is_solved(rt.alloc(), &moved_aside(), 330), Ok(true));
 }
 
-#[test]
-fn drawn_networks_are_solved(rt: HostRuntime) -> Result<(), Fail> {
-    for seed in 1..=12u64 {
-        let network = drawn(rt.alloc(), seed, 8, 40)?;
-        assert!(rt; both_cost(rt.alloc(), &network, None)?);
-    }
-    Ok(())
+// Whether what cancelling makes of the first flow of a drawn network costs what it makes of all tasks unscheduled.
+fn is_improved(alloc: Global, seed: u64) -> Result<bool, OutOfMemory> {
+    let network = drawn(alloc, seed, 8, 40)?;
+    let cost = improved_first(alloc, &network)?;
+    Ok(cost.is_some() && cost == cancelled(alloc, &network)?)
 }
 
 #[test]
-fn no_cycle_is_found_after_the_first_flow(rt: HostRuntime) -> Result<(), Fail> {
-    for seed in 1..=3u64 {
-        let network = drawn(rt.alloc(), seed, 60, 400)?;
-        assert!(rt; started(rt.alloc(), &network)?.is_some());
+fn drawn_networks_are_solved(rt: HostRuntime) {
+    for seed in 1..=12u64 {
+        assert_eq!(rt; is_improved(rt.alloc(), seed), Ok(true));
     }
-    Ok(())
 }
 
 // What a machine of a network of the policy has: its load, its slots, and its spare bandwidth, if that is not below 0.
@@ -383,6 +387,15 @@ fn found(alloc: Global, network: &Network) -> Result<Option<u128>, OutOfMemory> 
     Ok(is_least.then_some(total(&numbered, &units)))
 }
 
+#[test]
+fn no_cycle_is_found_after_the_first_flow(rt: HostRuntime) -> Result<(), Fail> {
+    for seed in 1..=3u64 {
+        let network = drawn_of_policy(rt.alloc(), seed, 60, 400)?;
+        assert!(rt; started(rt.alloc(), &network)?.is_some());
+    }
+    Ok(())
+}
+
 // Whether the search ends at a least flow of a drawn network of the policy, which costs what cancelling comes to.
 fn is_found(alloc: Global, seed: u64) -> Result<bool, OutOfMemory> {
     let network = drawn_of_policy(alloc, seed, 1 + seed % 9, 40)?;
@@ -395,10 +408,29 @@ fn the_search_ends_at_a_least_flow(rt: HostRuntime) -> Result<(), Fail> {
     for seed in 1..=60u64 {
         assert_eq!(rt; is_found(rt.alloc(), seed), Ok(true));
     }
+    let short = chained(rt.alloc(), 1)?;
+    assert_eq!(rt; found(rt.alloc(), &short), Ok(Some(3)));
     let chain = chained(rt.alloc(), 40)?;
     assert_eq!(rt; found(rt.alloc(), &chain), Ok(Some(81)));
     let contended = network_of(rt.alloc(), &contended())?;
     assert_eq!(rt; found(rt.alloc(), &contended), Ok(Some(180)));
+    Ok(())
+}
+
+// Whether the search ends if it looks at no more than so many nodes for each task, machine and request of the network.
+fn ends_within(alloc: Global, network: &Network, most: usize) -> Result<bool, OutOfMemory> {
+    let numbered = IndexedNetwork::of(alloc, network)?;
+    let found = searched_within(alloc, &numbered, most)?;
+    Ok(found.is_some())
+}
+
+#[test]
+fn the_search_looks_at_few_nodes_and_gives_up_at_more(rt: HostRuntime) -> Result<(), Fail> {
+    for seed in 1..=6u64 {
+        let network = drawn_of_policy(rt.alloc(), seed, 40, 400)?;
+        assert_eq!(rt; ends_within(rt.alloc(), &network, 8), Ok(true));
+        assert_eq!(rt; ends_within(rt.alloc(), &network, 0), Ok(false));
+    }
     Ok(())
 }
 
@@ -417,65 +449,14 @@ fn of_two_loads() -> [Laid; 8] {
 }
 
 #[test]
-fn a_network_that_no_policy_builds_is_left_to_the_simplex(rt: HostRuntime) -> Result<(), Fail> {
+fn a_network_that_no_policy_builds_is_left_to_the_search_for_cycles(
+    rt: HostRuntime,
+) -> Result<(), Fail> {
     let network = network_of(rt.alloc(), &of_two_loads())?;
     assert_eq!(rt; found(rt.alloc(), &network), Ok(None));
-    assert_eq!(rt; both_cost(rt.alloc(), &network, Some(81)), Ok(true));
+    assert_eq!(rt; improved_first(rt.alloc(), &network), Ok(Some(81)));
+    assert_eq!(rt; cancelled(rt.alloc(), &network), Ok(Some(81)));
     Ok(())
-}
-
-// A network as drawn, in which tasks have up to three arcs to machines beside their own.
-fn drawn_preferring(
-    alloc: Global,
-    first: u64,
-    machines: u64,
-    tasks: u64,
-) -> Result<Network, OutOfMemory> {
-    let mut network = drawn(alloc, first, machines, tasks)?;
-    let mut seed = first;
-    for number in 0..tasks {
-        for _ in 0..draw(&mut seed) % 4 {
-            let machine = u64::from(draw(&mut seed)) % machines.max(1);
-            let cost = draw(&mut seed);
-            let arc = goes(u128::from(number), u128::from(machine), cost);
-            lay(&mut network, &arc)?;
-        }
-    }
-    Ok(network)
-}
-
-// What the flow costs that the simplex ends at, if it is a least flow.
-fn pivoted(alloc: Global, network: &Network) -> Result<Option<u128>, OutOfMemory> {
-    let numbered = IndexedNetwork::of(alloc, network)?;
-    let Some((units, _costs)) = simplex(alloc, &numbered)? else {
-        return Ok(None);
-    };
-    let is_least = is_least(alloc, &numbered, &units)?;
-    Ok(is_least.then_some(total(&numbered, &units)))
-}
-
-// The same of the network of these arcs.
-fn pivoted_on(alloc: Global, arcs: &[Laid]) -> Result<Option<u128>, OutOfMemory> {
-    let network = network_of(alloc, arcs)?;
-    pivoted(alloc, &network)
-}
-
-// Whether it ends at a least flow of a drawn network, which costs what cancelling comes to.
-fn is_pivoted(alloc: Global, seed: u64) -> Result<bool, OutOfMemory> {
-    let network = drawn_preferring(alloc, seed, 8, 40)?;
-    let cost = pivoted(alloc, &network)?;
-    Ok(cost.is_some() && cost == cancelled(alloc, &network)?)
-}
-
-#[test]
-fn the_simplex_ends_at_a_least_flow(rt: HostRuntime) {
-    assert_eq!(rt; pivoted_on(rt.alloc(), &[]), Ok(Some(0)));
-    assert_eq!(rt; pivoted_on(rt.alloc(), &one_held()), Ok(Some(0)));
-    assert_eq!(rt; pivoted_on(rt.alloc(), &contended()), Ok(Some(180)));
-    assert_eq!(rt; pivoted_on(rt.alloc(), &moved_aside()), Ok(Some(330)));
-    for seed in 1..=8u64 {
-        assert_eq!(rt; is_pivoted(rt.alloc(), seed), Ok(true));
-    }
 }
 
 // A chain of so many machines of one slot, the last beside them, and ids in another order: a task of each prefers it
@@ -502,44 +483,14 @@ fn chained(alloc: Global, machines: u16) -> Result<Network, OutOfMemory> {
     Ok(network)
 }
 
-// What the flow costs that the simplex ends at on a chain, if it is a least flow.
-fn pivoted_chain(alloc: Global, machines: u16) -> Result<Option<u128>, OutOfMemory> {
-    let network = chained(alloc, machines)?;
-    pivoted(alloc, &network)
-}
-
-#[test]
-fn chains_of_preferences_are_moved_on(rt: HostRuntime) {
-    assert_eq!(rt; pivoted_chain(rt.alloc(), 1), Ok(Some(3)));
-    assert_eq!(rt; pivoted_chain(rt.alloc(), 40), Ok(Some(81)));
-}
-
-// Whether the simplex returns a flow however early it is stopped.
-fn is_stopped(alloc: Global, seed: u64) -> Result<bool, OutOfMemory> {
-    let network = drawn_preferring(alloc, seed, 8, 40)?;
-    let numbered = IndexedNetwork::of(alloc, &network)?;
-    for pivots in 0..30 {
-        if simplex_within(alloc, &numbered, pivots)?.is_none() {
-            return Ok(false);
-        }
-    }
-    Ok(true)
-}
-
-#[test]
-fn a_simplex_that_is_stopped_hands_out_a_flow(rt: HostRuntime) {
-    for seed in 1..=8u64 {
-        assert_eq!(rt; is_stopped(rt.alloc(), seed), Ok(true));
-    }
-}
-
 // Whether an earlier flow that is least is kept as it is, and one of other units comes to no other cost.
 fn is_taken_over(alloc: Global, network: &Network) -> Result<bool, OutOfMemory> {
     let numbered = IndexedNetwork::of(alloc, network)?;
     if !can_wait(alloc, &numbered)? {
         return Ok(false);
     }
-    let (first, _potentials) = first_flow(alloc, &numbered)?;
+    let (first, costs) = first_flow(alloc, &numbered)?;
+    let (first, _) = improved(alloc, &numbered, first, costs)?;
     let strange = vec![in alloc; 1u64; numbered.arcs.len()]?;
     if let Some((other, _)) = resume(alloc, &numbered, &strange)? {
         if total(&numbered, &other) != total(&numbered, &first) {
