@@ -14,13 +14,11 @@ import sys
 import textwrap
 
 HERE = pathlib.Path(__file__).resolve().parent
-RATIOS = ("self/lemon", ("self", "lemon")), ("self/whole", ("self", "whole"))
+# which of the tasks prefer machines in the columns of the figure beside LEMON
+SHARES = "none", "1 in 20", "1 in 5", "1 in 2", "all"
 # the columns of each figure: a heading, and the field of a row or what is computed of it
 COLUMNS = {
-    "beside": (("tasks", "tasks"), ("script", "script"), ("`winners`", "winners"), ("`graph`", "graph"), ("`solve`", "solve"),
-               ("self", "self"), ("lemon", "lemon"), ("whole", "whole"), *RATIOS),
-    "prefer": (("tasks", "tasks"), ("prefer machines", "prefer"), ("self", "self"), ("lemon", "lemon"), ("whole", "whole"),
-               *RATIOS),
+    "beside": (("tasks", "tasks"), ("kind", "kind"), *((share, share) for share in SHARES)),
     "program": (("tasks", "tasks"), ("`winners`", "winners"), ("`graph`", "graph"), ("`solve`", "solve"),
                 ("`graph --at 2` after one packet", "passed_on")),
     "rounds": (("tasks", "tasks"), ("prefer machines", "prefer"), ("rounds", "rounds"), ("operations before each", "changed"),
@@ -29,7 +27,8 @@ COLUMNS = {
               ("10 operations", "10"), ("100 operations", "100"), ("1 % of the tasks", "1 %"), ("building", "built")),
     "alone": (("tasks", "tasks"), ("the earlier flow", "flow"), ("`solve`", "solve"), ("`solve_from`", "solve_from")),
 }
-COLORS = {"self": "#2a9d8f", "lemon": "#e9a23b", "whole": "#6d5bd0", "each": "#2a9d8f"}
+# the colors of what the curves of a plot differ in first; the second of a color is dashed
+COLORS = "#2a9d8f", "#e9a23b", "#6d5bd0"
 
 
 def save(results, folder):
@@ -66,18 +65,27 @@ def made(folder):
 
 def table(key, figure):
     """A figure's table, with how it was had."""
-    columns = [(head, field) for head, field in COLUMNS[key] if any(cell(row, field) for row in figure["rows"])]
+    rows = by_share(figure["rows"]) if key == "beside" else figure["rows"]
+    columns = [(head, field) for head, field in COLUMNS[key] if any(shown(row.get(field, "")) for row in rows)]
     lines = ["| " + " | ".join(head for head, _ in columns) + " |", "|" + "---|" * len(columns)]
-    lines += ["| " + " | ".join(cell(row, field) for _, field in columns) + " |" for row in figure["rows"]]
+    lines += ["| " + " | ".join(shown(row.get(field, "")) for _, field in columns) + " |" for row in rows]
     how = " ".join(f"{field.capitalize()}: {figure[field]}." for field in ("date", "build", "machine", "command")) + " " + figure["note"]
     return "\n".join(lines) + "\n\n" + textwrap.fill(how.strip(), 132, break_on_hyphens=False) + "\n"
 
 
-def cell(row, field):
-    """A cell: a field, or the ratio of two."""
-    if isinstance(field, tuple):
-        return shown(row[field[0]] / row[field[1]]) if all(row.get(it) for it in field) else ""
-    return shown(row.get(field, ""))
+def own(row):
+    """The milliseconds of building, solving and writing."""
+    return row["build"] + row["solve"] + row["write"]
+
+
+def by_share(rows):
+    """A row for each size and kind of cluster. For each share of tasks that prefer machines it has what part of LEMON's time the call `solve`
+    alone takes, and what part all of solving, with its milliseconds."""
+    found = {}
+    for row in rows:
+        text = f"{row['solve'] / row['lemon']:.2f}, {own(row) / row['lemon']:.2f} ({shown(own(row))})"
+        found.setdefault((row["tasks"], row["kind"]), {"tasks": row["tasks"], "kind": row["kind"]})[row["prefer"]] = text
+    return list(found.values())
 
 
 def shown(value):
@@ -90,10 +98,10 @@ def shown(value):
 
 
 class Panel:
-    """One plot with logarithmic axes."""
+    """One plot with logarithmic axes. A series has its points, what gives its color, and what tells it from another of that color."""
 
     def __init__(self, left, title, series):
-        self.left, self.title, self.series = left, title, {name: points for name, points in series.items() if points}
+        self.left, self.title, self.series = left, title, {names: points for names, points in series.items() if points}
         points = [point for its in self.series.values() for point in its]
         self.wide, self.high, self.top = 380, 260, 70
         self.low, self.most = ([f(math.log10(point[axis]) for point in points) for axis in (0, 1)] for f in (min, max))
@@ -112,34 +120,32 @@ class Panel:
         for tasks in sorted({point[0] for points in self.series.values() for point in points}):
             x, _ = self.place((tasks, 10 ** self.low[1]))
             yield f'<text x="{x:.1f}" y="{self.top + self.high + 18}" class="scale middle">{tasks:,} tasks</text>'
-        drawn = []
-        for at, (name, points) in enumerate(self.series.items()):
+        firsts = list(dict.fromkeys(first for first, _ in self.series))
+        for at, ((first, second), points) in enumerate(self.series.items()):
             path = " ".join(f"{x:.1f},{y:.1f}" for x, y in map(self.place, sorted(points)))
-            color = COLORS[re.match(r"\w*", name)[0]]
-            dashes = ' stroke-dasharray="5 4"' if color in drawn else ""
-            drawn.append(color)
+            color = COLORS[firsts.index(first)]
+            dashes = ' stroke-dasharray="5 4"' if (first, second) != next(it for it in self.series if it[0] == first) else ""
             yield f'<polyline points="{path}" fill="none" stroke="{color}" stroke-width="2"{dashes}/>'
             yield from (f'<circle cx="{x:.1f}" cy="{y:.1f}" r="3.2" fill="{color}"/>' for x, y in map(self.place, points))
             below = self.top + self.high + 42 + 17 * at
             yield f'<path d="M{self.left} {below - 4}h26" stroke="{color}" stroke-width="2"{dashes}/>'
-            yield f'<text x="{self.left + 34}" y="{below}" class="key">{name}</text>'
+            yield f'<text x="{self.left + 34}" y="{below}" class="key">{first}: {second}</text>'
 
 
-def points(rows, field, script):
-    """The sizes and times of the rows of a script."""
-    return [(row["tasks"], row[field]) for row in rows if row.get("script", "") == script and row[field] > 0]
+# the clusters whose curves are drawn, each a kind and which of the tasks prefer machines
+DRAWN = ("mix", "none"), ("mix", "1 in 2"), ("hard", "all")
 
 
 def picture(results):
     """Times by size, as an SVG: solving beside LEMON, and a round."""
-    beside = results.get("beside", {"rows": []})["rows"]
-    scripts = sorted({row.get("script", "") for row in beside})
-    names = {"self": "self: build, solve, certify, write", "lemon": "lemon: its run alone", "whole": "whole: LEMON with reading"}
-    solving = {f"{text}{', ' + script if script else ''}": points(beside, field, script) for field, text in names.items() for script in scripts}
-    rounds = {}
+    solving, rounds = {}, {}
+    for row in results.get("beside", {"rows": []})["rows"]:
+        if (row["kind"], row["prefer"]) in DRAWN:
+            for second, time in ("build, solve, certify and write", own(row)), ("LEMON's run alone", row["lemon"]):
+                solving.setdefault(("%s, %s prefer machines" % (row["kind"], row["prefer"]), second), []).append((row["tasks"], time))
     for row in results.get("rounds", {"rows": []})["rows"]:
-        name = "each round after %s operations, %s of the tasks prefer machines" % (row["changed"], row["prefer"])
-        rounds.setdefault(name, []).extend([(row["tasks"], row["each"])] if row["each"] > 0 else [])
+        names = "%s of the tasks prefer machines" % row["prefer"], "a round after %s operations" % row["changed"]
+        rounds.setdefault(names, []).extend([(row["tasks"], row["each"])] if row["each"] > 0 else [])
     plots = (70, "Solving beside LEMON", solving), (560, "A round", rounds)
     panels = [Panel(*plot) for plot in plots if any(plot[2].values())]
     below = max((panel.top + panel.high + 50 + 17 * len(panel.series) for panel in panels), default=100)

@@ -3,6 +3,7 @@
 
     bench/scripts.py --tasks N [--machines N] [--requests N] [--seed N] [--prefer SHARE] [--gossip]
     bench/scripts.py --tasks N --rounds N [--at 1|2] [--share N] [--quiet]
+    bench/scripts.py --tasks N --kind mix|fresh|tight|steady|hard [--seed N] [--prefer SHARE]
     bench/scripts.py --tasks N --chain plain|ties|limits|many [--slots N] [--drawn]
 
 A tenth as many machines as tasks, a job for each fifty tasks, 20 to 50 sizes of requests. Every tenth task is held by a
@@ -12,6 +13,9 @@ tasks prefer one to four machines, and nothing else differs.
 
 With --rounds so many rounds come after that, each after one task in 100 (--share) changed: of those a third are done, a third are
 new, and for each of the others a machine reports. Nothing is held at first. With --quiet the rounds themselves are left out.
+
+With --kind the cluster is of one of five kinds, which differ in how much is held, in use and free: see KINDS. Machines have half to three
+halves of the slots that their share of the tasks needs, and bandwidth for 0.6, 1 or 1.6 times the mean request on each.
 
 With --chain about so many tasks are chained by what they prefer. As many tasks as a machine has slots prefer the first machine and,
 a little less, the second, as many the second and the third, and so on; one task more prefers the first machine alone. So the least
@@ -42,15 +46,22 @@ def preferring(op, hosts, chance):
     return op
 
 
-def told_before(chance, jobs, hosts, names, sizes):
-    """Jobs, machines and tasks."""
+def jobs_of(chance, jobs):
     for job in jobs:
         wait = chance.randint(500, 20000)
         yield {"job": {"id": job, "version": 1, "writer": 1, "withdrawn": False,
                        "wait": wait, "preempt": wait + chance.randint(0, 5000)}}
+
+
+def machine(host, slots, nic):
+    return {"machine": {"id": host, "incarnation": 1, "version": 1, "writer": 1, "up": True, "slots": slots, "nic": nic}}
+
+
+def told_before(chance, jobs, hosts, names, sizes):
+    """Jobs, machines and tasks."""
+    yield from jobs_of(chance, jobs)
     for host in hosts:
-        yield {"machine": {"id": host, "incarnation": 1, "version": 1, "writer": 1, "up": True,
-                           "slots": chance.randint(5, 20), "nic": chance.randint(2000, 20000)}}
+        yield machine(host, chance.randint(5, 20), chance.randint(2000, 20000))
     for task in names:
         yield spec(task, jobs, sizes, chance)
 
@@ -75,6 +86,45 @@ def script(tasks, machines=None, requests=None, seed=1, gossip=False, prefer=0.0
     if gossip:
         steps += [{"at": 1, "cut": {"name": "all"}}, {"at": 2, "deliver": "all"}]
     return lines(steps, "[1,2]" if gossip else "[1]")
+
+
+# The kinds of clusters: the share of the tasks that is held, the share of the machines that reports a use of up to 0.6 of its bandwidth, and
+# the slots for each task. In `tight` not all tasks can run; in `hard` all wait, on machines of many different loads.
+KINDS = {"mix": (0.3, 0.5, 1.2), "fresh": (0, 0, 1.2), "tight": (0.3, 0.5, 0.8), "steady": (0.9, 0.5, 1.2), "hard": (0, 0.5, 1.2)}
+
+
+def cluster(tasks, kind, prefer=0.0, seed=1):
+    """The lines of the script of a cluster of that kind."""
+    held, used, slots = KINDS[kind]
+    # what is preferred is drawn apart, so that all else is as it is if nothing is
+    chance, liking = (random.Random("%s %d %s %d" % (drawn, tasks, kind, seed)) for drawn in ("cluster", "prefer"))
+    many = 50 if kind == "hard" or tasks > 10000 else 20 if tasks > 1000 else 10
+    sizes = sorted(chance.sample(range(10, 1001), many))
+    jobs, hosts, names = (ids(chance, max(1, count)) for count in (tasks // 50, tasks // 10, tasks))
+    told, room = list(jobs_of(chance, jobs)), {}
+    for host in hosts:
+        room[host] = its = [max(1, round(chance.uniform(0.5, 1.5) * slots * tasks / len(hosts))), 0]
+        its[1] = int(chance.choice((0.6, 1, 1.6)) * its[0] * sum(sizes) / many)
+        told.append(machine(host, *its))
+    for host in hosts:
+        if chance.random() < used:
+            told.append({"report": {"id": host, "incarnation": 1, "number": 1, "used": chance.randint(0, room[host][1] * 6 // 10)}})
+    for name in names:
+        op = spec(name, jobs, sizes, chance)
+        told.append(preferring(op, hosts, liking) if liking.random() < prefer else op)
+        if chance.random() < held:
+            told += holding(chance, name, op["spec"]["request"], hosts, room)
+    return lines([{"at": 1, "tell": op} for op in told], "[1]")
+
+
+def holding(chance, task, request, hosts, room):
+    """The proposal by which one of eight machines holds the task, if one has room, which it then takes."""
+    for host in (chance.choice(hosts) for _ in range(8)):
+        slots, bandwidth = room[host]
+        if slots > 0 and bandwidth >= request:
+            room[host] = [slots - 1, bandwidth - request]
+            return [{"propose": {"id": task, "attempt": 0, "coordinator": 1, "machine": host, "incarnation": 1}}]
+    return []
 
 
 def changing(tasks, count, share=100, seed=1, machines=None, prefer=0.0):
@@ -134,8 +184,7 @@ def chain(tasks, kind="plain", slots=1, drawn=False, seed=1):
         hosts = hosts[-1:] + hosts[:-1]
         names.sort()
     told = [{"job": {"id": jobs[0], "version": 1, "writer": 1, "withdrawn": False, "wait": 10 ** 9, "preempt": 10 ** 9}}]
-    told += [{"machine": {"id": host, "incarnation": 1, "version": 1, "writer": 1, "up": True, "slots": slots, "nic": 10 ** 6}}
-             for host in hosts]
+    told += [machine(host, slots, 10 ** 6) for host in hosts]
     request = 10 ** 6 // slots
     for name, machines in zip(names, liked):
         told.append(spec(name, jobs, [request], chance))
@@ -163,12 +212,15 @@ if __name__ == "__main__":
     words.add_argument("--rounds", type=int)
     words.add_argument("--share", type=int, default=100)
     words.add_argument("--quiet", action="store_true")
+    words.add_argument("--kind", choices=tuple(KINDS))
     words.add_argument("--chain", choices=tuple(CREDITS))
     words.add_argument("--slots", type=int, default=1)
     words.add_argument("--drawn", action="store_true")
     words = words.parse_args()
     if words.chain:
         sys.stdout.writelines(chain(words.tasks, words.chain, words.slots, words.drawn, words.seed))
+    elif words.kind:
+        sys.stdout.writelines(cluster(words.tasks, words.kind, words.prefer, words.seed))
     elif words.rounds is None:
         sys.stdout.writelines(script(words.tasks, words.machines, words.requests, words.seed, words.gossip, words.prefer))
     else:

@@ -164,9 +164,21 @@ def look_tests(program, seeds):
             yield "looks at life %d, in groups of up to %d" % (seed, most), holds
 
 
+SOLVE = re.compile(r"built in [1-9]\d* ns, solved in [1-9]\d* ns, written in [1-9]\d* ns")
+
+
+def are_solves_timed(program, told, count):
+    """Whether all that is told is solved so many times, with a line of times for each."""
+    text = json.dumps(script([told])).encode()
+    said = subprocess.run([program, "solves", str(count)], input=text, stdout=subprocess.PIPE, timeout=120)
+    lines = said.stdout.decode().splitlines()
+    return said.returncode == 0 and len(lines) == count and all(SOLVE.fullmatch(line) for line in lines)
+
+
 def all_tests(program, seeds):
     """Each test with whether it holds."""
     yield from look_tests(program, seeds)
+    yield "solving is timed", are_solves_timed(program, drawn.Lives(random.Random("solves")).operations(240), 3)
     for name, told in groupings.ROWS.items():
         for groups in groupings.groupings(len(told)):
             yield "edits of %s, in %s" % (name, groups), is_followed(program, [told[start:end] for start, end in groups])

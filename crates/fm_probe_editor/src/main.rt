@@ -11,6 +11,7 @@
 
 mod followed;
 mod looked;
+mod solved;
 mod stepped;
 
 ghost use Rattle.std.specs.Prelude.{IfOk};
@@ -23,6 +24,7 @@ use fm_script::parse_script::read_script;
 use fm_script::script::{Script, ScriptAct};
 use followed::{Followed, Taken};
 use looked::Looked;
+use solved::Times;
 use std::alloc::Global;
 use std::env;
 use std::time::Instant;
@@ -35,6 +37,7 @@ fn main(rt: HostRuntime) -> Result<(), anyhow::Error> {
         Some("steps") => steps(&rt, &script, Look::View),
         Some("sights") => steps(&rt, &script, Look::Sight),
         Some("tallies") => steps(&rt, &script, Look::Tally),
+        Some("solves") => solves(&rt, &script),
         word => edits(&rt, &script, word.is_some()),
     }
 }
@@ -77,10 +80,30 @@ fn follow(
 fn steps(rt: &HostRuntime, script: &Script, look: Look) -> Result<(), anyhow::Error>
     requires { AreDistinct script.now.coordinators.items }
 {
+    take_first(rt.alloc(), script, count(rt)?, look)?;
+    Ok(())
+}
+
+// The number that the second word says.
+fn count(rt: &HostRuntime) -> Result<usize, anyhow::Error> {
     let Some(word) = env::args(rt)?.nth(2) else {
-        anyhow::bail!("how many steps?");
+        anyhow::bail!("how many?");
     };
-    take_first(rt.alloc(), script, word.parse()?, look)?;
+    Ok(word.parse()?)
+}
+
+// Solves what the script tells as many times as the second word says.
+fn solves(rt: &HostRuntime, script: &Script) -> Result<(), anyhow::Error> {
+    let known = solved::known_of(rt.alloc(), script)?;
+    for _ in 0..count(rt)? {
+        print_solve(rt, &solved::timed(rt, &known)?)?;
+    }
+    Ok(())
+}
+
+fn print_solve(rt: &HostRuntime, times: &Times) -> Result<(), anyhow::Error> {
+    let (build, solve, write) = (times.build, times.solve, times.write);
+    println!(rt; "built in {build} ns, solved in {solve} ns, written in {write} ns")?;
     Ok(())
 }
 
