@@ -133,7 +133,7 @@ class Panel:
 
 
 # the clusters whose curves are drawn, each a kind and which of the tasks prefer machines
-DRAWN = ("mix", "none"), ("mix", "1 in 2"), ("hard", "all")
+DRAWN = ("mix", "none"), ("mix", "1 in 2"), ("hard", "1 in 2")
 
 
 def picture(results):
