@@ -2,7 +2,7 @@
 """Writes the script of a cluster, the same for the same numbers.
 
     bench/scripts.py --tasks N [--machines N] [--requests N] [--seed N] [--prefer SHARE] [--gossip]
-    bench/scripts.py --tasks N --rounds N [--at 1|2] [--share N] [--quiet]
+    bench/scripts.py --tasks N --rounds N [--at 1|2] [--share N]
     bench/scripts.py --tasks N --kind mix|fresh|tight|steady|hard [--seed N] [--prefer SHARE]
     bench/scripts.py --tasks N --chain plain|ties|limits|many [--slots N] [--drawn]
 
@@ -12,7 +12,7 @@ coordinator 1; with --gossip there is a second, which is delivered all of that i
 tasks prefer one to four machines, and nothing else differs.
 
 With --rounds so many rounds come after that, each after one task in 100 (--share) changed: of those a third are done, a third are
-new, and for each of the others a machine reports. Nothing is held at first. With --quiet the rounds themselves are left out.
+new, and for each of the others a machine reports. Nothing is held at first.
 
 With --kind the cluster is of one of five kinds, which differ in how much is held, in use and free: see KINDS. Machines have half to three
 halves of the slots that their share of the tasks needs, and bandwidth for 0.6, 1 or 1.6 times the mean request on each.
@@ -153,9 +153,9 @@ def changing(tasks, count, share=100, seed=1, machines=None, prefer=0.0):
         yield None
 
 
-def rounds(tasks, count, share=100, prefer=0.0, quiet=False, seed=1):
+def rounds(tasks, count, share=100, prefer=0.0, seed=1):
     """The lines of a script of rounds, each after a part of the tasks changed."""
-    told = [op for op in changing(tasks, count, share, seed, prefer=prefer) if op is not None or not quiet]
+    told = changing(tasks, count, share, seed, prefer=prefer)
     return lines([{"at": 1, "round": True} if op is None else {"at": 1, "tell": op} for op in told], "[1]")
 
 
@@ -211,7 +211,6 @@ if __name__ == "__main__":
     words.add_argument("--gossip", action="store_true")
     words.add_argument("--rounds", type=int)
     words.add_argument("--share", type=int, default=100)
-    words.add_argument("--quiet", action="store_true")
     words.add_argument("--kind", choices=tuple(KINDS))
     words.add_argument("--chain", choices=tuple(CREDITS))
     words.add_argument("--slots", type=int, default=1)
@@ -224,4 +223,4 @@ if __name__ == "__main__":
     elif words.rounds is None:
         sys.stdout.writelines(script(words.tasks, words.machines, words.requests, words.seed, words.gossip, words.prefer))
     else:
-        sys.stdout.writelines(rounds(words.tasks, words.rounds, words.share, words.prefer, words.quiet, words.seed))
+        sys.stdout.writelines(rounds(words.tasks, words.rounds, words.share, words.prefer, words.seed))
