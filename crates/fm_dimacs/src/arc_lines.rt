@@ -18,6 +18,7 @@ use crate::tokens;
 use fm_lattice::join::OutOfMemory;
 use fm_net::network::Network;
 use fm_net::node::{Node, order};
+use fm_records::ops::MOST_PRICE;
 use fm_records::refusal::Refusal;
 use std::cmp::Ordering;
 
@@ -68,7 +69,7 @@ fn arc_with(nodes: &[Node], numbers: (u64, u64, u64, u64)) -> Option<(Node, Node
     let Some(to) = node_with(nodes, target) else {
         return None;
     };
-    if joins(&from, &to) && capacity >= 1 && cost <= 1_000_000_000 {
+    if joins(&from, &to) && capacity >= 1 && cost <= u64::from(MOST_PRICE) {
         Some((from, to, capacity, cost as u32))
     } else {
         None

@@ -11,6 +11,7 @@ ghost use Rattle.fm_dimacs.specs.inner.Scan.{Reads, ReadsWithin, past_text, digi
 
 use fm_net::node::Node;
 use fm_records::ids::{JobId, MachineId, TaskId};
+use fm_records::ops::MOST_BANDWIDTH;
 use fm_records::refusal::Refusal;
 use std::alloc::Global;
 use std::str;
@@ -109,7 +110,7 @@ fn request(bytes: &[u8]) -> Option<(Node, &[u8])>
 {
     let (found, rest) = number(bytes)?;
     let rest = after(rest, b"\n")?;
-    if found <= 1_000_000 {
+    if found <= u64::from(MOST_BANDWIDTH) {
         Some((Node::Request(found as u32), rest))
     } else {
         None

@@ -1,4 +1,5 @@
 -- Edits of networks, and the least list of them that turns one network into another (this project's profile).
+use Rattle.fm_records.specs.declared.ops.TheConstants.{MOST_PRICE}
 use Rattle.std.specs.Prelude.{◌≡◌, ◌≤◌, ℕ, Bool, not, ◌==◌, ◌&&◌, List, [], ◌∷◌, ◌++◌, is_some, filter, map, take, IsTrue}
 use Rattle.fm_lattice.specs.Maps.{lookup}
 use Rattle.fm_records.specs.Options.{passes}
@@ -30,7 +31,7 @@ pub record MayPutArc (net : Net) (from to : Node) (capacity cost : ℕ) : Type 0
   pub to_stands : IsTrue (has_node net to)
   pub kinds : IsArcKind from to
   pub capacity_above : 1 ≤ capacity
-  pub cost_within : cost ≤ 1000000000
+  pub cost_within : cost ≤ MOST_PRICE
 
 -- what the caller of the edit's call must ensure
 abbrev pub MayEdit : Net → Edit → Type 0

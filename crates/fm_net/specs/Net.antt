@@ -1,4 +1,5 @@
 -- A network as its nodes and arcs, and how changes affect it. Firmament, Quincy; the limits are this project's profile.
+use Rattle.fm_records.specs.declared.ops.TheConstants.{MOST_PRICE}
 use Rattle.std.specs.Prelude.{◌≡◌, ℕ, ◌<◌, ◌≤◌, ◌^◌, ◌⊎◌, Bool, cond, List, [], ◌∷◌, Option, Some, IsTrue, IsSome}
 use Rattle.std.specs.List.{list_any}
 use Rattle.std.specs.Ordering.{is_eq}
@@ -48,7 +49,7 @@ pub record IsArc (net : Net) (from to : Node) (arc : ℕ × ℕ) : Type 0 where
   pub kinds : IsArcKind from to
   pub capacity_above : 1 ≤ arc.0
   pub capacity_fits : arc.0 < 2 ^ 64
-  pub cost_within : arc.1 ≤ 1000000000
+  pub cost_within : arc.1 ≤ MOST_PRICE
 
 -- the possible networks
 pub record CanBeNet (net : Net) : Type 0 where

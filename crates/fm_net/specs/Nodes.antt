@@ -1,5 +1,6 @@
 -- The names of nodes and their order. The kinds are those of Firmament's network-aware policy, with Quincy's
 -- unscheduled aggregators; the order is this project's profile.
+use Rattle.fm_records.specs.declared.ops.TheConstants.{MOST_BANDWIDTH}
 use Rattle.std.specs.Prelude.{ℕ, ◌<◌, ◌≤◌, ◌^◌}
 use Rattle.std.specs.Ordering.{nat_cmp, on, then_cmp}
 use Rattle.std.specs.declared.cmp.Ordering.{Ordering}
@@ -35,18 +36,18 @@ node_cmp = (node_ord.ghosts).cmp
 abbrev pub ends_cmp : Node × Node → Node × Node → Ordering
 ends_cmp = then_cmp (on (λ e. e.0) node_cmp) (on (λ e. e.1) node_cmp)
 
--- a request is at most 1,000,000
+-- a request is a bandwidth that a task may request
 abbrev pub IsRequestInRange : Node → Type 0
 IsRequestInRange Sink = Unit {0}
 IsRequestInRange (Unscheduled job) = Unit {0}
-IsRequestInRange (Request request) = request ≤ 1000000
+IsRequestInRange (Request request) = request ≤ MOST_BANDWIDTH
 IsRequestInRange (Machine machine) = Unit {0}
 IsRequestInRange (Task task) = Unit {0}
 
--- a request is at most 1,000,000, and an id has 128 bits
+-- a request is a bandwidth that a task may request, and an id has 128 bits
 abbrev pub IsInRange : Node → Type 0
 IsInRange Sink = Unit {0}
 IsInRange (Unscheduled job) = job < 2 ^ 128
-IsInRange (Request request) = request ≤ 1000000
+IsInRange (Request request) = request ≤ MOST_BANDWIDTH
 IsInRange (Machine machine) = machine < 2 ^ 128
 IsInRange (Task task) = task < 2 ^ 128

@@ -4,6 +4,7 @@
 //! text, and the arcs that leave a node come one after another. In every network both ends of each arc are there.
 
 ghost use Rattle.std.specs.Prelude.{◌≡◌, ◌≤◌, ◌<◌, ◌^◌, ◌↔◌, ◌⊎◌, not, length, Some, None, IsTrue, IfOk, OnOk, OnErr, if◌then◌else◌};
+ghost use Rattle.fm_records.specs.declared.ops.TheConstants.{MOST_PRICE};
 ghost use Rattle.fm_net.specs.declared.node.Node.{Node as NodeName};
 ghost use Rattle.fm_net.specs.Nodes.{IsRequestInRange};
 ghost use Rattle.fm_net.specs.Net.{CanBeNet, IsArcKind, IsTouched, has_node, arc_at, sink_alone, with_node, without_node, with_arc, without_arc, are_ends};
@@ -102,7 +103,7 @@ impl Network {
         requires to_stands { IsTrue (has_node self.old to) }
         requires kinds { IsArcKind from to }
         requires capacity_above { 1 ≤ capacity }
-        requires cost_within { cost ≤ 1000000000 }
+        requires cost_within { cost ≤ MOST_PRICE }
         ensures ok { OnOk result (self.new ≡ with_arc from to (capacity, cost) self.old) }
         ensures stood { IfOk result (λ old. old ≡ arc_at self.old from to) }
         ensures has { OnOk result ((k : NodeName) → has_node self.new k ≡ has_node self.old k) }

@@ -1,4 +1,5 @@
 -- Steps towards the network of a table: nothing is put that is not the table's, and nothing is taken away.
+use Rattle.fm_records.specs.declared.ops.TheConstants.{MOST_BANDWIDTH, MOST_PRICE}
 use Rattle.std.specs.Prelude.{◌≤◌, ℕ, IsTrue}
 use Rattle.fm_records.specs.Table.{Table}
 use Rattle.fm_net.specs.declared.node.Node.{Node}
@@ -12,8 +13,8 @@ pub record MayHaveArc (k : Table) (a b : Node) (arc : ℕ × ℕ) : Type 0 where
   pub to : IsTrue (is_node k b)
   pub kinds : IsArcKind a b
   pub capacity : 1 ≤ arc.0
-  pub cost : arc.1 ≤ 1000000000
+  pub cost : arc.1 ≤ MOST_PRICE
 
 -- the capacity and the cost of a place
 abbrev pub IsWithinArcs : ℕ × ℕ → Type 0
-IsWithinArcs arc = (1 ≤ arc.0) × (arc.1 ≤ 1000000)
+IsWithinArcs arc = (1 ≤ arc.0) × (arc.1 ≤ MOST_BANDWIDTH)

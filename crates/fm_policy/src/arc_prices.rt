@@ -1,6 +1,7 @@
 //! The rules of the policy over single values, so that whoever builds or edits a network has one price for an arc.
 
 ghost use Rattle.std.specs.Prelude.{◌≡◌, ◌≤◌, ◌-◌, max};
+ghost use Rattle.fm_records.specs.declared.ops.TheConstants.{MOST_PRICE};
 ghost use Rattle.fm_know.specs.Limits.{JobWithin};
 ghost use Rattle.fm_policy.specs.Rules.{job_price};
 
@@ -10,7 +11,7 @@ use fm_records::records::JobReg;
 /// The price of a live task's arc to its job: that of a preemption if a machine holds the task, else that of waiting.
 pub fn job_price(job: &JobReg, holder: Option<MachineId>) -> u32
     ensures price { result ≡ job_price job.now holder }
-    ensures within { JobWithin job.now → result ≤ 1000000000 }
+    ensures within { JobWithin job.now → result ≤ MOST_PRICE }
 {
     match holder {
         Some(_) => job.preempt,

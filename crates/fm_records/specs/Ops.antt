@@ -1,6 +1,7 @@
 -- The ranges of an operation's fields (this project's profile).
 use Rattle.std.specs.Prelude.{ℕ, Bool, cond, nat_le, ◌&&◌, List, [], ◌∷◌, Option, Some, None}
 use Rattle.std.specs.List.{list_all}
+use Rattle.fm_records.specs.declared.ops.TheConstants.{MOST_BANDWIDTH, MOST_PRICE, MOST_SLOTS, MOST_USE}
 use Rattle.fm_records.specs.declared.ops.Field.{Field}
 use Rattle.fm_records.specs.declared.ops.Field.TheVariants as field
 use Rattle.fm_records.specs.declared.ops.Op.{Op}
@@ -10,19 +11,19 @@ use Rattle.fm_records.specs.Preferences.{machines_rise}
 
 -- a cost: of waiting or of a preemption, up to 1,000,000,000
 abbrev pub is_price : ℕ → Bool
-is_price n = nat_le n 1000000000
+is_price n = nat_le n MOST_PRICE
 
 -- a bandwidth that a task requests or a machine has, up to 1,000,000
 abbrev pub is_bandwidth : ℕ → Bool
-is_bandwidth n = nat_le n 1000000
+is_bandwidth n = nat_le n MOST_BANDWIDTH
 
 -- a bandwidth that a machine reports as used, up to 1,000,000,000
 abbrev pub is_use : ℕ → Bool
-is_use n = nat_le n 1000000000
+is_use n = nat_le n MOST_USE
 
 -- how many tasks a machine takes, from 1 to 1,000
 abbrev pub is_slots : ℕ → Bool
-is_slots n = nat_le 1 n && nat_le n 1000
+is_slots n = nat_le 1 n && nat_le n MOST_SLOTS
 
 -- machines that are preferred, each once and rising, with credits up to 1,000,000,000
 abbrev pub is_preference : List (ℕ × ℕ) → Bool

@@ -14,6 +14,18 @@ use crate::prefer::Prefer;
 use crate::refusal::Refusal;
 use std::fmt;
 
+/// The greatest cost, of waiting, of a preemption and of an arc, and the greatest credit.
+pub const MOST_PRICE: u32 = 1_000_000_000;
+
+/// The greatest bandwidth of a machine, and the greatest request of a task.
+pub const MOST_BANDWIDTH: u32 = 1_000_000;
+
+/// The most tasks that a machine takes at a time.
+pub const MOST_SLOTS: u32 = 1_000;
+
+/// The greatest use that a machine reports.
+pub const MOST_USE: u32 = 1_000_000_000;
+
 /// How far an attempt to run a task is.
 #[derive(Debug, Clone, Copy, PartialEq, Eq, PartialOrd, Ord, Drop)]
 pub enum Phase {
@@ -118,8 +130,8 @@ impl Op {
                 ..
             } => {
                 within_coordinators(Field::Writer, writer)?;
-                within(Field::Wait, 0, wait, 1_000_000_000)?;
-                within(Field::Preempt, 0, preempt, 1_000_000_000)
+                within(Field::Wait, 0, wait, MOST_PRICE)?;
+                within(Field::Preempt, 0, preempt, MOST_PRICE)
             }
             Op::Spec {
                 writer,
@@ -128,7 +140,7 @@ impl Op {
                 ..
             } => {
                 within_coordinators(Field::Writer, writer)?;
-                within(Field::Request, 0, request, 1_000_000)?;
+                within(Field::Request, 0, request, MOST_BANDWIDTH)?;
                 within_preferences(&prefer)
             }
             Op::Progress { .. } => Ok(()),
@@ -139,10 +151,10 @@ impl Op {
                 ..
             } => {
                 within_coordinators(Field::Writer, writer)?;
-                within(Field::Slots, 1, slots, 1_000)?;
-                within(Field::Nic, 0, nic, 1_000_000)
+                within(Field::Slots, 1, slots, MOST_SLOTS)?;
+                within(Field::Nic, 0, nic, MOST_BANDWIDTH)
             }
-            Op::Report { used, .. } => within(Field::Used, 0, used, 1_000_000_000),
+            Op::Report { used, .. } => within(Field::Used, 0, used, MOST_USE),
             Op::Propose { coordinator, .. } => within_coordinators(Field::Coordinator, coordinator),
         }
     }
@@ -191,7 +203,7 @@ fn rises_above(last: MachineId, entries: &[(MachineId, u32)]) -> bool
 fn credits_within(entries: &[(MachineId, u32)]) -> bool
     ensures { result ≡ list_all (λ entry. is_price entry.1) entries.now }
 {
-    entries.iter().all(|(_, credit)| *credit <= 1_000_000_000)
+    entries.iter().all(|(_, credit)| *credit <= MOST_PRICE)
 }
 
 // Whether the field's value is from the least to the greatest.

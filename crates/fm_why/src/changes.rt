@@ -26,13 +26,13 @@ use fm_lattice::join::OutOfMemory;
 use fm_net::network::Network;
 use fm_policy::build::build;
 use fm_records::ids::{MachineId, TaskId};
-use fm_records::ops::Op;
+use fm_records::ops::{MOST_BANDWIDTH, Op};
 use fm_records::records::MachineReg;
 use fm_tally::tally::{OpenMachine, Tally};
 use std::alloc::Global;
 
 // The greatest bandwidth of a machine.
-const MOST: u128 = 1_000_000;
+const MOST: u128 = MOST_BANDWIDTH as u128;
 
 /// Up to two changes by which the task would run: one more slot on the first of the machines, and as much more bandwidth as
 /// the request lacks on the machine that lacks least. One is left out if the task still waits in the schedule that is found

@@ -6,6 +6,7 @@ use Rattle.std.specs.List.{AllByRecursion}
 use Rattle.std.specs.Int.{w8, w32, w64, w128}
 use Rattle.std.specs.Ordering.{nat_cmp, on, then_cmp}
 use Rattle.std.specs.declared.cmp.Ordering.{Ordering}
+use Rattle.fm_records.specs.declared.ops.TheConstants.{MOST_BANDWIDTH, MOST_PRICE, MOST_SLOTS}
 use Rattle.fm_records.specs.declared.ops.Phase.{Phase}
 use Rattle.fm_records.specs.declared.ops.Phase.TheVariants.{Pending, Running, Done}
 use Rattle.fm_records.specs.declared.records.JobReg.{JobReg}
@@ -39,10 +40,10 @@ abbrev pub flag : Format Bool
 flag = seen_as (number_field w8 0 1) (λ n. n == 1) (λ b. cond b 1 0)
 
 abbrev pub price_field : Format ℕ
-price_field = number_field w32 0 1000000000
+price_field = number_field w32 0 MOST_PRICE
 
 abbrev pub bandwidth : Format ℕ
-bandwidth = number_field w32 0 1000000
+bandwidth = number_field w32 0 MOST_BANDWIDTH
 
 -- 0 pending, 1 running, 2 done
 abbrev pub phase_from : ℕ → Phase
@@ -83,7 +84,7 @@ task v = seen_as (attempt ⨾ phase ⨾ optional_spec v)
 
 -- version, writer, up, slots, nic
 unfoldable pub state : Format MachineReg
-state = seen_as (count ⨾ coordinator_field ⨾ flag ⨾ number_field w32 1 1000 ⨾ bandwidth)
+state = seen_as (count ⨾ coordinator_field ⨾ flag ⨾ number_field w32 1 MOST_SLOTS ⨾ bandwidth)
     (λ f. record { version = f.0; writer = f.1.0; up = f.1.1.0; slots = f.1.1.1.0; nic = f.1.1.1.1 })
     (λ r. (r.version, (r.writer, (r.up, (r.slots, r.nic)))))
 

@@ -12,9 +12,8 @@ use crate::record_lists::key_at;
 use crate::version::Version;
 use fm_lattice::join::OutOfMemory;
 use fm_records::ids::MachineId;
+use fm_records::ops::MOST_PRICE;
 use fm_records::prefer::Prefer;
-
-const GREATEST_CREDIT: u32 = 1_000_000_000;
 
 // Adds the spelling: how many machines there are, and each with its credit.
 #[tactic(auto, unfolding(crate::specs::Grammar::preferences))]
@@ -69,7 +68,7 @@ fn entry_at(last: Option<MachineId>, bytes: &[u8]) -> Result<((u128, u32), &[u8]
 {
     match key_at(last, bytes) {
         Ok((machine, rest)) => {
-            let (credit, rest) = u32_at(rest, 0, GREATEST_CREDIT)?;
+            let (credit, rest) = u32_at(rest, 0, MOST_PRICE)?;
             Ok(((machine.value(), credit), rest))
         }
         Err(left) => Err(left),

@@ -14,19 +14,13 @@ use crate::version::Version;
 use fm_lattice::constructors::{Both, Lex, Max, Min, Opt};
 use fm_lattice::join::OutOfMemory;
 use fm_records::ids::{JobId, MachineId};
-use fm_records::ops::Phase;
+use fm_records::ops::{MOST_BANDWIDTH, MOST_PRICE, MOST_SLOTS, Phase};
 use fm_records::records::{
     JobReg, MachineRec, MachineReg, Progress, Report, SpecReg, Spot, TaskRec,
 };
 
 // What may be known of a machine at its incarnation: its state, and its report.
 pub(crate) type Parts = Both<Opt<Max<MachineReg>>, Opt<Max<Report>>>;
-
-const GREATEST_PRICE: u32 = 1_000_000_000;
-
-const GREATEST_BANDWIDTH: u32 = 1_000_000;
-
-const GREATEST_SLOTS: u32 = 1_000;
 
 const GREATEST_COORDINATOR: u8 = 64;
 
@@ -47,8 +41,8 @@ impl VersionedCodec for Max<JobReg> {
         let (version, rest) = u64_at(bytes)?;
         let (writer, rest) = u8_at(rest, 1, GREATEST_COORDINATOR)?;
         let (withdrawn, rest) = flag_at(rest)?;
-        let (wait, rest) = u32_at(rest, 0, GREATEST_PRICE)?;
-        let (preempt, rest) = u32_at(rest, 0, GREATEST_PRICE)?;
+        let (wait, rest) = u32_at(rest, 0, MOST_PRICE)?;
+        let (preempt, rest) = u32_at(rest, 0, MOST_PRICE)?;
         let job = JobReg {
             version,
             writer,
@@ -170,7 +164,7 @@ fn spec_at(version: Version, bytes: &[u8]) -> Result<(SpecReg, &[u8]), usize>
     let (writer, rest) = u8_at(rest, 1, GREATEST_COORDINATOR)?;
     let (withdrawn, rest) = flag_at(rest)?;
     let (job, rest) = u128_at(rest)?;
-    let (request, rest) = u32_at(rest, 0, GREATEST_BANDWIDTH)?;
+    let (request, rest) = u32_at(rest, 0, MOST_BANDWIDTH)?;
     match preferences_at(version, rest) {
         Ok((prefer, rest)) => {
             let spec = SpecReg {
@@ -270,8 +264,8 @@ fn state_at(bytes: &[u8]) -> Result<(MachineReg, &[u8]), usize>
     let (version, rest) = u64_at(bytes)?;
     let (writer, rest) = u8_at(rest, 1, GREATEST_COORDINATOR)?;
     let (up, rest) = flag_at(rest)?;
-    let (slots, rest) = u32_at(rest, 1, GREATEST_SLOTS)?;
-    let (nic, rest) = u32_at(rest, 0, GREATEST_BANDWIDTH)?;
+    let (slots, rest) = u32_at(rest, 1, MOST_SLOTS)?;
+    let (nic, rest) = u32_at(rest, 0, MOST_BANDWIDTH)?;
     let state = MachineReg {
         version,
         writer,
@@ -297,7 +291,7 @@ fn report_at(bytes: &[u8]) -> Result<(Report, &[u8]), usize>
     ensures { DecodesTo (λ x. (x.0, x.1.now)) result (report.read bytes.now) }
 {
     let (number, rest) = u64_at(bytes)?;
-    let (used, rest) = u32_at(rest, 0, GREATEST_PRICE)?;
+    let (used, rest) = u32_at(rest, 0, MOST_PRICE)?;
     Ok((Report { number, used }, rest))
 }
 

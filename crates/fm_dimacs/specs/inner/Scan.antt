@@ -2,6 +2,7 @@
 use Rattle.std.specs.Prelude.{◌≡◌, ℕ, ◌+◌, ◌-◌, ◌*◌, ◌^◌, cond, nat_le, nat_lt, ◌==◌, List, [], ◌∷◌, Option, Some, None, Result, Ok, Err, length, take, drop, codes}
 use Rattle.std.specs.Char.{is_ascii_digit}
 use Rattle.std.specs.Str.{bytes_eq}
+use Rattle.fm_records.specs.declared.ops.TheConstants.{MOST_BANDWIDTH}
 use Rattle.fm_records.specs.declared.refusal.Refusal.{Refusal}
 use Rattle.fm_records.specs.declared.refusal.Refusal.TheVariants.{OutOfMemory}
 use Rattle.fm_records.specs.Ids.{read_id, id_text}
@@ -60,7 +61,7 @@ unfoldable pub request_at : List ℕ → Option (Node × List ℕ)
 request_at bytes = do
   n ← number_at bytes
   rest ← past_text (codes "\n") n.1
-  cond (nat_le n.0 1000000) (Some (Request n.0, rest)) None
+  cond (nat_le n.0 MOST_BANDWIDTH) (Some (Request n.0, rest)) None
 
 -- a node's id, and the line's end
 unfoldable pub named_at : (ℕ → Node) → List ℕ → Option (Node × List ℕ)
